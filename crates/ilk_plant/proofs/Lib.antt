@@ -1,0 +1,4 @@
+pub mod Counts
+pub mod Options
+pub mod Rows
+pub mod Steps

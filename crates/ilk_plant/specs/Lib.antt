@@ -1,0 +1,9 @@
+pub mod Option
+pub mod Each
+pub mod Row
+pub mod Network
+pub mod Plant
+pub mod State
+pub mod Start
+pub mod Draft
+pub mod PlainLine

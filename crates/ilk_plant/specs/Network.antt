@@ -1,0 +1,42 @@
+-- Sections: what lies beside one, which boards stand on it, and which are points and borders.
+use Rattle.std.specs.Prelude.{ℕ, Bool, true, false, Option, Some, None, List, [], ◌∷◌, option_to_list, if◌then◌else◌, ◌==◌}
+use Rattle.std.specs.List.{list_any}
+use Rattle.ilk_plant.specs.declared.network.Dir.{Dir}
+use Rattle.ilk_plant.specs.declared.network.Dir.TheVariants.{Up, Down}
+use Rattle.ilk_plant.specs.declared.network.Section.{Section}
+use Rattle.ilk_plant.specs.declared.network.Section.TheVariants.{Linear, Point}
+
+-- whether two directions are one
+abbrev pub same_direction : Dir → Dir → Bool
+same_direction Up Up = true
+same_direction Up Down = false
+same_direction Down Up = false
+same_direction Down Down = true
+
+-- the sections on side d of a section: of a point that faces d the plus leg, then the minus leg
+abbrev pub beside : Section → Dir → List ℕ
+beside (Linear down up board_down board_up) Down = option_to_list down
+beside (Linear down up board_down board_up) Up = option_to_list up
+beside (Point stem plus minus faces) d = if same_direction faces d then plus ∷ minus ∷ [] else stem ∷ []
+
+-- the board on a section for trains that run in direction d
+abbrev pub board_on : Section → Dir → Option ℕ
+board_on (Linear down up board_down board_up) Down = board_down
+board_on (Linear down up board_down board_up) Up = board_up
+board_on (Point stem plus minus faces) d = None
+
+abbrev pub is_point : Section → Bool
+is_point (Linear down up board_down board_up) = false
+is_point (Point stem plus minus faces) = true
+
+-- the inward direction of a border, which is a linear section with exactly one neighbour missing
+abbrev pub inward : Section → Option Dir
+inward (Linear None (Some y) board_down board_up) = Some Up
+inward (Linear (Some y) None board_down board_up) = Some Down
+inward (Linear None None board_down board_up) = None
+inward (Linear (Some y) (Some z) board_down board_up) = None
+inward (Point stem plus minus faces) = None
+
+-- whether a list of sections has section x
+abbrev pub has_section : ℕ → List ℕ → Bool
+has_section x sections = list_any (λ y. y == x) sections

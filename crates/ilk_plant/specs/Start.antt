@@ -1,0 +1,27 @@
+-- The state in which every run from the start begins.
+use Rattle.std.specs.Prelude.{[], length, replicate}
+use Rattle.ilk_plant.specs.Plant.{PlantLists, point_count}
+use Rattle.ilk_plant.specs.declared.network.Position.TheVariants.{Plus}
+use Rattle.ilk_plant.specs.declared.state.Aspect.TheVariants.{Closed}
+use Rattle.ilk_plant.specs.declared.state.Hold.TheVariants.{Free as FreeLock}
+use Rattle.ilk_plant.specs.declared.state.Lie.TheVariants.{Plus as LiesPlus}
+use Rattle.ilk_plant.specs.declared.state.Mode.TheVariants.{Free}
+use Rattle.ilk_plant.specs.declared.state.PointState.{PointState}
+use Rattle.ilk_plant.specs.declared.state.RouteState.{RouteState}
+use Rattle.ilk_plant.specs.declared.state.State.{State}
+
+abbrev pub free_route : RouteState
+free_route = record { mode = Free; seen = 0; rel = 0 }
+
+abbrev pub plus_point : PointState
+plus_point = record { at = LiesPlus; to = Plus }
+
+-- no train, every route free, every point at plus and commanded there, every board closed, every lock free
+abbrev pub start : PlantLists → State
+start p = record {
+  routes = replicate (length p.routes) free_route;
+  points = replicate (point_count p) plus_point;
+  boards = replicate (length p.boards) Closed;
+  locks = replicate (length p.sections) FreeLock;
+  trains = [];
+}

@@ -1,0 +1,56 @@
+use crate::{Dir, Position, Row, Text};
+
+/// A network as its configuration writes it, by names.
+#[derive(Drop)]
+pub struct NetDraft {
+    pub sections: Row<SectionDraft>,
+}
+
+/// A section as its configuration writes it.
+#[derive(Drop)]
+pub struct SectionDraft {
+    pub name: Text,
+    pub kind: KindDraft,
+}
+
+/// What a section is, with the names of its neighbours and of its boards.
+#[derive(Drop)]
+pub enum KindDraft {
+    Linear {
+        down: Option<Text>,
+        up: Option<Text>,
+        board_down: Option<Text>,
+        board_up: Option<Text>,
+    },
+    Point {
+        stem: Text,
+        plus: Text,
+        minus: Text,
+        faces: Dir,
+    },
+}
+
+/// A table of routes as its configuration writes it, by names.
+#[derive(Drop)]
+pub struct TableDraft {
+    pub routes: Row<RouteDraft>,
+}
+
+/// A point with the position in which a route wants it.
+#[derive(Drop)]
+pub struct ListedDraft {
+    pub point: Text,
+    pub at: Position,
+}
+
+/// A row of the table of routes as its configuration writes it.
+#[derive(Drop)]
+pub struct RouteDraft {
+    pub name: Text,
+    pub source: Text,
+    pub destination: Option<Text>,
+    pub path: Row<Text>,
+    pub overlap: Row<Text>,
+    pub points: Row<ListedDraft>,
+    pub conflicts: Row<Text>,
+}

@@ -1,0 +1,28 @@
+//! The plant of a railway line, its state, and the lists that both are made of.
+//!
+//! The network and the table of routes are those of an ETCS Level 2 line without lineside
+//! signals, as in Vu, Haxthausen and Peleska, "Formal modelling and verification of interlocking
+//! systems featuring sequential release", Science of Computer Programming 133 (2017).
+#![tactic(auto)]
+
+mod broken;
+mod draft;
+mod network;
+mod occupancy;
+mod plant;
+mod row;
+mod start;
+mod state;
+mod table;
+mod text;
+
+pub use broken::{Broken, Rule};
+pub use draft::{KindDraft, ListedDraft, NetDraft, RouteDraft, SectionDraft, TableDraft};
+pub use network::{Board, Dir, Position, Section};
+pub use occupancy::{has_section, occupied};
+pub use plant::Plant;
+pub use row::Row;
+pub use start::start_state;
+pub use state::{Aspect, Hold, Lie, Mode, PointState, RouteState, State, Train};
+pub use table::{Listed, Route};
+pub use text::Text;

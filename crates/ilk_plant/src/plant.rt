@@ -1,0 +1,238 @@
+ghost use Rattle.std.specs.Prelude.{◌≡◌, ◌<◌, ◌≤◌, length, slice_get, Some, IfSome, count_by, take};
+ghost use Rattle.ilk_plant.specs.Network.{is_point};
+ghost use Rattle.ilk_plant.specs.Plant.{IsPlant, IsRouteOf, board_of, border, first_named, next_to, point_count, point_number};
+
+use crate::{Board, Dir, Route, Row, Section, Text};
+use std::marker::Model;
+
+/// A plant: its sections, boards and routes by number from 0, with their names.
+///
+/// Sections and routes are numbered as the configuration lists them. Boards are numbered in the
+/// order of their sections, on one section the board for direction down first, and points in the
+/// order of their sections. A plant has 1 to 128 sections and at most 128 routes.
+#[derive(Drop)]
+pub struct Plant {
+    sections: Row<Section>,
+    boards: Row<Board>,
+    routes: Row<Route>,
+    section_names: Row<Text>,
+    board_names: Row<Text>,
+    route_names: Row<Text>,
+}
+
+impl Model for Plant {
+    ghost use Rattle.ilk_plant.specs.Plant.{PlantLists, IsPlant};
+
+    ghost Value = { PlantLists };
+
+    ghost view = { λ p. record {
+      sections = p.sections;
+      boards = p.boards;
+      routes = p.routes;
+      section_names = p.section_names;
+      board_names = p.board_names;
+      route_names = p.route_names;
+    } };
+
+    ghost invariant = { λ p. IsPlant (record {
+      sections = p.sections;
+      boards = p.boards;
+      routes = p.routes;
+      section_names = p.section_names;
+      board_names = p.board_names;
+      route_names = p.route_names;
+    }) };
+}
+
+// The first place at which the names have this one.
+fn place_of(names: &Row<Text>, name: &str) -> Option<usize>
+    ensures { result ≡ first_named names.now name.now }
+{
+    names
+        .as_slice()
+        .iter()
+        .position(|other| name == other.as_str())
+}
+
+// The number for which a name stands. None where nothing has it.
+fn number_of(names: &Row<Text>, name: &str) -> Option<u32>
+    requires { length names.now ≤ 256 }
+    ensures number { result ≡ first_named names.now name.now }
+    ensures known { IfSome result (λ n. n < length names.now) }
+{
+    match place_of(names, name) {
+        Some(i) => Some(i as u32),
+        None => None,
+    }
+}
+
+impl Plant {
+    /// What holds of every plant. It does nothing, and tells a proof.
+    pub fn is_sound(&self)
+        ensures { IsPlant self.now }
+    {
+        let _ = &self.sections;
+    }
+
+    /// The number of sections, 1 to 128.
+    pub fn sections(&self) -> u32
+        ensures { result ≡ length self.now.sections }
+    {
+        self.sections.len() as u32
+    }
+
+    /// The number of boards, at most 256.
+    pub fn boards(&self) -> u32
+        ensures { result ≡ length self.now.boards }
+    {
+        self.boards.len() as u32
+    }
+
+    /// The number of routes, at most 128.
+    pub fn routes(&self) -> u32
+        ensures { result ≡ length self.now.routes }
+    {
+        self.routes.len() as u32
+    }
+
+    /// The number of points, at most 128.
+    pub fn points(&self) -> u32
+        ensures { result ≡ point_count self.now }
+    {
+        let _ = &self.sections;
+        self.sections
+            .as_slice()
+            .iter()
+            .filter(|section| section.is_point())
+            .count() as u32
+    }
+
+    /// Section `x`.
+    pub fn section(&self, x: u32) -> &Section
+        requires { x < length self.now.sections }
+        ensures { slice_get self.now.sections x ≡ Some result.now }
+    {
+        self.sections.at(x as u64)
+    }
+
+    /// Board `m`.
+    pub fn board(&self, m: u32) -> &Board
+        requires { m < length self.now.boards }
+        ensures { slice_get self.now.boards m ≡ Some result.now }
+    {
+        self.boards.at(m as u64)
+    }
+
+    /// Route `r`.
+    pub fn route(&self, r: u32) -> &Route
+        requires { r < length self.now.routes }
+        ensures route { slice_get self.now.routes r ≡ Some result.now }
+        ensures known { IsRouteOf self.now result.now }
+    {
+        self.routes.at(r as u64)
+    }
+
+    /// The board on section `x` for trains that run in direction `d`. None where there is none.
+    pub fn board_of(&self, x: u32, d: Dir) -> Option<u32>
+        requires { x < length self.now.sections }
+        ensures board { result ≡ board_of self.now x d }
+        ensures known { IfSome result (λ m. m < length self.now.boards) }
+    {
+        let _ = &self.sections;
+        self.section(x).board_on(d)
+    }
+
+    /// Entry `i`, from 0, of the sections next to section `x` on side `d`. None where there is none.
+    pub fn neighbour(&self, x: u32, d: Dir, i: u32) -> Option<u32>
+        requires { x < length self.now.sections }
+        ensures entry { result ≡ slice_get (next_to self.now x d) i }
+        ensures known { IfSome result (λ y. y < length self.now.sections) }
+    {
+        let _ = &self.sections;
+        self.section(x).beside(d, i)
+    }
+
+    // How many points have a lower number than section `x`.
+    fn points_before(&self, x: u32) -> u32
+        requires { x < length self.now.sections }
+        ensures { result ≡ count_by is_point (take x self.now.sections) }
+    {
+        let before = &self.sections.as_slice()[..x as usize];
+        before.iter().filter(|section| section.is_point()).count() as u32
+    }
+
+    /// The number of the point on section `x`. None where the section is no point.
+    pub fn point_number(&self, x: u32) -> Option<u32>
+        requires { x < length self.now.sections }
+        ensures number { result ≡ point_number self.now x }
+        ensures known { IfSome result (λ n. n < point_count self.now) }
+    {
+        if self.section(x).is_point() {
+            Some(self.points_before(x))
+        } else {
+            None
+        }
+    }
+
+    /// The inward direction of section `x`, in which trains enter. None where it is no border.
+    pub fn border(&self, x: u32) -> Option<Dir>
+        requires { x < length self.now.sections }
+        ensures { result ≡ border self.now x }
+    {
+        self.section(x).inward()
+    }
+
+    /// The number of the section with this name. None exactly where no section has it.
+    pub fn section_named(&self, name: &str) -> Option<u32>
+        ensures number { result ≡ first_named self.now.section_names name.now }
+        ensures known { IfSome result (λ x. x < length self.now.sections) }
+    {
+        let _ = &self.sections;
+        number_of(&self.section_names, name)
+    }
+
+    /// The number of the board with this name. None exactly where no board has it.
+    pub fn board_named(&self, name: &str) -> Option<u32>
+        ensures number { result ≡ first_named self.now.board_names name.now }
+        ensures known { IfSome result (λ m. m < length self.now.boards) }
+    {
+        let _ = &self.sections;
+        number_of(&self.board_names, name)
+    }
+
+    /// The number of the route with this name. None exactly where no route has it.
+    pub fn route_named(&self, name: &str) -> Option<u32>
+        ensures number { result ≡ first_named self.now.route_names name.now }
+        ensures known { IfSome result (λ r. r < length self.now.routes) }
+    {
+        let _ = &self.sections;
+        number_of(&self.route_names, name)
+    }
+
+    /// The name of section `x`.
+    pub fn section_name(&self, x: u32) -> &str
+        requires { x < length self.now.sections }
+        ensures { slice_get self.now.section_names x ≡ Some result.now }
+    {
+        let _ = &self.sections;
+        self.section_names.at(x as u64).as_str()
+    }
+
+    /// The name of board `m`.
+    pub fn board_name(&self, m: u32) -> &str
+        requires { m < length self.now.boards }
+        ensures { slice_get self.now.board_names m ≡ Some result.now }
+    {
+        let _ = &self.sections;
+        self.board_names.at(m as u64).as_str()
+    }
+
+    /// The name of route `r`.
+    pub fn route_name(&self, r: u32) -> &str
+        requires { r < length self.now.routes }
+        ensures { slice_get self.now.route_names r ≡ Some result.now }
+    {
+        let _ = &self.sections;
+        self.route_names.at(r as u64).as_str()
+    }
+}

@@ -1,0 +1,67 @@
+use crate::{Dir, Position, Row};
+
+/// How far the setting and the use of a route have come.
+#[derive(Clone, Copy, PartialEq, Eq, Debug)]
+pub enum Mode {
+    Free,
+    Marked,
+    Allocating,
+    Locked,
+    Occupied,
+}
+
+/// The state of a route: its mode, how many of its path sections trains were seen to take, and how
+/// many were given back behind them.
+#[derive(Clone, Copy, PartialEq, Eq, Debug)]
+pub struct RouteState {
+    pub mode: Mode,
+    pub seen: u32,
+    pub rel: u32,
+}
+
+/// Where a point lies.
+#[derive(Clone, Copy, PartialEq, Eq, Debug)]
+pub enum Lie {
+    Plus,
+    Minus,
+    Moving,
+}
+
+/// The state of a point: where it lies, and where it is commanded.
+#[derive(Clone, Copy, PartialEq, Eq, Debug)]
+pub struct PointState {
+    pub at: Lie,
+    pub to: Position,
+}
+
+/// What the virtual signal of a marker board shows.
+#[derive(Clone, Copy, PartialEq, Eq, Debug)]
+pub enum Aspect {
+    Open,
+    Closed,
+}
+
+/// The lock of a section.
+#[derive(Clone, Copy, PartialEq, Eq, Debug)]
+pub enum Hold {
+    Free,
+    Locked,
+    Used,
+}
+
+/// A train, whose body lists its sections from tail to head.
+#[derive(Drop)]
+pub struct Train {
+    pub dir: Dir,
+    pub body: Row<u32>,
+}
+
+/// A state of the plant. Routes, points, boards and locks stand in the order of their numbers.
+#[derive(Drop)]
+pub struct State {
+    pub routes: Row<RouteState>,
+    pub points: Row<PointState>,
+    pub boards: Row<Aspect>,
+    pub locks: Row<Hold>,
+    pub trains: Row<Train>,
+}

@@ -1,0 +1,25 @@
+use crate::{Position, Row};
+
+/// A point, by its section, with the position in which a route wants it.
+#[derive(Clone, Copy, PartialEq, Eq, Debug)]
+pub struct Listed {
+    pub point: u32,
+    pub at: Position,
+}
+
+/// A row of the interlocking table. A route has the direction of its source board.
+#[derive(Drop)]
+pub struct Route {
+    /// The board at which the route begins.
+    pub source: u32,
+    /// The board at which it ends. None where it leads out of the network.
+    pub destination: Option<u32>,
+    /// Its sections, in the order in which a train passes them.
+    pub path: Row<u32>,
+    /// The sections behind its end that are kept clear with it.
+    pub overlap: Row<u32>,
+    /// The points that it wants, with their positions.
+    pub points: Row<Listed>,
+    /// The routes that may not be set together with it.
+    pub conflicts: Row<u32>,
+}
