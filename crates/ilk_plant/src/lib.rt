@@ -8,6 +8,7 @@
 mod broken;
 mod draft;
 mod network;
+mod numbering;
 mod occupancy;
 mod plant;
 mod row;

@@ -44,8 +44,8 @@ impl Model for Plant {
     }) };
 }
 
-// The first place at which the names have this one.
-fn place_of(names: &Row<Text>, name: &str) -> Option<usize>
+/// The first place at which the names have this one.
+pub(crate) fn place_of(names: &Row<Text>, name: &str) -> Option<usize>
     ensures { result ≡ first_named names.now name.now }
 {
     names
@@ -55,7 +55,7 @@ fn place_of(names: &Row<Text>, name: &str) -> Option<usize>
 }
 
 // The number for which a name stands. None where nothing has it.
-fn number_of(names: &Row<Text>, name: &str) -> Option<u32>
+fn number_named(names: &Row<Text>, name: &str) -> Option<u32>
     requires { length names.now ≤ 256 }
     ensures number { result ≡ first_named names.now name.now }
     ensures known { IfSome result (λ n. n < length names.now) }
@@ -67,6 +67,42 @@ fn number_of(names: &Row<Text>, name: &str) -> Option<u32>
 }
 
 impl Plant {
+    /// The plant of these lists.
+    pub(crate) fn of_lists(
+        sections: Row<Section>,
+        boards: Row<Board>,
+        routes: Row<Route>,
+        section_names: Row<Text>,
+        board_names: Row<Text>,
+        route_names: Row<Text>,
+    ) -> Plant
+        requires { IsPlant (record {
+          sections = sections;
+          boards = boards;
+          routes = routes;
+          section_names = section_names;
+          board_names = board_names;
+          route_names = route_names;
+        }) }
+        ensures { result ≡ record {
+          sections = sections;
+          boards = boards;
+          routes = routes;
+          section_names = section_names;
+          board_names = board_names;
+          route_names = route_names;
+        } }
+    {
+        Plant {
+            sections,
+            boards,
+            routes,
+            section_names,
+            board_names,
+            route_names,
+        }
+    }
+
     /// What holds of every plant. It does nothing, and tells a proof.
     pub fn is_sound(&self)
         ensures { IsPlant self.now }
@@ -188,7 +224,7 @@ impl Plant {
         ensures known { IfSome result (λ x. x < length self.now.sections) }
     {
         let _ = &self.sections;
-        number_of(&self.section_names, name)
+        number_named(&self.section_names, name)
     }
 
     /// The number of the board with this name. None exactly where no board has it.
@@ -197,7 +233,7 @@ impl Plant {
         ensures known { IfSome result (λ m. m < length self.now.boards) }
     {
         let _ = &self.sections;
-        number_of(&self.board_names, name)
+        number_named(&self.board_names, name)
     }
 
     /// The number of the route with this name. None exactly where no route has it.
@@ -206,7 +242,7 @@ impl Plant {
         ensures known { IfSome result (λ r. r < length self.now.routes) }
     {
         let _ = &self.sections;
-        number_of(&self.route_names, name)
+        number_named(&self.route_names, name)
     }
 
     /// The name of section `x`.
