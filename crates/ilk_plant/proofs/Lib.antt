@@ -1,4 +1,5 @@
 pub mod Counts
+pub mod Lines
 pub mod Numbered
 pub mod Options
 pub mod Rows

@@ -7,6 +7,7 @@
 
 mod broken;
 mod draft;
+mod make;
 mod network;
 mod numbering;
 mod occupancy;

@@ -85,6 +85,7 @@ pub fn named_boards(alloc: Global, sections: &Row<SectionDraft>) -> Result<Named
     requires { length sections.now ≤ 128 }
     ensures names { IfOk result (λ made. made.names ≡ names_of_boards sections.now) }
     ensures boards { IfOk result (λ made. made.boards ≡ map (λ named. named.board) (boards_from 0 sections.now)) }
+    ensures few { IfOk result (λ made. length made.names ≤ 256) }
 {
     let mut made = NamedBoards {
         names: Row::new(alloc),

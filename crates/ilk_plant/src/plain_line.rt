@@ -99,6 +99,8 @@ pub fn is_plain_line(alloc: Global, net: &NetDraft, table: &TableDraft) -> Resul
     if sections < 2 || sections > 128 || table.routes.len() > 0 || !is_line(&net.sections) {
         return Ok(false);
     }
-    Ok(all_differ(&section_names(alloc, &net.sections)?)
-        && all_differ(&named_boards(alloc, &net.sections)?.names))
+    Ok(
+        all_differ(&section_names(alloc, &net.sections)?)
+            && all_differ(&named_boards(alloc, &net.sections)?.names),
+    )
 }
