@@ -28,11 +28,7 @@ const PIECE: usize = 4096;
 /// `Failed` comes where a call of the source failed, so only where its count of faults rose, and
 /// `TooLong` where more than `limit` bytes are there and no call failed first. At most `limit + 1`
 /// bytes are read, and after a refusal those that were read are gone from the source.
-pub fn read_all<S: Source>(
-    alloc: Global,
-    source: &mut S,
-    limit: u64,
-) -> Result<Vec<u8>, ReadError>
+pub fn read_all<S: Source>(alloc: Global, source: &mut S, limit: u64) -> Result<Vec<u8>, ReadError>
     requires { limit < 2 ^ 40 }
     ensures whole { IfOk result (λ v. IsWhole (S.left source.old) v.items) }
     ensures end { IfOk result (λ _. IsAtEnd (S.left source.new)) }

@@ -7,7 +7,7 @@ invariant-loop-bytes g l =
     record {
       taken : Takes (g.S.Source.left l.initial.source) (g.S.Source.left l.source) l.bytes.items;
       within : vec_len l.bytes ≤ l.limit;
-      counted : g.S.Source.faults l.initial.source ≤ g.S.Source.faults l.source
+      counted : g.S.Source.faults l.initial.source ≤ g.S.Source.faults l.source;
     }
 
 abbrev pub decreases-loop-bytes : goal.decreases-loop-bytes

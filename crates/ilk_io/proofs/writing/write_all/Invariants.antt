@@ -7,7 +7,7 @@ invariant-loop-rest g l =
     record {
       written : Written (g.K.Sink.written l.initial.sink) (g.K.Sink.written l.sink) l.fn.text l.rest;
       counted : g.K.Sink.faults l.initial.sink ≤ g.K.Sink.faults l.sink;
-      untouched : l.fn.text ≡ [] → l.sink ≡ l.initial.sink
+      untouched : l.fn.text ≡ [] → l.sink ≡ l.initial.sink;
     }
 
 abbrev pub decreases-loop-rest : goal.decreases-loop-rest
