@@ -4,8 +4,10 @@
 
 mod failed;
 mod reading;
+mod plan;
 mod sink;
 mod source;
+mod unread;
 mod writing;
 
 pub use failed::Failed;

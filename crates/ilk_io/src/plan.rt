@@ -1,0 +1,55 @@
+ghost use Rattle.std.specs.Prelude.{◌≡◌, ◌<◌, ◌^◌};
+ghost use Rattle.ilk_io.specs.Plan.{fails_next, after_call, after_fault};
+
+use std::marker::Model;
+
+// Which calls of a source or sink in memory fail, and how many calls and faults there were.
+#[derive(Drop)]
+pub struct FaultPlan {
+    fails: Vec<u64>,
+    calls: u64,
+    faults: u64,
+}
+
+impl Model for FaultPlan {
+    ghost use Rattle.ilk_io.specs.Plan.{Plan};
+
+    ghost Value = { Plan };
+
+    ghost view = { λ a. record { fails = a.fails.items; calls = a.calls; faults = a.faults } };
+}
+
+impl FaultPlan {
+    pub fn new(fails: Vec<u64>) -> FaultPlan
+        ensures { result ≡ record { fails = fails.items; calls = 0; faults = 0 } }
+    {
+        FaultPlan {
+            fails,
+            calls: 0,
+            faults: 0,
+        }
+    }
+
+    // Whether the next call is one of those that are to fail.
+    pub fn fails_next(&self) -> bool
+        ensures { result ≡ fails_next self.now }
+    {
+        let number = self.calls.saturating_add(1);
+        self.fails.iter().any(|k| *k == number)
+    }
+
+    // Counts a call that went well.
+    pub fn count_call(&mut self)
+        ensures { self.new ≡ after_call self.old }
+    {
+        self.calls = self.calls.saturating_add(1);
+    }
+
+    // Counts a call that failed.
+    pub fn count_fault(&mut self)
+        ensures { self.new ≡ after_fault self.old }
+    {
+        self.calls = self.calls.saturating_add(1);
+        self.faults = self.faults.saturating_add(1);
+    }
+}
