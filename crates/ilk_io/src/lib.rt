@@ -3,15 +3,21 @@
 #![tactic(auto)]
 
 mod failed;
-mod reading;
+mod mem_sink;
+mod mem_source;
 mod plan;
+mod reading;
 mod sink;
 mod source;
+mod steady;
 mod unread;
 mod writing;
 
 pub use failed::Failed;
+pub use mem_sink::MemSink;
+pub use mem_source::MemSource;
 pub use reading::{ReadError, read_all};
 pub use sink::Sink;
 pub use source::Source;
+pub use steady::{SteadySink, SteadySource};
 pub use writing::write_all;

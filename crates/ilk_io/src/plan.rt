@@ -1,4 +1,5 @@
-ghost use Rattle.std.specs.Prelude.{◌≡◌, ◌<◌, ◌^◌};
+ghost use Rattle.std.specs.Prelude.{◌≡◌, ◌≤◌};
+ghost use Rattle.ilk_io.specs.Faults.{Rose};
 ghost use Rattle.ilk_io.specs.Plan.{fails_next, after_call, after_fault};
 
 use std::marker::Model;
@@ -47,7 +48,9 @@ impl FaultPlan {
 
     // Counts a call that failed.
     pub fn count_fault(&mut self)
-        ensures { self.new ≡ after_fault self.old }
+        ensures after { self.new ≡ after_fault self.old }
+        ensures rose { Rose self.old.faults self.new.faults }
+        ensures counted { self.old.faults ≤ self.new.faults }
     {
         self.calls = self.calls.saturating_add(1);
         self.faults = self.faults.saturating_add(1);
