@@ -3,21 +3,26 @@
 #![tactic(auto)]
 
 mod failed;
+mod file_source;
 mod mem_sink;
 mod mem_source;
 mod plan;
 mod reading;
+mod retry;
 mod sink;
 mod source;
 mod steady;
+mod stream;
 mod unread;
 mod writing;
 
 pub use failed::Failed;
+pub use file_source::FileSource;
 pub use mem_sink::MemSink;
 pub use mem_source::MemSource;
 pub use reading::{ReadError, read_all};
 pub use sink::Sink;
 pub use source::Source;
 pub use steady::{SteadySink, SteadySource};
+pub use stream::{StdSink, StdSource};
 pub use writing::write_all;

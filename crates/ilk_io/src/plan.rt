@@ -1,6 +1,6 @@
 ghost use Rattle.std.specs.Prelude.{◌≡◌, ◌≤◌};
 ghost use Rattle.ilk_io.specs.Faults.{Rose};
-ghost use Rattle.ilk_io.specs.Plan.{fails_next, after_call, after_fault};
+ghost use Rattle.ilk_io.specs.Plan.{one_more, fails_next, after_call, after_fault};
 
 use std::marker::Model;
 
@@ -20,6 +20,15 @@ impl Model for FaultPlan {
     ghost view = { λ a. record { fails = a.fails.items; calls = a.calls; faults = a.faults } };
 }
 
+// One more, which stands still at the greatest `u64`.
+pub fn one_more(n: u64) -> u64
+    ensures value { result ≡ one_more n }
+    ensures rose { Rose n result }
+    ensures counted { n ≤ result }
+{
+    n.saturating_add(1)
+}
+
 impl FaultPlan {
     pub fn new(fails: Vec<u64>) -> FaultPlan
         ensures { result ≡ record { fails = fails.items; calls = 0; faults = 0 } }
@@ -35,7 +44,7 @@ impl FaultPlan {
     pub fn fails_next(&self) -> bool
         ensures { result ≡ fails_next self.now }
     {
-        let number = self.calls.saturating_add(1);
+        let number = one_more(self.calls);
         self.fails.iter().any(|k| *k == number)
     }
 
@@ -43,7 +52,7 @@ impl FaultPlan {
     pub fn count_call(&mut self)
         ensures { self.new ≡ after_call self.old }
     {
-        self.calls = self.calls.saturating_add(1);
+        self.calls = one_more(self.calls);
     }
 
     // Counts a call that failed.
@@ -52,7 +61,7 @@ impl FaultPlan {
         ensures rose { Rose self.old.faults self.new.faults }
         ensures counted { self.old.faults ≤ self.new.faults }
     {
-        self.calls = self.calls.saturating_add(1);
-        self.faults = self.faults.saturating_add(1);
+        self.calls = one_more(self.calls);
+        self.faults = one_more(self.faults);
     }
 }
