@@ -26,3 +26,6 @@ pub use source::Source;
 pub use steady::{SteadySink, SteadySource};
 pub use stream::{StdSink, StdSource};
 pub use writing::write_all;
+
+#[cfg(test)]
+mod tests;
