@@ -130,7 +130,6 @@ pub fn step_head(_alloc: Global, plant: &Plant, s: &mut State, x: u32) -> Result
     ensures err { OnErr result (s.new ≡ s.old) }
     ensures shape { HasShape plant.now s.new }
 {
-    plant.is_sound();
     move_head(plant, s, x)
 }
 
@@ -142,6 +141,7 @@ pub fn step_tail(plant: &Plant, s: &mut State, x: u32) -> bool
     ensures next { s.new ≡ unwrap_or (after_tail plant.now s.old x) s.old }
     ensures shape { HasShape plant.now s.new }
 {
+    plant.is_sound();
     move_tail(plant, s, x)
 }
 
