@@ -89,10 +89,6 @@ after_head-shape p s t x shape e =
     let kept = with_trains p s _ shape (All-set (IsBody p) s.trains i (with_head_at y train) longer shape.bodies) in
     subst (HasShape p) (cond_some _ _ t e3).1 (closing-shape p (board_of p x train.dir) _ kept))))
 
--- what is next to a section of the plant is a section of the plant
-neighbour-known : (p : PlantLists) (x y : ℕ) (d : Dir) → IsPlant p → IsTrue (has_section y (next_to p x d)) → y < length p.sections
-neighbour-known p x y d plant next = plant.neighbours x y d next
-
 -- a body that has lost its tail
 body-rest : (p : PlantLists) (x : ℕ) (train : Train) → IsPlant p → has_tail x train ≡ true → IsBody p train → IsBody p (without_tail train)
 body-rest p x train plant e h = rest train.body e h
@@ -100,7 +96,7 @@ body-rest p x train plant e h = rest train.body e h
     rest : (body : List ℕ) → begins_at x body ≡ true → IsBody p (record train { body = body }) → IsBody p (record train { body = remove body 0 })
     rest [] e h = cc
     rest (y ∷ []) e h = cc
-    rest (y ∷ z ∷ zs) e h = (neighbour-known p y z train.dir plant h.1.0, h.1.1)
+    rest (y ∷ z ∷ zs) e h = (plant.neighbours y z train.dir h.1.0, h.1.1)
 
 pub after_tail-shape : (p : PlantLists) (s t : State) (x : ℕ) → IsPlant p → HasShape p s → after_tail p s x ≡ Some t → HasShape p t
 after_tail-shape p s t x plant shape e =

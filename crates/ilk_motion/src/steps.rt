@@ -50,6 +50,7 @@ fn close(s: &mut State, board: Option<u32>)
 }
 
 // The first train with its head at `x` moves on, where that is enabled.
+#[tactic(auto, using(ilk_plant::proofs::Rows::set_same))]
 fn move_head(plant: &Plant, s: &mut State, x: u32) -> Result<bool, AllocError>
     requires { HasShape plant.now s.old }
     ensures answer { IfOk result (λ b. b ≡ is_some (after_head plant.now s.old x)) }
