@@ -1,5 +1,5 @@
 -- No event of a train breaks the shape.
-use Rattle.std.proofs.Common.{suc, ◌≡◌, ℕ, ◌<◌, true, Option, Some, None, List, [], ◌∷◌, ◌++◌, All, length, slice_get, remove, take, drop, subst, ◌∙◌, position, IsTrue, length-set, arith, set}
+use Rattle.std.proofs.Common.{suc, ◌≡◌, ℕ, ◌<◌, true, Option, Some, None, List, [], ◌∷◌, ◌++◌, All, length, slice_get, remove, take, drop, subst, ◌∙◌, position, IsTrue, length-set, arith}
 use Rattle.std.proofs.lemmas.Option.{option_and_then_some, cond_some, same_Some, slice_get_within, get_or_from_slice_get}
 use Rattle.std.proofs.lemmas.List.Elements.{All-push, All-set, All-append, All-take, All-drop, All-get_or}
 use Rattle.std.proofs.lemmas.Bool.Decides.{nat_tests}
@@ -17,8 +17,8 @@ use Rattle.ilk_plant.specs.declared.state.Lie.TheVariants.{Plus, Minus, Moving}
 use Rattle.ilk_plant.specs.declared.state.State.{State}
 use Rattle.ilk_plant.specs.declared.state.Train.{Train}
 use Rattle.ilk_motion.specs.Ahead.{ahead, leads_to}
-use Rattle.ilk_motion.specs.Body.{begins_at, ends_at, has_head, has_tail, stands_on, train_on, with_head_at, without_tail}
-use Rattle.ilk_motion.specs.Trains.{after_enter, after_head, after_tail, after_leave, closing}
+use Rattle.ilk_motion.specs.Body.{begins_at, ends_at, has_head, has_tail, stands_on, with_new_head, without_tail}
+use Rattle.ilk_motion.specs.Trains.{after_enter, after_head, after_tail, after_leave, with_board_closed}
 
 -- the shape stays where the trains alone change
 with_trains : (p : PlantLists) (s : State) (trains : List Train) → HasShape p s → All (IsBody p) trains → HasShape p (record s { trains = trains })
@@ -62,7 +62,7 @@ leads_on-push p d z [] x y h e n =
 leads_on-push p d z (w ∷ rest) x y h e n = (h.0, leads_on-push p d w rest x y h.1 e n)
 
 -- one more section at the head of a body
-body-push : (p : PlantLists) (train : Train) (x y : ℕ) → IsBody p train → has_head x train ≡ true → IsTrue (has_section y (next_to p x train.dir)) → IsBody p (with_head_at y train)
+body-push : (p : PlantLists) (train : Train) (x y : ℕ) → IsBody p train → has_head x train ≡ true → IsTrue (has_section y (next_to p x train.dir)) → IsBody p (with_new_head y train)
 body-push p train x y h e n = push train.body h e
   where
     push : (body : List ℕ) → IsBody p (record train { body = body }) → ends_at x body ≡ true → IsBody p (record train { body = body ++ y ∷ [] })
@@ -75,9 +75,9 @@ body_at p s i train shape at =
     rw (get_or_from_slice_get s.trains i train train at) at (All-get_or (IsBody p) s.trains i train (slice_get_within s.trains i train at) shape.bodies)
 
 -- closing a board keeps the shape
-closing-shape : (p : PlantLists) (board : Option ℕ) (s : State) → HasShape p s → HasShape p (closing board s)
-closing-shape p None s shape = shape
-closing-shape p (Some m) s shape =
+with_board_closed-shape : (p : PlantLists) (board : Option ℕ) (s : State) → HasShape p s → HasShape p (with_board_closed board s)
+with_board_closed-shape p None s shape = shape
+with_board_closed-shape p (Some m) s shape =
     record { routes = shape.routes; points = shape.points; boards = length-set s.boards m Closed ∙ shape.boards; locks = shape.locks; counts = shape.counts; bodies = shape.bodies }
 
 pub after_head-shape : (p : PlantLists) (s t : State) (x : ℕ) → HasShape p s → after_head p s x ≡ Some t → HasShape p t
@@ -85,9 +85,9 @@ after_head-shape p s t x shape e =
     option_and_then_some _ (position (has_head x) s.trains) t e (λ i first e1.
     option_and_then_some _ (slice_get s.trains i) t e1 (λ train at e2.
     option_and_then_some _ (ahead p s x train.dir) t e2 (λ y led e3.
-    let longer : IsBody p (with_head_at y train) = body-push p train x y (body_at p s i train shape at) (position-at (has_head x) s.trains i train first at) (ahead-next_to p s x y train.dir led) in
-    let kept = with_trains p s _ shape (All-set (IsBody p) s.trains i (with_head_at y train) longer shape.bodies) in
-    subst (HasShape p) (cond_some _ _ t e3).1 (closing-shape p (board_of p x train.dir) _ kept))))
+    let longer : IsBody p (with_new_head y train) = body-push p train x y (body_at p s i train shape at) (position-at (has_head x) s.trains i train first at) (ahead-next_to p s x y train.dir led) in
+    let kept = with_trains p s _ shape (All-set (IsBody p) s.trains i (with_new_head y train) longer shape.bodies) in
+    subst (HasShape p) (cond_some _ _ t e3).1 (with_board_closed-shape p (board_of p x train.dir) _ kept))))
 
 -- a body that has lost its tail
 body-rest : (p : PlantLists) (x : ℕ) (train : Train) → IsPlant p → has_tail x train ≡ true → IsBody p train → IsBody p (without_tail train)

@@ -18,12 +18,13 @@ leg_at plus minus Plus = Some plus
 leg_at plus minus Minus = Some minus
 leg_at plus minus Moving = None
 
--- the section on side d of a section, which lies so if it is a point: of a linear section the
--- neighbour, of a point that faces d the leg at which it lies, of another point the stem
+-- where a section leads in direction d, given where it lies if it is a point: a linear section to
+-- its neighbour, a point that faces d to the leg at which it lies, another point to its stem
 abbrev pub leads_to : Section → Dir → Option Lie → Option ℕ
 leads_to (Linear down up board_down board_up) Down lie = down
 leads_to (Linear down up board_down board_up) Up lie = up
-leads_to (Point stem plus minus faces) d lie = if same_direction faces d then lie >>= leg_at plus minus else Some stem
+leads_to (Point stem plus minus faces) d lie =
+    if same_direction faces d then lie >>= leg_at plus minus else Some stem
 
 -- the section ahead of x in direction d; none where x is no section
 abbrev pub ahead : PlantLists → State → ℕ → Dir → Option ℕ

@@ -38,8 +38,8 @@ abbrev pub train_on : ℕ → Dir → Train
 train_on x d = record { dir = d; body = x ∷ [] }
 
 -- the train with y as its new head
-abbrev pub with_head_at : ℕ → Train → Train
-with_head_at y train = record train { body = train.body ++ y ∷ [] }
+abbrev pub with_new_head : ℕ → Train → Train
+with_new_head y train = record train { body = train.body ++ y ∷ [] }
 
 -- the train without its first section
 abbrev pub without_tail : Train → Train

@@ -1,15 +1,18 @@
-ghost use Rattle.std.specs.Prelude.{◌≡◌, Some, None, [], ◌∷◌, option_map, map};
-ghost use Rattle.ilk_plant.specs.Option.{◌>>=◌ as ◌⇒◌};
-ghost use Rattle.ilk_motion.specs.Trains.{after_enter, after_head};
-ghost use Rattle.ilk_motion.specs.TwoSections.{two_sections, both_entered};
+ghost use Rattle.std.specs.Prelude.{◌≡◌, Some, None, [], ◌∷◌, option_map};
+ghost use Rattle.ilk_plant.specs.Start.{start};
+ghost use Rattle.ilk_motion.specs.TwoSections.{bodies, first_moved_on, one_crossed, third_entered, two_sections};
 
-// A train that entered at a moves on to b, where another has entered.
-fn one_moves_on()
-    ensures { option_map (λ s. map (λ train. train.body) s.trains) (both_entered ⇒ (λ s. after_head two_sections s 0))
-        ≡ Some ((0 ∷ 1 ∷ []) ∷ (1 ∷ []) ∷ []) }
+// The first of two trains that entered at both ends moves on to where the other stands.
+fn two_trains_meet()
+    ensures { option_map bodies first_moved_on ≡ Some ((0 ∷ 1 ∷ []) ∷ (1 ∷ []) ∷ []) }
 {}
 
-// No second train enters at a.
-fn occupied_border_stays_shut()
-    ensures { (both_entered ⇒ (λ s. after_enter two_sections s 0)) ≡ None }
+// No train enters where one stands.
+fn occupied_border_refuses()
+    ensures { third_entered ≡ None }
+{}
+
+// A train that crosses the line leaves it as it was.
+fn one_train_crosses()
+    ensures { one_crossed ≡ Some (start two_sections) }
 {}

@@ -1,6 +1,6 @@
 ghost use Rattle.std.specs.Prelude.{◌≡◌, ◌<◌, IfOk, IfSome, OnOk, OnErr, is_some, length, unwrap_or};
 ghost use Rattle.ilk_plant.specs.State.{HasShape};
-ghost use Rattle.ilk_motion.specs.Trains.{after_enter, after_head, after_leave, after_tail, closing, may_pass};
+ghost use Rattle.ilk_motion.specs.Trains.{after_enter, after_head, after_leave, after_tail, with_board_closed, may_pass};
 
 use crate::ahead;
 use crate::trains::{standing_on, with_head, with_tail};
@@ -42,7 +42,7 @@ fn may_pass(s: &State, board: Option<u32>) -> bool
 // Closes the board, if there is one.
 fn close(s: &mut State, board: Option<u32>)
     requires { IfSome board (λ m. m < length s.old.boards) }
-    ensures { s.new ≡ closing board s.old }
+    ensures { s.new ≡ with_board_closed board s.old }
 {
     if let Some(m) = board {
         *s.boards.at_mut(m as u64) = Aspect::Closed;
