@@ -1,0 +1,46 @@
+ghost use Rattle.std.specs.Prelude.{◌≡◌, is_some, unwrap_or};
+ghost use Rattle.ilk_plant.specs.State.{HasShape};
+ghost use Rattle.ilk_routes.specs.Points.{after_settle, after_throw};
+
+use crate::conditions::{is_moving, lie_at, lies_at};
+use ilk_plant::{Lie, Plant, State};
+
+// Throws the point on section `p`, where that is enabled.
+pub fn throw(plant: &Plant, s: &mut State, p: u32) -> bool
+    requires { HasShape plant.now s.old }
+    ensures answer { result ≡ is_some (after_throw plant.now s.old p) }
+    ensures next { s.new ≡ unwrap_or (after_throw plant.now s.old p) s.old }
+{
+    if p >= plant.sections() {
+        return false;
+    }
+    let Some(n) = plant.point_number(p) else {
+        return false;
+    };
+    let point = *s.points.at(n as u64);
+    if is_moving(point.at) || lies_at(point.at, point.to) {
+        return false;
+    }
+    s.points.at_mut(n as u64).at = Lie::Moving;
+    true
+}
+
+// Settles the point on section `p`, where that is enabled.
+pub fn settle(plant: &Plant, s: &mut State, p: u32) -> bool
+    requires { HasShape plant.now s.old }
+    ensures answer { result ≡ is_some (after_settle plant.now s.old p) }
+    ensures next { s.new ≡ unwrap_or (after_settle plant.now s.old p) s.old }
+{
+    if p >= plant.sections() {
+        return false;
+    }
+    let Some(n) = plant.point_number(p) else {
+        return false;
+    };
+    let point = *s.points.at(n as u64);
+    if !is_moving(point.at) {
+        return false;
+    }
+    s.points.at_mut(n as u64).at = lie_at(point.to);
+    true
+}
