@@ -1,5 +1,5 @@
-ghost use Rattle.std.specs.Prelude.{◌≡◌};
-ghost use Rattle.std.specs.List.{list_any, list_all};
+ghost use Rattle.std.specs.Prelude.{◌≡◌, ◌<◌, ◌-◌, None, Some, length, slice_get};
+ghost use Rattle.std.specs.List.{last_or, list_any, list_all};
 ghost use Rattle.ilk_plant.specs.State.{lie_of};
 ghost use Rattle.ilk_routes.specs.Lies.{is_moving, lie_at, lies_as_listed, lies_at};
 ghost use Rattle.ilk_routes.specs.Locks.{has_lock, is_clear};
@@ -62,6 +62,15 @@ pub fn can_claim(s: &State, route: &Route) -> bool
     ensures { result ≡ can_claim s.now route.now }
 {
     !any_claimed(s, &route.conflicts) && all_clear(s, &route.path) && all_clear(s, &route.overlap)
+}
+
+/// The last of the sections.
+pub fn last_of(sections: &Row<u32>) -> u32
+    requires { 0 < length sections.now }
+    ensures last { last_or None sections.now ≡ Some result }
+    ensures at_end { slice_get sections.now (length sections.now - 1) ≡ Some result }
+{
+    *sections.at(sections.len() - 1)
 }
 
 /// Whether a point that lies so moves.

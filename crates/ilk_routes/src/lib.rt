@@ -11,5 +11,5 @@ mod conditions;
 mod points;
 mod routes;
 
-pub use points::{settle, throw};
-pub use routes::{allocate, finish, lock, mark, release, sense};
+pub use points::{step_settle, step_throw};
+pub use routes::{step_allocate, step_finish, step_lock, step_mark, step_release, step_sense};

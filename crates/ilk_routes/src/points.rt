@@ -6,7 +6,7 @@ use crate::conditions::{is_moving, lie_at, lies_at};
 use ilk_plant::{Lie, Plant, State};
 
 // Throws the point on section `p`, where that is enabled.
-pub fn throw(plant: &Plant, s: &mut State, p: u32) -> bool
+fn throw(plant: &Plant, s: &mut State, p: u32) -> bool
     requires { HasShape plant.now s.old }
     ensures answer { result ≡ is_some (after_throw plant.now s.old p) }
     ensures next { s.new ≡ unwrap_or (after_throw plant.now s.old p) s.old }
@@ -26,7 +26,7 @@ pub fn throw(plant: &Plant, s: &mut State, p: u32) -> bool
 }
 
 // Settles the point on section `p`, where that is enabled.
-pub fn settle(plant: &Plant, s: &mut State, p: u32) -> bool
+fn settle(plant: &Plant, s: &mut State, p: u32) -> bool
     requires { HasShape plant.now s.old }
     ensures answer { result ≡ is_some (after_settle plant.now s.old p) }
     ensures next { s.new ≡ unwrap_or (after_settle plant.now s.old p) s.old }
@@ -43,4 +43,30 @@ pub fn settle(plant: &Plant, s: &mut State, p: u32) -> bool
     }
     s.points.at_mut(n as u64).at = lie_at(point.to);
     true
+}
+
+/// Throws the point on section `p`: it moves.
+///
+/// True exactly where that is enabled: `p` is a section with a point, which doesn't move and doesn't
+/// lie where it is commanded. Otherwise false, and `s` is unchanged.
+pub fn step_throw(plant: &Plant, s: &mut State, p: u32) -> bool
+    requires { HasShape plant.now s.old }
+    ensures answer { result ≡ is_some (after_throw plant.now s.old p) }
+    ensures next { s.new ≡ unwrap_or (after_throw plant.now s.old p) s.old }
+    ensures shape { HasShape plant.now s.new }
+{
+    throw(plant, s, p)
+}
+
+/// Settles the point on section `p`: it lies where it is commanded.
+///
+/// True exactly where that is enabled: `p` is a section with a point, which moves. Otherwise false,
+/// and `s` is unchanged.
+pub fn step_settle(plant: &Plant, s: &mut State, p: u32) -> bool
+    requires { HasShape plant.now s.old }
+    ensures answer { result ≡ is_some (after_settle plant.now s.old p) }
+    ensures next { s.new ≡ unwrap_or (after_settle plant.now s.old p) s.old }
+    ensures shape { HasShape plant.now s.new }
+{
+    settle(plant, s, p)
 }

@@ -3,11 +3,11 @@ ghost use Rattle.ilk_plant.specs.State.{HasShape};
 ghost use Rattle.ilk_routes.specs.Routes.{after_allocate, after_finish, after_lock, after_mark, after_release, after_sense};
 
 use crate::changes::{command, give_locks};
-use crate::conditions::{all_lie_as_listed, can_claim, has_lock};
+use crate::conditions::{all_lie_as_listed, can_claim, has_lock, last_of};
 use ilk_plant::{Aspect, Hold, Mode, Plant, RouteState, State, occupied};
 
 // Marks route `r`, where that is enabled.
-pub fn mark(plant: &Plant, s: &mut State, r: u32) -> bool
+fn mark(plant: &Plant, s: &mut State, r: u32) -> bool
     requires { HasShape plant.now s.old }
     ensures answer { result ≡ is_some (after_mark plant.now s.old r) }
     ensures next { s.new ≡ unwrap_or (after_mark plant.now s.old r) s.old }
@@ -20,7 +20,7 @@ pub fn mark(plant: &Plant, s: &mut State, r: u32) -> bool
 }
 
 // Allocates route `r`, where that is enabled.
-pub fn allocate(plant: &Plant, s: &mut State, r: u32) -> bool
+fn allocate(plant: &Plant, s: &mut State, r: u32) -> bool
     requires { HasShape plant.now s.old }
     ensures answer { result ≡ is_some (after_allocate plant.now s.old r) }
     ensures next { s.new ≡ unwrap_or (after_allocate plant.now s.old r) s.old }
@@ -40,7 +40,7 @@ pub fn allocate(plant: &Plant, s: &mut State, r: u32) -> bool
 }
 
 // Locks route `r`, where that is enabled.
-pub fn lock(plant: &Plant, s: &mut State, r: u32) -> bool
+fn lock(plant: &Plant, s: &mut State, r: u32) -> bool
     requires { HasShape plant.now s.old }
     ensures answer { result ≡ is_some (after_lock plant.now s.old r) }
     ensures next { s.new ≡ unwrap_or (after_lock plant.now s.old r) s.old }
@@ -59,7 +59,7 @@ pub fn lock(plant: &Plant, s: &mut State, r: u32) -> bool
 }
 
 // Senses the next path section of route `r`, where that is enabled.
-pub fn sense(plant: &Plant, s: &mut State, r: u32) -> bool
+fn sense(plant: &Plant, s: &mut State, r: u32) -> bool
     requires { HasShape plant.now s.old }
     ensures answer { result ≡ is_some (after_sense plant.now s.old r) }
     ensures next { s.new ≡ unwrap_or (after_sense plant.now s.old r) s.old }
@@ -88,7 +88,7 @@ pub fn sense(plant: &Plant, s: &mut State, r: u32) -> bool
 }
 
 // Releases the next path section of route `r`, where that is enabled.
-pub fn release(plant: &Plant, s: &mut State, r: u32) -> bool
+fn release(plant: &Plant, s: &mut State, r: u32) -> bool
     requires { HasShape plant.now s.old }
     ensures answer { result ≡ is_some (after_release plant.now s.old r) }
     ensures next { s.new ≡ unwrap_or (after_release plant.now s.old r) s.old }
@@ -112,7 +112,7 @@ pub fn release(plant: &Plant, s: &mut State, r: u32) -> bool
 }
 
 // Finishes route `r`, where that is enabled.
-pub fn finish(plant: &Plant, s: &mut State, r: u32) -> bool
+fn finish(plant: &Plant, s: &mut State, r: u32) -> bool
     requires { HasShape plant.now s.old }
     ensures answer { result ≡ is_some (after_finish plant.now s.old r) }
     ensures next { s.new ≡ unwrap_or (after_finish plant.now s.old r) s.old }
@@ -126,7 +126,7 @@ pub fn finish(plant: &Plant, s: &mut State, r: u32) -> bool
     if now.mode != Mode::Occupied || now.seen as u64 != length || now.rel as u64 + 1 != length {
         return false;
     }
-    let last = *route.path.at(length - 1);
+    let last = last_of(&route.path);
     *s.locks.at_mut(last as u64) = Hold::Free;
     give_locks(&mut s.locks, &route.overlap, Hold::Free);
     *s.routes.at_mut(r as u64) = RouteState {
@@ -135,4 +135,90 @@ pub fn finish(plant: &Plant, s: &mut State, r: u32) -> bool
         rel: 0,
     };
     true
+}
+
+/// Marks route `r`: it becomes Marked.
+///
+/// True exactly where that is enabled: `r` is a route, and Free. Otherwise false, and `s` is
+/// unchanged.
+pub fn step_mark(plant: &Plant, s: &mut State, r: u32) -> bool
+    requires { HasShape plant.now s.old }
+    ensures answer { result ≡ is_some (after_mark plant.now s.old r) }
+    ensures next { s.new ≡ unwrap_or (after_mark plant.now s.old r) s.old }
+    ensures shape { HasShape plant.now s.new }
+{
+    mark(plant, s, r)
+}
+
+/// Allocates route `r`: it becomes Allocating, the locks of its path and overlap become Locked, and
+/// each of its listed points is commanded to its listed position.
+///
+/// True exactly where that is enabled: `r` is a route, and Marked, no route that it lists as a
+/// conflict is Allocating or Locked, and every section of its path and overlap has lock Free and is
+/// vacant. Otherwise false, and `s` is unchanged.
+pub fn step_allocate(plant: &Plant, s: &mut State, r: u32) -> bool
+    requires { HasShape plant.now s.old }
+    ensures answer { result ≡ is_some (after_allocate plant.now s.old r) }
+    ensures next { s.new ≡ unwrap_or (after_allocate plant.now s.old r) s.old }
+    ensures shape { HasShape plant.now s.new }
+{
+    allocate(plant, s, r)
+}
+
+/// Locks route `r`: it becomes Locked, and its source board opens.
+///
+/// True exactly where that is enabled: `r` is a route, and Allocating, and each of its listed points
+/// lies at its listed position. Otherwise false, and `s` is unchanged.
+pub fn step_lock(plant: &Plant, s: &mut State, r: u32) -> bool
+    requires { HasShape plant.now s.old }
+    ensures answer { result ≡ is_some (after_lock plant.now s.old r) }
+    ensures next { s.new ≡ unwrap_or (after_lock plant.now s.old r) s.old }
+    ensures shape { HasShape plant.now s.new }
+{
+    lock(plant, s, r)
+}
+
+/// Senses that a train has taken the next path section of route `r`: the section's lock becomes
+/// Used, `seen` grows by 1, the route becomes Occupied, and with the first section its source board
+/// closes.
+///
+/// True exactly where that is enabled: `r` is a route, and Locked or Occupied, `seen` is below the
+/// length of its path, and the section at that place is occupied and has lock Locked. Otherwise
+/// false, and `s` is unchanged.
+pub fn step_sense(plant: &Plant, s: &mut State, r: u32) -> bool
+    requires { HasShape plant.now s.old }
+    ensures answer { result ≡ is_some (after_sense plant.now s.old r) }
+    ensures next { s.new ≡ unwrap_or (after_sense plant.now s.old r) s.old }
+    ensures shape { HasShape plant.now s.new }
+{
+    sense(plant, s, r)
+}
+
+/// Gives back the next path section of route `r` behind a train: the section's lock becomes Free, and
+/// `rel` grows by 1.
+///
+/// True exactly where that is enabled: `r` is a route, and Occupied, `rel + 2` is at most `seen`, and
+/// the path section at place `rel` is vacant and has lock Used. Otherwise false, and `s` is
+/// unchanged.
+pub fn step_release(plant: &Plant, s: &mut State, r: u32) -> bool
+    requires { HasShape plant.now s.old }
+    ensures answer { result ≡ is_some (after_release plant.now s.old r) }
+    ensures next { s.new ≡ unwrap_or (after_release plant.now s.old r) s.old }
+    ensures shape { HasShape plant.now s.new }
+{
+    release(plant, s, r)
+}
+
+/// Finishes route `r`: the locks of its last path section and of its overlap become Free, `seen` and
+/// `rel` become 0, and the route becomes Free.
+///
+/// True exactly where that is enabled: `r` is a route, and Occupied, and both `seen` and `rel + 1`
+/// are the length of its path. Otherwise false, and `s` is unchanged.
+pub fn step_finish(plant: &Plant, s: &mut State, r: u32) -> bool
+    requires { HasShape plant.now s.old }
+    ensures answer { result ≡ is_some (after_finish plant.now s.old r) }
+    ensures next { s.new ≡ unwrap_or (after_finish plant.now s.old r) s.old }
+    ensures shape { HasShape plant.now s.new }
+{
+    finish(plant, s, r)
 }
