@@ -1,5 +1,5 @@
 -- No event of a route or a point breaks the shape.
-use Rattle.std.proofs.Common.{◌≡◌, ℕ, ◌≤◌, Bool, true, false, Option, Some, None, List, [], ◌∷◌, length, slice_get, set, subst, sym, ◌∙◌, ap, refl, inl, inr, if◌then◌else◌, length-set, arith}
+use Rattle.std.proofs.Common.{◌≡◌, ℕ, Bool, true, false, Option, Some, None, List, [], ◌∷◌, length, slice_get, set, subst, sym, ◌∙◌, ap, refl, inl, inr, if◌then◌else◌, length-set, arith}
 use Rattle.std.proofs.lemmas.Option.{option_and_then_some, cond_some, same_Some, slice_get_within}
 use Rattle.std.specs.List.{last_or}
 use Rattle.ilk_plant.proofs.Rows.{slice_get_set}
@@ -49,8 +49,9 @@ reshaped p s r mine now boards points locks shape known within b n l = record {
   boards = b ∙ shape.boards;
   locks = l ∙ shape.locks;
   counts = λ k route at e f. elim (slice_get_set s.routes r k now at f) [
-      inl h ↦ (let same : route ≡ mine = same_Some route mine (sym e ∙ ap (slice_get p.routes) (sym h.0) ∙ known) in rw (same, ← h.1) within)
-    | inr g ↦ shape.counts k route at e g ];
+    | inl h ↦ (let same : route ≡ mine = same_Some route mine (sym e ∙ ap (slice_get p.routes) (sym h.0) ∙ known) in rw (same, ← h.1) within)
+    | inr g ↦ shape.counts k route at e g
+  ];
   bodies = shape.bodies;
 }
 

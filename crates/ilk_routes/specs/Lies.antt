@@ -1,5 +1,6 @@
 -- Where points lie, and where they are commanded.
-use Rattle.std.specs.Prelude.{ℕ, Bool, true, false, Option, Some, None, List, [], ◌∷◌, slice_get, set}
+use Rattle.std.specs.Prelude.{Bool, true, false, Option, Some, None, List, [], ◌∷◌, slice_get, set, unwrap_or}
+use Rattle.ilk_plant.specs.Option.{◌>>=◌}
 use Rattle.ilk_plant.specs.Plant.{PlantLists, point_number}
 use Rattle.ilk_plant.specs.State.{lie_of}
 use Rattle.ilk_plant.specs.declared.network.Position.{Position}
@@ -16,10 +17,10 @@ is_moving LiesPlus = false
 is_moving LiesMinus = false
 is_moving Moving = true
 
--- how a point lies that lies at this position
-abbrev pub lie_at : Position → Lie
-lie_at Plus = LiesPlus
-lie_at Minus = LiesMinus
+-- how a point lies in this position
+abbrev pub lie_in : Position → Lie
+lie_in Plus = LiesPlus
+lie_in Minus = LiesMinus
 
 -- whether a point that lies so lies at this position
 abbrev pub lies_at : Lie → Position → Bool
@@ -37,15 +38,13 @@ lies_as_listed p s listed = of (lie_of p s listed.point)
 
 -- the points, once a listed one is commanded to its listed position
 abbrev pub with_command : PlantLists → List PointState → Listed → List PointState
-with_command p points listed = commanding (point_number p listed.point)
+with_command p points listed = unwrap_or commanding points
   where
-    setting : ℕ → Option PointState → List PointState
-    setting n None = points
-    setting n (Some point) = set points n (record point { to = listed.at })
-
-    commanding : Option ℕ → List PointState
-    commanding None = points
-    commanding (Some n) = setting n (slice_get points n)
+    commanding : Option (List PointState)
+    commanding = do
+      n ← point_number p listed.point
+      point ← slice_get points n
+      Some (set points n (record point { to = listed.at }))
 
 -- the points, once each listed one is commanded to its listed position
 abbrev pub with_commands : PlantLists → List PointState → List Listed → List PointState

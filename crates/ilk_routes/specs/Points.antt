@@ -4,7 +4,7 @@ use Rattle.ilk_plant.specs.Option.{◌>>=◌, only_if}
 use Rattle.ilk_plant.specs.Plant.{PlantLists, point_number}
 use Rattle.ilk_plant.specs.declared.state.Lie.TheVariants.{Moving}
 use Rattle.ilk_plant.specs.declared.state.State.{State}
-use Rattle.ilk_routes.specs.Lies.{is_moving, lie_at, lies_at}
+use Rattle.ilk_routes.specs.Lies.{is_moving, lie_in, lies_at}
 
 -- throw x: the point on x, which does not move and does not lie where it is commanded, moves
 abbrev pub after_throw : PlantLists → State → ℕ → Option State
@@ -18,4 +18,4 @@ abbrev pub after_settle : PlantLists → State → ℕ → Option State
 after_settle p s x = do
   n ← point_number p x
   point ← slice_get s.points n
-  only_if (is_moving point.at) (record s { points = set s.points n (record point { at = lie_at point.to }) })
+  only_if (is_moving point.at) (record s { points = set s.points n (record point { at = lie_in point.to }) })

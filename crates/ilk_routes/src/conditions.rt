@@ -1,7 +1,8 @@
-ghost use Rattle.std.specs.Prelude.{◌≡◌, ◌<◌, ◌-◌, None, Some, length, slice_get};
+ghost use Rattle.std.specs.Prelude.{◌≡◌, ◌<◌, ◌-◌, IfSome, None, Some, length, slice_get};
 ghost use Rattle.std.specs.List.{last_or, list_any, list_all};
+ghost use Rattle.ilk_plant.specs.Plant.{point_count, point_number};
 ghost use Rattle.ilk_plant.specs.State.{lie_of};
-ghost use Rattle.ilk_routes.specs.Lies.{is_moving, lie_at, lies_as_listed, lies_at};
+ghost use Rattle.ilk_routes.specs.Lies.{is_moving, lie_in, lies_as_listed, lies_at};
 ghost use Rattle.ilk_routes.specs.Locks.{has_lock, is_clear};
 ghost use Rattle.ilk_routes.specs.Modes.{has_mode, is_claimed};
 ghost use Rattle.ilk_routes.specs.Routes.{can_claim};
@@ -80,9 +81,9 @@ pub fn is_moving(lie: Lie) -> bool
     lie == Lie::Moving
 }
 
-/// How a point lies that lies at this position.
-pub fn lie_at(position: Position) -> Lie
-    ensures { result ≡ lie_at position }
+/// How a point lies in this position.
+pub fn lie_in(position: Position) -> Lie
+    ensures { result ≡ lie_in position }
 {
     match position {
         Position::Plus => Lie::Plus,
@@ -94,17 +95,26 @@ pub fn lie_at(position: Position) -> Lie
 pub fn lies_at(lie: Lie, position: Position) -> bool
     ensures { result ≡ lies_at lie position }
 {
-    lie == lie_at(position)
+    lie == lie_in(position)
 }
 
-// Where the point on section `x` lies. None where the section is no point.
+/// The number of the point on section `x`. None where `x` is no section, or one that is no point.
+pub fn point_on(plant: &Plant, x: u32) -> Option<u32>
+    ensures number { result ≡ point_number plant.now x }
+    ensures known { IfSome result (λ n. n < point_count plant.now) }
+{
+    if x < plant.sections() {
+        plant.point_number(x)
+    } else {
+        None
+    }
+}
+
+// Where the point on section `x` lies. None where there is none.
 fn lie_of(plant: &Plant, s: &State, x: u32) -> Option<Lie>
     ensures { result ≡ lie_of plant.now s.now x }
 {
-    if x >= plant.sections() {
-        return None;
-    }
-    let n = plant.point_number(x)?;
+    let n = point_on(plant, x)?;
     let point = s.points.as_slice().get(n as usize)?;
     Some(point.at)
 }

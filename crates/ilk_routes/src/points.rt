@@ -2,7 +2,7 @@ ghost use Rattle.std.specs.Prelude.{◌≡◌, is_some, unwrap_or};
 ghost use Rattle.ilk_plant.specs.State.{HasShape};
 ghost use Rattle.ilk_routes.specs.Points.{after_settle, after_throw};
 
-use crate::conditions::{is_moving, lie_at, lies_at};
+use crate::conditions::{is_moving, lie_in, lies_at, point_on};
 use ilk_plant::{Lie, Plant, State};
 
 // Throws the point on section `p`, where that is enabled.
@@ -11,10 +11,7 @@ fn throw(plant: &Plant, s: &mut State, p: u32) -> bool
     ensures answer { result ≡ is_some (after_throw plant.now s.old p) }
     ensures next { s.new ≡ unwrap_or (after_throw plant.now s.old p) s.old }
 {
-    if p >= plant.sections() {
-        return false;
-    }
-    let Some(n) = plant.point_number(p) else {
+    let Some(n) = point_on(plant, p) else {
         return false;
     };
     let point = *s.points.at(n as u64);
@@ -31,17 +28,14 @@ fn settle(plant: &Plant, s: &mut State, p: u32) -> bool
     ensures answer { result ≡ is_some (after_settle plant.now s.old p) }
     ensures next { s.new ≡ unwrap_or (after_settle plant.now s.old p) s.old }
 {
-    if p >= plant.sections() {
-        return false;
-    }
-    let Some(n) = plant.point_number(p) else {
+    let Some(n) = point_on(plant, p) else {
         return false;
     };
     let point = *s.points.at(n as u64);
     if !is_moving(point.at) {
         return false;
     }
-    s.points.at_mut(n as u64).at = lie_at(point.to);
+    s.points.at_mut(n as u64).at = lie_in(point.to);
     true
 }
 
