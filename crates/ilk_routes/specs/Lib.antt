@@ -1,0 +1,5 @@
+pub mod Modes
+pub mod Locks
+pub mod Lies
+pub mod Points
+pub mod Routes
