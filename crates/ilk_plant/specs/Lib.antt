@@ -7,3 +7,4 @@ pub mod State
 pub mod Start
 pub mod Draft
 pub mod PlainLine
+pub mod Broken
