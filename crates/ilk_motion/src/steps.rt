@@ -1,5 +1,6 @@
 ghost use Rattle.std.specs.Prelude.{◌≡◌, ◌<◌, IfOk, IfSome, OnOk, OnErr, is_some, length, unwrap_or};
 ghost use Rattle.ilk_plant.specs.State.{HasShape};
+ghost use Rattle.ilk_motion.specs.Body.{without_tail};
 ghost use Rattle.ilk_motion.specs.Trains.{after_enter, after_head, after_leave, after_tail, with_board_closed, may_pass};
 
 use crate::ahead;
@@ -73,6 +74,14 @@ fn move_head(plant: &Plant, s: &mut State, x: u32) -> Result<bool, AllocError>
     Ok(true)
 }
 
+// Takes the first section out of the train's body.
+fn leave_first(train: &mut Train)
+    requires { 0 < length train.old.body }
+    ensures { train.new ≡ without_tail train.old }
+{
+    train.body.remove(0);
+}
+
 // The first train of two or more sections with its tail at `x` leaves it.
 fn move_tail(plant: &Plant, s: &mut State, x: u32) -> bool
     ensures answer { result ≡ is_some (after_tail plant.now s.old x) }
@@ -84,7 +93,7 @@ fn move_tail(plant: &Plant, s: &mut State, x: u32) -> bool
     let Some(i) = with_tail(&s.trains, x) else {
         return false;
     };
-    s.trains.at_mut(i as u64).body.remove(0);
+    leave_first(s.trains.at_mut(i as u64));
     true
 }
 
