@@ -4,3 +4,4 @@ pub mod Member
 pub mod Document
 pub mod Section
 pub mod Network
+pub mod Seen

@@ -2,8 +2,8 @@
 
 ghost use Rattle.std.specs.Prelude.{◌≡◌};
 ghost use Rattle.ilk_net_read.specs.declared.fault.KindError.TheVariants.{OutOfMemory as NoMemory};
-ghost use Rattle.ilk_net_read.specs.declared.fault.FormError.TheVariants.{OutOfMemory};
-ghost use Rattle.ilk_net_read.specs.Fault.{at_place};
+ghost use Rattle.ilk_net_read.specs.declared.fault.FormError.TheVariants.{Fault, OutOfMemory};
+ghost use Rattle.ilk_net_read.specs.Fault.{at_place, broken};
 
 use std::alloc::AllocError;
 use std::fmt;
@@ -91,6 +91,13 @@ impl From<AllocError> for FormError {
     }
 }
 
+/// The error that a rule is broken at a place.
+pub fn fault(rule: Form, place: Place) -> FormError
+    ensures { result ≡ Fault (broken rule place) }
+{
+    FormError::Fault(FormFault { rule, place })
+}
+
 /// Why a value isn't read as what is wanted: it is of another kind, or memory ran out.
 #[derive(Debug, Drop, Error)]
 pub enum KindError {
@@ -106,10 +113,7 @@ impl KindError {
         ensures { result ≡ at_place self place }
     {
         match self {
-            KindError::WrongKind => FormError::Fault(FormFault {
-                rule: Form::F3,
-                place,
-            }),
+            KindError::WrongKind => fault(Form::F3, place),
             KindError::OutOfMemory => FormError::OutOfMemory,
         }
     }

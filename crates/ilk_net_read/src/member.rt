@@ -1,6 +1,7 @@
 //! The members of an object, and their kinds.
 
 ghost use Rattle.std.specs.Prelude.{◌≡◌, option_map, Option};
+ghost use Rattle.serde_json.specs.Find.{as_str};
 ghost use Rattle.serde_json.specs.View.{view, items_view};
 ghost use Rattle.ilk_net_read.specs.Fault.{Reads};
 ghost use Rattle.ilk_net_read.specs.Member as member;
@@ -75,6 +76,37 @@ pub fn optional_text_at(
 {
     match value.get(name) {
         Some(found) => optional_text(alloc, found),
+        None => Err(KindError::WrongKind),
+    }
+}
+
+/// A copy of a text.
+fn text(alloc: Global, value: &Value) -> Result<Text, KindError>
+    ensures { Reads result (as_str (view value.now)) }
+{
+    match value.as_str() {
+        Some(text) => Ok(Text::of(String::from_str(alloc, text)?)),
+        None => Err(KindError::WrongKind),
+    }
+}
+
+fn texts(alloc: Global, values: &[Value]) -> Result<Row<Text>, KindError>
+    ensures { Reads result (member.each_as as_str (items_view values.now)) }
+{
+    let mut texts = Row::new(alloc);
+    for value in values {
+        let text = text(alloc, value)?;
+        texts.push(text)?;
+    }
+    Ok(texts)
+}
+
+/// A copy of the member of this name, which must be an array of texts.
+pub fn texts_at(alloc: Global, value: &Value, name: &str) -> Result<Row<Text>, KindError>
+    ensures { Reads result (member.texts_at name.now (view value.now)) }
+{
+    match array_at(value, name) {
+        Some(values) => texts(alloc, values),
         None => Err(KindError::WrongKind),
     }
 }

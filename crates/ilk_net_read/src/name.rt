@@ -6,6 +6,13 @@ ghost use Rattle.ilk_net_read.specs.Name as name;
 
 use ilk_plant::Text;
 
+/// Whether a number lies from `low` to `high`, with both.
+pub fn lies_within(low: usize, high: usize, number: usize) -> bool
+    ensures { result ≡ name.lies_within low high number }
+{
+    low <= number && number <= high
+}
+
 /// Whether a byte is a character that may stand in a name: `A-Z a-z 0-9 _ -`.
 fn is_name_character(byte: u8) -> bool
     ensures { result ≡ name.is_name_character byte }
@@ -18,7 +25,7 @@ pub fn is_name(text: &Text) -> bool
     ensures { result ≡ name.is_name text.now }
 {
     let bytes = text.as_str().as_bytes();
-    1 <= bytes.len() && bytes.len() <= 32 && has_name_characters(bytes)
+    lies_within(1, 32, bytes.len()) && has_name_characters(bytes)
 }
 
 fn has_name_characters(bytes: &[u8]) -> bool

@@ -8,7 +8,8 @@ ghost use Rattle.ilk_net_read.specs.Section as section;
 
 use crate::member::{has_members, optional_text_at, str_at, text_at};
 use crate::name::{is_name, is_name_if_given};
-use crate::{Form, FormError, FormFault, KindError, Place};
+use crate::fault::fault;
+use crate::{Form, FormError, KindError, Place};
 use ilk_plant::{Dir, KindDraft, SectionDraft};
 use serde_json::Value;
 use std::alloc::Global;
@@ -117,10 +118,7 @@ pub(crate) fn section_of(
         Err(error) => return Err(error.at(place)),
     };
     if !is_name(&draft.name) || !has_names(&draft.kind) {
-        return Err(FormError::Fault(FormFault {
-            rule: Form::F5,
-            place,
-        }));
+        return Err(fault(Form::F5, place));
     }
     Ok(draft)
 }
