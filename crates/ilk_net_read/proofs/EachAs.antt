@@ -1,6 +1,6 @@
 -- The entries of an array, each of a kind, over a loop: what was read goes before what the rest gives.
-use Rattle.std.proofs.Common.{◌≡◌, ℕ, List, [], ◌∷◌, ◌++◌, Option, Some, None, refl, ap, sym, append_assoc}
-use Rattle.serde_json.specs.Data.{Data, Items, no_items, item}
+use Rattle.std.proofs.Common.{◌≡◌, List, [], ◌∷◌, ◌++◌, Option, Some, None, refl, ap, sym, append_assoc}
+use Rattle.serde_json.specs.Data.{Data, Items, item}
 use Rattle.ilk_plant.specs.Option.{◌>>=◌}
 use Rattle.ilk_net_read.specs.Member.{each_as}
 

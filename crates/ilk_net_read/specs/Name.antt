@@ -1,5 +1,5 @@
 -- Names: texts of 1 to 32 of the letters, digits, `_` and `-`.
-use Rattle.std.specs.Prelude.{ℕ, Bool, true, List, Option, Some, None, ◌&&◌, ◌||◌, ◌==◌, length, nat_le}
+use Rattle.std.specs.Prelude.{ℕ, Bool, true, Option, Some, None, ◌&&◌, ◌||◌, ◌==◌, length, nat_le}
 use Rattle.std.specs.List.{list_all}
 use Rattle.ilk_plant.specs.Draft.{Name}
 

@@ -1,5 +1,5 @@
 -- The form of a configuration, as far as its network: the rules in the order in which they are asked.
-use Rattle.std.specs.Prelude.{◌≡◌, ℕ, ◌+◌, ◌≤◌, List, [], ◌∷◌, length, Option, None, option_and_then, Result, Ok, IsOk, if◌then◌else◌}
+use Rattle.std.specs.Prelude.{ℕ, ◌+◌, ◌≤◌, List, [], ◌∷◌, length, None, Result, Ok, IsOk, if◌then◌else◌}
 use Rattle.std.specs.Str.{is_utf8}
 use Rattle.serde_json.specs.Data.{Data, Items, no_items, item}
 use Rattle.serde_json.specs.Read.{read}

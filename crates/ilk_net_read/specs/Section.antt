@@ -1,5 +1,5 @@
 -- A section: its kind, its neighbours and its boards.
-use Rattle.std.specs.Prelude.{ℕ, Bool, Option, Some, None, ◌&&◌, bytes_eq, codes, if◌then◌else◌}
+use Rattle.std.specs.Prelude.{Bool, Option, Some, None, ◌&&◌, bytes_eq, codes, if◌then◌else◌}
 use Rattle.serde_json.specs.Data.{Data}
 use Rattle.ilk_plant.specs.Draft.{Name}
 use Rattle.ilk_plant.specs.Option.{◌>>=◌, only_if}

@@ -8,8 +8,8 @@ ghost use Rattle.ilk_net_read.specs.Name as name;
 ghost use Rattle.ilk_net_read.specs.Network as network;
 ghost use Rattle.ilk_net_read.specs.Seen.{seen, HasLimits};
 
+use crate::fault::broken;
 use crate::member::{array_at, has_members, whole_number_at};
-use crate::fault::fault;
 use crate::name::lies_within;
 use crate::{Form, FormError, Place};
 use serde_json::Value;
@@ -58,13 +58,13 @@ pub(crate) fn document_of(value: &Value) -> Result<Document<'_>, FormError>
     ensures limits { IfOk result (λ document. HasLimits (seen document)) }
 {
     let Some(document) = members(value) else {
-        return Err(fault(Form::F3, Place::Document));
+        return Err(broken(Form::F3, Place::Document));
     };
     if document.version != 1 {
-        return Err(fault(Form::F4, Place::Document));
+        return Err(broken(Form::F4, Place::Document));
     }
     if !is_within_limits(&document) {
-        return Err(fault(Form::F6, Place::Document));
+        return Err(broken(Form::F6, Place::Document));
     }
     Ok(document)
 }

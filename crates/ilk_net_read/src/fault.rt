@@ -3,7 +3,7 @@
 ghost use Rattle.std.specs.Prelude.{◌≡◌};
 ghost use Rattle.ilk_net_read.specs.declared.fault.KindError.TheVariants.{OutOfMemory as NoMemory};
 ghost use Rattle.ilk_net_read.specs.declared.fault.FormError.TheVariants.{Fault, OutOfMemory};
-ghost use Rattle.ilk_net_read.specs.Fault.{at_place, broken};
+ghost use Rattle.ilk_net_read.specs.Fault.{at_place, broken as broken_at};
 
 use std::alloc::AllocError;
 use std::fmt;
@@ -92,8 +92,8 @@ impl From<AllocError> for FormError {
 }
 
 /// The error that a rule is broken at a place.
-pub fn fault(rule: Form, place: Place) -> FormError
-    ensures { result ≡ Fault (broken rule place) }
+pub fn broken(rule: Form, place: Place) -> FormError
+    ensures { result ≡ Fault (broken_at rule place) }
 {
     FormError::Fault(FormFault { rule, place })
 }
@@ -113,7 +113,7 @@ impl KindError {
         ensures { result ≡ at_place self place }
     {
         match self {
-            KindError::WrongKind => fault(Form::F3, place),
+            KindError::WrongKind => broken(Form::F3, place),
             KindError::OutOfMemory => FormError::OutOfMemory,
         }
     }

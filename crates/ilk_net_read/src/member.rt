@@ -67,11 +67,7 @@ fn optional_text(alloc: Global, value: &Value) -> Result<Option<Text>, KindError
 }
 
 /// A copy of the member of this name, which must be a text or null.
-pub fn optional_text_at(
-    alloc: Global,
-    value: &Value,
-    name: &str,
-) -> Result<Option<Text>, KindError>
+pub fn optional_text_at(alloc: Global, value: &Value, name: &str) -> Result<Option<Text>, KindError>
     ensures { Reads result (member.optional_text_at name.now (view value.now)) }
 {
     match value.get(name) {

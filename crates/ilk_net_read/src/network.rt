@@ -5,9 +5,9 @@ ghost use Rattle.serde_json.specs.View.{view, items_view};
 ghost use Rattle.ilk_net_read.specs.Fault.{Gives};
 ghost use Rattle.ilk_net_read.specs.Network.{network_of, section_of, in_order, IsWithin};
 
+use crate::FormError;
 use crate::document::document_of;
 use crate::section::section_of;
-use crate::FormError;
 use ilk_plant::{NetDraft, Row, SectionDraft};
 use serde_json::Value;
 use std::alloc::Global;

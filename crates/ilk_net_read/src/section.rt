@@ -6,9 +6,9 @@ ghost use Rattle.ilk_net_read.specs.Fault.{Gives, Reads};
 ghost use Rattle.ilk_net_read.specs.Network as network;
 ghost use Rattle.ilk_net_read.specs.Section as section;
 
+use crate::fault::broken;
 use crate::member::{has_members, optional_text_at, str_at, text_at};
 use crate::name::{is_name, is_name_if_given};
-use crate::fault::fault;
 use crate::{Form, FormError, KindError, Place};
 use ilk_plant::{Dir, KindDraft, SectionDraft};
 use serde_json::Value;
@@ -99,7 +99,10 @@ fn has_names(kind: &KindDraft) -> bool
                 && is_name_if_given(board_up)
         }
         KindDraft::Point {
-            stem, plus, minus, ..
+            stem,
+            plus,
+            minus,
+            ..
         } => is_name(stem) && is_name(plus) && is_name(minus),
     }
 }
@@ -118,7 +121,7 @@ pub(crate) fn section_of(
         Err(error) => return Err(error.at(place)),
     };
     if !is_name(&draft.name) || !has_names(&draft.kind) {
-        return Err(fault(Form::F5, place));
+        return Err(broken(Form::F5, place));
     }
     Ok(draft)
 }

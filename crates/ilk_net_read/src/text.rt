@@ -2,7 +2,7 @@ ghost use Rattle.serde_json.specs.View.{view};
 ghost use Rattle.ilk_net_read.specs.Fault.{GivesBy};
 ghost use Rattle.ilk_net_read.specs.Network.{value_of};
 
-use crate::fault::fault;
+use crate::fault::broken;
 use crate::{Form, FormError, Place};
 use serde_json::{Category, Value};
 use std::alloc::Global;
@@ -16,7 +16,7 @@ pub fn read_value(alloc: Global, bytes: &[u8]) -> Result<Value, FormError>
         Ok(value) => Ok(value),
         Err(error) => match error.classify() {
             Category::Memory => Err(FormError::OutOfMemory),
-            _ => Err(fault(Form::F2, Place::Document)),
+            _ => Err(broken(Form::F2, Place::Document)),
         },
     }
 }

@@ -1,4 +1,3 @@
-use Rattle.std.proofs.Common.{sym, ap, ◌∙◌}
 use Rattle.serde_json.proofs.Views.{members_len-members_view}
 use Rattle.ilk_net_read.proofs.member.has_members.Goals as goal
 

@@ -1,4 +1,3 @@
-use Rattle.std.proofs.Common.{rules}
 use Rattle.ilk_net_read.proofs.Limits.{few_sections}
 use Rattle.ilk_net_read.proofs.network.read_network.Goals as goal
 
