@@ -1,0 +1,4 @@
+pub mod Values
+pub mod InOrder
+pub mod EachAs
+pub mod Limits
