@@ -2,3 +2,4 @@ pub mod Values
 pub mod InOrder
 pub mod EachAs
 pub mod Limits
+pub mod Documents

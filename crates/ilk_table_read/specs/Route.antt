@@ -1,5 +1,5 @@
 -- A route: its boards, its sections, and what it lists.
-use Rattle.std.specs.Prelude.{ℕ, Bool, Option, Some, None, List, ◌&&◌, bytes_eq, codes, length, nat_le, if◌then◌else◌}
+use Rattle.std.specs.Prelude.{Bool, Option, Some, None, List, ◌&&◌, bytes_eq, codes, length, nat_le, if◌then◌else◌}
 use Rattle.std.specs.List.{list_all}
 use Rattle.serde_json.specs.Data.{Data}
 use Rattle.ilk_plant.specs.Draft.{Name}

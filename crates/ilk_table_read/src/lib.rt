@@ -3,6 +3,6 @@
 
 mod listed;
 mod route;
+mod table;
 
-
-
+pub use table::read_table;

@@ -66,7 +66,8 @@ fn has_names(route: &RouteDraft) -> bool
 }
 
 fn is_within_limits(route: &RouteDraft) -> bool
-    ensures { result ≡ spec.is_within_limits route.now }
+    ensures exact { result ≡ spec.is_within_limits route.now }
+    ensures limits { result ≡ true → table.HasLimits route.now }
 {
     lies_within(1, 32, route.path.len() as usize)
         && route.overlap.len() <= 8
@@ -76,7 +77,8 @@ fn is_within_limits(route: &RouteDraft) -> bool
 
 /// The route of this number, from its value.
 pub(crate) fn route_of(alloc: Global, number: u32, value: &Value) -> Result<RouteDraft, FormError>
-    ensures { Gives result (table.route_of number (view value.now)) }
+    ensures exact { Gives result (table.route_of number (view value.now)) }
+    ensures limits { IfOk result table.HasLimits }
 {
     let place = Place::Route(number);
     let draft = match route(alloc, value) {
