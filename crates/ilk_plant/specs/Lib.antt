@@ -8,3 +8,5 @@ pub mod Start
 pub mod Draft
 pub mod PlainLine
 pub mod Broken
+pub mod TableRules
+pub mod ColumnRules
