@@ -8,3 +8,4 @@ pub mod Start
 pub mod Draft
 pub mod PlainLine
 pub mod Broken
+pub mod NetworkRules
