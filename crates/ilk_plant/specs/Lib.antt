@@ -10,3 +10,4 @@ pub mod PlainLine
 pub mod Broken
 pub mod TableRules
 pub mod ColumnRules
+pub mod NetworkRules

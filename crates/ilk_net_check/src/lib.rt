@@ -1,0 +1,4 @@
+//! The rules of the network, N1 to N8, asked of its draft.
+#![tactic(auto)]
+
+mod examples;
