@@ -1,3 +1,5 @@
 pub mod Lasts
+pub mod Numbered
 pub mod Locks
+pub mod Commands
 pub mod Shape
