@@ -3,3 +3,4 @@ pub mod Numbered
 pub mod Locks
 pub mod Commands
 pub mod Shape
+pub mod Example
