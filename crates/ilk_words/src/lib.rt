@@ -1,0 +1,9 @@
+//! What the words of the command line mean, read by `clap` as one simple command.
+#![tactic(auto)]
+
+mod command;
+mod line;
+mod read;
+
+pub use command::{Columns, Command};
+pub use read::read_words;
