@@ -1,6 +1,12 @@
+pub mod Boards
 pub mod Counts
-pub mod Lines
+pub mod NamesDiffer
+pub mod Neighbours
 pub mod Numbered
 pub mod Options
+pub mod RoutesOf
 pub mod Rows
+pub mod Rules
+pub mod Sound
 pub mod Steps
+pub mod Tests

@@ -11,3 +11,5 @@ pub mod Broken
 pub mod TableRules
 pub mod ColumnRules
 pub mod NetworkRules
+pub mod Limits
+pub mod Sound
