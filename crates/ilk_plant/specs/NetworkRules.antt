@@ -107,14 +107,14 @@ LeadsUp net x y = (walk : List ℕ) × (IsWalkUp net x walk × (last_or None wal
 abbrev pub Returns : NetDraft → ℕ → Type 0
 Returns net x = LeadsUp net x x
 
--- whether a walk up leads from section x to section y by way of sections below n alone
-abbrev pub leads_up_by : NetDraft → ℕ → ℕ → ℕ → Bool
-leads_up_by net zero x y = is_next_up net x y
-leads_up_by net (suc n) x y = leads_up_by net n x y || (leads_up_by net n x n && leads_up_by net n n y)
+-- whether steps lead from x to y by way of numbers below n alone: directly, or by way of the last of them
+abbrev pub leads_by : (ℕ → ℕ → Bool) → ℕ → ℕ → ℕ → Bool
+leads_by step zero x y = step x y
+leads_by step (suc n) x y = leads_by step n x y || (leads_by step n x n && leads_by step n n y)
 
--- N7: a walk up returns to section x
+-- N7: a walk up returns to section x, by way of any sections
 abbrev pub returns : NetDraft → ℕ → Bool
-returns net x = leads_up_by net (length net.sections) x x
+returns net x = leads_by (is_next_up net) (length net.sections) x x
 
 -- N8: section x is linear, and has a board in a direction in which it has no neighbour
 abbrev pub has_board_at_end : NetDraft → ℕ → Bool
