@@ -4,6 +4,7 @@ use Rattle.std.specs.List.{position_from, position_or_len, slice_split, onto_fir
 use Rattle.std.proofs.lemmas.Bool.{ltb-true}
 use Rattle.std.proofs.lemmas.Iterator.Adapters.{position_from-zero}
 use Rattle.std.proofs.lemmas.List.Splits.{slice_split_first}
+use Rattle.ilk_replay.specs.EventLine.{two_words}
 use Rattle.ilk_replay.specs.Lines.{after_lines, but_last, last_of, lines_of, parts_at}
 
 none_by : (b : Bool) (c i x : ℕ) (xs : List ℕ) → (position_from (λ b. b == c) (i + 1) xs ≡ None → parts_at c xs ≡ xs ∷ []) → cond b (Some i) (position_from (λ b. b == c) (i + 1) xs) ≡ None → cond b ([] ∷ parts_at c xs) (onto_first x (parts_at c xs)) ≡ (x ∷ xs) ∷ []
@@ -46,3 +47,10 @@ lines_cut text line rest e = by_parts (parts_follow 10 rest)
 -- a text that is one part has no line
 pub lines_none : (text line : List ℕ) → parts_at 10 text ≡ line ∷ [] → lines_of text ≡ []
 lines_none text line e = ap but_last e
+
+-- a line of three words or more isn't one of two
+pub three_words : (line word rest name more : List ℕ) → parts_at 32 line ≡ word ∷ parts_at 32 rest → parts_at 32 rest ≡ name ∷ parts_at 32 more → None ≡ two_words line
+three_words line word rest name more e f = by_parts (parts_follow 32 more)
+  where
+    by_parts : ((part : List ℕ) × (parts : List (List ℕ)) × (parts_at 32 more ≡ part ∷ parts)) → None ≡ two_words line
+    by_parts (part, parts, follows) = rw (e, f, follows) refl

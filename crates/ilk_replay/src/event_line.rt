@@ -6,6 +6,7 @@ use crate::names::{point_named, route_named, section_named};
 use ilk_model::Event;
 use ilk_plant::Plant;
 
+#[tactic(auto, using(crate::proofs::Parts::three_words))]
 // The two words of a line of two words.
 fn two_words(line: &[u8]) -> Option<(&[u8], &[u8])>
     ensures { option_map (λ words. (words.0.now, words.1.now)) result ≡ two_words line.now }
@@ -67,4 +68,29 @@ fn section_event(word: &[u8], x: u32) -> Option<Event>
     } else {
         None
     }
+}
+
+// The event that a word and a name tell: of a route, of a point, or of trains at a section.
+fn event_told(plant: &Plant, word: &[u8], name: &[u8]) -> Option<Event>
+    ensures { result ≡ event_told plant.now word.now name.now }
+{
+    if let Some(r) = route_named(plant, name) {
+        if let Some(event) = route_event(word, r) {
+            return Some(event);
+        }
+    }
+    if let Some(x) = point_named(plant, name) {
+        if let Some(event) = point_event(word, x) {
+            return Some(event);
+        }
+    }
+    section_event(word, section_named(plant, name)?)
+}
+
+/// The event that a line tells. None where it is no event's line.
+pub(crate) fn event_of(plant: &Plant, line: &[u8]) -> Option<Event>
+    ensures { result ≡ event_of plant.now line.now }
+{
+    let (word, name) = two_words(line)?;
+    event_told(plant, word, name)
 }

@@ -4,6 +4,7 @@ ghost use Rattle.ilk_replay.specs.EventLine.{point_named};
 
 use ilk_plant::Plant;
 
+#[tactic(auto, using(crate::proofs::Named::first_at, crate::proofs::Named::first_none, crate::proofs::Named::more_differ))]
 /// The number of the first route that has this name.
 pub(crate) fn route_named(plant: &Plant, name: &[u8]) -> Option<u32>
     ensures { result ≡ first_named plant.now.route_names name.now }
@@ -17,6 +18,7 @@ pub(crate) fn route_named(plant: &Plant, name: &[u8]) -> Option<u32>
     None
 }
 
+#[tactic(auto, using(crate::proofs::Named::first_at, crate::proofs::Named::first_none, crate::proofs::Named::more_differ))]
 /// The number of the first section that has this name.
 pub(crate) fn section_named(plant: &Plant, name: &[u8]) -> Option<u32>
     ensures number { result ≡ first_named plant.now.section_names name.now }
