@@ -1,10 +1,11 @@
 -- A text, cut at the first byte of a kind.
-use Rattle.std.proofs.Common.{◌≡◌, ℕ, ◌+◌, ◌<◌, Bool, true, false, Option, Some, None, List, [], ◌∷◌, ◌==◌, length, take, drop, refl, sym, ap, ◌∙◌, arith, position, cond, nat_lt}
-use Rattle.std.specs.List.{position_from, position_or_len, slice_split, onto_first}
+use Rattle.std.proofs.Common.{◌≡◌, ℕ, ◌+◌, ◌<◌, Bool, true, false, Some, None, List, [], ◌∷◌, ◌==◌, length, take, drop, refl, sym, ap, ◌∙◌, arith, position, cond, nat_lt, Err}
+use Rattle.std.specs.List.{position_from, position_or_len, onto_first}
 use Rattle.std.proofs.lemmas.Bool.{ltb-true}
 use Rattle.std.proofs.lemmas.Iterator.Adapters.{position_from-zero}
 use Rattle.std.proofs.lemmas.List.Splits.{slice_split_first}
 use Rattle.ilk_replay.specs.EventLine.{two_words}
+use Rattle.ilk_replay.specs.Told.{at_the_end}
 use Rattle.ilk_replay.specs.Lines.{after_lines, but_last, last_of, lines_of, parts_at}
 
 none_by : (b : Bool) (c i x : ℕ) (xs : List ℕ) → (position_from (λ b. b == c) (i + 1) xs ≡ None → parts_at c xs ≡ xs ∷ []) → cond b (Some i) (position_from (λ b. b == c) (i + 1) xs) ≡ None → cond b ([] ∷ parts_at c xs) (onto_first x (parts_at c xs)) ≡ (x ∷ xs) ∷ []
@@ -54,3 +55,16 @@ three_words line word rest name more e f = by_parts (parts_follow 32 more)
   where
     by_parts : ((part : List ℕ) × (parts : List (List ℕ)) × (parts_at 32 more ≡ part ∷ parts)) → None ≡ two_words line
     by_parts (part, parts, follows) = rw (e, f, follows) refl
+
+-- where something is left, the text doesn't end
+pub not_at_end : {A : Type 0} (x : A) (n : ℕ) (text : List ℕ) → 0 < length text → at_the_end x n (lines_of text) (after_lines text) ≡ Err n
+not_at_end x n [] some = absurd (omega arith)
+not_at_end x n (b ∷ text) some = by_first (b == 10) (parts_follow 10 text)
+  where
+    ends : List (List ℕ) → Type 0
+    ends parts = at_the_end x n (but_last parts) (last_of parts) ≡ Err n
+
+    by_first : (yes : Bool) → ((part : List ℕ) × (parts : List (List ℕ)) × (parts_at 10 text ≡ part ∷ parts)) → ends (cond yes ([] ∷ parts_at 10 text) (onto_first b (parts_at 10 text)))
+    by_first true (part, parts, follows) = rw follows refl
+    by_first false (part, [], follows) = rw follows refl
+    by_first false (part, next ∷ parts, follows) = rw follows refl

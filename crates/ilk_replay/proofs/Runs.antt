@@ -1,8 +1,7 @@
 -- Runs, taken apart, and the least number that passes a test.
-use Rattle.std.proofs.Common.{◌≡◌, ℕ, ◌+◌, ◌<◌, ◌≤◌, Bool, true, false, Option, Some, None, List, [], ◌∷◌, ◌++◌, length, take, drop, slice_get, is_none, find, unwrap_or, refl, sym, ap, ◌∙◌, arith, subst, cond, suc, zero, inl, inr, get_or, is_some, add-one}
+use Rattle.std.proofs.Common.{◌≡◌, ℕ, ◌+◌, ◌<◌, ◌≤◌, Bool, true, false, Option, Some, None, List, [], ◌∷◌, length, take, slice_get, is_none, find, unwrap_or, refl, sym, ap, ◌∙◌, arith, subst, suc, zero, inl, inr, get_or, is_some, add-one}
 use Rattle.std.specs.List.{range_with_len}
 use Rattle.std.proofs.Math.Nat.{eq-or-lt_of_le}
-use Rattle.std.proofs.lemmas.Grind.{common_steps}
 use Rattle.std.proofs.lemmas.List.{take_all}
 use Rattle.std.proofs.lemmas.Option.{slice_get_within, slice_get-get_or}
 use Rattle.ilk_plant.specs.Option.{◌>>=◌}
@@ -10,7 +9,7 @@ use Rattle.ilk_plant.specs.Plant.{PlantLists}
 use Rattle.ilk_plant.specs.declared.state.State.{State}
 use Rattle.ilk_model.specs.Run.{run, step}
 use Rattle.ilk_model.specs.declared.event.Event.{Event}
-use Rattle.ilk_replay.specs.Seen.{first_refused, seen_of}
+use Rattle.ilk_replay.specs.Seen.{seen_of}
 use Rattle.ilk_replay.specs.declared.seen.Seen.TheVariants.{NotARun}
 
 -- the least number of a range that passes the test is found
@@ -18,9 +17,9 @@ pub find-least : (test : ℕ → Bool) (a n k : ℕ) → a ≤ k → k < a + n �
 find-least test a zero k above below passes least = absurd (omega arith)
 find-least test a (suc n) k above below passes least =
     elim (eq-or-lt_of_le above) [
-      inl here ↦ (let yes : test a ≡ true = ap test here ∙ passes in rw yes (ap Some here))
+      | inl here ↦ (let yes : test a ≡ true = ap test here ∙ passes in rw yes (ap Some here))
       | inr later ↦ (let no : test a ≡ false = least a (omega arith) later in
-        rw no (find-least test (a + 1) n k (omega arith) (omega arith) passes (λ j after before. least j (omega arith) before)))
+          rw no (find-least test (a + 1) n k (omega arith) (omega arith) passes (λ j after before. least j (omega arith) before)))
     ]
 
 some-same : {A : Type 0} {x y : A} → Some x ≡ Some y → x ≡ y
@@ -77,9 +76,9 @@ pub seen-refused : (p : PlantLists) (s t : State) (events : List Event) (event :
 seen-refused p s t events event i ends here refused =
     let none : run p s events ≡ None = rw (take_all (length events) events (omega arith)) at (run-refused p s t events event i (length events) ends here refused (slice_get_within events i event here)) in
     let first : find (λ n. is_none (run p s (take n events))) (range_with_len 1 (length events)) ≡ Some (i + 1) =
-        find-least (λ n. is_none (run p s (take n events))) 1 (length events) (i + 1) (omega arith) (omega (arith, slice_get_within events i event here))
-        (ap is_none (run-refused p s t events event i (i + 1) ends here refused (omega arith)))
-        (λ j after before. run-prefix p s t events i j ends (omega arith)) in
+    find-least (λ n. is_none (run p s (take n events))) 1 (length events) (i + 1) (omega arith) (omega (arith, slice_get_within events i event here))
+    (ap is_none (run-refused p s t events event i (i + 1) ends here refused (omega arith)))
+    (λ j after before. run-prefix p s t events i j ends (omega arith)) in
     rw none (ap (λ (o : Option ℕ). NotARun (unwrap_or o 0)) first)
 
 -- the same where the event is read at its index

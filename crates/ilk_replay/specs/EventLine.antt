@@ -45,8 +45,10 @@ event_told p word name = option_or about_route (option_or about_point about_sect
   where
     about_route : Option Event
     about_route = first_named p.route_names name >>= route_event word
+
     about_point : Option Event
     about_point = point_named p name >>= point_event word
+
     about_section : Option Event
     about_section = first_named p.section_names name >>= section_event word
 

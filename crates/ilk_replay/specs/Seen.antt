@@ -24,6 +24,7 @@ seen_of p s events = after (run p s events)
     shown : Option HazardAt → Seen
     shown None = NoHazard
     shown (Some at) = Hazard at
+
     after : Option State → Seen
     after None = NotARun (first_refused p s events)
     after (Some t) = shown (hazard p t)

@@ -38,5 +38,9 @@ pub(crate) fn point_named(plant: &Plant, name: &[u8]) -> Option<u32>
     ensures { result ≡ point_named plant.now name.now }
 {
     let x = section_named(plant, name)?;
-    if plant.section(x).is_point() { Some(x) } else { None }
+    if plant.section(x).is_point() {
+        Some(x)
+    } else {
+        None
+    }
 }

@@ -19,12 +19,7 @@ pub enum Seen {
 }
 
 // Does the event, if it is enabled and no hazard stands before it. True exactly where that is so.
-fn advance(
-    alloc: Global,
-    plant: &Plant,
-    s: &mut State,
-    event: Event,
-) -> Result<bool, AllocError>
+fn advance(alloc: Global, plant: &Plant, s: &mut State, event: Event) -> Result<bool, AllocError>
     requires { HasShape plant.now s.old }
     ensures answer { IfOk result (λ enabled. enabled ≡ is_some (step plant.now s.old event)) }
     ensures next { IfOk result (λ enabled. IsTrue enabled → step plant.now s.old event ≡ Some s.new) }

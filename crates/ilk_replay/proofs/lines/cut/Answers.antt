@@ -1,7 +1,5 @@
-use Rattle.std.proofs.Common.{◌+◌, ◌-◌, ◌≡◌, length, ap, ◌∙◌, sym, ◌∷◌, drop, take, arith, ℕ, List}
-use Rattle.std.proofs.lemmas.Grind.{common_steps}
+use Rattle.std.proofs.Common.{◌+◌, ◌-◌, ◌≡◌, length, sym, drop, take, arith, ℕ, List}
 use Rattle.std.proofs.lemmas.List.{take_all, length-drop}
-use Rattle.ilk_replay.specs.Lines.{parts_at}
 use Rattle.ilk_replay.proofs.Parts.{parts-none, parts-some}
 use Rattle.ilk_replay.proofs.lines.cut.Goals as goal
 

@@ -1,5 +1,4 @@
-use Rattle.std.proofs.Common.{sym, ◌∙◌, arith, subst, IsTrue}
-use Rattle.std.proofs.lemmas.Grind.{common_steps}
+use Rattle.std.proofs.Common.{sym, ◌∙◌, arith}
 use Rattle.ilk_replay.proofs.Runs.{run-read, seen-refused-read}
 use Rattle.ilk_replay.proofs.seen.replay.Goals as goal
 
@@ -11,6 +10,6 @@ returns-then-not-branch c =
 pub loop-i-preserved : goal.loop-i-preserved
 loop-i-preserved c = record {
   ran = run-read c.args.plant.now c.args.first c.loop-i.state _ c.as_slice-event-items.result.now _ _ c.loop-i.i c.as_slice-event-items.ensures (omega arith) c.loop-i.invariant.ran
-    (c.in_ok-advance.ensures.next c.if-not-branch.false);
+      (c.in_ok-advance.ensures.next c.if-not-branch.false);
   shape = c.in_ok-advance.ensures.shape;
 }
