@@ -2,8 +2,10 @@
 #![tactic(auto)]
 
 mod command;
+mod files;
 mod line;
 mod read;
 
 pub use command::{Columns, Command};
+pub use files::{FileNames, names_of};
 pub use read::read_words;
