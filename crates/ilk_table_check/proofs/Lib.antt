@@ -1,2 +1,4 @@
 mod Examples
 pub mod Listing
+pub mod Numbered
+pub mod Positions

@@ -3,6 +3,8 @@
 #![tactic(auto)]
 
 mod columns;
+mod names;
+mod numbering;
 mod ways;
 
 pub use columns::check_columns;
