@@ -1,4 +1,4 @@
 mod Examples
-pub mod Listing
-pub mod Numbered
+pub mod Growth
+pub mod NumberedLists
 pub mod Positions

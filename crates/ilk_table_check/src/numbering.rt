@@ -1,46 +1,14 @@
 ghost use Rattle.std.specs.Prelude.{◌≡◌, ◌≤◌, ◌<◌, ◌++◌, IfOk, OnOk, length, map};
-ghost use Rattle.ilk_plant.specs.Draft.{board_named, boards_from, boards_on, names_of_boards, names_of_routes, names_of_sections, number_of, numbered, numbered_point, numbered_route, numbered_section};
+ghost use Rattle.ilk_plant.specs.Draft.{board_named, boards_from, boards_on, names_of_boards, names_of_routes, names_of_sections, number_of, numbered_point, numbered_route, numbered_section};
 
 use crate::names::Names;
 use ilk_plant::{
-    Board, Dir, KindDraft, Listed, ListedDraft, NetDraft, Route, RouteDraft, Row, Section,
-    SectionDraft, TableDraft, Text,
+    Board, Dir, KindDraft, Listed, ListedDraft, Route, RouteDraft, Row, Section, SectionDraft, Text,
 };
 use std::alloc::{AllocError, Global};
-use std::marker::Model;
 
-/// A network and a table of routes with numbers for names, as a plant has them, of which no rule is
-/// known to hold. A name that nothing has is numbered with the count.
-#[derive(Drop)]
-pub struct Numbered {
-    sections: Row<Section>,
-    boards: Row<Board>,
-    routes: Row<Route>,
-    section_names: Names,
-    board_names: Names,
-    route_names: Names,
-}
-
-impl Model for Numbered {
-    ghost use Rattle.std.specs.Prelude.{◌≡◌, ◌≤◌, length};
-    ghost use Rattle.ilk_plant.specs.Plant.{PlantLists};
-
-    ghost Value = { PlantLists };
-
-    ghost view = { λ p. record {
-      sections = p.sections;
-      boards = p.boards;
-      routes = p.routes;
-      section_names = p.section_names;
-      board_names = p.board_names;
-      route_names = p.route_names;
-    } };
-
-    ghost invariant = { λ p. (length p.sections ≤ 128) × (length p.boards ≤ 256) × (length p.routes ≤ 128) × (length p.route_names ≡ length p.routes) };
-}
-
-// The names of the sections, in order.
-fn section_names(alloc: Global, sections: &Row<SectionDraft>) -> Result<Row<Text>, AllocError>
+/// The names of the sections, in order.
+pub fn section_names(alloc: Global, sections: &Row<SectionDraft>) -> Result<Row<Text>, AllocError>
     ensures { IfOk result (λ names. names ≡ names_of_sections sections.now) }
 {
     let mut names = Row::new(alloc);
@@ -50,8 +18,8 @@ fn section_names(alloc: Global, sections: &Row<SectionDraft>) -> Result<Row<Text
     Ok(names)
 }
 
-// The names of the routes, in order.
-fn route_names(alloc: Global, routes: &Row<RouteDraft>) -> Result<Row<Text>, AllocError>
+/// The names of the routes, in order.
+pub fn route_names(alloc: Global, routes: &Row<RouteDraft>) -> Result<Row<Text>, AllocError>
     ensures { IfOk result (λ names. names ≡ names_of_routes routes.now) }
 {
     let mut names = Row::new(alloc);
@@ -61,11 +29,11 @@ fn route_names(alloc: Global, routes: &Row<RouteDraft>) -> Result<Row<Text>, All
     Ok(names)
 }
 
-// Boards and their names, in the order of their numbers.
+/// Boards and their names, in the order of their numbers.
 #[derive(Drop)]
-struct NamedBoards {
-    names: Row<Text>,
-    boards: Row<Board>,
+pub struct NamedBoards {
+    pub names: Row<Text>,
+    pub boards: Row<Board>,
 }
 
 // Adds the board of section `x` for direction `dir`, if one is named.
@@ -112,8 +80,8 @@ fn push_boards(
     Ok(())
 }
 
-// The boards of the sections with their names.
-fn named_boards(alloc: Global, sections: &Row<SectionDraft>) -> Result<NamedBoards, AllocError>
+/// The boards of the sections with their names.
+pub fn named_boards(alloc: Global, sections: &Row<SectionDraft>) -> Result<NamedBoards, AllocError>
     requires { length sections.now ≤ 128 }
     ensures names { IfOk result (λ made. made.names ≡ names_of_boards sections.now) }
     ensures boards { IfOk result (λ made. made.boards ≡ map (λ named. named.board) (boards_from 0 sections.now)) }
@@ -170,8 +138,8 @@ fn numbered_section(sections: &Names, boards: &Names, kind: &KindDraft) -> Secti
     }
 }
 
-// The sections with numbers for names.
-fn numbered_sections(
+/// The sections with numbers for names.
+pub fn numbered_sections(
     alloc: Global,
     section_names: &Names,
     board_names: &Names,
@@ -226,8 +194,8 @@ fn numbered_route(
     })
 }
 
-// The routes with numbers for names.
-fn numbered_routes(
+/// The routes with numbers for names.
+pub fn numbered_routes(
     alloc: Global,
     section_names: &Names,
     board_names: &Names,
@@ -242,34 +210,4 @@ fn numbered_routes(
         made.push(numbered_route(alloc, section_names, board_names, route_names, route)?)?;
     }
     Ok(made)
-}
-
-impl Numbered {
-    /// The numbered network and table. The only refusal is want of memory.
-    pub fn of(alloc: Global, net: &NetDraft, table: &TableDraft) -> Result<Numbered, AllocError>
-        requires few_sections { length net.now.sections ≤ 128 }
-        requires few_routes { length table.now.routes ≤ 128 }
-        ensures { IfOk result (λ made. made ≡ numbered net.now table.now) }
-    {
-        let named = named_boards(alloc, &net.sections)?;
-        let section_names = Names::of(alloc, section_names(alloc, &net.sections)?)?;
-        let board_names = Names::of(alloc, named.names)?;
-        let route_names = Names::of(alloc, route_names(alloc, &table.routes)?)?;
-        let sections = numbered_sections(alloc, &section_names, &board_names, &net.sections)?;
-        let routes = numbered_routes(
-            alloc,
-            &section_names,
-            &board_names,
-            &route_names,
-            &table.routes,
-        )?;
-        Ok(Numbered {
-            sections,
-            boards: named.boards,
-            routes,
-            section_names,
-            board_names,
-            route_names,
-        })
-    }
 }
