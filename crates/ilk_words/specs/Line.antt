@@ -1,5 +1,5 @@
 -- The command line as `clap` sees it: one simple command, with the table of options.
-use Rattle.std.specs.Prelude.{ℕ, Bool, true, false, Option, Some, None, List, [], ◌∷◌, codes, map, fold}
+use Rattle.std.specs.Prelude.{true, Option, Some, None, List, [], ◌∷◌, codes, map, fold}
 use Rattle.std.specs.Borrow.{Bor}
 use Rattle.clap.specs.Words.{App, Rule, Text, new_app, new_rule, with_rule}
 use Rattle.clap.specs.declared.builder.ArgAction.TheVariants.{Set}
@@ -11,8 +11,8 @@ pub record LineOption : Type 0 where
   pub name : Text
   -- the possible values; where there are none, any text is one
   pub values : List Text
-  -- it has no default, so its commands need it
-  pub is_needed : Bool
+  -- the value where it isn't on the line; an option without one is needed
+  pub default : Option Text
   -- the commands that it belongs to
   pub commands : List Text
 
@@ -23,7 +23,7 @@ abbrev pub columns_option : LineOption
 columns_option = record {
   name = codes "columns";
   values = codes "strict" ∷ codes "free" ∷ [];
-  is_needed = false;
+  default = Some (codes "strict");
   commands = codes "check" ∷ codes "replay" ∷ [];
 }
 
@@ -31,7 +31,7 @@ abbrev pub run_option : LineOption
 run_option = record {
   name = codes "run";
   values = [];
-  is_needed = true;
+  default = None;
   commands = codes "replay" ∷ [];
 }
 

@@ -50,7 +50,5 @@ fn run_argument<'a>(alloc: Global) -> Arg<'a>
     ensures rule { moved_rule (rule_of result) ≡ option_rule run_option }
     ensures local { result.global ≡ false }
 {
-    Arg::new(alloc, "run")
-        .long("run")
-        .action(ArgAction::Set)
+    Arg::new(alloc, "run").long("run").action(ArgAction::Set)
 }

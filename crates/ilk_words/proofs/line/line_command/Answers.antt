@@ -1,8 +1,8 @@
-use Rattle.std.proofs.Common.{ap, ap₂, true, ◌≡◌, ◌∙◌}
+use Rattle.std.proofs.Common.{ap, ◌∙◌}
 use Rattle.std.proofs.lemmas.Result.{IfOk-weaker}
-use Rattle.clap.specs.Words.{App, app_of, is_simple_and_free, rule_of, with_rule}
+use Rattle.clap.specs.Words.{App, is_simple_and_free, rule_of, with_rule}
 use Rattle.ilk_words.specs.Places.{moved_app}
-use Rattle.ilk_words.proofs.Places.{line_moved, line_of, line_simple}
+use Rattle.ilk_words.proofs.Places.{line_moved, line_simple}
 use Rattle.ilk_words.proofs.line.line_command.Goals as goal
 
 pub returns-clause-line : goal.returns-clause-line
@@ -16,7 +16,7 @@ returns-clause-line c =
     ∙ line_moved command columns run c.command_argument-command.ensures.rule c.columns_argument-columns.ensures.rule c.run_argument-run.ensures.rule) c.arg-3.ensures
 
 pub returns-clause-simple : goal.returns-clause-simple
-returns-clause-simple c = 
+returns-clause-simple c =
     let command = rule_of c.command_argument-command.result in
     let columns = rule_of c.columns_argument-columns.result in
     let run = rule_of c.run_argument-run.result in

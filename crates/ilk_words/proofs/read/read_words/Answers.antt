@@ -1,4 +1,4 @@
-use Rattle.std.proofs.Common.{rules, subst, map, string_bytes, Global, ℕ, List, IfOk, Option, None, ◌≡◌, ◌∙◌}
+use Rattle.std.proofs.Common.{rules, subst, map, string_bytes, Global, List, IfOk, None, ◌≡◌, ◌∙◌}
 use Rattle.clap.specs.declared.error.kind.ErrorKind.TheVariants.{OutOfMemory}
 use Rattle.clap.specs.Words.{Text, app_of, kind_of}
 use Rattle.ilk_words.specs.Words.{command_of}
