@@ -1,8 +1,10 @@
 //! Reads the table of routes of a configuration, and refuses the first rule of its form that is broken.
 #![tactic(auto)]
 
+mod examples;
 mod listed;
 mod route;
 mod table;
 
+pub use examples::{bare_line_is_read, boarded_line_is_read, first_faults};
 pub use table::read_table;
