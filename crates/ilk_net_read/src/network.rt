@@ -3,7 +3,7 @@
 ghost use Rattle.std.specs.Prelude.{◌≡◌, ◌≤◌, length, IfOk};
 ghost use Rattle.serde_json.specs.View.{view, items_view};
 ghost use Rattle.ilk_net_read.specs.Fault.{Gives};
-ghost use Rattle.ilk_net_read.specs.Network.{network_of, section_of, in_order, IsWithin};
+ghost use Rattle.ilk_net_read.specs.Network.{network_of, section_of, in_order, HasDocument, IsWithin};
 
 use crate::FormError;
 use crate::document::document_of;
@@ -29,6 +29,8 @@ fn sections(alloc: Global, values: &[Value]) -> Result<Row<SectionDraft>, FormEr
 /// (F3, F4, F6) or else in its sections in order (F3, then F5, of each).
 pub fn read_network(alloc: Global, value: &Value) -> Result<NetDraft, FormError>
     ensures exact { Gives result (network_of (view value.now)) }
+    // what reading the table of routes asks for
+    ensures document { IfOk result (λ net. HasDocument (view value.now)) }
     // 1 to 128 sections
     ensures limits { IfOk result IsWithin }
 {
