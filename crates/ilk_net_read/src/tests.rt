@@ -12,8 +12,12 @@ const LINE: &str = r#"{"version":1,
 
 #[test]
 fn line_with_a_point(rt: HostRuntime) -> Result<(), Fail> {
-    let value = read_value(rt.alloc(), LINE.as_bytes()).ok().ok_or("the text is JSON")?;
-    let net = read_network(rt.alloc(), &value).ok().ok_or("its network is right")?;
+    let value = read_value(rt.alloc(), LINE.as_bytes())
+        .ok()
+        .ok_or("the text is JSON")?;
+    let net = read_network(rt.alloc(), &value)
+        .ok()
+        .ok_or("its network is right")?;
     let sections = net.sections.as_slice();
     assert_eq!(rt; sections.len(), 4);
     if let Some(section) = sections.get(1) {

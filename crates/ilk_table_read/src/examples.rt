@@ -10,14 +10,12 @@ ghost use Rattle.ilk_table_read.specs.Table.{drafts_of};
 /// The text of a line with no board and no route gives its drafts.
 pub fn bare_line_is_read()
     ensures { drafts_of bare_text ≡ Ok (bare_net, bare_table) }
-{
-}
+{}
 
 /// The text of a line with two boards and a route from each gives its drafts.
 pub fn boarded_line_is_read()
     ensures { drafts_of boarded_text ≡ Ok (boarded_net, boarded_table) }
-{
-}
+{}
 
 /// A text that is no JSON breaks F2, an object without members F3, a version other than 1 F4, also
 /// where the number of sections isn't right, and no section F6.
@@ -28,5 +26,4 @@ pub fn first_faults()
         ≡ Err (broken F4 Document) }
     ensures sections { drafts_of (codes "{\"version\":1,\"sections\":[],\"routes\":[]}")
         ≡ Err (broken F6 Document) }
-{
-}
+{}

@@ -19,7 +19,9 @@ const ROUTED: &str = r#"{"version":1,
 
 #[test]
 fn drafts(rt: HostRuntime) -> Result<(), Fail> {
-    let (net, table) = read_drafts(rt.alloc(), ROUTED.as_bytes()).ok().ok_or("the form is right")?;
+    let (net, table) = read_drafts(rt.alloc(), ROUTED.as_bytes())
+        .ok()
+        .ok_or("the form is right")?;
     assert_eq!(rt; net.sections.len(), 2);
     assert_eq!(rt; table.routes.len(), 2);
     if let Some(route) = table.routes.as_slice().first() {
@@ -50,14 +52,38 @@ fn first_faults(rt: HostRuntime) {
         ("", fault(Form::F2, document)),
         ("[1,]", fault(Form::F2, document)),
         ("{}", fault(Form::F3, document)),
-        (r#"{"version":"1","sections":[],"routes":[]}"#, fault(Form::F3, document)),
-        (r#"{"version":1.0,"sections":[],"routes":[]}"#, fault(Form::F3, document)),
-        (r#"{"version":-0,"sections":[],"routes":[]}"#, fault(Form::F3, document)),
-        (r#"{"version":18446744073709551616,"sections":[],"routes":[]}"#, fault(Form::F3, document)),
-        (r#"{"version":18446744073709551615,"sections":[],"routes":[]}"#, fault(Form::F4, document)),
-        (r#"{"version":2,"sections":[],"routes":[]}"#, fault(Form::F4, document)),
-        (r#"{"version":1,"sections":[],"routes":[1]}"#, fault(Form::F6, document)),
-        (r#"{"version":1,"sections":[1],"routes":[1]}"#, fault(Form::F3, Place::Section(0))),
+        (
+            r#"{"version":"1","sections":[],"routes":[]}"#,
+            fault(Form::F3, document),
+        ),
+        (
+            r#"{"version":1.0,"sections":[],"routes":[]}"#,
+            fault(Form::F3, document),
+        ),
+        (
+            r#"{"version":-0,"sections":[],"routes":[]}"#,
+            fault(Form::F3, document),
+        ),
+        (
+            r#"{"version":18446744073709551616,"sections":[],"routes":[]}"#,
+            fault(Form::F3, document),
+        ),
+        (
+            r#"{"version":18446744073709551615,"sections":[],"routes":[]}"#,
+            fault(Form::F4, document),
+        ),
+        (
+            r#"{"version":2,"sections":[],"routes":[]}"#,
+            fault(Form::F4, document),
+        ),
+        (
+            r#"{"version":1,"sections":[],"routes":[1]}"#,
+            fault(Form::F6, document),
+        ),
+        (
+            r#"{"version":1,"sections":[1],"routes":[1]}"#,
+            fault(Form::F3, Place::Section(0)),
+        ),
         (
             r#"{"version":1,"sections":[{"name":"a b","kind":"point","faces":"up","stem":"s","plus":"p","minus":"m"},7],"routes":[]}"#,
             fault(Form::F5, Place::Section(0)),
