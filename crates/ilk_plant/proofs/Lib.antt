@@ -3,6 +3,7 @@ pub mod Counts
 pub mod NamesDiffer
 pub mod Neighbours
 pub mod Numbered
+pub mod Once
 pub mod Options
 pub mod RoutesOf
 pub mod Rows
