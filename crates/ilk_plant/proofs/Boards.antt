@@ -1,6 +1,6 @@
 -- The boards of a plant: how many there are, and that each section's boards are among them.
 use Rattle.std.proofs.Common.{◌≡◌, ℕ, zero, suc, ◌<◌, ◌≤◌, ◌+◌, ◌*◌, Bool, true, false, ◌&&◌, ◌||◌, not, Option, Some, None, List, [], ◌∷◌, ◌++◌, length, map, slice_get, bytes_eq, option_map, option_to_list, is_none, ◌↔◌, ◌⊎◌, inl, inr, refl, sym, ◌∙◌, subst, arith, length-append, ap}
-use Rattle.std.specs.List.{list_any, list_all}
+use Rattle.std.specs.List.{list_all}
 use Rattle.std.proofs.lemmas.List.{length-map, map-append}
 use Rattle.std.proofs.lemmas.List.Folds.{list_any-append}
 use Rattle.std.proofs.lemmas.Option.{same_Some, slice_get-map, slice_get_within, option_and_then_some}

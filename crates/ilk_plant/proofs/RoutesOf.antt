@@ -1,16 +1,16 @@
 -- The routes of the plant, where no rule of the table is broken.
-use Rattle.std.proofs.Common.{◌≡◌, ◌≢◌, ℕ, zero, suc, ◌<◌, ◌≤◌, Bool, true, false, ◌&&◌, not, Option, Some, None, IsSome, IsTrue, List, [], ◌∷◌, ◌++◌, All, length, map, slice_get, nat_lt, option_map, refl, sym, ◌∙◌, ap, subst, arith}
-use Rattle.std.specs.List.{list_any, list_all}
+use Rattle.std.proofs.Common.{◌≡◌, ◌≢◌, ℕ, ◌<◌, ◌≤◌, Bool, true, false, ◌&&◌, not, Option, Some, None, IsSome, IsTrue, List, [], ◌∷◌, All, length, slice_get, nat_lt, refl, sym, ◌∙◌, ap, arith}
+use Rattle.std.specs.List.{list_all}
 use Rattle.std.proofs.lemmas.Bool.Decides.{nat_tests}
 use Rattle.std.proofs.lemmas.List.{length-map}
 use Rattle.std.proofs.lemmas.List.Elements.{All-nil, All-cons, All-get_or}
 use Rattle.std.proofs.lemmas.List.Folds.{list_all-append, list_all-map}
-use Rattle.std.proofs.lemmas.Option.{get_or_from_slice_get, slice_get-map, slice_get_within}
+use Rattle.std.proofs.lemmas.Option.{get_or_from_slice_get, slice_get_within}
 use Rattle.ilk_plant.proofs.Numbered.{both}
 use Rattle.ilk_plant.proofs.Once.{none_twice-once}
 use Rattle.ilk_plant.proofs.Rules.{KeepsTableRules}
 use Rattle.ilk_plant.proofs.Tests.{map-at}
-use Rattle.ilk_plant.specs.Draft.{Name, names_of_boards, names_of_routes, names_of_sections, number_of, numbered, numbered_point, numbered_route}
+use Rattle.ilk_plant.specs.Draft.{names_of_boards, names_of_routes, names_of_sections, number_of, numbered, numbered_point, numbered_route}
 use Rattle.ilk_plant.specs.Limits.{RouteHasLimits}
 use Rattle.ilk_plant.specs.Network.{has_section, is_point}
 use Rattle.ilk_plant.specs.Plant.{IsRouteOf, PlantLists, point_number}
@@ -19,7 +19,6 @@ use Rattle.ilk_plant.specs.declared.draft.NetDraft.{NetDraft}
 use Rattle.ilk_plant.specs.declared.draft.RouteDraft.{RouteDraft}
 use Rattle.ilk_plant.specs.declared.draft.TableDraft.{TableDraft}
 use Rattle.ilk_plant.specs.declared.network.Section.{Section}
-use Rattle.ilk_plant.specs.declared.table.Listed.{Listed}
 use Rattle.ilk_plant.specs.declared.table.Route.{Route}
 
 -- a route that doesn't fail a test passes it
