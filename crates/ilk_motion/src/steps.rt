@@ -117,8 +117,8 @@ fn leave(plant: &Plant, s: &mut State, x: u32) -> bool
 }
 
 /// A train enters at section `x`, in its inward direction, and joins the list of trains at its end.
-/// True exactly where `x` is a border, vacant and with lock Free; else false, and nothing changes.
-/// Where memory is wanting nothing changes.
+/// True exactly where `x` is a border, vacant and with lock Free; else false, also where `x` is no
+/// section, and nothing changes. Where memory is wanting nothing changes.
 pub fn step_enter(alloc: Global, plant: &Plant, s: &mut State, x: u32) -> Result<bool, AllocError>
     requires { HasShape plant.now s.old }
     ensures answer { IfOk result (λ b. b ≡ is_some (after_enter plant.now s.old x)) }
@@ -131,8 +131,8 @@ pub fn step_enter(alloc: Global, plant: &Plant, s: &mut State, x: u32) -> Result
 
 /// The first train with its head at section `x` moves its head to the section ahead, and closes
 /// the board that it passes. True exactly where there is such a train, a section lies ahead of it,
-/// and `x` has no board in its direction or that board is open; else false, and nothing changes.
-/// Where memory is wanting nothing changes.
+/// and `x` has no board in its direction or that board is open; else false, also where `x` is no
+/// section, and nothing changes. Where memory is wanting nothing changes.
 pub fn step_head(_alloc: Global, plant: &Plant, s: &mut State, x: u32) -> Result<bool, AllocError>
     requires { HasShape plant.now s.old }
     ensures answer { IfOk result (λ b. b ≡ is_some (after_head plant.now s.old x)) }
@@ -144,7 +144,7 @@ pub fn step_head(_alloc: Global, plant: &Plant, s: &mut State, x: u32) -> Result
 }
 
 /// The first train of two or more sections with its tail at section `x` leaves `x`. True exactly
-/// where there is such a train; else false, and nothing changes.
+/// where there is such a train; else false, also where `x` is no section, and nothing changes.
 pub fn step_tail(plant: &Plant, s: &mut State, x: u32) -> bool
     requires { HasShape plant.now s.old }
     ensures answer { result ≡ is_some (after_tail plant.now s.old x) }
@@ -157,7 +157,7 @@ pub fn step_tail(plant: &Plant, s: &mut State, x: u32) -> bool
 
 /// The first train that stands on section `x` alone leaves the network, and the others keep their
 /// order. True exactly where there is such a train and `x` has no neighbour in its direction; else
-/// false, and nothing changes.
+/// false, also where `x` is no section, and nothing changes.
 pub fn step_leave(plant: &Plant, s: &mut State, x: u32) -> bool
     requires { HasShape plant.now s.old }
     ensures answer { result ≡ is_some (after_leave plant.now s.old x) }

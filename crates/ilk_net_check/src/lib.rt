@@ -2,3 +2,6 @@
 #![tactic(auto)]
 
 mod examples;
+mod walks;
+
+pub use walks::returning_walks;

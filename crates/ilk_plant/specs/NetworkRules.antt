@@ -82,13 +82,14 @@ abbrev pub is_not_named_back : NetDraft → ℕ → Bool
 is_not_named_back net x =
     list_any (λ end. is_some_and (section_named net end.name) (λ y. not (y == x) && not (names_once net x (opposite end.side) (ends_of net y)))) (ends_of net x)
 
+-- whether a section is linear and has no neighbour
+abbrev pub has_no_neighbour : KindDraft → Bool
+has_no_neighbour (LinearDraft down up board_down board_up) = is_none down && is_none up
+has_no_neighbour (PointDraft stem plus minus faces) = false
+
 -- N6: section x is linear, and has no neighbour
 abbrev pub stands_alone : NetDraft → ℕ → Bool
-stands_alone net x = is_some_and (slice_get net.sections x) (λ section. is_alone section.kind)
-  where
-    is_alone : KindDraft → Bool
-    is_alone (LinearDraft down up board_down board_up) = is_none down && is_none up
-    is_alone (PointDraft stem plus minus faces) = false
+stands_alone net x = is_some_and (slice_get net.sections x) (λ section. has_no_neighbour section.kind)
 
 -- whether section y is a known neighbour of section x on its up side
 abbrev pub is_next_up : NetDraft → ℕ → ℕ → Bool
@@ -107,23 +108,24 @@ LeadsUp net x y = (walk : List ℕ) × (IsWalkUp net x walk × (last_or None wal
 abbrev pub Returns : NetDraft → ℕ → Type 0
 Returns net x = LeadsUp net x x
 
--- whether a walk up leads from section x to section y by way of sections below n alone
-abbrev pub leads_up_by : NetDraft → ℕ → ℕ → ℕ → Bool
-leads_up_by net zero x y = is_next_up net x y
-leads_up_by net (suc n) x y = leads_up_by net n x y || (leads_up_by net n x n && leads_up_by net n n y)
+-- whether steps lead from x to y by way of numbers below n alone: directly, or by way of the last of them
+abbrev pub leads_by : (ℕ → ℕ → Bool) → ℕ → ℕ → ℕ → Bool
+leads_by step zero x y = step x y
+leads_by step (suc n) x y = leads_by step n x y || (leads_by step n x n && leads_by step n n y)
 
--- N7: a walk up returns to section x
+-- N7: a walk up returns to section x, by way of any sections
 abbrev pub returns : NetDraft → ℕ → Bool
-returns net x = leads_up_by net (length net.sections) x x
+returns net x = leads_by (is_next_up net) (length net.sections) x x
+
+-- whether a section is linear and has a board in a direction in which it has no neighbour
+abbrev pub has_board_to_nowhere : KindDraft → Bool
+has_board_to_nowhere (LinearDraft down up board_down board_up) =
+    not (has_no_board_at_end down board_down && has_no_board_at_end up board_up)
+has_board_to_nowhere (PointDraft stem plus minus faces) = false
 
 -- N8: section x is linear, and has a board in a direction in which it has no neighbour
 abbrev pub has_board_at_end : NetDraft → ℕ → Bool
-has_board_at_end net x = is_some_and (slice_get net.sections x) (λ section. leads_nowhere section.kind)
-  where
-    leads_nowhere : KindDraft → Bool
-    leads_nowhere (LinearDraft down up board_down board_up) =
-        not (has_no_board_at_end down board_down && has_no_board_at_end up board_up)
-    leads_nowhere (PointDraft stem plus minus faces) = false
+has_board_at_end net x = is_some_and (slice_get net.sections x) (λ section. has_board_to_nowhere section.kind)
 
 -- the rules of the network that a draft breaks, each at every place
 abbrev pub network_rules_broken : NetDraft → List Broken

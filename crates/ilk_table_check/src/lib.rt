@@ -2,7 +2,7 @@
 //! C7 of its columns over the plant.
 #![tactic(auto)]
 
-/// Whether a route with this number is not route `i`.
-pub fn is_other(i: u32, r: u32) -> bool {
-    i != r
-}
+mod columns;
+mod ways;
+
+pub use columns::check_columns;

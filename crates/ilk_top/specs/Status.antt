@@ -1,5 +1,5 @@
 -- The exit status of each way in which the program ends.
-use Rattle.std.specs.Prelude.{ℕ}
+use Rattle.std.specs.Prelude.{ℕ, Bool, true, false}
 use Rattle.ilk_top.specs.declared.status.Status.{Status}
 use Rattle.ilk_top.specs.declared.status.Status.TheVariants.{Good, Unsafe, NotInductive, Breach, Spent, Refused, Rejected, Usage, ReadFault, WriteFault, OutOfMemory}
 
@@ -15,3 +15,17 @@ code Usage = 7
 code ReadFault = 8
 code WriteFault = 9
 code OutOfMemory = 10
+
+-- whether the status is an answer, and no fault or want of memory
+abbrev pub is_answer : Status → Bool
+is_answer Good = true
+is_answer Unsafe = true
+is_answer NotInductive = true
+is_answer Breach = true
+is_answer Spent = true
+is_answer Refused = true
+is_answer Rejected = true
+is_answer Usage = true
+is_answer ReadFault = false
+is_answer WriteFault = false
+is_answer OutOfMemory = false
