@@ -6,6 +6,7 @@ use Rattle.std.proofs.lemmas.List.Folds.{list_any-append}
 use Rattle.std.proofs.lemmas.Option.{same_Some, slice_get-map, slice_get_within, option_and_then_some}
 use Rattle.std.proofs.lemmas.Slice.Eq.{bytes_eq-Decides}
 use Rattle.ilk_plant.proofs.NamesDiffer.{number_of-own}
+use Rattle.ilk_plant.proofs.Rows.{at-before, at-past}
 use Rattle.ilk_plant.proofs.Rules.{KeepsNetworkRules}
 use Rattle.ilk_plant.proofs.Tests.{map-at}
 use Rattle.ilk_plant.proofs.Numbered.{board_on-known, boards_known, both, is_known, list_all-slice_get, list_all-weaken}
@@ -108,16 +109,7 @@ boards-numbered net table x m d e =
     let on_numbered : board_on (numbered_section (names_of_sections net.sections) (names_of_boards net.sections) section.kind) d ≡ Some m = rw same at e1 in
     board_on-known (names_of_sections net.sections) (names_of_boards net.sections) section.kind d m (list_all-slice_get (λ s. boards_known (names_of_boards net.sections) s.kind) net.sections x section (boards_from-known 0 net.sections) there) on_numbered)))
 
--- where what stands in one of two lists stands in both together, and back
-at-before : {X : Type 0} (xs ys : List X) (k : ℕ) (x : X) → slice_get xs k ≡ Some x → slice_get (xs ++ ys) k ≡ Some x
-at-before [] ys k x e = cc
-at-before (y ∷ xs) ys zero x e = e
-at-before (y ∷ xs) ys (suc k) x e = at-before xs ys k x e
-
-at-after : {X : Type 0} (xs ys : List X) (k : ℕ) (x : X) → slice_get ys k ≡ Some x → (j : ℕ) × (slice_get (xs ++ ys) j ≡ Some x)
-at-after [] ys k x e = (k, e)
-at-after (y ∷ xs) ys k x e = let there = at-after xs ys k x e in (suc there.0, there.1)
-
+-- what stands in two lists together stands in one of them
 at-either : {X : Type 0} (xs ys : List X) (j : ℕ) (x : X) → slice_get (xs ++ ys) j ≡ Some x → ((k : ℕ) × (slice_get xs k ≡ Some x)) ⊎ ((k : ℕ) × (slice_get ys k ≡ Some x))
 at-either [] ys j x e = inr (j, e)
 at-either (y ∷ xs) ys zero x e = inl (zero, e)
@@ -142,7 +134,7 @@ named-listed x (LinearDraft down up board_down board_up) Down name e =
     named-at : (x : ℕ) (d : Dir) (o : Option Name) (name : Name) → o ≡ Some name → slice_get (board_named x d o) 0 ≡ Some (named_on x d name)
     named-at x d o name e = rw e refl
 named-listed x (LinearDraft down up board_down board_up) Up name e =
-    at-after (board_named x Down board_down) (board_named x Up board_up) zero (named_on x Up name) (named-at x Up board_up name e)
+    (length (board_named x Down board_down) + zero, at-past (board_named x Down board_down) (board_named x Up board_up) zero (named_on x Up name) (named-at x Up board_up name e))
   where
     named-at : (x : ℕ) (d : Dir) (o : Option Name) (name : Name) → o ≡ Some name → slice_get (board_named x d o) 0 ≡ Some (named_on x d name)
     named-at x d o name e = rw e refl
@@ -178,7 +170,7 @@ drafts-listed first (section ∷ rest) x zero other d name n at e =
     (there.0, at-before (boards_on first section.kind) (boards_from (first + 1) rest) there.0 (named_on x d name) listed)
 drafts-listed first (section ∷ rest) x (suc i) other d name n at e =
     let there = drafts-listed (first + 1) rest x i other d name (omega (arith, n)) at e in
-    at-after (boards_on first section.kind) (boards_from (first + 1) rest) there.0 (named_on x d name) there.1
+    (length (boards_on first section.kind) + there.0, at-past (boards_on first section.kind) (boards_from (first + 1) rest) there.0 (named_on x d name) there.1)
 
 -- and each that is listed is named by its section
 listed-drafts : (first : ℕ) (sections : List SectionDraft) (k : ℕ) (named : NamedBoard) → slice_get (boards_from first sections) k ≡ Some named → (i : ℕ) × (section : SectionDraft) × (slice_get sections i ≡ Some section) × (named.board.section ≡ first + i) × (board_drafted section.kind named.board.dir ≡ Some named.name)

@@ -1,5 +1,5 @@
 -- The sections next to a section of the plant, by the ends of its draft.
-use Rattle.std.proofs.Common.{◌≡◌, ℕ, zero, suc, ◌<◌, Bool, true, false, ◌&&◌, ◌==◌, not, Option, Some, None, List, [], ◌∷◌, ◌++◌, length, map, slice_get, count_by, bytes_eq, option_map, refl, sym, ◌∙◌, ap}
+use Rattle.std.proofs.Common.{◌≡◌, ℕ, zero, suc, ◌<◌, Bool, true, false, ◌&&◌, ◌==◌, not, Option, Some, None, List, [], ◌∷◌, ◌++◌, length, map, slice_get, count_by, bytes_eq, option_map, refl, sym, ◌∙◌, ap, arith}
 use Rattle.std.specs.List.{list_any}
 use Rattle.std.proofs.lemmas.Bool.{eqb-true, eq-eqb}
 use Rattle.std.specs.Cmp.Derive.{both_true}
@@ -12,7 +12,7 @@ use Rattle.ilk_plant.proofs.Rules.{KeepsNetworkRules}
 use Rattle.ilk_plant.proofs.Tests.{list_any-at, list_any-from, list_any-none, map-at, not-true}
 use Rattle.ilk_plant.specs.Draft.{Name, names_of_boards, names_of_sections, number_of, numbered, numbered_section}
 use Rattle.ilk_plant.specs.Network.{beside, has_section, same_direction}
-use Rattle.ilk_plant.specs.NetworkRules.{End, ends, ends_of, is_some_and, names_another, names_once, names_section, opposite, section_named}
+use Rattle.ilk_plant.specs.NetworkRules.{End, ends, ends_of, has_no_neighbour, is_some_and, names_another, names_once, names_section, opposite, section_named, stands_alone}
 use Rattle.ilk_plant.specs.PlainLine.{all_differ}
 use Rattle.ilk_plant.specs.Plant.{first_named, next_to}
 use Rattle.ilk_plant.specs.TableRules.{none_twice}
@@ -204,3 +204,27 @@ next-once net table rules x = by_section (slice_get net.sections x) refl
         end-known k end e =
             let number = end-number net rules x k (number_of (names_of_sections net.sections) end.name) end e refl in
             known-at (names_of_sections net.sections) end.name _ (first_named-at (names_of_sections net.sections) end.name _ number.0).1
+
+-- each section has a neighbour
+pub next-some : (net : NetDraft) (table : TableDraft) → KeepsNetworkRules net → (x : ℕ) → x < length net.sections → 0 < length (next_to (numbered net table) x Down ++ next_to (numbered net table) x Up)
+next-some net table rules x within = by_section (slice_get net.sections x) refl
+  where
+    by_kind : (section : SectionDraft) (kind : KindDraft) → slice_get net.sections x ≡ Some section → section.kind ≡ kind → stands_alone net x ≡ false → 0 < length (beside (numbered_section (names_of_sections net.sections) (names_of_boards net.sections) kind) Down ++ beside (numbered_section (names_of_sections net.sections) (names_of_boards net.sections) kind) Up)
+    by_kind section (LinearDraft None None board_down board_up) at is h =
+        let bad : has_no_neighbour (LinearDraft None None board_down board_up) ≡ false = rw (at, is) at h in cc
+    by_kind section (LinearDraft None (Some up) board_down board_up) at is h = omega arith
+    by_kind section (LinearDraft (Some down) None board_down board_up) at is h = omega arith
+    by_kind section (LinearDraft (Some down) (Some up) board_down board_up) at is h = omega arith
+    by_kind section (PointDraft stem plus minus Up) at is h = omega arith
+    by_kind section (PointDraft stem plus minus Down) at is h = omega arith
+
+    by_section : (o : Option SectionDraft) → slice_get net.sections x ≡ o → 0 < length (next_to (numbered net table) x Down ++ next_to (numbered net table) x Up)
+    by_section None at = let there = at-within net.sections x within in let bad : None ≡ Some there.0 = sym at ∙ there.1 in cc
+      where
+        at-within : (sections : List SectionDraft) (x : ℕ) → x < length sections → (section : SectionDraft) × (slice_get sections x ≡ Some section)
+        at-within [] x h = absurd (omega arith)
+        at-within (section ∷ rest) zero h = (section, refl)
+        at-within (section ∷ rest) (suc x) h = at-within rest x (omega arith)
+    by_section (Some section) at =
+        let there : slice_get (numbered net table).sections x ≡ Some (numbered_section (names_of_sections net.sections) (names_of_boards net.sections) section.kind) = slice_get-map (λ section. numbered_section (names_of_sections net.sections) (names_of_boards net.sections) section.kind) net.sections x ∙ ap (option_map (λ section. numbered_section (names_of_sections net.sections) (names_of_boards net.sections) section.kind)) at in
+        rw there (by_kind section section.kind at refl (rules.none_alone x within))

@@ -2,11 +2,12 @@
 use Rattle.std.proofs.Common.{◌≡◌, List, length, map, refl, sym, ◌∙◌, subst, arith}
 use Rattle.std.proofs.lemmas.List.{length-map}
 use Rattle.ilk_plant.proofs.Boards.{boards-agree, boards-lead, boards-numbered, few-boards}
-use Rattle.ilk_plant.proofs.Neighbours.{next-back, next-known, next-once, next-other}
+use Rattle.ilk_plant.proofs.Neighbours.{next-back, next-known, next-once, next-other, next-some}
 use Rattle.ilk_plant.proofs.NamesDiffer.{named-once, repeated-none}
 use Rattle.ilk_plant.proofs.Once.{none_twice-once}
 use Rattle.ilk_plant.proofs.RoutesOf.{conflicts-other, route-known}
 use Rattle.ilk_plant.proofs.Rules.{network_rules-kept, table_rules-kept}
+use Rattle.ilk_plant.proofs.Walks.{never-returns}
 use Rattle.ilk_plant.specs.Draft.{Name, boards_from, names_of_boards, names_of_routes, names_of_sections, numbered, numbered_route, numbered_section}
 use Rattle.ilk_plant.specs.Plant.{EachOnce, IsPlant, PlantLists}
 use Rattle.ilk_plant.specs.declared.network.Dir.TheVariants.{Up, Down}
@@ -30,6 +31,7 @@ sound-IsPlant net table sound =
       section_names_differ = repeated-none (names_of_sections net.sections) (λ i h. network.sections_differ i (omega (arith, names)));
       board_names_differ = board_names;
       route_names_differ = named-once (names_of_routes table.routes) (λ i h. routes.names_differ i (omega (arith, count_routes, count_names)));
+      neighbours_some = λ x h. next-some net table network x (omega (arith, count));
       neighbours_other = next-other net table network;
       neighbours_once = λ x. none_twice-once _ (next-once net table network x);
       neighbours_back = λ x y. (next-back net table network x y Up, next-back net table network y x Down);
@@ -51,6 +53,7 @@ sound-IsPlant net table sound =
 pub numbered-IsSound : (net : NetDraft) (table : TableDraft) → AreSound net table → IsSound (numbered net table)
 numbered-IsSound net table sound = record {
   plant = sound-IsPlant net table sound;
+  walks = never-returns net table (network_rules-kept net sound.network);
   drafts = record { net = net; table = table; sound = sound; same = refl };
 }
 

@@ -73,8 +73,8 @@ pub record IsRouteOf (p : PlantLists) (route : Route) : Type 0 where
   pub few_points : length route.points ≤ 40
   pub few_conflicts : length route.conflicts ≤ 128
 
--- what every plant has: the limits, a name of its own for each, and no number that stands for nothing; a section's
--- neighbours are other sections, each at one end alone, and have it on their opposite side; the boards of the
+-- what every plant has: the limits, a name of its own for each, and no number that stands for nothing; a section has
+-- a neighbour, and its neighbours are other sections, each at one end alone, and have it on their opposite side; the boards of the
 -- sections are those listed, each where trains run on to a neighbour; and a route's conflicts are other routes
 pub record IsPlant (p : PlantLists) : Type 0 where
   pub some_section : 0 < length p.sections
@@ -87,6 +87,7 @@ pub record IsPlant (p : PlantLists) : Type 0 where
   pub section_names_differ : EachOnce p.section_names
   pub board_names_differ : EachOnce p.board_names
   pub route_names_differ : EachOnce p.route_names
+  pub neighbours_some : (x : ℕ) → x < length p.sections → 0 < length (next_to p x Down ++ next_to p x Up)
   pub neighbours : (x y : ℕ) (d : Dir) → IsTrue (has_section y (next_to p x d)) → y < length p.sections
   pub neighbours_other : (x : ℕ) (d : Dir) → has_section x (next_to p x d) ≡ false
   pub neighbours_once : (x : ℕ) → EachOnce (next_to p x Down ++ next_to p x Up)
