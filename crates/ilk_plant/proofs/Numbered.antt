@@ -1,18 +1,13 @@
 -- What numbering makes of names that are among the names.
-use Rattle.std.proofs.Common.{◌≡◌, ℕ, zero, suc, ◌<◌, ◌≤◌, ◌+◌, ◌*◌, Bool, true, false, ◌&&◌, ◌||◌, not, Option, Some, None, List, [], ◌∷◌, ◌++◌, length, map, slice_get, bytes_eq, option_map, option_to_list, ◌==◌, ◌⊎◌, inl, inr, refl, sym, ◌∙◌, subst, arith, length-append, ap}
+use Rattle.std.proofs.Common.{◌≡◌, ℕ, zero, suc, ◌<◌, Bool, true, false, ◌&&◌, not, Option, Some, None, List, [], ◌∷◌, length, slice_get, bytes_eq, option_map, refl, arith}
 use Rattle.std.specs.List.{list_any, list_all, prefix_len}
-use Rattle.std.proofs.lemmas.List.{length-map}
-use Rattle.std.proofs.lemmas.List.Folds.{list_any-append}
-use Rattle.std.proofs.lemmas.Option.{slice_get-map}
-use Rattle.std.proofs.lemmas.Grind.{common_steps}
 use Rattle.std.proofs.lemmas.Bool.Decides.{nat_tests}
-use Rattle.ilk_plant.specs.Draft.{Name, NamedBoard, board_named, boards_from, boards_on, number_of, numbered_section}
-use Rattle.ilk_plant.specs.Network.{beside, board_on, has_section}
+use Rattle.ilk_plant.specs.Draft.{Name, number_of, numbered_section}
+use Rattle.ilk_plant.specs.Network.{board_on}
 use Rattle.ilk_plant.specs.declared.network.Dir.{Dir}
 use Rattle.ilk_plant.specs.declared.network.Dir.TheVariants.{Up, Down}
 use Rattle.ilk_plant.specs.declared.draft.KindDraft.{KindDraft}
 use Rattle.ilk_plant.specs.declared.draft.KindDraft.TheVariants.{Linear as LinearDraft, Point as PointDraft}
-use Rattle.ilk_plant.specs.declared.draft.SectionDraft.{SectionDraft}
 
 -- the first place of a test that some item passes
 prefix-within : {X : Type 0} (p : X → Bool) (xs : List X) → list_any p xs ≡ true → prefix_len (λ x. not (p x)) xs < length xs

@@ -1,5 +1,5 @@
 -- What an empty list of broken rules says: each test of a rule fails at each place.
-use Rattle.std.proofs.Common.{◌≡◌, ℕ, ◌<◌, ◌+◌, Bool, false, None, Some, List, [], ◌++◌, length, map, slice_get, refl, sym, ◌∙◌, arith, ap}
+use Rattle.std.proofs.Common.{◌≡◌, ℕ, ◌<◌, Bool, false, None, Some, List, [], ◌++◌, length, slice_get, ◌∙◌, arith, ap}
 use Rattle.std.specs.List.{filter, range_with_len}
 use Rattle.std.proofs.lemmas.List.FromFn.{get_or-range_with_len, length-range_with_len}
 use Rattle.std.proofs.lemmas.Option.{slice_get-get_or}
@@ -9,7 +9,6 @@ use Rattle.ilk_plant.specs.Draft.{names_of_boards, names_of_sections}
 use Rattle.ilk_plant.specs.NetworkRules.{has_board_at_end, is_not_named_back, names_no_other, network_rules_broken, repeats_name, repeats_neighbour, returns, stands_alone}
 use Rattle.ilk_plant.specs.Plant.{PlantLists}
 use Rattle.ilk_plant.specs.TableRules.{has_conflicts_once, has_destination_or_none, has_points_once, has_sections_once, has_source, is_named_before, route_fails, routes_broken}
-use Rattle.ilk_plant.specs.declared.broken.Broken.{Broken}
 use Rattle.ilk_plant.specs.declared.broken.Rule.{Rule}
 use Rattle.ilk_plant.specs.declared.broken.Rule.TheVariants.{N1, N2, N3, N4, N5, N6, N7, N8, R1, R2, R3, R4, R5, R6}
 use Rattle.ilk_plant.specs.declared.draft.NetDraft.{NetDraft}

@@ -1,13 +1,17 @@
 -- Drafts within the limits that break no rule give a plant.
-use Rattle.std.proofs.Common.{◌≡◌, ℕ, ◌<◌, ◌≤◌, Option, Some, List, length, map, slice_get, refl, sym, ◌∙◌, subst, arith}
+use Rattle.std.proofs.Common.{◌≡◌, List, length, map, refl, sym, ◌∙◌, subst, arith}
 use Rattle.std.proofs.lemmas.List.{length-map}
-use Rattle.ilk_plant.proofs.Boards.{boards-numbered, few-boards}
-use Rattle.ilk_plant.proofs.Neighbours.{next-known}
-use Rattle.ilk_plant.proofs.RoutesOf.{route-known}
+use Rattle.ilk_plant.proofs.Boards.{boards-agree, boards-lead, boards-numbered, few-boards}
+use Rattle.ilk_plant.proofs.Neighbours.{next-back, next-known, next-once, next-other, next-some}
+use Rattle.ilk_plant.proofs.NamesDiffer.{named-once, repeated-none}
+use Rattle.ilk_plant.proofs.Once.{none_twice-once}
+use Rattle.ilk_plant.proofs.RoutesOf.{conflicts-other, route-known}
 use Rattle.ilk_plant.proofs.Rules.{network_rules-kept, table_rules-kept}
+use Rattle.ilk_plant.proofs.Walks.{never-returns}
 use Rattle.ilk_plant.specs.Draft.{Name, boards_from, names_of_boards, names_of_routes, names_of_sections, numbered, numbered_route, numbered_section}
-use Rattle.ilk_plant.specs.Plant.{IsPlant, PlantLists}
-use Rattle.ilk_plant.specs.Sound.{AreSound, IsOfDrafts, IsSound}
+use Rattle.ilk_plant.specs.Plant.{EachOnce, IsPlant, PlantLists}
+use Rattle.ilk_plant.specs.declared.network.Dir.TheVariants.{Up, Down}
+use Rattle.ilk_plant.specs.Sound.{AreSound, IsSound}
 use Rattle.ilk_plant.specs.declared.draft.NetDraft.{NetDraft}
 use Rattle.ilk_plant.specs.declared.draft.TableDraft.{TableDraft}
 
@@ -20,13 +24,26 @@ sound-IsPlant net table sound =
     let names : length (names_of_sections net.sections) ≡ length net.sections = length-map net.sections (λ section. section.name) in
     let boards : length (numbered net table).boards ≡ length (names_of_boards net.sections) = length-map (boards_from 0 net.sections) (λ named. named.board) ∙ sym (length-map (boards_from 0 net.sections) (λ named. named.name)) in
     let count_routes : length (numbered net table).routes ≡ length table.routes = length-map table.routes (numbered_route (names_of_sections net.sections) (names_of_boards net.sections) (names_of_routes table.routes)) in
+    let board_names : EachOnce (names_of_boards net.sections) = repeated-none (names_of_boards net.sections) network.boards_differ in
+    let count_names : length (names_of_routes table.routes) ≡ length table.routes = length-map table.routes (λ route. route.name) in
     record {
+      some_section = omega (arith, count, sound.limits.some_section);
+      section_names_differ = repeated-none (names_of_sections net.sections) (λ i h. network.sections_differ i (omega (arith, names)));
+      board_names_differ = board_names;
+      route_names_differ = named-once (names_of_routes table.routes) (λ i h. routes.names_differ i (omega (arith, count_routes, count_names)));
+      neighbours_some = λ x h. next-some net table network x (omega (arith, count));
+      neighbours_other = next-other net table network;
+      neighbours_once = λ x. none_twice-once _ (next-once net table network x);
+      neighbours_back = λ x y. (next-back net table network x y Up, next-back net table network y x Down);
+      boards_listed = boards-agree net table board_names;
+      boards_lead_on = boards-lead net table network;
+      conflicts_other = conflicts-other (numbered net table) routes;
       few_sections = omega (arith, count, sound.limits.few_sections);
       few_boards = omega (arith, boards, few-boards net.sections sound.limits.few_sections);
       few_routes = omega (arith, count_routes, sound.limits.few_routes);
       sections_named = names ∙ sym count;
       boards_named = sym boards;
-      routes_named = length-map table.routes (λ route. route.name) ∙ sym count_routes;
+      routes_named = count_names ∙ sym count_routes;
       neighbours = λ x y d h. let known = next-known net table network x y d h in omega (arith, known.0, names, count);
       boards_known = boards-numbered net table;
       routes_known = route-known net table routes sound.limits.each_route;
@@ -36,6 +53,7 @@ sound-IsPlant net table sound =
 pub numbered-IsSound : (net : NetDraft) (table : TableDraft) → AreSound net table → IsSound (numbered net table)
 numbered-IsSound net table sound = record {
   plant = sound-IsPlant net table sound;
+  walks = never-returns net table (network_rules-kept net sound.network);
   drafts = record { net = net; table = table; sound = sound; same = refl };
 }
 

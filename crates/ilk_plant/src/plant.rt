@@ -1,6 +1,6 @@
 ghost use Rattle.std.specs.Prelude.{◌≡◌, ◌<◌, ◌≤◌, length, slice_get, Some, IfSome, count_by, take};
 ghost use Rattle.ilk_plant.specs.Network.{is_point};
-ghost use Rattle.ilk_plant.specs.Sound.{IsOfDrafts, IsSound};
+ghost use Rattle.ilk_plant.specs.Sound.{IsOfDrafts, IsSound, NeverReturns};
 ghost use Rattle.ilk_plant.specs.Plant.{IsPlant, IsRouteOf, board_of, border, first_named, next_to, point_count, point_number};
 
 use crate::{Board, Dir, Route, Row, Section, Text};
@@ -112,10 +112,11 @@ impl Plant {
         let _ = &self.sections;
     }
 
-    /// Where every plant comes from: drafts within the limits that break no rule. It does
-    /// nothing, and tells a proof.
+    /// Where every plant comes from, which are drafts within the limits that break no rule; and
+    /// that no walk in one direction comes to a section twice. It does nothing, and tells a proof.
     pub fn is_of_drafts(&self)
-        ensures { IsOfDrafts self.now }
+        ensures drafts { IsOfDrafts self.now }
+        ensures walks { NeverReturns self.now }
     {
         let _ = &self.sections;
     }
