@@ -13,21 +13,6 @@ use Rattle.ilk_plant.specs.declared.draft.RouteDraft.{RouteDraft}
 use Rattle.ilk_plant.specs.declared.draft.TableDraft.{TableDraft}
 use Rattle.ilk_plant.specs.declared.table.Route.{Route}
 
--- the limits of a route's lists
-pub record HasRouteLimits (route : RouteDraft) : Type 0 where
-  pub path_begins : 1 ≤ length route.path
-  pub path_ends : length route.path ≤ 32
-  pub overlap_ends : length route.overlap ≤ 8
-  pub points_end : length route.points ≤ 40
-  pub conflicts_end : length route.conflicts ≤ 128
-
--- the limits of a network and of its table
-pub record HasTableLimits (net : NetDraft) (table : TableDraft) : Type 0 where
-  pub sections_begin : 1 ≤ length net.sections
-  pub sections_end : length net.sections ≤ 128
-  pub routes_end : length table.routes ≤ 128
-  pub each_route : All HasRouteLimits table.routes
-
 -- whether there is one, and it passes the test
 abbrev pub passes : {A : Type 0} → (A → Bool) → Option A → Bool
 passes test None = false

@@ -2,7 +2,8 @@ ghost use Rattle.std.specs.Prelude.{◌≡◌, ◌==◌, ◌&&◌, ◌<◌, ◌+
 ghost use Rattle.std.specs.List.{list_all, list_any};
 ghost use Rattle.ilk_plant.specs.Broken.{broken_at};
 ghost use Rattle.ilk_plant.specs.Network.{has_section};
-ghost use Rattle.ilk_plant.specs.TableRules.{HasTableLimits, has_conflicts_once, has_destination_or_none, has_points_once, has_sections_once, is_other_route, is_point_section, is_section, none_twice, points_of, sections_of, table_rules_broken};
+ghost use Rattle.ilk_plant.specs.Limits.{HasLimits};
+ghost use Rattle.ilk_plant.specs.TableRules.{has_conflicts_once, has_destination_or_none, has_points_once, has_sections_once, is_other_route, is_point_section, is_section, none_twice, points_of, sections_of, table_rules_broken};
 ghost use Rattle.ilk_table_check.specs.Table.{breaks_table};
 
 use crate::listing::push_if;
@@ -186,7 +187,7 @@ pub fn check_table(
     net: &NetDraft,
     table: &TableDraft,
 ) -> Result<Row<Broken>, AllocError>
-    requires { HasTableLimits net.now table.now }
+    requires { HasLimits net.now table.now }
     ensures { IfOk result (λ found. found ≡ table_rules_broken net.now table.now) }
 {
     let plant = Numbered::of(alloc, net, table)?;

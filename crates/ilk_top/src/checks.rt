@@ -1,4 +1,4 @@
-ghost use Rattle.std.specs.Prelude.{◌≡◌, [], IfOk, IsTrue, is_some, slice_get};
+ghost use Rattle.std.specs.Prelude.{◌≡◌, [], IfOk};
 ghost use Rattle.ilk_plant.specs.Draft.{numbered};
 ghost use Rattle.ilk_plant.specs.Limits.{HasLimits};
 ghost use Rattle.ilk_plant.specs.NetworkRules.{network_rules_broken};
@@ -21,12 +21,49 @@ pub enum Checked {
 }
 
 // The broken rules of the columns; none where they are free.
-fn broken_columns(alloc: Global, columns: Columns, plant: &Plant) -> Result<Row<Broken>, AllocError>
+fn broken_columns(
+    alloc: Global,
+    columns: Columns,
+    plant: &Plant,
+) -> Result<Row<Broken>, AllocError>
     ensures { IfOk result (λ found. found ≡ columns_broken columns plant.now) }
 {
     match columns {
         Columns::Strict => check_columns(alloc, plant),
         Columns::Free => Ok(Row::new(alloc)),
+    }
+}
+
+// Asks the rules of the columns where they are strict.
+fn check_plant(alloc: Global, columns: Columns, plant: Plant) -> Result<Checked, AllocError>
+    ensures { IfOk result (Finds (columns_broken columns plant) plant) }
+{
+    let found = broken_columns(alloc, columns, &plant)?;
+    if found.as_slice().is_empty() {
+        Ok(Checked::Clean(plant))
+    } else {
+        Ok(Checked::Broken(found))
+    }
+}
+
+// Asks the rules of the table, and then those of the columns.
+fn check_routes(
+    alloc: Global,
+    columns: Columns,
+    net: &NetDraft,
+    table: &TableDraft,
+) -> Result<Checked, AllocError>
+    requires limits { HasLimits net.now table.now }
+    requires network { network_rules_broken net.now ≡ [] }
+    ensures { IfOk result (Finds
+        (or_later (table_rules_broken net.now table.now) (columns_broken columns (numbered net.now table.now)))
+        (numbered net.now table.now)) }
+{
+    let found = check_table(alloc, net, table)?;
+    if found.as_slice().is_empty() {
+        check_plant(alloc, columns, Plant::make(alloc, net, table)?)
+    } else {
+        Ok(Checked::Broken(found))
     }
 }
 
@@ -42,17 +79,9 @@ pub fn check_drafts(
     ensures { IfOk result (Finds (rules_broken columns net.now table.now) (numbered net.now table.now)) }
 {
     let found = check_network(alloc, net)?;
-    if !found.as_slice().is_empty() {
-        return Ok(Checked::Broken(found));
+    if found.as_slice().is_empty() {
+        check_routes(alloc, columns, net, table)
+    } else {
+        Ok(Checked::Broken(found))
     }
-    let found = check_table(alloc, net, table)?;
-    if !found.as_slice().is_empty() {
-        return Ok(Checked::Broken(found));
-    }
-    let plant = Plant::make(alloc, net, table)?;
-    let found = broken_columns(alloc, columns, &plant)?;
-    if !found.as_slice().is_empty() {
-        return Ok(Checked::Broken(found));
-    }
-    Ok(Checked::Clean(plant))
 }
