@@ -1,4 +1,4 @@
--- Small networks: a plain line of two sections, the same with a neighbour left out, and a ring of three.
+-- Small networks: a plain line of two sections, the same with a neighbour left out, rings, and lines that divide in two.
 use Rattle.std.specs.Prelude.{ℕ, Option, Some, None, List, [], ◌∷◌}
 use Rattle.ilk_plant.specs.Draft.{Name}
 use Rattle.ilk_plant.specs.declared.broken.Broken.{Broken}
@@ -16,6 +16,9 @@ b = 98 ∷ []
 
 abbrev pub c : Name
 c = 99 ∷ []
+
+abbrev pub p : Name
+p = 112 ∷ []
 
 -- a linear section with no board
 abbrev pub plain : Name → Option Name → Option Name → SectionDraft
@@ -47,6 +50,22 @@ ring_of_three = record { sections = plain a (Some c) (Some b) ∷ plain b (Some 
 -- a section that names itself on both sides
 abbrev pub loop_of_one : NetDraft
 loop_of_one = record { sections = plain a (Some a) (Some a) ∷ [] }
+
+-- a point that faces up, from a to b and c
+abbrev pub point : SectionDraft
+point = record { name = p; kind = PointDraft a b c Up }
+
+-- a line that divides in two
+abbrev pub fork : NetDraft
+fork = record { sections = plain a None (Some p) ∷ point ∷ plain b (Some p) None ∷ plain c (Some p) None ∷ [] }
+
+-- the same, where the section on the minus leg names the point on its up side
+abbrev pub fork_turned : NetDraft
+fork_turned = record { sections = plain a None (Some p) ∷ point ∷ plain b (Some p) None ∷ plain c None (Some p) ∷ [] }
+
+-- the same, where the section on the minus leg leads back to a
+abbrev pub fork_with_ring : NetDraft
+fork_with_ring = record { sections = plain a (Some c) (Some p) ∷ point ∷ plain b (Some p) None ∷ plain c (Some p) (Some a) ∷ [] }
 
 -- a rule broken at one place
 abbrev pub at : Rule → ℕ → Broken

@@ -1,7 +1,7 @@
 ghost use Rattle.std.specs.Prelude.{◌≡◌, [], ◌∷◌};
 ghost use Rattle.ilk_plant.specs.NetworkRules.{network_rules_broken};
 ghost use Rattle.ilk_plant.specs.declared.broken.Rule.TheVariants.{N1, N3, N4, N5, N6, N7, N8};
-ghost use Rattle.ilk_net_check.specs.Examples.{at, line_cut, line_cut_with_repeat, line_of_two, loop_of_one, ring_of_three};
+ghost use Rattle.ilk_net_check.specs.Examples.{at, fork, fork_turned, fork_with_ring, line_cut, line_cut_with_repeat, line_of_two, loop_of_one, ring_of_three};
 
 // A plain line breaks no rule.
 fn line_is_clean()
@@ -26,4 +26,20 @@ fn ring_is_refused()
 // A section that names itself is no other section, and comes back to itself.
 fn loop_is_refused()
     ensures { network_rules_broken loop_of_one ≡ at N3 0 ∷ at N4 0 ∷ at N7 0 ∷ [] }
+{}
+
+// A line that divides in two breaks no rule.
+fn fork_is_clean()
+    ensures { network_rules_broken fork ≡ [] }
+{}
+
+// The name at an end is the neighbour's, but the end isn't on the opposite side; and from there
+// every walk up comes back by the minus leg.
+fn turned_leg_is_refused()
+    ensures { network_rules_broken fork_turned ≡ at N5 1 ∷ at N5 3 ∷ at N7 1 ∷ at N7 3 ∷ [] }
+{}
+
+// A walk up may take either leg.
+fn ring_by_minus_leg_is_refused()
+    ensures { network_rules_broken fork_with_ring ≡ at N7 0 ∷ at N7 1 ∷ at N7 3 ∷ [] }
 {}

@@ -8,6 +8,8 @@ mod names;
 mod neighbours;
 mod reach;
 mod rules;
+#[cfg(test)]
+mod tests;
 mod walks;
 
 pub use rules::check_network;
