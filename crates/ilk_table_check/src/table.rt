@@ -1,4 +1,4 @@
-ghost use Rattle.std.specs.Prelude.{◌≡◌, ◌==◌, ◌&&◌, ◌<◌, ◌++◌, IfOk, OnOk, length};
+ghost use Rattle.std.specs.Prelude.{◌≡◌, ◌==◌, ◌&&◌, ◌<◌, ◌++◌, IfOk, OnOk, length, map};
 ghost use Rattle.std.specs.List.{list_all, list_any};
 ghost use Rattle.ilk_plant.specs.Broken.{broken_at};
 ghost use Rattle.ilk_plant.specs.Network.{has_section};
@@ -8,39 +8,8 @@ ghost use Rattle.ilk_table_check.specs.Table.{breaks_table};
 
 use crate::listing::push_if;
 use crate::numbered::Numbered;
-use ilk_plant::{Broken, NetDraft, Route, Row, Rule, TableDraft, has_section};
+use ilk_plant::{Broken, Listed, NetDraft, Route, Row, Rule, TableDraft};
 use std::alloc::{AllocError, Global};
-
-// Adds these numbers to the list.
-fn push_all(list: &mut Row<u32>, numbers: &Row<u32>) -> Result<(), AllocError>
-    ensures { OnOk result (list.new ≡ list.old ++ numbers.now) }
-{
-    for x in numbers.as_slice() {
-        list.push(*x)?;
-    }
-    Ok(())
-}
-
-// The sections of a route's path and of its overlap.
-fn sections_of(alloc: Global, route: &Route) -> Result<Row<u32>, AllocError>
-    ensures { IfOk result (λ sections. sections ≡ sections_of route.now) }
-{
-    let mut sections = Row::new(alloc);
-    push_all(&mut sections, &route.path)?;
-    push_all(&mut sections, &route.overlap)?;
-    Ok(sections)
-}
-
-// The points that a route lists.
-fn points_of(alloc: Global, route: &Route) -> Result<Row<u32>, AllocError>
-    ensures { IfOk result (λ points. points ≡ points_of route.now) }
-{
-    let mut points = Row::new(alloc);
-    for listed in route.points.as_slice() {
-        points.push(listed.point)?;
-    }
-    Ok(points)
-}
 
 // Whether the numbers have this one.
 fn is_among(x: u32, numbers: &[u32]) -> bool
@@ -50,10 +19,9 @@ fn is_among(x: u32, numbers: &[u32]) -> bool
 }
 
 // Whether no number stands twice.
-fn none_twice(numbers: &Row<u32>) -> bool
+fn none_twice(numbers: &[u32]) -> bool
     ensures { result ≡ none_twice numbers.now }
 {
-    let numbers = numbers.as_slice();
     for (i, x) in numbers.iter().enumerate() {
         if is_among(*x, &numbers[i + 1..]) {
             return false;
@@ -62,49 +30,90 @@ fn none_twice(numbers: &Row<u32>) -> bool
     true
 }
 
+// Whether one of two lists has this number.
+fn is_among_both(x: u32, first: &[u32], second: &[u32]) -> bool
+    ensures { result ≡ list_any (λ y. y == x) (first.now ++ second.now) }
+{
+    is_among(x, first) || is_among(x, second)
+}
+
+// Whether no number stands twice in two lists together.
+fn none_twice_in_both(first: &[u32], second: &[u32]) -> bool
+    ensures { result ≡ none_twice (first.now ++ second.now) }
+{
+    for (i, x) in first.iter().enumerate() {
+        if is_among_both(*x, &first[i + 1..], second) {
+            return false;
+        }
+    }
+    none_twice(second)
+}
+
 // Whether each number is that of a section.
-fn are_sections(plant: &Numbered, sections: &Row<u32>) -> bool
+fn are_sections(plant: &Numbered, sections: &[u32]) -> bool
     ensures { result ≡ list_all (is_section plant.now) sections.now }
 {
-    sections.as_slice().iter().all(|x| plant.is_section(*x))
+    sections.iter().all(|x| plant.is_section(*x))
+}
+
+// Whether each number in two lists is that of a section.
+fn both_are_sections(plant: &Numbered, first: &[u32], second: &[u32]) -> bool
+    ensures { result ≡ list_all (is_section plant.now) (first.now ++ second.now) }
+{
+    are_sections(plant, first) && are_sections(plant, second)
 }
 
 // Whether path and overlap are sections, none of which stands twice in them.
-fn has_sections_once(
-    alloc: Global,
-    plant: &Numbered,
-    route: &Route,
-) -> Result<bool, AllocError>
-    ensures { IfOk result (λ holds. holds ≡ has_sections_once plant.now route.now) }
+fn has_sections_once(plant: &Numbered, route: &Route) -> bool
+    ensures { result ≡ has_sections_once plant.now route.now }
 {
-    let sections = sections_of(alloc, route)?;
-    Ok(are_sections(plant, &sections) && none_twice(&sections))
+    let path = route.path.as_slice();
+    let overlap = route.overlap.as_slice();
+    both_are_sections(plant, path, overlap) && none_twice_in_both(path, overlap)
 }
 
-// Whether `x` is a point section among these.
-fn is_point_among(plant: &Numbered, sections: &Row<u32>, x: u32) -> bool
-    ensures { result ≡ (is_point_section plant.now x && has_section x sections.now) }
+// Whether `x` is a point section of a route's path or overlap.
+fn is_point_of(plant: &Numbered, route: &Route, x: u32) -> bool
+    ensures { result ≡ (is_point_section plant.now x && has_section x (sections_of route.now)) }
 {
-    plant.is_point_section(x) && has_section(sections, x)
+    plant.is_point_section(x) && is_among_both(x, route.path.as_slice(), route.overlap.as_slice())
 }
 
-// Whether each of these points is a point section among these sections.
-fn are_points_among(plant: &Numbered, sections: &Row<u32>, points: &Row<u32>) -> bool
-    ensures { result ≡ list_all (λ x. is_point_section plant.now x && has_section x sections.now) points.now }
+// Whether each listed point is a point section of path or overlap.
+fn are_points_of(plant: &Numbered, route: &Route) -> bool
+    ensures { result ≡ list_all (λ x. is_point_section plant.now x && has_section x (sections_of route.now)) (points_of route.now) }
 {
+    let points = route.points.as_slice();
     points
-        .as_slice()
         .iter()
-        .all(|x| is_point_among(plant, sections, *x))
+        .map(|listed| listed.point)
+        .all(|x| is_point_of(plant, route, x))
+}
+
+// Whether point `x` is listed among these.
+fn is_listed(x: u32, points: &[Listed]) -> bool
+    ensures { result ≡ list_any (λ y. y == x) (map (λ listed. listed.point) points.now) }
+{
+    points.iter().map(|listed| listed.point).any(|y| y == x)
+}
+
+// Whether no point is listed twice.
+fn none_listed_twice(points: &[Listed]) -> bool
+    ensures { result ≡ none_twice (map (λ listed. listed.point) points.now) }
+{
+    for (i, listed) in points.iter().enumerate() {
+        if is_listed(listed.point, &points[i + 1..]) {
+            return false;
+        }
+    }
+    true
 }
 
 // Whether each listed point is a point section of path or overlap, and none is listed twice.
-fn has_points_once(alloc: Global, plant: &Numbered, route: &Route) -> Result<bool, AllocError>
-    ensures { IfOk result (λ holds. holds ≡ has_points_once plant.now route.now) }
+fn has_points_once(plant: &Numbered, route: &Route) -> bool
+    ensures { result ≡ has_points_once plant.now route.now }
 {
-    let sections = sections_of(alloc, route)?;
-    let points = points_of(alloc, route)?;
-    Ok(are_points_among(plant, &sections, &points) && none_twice(&points))
+    are_points_of(plant, route) && none_listed_twice(route.points.as_slice())
 }
 
 // Whether the destination is null or a board.
@@ -131,35 +140,28 @@ fn are_other_routes(plant: &Numbered, i: u32, routes: &Row<u32>) -> bool
 fn has_conflicts_once(plant: &Numbered, i: u32, route: &Route) -> bool
     ensures { result ≡ has_conflicts_once plant.now i route.now }
 {
-    are_other_routes(plant, i, &route.conflicts) && none_twice(&route.conflicts)
+    are_other_routes(plant, i, &route.conflicts) && none_twice(route.conflicts.as_slice())
 }
 
 // Whether a rule of the table is broken at route `i`.
-fn breaks_table(
-    alloc: Global,
-    plant: &Numbered,
-    rule: Rule,
-    i: u32,
-) -> Result<bool, AllocError>
+fn breaks_table(plant: &Numbered, rule: Rule, i: u32) -> bool
     requires { i < length plant.now.routes }
-    ensures { IfOk result (λ broken. broken ≡ breaks_table plant.now rule i) }
+    ensures { result ≡ breaks_table plant.now rule i }
 {
     let route = plant.route(i);
-    let is_broken = match rule {
+    match rule {
         Rule::R1 => plant.is_named_before(i),
         Rule::R2 => !plant.is_board(route.source),
-        Rule::R3 => !has_sections_once(alloc, plant, route)?,
-        Rule::R4 => !has_points_once(alloc, plant, route)?,
+        Rule::R3 => !has_sections_once(plant, route),
+        Rule::R4 => !has_points_once(plant, route),
         Rule::R5 => !has_destination_or_none(plant, route.destination),
         Rule::R6 => !has_conflicts_once(plant, i, route),
         _ => false,
-    };
-    Ok(is_broken)
+    }
 }
 
 // Adds the routes at which a rule of the table is broken.
 fn push_routes(
-    alloc: Global,
     found: &mut Row<Broken>,
     plant: &Numbered,
     rule: Rule,
@@ -167,13 +169,12 @@ fn push_routes(
     ensures { OnOk result (found.new ≡ found.old ++ broken_at rule (length plant.now.routes) (breaks_table plant.now rule)) }
 {
     for i in 0..plant.routes() {
-        let is_broken = breaks_table(alloc, plant, rule, i)?;
         let entry = Broken {
             rule,
             first: i,
             second: None,
         };
-        push_if(found, is_broken, entry)?;
+        push_if(found, breaks_table(plant, rule, i), entry)?;
     }
     Ok(())
 }
@@ -192,11 +193,11 @@ pub fn check_table(
 {
     let plant = Numbered::of(alloc, net, table)?;
     let mut found = Row::new(alloc);
-    push_routes(alloc, &mut found, &plant, Rule::R1)?;
-    push_routes(alloc, &mut found, &plant, Rule::R2)?;
-    push_routes(alloc, &mut found, &plant, Rule::R3)?;
-    push_routes(alloc, &mut found, &plant, Rule::R4)?;
-    push_routes(alloc, &mut found, &plant, Rule::R5)?;
-    push_routes(alloc, &mut found, &plant, Rule::R6)?;
+    push_routes(&mut found, &plant, Rule::R1)?;
+    push_routes(&mut found, &plant, Rule::R2)?;
+    push_routes(&mut found, &plant, Rule::R3)?;
+    push_routes(&mut found, &plant, Rule::R4)?;
+    push_routes(&mut found, &plant, Rule::R5)?;
+    push_routes(&mut found, &plant, Rule::R6)?;
     Ok(found)
 }
