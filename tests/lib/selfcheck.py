@@ -70,4 +70,9 @@ def check(cases):
     plants = sorted(EXAMPLES.glob("*.json"))
     for path in plants:
         json.loads(path.read_text(encoding="utf-8"))
-    return f"{len(cases)} cases and {len(plants)} plants are well formed"
+    runs = sorted(EXAMPLES.glob("*.run"))
+    for path in runs:
+        text = path.read_text(encoding="ascii")
+        if not (text.startswith("run 1\n") and text.endswith("\nend\n")):
+            raise CaseError(f"{path}: no run's text")
+    return f"{len(cases)} cases, {len(plants)} plants and {len(runs)} runs are well formed"
