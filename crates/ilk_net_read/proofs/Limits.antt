@@ -1,5 +1,7 @@
 -- What the tests of limits say.
-use Rattle.std.proofs.Common.{◌≡◌, ℕ, ◌≤◌, Bool, true, false, leb, length, refl}
+use Rattle.std.proofs.Common.{◌≡◌, ℕ, ◌≤◌, Bool, true, false, leb, length, List, [], ◌∷◌, ◌++◌, ◌∙◌, refl}
+use Rattle.std.proofs.lemmas.List.Folds.{list_all-append}
+use Rattle.std.specs.List.{list_all}
 use Rattle.std.proofs.lemmas.Bool.{leb-true}
 use Rattle.std.specs.Prelude.{◌&&◌}
 use Rattle.ilk_net_read.specs.Document.{Parts, is_within_limits}
@@ -32,3 +34,7 @@ pub few_sections : (document : Document) → HasLimits (seen document) → (1 �
 few_sections document limits =
     let count = items_len-items_view document.sections.now in
     (rw count at limits.some, rw count at limits.few)
+
+-- a test that each of a list passes, and one more
+pub list_all-more : {A : Type 0} (test : A → Bool) (xs : List A) (x : A) → list_all test xs ≡ true → test x ≡ true → list_all test (xs ++ x ∷ []) ≡ true
+list_all-more test xs x front last = list_all-append test xs (x ∷ []) ∙ rw (front, last) refl

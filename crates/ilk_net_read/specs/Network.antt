@@ -1,5 +1,6 @@
 -- The form of a configuration, as far as its network: the rules in the order in which they are asked.
-use Rattle.std.specs.Prelude.{ℕ, ◌+◌, ◌≤◌, List, [], ◌∷◌, length, None, Result, Ok, IsOk, if◌then◌else◌}
+use Rattle.std.specs.Prelude.{ℕ, ◌+◌, ◌≤◌, List, [], ◌∷◌, length, None, Result, Ok, IsOk, IsTrue, if◌then◌else◌}
+use Rattle.std.specs.List.{list_all}
 use Rattle.std.specs.Str.{is_utf8}
 use Rattle.serde_json.specs.Data.{Data, Items, no_items, item}
 use Rattle.serde_json.specs.Read.{read}
@@ -48,7 +49,8 @@ network_of d = do
 abbrev pub HasDocument : Data → Type 0
 HasDocument d = IsOk (document_of d)
 
--- there are 1 to 128 sections
+-- there are 1 to 128 sections, and each text in them is a name
 pub record IsWithin (net : NetDraft) : Type 0 where
   pub some : 1 ≤ length net.sections
   pub few : length net.sections ≤ 128
+  pub named : IsTrue (list_all section_has_names net.sections)

@@ -16,3 +16,6 @@ pub use member::{
 pub use name::{is_name, is_name_if_given, lies_within};
 pub use network::read_network;
 pub use text::read_value;
+
+#[cfg(test)]
+mod tests;

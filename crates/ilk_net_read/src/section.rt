@@ -1,6 +1,6 @@
 //! The sections.
 
-ghost use Rattle.std.specs.Prelude.{◌≡◌};
+ghost use Rattle.std.specs.Prelude.{◌≡◌, true, IfOk};
 ghost use Rattle.serde_json.specs.View.{view};
 ghost use Rattle.ilk_net_read.specs.Fault.{Gives, Reads};
 ghost use Rattle.ilk_net_read.specs.Network as network;
@@ -113,7 +113,8 @@ pub(crate) fn section_of(
     number: u32,
     value: &Value,
 ) -> Result<SectionDraft, FormError>
-    ensures { Gives result (network.section_of number (view value.now)) }
+    ensures exact { Gives result (network.section_of number (view value.now)) }
+    ensures named { IfOk result (λ draft. section.section_has_names draft ≡ true) }
 {
     let place = Place::Section(number);
     let draft = match section(alloc, value) {

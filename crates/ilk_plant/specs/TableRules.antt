@@ -1,6 +1,6 @@
 -- The rules of the table of routes, R1 to R6. A name stands for the first section, board or route that has it:
 -- the rules are over the numbered drafts, where a name that nothing has is the count, and so no number of one.
-use Rattle.std.specs.Prelude.{ℕ, Bool, true, false, not, Option, Some, None, List, [], ◌∷◌, ◌++◌, ◌&&◌, ◌==◌, nat_lt, length, map, take, slice_get, bytes_eq}
+use Rattle.std.specs.Prelude.{ℕ, Bool, true, false, not, Option, Some, None, List, [], ◌∷◌, ◌++◌, ◌&&◌, ◌==◌, ◌≤◌, nat_lt, length, map, take, slice_get, bytes_eq, All}
 use Rattle.std.specs.List.{list_any, list_all}
 use Rattle.ilk_plant.specs.Broken.{broken_at}
 use Rattle.ilk_plant.specs.Draft.{Name, numbered}
@@ -9,8 +9,24 @@ use Rattle.ilk_plant.specs.Plant.{PlantLists}
 use Rattle.ilk_plant.specs.declared.broken.Broken.{Broken}
 use Rattle.ilk_plant.specs.declared.broken.Rule.TheVariants.{R1, R2, R3, R4, R5, R6}
 use Rattle.ilk_plant.specs.declared.draft.NetDraft.{NetDraft}
+use Rattle.ilk_plant.specs.declared.draft.RouteDraft.{RouteDraft}
 use Rattle.ilk_plant.specs.declared.draft.TableDraft.{TableDraft}
 use Rattle.ilk_plant.specs.declared.table.Route.{Route}
+
+-- the limits of a route's lists
+pub record HasRouteLimits (route : RouteDraft) : Type 0 where
+  pub path_begins : 1 ≤ length route.path
+  pub path_ends : length route.path ≤ 32
+  pub overlap_ends : length route.overlap ≤ 8
+  pub points_end : length route.points ≤ 40
+  pub conflicts_end : length route.conflicts ≤ 128
+
+-- the limits of a network and of its table
+pub record HasTableLimits (net : NetDraft) (table : TableDraft) : Type 0 where
+  pub sections_begin : 1 ≤ length net.sections
+  pub sections_end : length net.sections ≤ 128
+  pub routes_end : length table.routes ≤ 128
+  pub each_route : All HasRouteLimits table.routes
 
 -- whether there is one, and it passes the test
 abbrev pub passes : {A : Type 0} → (A → Bool) → Option A → Bool

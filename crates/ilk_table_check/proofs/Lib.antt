@@ -1,2 +1,4 @@
 mod Examples
-pub mod Listing
+pub mod Growth
+pub mod NumberedLists
+pub mod Positions

@@ -1,4 +1,4 @@
-ghost use Rattle.std.specs.Prelude.{◌≡◌, ◌==◌, ◌<◌, IfOk, OnOk, ◌∷◌, [], ◌++◌, if◌then◌else◌, length};
+ghost use Rattle.std.specs.Prelude.{◌≡◌, ◌==◌, ◌<◌, IfOk, OnOk, ◌++◌, length};
 ghost use Rattle.std.specs.List.{list_any};
 ghost use Rattle.ilk_plant.specs.Broken.{broken_at, broken_at_pairs};
 ghost use Rattle.ilk_plant.specs.Network.{has_section};
@@ -6,6 +6,7 @@ ghost use Rattle.ilk_plant.specs.TableRules.{sections_of};
 ghost use Rattle.ilk_plant.specs.ColumnRules.{column_rules_broken, is_open_border, lists, share_section};
 ghost use Rattle.ilk_table_check.specs.Columns.{breaks_alone, breaks_together, pairs_of, places};
 
+use crate::listing::push_if;
 use crate::ways::{overlap_is_way, path_ends_at_board, path_is_way, points_are_set};
 use ilk_plant::{Broken, Plant, Route, Row, Rule, has_section};
 use std::alloc::{AllocError, Global};
@@ -97,16 +98,6 @@ fn breaks_together(plant: &Plant, rule: Rule, i: u32, j: u32) -> bool
         Rule::C6 => i < j && share_section(plant, i, j) && !lists(plant, i, j),
         _ => false,
     }
-}
-
-// Adds an entry to the list where it is broken.
-fn push_if(found: &mut Row<Broken>, is_broken: bool, entry: Broken) -> Result<(), AllocError>
-    ensures { OnOk result (found.new ≡ found.old ++ (if is_broken then entry ∷ [] else [])) }
-{
-    if is_broken {
-        found.push(entry)?;
-    }
-    Ok(())
 }
 
 // Adds the places at which a rule of one place is broken.

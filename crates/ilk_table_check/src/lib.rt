@@ -3,6 +3,12 @@
 #![tactic(auto)]
 
 mod columns;
+mod listing;
+mod names;
+mod numbered;
+mod numbering;
+mod table;
 mod ways;
 
 pub use columns::check_columns;
+pub use table::check_table;

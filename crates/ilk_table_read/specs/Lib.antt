@@ -1,2 +1,3 @@
 pub mod Route
 pub mod Table
+pub mod Example

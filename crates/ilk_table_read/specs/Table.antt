@@ -1,6 +1,6 @@
 -- The form of a configuration, whole: the rules in the order in which they are asked.
-use Rattle.std.specs.Prelude.{ℕ, ◌≤◌, List, length, Result, Ok}
-use Rattle.std.specs.List.{All}
+use Rattle.std.specs.Prelude.{ℕ, ◌≤◌, List, length, Result, Ok, IsTrue}
+use Rattle.std.specs.List.{All, list_all}
 use Rattle.serde_json.specs.Data.{Data}
 use Rattle.ilk_plant.specs.declared.draft.NetDraft.{NetDraft}
 use Rattle.ilk_plant.specs.declared.draft.RouteDraft.{RouteDraft}
@@ -43,7 +43,8 @@ pub record HasLimits (route : RouteDraft) : Type 0 where
   pub points : length route.points ≤ 40
   pub conflicts : length route.conflicts ≤ 128
 
--- there are at most 128 routes, each with lists within their limits
+-- there are at most 128 routes, each with lists within their limits, and each text in them is a name
 pub record IsWithin (table : TableDraft) : Type 0 where
   pub few : length table.routes ≤ 128
   pub each : All HasLimits table.routes
+  pub named : IsTrue (list_all route_has_names table.routes)

@@ -79,6 +79,7 @@ fn is_within_limits(route: &RouteDraft) -> bool
 pub(crate) fn route_of(alloc: Global, number: u32, value: &Value) -> Result<RouteDraft, FormError>
     ensures exact { Gives result (table.route_of number (view value.now)) }
     ensures limits { IfOk result table.HasLimits }
+    ensures named { IfOk result (λ draft. spec.route_has_names draft ≡ true) }
 {
     let place = Place::Route(number);
     let draft = match route(alloc, value) {

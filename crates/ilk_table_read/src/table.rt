@@ -1,10 +1,11 @@
 //! The table of routes.
 
-ghost use Rattle.std.specs.Prelude.{◌≡◌, ◌≤◌, length, IfOk};
-ghost use Rattle.std.specs.List.{All};
+ghost use Rattle.std.specs.Prelude.{◌≡◌, ◌≤◌, length, true, IfOk};
+ghost use Rattle.std.specs.List.{All, list_all};
 ghost use Rattle.serde_json.specs.View.{view, items_view};
 ghost use Rattle.ilk_net_read.specs.Fault.{Gives};
 ghost use Rattle.ilk_net_read.specs.Network.{in_order, HasDocument};
+ghost use Rattle.ilk_table_read.specs.Route.{route_has_names};
 ghost use Rattle.ilk_table_read.specs.Table.{table_of, route_of, HasLimits, IsWithin};
 
 use crate::route::route_of;
@@ -18,6 +19,7 @@ fn routes(alloc: Global, values: &[Value]) -> Result<Row<RouteDraft>, FormError>
     ensures exact { Gives result (in_order route_of 0 (items_view values.now)) }
     ensures count { IfOk result (λ routes. length routes ≡ length values.now) }
     ensures limits { IfOk result (All HasLimits) }
+    ensures named { IfOk result (λ routes. list_all route_has_names routes ≡ true) }
 {
     let mut routes = Row::new(alloc);
     for (i, value) in values.iter().enumerate() {
@@ -32,7 +34,7 @@ fn routes(alloc: Global, values: &[Value]) -> Result<Row<RouteDraft>, FormError>
 pub fn read_table(alloc: Global, value: &Value) -> Result<TableDraft, FormError>
     requires { HasDocument (view value.now) }
     ensures exact { Gives result (table_of (view value.now)) }
-    // at most 128 routes, each with lists within their limits
+    // at most 128 routes, each with lists within their limits, whose texts are names
     ensures limits { IfOk result IsWithin }
 {
     match array_at(value, "routes") {

@@ -8,7 +8,7 @@ use Rattle.ilk_plant.specs.declared.broken.Broken.{Broken}
 use Rattle.ilk_plant.specs.declared.broken.Rule.{Rule}
 use Rattle.ilk_plant.specs.declared.broken.Rule.TheVariants.{N1, N2, N3, N4, N5, N6, N7, N8, R1, R2, R3, R4, R5, R6, C1, C2, C3, C4, C5, C6, C7}
 use Rattle.ilk_top.specs.declared.refusal.Refusal.{Refusal}
-use Rattle.ilk_top.specs.declared.refusal.Refusal.TheVariants.{Form as FormRefusal, Rule as RuleRefusal, NotBuilt}
+use Rattle.ilk_top.specs.declared.refusal.Refusal.TheVariants.{Form as FormRefusal, Rule as RuleRefusal}
 
 abbrev pub form_name : Form → List ℕ
 form_name F1 = codes "F1"
@@ -91,4 +91,3 @@ refused_at rule place = codes "refused " ++ (rule ++ (codes " " ++ (place ++ 10 
 abbrev pub refusal_line : Refusal → List ℕ
 refusal_line (FormRefusal fault) = refused_at (form_name fault.rule) (place_text fault.place)
 refusal_line (RuleRefusal broken) = refused_at (rule_name broken.rule) (broken_places broken)
-refusal_line NotBuilt = refused_at (codes "B1") (codes "document")

@@ -1,16 +1,11 @@
 -- The lines of the reports.
-use Rattle.std.specs.Prelude.{ℕ, ◌<◌, List, [], ◌∷◌, ◌++◌, codes, decimal, length, slice_get, unwrap_or}
+use Rattle.std.specs.Prelude.{ℕ, List, [], ◌∷◌, ◌++◌, codes, decimal, slice_get, unwrap_or}
 use Rattle.ilk_plant.specs.Plant.{PlantLists}
 use Rattle.ilk_model.specs.declared.hazards.HazardAt.{HazardAt}
 use Rattle.ilk_model.specs.declared.hazards.HazardAt.TheVariants.{Two, Wrong}
 
 abbrev pub section_name : PlantLists → ℕ → List ℕ
 section_name p x = unwrap_or (slice_get p.section_names x) []
-
--- the hazard is at a section of the plant
-abbrev pub HasSection : PlantLists → HazardAt → Type 0
-HasSection p (Two x) = x < length p.sections
-HasSection p (Wrong x) = x < length p.sections
 
 abbrev pub hazard_line : PlantLists → HazardAt → List ℕ
 hazard_line p (Two x) = codes "hazard two " ++ section_name p x ++ 10 ∷ []

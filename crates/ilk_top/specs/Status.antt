@@ -29,3 +29,10 @@ is_answer Usage = true
 is_answer ReadFault = false
 is_answer WriteFault = false
 is_answer OutOfMemory = false
+
+-- whether nothing is written before the program ends so
+abbrev pub is_unwritten : Status → Bool
+is_unwritten ReadFault = true
+is_unwritten Usage = true
+is_unwritten OutOfMemory = true
+is_unwritten status = false

@@ -12,8 +12,6 @@ pub enum Refusal {
     Form(FormFault),
     /// A rule of the network or of the table of routes is broken.
     Rule(Broken),
-    /// What the configuration describes is more than is built so far: a plain line without routes.
-    NotBuilt,
 }
 
 // The name of a rule of the form.
@@ -65,14 +63,8 @@ fn places_of(rule: Rule) -> &'static str
 {
     match rule {
         Rule::N2 => "boards",
-        Rule::N1
-        | Rule::N3
-        | Rule::N4
-        | Rule::N5
-        | Rule::N6
-        | Rule::N7
-        | Rule::N8
-        | Rule::C7 => "sections",
+        Rule::N1 | Rule::N3 | Rule::N4 | Rule::N5 | Rule::N6 | Rule::N7 | Rule::N8 | Rule::C7 =>
+            "sections",
         Rule::R1
         | Rule::R2
         | Rule::R3
@@ -136,7 +128,6 @@ pub fn refusal_line(alloc: Global, refusal: Refusal) -> Result<String, AllocErro
     let (rule, place) = match refusal {
         Refusal::Form(fault) => (form_name(fault.rule), place_text(alloc, fault.place)?),
         Refusal::Rule(broken) => (rule_name(broken.rule), broken_text(alloc, broken)?),
-        Refusal::NotBuilt => ("B1", String::from_str(alloc, "document")?),
     };
     let place = place.as_str();
     format!(in alloc; "refused {rule} {place}\n")

@@ -1,22 +1,33 @@
 ghost use Rattle.std.specs.Prelude.{◌≡◌, IfOk, string_bytes};
-ghost use Rattle.ilk_top.specs.Report.{HasSection, hazard_line, not_a_run_line, rejected_line};
+ghost use Rattle.ilk_top.specs.Report.{hazard_line, not_a_run_line, rejected_line, section_name};
 
 use ilk_model::HazardAt;
 use ilk_plant::Plant;
 use std::alloc::{AllocError, Global};
 
+// The name of section `x`; empty where there is no such section.
+fn section_name(plant: &Plant, x: u32) -> &str
+    ensures { result.now ≡ section_name plant.now x }
+{
+    plant.is_sound();
+    if x < plant.sections() {
+        plant.section_name(x)
+    } else {
+        ""
+    }
+}
+
 /// The line that names a hazard.
 pub fn hazard_line(alloc: Global, plant: &Plant, hazard: HazardAt) -> Result<String, AllocError>
-    requires { HasSection plant.now hazard }
     ensures { IfOk result (λ line. string_bytes line ≡ hazard_line plant.now hazard) }
 {
     match hazard {
         HazardAt::Two(x) => {
-            let name = plant.section_name(x);
+            let name = section_name(plant, x);
             format!(in alloc; "hazard two {name}\n")
         }
         HazardAt::Wrong(x) => {
-            let name = plant.section_name(x);
+            let name = section_name(plant, x);
             format!(in alloc; "hazard wrong {name}\n")
         }
     }

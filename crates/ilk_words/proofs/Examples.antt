@@ -1,12 +1,10 @@
 -- What some command lines mean, each computed.
-use Rattle.std.proofs.Common.{◌≡◌, refl, ℕ, List, [], ◌∷◌, Option, Some, None, codes}
+use Rattle.std.proofs.Common.{◌≡◌, refl, [], ◌∷◌, Some, None, codes}
 use Rattle.clap.proofs.OnLiterals.{clap_on_literals}
 use Rattle.ilk_words.specs.declared.command.Columns.TheVariants.{Strict, Free}
-use Rattle.ilk_words.specs.declared.command.Command.{Command}
 use Rattle.ilk_words.specs.declared.command.Command.TheVariants.{Check, Replay}
 use Rattle.ilk_words.specs.Line.{app}
 use Rattle.ilk_words.specs.Words.{command_of}
-
 
 no_word : command_of [] ≡ None
 unfolding clap_on_literals app

@@ -9,3 +9,6 @@ mod read;
 pub use command::{Columns, Command};
 pub use files::{FileNames, names_of};
 pub use read::read_words;
+
+#[cfg(test)]
+mod tests;

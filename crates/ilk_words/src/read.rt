@@ -1,11 +1,11 @@
-ghost use Rattle.std.specs.Prelude.{◌≡◌, IfOk, option_map, string_bytes, map};
+ghost use Rattle.std.specs.Prelude.{◌≡◌, IfOk, map, string_bytes};
 ghost use Rattle.clap.specs.Words.{first_value, found_of};
-ghost use Rattle.ilk_words.specs.Words.{check_of, columns_of, command_of, command_on, replay_of};
+ghost use Rattle.ilk_words.specs.Words.{columns_named, command_of, command_on};
 
 use crate::line::line_command;
 use crate::{Columns, Command};
-use clap::error::ErrorKind;
 use clap::ArgMatches;
+use clap::error::ErrorKind;
 use ilk_plant::Text;
 use std::alloc::{AllocError, Global};
 
@@ -28,42 +28,25 @@ pub fn read_words(alloc: Global, words: &Vec<String>) -> Result<Option<Command>,
 fn chosen(alloc: Global, matches: &ArgMatches<'_>) -> Result<Option<Command>, AllocError>
     ensures { IfOk result (λ c. c ≡ command_on (first_value (found_of matches.now))) }
 {
-    let columns = matches.get_str("columns");
+    let Some(columns) = columns_named(matches.get_str("columns").unwrap_or("strict")) else {
+        return Ok(None);
+    };
     match (matches.get_str("command"), matches.get_str("run")) {
-        (Some("check"), None) => Ok(check(columns)),
-        (Some("replay"), Some(run)) => replay(alloc, columns, run),
+        (Some("check"), None) => Ok(Some(Command::Check { columns })),
+        (Some("replay"), Some(run)) => {
+            let run = Text::of(String::from_str(alloc, run)?);
+            Ok(Some(Command::Replay { columns, run }))
+        }
         _ => Ok(None),
     }
 }
 
-fn check(columns: Option<&str>) -> Option<Command>
-    ensures { result ≡ check_of (option_map (λ text. text.now) columns.entry) }
-{
-    let columns = columns_named(columns)?;
-    Some(Command::Check { columns })
-}
-
-fn replay(
-    alloc: Global,
-    columns: Option<&str>,
-    run: &str,
-) -> Result<Option<Command>, AllocError>
-    ensures { IfOk result (λ c. c ≡ replay_of (option_map (λ text. text.now) columns.entry) run.now) }
-{
-    let Some(columns) = columns_named(columns) else {
-        return Ok(None);
-    };
-    let run = Text::of(String::from_str(alloc, run)?);
-    Ok(Some(Command::Replay { columns, run }))
-}
-
-// What the value of `--columns` names; strict without one.
-fn columns_named(value: Option<&str>) -> Option<Columns>
-    ensures { result ≡ columns_of (option_map (λ text. text.now) value.entry) }
+fn columns_named(value: &str) -> Option<Columns>
+    ensures { result ≡ columns_named value.now }
 {
     match value {
-        None | Some("strict") => Some(Columns::Strict),
-        Some("free") => Some(Columns::Free),
-        Some(_) => None,
+        "strict" => Some(Columns::Strict),
+        "free" => Some(Columns::Free),
+        _ => None,
     }
 }

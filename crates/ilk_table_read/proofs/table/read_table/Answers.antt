@@ -11,4 +11,4 @@ routes-requires c =
 pub returns-clause-limits : goal.returns-clause-limits
 returns-clause-limits c =
     let few : length c.in-Some.values.now ≤ 128 = rw items_len-items_view at (few_routes (view c.args.value.now) (items_view c.in-Some.values.now) c.requires c.in-Some.ensures) in
-    record { few = rw c.in_ok-routes-in-Some.ensures.count few; each = c.in_ok-routes-in-Some.ensures.limits }
+    record { few = rw c.in_ok-routes-in-Some.ensures.count few; each = c.in_ok-routes-in-Some.ensures.limits; named = c.in_ok-routes-in-Some.ensures.named }

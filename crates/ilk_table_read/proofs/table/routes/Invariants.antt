@@ -1,8 +1,9 @@
-use Rattle.std.proofs.Common.{◌≡◌, drop, length}
-use Rattle.std.specs.List.{All}
+use Rattle.std.proofs.Common.{◌≡◌, drop, length, true}
+use Rattle.std.specs.List.{All, list_all}
 use Rattle.serde_json.specs.View.{items_view}
 use Rattle.ilk_net_read.specs.Network.{in_order}
 use Rattle.ilk_net_read.proofs.InOrder.{with_front}
+use Rattle.ilk_table_read.specs.Route.{route_has_names}
 use Rattle.ilk_table_read.specs.Table.{route_of, HasLimits}
 use Rattle.ilk_table_read.proofs.table.routes.Given as goal
 
@@ -11,4 +12,5 @@ invariant-loop-i l = record {
   rest : with_front l.routes (in_order route_of l.i (items_view (drop l.i l.values))) ≡ in_order route_of 0 (items_view l.values);
   count : length l.routes ≡ l.i;
   limits : All HasLimits l.routes;
+  named : list_all route_has_names l.routes ≡ true;
 }
