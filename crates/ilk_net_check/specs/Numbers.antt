@@ -4,7 +4,7 @@ use Rattle.std.specs.List.{list_any, range_with_len}
 use Rattle.ilk_plant.specs.Draft.{Name}
 use Rattle.ilk_plant.specs.Network.{same_direction}
 use Rattle.ilk_plant.specs.NetworkRules.{ends, has_board_to_nowhere, has_no_neighbour, is_some_and, opposite}
-use Rattle.ilk_plant.specs.PlainLine.{all_differ}
+use Rattle.ilk_plant.specs.NetworkRules.{all_differ}
 use Rattle.ilk_plant.specs.declared.broken.Rule.{Rule}
 use Rattle.ilk_plant.specs.declared.broken.Rule.TheVariants.{N1, N2, N3, N4, N5, N6, N7, N8}
 use Rattle.ilk_plant.specs.NetworkRules.{End as NamedEnd}

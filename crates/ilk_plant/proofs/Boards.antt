@@ -13,7 +13,7 @@ use Rattle.ilk_plant.proofs.Numbered.{board_on-known, boards_known, both, is_kno
 use Rattle.ilk_plant.specs.Draft.{Name, NamedBoard, board_named, boards_from, boards_on, names_of_boards, names_of_sections, number_of, numbered, numbered_section}
 use Rattle.ilk_plant.specs.Network.{beside, board_on}
 use Rattle.ilk_plant.specs.NetworkRules.{has_board_at_end}
-use Rattle.ilk_plant.specs.PlainLine.{has_no_board_at_end}
+use Rattle.ilk_plant.specs.NetworkRules.{has_no_board_at_end}
 use Rattle.ilk_plant.specs.Plant.{EachOnce, board_of, next_to}
 use Rattle.ilk_plant.specs.declared.network.Dir.{Dir}
 use Rattle.ilk_plant.specs.declared.network.Dir.TheVariants.{Up, Down}

@@ -13,7 +13,7 @@ use Rattle.ilk_plant.proofs.Tests.{list_any-at, list_any-from, list_any-none, ma
 use Rattle.ilk_plant.specs.Draft.{Name, names_of_boards, names_of_sections, number_of, numbered, numbered_section}
 use Rattle.ilk_plant.specs.Network.{beside, has_section, same_direction}
 use Rattle.ilk_plant.specs.NetworkRules.{End, ends, ends_of, has_no_neighbour, is_some_and, names_another, names_once, names_section, opposite, section_named, stands_alone}
-use Rattle.ilk_plant.specs.PlainLine.{all_differ}
+use Rattle.ilk_plant.specs.NetworkRules.{all_differ}
 use Rattle.ilk_plant.specs.Plant.{first_named, next_to}
 use Rattle.ilk_plant.specs.TableRules.{none_twice}
 use Rattle.ilk_plant.specs.declared.network.Dir.{Dir}

@@ -6,7 +6,6 @@ pub mod Plant
 pub mod State
 pub mod Start
 pub mod Draft
-pub mod PlainLine
 pub mod Broken
 pub mod TableRules
 pub mod ColumnRules

@@ -5,7 +5,6 @@ use Rattle.ilk_plant.specs.Broken.{broken_at}
 use Rattle.ilk_plant.specs.Draft.{Name, names_of_boards, names_of_sections}
 use Rattle.ilk_plant.specs.Network.{same_direction}
 use Rattle.ilk_plant.specs.Plant.{first_named}
-use Rattle.ilk_plant.specs.PlainLine.{all_differ, has_no_board_at_end}
 use Rattle.ilk_plant.specs.declared.broken.Broken.{Broken}
 use Rattle.ilk_plant.specs.declared.broken.Rule.TheVariants.{N1, N2, N3, N4, N5, N6, N7, N8}
 use Rattle.ilk_plant.specs.declared.draft.KindDraft.{KindDraft}
@@ -14,6 +13,16 @@ use Rattle.ilk_plant.specs.declared.draft.NetDraft.{NetDraft}
 use Rattle.ilk_plant.specs.declared.draft.SectionDraft.{SectionDraft}
 use Rattle.ilk_plant.specs.declared.network.Dir.{Dir}
 use Rattle.ilk_plant.specs.declared.network.Dir.TheVariants.{Up, Down}
+
+-- whether no name stands twice
+abbrev pub all_differ : List Name → Bool
+all_differ [] = true
+all_differ (name ∷ rest) = not (list_any (bytes_eq name) rest) && all_differ rest
+
+-- whether a board is missing where its neighbour is
+abbrev pub has_no_board_at_end : Option Name → Option Name → Bool
+has_no_board_at_end None board = is_none board
+has_no_board_at_end (Some neighbour) board = true
 
 -- whether there is a value, and it passes
 abbrev pub is_some_and : {A : Type 0} → Option A → (A → Bool) → Bool

@@ -3,7 +3,7 @@ use Rattle.std.proofs.lemmas.List.FromFn.{length-map-range_with_len}
 use Rattle.ilk_plant.specs.Draft.{names_of_boards}
 use Rattle.ilk_plant.specs.NetworkRules.{network_rules_broken, repeats_name}
 use Rattle.ilk_plant.specs.declared.draft.NetDraft.{NetDraft}
-use Rattle.ilk_plant.proofs.Lines.{few-boards}
+use Rattle.ilk_plant.proofs.Boards.{few-boards}
 use Rattle.ilk_net_check.proofs.Numbered.{rules-joined}
 use Rattle.ilk_net_check.proofs.rules.check_network.Goals as goal
 
