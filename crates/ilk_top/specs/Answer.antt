@@ -17,7 +17,6 @@ use Rattle.ilk_replay.specs.declared.seen.Seen.{Seen}
 use Rattle.ilk_replay.specs.declared.seen.Seen.TheVariants.{NotARun, NoHazard, Hazard}
 use Rattle.ilk_replay.specs.declared.told.Tale.{Tale}
 use Rattle.ilk_replay.specs.declared.told.Tale.TheVariants.{Told as IsTold, Bad}
-use Rattle.ilk_words.specs.Words.{command_of}
 use Rattle.ilk_words.specs.declared.command.Columns.{Columns}
 use Rattle.ilk_words.specs.declared.command.Command.{Command}
 use Rattle.ilk_words.specs.declared.command.Command.TheVariants.{Check, Replay}
@@ -112,23 +111,13 @@ abbrev pub command_answer : Command → List ℕ → List ℕ → Reply
 command_answer (Check columns) conf extra = check_answer columns conf
 command_answer (Replay columns run) conf extra = replay_answer columns conf extra
 
--- what is answered to the words of the command line, and to these bytes
-abbrev pub answer : List (List ℕ) → List ℕ → List ℕ → Reply
-answer words conf extra = of_command (command_of words)
-  where
-    of_command : Option Command → Reply
-    of_command None = reply Usage []
-    of_command (Some command) = command_answer command conf extra
+-- what is answered where the words of the command line give this command, or none
+abbrev pub answer : Option Command → List ℕ → List ℕ → Reply
+answer None conf extra = reply Usage []
+answer (Some command) conf extra = command_answer command conf extra
 
--- whether a command reads more than the configuration: replay does, where that gives a plant
-abbrev pub reads_extra : Command → List ℕ → Bool
-reads_extra (Check columns) conf = false
-reads_extra (Replay columns run) conf = is_ok (plant_of columns conf)
-
--- whether the words and the configuration lead to reading more
-abbrev pub comes_to_extra : List (List ℕ) → List ℕ → Bool
-comes_to_extra words conf = of_command (command_of words)
-  where
-    of_command : Option Command → Bool
-    of_command None = false
-    of_command (Some command) = reads_extra command conf
+-- whether this command, if there is one, reads more than the configuration: replay does, where that gives a plant
+abbrev pub reads_extra : Option Command → List ℕ → Bool
+reads_extra None conf = false
+reads_extra (Some (Check columns)) conf = false
+reads_extra (Some (Replay columns run)) conf = is_ok (plant_of columns conf)

@@ -2,8 +2,8 @@ ghost use Rattle.std.specs.Prelude.{◌≡◌, ◌+◌, ◌≤◌, ◌⊎◌, If
 ghost use Rattle.ilk_io.specs.Faults.{Rose};
 ghost use Rattle.ilk_io.specs.Source.{IsAtEnd, IsLonger, TakesAtMost};
 ghost use Rattle.ilk_table_read.specs.Table.{drafts_of};
-ghost use Rattle.ilk_top.specs.Answer.{broken_lines, check_answer, check_drafts_reply};
-ghost use Rattle.ilk_top.specs.Status.{is_answer};
+ghost use Rattle.ilk_top.specs.Answer.{broken_lines, check_answer, check_drafts_reply, check_reply};
+ghost use Rattle.ilk_top.specs.Status.{is_reply};
 
 use crate::checks::{Checked, check_drafts};
 use crate::drafts::read_drafts;
@@ -28,10 +28,23 @@ fn broken_lines(alloc: Global, found: &Row<Broken>) -> Result<String, AllocError
     Ok(lines)
 }
 
+// The reply that lists these broken rules, or finds none.
+fn found_reply(alloc: Global, found: &Row<Broken>) -> Result<Reply, AllocError>
+    ensures reply { IfOk result (λ made. made ≡ check_reply found.now) }
+    ensures answer { IfOk result (λ made. IsTrue (is_reply made.status)) }
+{
+    if found.as_slice().is_empty() {
+        let line = String::from_str(alloc, "clean\n")?;
+        Ok(Reply::of(Status::Good, line))
+    } else {
+        Ok(Reply::of(Status::Refused, broken_lines(alloc, found)?))
+    }
+}
+
 // The reply to a configuration.
 fn conf_reply(alloc: Global, columns: Columns, conf: &[u8]) -> Result<Reply, AllocError>
     ensures reply { IfOk result (λ made. made ≡ check_drafts_reply columns (drafts_of conf.now)) }
-    ensures answer { IfOk result (λ made. IsTrue (is_answer made.status)) }
+    ensures answer { IfOk result (λ made. IsTrue (is_reply made.status)) }
 {
     let (net, table) = match read_drafts(alloc, conf) {
         Ok(drafts) => drafts,
@@ -39,8 +52,8 @@ fn conf_reply(alloc: Global, columns: Columns, conf: &[u8]) -> Result<Reply, All
         Err(FormError::OutOfMemory) => return Err(AllocError),
     };
     match check_drafts(alloc, columns, &net, &table)? {
-        Checked::Clean(_) => Ok(Reply::of(Status::Good, String::from_str(alloc, "clean\n")?)),
-        Checked::Broken(found) => Ok(Reply::of(Status::Refused, broken_lines(alloc, &found)?)),
+        Checked::Clean(_) => found_reply(alloc, &Row::new(alloc)),
+        Checked::Broken(found) => found_reply(alloc, &found),
     }
 }
 
@@ -52,7 +65,7 @@ pub fn read_and_check<C: Source>(
     conf: &mut C,
 ) -> Result<Reply, NoReply>
     ensures ok { IfOk result (λ made. IfSome (C.left conf.old) (λ c. made ≡ check_answer columns c)) }
-    ensures answer { IfOk result (λ made. IsTrue (is_answer made.status)) }
+    ensures answer { IfOk result (λ made. IsTrue (is_reply made.status)) }
     ensures fault { result ≡ Err NoReply.ReadFault → Rose (C.faults conf.old) (C.faults conf.new) }
     ensures taken { TakesAtMost (4194304 + 1) (C.left conf.old) (C.left conf.new) }
     ensures end { IfOk result (λ _. IsAtEnd (C.left conf.new) ⊎ IsLonger (C.left conf.old) 4194304) }

@@ -20,3 +20,6 @@ pub use refusal::Refusal;
 pub use reply::Reply;
 pub use status::Status;
 pub use stop::{NoReply, Stop};
+
+#[cfg(test)]
+mod tests;

@@ -2,7 +2,7 @@ ghost use Rattle.std.specs.Prelude.{◌≡◌, ◌+◌, ◌≤◌, ◌⊎◌, If
 ghost use Rattle.ilk_io.specs.Faults.{Rose};
 ghost use Rattle.ilk_io.specs.Source.{IsAtEnd, IsLonger, TakesAtMost};
 ghost use Rattle.ilk_top.specs.Answer.{replay_reply, seen_reply, tale_reply};
-ghost use Rattle.ilk_top.specs.Status.{is_answer};
+ghost use Rattle.ilk_top.specs.Status.{is_reply};
 ghost use Rattle.ilk_replay.specs.Told.{tale_of};
 
 use crate::report::{hazard_line, not_a_run_line, rejected_line};
@@ -19,7 +19,7 @@ pub const RUN_LIMIT: u64 = 1048576;
 // The reply to what a replay shows.
 fn seen_reply(alloc: Global, plant: &Plant, seen: Seen) -> Result<Reply, AllocError>
     ensures reply { IfOk result (λ made. made ≡ seen_reply plant.now seen) }
-    ensures answer { IfOk result (λ made. IsTrue (is_answer made.status)) }
+    ensures answer { IfOk result (λ made. IsTrue (is_reply made.status)) }
 {
     match seen {
         Seen::NotARun { at } => Ok(Reply::of(Status::Rejected, not_a_run_line(alloc, at)?)),
@@ -34,7 +34,7 @@ fn seen_reply(alloc: Global, plant: &Plant, seen: Seen) -> Result<Reply, AllocEr
 // The reply to a run text.
 fn text_reply(alloc: Global, plant: &Plant, text: &[u8]) -> Result<Reply, AllocError>
     ensures reply { IfOk result (λ made. made ≡ tale_reply plant.now (tale_of plant.now text.now)) }
-    ensures answer { IfOk result (λ made. IsTrue (is_answer made.status)) }
+    ensures answer { IfOk result (λ made. IsTrue (is_reply made.status)) }
 {
     match read_run(alloc, plant, text)? {
         Tale::Bad { line } => Ok(Reply::of(Status::Rejected, rejected_line(alloc, line)?)),
@@ -49,7 +49,7 @@ fn text_reply(alloc: Global, plant: &Plant, text: &[u8]) -> Result<Reply, AllocE
 /// limit; ReadFault only where the source's count rose.
 pub fn read_reply<D: Source>(alloc: Global, plant: &Plant, extra: &mut D) -> Result<Reply, NoReply>
     ensures ok { IfOk result (λ made. IfSome (D.left extra.old) (λ x. made ≡ replay_reply plant.now x)) }
-    ensures answer { IfOk result (λ made. IsTrue (is_answer made.status)) }
+    ensures answer { IfOk result (λ made. IsTrue (is_reply made.status)) }
     ensures fault { result ≡ Err NoReply.ReadFault → Rose (D.faults extra.old) (D.faults extra.new) }
     ensures taken { TakesAtMost (1048576 + 1) (D.left extra.old) (D.left extra.new) }
     ensures end { IfOk result (λ _. IsAtEnd (D.left extra.new) ⊎ IsLonger (D.left extra.old) 1048576) }

@@ -1,0 +1,77 @@
+//! `irv`: checks a configuration of an interlocking, and replays runs over it.
+#![tactic(auto)]
+
+use ilk_io::{FileSource, StdSink, StdSource, SteadySink, SteadySource};
+use ilk_plant::Text;
+use ilk_top::{Status, names_of, run};
+use std::alloc::{AllocError, Global};
+use std::process::ExitCode;
+use std::{env, io};
+
+// The words of the command line, the program's name first.
+fn words(rt: &HostRuntime) -> Result<Vec<String>, Status> {
+    let words = match env::args(rt) {
+        Ok(words) => words,
+        Err(error) => return Err(status_of(&error)),
+    };
+    words
+        .collect(rt.alloc())
+        .map_err(|_error: AllocError| Status::OutOfMemory)
+}
+
+// How the program ends where its words can't be read: a word that isn't UTF-8 is no right word.
+fn status_of(error: &io::Error) -> Status {
+    match error.kind() {
+        io::ErrorKind::OutOfMemory => Status::OutOfMemory,
+        _ => Status::Usage,
+    }
+}
+
+// Runs over standard input and output, and the file of this name, if there is one.
+fn run_over(rt: &HostRuntime, words: &Vec<String>, extra: Option<Text>) -> Status {
+    let alloc: Global = rt.alloc();
+    let mut conf = StdSource::new(rt.reader());
+    let mut out = StdSink::new(io::writer(rt));
+    let mut cert = SteadySink::new();
+    match extra {
+        Some(name) => {
+            let mut file = FileSource::new(rt, name.into_string());
+            run(alloc, words, &mut conf, &mut file, &mut out, &mut cert)
+        }
+        None => {
+            let mut nothing = SteadySource::new(Vec::new(alloc));
+            run(alloc, words, &mut conf, &mut nothing, &mut out, &mut cert)
+        }
+    }
+}
+
+fn status(rt: &HostRuntime) -> Status {
+    let words = match words(rt) {
+        Ok(words) => words,
+        Err(status) => return status,
+    };
+    match names_of(rt.alloc(), &words) {
+        Ok(Some(names)) => run_over(rt, &words, names.extra),
+        Ok(None) => Status::Usage,
+        Err(_) => Status::OutOfMemory,
+    }
+}
+
+// The line on standard error, for a status that has one.
+fn complaint(status: Status) -> Option<&'static str> {
+    match status {
+        Status::Usage => Some("irv: usage"),
+        Status::ReadFault => Some("irv: read fault"),
+        Status::WriteFault => Some("irv: write fault"),
+        Status::OutOfMemory => Some("irv: out of memory"),
+        _ => None,
+    }
+}
+
+fn main(rt: HostRuntime) -> ExitCode {
+    let status = status(&rt);
+    if let Some(line) = complaint(status) {
+        let _ = rt.eprintln(line);
+    }
+    ExitCode::from(status.code())
+}
