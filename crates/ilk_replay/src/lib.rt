@@ -2,6 +2,7 @@
 #![tactic(auto)]
 
 mod event_line;
+mod examples;
 mod lines;
 mod names;
 mod reading;
