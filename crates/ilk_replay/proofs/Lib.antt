@@ -1,4 +1,5 @@
 pub mod Leading
 pub mod Named
+pub mod Numbers
 pub mod Parts
 pub mod Runs

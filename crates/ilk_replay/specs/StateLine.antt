@@ -1,7 +1,7 @@
 -- The lines of a state: each names what it is about, and says how that is.
 use Rattle.std.specs.Prelude.{ℕ, Bool, true, ◌==◌, ◌&&◌, ◌||◌, Option, Some, None, List, [], ◌∷◌, codes, bytes_eq, filter, length, nat_le, not, slice_get, slice_index, if◌then◌else◌}
-use Rattle.std.specs.List.{range_with_len}
-use Rattle.std.specs.Str.{all_ascii_digits}
+use Rattle.std.specs.List.{list_all, range_with_len}
+use Rattle.std.specs.Char.{is_ascii_digit}
 use Rattle.std.specs.Str.Parse.{digits_value}
 use Rattle.ilk_plant.specs.Option.{◌>>=◌, only_if}
 use Rattle.ilk_plant.specs.Network.{has_section, is_point}
@@ -26,7 +26,7 @@ use Rattle.ilk_replay.specs.Lines.{Bytes, after_word, first_word, words_of}
 
 -- whether a word is a number in decimal: one digit or more, and the first isn't 0 unless it is alone
 abbrev pub is_number : Bytes → Bool
-is_number word = all_ascii_digits word && not (length word == 0) && (length word == 1 || not (slice_index word 0 == 48))
+is_number word = list_all is_ascii_digit word && not (length word == 0) && (length word == 1 || not (slice_index word 0 == 48))
 
 -- the number that a word writes in decimal, where it is at most the limit
 abbrev pub number_to : ℕ → Bytes → Option ℕ

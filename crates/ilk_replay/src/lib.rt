@@ -7,6 +7,8 @@ mod lines;
 mod names;
 mod reading;
 mod seen;
+mod state_line;
+mod state_words;
 mod told;
 
 pub use reading::read_run;
