@@ -1,3 +1,4 @@
+pub mod Bodies
 pub mod Leading
 pub mod Named
 pub mod Numbers

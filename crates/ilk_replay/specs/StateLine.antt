@@ -1,6 +1,6 @@
 -- The lines of a state: each names what it is about, and says how that is.
-use Rattle.std.specs.Prelude.{ℕ, Bool, true, ◌==◌, ◌&&◌, ◌||◌, Option, Some, None, List, [], ◌∷◌, codes, bytes_eq, filter, length, nat_le, not, slice_get, slice_index, if◌then◌else◌}
-use Rattle.std.specs.List.{list_all, range_with_len}
+use Rattle.std.specs.Prelude.{ℕ, Bool, false, ◌==◌, ◌&&◌, ◌||◌, Option, Some, None, List, [], ◌∷◌, codes, bytes_eq, drop, zip, length, nat_le, not, slice_get, slice_index, if◌then◌else◌}
+use Rattle.std.specs.List.{list_all}
 use Rattle.std.specs.Char.{is_ascii_digit}
 use Rattle.std.specs.Str.Parse.{digits_value}
 use Rattle.ilk_plant.specs.Option.{◌>>=◌, only_if}
@@ -130,16 +130,25 @@ sections_named p (name ∷ more) = do
 
 -- whether each section but the first is next to the one before, in direction d
 abbrev pub leads_on : PlantLists → Dir → List ℕ → Bool
-leads_on p d [] = true
-leads_on p d (x ∷ []) = true
-leads_on p d (x ∷ y ∷ rest) = has_section y (next_to p x d) && leads_on p d (y ∷ rest)
+leads_on p d body = list_all (λ pair. has_section pair.1 (next_to p pair.0 d)) (zip body (drop 1 body))
+
+-- whether an entry of a list is section y
+abbrev pub is_entry : Option ℕ → ℕ → Bool
+is_entry None y = false
+is_entry (Some x) y = x == y
+
+-- a train's direction and the names of its sections: what stands after `train`
+abbrev pub train_said : Bytes → Option (Dir × Bytes)
+train_said line = do
+  rest ← after_word (codes "train") line
+  words ← first_word rest
+  dir ← direction_of words.0
+  Some (dir, words.1)
 
 -- the train that a line tells: `train`, its direction, and the names of its sections from tail to
 -- head, each next to the one before
 abbrev pub train_told : PlantLists → Bytes → Option Train
 train_told p line = do
-  rest ← after_word (codes "train") line
-  words ← first_word rest
-  dir ← direction_of words.0
-  body ← sections_named p (words_of words.1)
-  only_if (leads_on p dir body) (record { dir = dir; body = body })
+  said ← train_said line
+  body ← sections_named p (words_of said.1)
+  only_if (leads_on p said.0 body) (record { dir = said.0; body = body })

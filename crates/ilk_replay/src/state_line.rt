@@ -1,5 +1,9 @@
 ghost use Rattle.std.specs.Prelude.{◌≡◌, ◌<◌, ◌≤◌, ◌^◌, IfOk, IfSome, length, option_map};
-ghost use Rattle.ilk_replay.specs.StateLine.{board_told, leads_on, lock_told, point_said, point_told, route_said, route_told, said_of, sections_named, train_told};
+ghost use Rattle.ilk_replay.specs.StateLine.{board_told, leads_on, lock_told, point_said, point_told, route_said, route_told, said_of, sections_named, train_said, train_told};
+ghost use Rattle.ilk_plant.specs.Network.{has_section};
+ghost use Rattle.ilk_plant.specs.Plant.{next_to};
+ghost use Rattle.ilk_replay.specs.Lines.{words_of};
+ghost use Rattle.ilk_replay.specs.StateLine.{is_entry};
 
 use crate::lines::{after_word, cut, first_word};
 use crate::names::section_named;
@@ -74,4 +78,80 @@ pub(crate) fn lock_told(plant: &Plant, x: u32, line: &[u8]) -> Option<Hold>
 {
     let text = said_of(b"section", plant.section_name(x).as_bytes(), line)?;
     hold_of(text)
+}
+
+#[tactic(auto, using(crate::proofs::Bodies::taken_name, crate::proofs::Bodies::unknown_name))]
+// The numbers of the sections with these names. None where one has no section.
+fn sections_named(alloc: Global, plant: &Plant, names: &[u8]) -> Result<Option<Row<u32>>, AllocError>
+    ensures { IfOk result (λ body. body ≡ sections_named plant.now (words_of names.now)) }
+{
+    let mut body = Row::new(alloc);
+    let mut rest = Some(names);
+    while let Some(text) = rest {
+        let (name, more) = cut(text, b' ');
+        let Some(x) = section_named(plant, name) else {
+            return Ok(None);
+        };
+        body.push(x)?;
+        rest = more;
+    }
+    Ok(Some(body))
+}
+
+// Whether the entry is this section.
+fn is_entry(entry: Option<u32>, y: u32) -> bool
+    ensures { result ≡ is_entry entry y }
+{
+    match entry {
+        Some(x) => x == y,
+        None => false,
+    }
+}
+
+#[tactic(auto, using(crate::proofs::Bodies::two_entries))]
+// Whether section `y` is next to section `x` on side `d`.
+fn is_next(plant: &Plant, x: u32, d: Dir, y: u32) -> bool
+    ensures { result ≡ has_section y (next_to plant.now x d) }
+{
+    if x >= plant.sections() {
+        return false;
+    }
+    is_entry(plant.neighbour(x, d, 0), y) || is_entry(plant.neighbour(x, d, 1), y)
+}
+
+// Whether each section but the first is next to the one before, in direction `d`.
+fn leads_on(plant: &Plant, d: Dir, body: &Row<u32>) -> bool
+    ensures { result ≡ leads_on plant.now d body.now }
+{
+    let sections = body.as_slice();
+    sections
+        .iter()
+        .zip(sections.iter().skip(1))
+        .all(|(x, y)| is_next(plant, *x, d, *y))
+}
+
+// A train's direction and the names of its sections.
+fn train_said(line: &[u8]) -> Option<(Dir, &[u8])>
+    ensures { option_map (λ said. (said.0, said.1.now)) result ≡ train_said line.now }
+{
+    let rest = after_word(line, b"train")?;
+    let (dir, names) = first_word(rest)?;
+    Some((direction_of(dir)?, names))
+}
+
+/// The train that a line tells. None where it is no train's line.
+pub(crate) fn train_told(alloc: Global, plant: &Plant, line: &[u8]) -> Result<Option<Train>, AllocError>
+    ensures { IfOk result (λ train. train ≡ train_told plant.now line.now) }
+{
+    let Some((dir, names)) = train_said(line) else {
+        return Ok(None);
+    };
+    let Some(body) = sections_named(alloc, plant, names)? else {
+        return Ok(None);
+    };
+    if leads_on(plant, dir, &body) {
+        Ok(Some(Train { dir, body }))
+    } else {
+        Ok(None)
+    }
 }
