@@ -1,4 +1,5 @@
 pub mod Bodies
+pub mod Each
 pub mod Leading
 pub mod Named
 pub mod Numbers

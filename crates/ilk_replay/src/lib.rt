@@ -1,6 +1,7 @@
 //! Run texts, and what is seen where a run is replayed.
 #![tactic(auto)]
 
+mod cursor;
 mod event_line;
 mod examples;
 mod lines;
@@ -8,6 +9,7 @@ mod names;
 mod reading;
 mod seen;
 mod state_line;
+mod state_reading;
 mod state_words;
 mod told;
 
