@@ -1,6 +1,5 @@
 -- Bodies of trains, read from the front.
-use Rattle.std.proofs.Common.{◌≡◌, ℕ, ◌==◌, Bool, true, false, ◌||◌, Option, Some, None, List, [], ◌∷◌, ◌++◌, slice_get, cond, refl, if◌then◌else◌, sym, ap, ◌∙◌, append_assoc, length, ◌+◌, arith}
-use Rattle.std.specs.Option.{option_map_or}
+use Rattle.std.proofs.Common.{◌≡◌, ℕ, ◌==◌, Bool, true, false, ◌||◌, Option, Some, None, List, [], ◌∷◌, ◌++◌, slice_get, refl, if◌then◌else◌, sym, ap, ◌∙◌, append_assoc}
 use Rattle.ilk_plant.specs.Option.{◌>>=◌}
 use Rattle.ilk_plant.specs.Network.{beside, has_section, same_direction}
 use Rattle.ilk_plant.specs.Plant.{PlantLists, first_named, next_to}
@@ -8,7 +7,6 @@ use Rattle.ilk_plant.specs.declared.network.Dir.{Dir}
 use Rattle.ilk_plant.specs.declared.network.Dir.TheVariants.{Up, Down}
 use Rattle.ilk_plant.specs.declared.network.Section.{Section}
 use Rattle.ilk_plant.specs.declared.network.Section.TheVariants.{Linear, Point}
-use Rattle.ilk_replay.specs.Lines.{words_of}
 use Rattle.ilk_replay.specs.StateLine.{is_entry, sections_named}
 
 -- those taken before those to come, if these are known

@@ -1,10 +1,9 @@
 -- Lines that are told in order, one for each item.
-use Rattle.std.proofs.Common.{◌≡◌, ◌≢◌, ℕ, ◌+◌, ◌-◌, ◌<◌, ◌≤◌, Bool, true, false, ◌==◌, Option, Some, None, option_map, Result, Ok, Err, List, [], ◌∷◌, ◌++◌, length, drop, filter, zip, cond, refl, sym, ap, ◌∙◌, arith, suc, zero, append_assoc, add-one, if◌then◌else◌}
+use Rattle.std.proofs.Common.{◌≡◌, ℕ, ◌+◌, ◌-◌, ◌<◌, ◌≤◌, Bool, true, false, ◌==◌, Option, Some, None, option_map, Result, Ok, Err, List, [], ◌∷◌, ◌++◌, length, drop, filter, zip, refl, sym, ap, ◌∙◌, arith, suc, append_assoc, if◌then◌else◌}
 use Rattle.std.specs.List.{range_with_len}
 use Rattle.std.proofs.lemmas.Bool.Decides.{nat_tests}
 use Rattle.std.proofs.lemmas.Grind.{common_steps}
 use Rattle.std.proofs.lemmas.List.{drop-drop, length_push}
-use Rattle.std.proofs.lemmas.List.FromFn.{length-range_with_len}
 use Rattle.ilk_replay.specs.Lines.{Bytes, leading, onto}
 use Rattle.ilk_replay.specs.StateTold.{Part, each_told, one_told}
 
@@ -34,21 +33,21 @@ at_next {A = A} value items n lines taken new x left following number next (line
     by_value : (o : Option A) → value x line ≡ o → option_map {U = A × List Bytes} (λ w. (w, after)) o ≡ Some (v, more) → IsAt value items n lines new following next more
     by_value None this that = cc
     by_value (Some w) this that =
-      let pair : (w, after) ≡ (v, more) = some_is that in
-      let same : w ≡ v = ap (λ q. q.0) pair in
-      let rests : after ≡ more = ap (λ q. q.1) pair in
-      let long : length new ≡ length taken + 1 = ap length f ∙ length_push taken v in
-      record {
-        values_are = at.values_are ∙ ap (λ xs. taken ++ values_left value xs (line ∷ after)) e ∙ ap (λ o. taken ++ onto o (values_left value following after)) this
-          ∙ ap (λ u. taken ++ u ∷ values_left value following after) same ∙ ap (λ ls. taken ++ v ∷ values_left value following ls) rests
-          ∙ sym (append_assoc taken (v ∷ []) (values_left value following more)) ∙ ap (λ xs. xs ++ values_left value following more) (sym f);
-        counts_are = let c = at.counts_are in let d : length left ≡ length following + 1 = ap length e ∙ omega arith in omega arith;
-        lines_are = sym rests ∙ ap (drop 1) at.lines_are ∙ drop-drop 1 (length taken) lines ∙ ap (λ k. drop k lines) (sym long);
-        number_is = let c = at.number_is in omega arith;
-      }
+        let pair : (w, after) ≡ (v, more) = some_is that in
+        let same : w ≡ v = ap (λ q. q.0) pair in
+        let rests : after ≡ more = ap (λ q. q.1) pair in
+        let long : length new ≡ length taken + 1 = ap length f ∙ length_push taken v in
+        record {
+          values_are = at.values_are ∙ ap (λ xs. taken ++ values_left value xs (line ∷ after)) e ∙ ap (λ o. taken ++ onto o (values_left value following after)) this
+              ∙ ap (λ u. taken ++ u ∷ values_left value following after) same ∙ ap (λ ls. taken ++ v ∷ values_left value following ls) rests
+              ∙ sym (append_assoc taken (v ∷ []) (values_left value following more)) ∙ ap (λ xs. xs ++ values_left value following more) (sym f);
+          counts_are = let c = at.counts_are in let d : length left ≡ length following + 1 = ap length e ∙ omega arith in omega arith;
+          lines_are = sym rests ∙ ap (drop 1) at.lines_are ∙ drop-drop 1 (length taken) lines ∙ ap (λ k. drop k lines) (sym long);
+          number_is = let c = at.number_is in omega arith;
+        }
 
 -- what is told where these are the values
-abbrev told_with : {A : Type 0} → List ℕ → ℕ → List Bytes → List A → Result (Part A) ℕ
+abbrev pub told_with : {A : Type 0} → List ℕ → ℕ → List Bytes → List A → Result (Part A) ℕ
 told_with items n lines values = if length values == length items then Ok (record { values = values; number = n + length items; lines = drop (length items) lines }) else Err (n + length values)
 
 append_nothing : {A : Type 0} (xs : List A) → xs ++ [] ≡ xs

@@ -30,7 +30,8 @@ parts-some c xs i e = by_place (nat_lt (position_or_len (λ b. b == c) xs) (leng
         slice_split_first (λ b. b == c) xs 0 (ltb-true _ _ within) ∙ ap (λ n. take n xs ∷ parts_at c (drop (n + 1) xs)) same
     by_place false within here = cc
 
-parts_follow : (c : ℕ) (xs : List ℕ) → (part : List ℕ) × (parts : List (List ℕ)) × (parts_at c xs ≡ part ∷ parts)
+-- a text has a first part
+pub parts_follow : (c : ℕ) (xs : List ℕ) → (part : List ℕ) × (parts : List (List ℕ)) × (parts_at c xs ≡ part ∷ parts)
 parts_follow c [] = ([], [], refl)
 parts_follow c (x ∷ xs) = follow (x == c) c x xs (parts_follow c xs)
   where

@@ -5,7 +5,6 @@ use Rattle.ilk_plant.specs.Network.{is_point}
 use Rattle.ilk_plant.specs.Plant.{PlantLists}
 use Rattle.ilk_plant.specs.declared.network.Section.{Section}
 use Rattle.ilk_plant.specs.declared.state.State.{State}
-use Rattle.ilk_plant.specs.declared.state.Train.{Train}
 use Rattle.ilk_replay.specs.Result.{◌>>=◌}
 use Rattle.ilk_replay.specs.Lines.{Bytes, leading}
 use Rattle.ilk_replay.specs.StateLine.{board_told, lock_told, point_told, route_told, train_told}

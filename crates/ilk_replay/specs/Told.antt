@@ -1,12 +1,11 @@
 -- What a run text tells, and its first bad line. A line is bad where it isn't one that may stand
 -- at its place; a line that is missing, or that no line feed ends, is bad at its number.
-use Rattle.std.specs.Prelude.{ℕ, ◌+◌, Bool, true, Result, Ok, Err, List, [], ◌∷◌, codes, bytes_eq, drop, length, if◌then◌else◌}
+use Rattle.std.specs.Prelude.{ℕ, ◌+◌, true, Result, Ok, Err, List, [], ◌∷◌, codes, bytes_eq, if◌then◌else◌}
 use Rattle.ilk_plant.specs.Plant.{PlantLists}
 use Rattle.ilk_plant.specs.Start.{start}
-use Rattle.ilk_plant.specs.declared.state.State.{State}
 use Rattle.ilk_model.specs.declared.event.Event.{Event}
 use Rattle.ilk_replay.specs.Result.{◌>>=◌}
-use Rattle.ilk_replay.specs.Lines.{Bytes, after_lines, leading, lines_of}
+use Rattle.ilk_replay.specs.Lines.{Bytes, after_lines, lines_of}
 use Rattle.ilk_replay.specs.EventLine.{event_of}
 use Rattle.ilk_replay.specs.StateTold.{Beginning, after_line, leading_part, state_told}
 use Rattle.ilk_replay.specs.declared.told.Tale.{Tale}

@@ -6,7 +6,7 @@ ghost use Rattle.ilk_replay.specs.Reading.{BeginsWith, Tells, TellsShape};
 ghost use Rattle.ilk_replay.specs.Told.{beginning_told, events_told, tale_of, told};
 
 use crate::cursor::{Fault, Lines};
-
+use crate::state_reading::read_state;
 use crate::{Tale, Told};
 use ilk_model::Event;
 use ilk_plant::{Plant, Row, State, start_state};
@@ -48,8 +48,8 @@ fn read_beginning(alloc: Global, plant: &Plant, lines: &mut Lines) -> Result<(St
         let first = start_state(alloc, plant)?;
         return Ok((first, true));
     }
-    if false {
-        let first = start_state(alloc, plant)?;
+    if line == b"state".as_slice() {
+        let first = read_state(alloc, plant, lines)?;
         return Ok((first, false));
     }
     Err(Fault::BadLine(2))

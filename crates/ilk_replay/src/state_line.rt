@@ -82,7 +82,11 @@ pub(crate) fn lock_told(plant: &Plant, x: u32, line: &[u8]) -> Option<Hold>
 
 #[tactic(auto, using(crate::proofs::Bodies::taken_name, crate::proofs::Bodies::unknown_name))]
 // The numbers of the sections with these names. None where one has no section.
-fn sections_named(alloc: Global, plant: &Plant, names: &[u8]) -> Result<Option<Row<u32>>, AllocError>
+fn sections_named(
+    alloc: Global,
+    plant: &Plant,
+    names: &[u8],
+) -> Result<Option<Row<u32>>, AllocError>
     ensures { IfOk result (λ body. body ≡ sections_named plant.now (words_of names.now)) }
 {
     let mut body = Row::new(alloc);
@@ -140,7 +144,11 @@ fn train_said(line: &[u8]) -> Option<(Dir, &[u8])>
 }
 
 /// The train that a line tells. None where it is no train's line.
-pub(crate) fn train_told(alloc: Global, plant: &Plant, line: &[u8]) -> Result<Option<Train>, AllocError>
+pub(crate) fn train_told(
+    alloc: Global,
+    plant: &Plant,
+    line: &[u8],
+) -> Result<Option<Train>, AllocError>
     ensures { IfOk result (λ train. train ≡ train_told plant.now line.now) }
 {
     let Some((dir, names)) = train_said(line) else {

@@ -150,7 +150,7 @@ fn read_points(alloc: Global, plant: &Plant, lines: &mut Lines) -> Result<Row<Po
 // The train that the next line tells. Where it is no train's line, it isn't read.
 fn next_train(alloc: Global, plant: &Plant, lines: &mut Lines) -> Result<Option<Train>, AllocError>
     ensures train { IfOk result (λ found. leading (train_told plant.now) (lines_of lines.old.rest.now)
-        ≡ onto found (leading (train_told plant.now) (lines_of lines.new.rest.now)) ) }
+        ≡ onto found (leading (train_told plant.now) (lines_of lines.new.rest.now))) }
     ensures lines { IfOk result (λ found. IsSome found → lines_of lines.new.rest.now ≡ drop 1 (lines_of lines.old.rest.now)) }
     ensures number { IfOk result (λ found. IsSome found → lines.new.number ≡ lines.old.number + 1) }
     ensures shorter { IfOk result (λ found. IsSome found → length lines.new.rest.now < length lines.old.rest.now) }
@@ -188,7 +188,9 @@ pub(crate) fn read_state(alloc: Global, plant: &Plant, lines: &mut Lines) -> Res
     requires { lines.old.number ≡ 3 }
     ensures told { StateWith (state_told plant.now (lines_of lines.old.rest.now)) lines.new.number (lines_of lines.new.rest.now) result }
     ensures after { OnOk result (after_lines lines.new.rest.now ≡ after_lines lines.old.rest.now) }
+    ensures shape { IfOk result (HasShape plant.now) }
 {
+    plant.is_sound();
     let routes = read_routes(alloc, plant, lines)?;
     let points = read_points(alloc, plant, lines)?;
     let boards = read_boards(alloc, plant, lines)?;

@@ -1,5 +1,4 @@
-use Rattle.std.proofs.Common.{◌+◌, ◌-◌, ◌≡◌, length, sym, drop, take, arith, ℕ, List}
-use Rattle.std.proofs.lemmas.List.{take_all, length-drop}
+use Rattle.std.proofs.Common.{◌+◌, sym}
 use Rattle.ilk_replay.proofs.Parts.{parts-none, parts-some, take_rest}
 use Rattle.ilk_replay.proofs.lines.cut.Goals as goal
 
