@@ -6,3 +6,4 @@ pub mod StateTold
 pub mod Told
 pub mod Reading
 pub mod Seen
+pub mod Examples
