@@ -1,5 +1,5 @@
 -- Counts of faults over calls that follow one another.
-use Rattle.std.proofs.Common.{◌≡◌, ℕ, ◌+◌, ◌^◌, ◌<◌, ◌≤◌, ◌⊎◌, inl, inr, arith}
+use Rattle.std.proofs.Common.{ℕ, ◌≤◌, inl, inr, arith}
 use Rattle.ilk_io.specs.Faults.{Rose}
 
 -- a count that rose in a later call rose in both together

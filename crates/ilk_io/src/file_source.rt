@@ -1,4 +1,7 @@
-ghost use Rattle.std.specs.Prelude.{◌≡◌, ◌≤◌, ℕ, None, length, IfOk};
+ghost use Rattle.std.specs.Prelude.{◌≡◌, ◌≤◌, ℕ, None, length, IfOk, IfSome, IsSome, OnOk, OnErr, is_ok, if◌then◌else◌};
+ghost use Rattle.std.specs.Io.KnownBytes.{ReadConsumes};
+ghost use Rattle.ilk_io.specs.Faults.{Rose};
+ghost use Rattle.ilk_io.specs.Plan.{one_more};
 
 use crate::plan::one_more;
 use crate::retry::read_once;
@@ -21,7 +24,9 @@ pub struct FileSource<'a, R: Files> {
 impl<'a, R: Files> FileSource<'a, R> {
     /// A source over the file of this name, which isn't opened yet.
     pub fn new(rt: &'a R, name: String) -> Self
-        ensures { result.faults ≡ 0 }
+        ensures name { result.name ≡ name }
+        ensures closed { result.file ≡ None }
+        ensures faults { result.faults ≡ 0 }
     {
         FileSource {
             rt,
@@ -35,6 +40,10 @@ impl<'a, R: Files> FileSource<'a, R> {
     fn read_open(&mut self, into: &mut [u8]) -> Result<usize, Failed>
         ensures within { IfOk result (λ n. n ≤ length into.new) }
         ensures faults { self.new.faults ≡ self.old.faults }
+        ensures opened { OnOk result (IsSome self.new.file) }
+        // Once the file is open, each read gives what the file has left.
+        ensures bytes { IfSome self.old.file (λ old. IfSome self.new.file (λ new.
+            ReadConsumes (R.File.remaining old) (R.File.remaining new) result into.new)) }
     {
         if self.file.is_none() {
             self.file = File::open(self.rt, self.name.as_str()).ok();
@@ -51,7 +60,16 @@ impl<R: Files> Source for FileSource<'_, R> {
 
     ghost faults = { λ s. s.faults };
 
-    fn read(&mut self, into: &mut [u8]) -> Result<usize, Failed> {
+    fn read(&mut self, into: &mut [u8]) -> Result<usize, Failed>
+        ensures within { IfOk result (λ n. n ≤ length into.new) }
+        ensures failed { OnErr result (Rose self.old.faults self.new.faults) }
+        ensures faults { self.new.faults ≡ (if is_ok result then self.old.faults else one_more self.old.faults) }
+        ensures counted { self.old.faults ≤ self.new.faults }
+        ensures opened { OnOk result (IsSome self.new.file) }
+        // Once the file is open, each read gives what the file has left.
+        ensures bytes { IfSome self.old.file (λ old. IfSome self.new.file (λ new.
+            ReadConsumes (R.File.remaining old) (R.File.remaining new) result into.new)) }
+    {
         let answer = self.read_open(into);
         if answer.is_err() {
             self.faults = one_more(self.faults);

@@ -1,4 +1,7 @@
-ghost use Rattle.std.specs.Prelude.{◌≡◌, ℕ, None};
+ghost use Rattle.std.specs.Prelude.{◌≡◌, ℕ, ◌<◌, ◌≤◌, None, length, IfOk, OnErr, is_ok, if◌then◌else◌};
+ghost use Rattle.std.specs.Io.KnownBytes.{ReadConsumes, WriteAppends};
+ghost use Rattle.ilk_io.specs.Faults.{Rose};
+ghost use Rattle.ilk_io.specs.Plan.{one_more};
 
 use crate::plan::one_more;
 use crate::retry::{read_once, write_once};
@@ -29,7 +32,13 @@ impl<R: Read> Source for StdSource<R> {
 
     ghost faults = { λ s. s.faults };
 
-    fn read(&mut self, into: &mut [u8]) -> Result<usize, Failed> {
+    fn read(&mut self, into: &mut [u8]) -> Result<usize, Failed>
+        ensures within { IfOk result (λ n. n ≤ length into.new) }
+        ensures failed { OnErr result (Rose self.old.faults self.new.faults) }
+        ensures faults { self.new.faults ≡ (if is_ok result then self.old.faults else one_more self.old.faults) }
+        ensures counted { self.old.faults ≤ self.new.faults }
+        ensures bytes { ReadConsumes (R.remaining self.old.reader) (R.remaining self.new.reader) result into.new }
+    {
         let answer = read_once(&mut self.reader, into);
         if answer.is_err() {
             self.faults = one_more(self.faults);
@@ -62,7 +71,14 @@ impl<W: Write> Sink for StdSink<W> {
 
     ghost faults = { λ s. s.faults };
 
-    fn write(&mut self, piece: &[u8]) -> Result<usize, Failed> {
+    fn write(&mut self, piece: &[u8]) -> Result<usize, Failed>
+        ensures within { IfOk result (λ n. n ≤ length piece.now) }
+        ensures some { IfOk result (λ n. 0 < length piece.now → 0 < n) }
+        ensures failed { OnErr result (Rose self.old.faults self.new.faults) }
+        ensures faults { self.new.faults ≡ (if is_ok result then self.old.faults else one_more self.old.faults) }
+        ensures counted { self.old.faults ≤ self.new.faults }
+        ensures bytes { WriteAppends (W.contents self.old.writer) (W.contents self.new.writer) result piece.now }
+    {
         let answer = write_once(&mut self.writer, piece);
         if answer.is_err() {
             self.faults = one_more(self.faults);

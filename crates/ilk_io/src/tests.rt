@@ -5,18 +5,19 @@ use crate::{
     FileSource, MemSink, MemSource, ReadError, StdSink, StdSource, SteadySink, SteadySource,
     read_all, write_all,
 };
-use std::alloc::Global;
-use std::fs;
+use std::alloc::{AllocError, Global};
+use std::rt::Files;
 use std::test::Fail;
+use std::{fs, io};
 
 const BYTES: [u8; 5] = *b"plant";
 
 // The five bytes are read with a limit, from a source whose first call fails or doesn't.
-fn read_five(
+fn read_memory(
     alloc: Global,
     limit: u64,
     first_fails: bool,
-) -> Result<Result<Vec<u8>, ReadError>, Fail>
+) -> Result<Result<Vec<u8>, ReadError>, AllocError>
     requires { limit < 2 ^ 40 }
 {
     let mut fails = Vec::new(alloc);
@@ -27,56 +28,80 @@ fn read_five(
     Ok(read_all(alloc, &mut source, limit))
 }
 
+fn refusal(alloc: Global, limit: u64, first_fails: bool) -> Result<Option<ReadError>, AllocError>
+    requires { limit < 2 ^ 40 }
+{
+    Ok(read_memory(alloc, limit, first_fails)?.err())
+}
+
+fn read_steady(alloc: Global) -> Result<Vec<u8>, ReadError> {
+    let bytes = Vec::from_slice(alloc, &BYTES).map_err(|_| ReadError::OutOfMemory)?;
+    read_all(alloc, &mut SteadySource::new(bytes), 5)
+}
+
+fn read_stream(alloc: Global) -> Result<Vec<u8>, ReadError> {
+    read_all(alloc, &mut StdSource::new(BYTES.as_slice()), 5)
+}
+
+fn read_file<R: Files>(
+    alloc: Global,
+    rt: &R,
+    name: &str,
+) -> Result<Result<Vec<u8>, ReadError>, AllocError> {
+    let mut source = FileSource::new(rt, String::from_str(alloc, name)?);
+    Ok(read_all(alloc, &mut source, 5))
+}
+
+fn write_memory(alloc: Global) -> Result<Vec<u8>, Fail> {
+    let mut sink = MemSink::new(alloc, 5, Vec::new(alloc))?;
+    write_all(&mut sink, &BYTES)?;
+    Ok(Vec::from_slice(alloc, sink.bytes())?)
+}
+
+fn write_stream(alloc: Global) -> Result<Vec<u8>, Fail> {
+    let mut written = Vec::new(alloc);
+    write_all(&mut StdSink::new(&mut written), &BYTES)?;
+    Ok(written)
+}
+
+fn write_steady() -> Result<u64, Fail> {
+    let mut sink = SteadySink::new();
+    write_all(&mut sink, &BYTES)?;
+    Ok(sink.count())
+}
+
 #[test]
 fn reads_up_to_the_limit(rt: HostRuntime) -> Result<(), Fail> {
     let alloc = rt.alloc();
-    let refusals = [(4, false, ReadError::TooLong), (5, true, ReadError::Failed)];
-    for (limit, first_fails, want) in refusals {
-        let got = read_five(alloc, limit, first_fails)?;
-        assert_eq!(rt; got.err(), Some(want));
-    }
-    let whole = read_five(alloc, 5, false)??;
-    assert_eq!(rt; whole.as_slice(), BYTES.as_slice());
+    assert_eq!(rt; refusal(alloc, 4, false)?, Some(ReadError::TooLong));
+    assert_eq!(rt; refusal(alloc, 5, true)?, Some(ReadError::Failed));
+    assert_eq!(rt; read_memory(alloc, 5, false)??.as_slice(), BYTES.as_slice());
     Ok(())
 }
 
 #[test]
-fn reads_and_writes_by_each_type(rt: HostRuntime) -> Result<(), Fail> {
+fn each_type_passes_the_bytes_on(rt: HostRuntime) -> Result<(), Fail> {
     let alloc = rt.alloc();
-    let mut sink = MemSink::new(alloc, 5, Vec::new(alloc))?;
-    let mut steady = SteadySource::new(Vec::from_slice(alloc, &BYTES)?);
-    let text = read_all(alloc, &mut steady, 5)?;
-    write_all(&mut sink, &text)?;
-    assert_eq!(rt; sink.bytes(), BYTES.as_slice());
-
-    let mut count = SteadySink::new();
-    write_all(&mut count, &text)?;
-    assert_eq!(rt; count.count(), 5);
-
-    let mut reader = StdSource::new(text.as_slice());
-    let again = read_all(alloc, &mut reader, 5)?;
-    assert_eq!(rt; again.as_slice(), BYTES.as_slice());
-
-    let mut kept = Vec::new(alloc);
-    let mut writer = StdSink::new(&mut kept);
-    write_all(&mut writer, &text)?;
-    assert_eq!(rt; kept.as_slice(), BYTES.as_slice());
+    assert_eq!(rt; read_steady(alloc)?.as_slice(), BYTES.as_slice());
+    assert_eq!(rt; read_stream(alloc)?.as_slice(), BYTES.as_slice());
+    assert_eq!(rt; write_memory(alloc)?.as_slice(), BYTES.as_slice());
+    assert_eq!(rt; write_stream(alloc)?.as_slice(), BYTES.as_slice());
+    assert_eq!(rt; write_steady()?, 5);
     Ok(())
+}
+
+fn make_file<R: Files>(rt: &R, name: &str) -> io::Result<()> {
+    fs::write(rt, name, "plant")
 }
 
 #[test]
 fn reads_a_file(rt: HostRuntime) -> Result<(), Fail> {
-    let alloc = rt.alloc();
-    fs::write(&rt, "ilk_io_test", "plant")?;
-    let mut file = FileSource::new(&rt, String::from_str(alloc, "ilk_io_test")?);
-    let text = read_all(alloc, &mut file, 5)?;
-    assert_eq!(rt; text.as_slice(), BYTES.as_slice());
-    fs::remove_file(&rt, "ilk_io_test")?;
-
-    let mut missing = FileSource::new(&rt, String::from_str(alloc, "ilk_io_test")?);
-    assert_eq!(rt;
-        read_all(alloc, &mut missing, 5).err(),
-        Some(ReadError::Failed)
-    );
+    let name = "ilk_io_test";
+    make_file(&rt, name)?;
+    let there = read_file(rt.alloc(), &rt, name)?;
+    fs::remove_file(&rt, name)?;
+    assert_eq!(rt; there?.as_slice(), BYTES.as_slice());
+    let gone = read_file(rt.alloc(), &rt, name)?;
+    assert_eq!(rt; gone.err(), Some(ReadError::Failed));
     Ok(())
 }

@@ -57,7 +57,8 @@ abbrev pub after_enter : PlantLists → State → ℕ → Option State
 after_enter p s x = do
   inward ← border p x
   lock ← slice_get s.locks x
-  only_if (not (is_occupied s x) && is_free lock) (record s { trains = s.trains ++ train_on x inward ∷ [] })
+  only_if (not (is_occupied s x) && is_free lock)
+      (record s { trains = s.trains ++ train_on x inward ∷ [] })
 
 -- head x: the first train with its head at x; x has no board in its direction or that board is
 -- open; what lies ahead of x joins the body as its head; the board, if any, is closed
@@ -66,7 +67,8 @@ after_head p s x = do
   i ← position (has_head x) s.trains
   train ← slice_get s.trains i
   y ← ahead p s x train.dir
-  only_if (may_pass s (board_of p x train.dir)) (with_board_closed (board_of p x train.dir) (with_train i (with_new_head y train) s))
+  only_if (may_pass s (board_of p x train.dir))
+      (with_board_closed (board_of p x train.dir) (with_train i (with_new_head y train) s))
 
 -- tail x: the first train of two or more sections with its tail at x; its first section leaves
 -- the body
@@ -84,4 +86,5 @@ after_leave p s x = do
   section ← slice_get p.sections x
   i ← position (stands_on x) s.trains
   train ← slice_get s.trains i
-  only_if (not (has_neighbour section train.dir)) (record s { trains = remove s.trains i })
+  only_if (not (has_neighbour section train.dir))
+      (record s { trains = remove s.trains i })

@@ -1,5 +1,6 @@
 ghost use Rattle.std.specs.Prelude.{◌≡◌, ◌<◌, IfOk, IfSome, OnOk, OnErr, is_some, length, unwrap_or};
 ghost use Rattle.ilk_plant.specs.State.{HasShape};
+ghost use Rattle.ilk_motion.specs.Body.{without_tail};
 ghost use Rattle.ilk_motion.specs.Trains.{after_enter, after_head, after_leave, after_tail, with_board_closed, may_pass};
 
 use crate::ahead;
@@ -73,6 +74,14 @@ fn move_head(plant: &Plant, s: &mut State, x: u32) -> Result<bool, AllocError>
     Ok(true)
 }
 
+// Takes the first section out of the train's body.
+fn leave_first(train: &mut Train)
+    requires { 0 < length train.old.body }
+    ensures { train.new ≡ without_tail train.old }
+{
+    train.body.remove(0);
+}
+
 // The first train of two or more sections with its tail at `x` leaves it.
 fn move_tail(plant: &Plant, s: &mut State, x: u32) -> bool
     ensures answer { result ≡ is_some (after_tail plant.now s.old x) }
@@ -84,7 +93,7 @@ fn move_tail(plant: &Plant, s: &mut State, x: u32) -> bool
     let Some(i) = with_tail(&s.trains, x) else {
         return false;
     };
-    s.trains.at_mut(i as u64).body.remove(0);
+    leave_first(s.trains.at_mut(i as u64));
     true
 }
 
@@ -108,8 +117,8 @@ fn leave(plant: &Plant, s: &mut State, x: u32) -> bool
 }
 
 /// A train enters at section `x`, in its inward direction, and joins the list of trains at its end.
-/// True exactly where `x` is a border, vacant and with lock Free; else false, and nothing changes.
-/// Where memory is wanting nothing changes.
+/// True exactly where `x` is a border, vacant and with lock Free; else false, also where `x` is no
+/// section, and nothing changes. Where memory is wanting nothing changes.
 pub fn step_enter(alloc: Global, plant: &Plant, s: &mut State, x: u32) -> Result<bool, AllocError>
     requires { HasShape plant.now s.old }
     ensures answer { IfOk result (λ b. b ≡ is_some (after_enter plant.now s.old x)) }
@@ -122,8 +131,8 @@ pub fn step_enter(alloc: Global, plant: &Plant, s: &mut State, x: u32) -> Result
 
 /// The first train with its head at section `x` moves its head to the section ahead, and closes
 /// the board that it passes. True exactly where there is such a train, a section lies ahead of it,
-/// and `x` has no board in its direction or that board is open; else false, and nothing changes.
-/// Where memory is wanting nothing changes.
+/// and `x` has no board in its direction or that board is open; else false, also where `x` is no
+/// section, and nothing changes. Where memory is wanting nothing changes.
 pub fn step_head(_alloc: Global, plant: &Plant, s: &mut State, x: u32) -> Result<bool, AllocError>
     requires { HasShape plant.now s.old }
     ensures answer { IfOk result (λ b. b ≡ is_some (after_head plant.now s.old x)) }
@@ -135,7 +144,7 @@ pub fn step_head(_alloc: Global, plant: &Plant, s: &mut State, x: u32) -> Result
 }
 
 /// The first train of two or more sections with its tail at section `x` leaves `x`. True exactly
-/// where there is such a train; else false, and nothing changes.
+/// where there is such a train; else false, also where `x` is no section, and nothing changes.
 pub fn step_tail(plant: &Plant, s: &mut State, x: u32) -> bool
     requires { HasShape plant.now s.old }
     ensures answer { result ≡ is_some (after_tail plant.now s.old x) }
@@ -148,7 +157,7 @@ pub fn step_tail(plant: &Plant, s: &mut State, x: u32) -> bool
 
 /// The first train that stands on section `x` alone leaves the network, and the others keep their
 /// order. True exactly where there is such a train and `x` has no neighbour in its direction; else
-/// false, and nothing changes.
+/// false, also where `x` is no section, and nothing changes.
 pub fn step_leave(plant: &Plant, s: &mut State, x: u32) -> bool
     requires { HasShape plant.now s.old }
     ensures answer { result ≡ is_some (after_leave plant.now s.old x) }

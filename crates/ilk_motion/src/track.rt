@@ -1,6 +1,5 @@
 ghost use Rattle.std.specs.Prelude.{◌≡◌};
-ghost use Rattle.ilk_plant.specs.State.{lie_of};
-ghost use Rattle.ilk_motion.specs.Ahead.{ahead, leg_at};
+ghost use Rattle.ilk_motion.specs.Ahead.{ahead};
 
 use ilk_plant::{Dir, Lie, Plant, Section, State};
 

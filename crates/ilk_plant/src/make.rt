@@ -1,6 +1,8 @@
-ghost use Rattle.std.specs.Prelude.{◌≡◌, IfOk, IsTrue};
+ghost use Rattle.std.specs.Prelude.{◌≡◌, [], IfOk};
 ghost use Rattle.ilk_plant.specs.Draft.{numbered};
-ghost use Rattle.ilk_plant.specs.PlainLine.{is_plain_line};
+ghost use Rattle.ilk_plant.specs.Limits.{HasLimits};
+ghost use Rattle.ilk_plant.specs.NetworkRules.{network_rules_broken};
+ghost use Rattle.ilk_plant.specs.TableRules.{table_rules_broken};
 
 use crate::numbering::{
     named_boards, numbered_routes, numbered_sections, route_names, section_names,
@@ -9,10 +11,12 @@ use crate::{NetDraft, Plant, TableDraft};
 use std::alloc::{AllocError, Global};
 
 impl Plant {
-    /// The plant of a network and a table of routes, with numbers for names. The network is a
-    /// plain line and the table has no route.
+    /// The plant of a network and a table of routes, with numbers for names. Both are within the
+    /// limits, and break no rule of the network or of the table.
     pub fn make(alloc: Global, net: &NetDraft, table: &TableDraft) -> Result<Plant, AllocError>
-        requires { IsTrue (is_plain_line net.now table.now) }
+        requires limits { HasLimits net.now table.now }
+        requires network { network_rules_broken net.now ≡ [] }
+        requires routes { table_rules_broken net.now table.now ≡ [] }
         ensures { IfOk result (λ plant. plant ≡ numbered net.now table.now) }
     {
         let section_names = section_names(alloc, &net.sections)?;

@@ -1,5 +1,6 @@
 ghost use Rattle.std.specs.Prelude.{◌≡◌, ◌<◌, ◌≤◌, length, slice_get, Some, IfSome, count_by, take};
 ghost use Rattle.ilk_plant.specs.Network.{is_point};
+ghost use Rattle.ilk_plant.specs.Sound.{IsOfDrafts, IsSound, NeverReturns};
 ghost use Rattle.ilk_plant.specs.Plant.{IsPlant, IsRouteOf, board_of, border, first_named, next_to, point_count, point_number};
 
 use crate::{Board, Dir, Route, Row, Section, Text};
@@ -21,7 +22,8 @@ pub struct Plant {
 }
 
 impl Model for Plant {
-    ghost use Rattle.ilk_plant.specs.Plant.{PlantLists, IsPlant};
+    ghost use Rattle.ilk_plant.specs.Plant.{PlantLists};
+    ghost use Rattle.ilk_plant.specs.Sound.{IsSound};
 
     ghost Value = { PlantLists };
 
@@ -34,7 +36,7 @@ impl Model for Plant {
       route_names = p.route_names;
     } };
 
-    ghost invariant = { λ p. IsPlant (record {
+    ghost invariant = { λ p. IsSound (record {
       sections = p.sections;
       boards = p.boards;
       routes = p.routes;
@@ -76,7 +78,7 @@ impl Plant {
         board_names: Row<Text>,
         route_names: Row<Text>,
     ) -> Plant
-        requires { IsPlant (record {
+        requires { IsSound (record {
           sections = sections;
           boards = boards;
           routes = routes;
@@ -103,9 +105,18 @@ impl Plant {
         }
     }
 
-    /// What holds of every plant. It does nothing, and tells a proof.
+    /// What holds of the numbers of every plant. It does nothing, and tells a proof.
     pub fn is_sound(&self)
         ensures { IsPlant self.now }
+    {
+        let _ = &self.sections;
+    }
+
+    /// Where every plant comes from, which are drafts within the limits that break no rule; and
+    /// that no walk in one direction comes to a section twice. It does nothing, and tells a proof.
+    pub fn is_of_drafts(&self)
+        ensures drafts { IsOfDrafts self.now }
+        ensures walks { NeverReturns self.now }
     {
         let _ = &self.sections;
     }

@@ -1,5 +1,5 @@
 -- No event of a route or a point breaks the shape.
-use Rattle.std.proofs.Common.{◌≡◌, ℕ, Bool, true, false, Option, Some, None, List, [], ◌∷◌, length, slice_get, set, subst, sym, ◌∙◌, ap, refl, inl, inr, if◌then◌else◌, length-set, arith}
+use Rattle.std.proofs.Common.{◌≡◌, ℕ, Bool, true, false, Some, None, List, length, slice_get, set, subst, sym, ◌∙◌, ap, refl, inl, inr, if◌then◌else◌, length-set, arith}
 use Rattle.std.proofs.lemmas.Option.{option_and_then_some, cond_some, same_Some, slice_get_within}
 use Rattle.std.specs.List.{last_or}
 use Rattle.ilk_plant.proofs.Rows.{slice_get_set}
@@ -11,31 +11,11 @@ use Rattle.ilk_plant.specs.declared.state.Hold.{Hold}
 use Rattle.ilk_plant.specs.declared.state.PointState.{PointState}
 use Rattle.ilk_plant.specs.declared.state.RouteState.{RouteState}
 use Rattle.ilk_plant.specs.declared.state.State.{State}
-use Rattle.ilk_plant.specs.declared.table.Listed.{Listed}
 use Rattle.ilk_plant.specs.declared.table.Route.{Route}
-use Rattle.ilk_routes.specs.Lies.{with_command, with_commands}
-use Rattle.ilk_routes.specs.Locks.{with_locks}
+use Rattle.ilk_routes.proofs.Commands.{length-with_commands}
+use Rattle.ilk_routes.proofs.Locks.{length-with_locks}
 use Rattle.ilk_routes.specs.Points.{after_settle, after_throw}
 use Rattle.ilk_routes.specs.Routes.{after_allocate, after_finish, after_lock, after_mark, after_release, after_sense}
-
-length-with_locks : (locks : List Hold) (xs : List ℕ) (hold : Hold) → length (with_locks locks xs hold) ≡ length locks
-length-with_locks locks [] hold = refl
-length-with_locks locks (x ∷ xs) hold = length-with_locks (set locks x hold) xs hold ∙ length-set locks x hold
-
-length-with_command : (p : PlantLists) (points : List PointState) (l : Listed) → length (with_command p points l) ≡ length points
-length-with_command p points l = by_number (point_number p l.point) refl
-  where
-    by_point : (n : ℕ) (o : Option PointState) → point_number p l.point ≡ Some n → slice_get points n ≡ o → length (with_command p points l) ≡ length points
-    by_point n None e f = rw (e, f)
-    by_point n (Some q) e f = rw (e, f) (length-set points n _)
-
-    by_number : (o : Option ℕ) → point_number p l.point ≡ o → length (with_command p points l) ≡ length points
-    by_number None e = rw e
-    by_number (Some n) e = by_point n (slice_get points n) e refl
-
-length-with_commands : (p : PlantLists) (points : List PointState) (ls : List Listed) → length (with_commands p points ls) ≡ length points
-length-with_commands p points [] = refl
-length-with_commands p points (l ∷ ls) = length-with_commands p (with_command p points l) ls ∙ length-with_command p points l
 
 length-close_if : (b : Bool) (boards : List Aspect) (m : ℕ) → length (if b then set boards m Closed else boards) ≡ length boards
 length-close_if true boards m = length-set boards m Closed

@@ -1,3 +1,4 @@
+pub mod Numbered
 pub mod Modes
 pub mod Locks
 pub mod Lies

@@ -1,6 +1,7 @@
 -- Where points lie, and where they are commanded.
-use Rattle.std.specs.Prelude.{Bool, true, false, Option, Some, None, List, [], ◌∷◌, slice_get, set, unwrap_or}
-use Rattle.ilk_plant.specs.Option.{◌>>=◌}
+use Rattle.std.specs.Prelude.{ℕ, Bool, true, false, Option, Some, None, List, [], ◌∷◌, ◌==◌, unwrap_or}
+use Rattle.std.specs.Option.{option_or}
+use Rattle.ilk_plant.specs.Option.{only_if}
 use Rattle.ilk_plant.specs.Plant.{PlantLists, point_number}
 use Rattle.ilk_plant.specs.State.{lie_of}
 use Rattle.ilk_plant.specs.declared.network.Position.{Position}
@@ -10,6 +11,7 @@ use Rattle.ilk_plant.specs.declared.state.Lie.TheVariants.{Plus as LiesPlus, Min
 use Rattle.ilk_plant.specs.declared.state.PointState.{PointState}
 use Rattle.ilk_plant.specs.declared.state.State.{State}
 use Rattle.ilk_plant.specs.declared.table.Listed.{Listed}
+use Rattle.ilk_routes.specs.Numbered.{map_numbered}
 
 -- whether a point that lies so moves
 abbrev pub is_moving : Lie → Bool
@@ -36,17 +38,20 @@ lies_as_listed p s listed = of (lie_of p s listed.point)
     of None = false
     of (Some lie) = lies_at lie listed.at
 
--- the points, once a listed one is commanded to its listed position
-abbrev pub with_command : PlantLists → List PointState → Listed → List PointState
-with_command p points listed = unwrap_or commanding points
+-- whether an entry lists the point with number n
+abbrev pub lists_point : PlantLists → ℕ → Listed → Bool
+lists_point p n listed = of (point_number p listed.point)
   where
-    commanding : Option (List PointState)
-    commanding = do
-      n ← point_number p listed.point
-      point ← slice_get points n
-      Some (set points n (record point { to = listed.at }))
+    of : Option ℕ → Bool
+    of None = false
+    of (Some m) = m == n
 
--- the points, once each listed one is commanded to its listed position
+-- the position at which these entries list the point with number n; if several do, the last of them counts
+abbrev pub listed_position : PlantLists → ℕ → List Listed → Option Position
+listed_position p n [] = None
+listed_position p n (listed ∷ rest) = option_or (listed_position p n rest) (only_if (lists_point p n listed) listed.at)
+
+-- the points, where each listed one is commanded to its listed position and all else is as it was
 abbrev pub with_commands : PlantLists → List PointState → List Listed → List PointState
-with_commands p points [] = points
-with_commands p points (listed ∷ rest) = with_commands p (with_command p points listed) rest
+with_commands p points entries =
+    map_numbered (λ n point. record point { to = unwrap_or (listed_position p n entries) point.to }) points

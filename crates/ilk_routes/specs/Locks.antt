@@ -1,9 +1,11 @@
 -- The locks of sections.
-use Rattle.std.specs.Prelude.{ℕ, Bool, true, false, Option, Some, None, List, [], ◌∷◌, ◌&&◌, slice_get, set, not}
+use Rattle.std.specs.Prelude.{ℕ, Bool, true, false, Option, Some, None, List, ◌&&◌, if◌then◌else◌, slice_get, not}
+use Rattle.ilk_plant.specs.Network.{has_section}
 use Rattle.ilk_plant.specs.State.{is_occupied}
 use Rattle.ilk_plant.specs.declared.state.Hold.{Hold}
 use Rattle.ilk_plant.specs.declared.state.Hold.TheVariants.{Free, Locked, Used}
 use Rattle.ilk_plant.specs.declared.state.State.{State}
+use Rattle.ilk_routes.specs.Numbered.{map_numbered}
 
 -- whether two locks are one
 abbrev pub same_hold : Hold → Hold → Bool
@@ -24,7 +26,6 @@ has_lock s x hold = of (slice_get s.locks x)
 abbrev pub is_clear : State → ℕ → Bool
 is_clear s x = has_lock s x Free && not (is_occupied s x)
 
--- the locks, once each of these sections has this one
+-- the locks, where each of these sections has this one and all else is as it was
 abbrev pub with_locks : List Hold → List ℕ → Hold → List Hold
-with_locks locks [] hold = locks
-with_locks locks (x ∷ rest) hold = with_locks (set locks x hold) rest hold
+with_locks locks sections hold = map_numbered (λ x lock. if has_section x sections then hold else lock) locks

@@ -1,4 +1,4 @@
-ghost use Rattle.std.specs.Prelude.{◌≡◌, ◌<◌, All, length};
+ghost use Rattle.std.specs.Prelude.{◌≡◌, ◌<◌, [], ◌∷◌, All, length};
 ghost use Rattle.ilk_plant.specs.Plant.{point_count};
 ghost use Rattle.ilk_routes.specs.Lies.{with_commands};
 ghost use Rattle.ilk_routes.specs.Locks.{with_locks};
@@ -16,6 +16,18 @@ pub fn give_locks(locks: &mut Row<Hold>, sections: &Row<u32>, hold: Hold)
     }
 }
 
+// Commands a listed point to its listed position.
+fn command_point(plant: &Plant, points: &mut Row<PointState>, listed: &Listed)
+    requires known { listed.now.point < length plant.now.sections }
+    requires points { length points.old ≡ point_count plant.now }
+    ensures long { length points.new ≡ length points.old }
+    ensures points { points.new ≡ with_commands plant.now points.old (listed.now ∷ []) }
+{
+    if let Some(n) = plant.point_number(listed.point) {
+        points.at_mut(n as u64).to = listed.at;
+    }
+}
+
 /// Commands each of the listed points to its listed position.
 pub fn command(plant: &Plant, points: &mut Row<PointState>, listed_points: &Row<Listed>)
     requires known { All (λ listed. listed.point < length plant.now.sections) listed_points.now }
@@ -23,8 +35,6 @@ pub fn command(plant: &Plant, points: &mut Row<PointState>, listed_points: &Row<
     ensures { points.new ≡ with_commands plant.now points.old listed_points.now }
 {
     for listed in listed_points.as_slice() {
-        if let Some(n) = plant.point_number(listed.point) {
-            points.at_mut(n as u64).to = listed.at;
-        }
+        command_point(plant, points, listed);
     }
 }

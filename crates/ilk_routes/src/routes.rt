@@ -194,7 +194,7 @@ pub fn step_sense(plant: &Plant, s: &mut State, r: u32) -> bool
     sense(plant, s, r)
 }
 
-/// Gives back the next path section of route `r` behind a train: the section's lock becomes Free, and
+/// Releases the next path section of route `r` behind a train: the section's lock becomes Free, and
 /// `rel` grows by 1.
 ///
 /// True exactly where that is enabled: `r` is a route, and Occupied, `rel + 2` is at most `seen`, and

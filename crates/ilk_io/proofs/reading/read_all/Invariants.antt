@@ -1,4 +1,4 @@
-use Rattle.std.proofs.Common.{◌≡◌, ℕ, ◌+◌, ◌-◌, ◌<◌, ◌≤◌, vec_len, length}
+use Rattle.std.proofs.Common.{◌+◌, ◌-◌, ◌≤◌, vec_len}
 use Rattle.ilk_io.specs.Source.{Takes}
 use Rattle.ilk_io.proofs.reading.read_all.Given as goal
 

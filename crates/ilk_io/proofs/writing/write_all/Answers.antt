@@ -1,4 +1,4 @@
-use Rattle.std.proofs.Common.{arith, ◌≡◌, [], length}
+use Rattle.std.proofs.Common.{arith, ◌≡◌, length}
 use Rattle.ilk_io.proofs.Added.{Written-prefix, Written-more, Written-empty}
 use Rattle.ilk_io.proofs.writing.write_all.Goals as goal
 

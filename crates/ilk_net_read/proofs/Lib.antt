@@ -1,0 +1,5 @@
+pub mod Values
+pub mod InOrder
+pub mod EachAs
+pub mod Limits
+pub mod Documents

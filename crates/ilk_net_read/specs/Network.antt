@@ -1,0 +1,56 @@
+-- The form of a configuration, as far as its network: the rules in the order in which they are asked.
+use Rattle.std.specs.Prelude.{ℕ, ◌+◌, ◌≤◌, List, [], ◌∷◌, length, None, Result, Ok, IsOk, IsTrue, if◌then◌else◌}
+use Rattle.std.specs.List.{list_all}
+use Rattle.std.specs.Str.{is_utf8}
+use Rattle.serde_json.specs.Data.{Data, Items, no_items, item}
+use Rattle.serde_json.specs.Read.{read}
+use Rattle.ilk_plant.specs.declared.draft.NetDraft.{NetDraft}
+use Rattle.ilk_plant.specs.declared.draft.SectionDraft.{SectionDraft}
+use Rattle.ilk_net_read.specs.declared.fault.Form.TheVariants.{F2, F3, F4, F5, F6}
+use Rattle.ilk_net_read.specs.declared.fault.FormFault.{FormFault}
+use Rattle.ilk_net_read.specs.declared.fault.Place.TheVariants.{Document, Section}
+use Rattle.ilk_net_read.specs.Document.{Parts, as_document, has_version, is_within_limits}
+use Rattle.ilk_net_read.specs.Fault.{◌>>=◌, broken, checked, or_fault}
+use Rattle.ilk_net_read.specs.Section.{as_section, section_has_names}
+
+-- the value that a text is: F2 where the bytes aren't the UTF-8 of a JSON text
+abbrev pub value_of : List ℕ → Result Data FormFault
+value_of bytes = or_fault (broken F2 Document) (if is_utf8 bytes then read bytes else None)
+
+-- the document: F3 where the value isn't one, then F4, the version, then F6, how many sections and routes
+abbrev pub document_of : Data → Result Parts FormFault
+document_of d = do
+  found ← or_fault (broken F3 Document) (as_document d)
+  document ← checked has_version (broken F4 Document) found
+  checked is_within_limits (broken F6 Document) document
+
+-- section i: F3 where the value isn't one, then F5, its names
+abbrev pub section_of : ℕ → Data → Result SectionDraft FormFault
+section_of i d = do
+  section ← or_fault (broken F3 (Section i)) (as_section d)
+  checked section_has_names (broken F5 (Section i)) section
+
+-- the entries of an array, numbered from i, up to the first that is refused
+abbrev pub in_order : {A : Type 0} → (ℕ → Data → Result A FormFault) → ℕ → Items → Result (List A) FormFault
+in_order one i no_items = Ok []
+in_order one i (item d ds) = do
+  first ← one i d
+  rest ← in_order one (i + 1) ds
+  Ok (first ∷ rest)
+
+-- the network: the document, then the sections in order
+abbrev pub network_of : Data → Result NetDraft FormFault
+network_of d = do
+  document ← document_of d
+  sections ← in_order section_of 0 document.sections
+  Ok (record { sections = sections })
+
+-- the document's part of the form is right
+abbrev pub HasDocument : Data → Type 0
+HasDocument d = IsOk (document_of d)
+
+-- there are 1 to 128 sections, and each text in them is a name
+pub record IsWithin (net : NetDraft) : Type 0 where
+  pub some : 1 ≤ length net.sections
+  pub few : length net.sections ≤ 128
+  pub named : IsTrue (list_all section_has_names net.sections)

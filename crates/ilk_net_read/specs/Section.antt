@@ -1,0 +1,58 @@
+-- A section: its kind, its neighbours and its boards.
+use Rattle.std.specs.Prelude.{Bool, Option, Some, None, ◌&&◌, bytes_eq, codes, if◌then◌else◌}
+use Rattle.serde_json.specs.Data.{Data}
+use Rattle.ilk_plant.specs.Draft.{Name}
+use Rattle.ilk_plant.specs.Option.{◌>>=◌, only_if}
+use Rattle.ilk_plant.specs.declared.draft.KindDraft.{KindDraft}
+use Rattle.ilk_plant.specs.declared.draft.KindDraft.TheVariants.{Linear, Point}
+use Rattle.ilk_plant.specs.declared.draft.SectionDraft.{SectionDraft}
+use Rattle.ilk_plant.specs.declared.network.Dir.{Dir}
+use Rattle.ilk_plant.specs.declared.network.Dir.TheVariants.{Up, Down}
+use Rattle.ilk_net_read.specs.Member.{has_members, text_at, optional_text_at}
+use Rattle.ilk_net_read.specs.Name.{is_name, is_name_if_given}
+
+-- the direction that a text names: `up` or `down`
+abbrev pub direction_named : Name → Option Dir
+direction_named text = if bytes_eq text (codes "up") then Some Up else (if bytes_eq text (codes "down") then Some Down else None)
+
+-- the direction in which a point faces
+abbrev pub faces_of : Data → Option Dir
+faces_of d = text_at (codes "faces") d >>= direction_named
+
+-- a value as a linear section: an object of exactly a name, the kind, the neighbours down and up and
+-- the boards for the directions down and up, each of which may be missing
+abbrev pub as_linear : Data → Option SectionDraft
+as_linear d = do
+  name ← text_at (codes "name") d
+  down ← optional_text_at (codes "down") d
+  up ← optional_text_at (codes "up") d
+  board_down ← optional_text_at (codes "board_down") d
+  board_up ← optional_text_at (codes "board_up") d
+  only_if (has_members 6 d) (record { name = name; kind = Linear down up board_down board_up })
+
+-- a value as a point: an object of exactly a name, the kind, the neighbours at stem, plus and minus,
+-- and the direction in which it faces
+abbrev pub as_point : Data → Option SectionDraft
+as_point d = do
+  name ← text_at (codes "name") d
+  stem ← text_at (codes "stem") d
+  plus ← text_at (codes "plus") d
+  minus ← text_at (codes "minus") d
+  faces ← faces_of d
+  only_if (has_members 6 d) (record { name = name; kind = Point stem plus minus faces })
+
+-- a value as a section of the kind that it names: `linear` or `point`
+abbrev pub as_section : Data → Option SectionDraft
+as_section d = do
+  kind ← text_at (codes "kind") d
+  if bytes_eq kind (codes "linear") then as_linear d else (if bytes_eq kind (codes "point") then as_point d else None)
+
+-- whether the texts of neighbours and boards are names
+abbrev pub kind_has_names : KindDraft → Bool
+kind_has_names (Linear down up board_down board_up) =
+    is_name_if_given down && is_name_if_given up && is_name_if_given board_down && is_name_if_given board_up
+kind_has_names (Point stem plus minus faces) = is_name stem && is_name plus && is_name minus
+
+-- whether each text of a section, but for those of `kind` and `faces`, is a name
+abbrev pub section_has_names : SectionDraft → Bool
+section_has_names section = is_name section.name && kind_has_names section.kind

@@ -1,0 +1,70 @@
+//! The document: its version, and the arrays of its sections and its routes.
+
+ghost use Rattle.std.specs.Prelude.{◌≡◌, ◌&&◌, nat_le, option_map, true, IfOk};
+ghost use Rattle.serde_json.specs.View.{view};
+ghost use Rattle.ilk_net_read.specs.Document as parts;
+ghost use Rattle.ilk_net_read.specs.Fault.{GivesBy};
+ghost use Rattle.ilk_net_read.specs.Name as name;
+ghost use Rattle.ilk_net_read.specs.Network as network;
+ghost use Rattle.ilk_net_read.specs.Seen.{seen, HasLimits};
+
+use crate::fault::broken;
+use crate::member::{array_at, has_members, whole_number_at};
+use crate::name::lies_within;
+use crate::{Form, FormError, Place};
+use serde_json::Value;
+
+/// The members of a document.
+#[derive(Drop)]
+pub(crate) struct Document<'v> {
+    pub(crate) version: u64,
+    pub(crate) sections: &'v [Value],
+    pub(crate) routes: &'v [Value],
+}
+
+fn members(value: &Value) -> Option<Document<'_>>
+    ensures { option_map seen result ≡ parts.as_document (view value.now) }
+{
+    let version = whole_number_at(value, "version")?;
+    let sections = array_at(value, "sections")?;
+    let routes = array_at(value, "routes")?;
+    if !has_members(value, 3) {
+        return None;
+    }
+    Some(Document {
+        version,
+        sections,
+        routes,
+    })
+}
+
+fn are_within_limits(sections: usize, routes: usize) -> bool
+    ensures { result ≡ (name.lies_within 1 128 sections && nat_le routes 128) }
+{
+    lies_within(1, 128, sections) && routes <= 128
+}
+
+fn is_within_limits(document: &Document<'_>) -> bool
+    ensures exact { result ≡ parts.is_within_limits (seen document.now) }
+    ensures limits { result ≡ true → HasLimits (seen document.now) }
+{
+    are_within_limits(document.sections.len(), document.routes.len())
+}
+
+/// The document: rule F3 is broken where the value isn't one, then F4 where its version isn't 1,
+/// and then F6 where it hasn't 1 to 128 sections or has more than 128 routes.
+pub(crate) fn document_of(value: &Value) -> Result<Document<'_>, FormError>
+    ensures exact { GivesBy seen result (network.document_of (view value.now)) }
+    ensures limits { IfOk result (λ document. HasLimits (seen document)) }
+{
+    let Some(document) = members(value) else {
+        return Err(broken(Form::F3, Place::Document));
+    };
+    if document.version != 1 {
+        return Err(broken(Form::F4, Place::Document));
+    }
+    if !is_within_limits(&document) {
+        return Err(broken(Form::F6, Place::Document));
+    }
+    Ok(document)
+}

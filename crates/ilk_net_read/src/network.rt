@@ -1,0 +1,43 @@
+//! The network.
+
+ghost use Rattle.std.specs.Prelude.{◌≡◌, ◌≤◌, length, true, IfOk};
+ghost use Rattle.std.specs.List.{list_all};
+ghost use Rattle.serde_json.specs.View.{view, items_view};
+ghost use Rattle.ilk_net_read.specs.Fault.{Gives};
+ghost use Rattle.ilk_net_read.specs.Network.{network_of, section_of, in_order, HasDocument, IsWithin};
+ghost use Rattle.ilk_net_read.specs.Section.{section_has_names};
+
+use crate::FormError;
+use crate::document::document_of;
+use crate::section::section_of;
+use ilk_plant::{NetDraft, Row, SectionDraft};
+use serde_json::Value;
+use std::alloc::Global;
+
+fn sections(alloc: Global, values: &[Value]) -> Result<Row<SectionDraft>, FormError>
+    requires { length values.now ≤ 128 }
+    ensures exact { Gives result (in_order section_of 0 (items_view values.now)) }
+    ensures count { IfOk result (λ sections. length sections ≡ length values.now) }
+    ensures named { IfOk result (λ sections. list_all section_has_names sections ≡ true) }
+{
+    let mut sections = Row::new(alloc);
+    for (i, value) in values.iter().enumerate() {
+        let section = section_of(alloc, i as u32, value)?;
+        sections.push(section)?;
+    }
+    Ok(sections)
+}
+
+/// The network of a configuration, or the first rule of the form that is broken in the document
+/// (F3, F4, F6) or else in its sections in order (F3, then F5, of each).
+pub fn read_network(alloc: Global, value: &Value) -> Result<NetDraft, FormError>
+    ensures exact { Gives result (network_of (view value.now)) }
+    // what reading the table of routes asks for
+    ensures document { IfOk result (λ net. HasDocument (view value.now)) }
+    // 1 to 128 sections, whose texts are names
+    ensures limits { IfOk result IsWithin }
+{
+    let document = document_of(value)?;
+    let sections = sections(alloc, document.sections)?;
+    Ok(NetDraft { sections })
+}

@@ -1,0 +1,128 @@
+//! The sections.
+
+ghost use Rattle.std.specs.Prelude.{◌≡◌, true, IfOk};
+ghost use Rattle.serde_json.specs.View.{view};
+ghost use Rattle.ilk_net_read.specs.Fault.{Gives, Reads};
+ghost use Rattle.ilk_net_read.specs.Network as network;
+ghost use Rattle.ilk_net_read.specs.Section as section;
+
+use crate::fault::broken;
+use crate::member::{has_members, optional_text_at, str_at, text_at};
+use crate::name::{is_name, is_name_if_given};
+use crate::{Form, FormError, KindError, Place};
+use ilk_plant::{Dir, KindDraft, SectionDraft};
+use serde_json::Value;
+use std::alloc::Global;
+
+/// The direction that a text names: `up` or `down`.
+fn direction_named(text: &str) -> Option<Dir>
+    ensures { result ≡ section.direction_named text.now }
+{
+    match text {
+        "up" => Some(Dir::Up),
+        "down" => Some(Dir::Down),
+        _ => None,
+    }
+}
+
+fn linear(alloc: Global, value: &Value) -> Result<SectionDraft, KindError>
+    ensures { Reads result (section.as_linear (view value.now)) }
+{
+    let name = text_at(alloc, value, "name")?;
+    let down = optional_text_at(alloc, value, "down")?;
+    let up = optional_text_at(alloc, value, "up")?;
+    let board_down = optional_text_at(alloc, value, "board_down")?;
+    let board_up = optional_text_at(alloc, value, "board_up")?;
+    if !has_members(value, 6) {
+        return Err(KindError::WrongKind);
+    }
+    let kind = KindDraft::Linear {
+        down,
+        up,
+        board_down,
+        board_up,
+    };
+    Ok(SectionDraft { name, kind })
+}
+
+fn faces(value: &Value) -> Option<Dir>
+    ensures { result ≡ section.faces_of (view value.now) }
+{
+    direction_named(str_at(value, "faces")?)
+}
+
+fn point(alloc: Global, value: &Value) -> Result<SectionDraft, KindError>
+    ensures { Reads result (section.as_point (view value.now)) }
+{
+    let name = text_at(alloc, value, "name")?;
+    let stem = text_at(alloc, value, "stem")?;
+    let plus = text_at(alloc, value, "plus")?;
+    let minus = text_at(alloc, value, "minus")?;
+    let Some(faces) = faces(value) else {
+        return Err(KindError::WrongKind);
+    };
+    if !has_members(value, 6) {
+        return Err(KindError::WrongKind);
+    }
+    let kind = KindDraft::Point {
+        stem,
+        plus,
+        minus,
+        faces,
+    };
+    Ok(SectionDraft { name, kind })
+}
+
+fn section(alloc: Global, value: &Value) -> Result<SectionDraft, KindError>
+    ensures { Reads result (section.as_section (view value.now)) }
+{
+    match str_at(value, "kind") {
+        Some("linear") => linear(alloc, value),
+        Some("point") => point(alloc, value),
+        _ => Err(KindError::WrongKind),
+    }
+}
+
+fn has_names(kind: &KindDraft) -> bool
+    ensures { result ≡ section.kind_has_names kind.now }
+{
+    match kind {
+        KindDraft::Linear {
+            down,
+            up,
+            board_down,
+            board_up,
+        } => {
+            is_name_if_given(down)
+                && is_name_if_given(up)
+                && is_name_if_given(board_down)
+                && is_name_if_given(board_up)
+        }
+        KindDraft::Point {
+            stem,
+            plus,
+            minus,
+            ..
+        } => is_name(stem) && is_name(plus) && is_name(minus),
+    }
+}
+
+/// The section of this number, from its value.
+pub(crate) fn section_of(
+    alloc: Global,
+    number: u32,
+    value: &Value,
+) -> Result<SectionDraft, FormError>
+    ensures exact { Gives result (network.section_of number (view value.now)) }
+    ensures named { IfOk result (λ draft. section.section_has_names draft ≡ true) }
+{
+    let place = Place::Section(number);
+    let draft = match section(alloc, value) {
+        Ok(draft) => draft,
+        Err(error) => return Err(error.at(place)),
+    };
+    if !is_name(&draft.name) || !has_names(&draft.kind) {
+        return Err(broken(Form::F5, place));
+    }
+    Ok(draft)
+}

@@ -1,0 +1,43 @@
+-- The form of a configuration, whole: the rules in the order in which they are asked.
+use Rattle.std.specs.Prelude.{ℕ, ◌≤◌, List, length, Result, Ok, IsTrue}
+use Rattle.std.specs.List.{All, list_all}
+use Rattle.serde_json.specs.Data.{Data}
+use Rattle.ilk_plant.specs.Limits.{RouteHasLimits}
+use Rattle.ilk_plant.specs.declared.draft.NetDraft.{NetDraft}
+use Rattle.ilk_plant.specs.declared.draft.RouteDraft.{RouteDraft}
+use Rattle.ilk_plant.specs.declared.draft.TableDraft.{TableDraft}
+use Rattle.ilk_net_read.specs.declared.fault.Form.TheVariants.{F3, F5, F6}
+use Rattle.ilk_net_read.specs.declared.fault.FormFault.{FormFault}
+use Rattle.ilk_net_read.specs.declared.fault.Place.TheVariants.{Route}
+use Rattle.ilk_net_read.specs.Fault.{◌>>=◌, broken, checked, or_fault}
+use Rattle.ilk_net_read.specs.Network.{document_of, in_order, network_of, value_of}
+use Rattle.ilk_table_read.specs.Route.{as_route, is_within_limits, route_has_names}
+
+-- route i: F3 where the value isn't one, then F5, its names, then F6, its lists
+abbrev pub route_of : ℕ → Data → Result RouteDraft FormFault
+route_of i d = do
+  found ← or_fault (broken F3 (Route i)) (as_route d)
+  route ← checked route_has_names (broken F5 (Route i)) found
+  checked is_within_limits (broken F6 (Route i)) route
+
+-- the table: the document, then the routes in order
+abbrev pub table_of : Data → Result TableDraft FormFault
+table_of d = do
+  document ← document_of d
+  routes ← in_order route_of 0 document.routes
+  Ok (record { routes = routes })
+
+-- the two drafts of a configuration of these bytes, or the one fault: the first rule that is broken of
+-- its text, of the document, of the sections in order and then of the routes in order
+abbrev pub drafts_of : List ℕ → Result (NetDraft × TableDraft) FormFault
+drafts_of bytes = do
+  d ← value_of bytes
+  net ← network_of d
+  table ← table_of d
+  Ok (net, table)
+
+-- there are at most 128 routes, each with lists within their limits, and each text in them is a name
+pub record IsWithin (table : TableDraft) : Type 0 where
+  pub few : length table.routes ≤ 128
+  pub each : All RouteHasLimits table.routes
+  pub named : IsTrue (list_all route_has_names table.routes)

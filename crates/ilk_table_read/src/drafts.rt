@@ -1,0 +1,21 @@
+//! A configuration, whole.
+
+ghost use Rattle.ilk_net_read.specs.Fault.{Gives};
+ghost use Rattle.ilk_table_read.specs.Table.{drafts_of};
+
+use crate::table::read_table;
+use ilk_net_read::{FormError, read_network, read_value};
+use ilk_plant::{NetDraft, TableDraft};
+use std::alloc::Global;
+
+/// The drafts of the network and of the table of routes of a configuration, or the first rule of the
+/// form that is broken: in its text (F2), its document (F3, F4, F6), its sections in order (F3, then
+/// F5, of each), and its routes in order (F3, then F5, then F6, of each).
+pub fn read_drafts(alloc: Global, bytes: &[u8]) -> Result<(NetDraft, TableDraft), FormError>
+    ensures { Gives result (drafts_of bytes.now) }
+{
+    let value = read_value(alloc, bytes)?;
+    let net = read_network(alloc, &value)?;
+    let table = read_table(alloc, &value)?;
+    Ok((net, table))
+}

@@ -1,0 +1,63 @@
+//! The points that a route lists.
+
+ghost use Rattle.std.specs.Prelude.{◌≡◌};
+ghost use Rattle.serde_json.specs.View.{view, items_view};
+ghost use Rattle.ilk_net_read.specs.Fault.{Reads};
+ghost use Rattle.ilk_net_read.specs.Member.{each_as};
+ghost use Rattle.ilk_table_read.specs.Route as route;
+
+use ilk_net_read::{KindError, array_at, has_members, str_at, text_at};
+use ilk_plant::{ListedDraft, Position, Row};
+use serde_json::Value;
+use std::alloc::Global;
+
+/// The position that a text names: `plus` or `minus`.
+fn position_named(text: &str) -> Option<Position>
+    ensures { result ≡ route.position_named text.now }
+{
+    match text {
+        "plus" => Some(Position::Plus),
+        "minus" => Some(Position::Minus),
+        _ => None,
+    }
+}
+
+fn position(value: &Value) -> Option<Position>
+    ensures { result ≡ route.position_of (view value.now) }
+{
+    position_named(str_at(value, "position")?)
+}
+
+fn listed(alloc: Global, value: &Value) -> Result<ListedDraft, KindError>
+    ensures { Reads result (route.as_listed (view value.now)) }
+{
+    let point = text_at(alloc, value, "point")?;
+    let Some(at) = position(value) else {
+        return Err(KindError::WrongKind);
+    };
+    if !has_members(value, 2) {
+        return Err(KindError::WrongKind);
+    }
+    Ok(ListedDraft { point, at })
+}
+
+fn all_listed(alloc: Global, values: &[Value]) -> Result<Row<ListedDraft>, KindError>
+    ensures { Reads result (each_as route.as_listed (items_view values.now)) }
+{
+    let mut points = Row::new(alloc);
+    for value in values {
+        let point = listed(alloc, value)?;
+        points.push(point)?;
+    }
+    Ok(points)
+}
+
+/// The member `points`, which must be an array of points with positions.
+pub(crate) fn points_of(alloc: Global, value: &Value) -> Result<Row<ListedDraft>, KindError>
+    ensures { Reads result (route.points_of (view value.now)) }
+{
+    match array_at(value, "points") {
+        Some(values) => all_listed(alloc, values),
+        None => Err(KindError::WrongKind),
+    }
+}
