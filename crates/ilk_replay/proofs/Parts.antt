@@ -1,10 +1,10 @@
 -- A text, cut at the first byte of a kind.
-use Rattle.std.proofs.Common.{◌≡◌, ℕ, ◌+◌, ◌<◌, Bool, true, false, Some, None, List, [], ◌∷◌, ◌==◌, length, take, drop, refl, sym, ap, ◌∙◌, arith, position, cond, nat_lt, Err}
+use Rattle.std.proofs.Common.{◌≡◌, ℕ, ◌+◌, ◌-◌, ◌<◌, Bool, true, false, Some, None, List, [], ◌∷◌, ◌==◌, length, take, drop, refl, sym, ap, ◌∙◌, arith, position, cond, nat_lt, Err}
 use Rattle.std.specs.List.{position_from, position_or_len, onto_first}
 use Rattle.std.proofs.lemmas.Bool.{ltb-true}
 use Rattle.std.proofs.lemmas.Iterator.Adapters.{position_from-zero}
+use Rattle.std.proofs.lemmas.List.{length-drop, take_all}
 use Rattle.std.proofs.lemmas.List.Splits.{slice_split_first}
-use Rattle.ilk_replay.specs.EventLine.{two_words}
 use Rattle.ilk_replay.specs.Told.{at_the_end}
 use Rattle.ilk_replay.specs.Lines.{after_lines, but_last, last_of, lines_of, parts_at}
 
@@ -30,7 +30,8 @@ parts-some c xs i e = by_place (nat_lt (position_or_len (λ b. b == c) xs) (leng
         slice_split_first (λ b. b == c) xs 0 (ltb-true _ _ within) ∙ ap (λ n. take n xs ∷ parts_at c (drop (n + 1) xs)) same
     by_place false within here = cc
 
-parts_follow : (c : ℕ) (xs : List ℕ) → (part : List ℕ) × (parts : List (List ℕ)) × (parts_at c xs ≡ part ∷ parts)
+-- a text has a first part
+pub parts_follow : (c : ℕ) (xs : List ℕ) → (part : List ℕ) × (parts : List (List ℕ)) × (parts_at c xs ≡ part ∷ parts)
 parts_follow c [] = ([], [], refl)
 parts_follow c (x ∷ xs) = follow (x == c) c x xs (parts_follow c xs)
   where
@@ -49,13 +50,6 @@ lines_cut text line rest e = by_parts (parts_follow 10 rest)
 pub lines_none : (text line : List ℕ) → parts_at 10 text ≡ line ∷ [] → lines_of text ≡ []
 lines_none text line e = ap but_last e
 
--- a line of three words or more isn't one of two
-pub three_words : (line word rest name more : List ℕ) → parts_at 32 line ≡ word ∷ parts_at 32 rest → parts_at 32 rest ≡ name ∷ parts_at 32 more → None ≡ two_words line
-three_words line word rest name more e f = by_parts (parts_follow 32 more)
-  where
-    by_parts : ((part : List ℕ) × (parts : List (List ℕ)) × (parts_at 32 more ≡ part ∷ parts)) → None ≡ two_words line
-    by_parts (part, parts, follows) = rw (e, f, follows) refl
-
 -- where something is left, the text doesn't end
 pub not_at_end : {A : Type 0} (x : A) (n : ℕ) (text : List ℕ) → 0 < length text → at_the_end x n (lines_of text) (after_lines text) ≡ Err n
 not_at_end x n [] some = absurd (omega arith)
@@ -68,3 +62,7 @@ not_at_end x n (b ∷ text) some = by_first (b == 10) (parts_follow 10 text)
     by_first true (part, parts, follows) = rw follows refl
     by_first false (part, [], follows) = rw follows refl
     by_first false (part, next ∷ parts, follows) = rw follows refl
+
+-- all that is left from a place on
+pub take_rest : (k : ℕ) (xs : List ℕ) → take (length xs - k) (drop k xs) ≡ drop k xs
+take_rest k xs = take_all (length xs - k) (drop k xs) (omega (arith, length-drop k xs))

@@ -1,12 +1,12 @@
 -- The line of an event: its word, one space, and the name of what it is about.
-use Rattle.std.specs.Prelude.{ℕ, Option, Some, None, List, [], ◌∷◌, codes, bytes_eq, slice_get, if◌then◌else◌}
+use Rattle.std.specs.Prelude.{ℕ, Option, Some, None, codes, bytes_eq, slice_get, if◌then◌else◌}
 use Rattle.std.specs.Option.{option_or}
 use Rattle.ilk_plant.specs.Option.{◌>>=◌, only_if}
 use Rattle.ilk_plant.specs.Network.{is_point}
 use Rattle.ilk_plant.specs.Plant.{PlantLists, first_named}
 use Rattle.ilk_model.specs.declared.event.Event.{Event}
 use Rattle.ilk_model.specs.declared.event.Event.TheVariants.{Mark, Allocate, Lock, Sense, Release, Finish, Throw, Settle, Enter, Head, Tail, Leave}
-use Rattle.ilk_replay.specs.Lines.{Bytes, words_of}
+use Rattle.ilk_replay.specs.Lines.{Bytes, first_word}
 
 -- the point section with this name
 abbrev pub point_named : PlantLists → Bytes → Option ℕ
@@ -52,18 +52,8 @@ event_told p word name = option_or about_route (option_or about_point about_sect
     about_section : Option Event
     about_section = first_named p.section_names name >>= section_event word
 
--- the two words of a line of two words
-abbrev pub two_words : Bytes → Option (Bytes × Bytes)
-two_words line = of_two (words_of line)
-  where
-    of_two : List Bytes → Option (Bytes × Bytes)
-    of_two [] = None
-    of_two (word ∷ []) = None
-    of_two (word ∷ name ∷ []) = Some (word, name)
-    of_two (word ∷ name ∷ third ∷ more) = None
-
 -- the event that a line tells; none where it is no event's line
 abbrev pub event_of : PlantLists → Bytes → Option Event
 event_of p line = do
-  words ← two_words line
+  words ← first_word line
   event_told p words.0 words.1

@@ -1,6 +1,9 @@
 pub mod Result
 pub mod Lines
 pub mod EventLine
+pub mod StateLine
+pub mod StateTold
 pub mod Told
 pub mod Reading
 pub mod Seen
+pub mod Examples

@@ -1,6 +1,7 @@
 -- The lines of a text, and the words of a line.
-use Rattle.std.specs.Prelude.{ℕ, Option, Some, None, List, [], ◌∷◌, ◌==◌}
+use Rattle.std.specs.Prelude.{ℕ, ◌+◌, Option, Some, None, List, [], ◌∷◌, ◌==◌, bytes_eq, drop, length, option_map, position, take}
 use Rattle.std.specs.List.{slice_split}
+use Rattle.ilk_plant.specs.Option.{◌>>=◌, only_if}
 
 -- a line, or a word, is its bytes
 abbrev pub Bytes : Type 0
@@ -32,12 +33,26 @@ after_lines text = last_of (parts_at 10 text)
 abbrev pub words_of : Bytes → List Bytes
 words_of line = parts_at 32 line
 
+-- what stands before the first space of a line, and what stands after it; none where there is no space
+abbrev pub first_word : Bytes → Option (Bytes × Bytes)
+first_word line = option_map (λ i. (take i line, drop (i + 1) line)) (position (λ b. b == 32) line)
+
+-- what stands after this beginning of a line; none where the line doesn't begin so
+abbrev pub after_start : Bytes → Bytes → Option Bytes
+after_start beginning line = only_if (bytes_eq (take (length beginning) line) beginning) (drop (length beginning) line)
+
+-- what stands after this first word of a line and the space that ends it
+abbrev pub after_word : Bytes → Bytes → Option Bytes
+after_word word line = do
+  rest ← after_start word line
+  after_start (32 ∷ []) rest
+
 -- the value before these, where there is one; else nothing
 abbrev pub onto : {A : Type 0} → Option A → List A → List A
 onto None values = []
 onto (Some x) values = x ∷ values
 
--- the values of the first lines, as far as each has one
-abbrev pub leading : {A : Type 0} → (Bytes → Option A) → List Bytes → List A
+-- the values of the first items, as far as each has one
+abbrev pub leading : {A B : Type 0} → (B → Option A) → List B → List A
 leading value [] = []
-leading value (line ∷ more) = onto (value line) (leading value more)
+leading value (item ∷ more) = onto (value item) (leading value more)

@@ -1,23 +1,10 @@
-ghost use Rattle.std.specs.Prelude.{◌≡◌, option_map};
-ghost use Rattle.ilk_replay.specs.EventLine.{event_of, event_told, point_event, route_event, section_event, two_words};
+ghost use Rattle.std.specs.Prelude.{◌≡◌};
+ghost use Rattle.ilk_replay.specs.EventLine.{event_of, event_told, point_event, route_event, section_event};
 
-use crate::lines::cut;
+use crate::lines::first_word;
 use crate::names::{point_named, route_named, section_named};
 use ilk_model::Event;
 use ilk_plant::Plant;
-
-#[tactic(auto, using(crate::proofs::Parts::three_words))]
-// The two words of a line of two words.
-fn two_words(line: &[u8]) -> Option<(&[u8], &[u8])>
-    ensures { option_map (λ words. (words.0.now, words.1.now)) result ≡ two_words line.now }
-{
-    let (word, rest) = cut(line, b' ');
-    let (name, more) = cut(rest?, b' ');
-    match more {
-        None => Some((word, name)),
-        Some(_) => None,
-    }
-}
 
 // The event of route `r` that has this word.
 fn route_event(word: &[u8], r: u32) -> Option<Event>
@@ -91,6 +78,6 @@ fn event_told(plant: &Plant, word: &[u8], name: &[u8]) -> Option<Event>
 pub(crate) fn event_of(plant: &Plant, line: &[u8]) -> Option<Event>
     ensures { result ≡ event_of plant.now line.now }
 {
-    let (word, name) = two_words(line)?;
+    let (word, name) = first_word(line)?;
     event_told(plant, word, name)
 }

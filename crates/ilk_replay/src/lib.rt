@@ -1,11 +1,16 @@
 //! Run texts, and what is seen where a run is replayed.
 #![tactic(auto)]
 
+mod cursor;
 mod event_line;
+mod examples;
 mod lines;
 mod names;
 mod reading;
 mod seen;
+mod state_line;
+mod state_reading;
+mod state_words;
 mod told;
 
 pub use reading::read_run;

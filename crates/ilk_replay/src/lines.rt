@@ -1,6 +1,6 @@
-ghost use Rattle.std.specs.Prelude.{◌≡◌, ◌<◌, ◌==◌, ◌+◌, ◌^◌, [], ◌∷◌, length, Option, Some, None, IfSome, IfNone, MatchOption, position};
+ghost use Rattle.std.specs.Prelude.{◌≡◌, ◌<◌, ◌==◌, ◌+◌, ◌^◌, [], ◌∷◌, length, Option, Some, None, IfSome, IfNone, option_map, position};
 ghost use Rattle.std.specs.Option.{option_map_or};
-ghost use Rattle.ilk_replay.specs.Lines.{after_lines, lines_of, parts_at};
+ghost use Rattle.ilk_replay.specs.Lines.{after_lines, after_start, after_word, first_word, lines_of, parts_at};
 
 // The place of the first byte `at`.
 fn place_of(text: &[u8], at: u8) -> Option<usize>
@@ -19,6 +19,31 @@ pub(crate) fn cut(text: &[u8], at: u8) -> (&[u8], Option<&[u8]>)
         Some(i) => (&text[..i], Some(&text[i + 1..])),
         None => (text, None),
     }
+}
+
+#[tactic(auto, using(crate::proofs::Parts::take_rest))]
+/// What stands before the first space of a line, and what stands after it. None where there is no
+/// space.
+pub(crate) fn first_word(line: &[u8]) -> Option<(&[u8], &[u8])>
+    ensures { option_map (λ words. (words.0.now, words.1.now)) result ≡ first_word line.now }
+{
+    let i = place_of(line, b' ')?;
+    Some((&line[..i], &line[i + 1..]))
+}
+
+/// What stands after this beginning of a line. None where the line doesn't begin so.
+pub(crate) fn after_start<'a>(line: &'a [u8], beginning: &[u8]) -> Option<&'a [u8]>
+    ensures { option_map (λ rest. rest.now) result ≡ after_start beginning.now line.now }
+{
+    line.strip_prefix(beginning)
+}
+
+/// What stands after this first word of a line and the space that ends it.
+pub(crate) fn after_word<'a>(line: &'a [u8], word: &[u8]) -> Option<&'a [u8]>
+    ensures { option_map (λ rest. rest.now) result ≡ after_word word.now line.now }
+{
+    let rest = after_start(line, word)?;
+    after_start(rest, b" ")
 }
 
 #[tactic(auto, using(crate::proofs::Parts::lines_cut, crate::proofs::Parts::lines_none))]

@@ -1,0 +1,126 @@
+-- Lines that are told in order, one for each item.
+use Rattle.std.proofs.Common.{◌≡◌, ℕ, ◌+◌, ◌-◌, ◌<◌, ◌≤◌, Bool, true, false, ◌==◌, Option, Some, None, option_map, Result, Ok, Err, List, [], ◌∷◌, ◌++◌, length, drop, filter, zip, refl, sym, ap, ◌∙◌, arith, suc, append_assoc, if◌then◌else◌}
+use Rattle.std.specs.List.{range_with_len}
+use Rattle.std.proofs.lemmas.Bool.Decides.{nat_tests}
+use Rattle.std.proofs.lemmas.Grind.{common_steps}
+use Rattle.std.proofs.lemmas.List.{drop-drop, length_push}
+use Rattle.ilk_replay.specs.Lines.{Bytes, leading, onto}
+use Rattle.ilk_replay.specs.StateTold.{Part, each_told, one_told}
+
+-- the values of the lines that are left, one for each item that is left
+abbrev pub values_left : {A : Type 0} → (ℕ → Bytes → Option A) → List ℕ → List Bytes → List A
+values_left value items lines = leading (λ pair. value pair.0 pair.1) (zip items lines)
+
+-- how far the reading of the lines, from n on, has come: the values taken, the items and lines left
+pub record IsAt {A : Type 0} (value : ℕ → Bytes → Option A) (items : List ℕ) (n : ℕ) (lines : List Bytes) (taken : List A) (left : List ℕ) (number : ℕ) (rest : List Bytes) : Type 0 where
+  pub values_are : values_left value items lines ≡ taken ++ values_left value left rest
+  pub counts_are : length taken + length left ≡ length items
+  pub lines_are : rest ≡ drop (length taken) lines
+  pub number_is : number ≡ n + length taken
+
+some_is : {A : Type 0} {x y : A} → Some x ≡ Some y → x ≡ y
+some_is e = cc
+
+-- nothing is taken yet
+pub at_first : {A : Type 0} (value : ℕ → Bytes → Option A) (items : List ℕ) (n : ℕ) (lines : List Bytes) → IsAt value items n lines [] items n lines
+at_first value items n lines = record { values_are = refl; counts_are = omega arith; lines_are = refl; number_is = omega arith }
+
+-- a line that tells its item's value is taken
+pub at_next : {A : Type 0} (value : ℕ → Bytes → Option A) (items : List ℕ) (n : ℕ) (lines : List Bytes) (taken new : List A) (x : ℕ) (left following : List ℕ) (number next : ℕ) (rest more : List Bytes) (v : A) → IsAt value items n lines taken left number rest → left ≡ x ∷ following → one_told value x rest ≡ Some (v, more) → new ≡ taken ++ v ∷ [] → next ≡ number + 1 → IsAt value items n lines new following next more
+at_next value items n lines taken new x left following number next [] more v at e told f g = cc
+at_next {A = A} value items n lines taken new x left following number next (line ∷ after) more v at e told f g = by_value (value x line) refl told
+  where
+    by_value : (o : Option A) → value x line ≡ o → option_map {U = A × List Bytes} (λ w. (w, after)) o ≡ Some (v, more) → IsAt value items n lines new following next more
+    by_value None this that = cc
+    by_value (Some w) this that =
+        let pair : (w, after) ≡ (v, more) = some_is that in
+        let same : w ≡ v = ap (λ q. q.0) pair in
+        let rests : after ≡ more = ap (λ q. q.1) pair in
+        let long : length new ≡ length taken + 1 = ap length f ∙ length_push taken v in
+        record {
+          values_are = at.values_are ∙ ap (λ xs. taken ++ values_left value xs (line ∷ after)) e ∙ ap (λ o. taken ++ onto o (values_left value following after)) this
+              ∙ ap (λ u. taken ++ u ∷ values_left value following after) same ∙ ap (λ ls. taken ++ v ∷ values_left value following ls) rests
+              ∙ sym (append_assoc taken (v ∷ []) (values_left value following more)) ∙ ap (λ xs. xs ++ values_left value following more) (sym f);
+          counts_are = let c = at.counts_are in let d : length left ≡ length following + 1 = ap length e ∙ omega arith in omega arith;
+          lines_are = sym rests ∙ ap (drop 1) at.lines_are ∙ drop-drop 1 (length taken) lines ∙ ap (λ k. drop k lines) (sym long);
+          number_is = let c = at.number_is in omega arith;
+        }
+
+-- what is told where these are the values
+abbrev pub told_with : {A : Type 0} → List ℕ → ℕ → List Bytes → List A → Result (Part A) ℕ
+told_with items n lines values = if length values == length items then Ok (record { values = values; number = n + length items; lines = drop (length items) lines }) else Err (n + length values)
+
+append_nothing : {A : Type 0} (xs : List A) → xs ++ [] ≡ xs
+append_nothing xs = grind (arith, common_steps)
+
+nothing_left : {A : Type 0} (value : ℕ → Bytes → Option A) (x : ℕ) (following : List ℕ) (rest : List Bytes) → one_told value x rest ≡ None → values_left value (x ∷ following) rest ≡ []
+nothing_left value x following [] none = refl
+nothing_left {A = A} value x following (line ∷ after) none = by_value (value x line) none
+  where
+    by_value : (o : Option A) → option_map {U = A × List Bytes} (λ w. (w, after)) o ≡ None → onto o (values_left value following after) ≡ []
+    by_value None that = refl
+    by_value (Some w) that = cc
+
+-- where no line is left, or the next doesn't tell its item's value, that line is bad
+pub at_bad : {A : Type 0} (value : ℕ → Bytes → Option A) (items : List ℕ) (n : ℕ) (lines : List Bytes) (taken : List A) (x : ℕ) (left following : List ℕ) (number : ℕ) (rest : List Bytes) → IsAt value items n lines taken left number rest → left ≡ x ∷ following → one_told value x rest ≡ None → each_told value items n lines ≡ Err number
+at_bad value items n lines taken x left following number rest at e refused =
+    let none : values_left value left rest ≡ [] = ap (λ xs. values_left value xs rest) e ∙ nothing_left value x following rest refused in
+    let d : length left ≡ length following + 1 = ap length e ∙ omega arith in
+    let values : values_left value items lines ≡ taken = at.values_are ∙ ap (λ vs. taken ++ vs) none ∙ append_nothing taken in
+    let c = at.counts_are in
+    let fewer : (length taken == length items) ≡ false = grind (arith, nat_tests, common_steps) in
+    ap (told_with items n lines) values ∙ rw fewer (ap Err (sym at.number_is))
+
+-- where no item is left, all are told
+pub at_last : {A : Type 0} (value : ℕ → Bytes → Option A) (items : List ℕ) (n : ℕ) (lines : List Bytes) (taken : List A) (number : ℕ) (rest : List Bytes) → IsAt value items n lines taken [] number rest → each_told value items n lines ≡ Ok (record { values = taken; number = number; lines = rest })
+at_last value items n lines taken number rest at =
+    let values : values_left value items lines ≡ taken = at.values_are ∙ append_nothing taken in
+    let c : length taken ≡ length items = let d = at.counts_are in omega arith in
+    let all : (length taken == length items) ≡ true = grind (arith, nat_tests) in
+    let count : n + length items ≡ number = let d = at.number_is in omega arith in
+    let left : drop (length items) lines ≡ rest = ap (λ k. drop k lines) (sym c) ∙ sym at.lines_are in
+    ap (told_with items n lines) values ∙ rw (all, count, left) refl
+
+-- the numbers from i on begin with i
+pub range_next : (i n : ℕ) → i < n → range_with_len i (n - i) ≡ i ∷ range_with_len (i + 1) (n - (i + 1))
+range_next i n below = by_rest (n - i) (n - (i + 1)) (omega arith)
+  where
+    by_rest : (k m : ℕ) → k ≡ suc m → range_with_len i k ≡ i ∷ range_with_len (i + 1) m
+    by_rest k m e = ap (range_with_len i) e
+
+-- the same where the items are the numbers from 0 on, of which those from i on are left
+pub range_more : {A : Type 0} (value : ℕ → Bytes → Option A) (items : List ℕ) (n : ℕ) (lines : List Bytes) (taken new : List A) (i m number next : ℕ) (rest more : List Bytes) (v : A) → IsAt value items n lines taken (range_with_len i (m - i)) number rest → i < m → one_told value i rest ≡ Some (v, more) → new ≡ taken ++ v ∷ [] → next ≡ number + 1 → IsAt value items n lines new (range_with_len (i + 1) (m - (i + 1))) next more
+range_more value items n lines taken new i m number next rest more v at below told f g =
+    at_next value items n lines taken new i (range_with_len i (m - i)) (range_with_len (i + 1) (m - (i + 1))) number next rest more v at (range_next i m below) told f g
+
+pub range_bad : {A : Type 0} (value : ℕ → Bytes → Option A) (items : List ℕ) (n : ℕ) (lines : List Bytes) (taken : List A) (i m number : ℕ) (rest : List Bytes) → IsAt value items n lines taken (range_with_len i (m - i)) number rest → i < m → one_told value i rest ≡ None → each_told value items n lines ≡ Err number
+range_bad value items n lines taken i m number rest at below refused =
+    at_bad value items n lines taken i (range_with_len i (m - i)) (range_with_len (i + 1) (m - (i + 1))) number rest at (range_next i m below) refused
+
+pub range_last : {A : Type 0} (value : ℕ → Bytes → Option A) (items : List ℕ) (n : ℕ) (lines : List Bytes) (taken : List A) (i m number : ℕ) (rest : List Bytes) → IsAt value items n lines taken (range_with_len i (m - i)) number rest → m ≤ i → each_told value items n lines ≡ Ok (record { values = taken; number = number; lines = rest })
+range_last value items n lines taken i m number rest at past =
+    let none : m - i ≡ 0 = omega arith in
+    at_last value items n lines taken number rest (rw none at at)
+
+-- the same where the items are the numbers from 0 on that pass a test
+filter_yes : (test : ℕ → Bool) (i n : ℕ) → i < n → test i ≡ true → filter test (range_with_len i (n - i)) ≡ i ∷ filter test (range_with_len (i + 1) (n - (i + 1)))
+filter_yes test i n below passes = ap (filter test) (range_next i n below) ∙ rw passes refl
+
+filter_no : (test : ℕ → Bool) (i n : ℕ) → i < n → test i ≡ false → filter test (range_with_len i (n - i)) ≡ filter test (range_with_len (i + 1) (n - (i + 1)))
+filter_no test i n below fails = ap (filter test) (range_next i n below) ∙ rw fails refl
+
+pub passing_more : {A : Type 0} (value : ℕ → Bytes → Option A) (test : ℕ → Bool) (items : List ℕ) (n : ℕ) (lines : List Bytes) (taken new : List A) (i m number next : ℕ) (rest more : List Bytes) (v : A) → IsAt value items n lines taken (filter test (range_with_len i (m - i))) number rest → i < m → test i ≡ true → one_told value i rest ≡ Some (v, more) → new ≡ taken ++ v ∷ [] → next ≡ number + 1 → IsAt value items n lines new (filter test (range_with_len (i + 1) (m - (i + 1)))) next more
+passing_more value test items n lines taken new i m number next rest more v at below passes told f g =
+    at_next value items n lines taken new i (filter test (range_with_len i (m - i))) (filter test (range_with_len (i + 1) (m - (i + 1)))) number next rest more v at (filter_yes test i m below passes) told f g
+
+pub passing_skip : {A : Type 0} (value : ℕ → Bytes → Option A) (test : ℕ → Bool) (items : List ℕ) (n : ℕ) (lines : List Bytes) (taken : List A) (i m number : ℕ) (rest : List Bytes) → IsAt value items n lines taken (filter test (range_with_len i (m - i))) number rest → i < m → test i ≡ false → IsAt value items n lines taken (filter test (range_with_len (i + 1) (m - (i + 1)))) number rest
+passing_skip value test items n lines taken i m number rest at below fails = rw (filter_no test i m below fails) at at
+
+pub passing_bad : {A : Type 0} (value : ℕ → Bytes → Option A) (test : ℕ → Bool) (items : List ℕ) (n : ℕ) (lines : List Bytes) (taken : List A) (i m number : ℕ) (rest : List Bytes) → IsAt value items n lines taken (filter test (range_with_len i (m - i))) number rest → i < m → test i ≡ true → one_told value i rest ≡ None → each_told value items n lines ≡ Err number
+passing_bad value test items n lines taken i m number rest at below passes refused =
+    at_bad value items n lines taken i (filter test (range_with_len i (m - i))) (filter test (range_with_len (i + 1) (m - (i + 1)))) number rest at (filter_yes test i m below passes) refused
+
+pub passing_last : {A : Type 0} (value : ℕ → Bytes → Option A) (test : ℕ → Bool) (items : List ℕ) (n : ℕ) (lines : List Bytes) (taken : List A) (i m number : ℕ) (rest : List Bytes) → IsAt value items n lines taken (filter test (range_with_len i (m - i))) number rest → m ≤ i → each_told value items n lines ≡ Ok (record { values = taken; number = number; lines = rest })
+passing_last value test items n lines taken i m number rest at past =
+    let none : m - i ≡ 0 = omega arith in
+    at_last value items n lines taken number rest (rw none at at)

@@ -1,0 +1,15 @@
+-- A state on the line of two sections.
+use Rattle.std.specs.Prelude.{[], ◌∷◌}
+use Rattle.ilk_plant.specs.declared.network.Dir.TheVariants.{Up}
+use Rattle.ilk_plant.specs.declared.state.Hold.TheVariants.{Free, Used}
+use Rattle.ilk_plant.specs.declared.state.State.{State}
+
+-- one train, which runs up, stands on both sections; the second has the lock Used
+abbrev pub one_train_on_both : State
+one_train_on_both = record {
+  routes = [];
+  points = [];
+  boards = [];
+  locks = Free ∷ Used ∷ [];
+  trains = record { dir = Up; body = 0 ∷ 1 ∷ [] } ∷ [];
+}

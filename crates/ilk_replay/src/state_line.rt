@@ -1,0 +1,165 @@
+ghost use Rattle.std.specs.Prelude.{◌≡◌, ◌<◌, ◌≤◌, ◌^◌, IfOk, IfSome, length, option_map};
+ghost use Rattle.ilk_replay.specs.StateLine.{board_told, leads_on, lock_told, point_said, point_told, route_said, route_told, said_of, sections_named, train_said, train_told};
+ghost use Rattle.ilk_plant.specs.Network.{has_section};
+ghost use Rattle.ilk_plant.specs.Plant.{next_to};
+ghost use Rattle.ilk_replay.specs.Lines.{words_of};
+ghost use Rattle.ilk_replay.specs.StateLine.{is_entry};
+
+use crate::lines::{after_word, cut, first_word};
+use crate::names::section_named;
+use crate::state_words::{
+    aspect_of, direction_of, hold_of, lie_of_word, mode_of, number_to, position_of_word,
+};
+use ilk_plant::{Aspect, Dir, Hold, Plant, PointState, RouteState, Row, Train};
+use std::alloc::{AllocError, Global};
+
+// What a line says of what has this name: what stands after the kind's word and the name.
+fn said_of<'a>(kind: &[u8], name: &[u8], line: &'a [u8]) -> Option<&'a [u8]>
+    ensures { option_map (λ text. text.now) result ≡ said_of kind.now name.now line.now }
+{
+    after_word(after_word(line, kind)?, name)
+}
+
+// A route's mode, seen and rel, each at most the limit.
+fn route_said(limit: u32, text: &[u8]) -> Option<RouteState>
+    requires { limit ≤ 2 ^ 16 }
+    ensures { result ≡ route_said limit text.now }
+{
+    let (mode, counts) = first_word(text)?;
+    let (seen, rel) = first_word(counts)?;
+    let mode = mode_of(mode)?;
+    let seen = number_to(seen, limit)?;
+    let rel = number_to(rel, limit)?;
+    Some(RouteState { mode, seen, rel })
+}
+
+/// The state of route `r` that a line tells.
+pub(crate) fn route_told(plant: &Plant, r: u32, line: &[u8]) -> Option<RouteState>
+    requires { r < length plant.now.routes }
+    ensures { result ≡ route_told plant.now r line.now }
+{
+    let limit = plant.route(r).path.len() as u32;
+    let text = said_of(b"route", plant.route_name(r).as_bytes(), line)?;
+    route_said(limit, text)
+}
+
+// Where a point lies, and where it is commanded.
+fn point_said(text: &[u8]) -> Option<PointState>
+    ensures { result ≡ point_said text.now }
+{
+    let (at, to) = first_word(text)?;
+    let at = lie_of_word(at)?;
+    let to = position_of_word(to)?;
+    Some(PointState { at, to })
+}
+
+/// The state of the point on section `x` that a line tells.
+pub(crate) fn point_told(plant: &Plant, x: u32, line: &[u8]) -> Option<PointState>
+    requires { x < length plant.now.sections }
+    ensures { result ≡ point_told plant.now x line.now }
+{
+    let text = said_of(b"point", plant.section_name(x).as_bytes(), line)?;
+    point_said(text)
+}
+
+/// The aspect of board `m` that a line tells.
+pub(crate) fn board_told(plant: &Plant, m: u32, line: &[u8]) -> Option<Aspect>
+    requires { m < length plant.now.boards }
+    ensures { result ≡ board_told plant.now m line.now }
+{
+    let text = said_of(b"board", plant.board_name(m).as_bytes(), line)?;
+    aspect_of(text)
+}
+
+/// The lock of section `x` that a line tells.
+pub(crate) fn lock_told(plant: &Plant, x: u32, line: &[u8]) -> Option<Hold>
+    requires { x < length plant.now.sections }
+    ensures { result ≡ lock_told plant.now x line.now }
+{
+    let text = said_of(b"section", plant.section_name(x).as_bytes(), line)?;
+    hold_of(text)
+}
+
+#[tactic(auto, using(crate::proofs::Bodies::taken_name, crate::proofs::Bodies::unknown_name))]
+// The numbers of the sections with these names. None where one has no section.
+fn sections_named(
+    alloc: Global,
+    plant: &Plant,
+    names: &[u8],
+) -> Result<Option<Row<u32>>, AllocError>
+    ensures { IfOk result (λ body. body ≡ sections_named plant.now (words_of names.now)) }
+{
+    let mut body = Row::new(alloc);
+    let mut rest = Some(names);
+    while let Some(text) = rest {
+        let (name, more) = cut(text, b' ');
+        let Some(x) = section_named(plant, name) else {
+            return Ok(None);
+        };
+        body.push(x)?;
+        rest = more;
+    }
+    Ok(Some(body))
+}
+
+// Whether the entry is this section.
+fn is_entry(entry: Option<u32>, y: u32) -> bool
+    ensures { result ≡ is_entry entry y }
+{
+    match entry {
+        Some(x) => x == y,
+        None => false,
+    }
+}
+
+#[tactic(auto, using(crate::proofs::Bodies::two_entries))]
+// Whether section `y` is next to section `x` on side `d`.
+fn is_next(plant: &Plant, x: u32, d: Dir, y: u32) -> bool
+    ensures { result ≡ has_section y (next_to plant.now x d) }
+{
+    if x >= plant.sections() {
+        return false;
+    }
+    is_entry(plant.neighbour(x, d, 0), y) || is_entry(plant.neighbour(x, d, 1), y)
+}
+
+// Whether each section but the first is next to the one before, in direction `d`.
+fn leads_on(plant: &Plant, d: Dir, body: &Row<u32>) -> bool
+    ensures { result ≡ leads_on plant.now d body.now }
+{
+    let sections = body.as_slice();
+    sections
+        .iter()
+        .zip(sections.iter().skip(1))
+        .all(|(x, y)| is_next(plant, *x, d, *y))
+}
+
+// A train's direction and the names of its sections.
+fn train_said(line: &[u8]) -> Option<(Dir, &[u8])>
+    ensures { option_map (λ said. (said.0, said.1.now)) result ≡ train_said line.now }
+{
+    let rest = after_word(line, b"train")?;
+    let (dir, names) = first_word(rest)?;
+    Some((direction_of(dir)?, names))
+}
+
+/// The train that a line tells. None where it is no train's line.
+pub(crate) fn train_told(
+    alloc: Global,
+    plant: &Plant,
+    line: &[u8],
+) -> Result<Option<Train>, AllocError>
+    ensures { IfOk result (λ train. train ≡ train_told plant.now line.now) }
+{
+    let Some((dir, names)) = train_said(line) else {
+        return Ok(None);
+    };
+    let Some(body) = sections_named(alloc, plant, names)? else {
+        return Ok(None);
+    };
+    if leads_on(plant, dir, &body) {
+        Ok(Some(Train { dir, body }))
+    } else {
+        Ok(None)
+    }
+}
