@@ -2,7 +2,7 @@ ghost use Rattle.std.specs.Prelude.{◌≡◌, ◌==◌, ◌&&◌, ◌<◌, ◌+
 ghost use Rattle.std.specs.List.{list_all, list_any};
 ghost use Rattle.ilk_plant.specs.Broken.{broken_at};
 ghost use Rattle.ilk_plant.specs.Network.{has_section};
-ghost use Rattle.ilk_plant.specs.TableRules.{HasTableLimits, has_conflicts_once, has_destination_or_none, has_points_once, has_sections_once, is_other_route, is_point_section, is_section, none_twice, points_of, sections_of, table_rules_broken};
+ghost use Rattle.ilk_plant.specs.TableRules.{HasTableLimits, has_conflicts_once, has_destination_or_none, has_points_once, has_sections_once, is_other_route, is_point_section, is_section, none_twice, points_of, routes_broken, sections_of, table_rules_broken};
 ghost use Rattle.ilk_table_check.specs.Table.{breaks_table};
 
 use crate::listing::push_if;
@@ -178,6 +178,20 @@ fn push_routes(
     Ok(())
 }
 
+// The broken rules of a numbered table, in the order of the rules and then of the routes.
+fn broken_routes(alloc: Global, plant: &Numbered) -> Result<Row<Broken>, AllocError>
+    ensures { IfOk result (λ found. found ≡ routes_broken plant.now) }
+{
+    let mut found = Row::new(alloc);
+    push_routes(&mut found, plant, Rule::R1)?;
+    push_routes(&mut found, plant, Rule::R2)?;
+    push_routes(&mut found, plant, Rule::R3)?;
+    push_routes(&mut found, plant, Rule::R4)?;
+    push_routes(&mut found, plant, Rule::R5)?;
+    push_routes(&mut found, plant, Rule::R6)?;
+    Ok(found)
+}
+
 /// All broken rules of a table of routes, R1 to R6, in the order of the rules and then of the
 /// routes. A name stands for the first section, board or route that has it. The network has 1 to
 /// 128 sections and the table at most 128 routes, each with 1 to 32 sections in its path, at most 8
@@ -191,12 +205,5 @@ pub fn check_table(
     ensures { IfOk result (λ found. found ≡ table_rules_broken net.now table.now) }
 {
     let plant = Numbered::of(alloc, net, table)?;
-    let mut found = Row::new(alloc);
-    push_routes(&mut found, &plant, Rule::R1)?;
-    push_routes(&mut found, &plant, Rule::R2)?;
-    push_routes(&mut found, &plant, Rule::R3)?;
-    push_routes(&mut found, &plant, Rule::R4)?;
-    push_routes(&mut found, &plant, Rule::R5)?;
-    push_routes(&mut found, &plant, Rule::R6)?;
-    Ok(found)
+    broken_routes(alloc, &plant)
 }
