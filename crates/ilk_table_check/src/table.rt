@@ -160,11 +160,7 @@ fn breaks_table(plant: &Numbered, rule: Rule, i: u32) -> bool
 }
 
 // Adds the routes at which a rule of the table is broken.
-fn push_routes(
-    found: &mut Row<Broken>,
-    plant: &Numbered,
-    rule: Rule,
-) -> Result<(), AllocError>
+fn push_routes(found: &mut Row<Broken>, plant: &Numbered, rule: Rule) -> Result<(), AllocError>
     ensures { OnOk result (found.new ≡ found.old ++ broken_at rule (length plant.now.routes) (breaks_table plant.now rule)) }
 {
     for i in 0..plant.routes() {

@@ -94,8 +94,17 @@ fn at_first(rule: Rule) -> Broken {
 fn lists_every_broken_rule(rt: HostRuntime) -> Result<(), Fail> {
     let alloc = rt.alloc();
     let (source, path, conflicts) = (at_first(Rule::R2), at_first(Rule::R3), at_first(Rule::R6));
-    assert_eq!(rt; found(alloc, "b", "r")?.as_slice(), [source, conflicts].as_slice());
-    assert_eq!(rt; found(alloc, "c", "r")?.as_slice(), [source, path, conflicts].as_slice());
-    assert_eq!(rt; found(alloc, "b", "s")?.as_slice(), [source, conflicts].as_slice());
+    assert_eq!(rt;
+        found(alloc, "b", "r")?.as_slice(),
+        [source, conflicts].as_slice()
+    );
+    assert_eq!(rt;
+        found(alloc, "c", "r")?.as_slice(),
+        [source, path, conflicts].as_slice()
+    );
+    assert_eq!(rt;
+        found(alloc, "b", "s")?.as_slice(),
+        [source, conflicts].as_slice()
+    );
     Ok(())
 }
