@@ -54,13 +54,13 @@ no_table = record { routes = [] }
 station : NetDraft
 station = record {
   sections =
-    linear (codes "b1") None (Some (codes "p1")) None (Some (codes "m1"))
-    ∷ record { name = codes "p1"; kind = Point (codes "b1") (codes "t1") (codes "t2") Up }
-    ∷ linear (codes "t1") (Some (codes "p1")) (Some (codes "p2")) (Some (codes "m4")) (Some (codes "m3"))
-    ∷ linear (codes "t2") (Some (codes "p1")) (Some (codes "p2")) (Some (codes "m6")) (Some (codes "m5"))
-    ∷ record { name = codes "p2"; kind = Point (codes "b2") (codes "t1") (codes "t2") Down }
-    ∷ linear (codes "b2") (Some (codes "p2")) None (Some (codes "m2")) None
-    ∷ [];
+      linear (codes "b1") None (Some (codes "p1")) None (Some (codes "m1"))
+      ∷ record { name = codes "p1"; kind = Point (codes "b1") (codes "t1") (codes "t2") Up }
+      ∷ linear (codes "t1") (Some (codes "p1")) (Some (codes "p2")) (Some (codes "m4")) (Some (codes "m3"))
+      ∷ linear (codes "t2") (Some (codes "p1")) (Some (codes "p2")) (Some (codes "m6")) (Some (codes "m5"))
+      ∷ record { name = codes "p2"; kind = Point (codes "b2") (codes "t1") (codes "t2") Down }
+      ∷ linear (codes "b2") (Some (codes "p2")) None (Some (codes "m2")) None
+      ∷ [];
 }
 
 plus : Name → List ListedDraft
@@ -73,15 +73,15 @@ minus name = record { point = name; at = Minus } ∷ []
 station_table : List ListedDraft → List Name → TableDraft
 station_table points conflicts = record {
   routes =
-    route (codes "r1") (codes "m1") (Some (codes "m3")) (codes "p1" ∷ codes "t1" ∷ []) points conflicts
-    ∷ route (codes "r2") (codes "m1") (Some (codes "m5")) (codes "p1" ∷ codes "t2" ∷ []) (minus (codes "p1")) (codes "r1" ∷ codes "r6" ∷ codes "r7" ∷ codes "r8" ∷ [])
-    ∷ route (codes "r3") (codes "m3") None (codes "p2" ∷ codes "b2" ∷ []) (plus (codes "p2")) (codes "r4" ∷ codes "r5" ∷ codes "r6" ∷ [])
-    ∷ route (codes "r4") (codes "m5") None (codes "p2" ∷ codes "b2" ∷ []) (minus (codes "p2")) (codes "r3" ∷ codes "r5" ∷ codes "r6" ∷ [])
-    ∷ route (codes "r5") (codes "m2") (Some (codes "m4")) (codes "p2" ∷ codes "t1" ∷ []) (plus (codes "p2")) (codes "r1" ∷ codes "r3" ∷ codes "r4" ∷ codes "r6" ∷ [])
-    ∷ route (codes "r6") (codes "m2") (Some (codes "m6")) (codes "p2" ∷ codes "t2" ∷ []) (minus (codes "p2")) (codes "r2" ∷ codes "r3" ∷ codes "r4" ∷ codes "r5" ∷ [])
-    ∷ route (codes "r7") (codes "m4") None (codes "p1" ∷ codes "b1" ∷ []) (plus (codes "p1")) (codes "r1" ∷ codes "r2" ∷ codes "r8" ∷ [])
-    ∷ route (codes "r8") (codes "m6") None (codes "p1" ∷ codes "b1" ∷ []) (minus (codes "p1")) (codes "r1" ∷ codes "r2" ∷ codes "r7" ∷ [])
-    ∷ [];
+      route (codes "r1") (codes "m1") (Some (codes "m3")) (codes "p1" ∷ codes "t1" ∷ []) points conflicts
+      ∷ route (codes "r2") (codes "m1") (Some (codes "m5")) (codes "p1" ∷ codes "t2" ∷ []) (minus (codes "p1")) (codes "r1" ∷ codes "r6" ∷ codes "r7" ∷ codes "r8" ∷ [])
+      ∷ route (codes "r3") (codes "m3") None (codes "p2" ∷ codes "b2" ∷ []) (plus (codes "p2")) (codes "r4" ∷ codes "r5" ∷ codes "r6" ∷ [])
+      ∷ route (codes "r4") (codes "m5") None (codes "p2" ∷ codes "b2" ∷ []) (minus (codes "p2")) (codes "r3" ∷ codes "r5" ∷ codes "r6" ∷ [])
+      ∷ route (codes "r5") (codes "m2") (Some (codes "m4")) (codes "p2" ∷ codes "t1" ∷ []) (plus (codes "p2")) (codes "r1" ∷ codes "r3" ∷ codes "r4" ∷ codes "r6" ∷ [])
+      ∷ route (codes "r6") (codes "m2") (Some (codes "m6")) (codes "p2" ∷ codes "t2" ∷ []) (minus (codes "p2")) (codes "r2" ∷ codes "r3" ∷ codes "r4" ∷ codes "r5" ∷ [])
+      ∷ route (codes "r7") (codes "m4") None (codes "p1" ∷ codes "b1" ∷ []) (plus (codes "p1")) (codes "r1" ∷ codes "r2" ∷ codes "r8" ∷ [])
+      ∷ route (codes "r8") (codes "m6") None (codes "p1" ∷ codes "b1" ∷ []) (minus (codes "p1")) (codes "r1" ∷ codes "r2" ∷ codes "r7" ∷ [])
+      ∷ [];
 }
 
 first_conflicts : List Name

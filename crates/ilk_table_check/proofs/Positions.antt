@@ -1,9 +1,8 @@
 -- The first position at which a test passes, when one more item is looked at.
-use Rattle.std.proofs.Common.{◌≡◌, ℕ, zero, suc, ◌<◌, ◌+◌, Bool, true, false, cond, not, ◌||◌, Option, Some, None, option_map, is_some, List, [], ◌∷◌, ◌++◌, length, take, slice_get, position, bytes_eq, refl, sym, ◌∙◌, ap, subst, arith, nat_lt, length-take, get_or, ◌≤◌}
-use Rattle.std.specs.List.{list_any, position_or_len, prefix_len}
+use Rattle.std.proofs.Common.{◌≡◌, ℕ, zero, suc, ◌<◌, ◌+◌, Bool, true, false, cond, ◌||◌, Option, Some, None, option_map, is_some, List, [], ◌∷◌, ◌++◌, length, take, slice_get, position, bytes_eq, refl, sym, ◌∙◌, ap, subst, arith, nat_lt, length-take}
+use Rattle.std.specs.List.{list_any, position_or_len}
 use Rattle.std.proofs.lemmas.Bool.Decides.{nat_tests}
 use Rattle.std.proofs.lemmas.Slice.Eq.{bytes_eq-Decides}
-use Rattle.std.proofs.lemmas.Grind.{common_steps}
 use Rattle.std.proofs.lemmas.List.{take_more}
 use Rattle.std.proofs.lemmas.Option.{get_or_from_slice_get}
 use Rattle.ilk_plant.specs.Draft.{Name}
@@ -141,7 +140,7 @@ module _ (names : List Name) (i : ℕ) (name : Name) (lt : i < length names) (at
       let taken : length (take i names) ≡ i = grind (arith, length-take i names) in
       let known = number-new (take i names) name new_before q in
       let known_at : cond (bytes_eq name q) (Some i) (position (bytes_eq q) (take i names)) ≡ position (bytes_eq q) (take i names ++ name ∷ []) =
-          let P : ℕ → Type 0 = λ m. cond (bytes_eq name q) (Some m) (position (bytes_eq q) (take i names)) ≡ position (bytes_eq q) (take i names ++ name ∷ []) in subst P taken known in
+      let P : ℕ → Type 0 = λ m. cond (bytes_eq name q) (Some m) (position (bytes_eq q) (take i names)) ≡ position (bytes_eq q) (take i names ++ name ∷ []) in subst P taken known in
       rw one_more (now q ∙ ap (cond (bytes_eq name q) (Some i)) (before q) ∙ known_at)
 
 -- whether name i stands earlier too, by the first number that has it

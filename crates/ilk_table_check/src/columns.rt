@@ -95,7 +95,7 @@ fn breaks_together(plant: &Plant, rule: Rule, i: u32, j: u32) -> bool
 {
     match rule {
         Rule::C5 => lists(plant, i, j) && !lists(plant, j, i),
-        Rule::C6 => i < j && share_section(plant, i, j) && !lists(plant, i, j),
+        Rule::C6 => i < j && !lists(plant, i, j) && share_section(plant, i, j),
         _ => false,
     }
 }

@@ -8,6 +8,8 @@ mod names;
 mod numbered;
 mod numbering;
 mod table;
+#[cfg(test)]
+mod tests;
 mod ways;
 
 pub use columns::check_columns;

@@ -3,7 +3,7 @@ ghost use Rattle.std.specs.List.{list_all, list_any};
 ghost use Rattle.ilk_plant.specs.Broken.{broken_at};
 ghost use Rattle.ilk_plant.specs.Network.{has_section};
 ghost use Rattle.ilk_plant.specs.Limits.{HasLimits};
-ghost use Rattle.ilk_plant.specs.TableRules.{has_conflicts_once, has_destination_or_none, has_points_once, has_sections_once, is_other_route, is_point_section, is_section, none_twice, points_of, sections_of, table_rules_broken};
+ghost use Rattle.ilk_plant.specs.TableRules.{has_conflicts_once, has_destination_or_none, has_points_once, has_sections_once, is_other_route, is_point_section, is_section, none_twice, points_of, routes_broken, sections_of, table_rules_broken};
 ghost use Rattle.ilk_table_check.specs.Table.{breaks_table};
 
 use crate::listing::push_if;
@@ -161,11 +161,7 @@ fn breaks_table(plant: &Numbered, rule: Rule, i: u32) -> bool
 }
 
 // Adds the routes at which a rule of the table is broken.
-fn push_routes(
-    found: &mut Row<Broken>,
-    plant: &Numbered,
-    rule: Rule,
-) -> Result<(), AllocError>
+fn push_routes(found: &mut Row<Broken>, plant: &Numbered, rule: Rule) -> Result<(), AllocError>
     ensures { OnOk result (found.new ≡ found.old ++ broken_at rule (length plant.now.routes) (breaks_table plant.now rule)) }
 {
     for i in 0..plant.routes() {
@@ -177,6 +173,20 @@ fn push_routes(
         push_if(found, breaks_table(plant, rule, i), entry)?;
     }
     Ok(())
+}
+
+// The broken rules of a numbered table, in the order of the rules and then of the routes.
+fn broken_routes(alloc: Global, plant: &Numbered) -> Result<Row<Broken>, AllocError>
+    ensures { IfOk result (λ found. found ≡ routes_broken plant.now) }
+{
+    let mut found = Row::new(alloc);
+    push_routes(&mut found, plant, Rule::R1)?;
+    push_routes(&mut found, plant, Rule::R2)?;
+    push_routes(&mut found, plant, Rule::R3)?;
+    push_routes(&mut found, plant, Rule::R4)?;
+    push_routes(&mut found, plant, Rule::R5)?;
+    push_routes(&mut found, plant, Rule::R6)?;
+    Ok(found)
 }
 
 /// All broken rules of a table of routes, R1 to R6, in the order of the rules and then of the
@@ -192,12 +202,5 @@ pub fn check_table(
     ensures { IfOk result (λ found. found ≡ table_rules_broken net.now table.now) }
 {
     let plant = Numbered::of(alloc, net, table)?;
-    let mut found = Row::new(alloc);
-    push_routes(&mut found, &plant, Rule::R1)?;
-    push_routes(&mut found, &plant, Rule::R2)?;
-    push_routes(&mut found, &plant, Rule::R3)?;
-    push_routes(&mut found, &plant, Rule::R4)?;
-    push_routes(&mut found, &plant, Rule::R5)?;
-    push_routes(&mut found, &plant, Rule::R6)?;
-    Ok(found)
+    broken_routes(alloc, &plant)
 }

@@ -156,29 +156,15 @@ fn leads_along(plant: &Plant, x: u32, at: Position, before: u32, rest: &[u32]) -
 }
 
 // Whether section `x` is listed at a position whose leg is the section before it or the first after it.
-fn is_listed_towards(
-    plant: &Plant,
-    points: &Row<Listed>,
-    before: u32,
-    rest: &[u32],
-    x: u32,
-) -> bool
+fn is_listed_towards(plant: &Plant, points: &Row<Listed>, before: u32, rest: &[u32], x: u32) -> bool
     ensures { result ≡ is_listed_towards plant.now points.now (before ∷ take 1 rest.now) x }
 {
-    points
-        .as_slice()
-        .iter()
-        .any(|listed| listed.point == x && leads_along(plant, x, listed.at, before, rest))
+    points.as_slice().iter().any(|listed| listed.point == x
+        && leads_along(plant, x, listed.at, before, rest))
 }
 
 // Whether section `x` is no point, or is listed towards the section before it or the first after it.
-fn leads_through(
-    plant: &Plant,
-    points: &Row<Listed>,
-    before: u32,
-    rest: &[u32],
-    x: u32,
-) -> bool
+fn leads_through(plant: &Plant, points: &Row<Listed>, before: u32, rest: &[u32], x: u32) -> bool
     ensures { result ≡ (not (is_point_section plant.now x) || is_listed_towards plant.now points.now (before ∷ take 1 rest.now) x) }
 {
     !is_point_section(plant, x) || is_listed_towards(plant, points, before, rest, x)

@@ -1,0 +1,9 @@
+use Rattle.std.proofs.Common.{◌≡◌, IfOk, subst}
+use Rattle.ilk_plant.specs.Plant.{PlantLists}
+use Rattle.ilk_plant.specs.TableRules.{routes_broken}
+use Rattle.ilk_table_check.proofs.table.check_table.Goals as goal
+
+pub returns : goal.returns
+returns c =
+    let P : PlantLists → Type 0 = λ p. IfOk c.broken_routes.result (λ found. found ≡ routes_broken p) in
+    subst P c.in_ok-plant.ensures c.broken_routes.ensures

@@ -1,0 +1,110 @@
+//! What no clause says: that the check of a table succeeds where memory is there.
+ghost use Rattle.std.specs.Prelude.{◌≡◌, IfOk, length};
+ghost use Rattle.ilk_plant.specs.TableRules.{HasRouteLimits};
+
+use crate::check_table;
+use ilk_plant::{
+    Broken, KindDraft, NetDraft, RouteDraft, Row, Rule, SectionDraft, TableDraft, Text,
+};
+use std::alloc::{AllocError, Global};
+use std::test::Fail;
+
+// A text of these characters.
+fn text(alloc: Global, name: &str) -> Result<Text, AllocError> {
+    Ok(Text::of(String::from_str(alloc, name)?))
+}
+
+// A linear section without boards.
+fn section(
+    alloc: Global,
+    name: &str,
+    down: Option<Text>,
+    up: Option<Text>,
+) -> Result<SectionDraft, AllocError> {
+    let kind = KindDraft::Linear {
+        down,
+        up,
+        board_down: None,
+        board_up: None,
+    };
+    Ok(SectionDraft {
+        name: text(alloc, name)?,
+        kind,
+    })
+}
+
+// A row of one text.
+fn row_of(alloc: Global, name: &str) -> Result<Row<Text>, AllocError>
+    ensures { IfOk result (λ row. length row ≡ 1) }
+{
+    let mut row = Row::new(alloc);
+    row.push(text(alloc, name)?)?;
+    Ok(row)
+}
+
+// A route over one section, which lists one conflict.
+fn route(
+    alloc: Global,
+    source: &str,
+    section: &str,
+    conflict: &str,
+) -> Result<RouteDraft, AllocError>
+    ensures { IfOk result HasRouteLimits }
+{
+    Ok(RouteDraft {
+        name: text(alloc, "r")?,
+        source: text(alloc, source)?,
+        destination: None,
+        path: row_of(alloc, section)?,
+        overlap: Row::new(alloc),
+        points: Row::new(alloc),
+        conflicts: row_of(alloc, conflict)?,
+    })
+}
+
+// The sections a and b, in a line and without boards.
+fn line(alloc: Global) -> Result<NetDraft, AllocError>
+    ensures { IfOk result (λ net. length net.sections ≡ 2) }
+{
+    let mut sections = Row::new(alloc);
+    sections.push(section(alloc, "a", None, Some(text(alloc, "b")?))?)?;
+    sections.push(section(alloc, "b", Some(text(alloc, "a")?), None)?)?;
+    Ok(NetDraft { sections })
+}
+
+// What the check finds in a table of one route on the line, which begins at no board.
+fn found(alloc: Global, section: &str, conflict: &str) -> Result<Row<Broken>, AllocError> {
+    let net = line(alloc)?;
+    let mut routes = Row::new(alloc);
+    routes.push(route(alloc, "m", section, conflict)?)?;
+    let table = TableDraft { routes };
+    check_table(alloc, &net, &table)
+}
+
+// A rule that is broken at the first route.
+fn at_first(rule: Rule) -> Broken {
+    Broken {
+        rule,
+        first: 0,
+        second: None,
+    }
+}
+
+#[test]
+fn lists_every_broken_rule(rt: HostRuntime) -> Result<(), Fail> {
+    let alloc = rt.alloc();
+    let (source, path, conflicts) = (at_first(Rule::R2), at_first(Rule::R3), at_first(Rule::R6));
+    assert_eq!(rt;
+        found(alloc, "b", "r")?.as_slice(),
+        [source, conflicts].as_slice()
+    );
+    assert_eq!(rt;
+        found(alloc, "c", "r")?.as_slice(),
+        [source, path, conflicts].as_slice()
+    );
+    assert_eq!(rt;
+        found(alloc, "b", "s")?.as_slice(),
+        [source, conflicts].as_slice()
+    );
+    Ok(())
+}
