@@ -1,5 +1,5 @@
 -- Drafts within the limits that break no rule give a plant.
-use Rattle.std.proofs.Common.{◌≡◌, List, length, map, refl, sym, ◌∙◌, subst, arith}
+use Rattle.std.proofs.Common.{◌≡◌, List, length, map, refl, sym, ◌∙◌, subst, arith, []}
 use Rattle.std.proofs.lemmas.List.{length-map}
 use Rattle.ilk_plant.proofs.Boards.{boards-agree, boards-lead, boards-numbered, few-boards}
 use Rattle.ilk_plant.proofs.Neighbours.{next-back, next-known, next-once, next-other, next-some}
@@ -11,7 +11,8 @@ use Rattle.ilk_plant.proofs.Walks.{never-returns}
 use Rattle.ilk_plant.specs.Draft.{Name, boards_from, names_of_boards, names_of_routes, names_of_sections, numbered, numbered_route, numbered_section}
 use Rattle.ilk_plant.specs.Plant.{EachOnce, IsPlant, PlantLists}
 use Rattle.ilk_plant.specs.declared.network.Dir.TheVariants.{Up, Down}
-use Rattle.ilk_plant.specs.Sound.{AreSound, IsSound}
+use Rattle.ilk_plant.specs.Sound.{AreSound, IsOfDrafts, IsSound}
+use Rattle.ilk_plant.specs.TableRules.{routes_broken}
 use Rattle.ilk_plant.specs.declared.draft.NetDraft.{NetDraft}
 use Rattle.ilk_plant.specs.declared.draft.TableDraft.{TableDraft}
 
@@ -81,3 +82,8 @@ numbered-parts net table p section_names board_names route_names boards sections
           board_names = board_names i;
           route_names = route_names i;
         }
+
+-- a plant breaks no rule of the table
+pub table-kept : (p : PlantLists) → IsOfDrafts p → routes_broken p ≡ []
+table-kept p drafts =
+    let P : PlantLists → Type 0 = λ q. routes_broken q ≡ [] in subst P (sym drafts.same) drafts.sound.routes

@@ -73,27 +73,31 @@ pub record IsRouteOf (p : PlantLists) (route : Route) : Type 0 where
   pub few_points : length route.points ≤ 40
   pub few_conflicts : length route.conflicts ≤ 128
 
--- what every plant has: the limits, a name of its own for each, and no number that stands for nothing; a section has
--- a neighbour, and its neighbours are other sections, each at one end alone, and have it on their opposite side; the boards of the
--- sections are those listed, each where trains run on to a neighbour; and a route's conflicts are other routes
+-- what every plant has
 pub record IsPlant (p : PlantLists) : Type 0 where
+  -- the limits
   pub some_section : 0 < length p.sections
   pub few_sections : length p.sections ≤ 128
   pub few_boards : length p.boards ≤ 256
   pub few_routes : length p.routes ≤ 128
+  -- each section, board and route has a name of its own
   pub sections_named : length p.section_names ≡ length p.sections
   pub boards_named : length p.board_names ≡ length p.boards
   pub routes_named : length p.route_names ≡ length p.routes
   pub section_names_differ : EachOnce p.section_names
   pub board_names_differ : EachOnce p.board_names
   pub route_names_differ : EachOnce p.route_names
+  -- a section has a neighbour, and its neighbours are other sections, each at one end alone
   pub neighbours_some : (x : ℕ) → x < length p.sections → 0 < length (next_to p x Down ++ next_to p x Up)
   pub neighbours : (x y : ℕ) (d : Dir) → IsTrue (has_section y (next_to p x d)) → y < length p.sections
   pub neighbours_other : (x : ℕ) (d : Dir) → has_section x (next_to p x d) ≡ false
   pub neighbours_once : (x : ℕ) → EachOnce (next_to p x Down ++ next_to p x Up)
+  -- y is next to x on the up side exactly where x is next to y on the down side
   pub neighbours_back : (x y : ℕ) → IsTrue (has_section y (next_to p x Up)) ↔ IsTrue (has_section x (next_to p y Down))
+  -- the boards of the sections are those listed, each where trains run on to a neighbour
   pub boards_known : (x m : ℕ) (d : Dir) → board_of p x d ≡ Some m → m < length p.boards
   pub boards_listed : (x m : ℕ) (d : Dir) → (board_of p x d ≡ Some m) ↔ (slice_get p.boards m ≡ Some (record { section = x; dir = d }))
   pub boards_lead_on : (x m : ℕ) (d : Dir) → board_of p x d ≡ Some m → 0 < length (next_to p x d)
+  -- routes speak of what there is, and conflict with other routes
   pub routes_known : (r : ℕ) (route : Route) → slice_get p.routes r ≡ Some route → IsRouteOf p route
   pub conflicts_other : (r : ℕ) (route : Route) → slice_get p.routes r ≡ Some route → All (λ q. q ≢ r) route.conflicts

@@ -10,7 +10,8 @@ use std::marker::Model;
 ///
 /// Sections and routes are numbered as the configuration lists them. Boards are numbered in the
 /// order of their sections, on one section the board for direction down first, and points in the
-/// order of their sections. A plant has 1 to 128 sections and at most 128 routes.
+/// order of their sections. A plant has 1 to 128 sections and at most 128 routes, and breaks no
+/// rule of the network or of the table of routes.
 #[derive(Drop)]
 pub struct Plant {
     sections: Row<Section>,
