@@ -96,8 +96,10 @@ def wrong_entries(path, entry_kind, place):
 def object_cases(kind, rows):
     """The cases of one kind of object."""
     where, place = OBJECTS[kind]
-    yield refused(f"{kind}: unknown member", put(BASE, [*where, "other"], None), place,
-                  "no member but the listed ones is allowed")
+    for label, sample in SAMPLES.items():
+        yield refused(f"{kind}: unknown member with {label}",
+                      put(BASE, [*where, "other"], sample), place,
+                      "no member but the listed ones is allowed")
     for member, words in rows:
         path = [*where, member]
         allowed = [word for word in words if word in SAMPLES]
