@@ -132,7 +132,7 @@ def member_cases():
     """All cases of the table, and the base itself, which is right."""
     rows = read_rows((CASES / "members.table").read_text(encoding="utf-8"))
     cases = [member_case("the base is right", BASE, "clean", 0,
-                         "the base of the table: two routes over a point, with a board at each border")]
+                         "two routes over a point, with a board at each border")]
     for kind, members in rows.items():
         known = set(at(BASE, OBJECTS[kind][0]))
         if known != {member for member, _ in members}:
