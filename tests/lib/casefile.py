@@ -5,6 +5,7 @@ import shlex
 from pathlib import Path
 
 import conf
+import runs
 
 ROOT = Path(__file__).resolve().parent.parent.parent
 EXAMPLES = ROOT / "examples"
@@ -115,7 +116,10 @@ def given_bytes(value, block):
     if word == "example" and not block:
         return (EXAMPLES / rest).read_bytes()
     if word == "made" and not block:
-        return conf.made(*rest.split())
+        kind, *words = rest.split()
+        if kind in runs.MADE:
+            return runs.MADE[kind](int(words[0]))
+        return conf.made(kind, *words)
     if word == "plant" and block:
         return conf.plant_text([line[2:] for line in block])
     raise ValueError(f"no input: {value!r}")

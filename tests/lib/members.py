@@ -96,8 +96,10 @@ def wrong_entries(path, entry_kind, place):
 def object_cases(kind, rows):
     """The cases of one kind of object."""
     where, place = OBJECTS[kind]
-    yield refused(f"{kind}: unknown member", put(BASE, [*where, "other"], None), place,
-                  "no member but the listed ones is allowed")
+    for label, sample in SAMPLES.items():
+        yield refused(f"{kind}: unknown member with {label}",
+                      put(BASE, [*where, "other"], sample), place,
+                      "no member but the listed ones is allowed")
     for member, words in rows:
         path = [*where, member]
         allowed = [word for word in words if word in SAMPLES]
@@ -130,7 +132,7 @@ def member_cases():
     """All cases of the table, and the base itself, which is right."""
     rows = read_rows((CASES / "members.table").read_text(encoding="utf-8"))
     cases = [member_case("the base is right", BASE, "clean", 0,
-                         "the base of the table: two routes over a point, with a board at each border")]
+                         "two routes over a point, with a board at each border")]
     for kind, members in rows.items():
         known = set(at(BASE, OBJECTS[kind][0]))
         if known != {member for member, _ in members}:

@@ -10,7 +10,8 @@ RULES = ["F1", "F2", "F3", "F4", "F5", "F6",
          "R1", "R2", "R3", "R4", "R5", "R6",
          "C1", "C2", "C3", "C4", "C5", "C6", "C7"]
 NAME = "[A-Za-z0-9_-]{1,32}"
-REFUSED = re.compile(r"refused ([A-Z][0-9]) (document|extra|[a-z]+\[[0-9]+\](?: routes\[[0-9]+\])?)")
+REFUSED = re.compile(r"refused ([A-Z][0-9]) "
+                     r"(document|extra|[a-z]+\[[0-9]+\](?: routes\[[0-9]+\])?)")
 PLACES = {"N1": "sections", "N2": "boards", "N3": "sections", "N4": "sections", "N5": "sections",
           "N6": "sections", "N7": "sections", "N8": "sections", "C7": "sections"}
 REPORTS = {
