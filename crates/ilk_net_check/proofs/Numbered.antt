@@ -1,16 +1,15 @@
 -- The rules over numbers are the rules over names.
-use Rattle.std.proofs.Common.{◌≡◌, ℕ, zero, suc, ◌<◌, ◌+◌, ◌≤◌, Bool, true, false, not, ◌&&◌, ◌||◌, ◌==◌, cond, Option, Some, None, List, [], ◌∷◌, ◌++◌, length, map, get_or, slice_get, count_by, nat_lt, ◌⊎◌, inl, inr, refl, sym, ◌∙◌, ap, subst, arith}
-use Rattle.std.specs.List.{list_any, range_with_len, sum_by}
-use Rattle.std.proofs.lemmas.List.{get_or_past, length-map}
+use Rattle.std.proofs.Common.{◌≡◌, ℕ, zero, suc, ◌<◌, ◌+◌, ◌≤◌, Bool, false, not, ◌&&◌, ◌||◌, ◌==◌, cond, Option, Some, None, List, [], ◌∷◌, ◌++◌, length, map, get_or, slice_get, count_by, ◌⊎◌, inl, inr, refl, sym, ◌∙◌, ap, arith}
+use Rattle.std.specs.List.{list_any, range_with_len}
+use Rattle.std.proofs.lemmas.List.{get_or_past}
 use Rattle.std.proofs.lemmas.List.FromFn.{length-map-range_with_len}
 use Rattle.std.proofs.lemmas.List.Sums.{sum_by-cons}
-use Rattle.std.proofs.lemmas.Bool.Decides.{nat_tests}
 use Rattle.std.proofs.lemmas.Option.{slice_get_past}
 use Rattle.ilk_plant.specs.Broken.{broken_at}
 use Rattle.ilk_plant.specs.Draft.{Name, names_of_boards, names_of_sections}
 use Rattle.ilk_plant.specs.Network.{same_direction}
-use Rattle.ilk_plant.specs.NetworkRules.{ends, ends_of, has_board_at_end, has_board_to_nowhere, has_no_neighbour, is_next_up, is_some_and, leads_by, network_rules_broken, opposite, repeats_name, returns, section_named, stands_alone}
-use Rattle.ilk_plant.specs.NetworkRules.{End as NamedEnd, is_not_named_back, names_once as names_once_by_name, names_no_other as names_no_other_by_name, names_section, names_another, repeats_neighbour as repeats_neighbour_by_name}
+use Rattle.ilk_plant.specs.NetworkRules.{ends_of, has_board_at_end, has_board_to_nowhere, has_no_neighbour, is_next_up, is_some_and, leads_by, network_rules_broken, opposite, repeats_name, returns, section_named, stands_alone}
+use Rattle.ilk_plant.specs.NetworkRules.{is_not_named_back, names_once as names_once_by_name, names_no_other as names_no_other_by_name, repeats_neighbour as repeats_neighbour_by_name}
 use Rattle.ilk_plant.specs.declared.broken.Broken.{Broken}
 use Rattle.ilk_plant.specs.declared.broken.Rule.TheVariants.{N1, N2, N3, N4, N5, N6, N7, N8}
 use Rattle.ilk_plant.specs.declared.draft.NetDraft.{NetDraft}
@@ -18,7 +17,7 @@ use Rattle.ilk_plant.specs.declared.draft.SectionDraft.{SectionDraft}
 use Rattle.ilk_plant.specs.declared.network.Dir.{Dir}
 use Rattle.ilk_net_check.specs.declared.ends.End.{End}
 use Rattle.ilk_net_check.specs.Numbers.{breaks, ends_at, entry, is_next, is_one_way, leads_to, names, names_no_other, names_once, numbered_end, numbered_ends, repeats_neighbour, section_is, table}
-use Rattle.ilk_net_check.proofs.Tables.{entry-table, flag-at}
+use Rattle.ilk_net_check.proofs.Tables.{below_or_past, entry-table, flag-at}
 
 list_any-map : {X Y : Type 0} (p : Y → Bool) (f : X → Y) (xs : List X) → list_any p (map f xs) ≡ list_any (λ x. p (f x)) xs
 list_any-map p f [] = refl
@@ -28,13 +27,6 @@ count_by-map : {X Y : Type 0} (p : Y → Bool) (f : X → Y) (xs : List X) → c
 count_by-map p f [] = refl
 count_by-map p f (x ∷ xs) =
     sum_by-cons (λ y. cond (p y) 1 0) (f x) (map f xs) ∙ ap (λ n. cond (p (f x)) 1 0 + n) (count_by-map p f xs) ∙ sym (sum_by-cons (λ y. cond (p (f y)) 1 0) x xs)
-
-below_or_past : (x n : ℕ) → (x < n) ⊎ (n ≤ x)
-below_or_past x n = by_test (nat_lt x n) refl
-  where
-    by_test : (b : Bool) → nat_lt x n ≡ b → (x < n) ⊎ (n ≤ x)
-    by_test true e = inl (grind (arith, nat_tests))
-    by_test false e = inr (grind (arith, nat_tests))
 
 -- nothing past the end repeats a name
 repeats_name-past : (names : List Name) (i : ℕ) → length names ≤ i → repeats_name names i ≡ false

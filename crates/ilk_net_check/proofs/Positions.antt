@@ -1,13 +1,12 @@
 -- The first position at which a test passes, when one more item is looked at.
-use Rattle.std.proofs.Common.{◌≡◌, ℕ, zero, suc, ◌<◌, ◌+◌, Bool, true, false, cond, not, ◌||◌, Option, Some, None, option_map, is_some, List, [], ◌∷◌, ◌++◌, length, take, slice_get, position, bytes_eq, refl, sym, ◌∙◌, ap, subst, arith, nat_lt, length-take, get_or, ◌≤◌}
-use Rattle.std.specs.List.{list_any, position_or_len, prefix_len}
+use Rattle.std.proofs.Common.{◌≡◌, ℕ, suc, ◌<◌, ◌+◌, Bool, true, false, cond, ◌||◌, Option, Some, None, option_map, is_some, List, [], ◌∷◌, ◌++◌, length, take, slice_get, position, bytes_eq, refl, sym, ◌∙◌, ap, subst, arith, nat_lt, length-take}
+use Rattle.std.specs.List.{list_any, position_or_len}
 use Rattle.std.proofs.lemmas.Bool.Decides.{nat_tests}
 use Rattle.std.proofs.lemmas.Slice.Eq.{bytes_eq-Decides}
-use Rattle.std.proofs.lemmas.Grind.{common_steps}
 use Rattle.std.proofs.lemmas.List.{take_more}
 use Rattle.std.proofs.lemmas.Option.{get_or_from_slice_get}
 use Rattle.ilk_plant.specs.Draft.{Name}
-use Rattle.ilk_plant.specs.NetworkRules.{is_some_and, repeats_name}
+use Rattle.ilk_plant.specs.NetworkRules.{repeats_name}
 
 -- one more number for each
 lt-suc : (n m : ℕ) → nat_lt (1 + n) (suc m) ≡ nat_lt n m

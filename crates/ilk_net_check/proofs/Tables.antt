@@ -1,5 +1,5 @@
 -- Tables of tests over pairs of numbers.
-use Rattle.std.proofs.Common.{◌≡◌, ℕ, zero, suc, ◌<◌, ◌+◌, ◌≤◌, Bool, true, false, ◌||◌, ◌&&◌, List, [], ◌∷◌, ◌++◌, length, map, get_or, refl, sym, ◌∙◌, ap, subst, arith, ◌⊎◌, inl, inr, nat_lt}
+use Rattle.std.proofs.Common.{◌≡◌, ℕ, zero, suc, ◌<◌, ◌+◌, ◌≤◌, Bool, true, false, List, [], ◌∷◌, ◌++◌, length, map, get_or, refl, sym, ◌∙◌, subst, arith, ◌⊎◌, inl, inr, nat_lt}
 use Rattle.std.specs.List.{range_with_len}
 use Rattle.std.proofs.lemmas.List.FromFn.{get_or-map-range_with_len, length-map-range_with_len, map-range_with_len_more}
 use Rattle.std.proofs.lemmas.Bool.Decides.{nat_tests}
@@ -43,17 +43,18 @@ next_table n k step leads new lk before after =
     let e : suc k ≡ k + 1 = omega arith in
     subst Q e (subst P before after ∙ joined-table n k step lk)
 
+-- a number is below another or not
+pub below_or_past : (x n : ℕ) → (x < n) ⊎ (n ≤ x)
+below_or_past x n = by_test (nat_lt x n) refl
+  where
+    by_test : (b : Bool) → nat_lt x n ≡ b → (x < n) ⊎ (n ≤ x)
+    by_test true e = inl (grind (arith, nat_tests))
+    by_test false e = inr (grind (arith, nat_tests))
+
 -- what a list has at an index, of what a function gives; nothing past its end
 pub flag-at : (f : ℕ → Bool) (n : ℕ) → ((x : ℕ) → n ≤ x → f x ≡ false) → (x : ℕ) → get_or (map f (range_with_len 0 n)) x false ≡ f x
-flag-at f n past x = by_place (x_below x n)
+flag-at f n past x = by_place (below_or_past x n)
   where
-    x_below : (x n : ℕ) → (x < n) ⊎ (n ≤ x)
-    x_below x n = by_test (nat_lt x n) refl
-      where
-        by_test : (b : Bool) → nat_lt x n ≡ b → (x < n) ⊎ (n ≤ x)
-        by_test true e = inl (grind (arith, nat_tests))
-        by_test false e = inr (grind (arith, nat_tests))
-
     by_place : (x < n) ⊎ (n ≤ x) → get_or (map f (range_with_len 0 n)) x false ≡ f x
     by_place (inl lt) = get_or-map-range_with_len f 0 n x x false lt (omega arith)
     by_place (inr le) =

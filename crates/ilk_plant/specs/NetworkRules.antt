@@ -1,5 +1,5 @@
 -- The rules of the network, N1 to N8: the list of those that a draft breaks.
-use Rattle.std.specs.Prelude.{ℕ, zero, suc, ◌≡◌, Bool, true, false, not, ◌&&◌, ◌||◌, ◌==◌, Option, Some, None, is_none, List, [], ◌∷◌, ◌++◌, length, map, take, slice_get, count_by, bytes_eq, IsTrue}
+use Rattle.std.specs.Prelude.{ℕ, zero, suc, ◌≡◌, Bool, false, not, ◌&&◌, ◌||◌, ◌==◌, Option, Some, None, is_none, List, [], ◌∷◌, ◌++◌, length, map, take, slice_get, count_by, bytes_eq, IsTrue}
 use Rattle.std.specs.List.{list_any, last_or}
 use Rattle.ilk_plant.specs.Broken.{broken_at}
 use Rattle.ilk_plant.specs.Draft.{Name, names_of_boards, names_of_sections}
@@ -86,10 +86,14 @@ abbrev pub names_once : NetDraft → ℕ → Dir → List End → Bool
 names_once net x d ends =
     count_by (names_section net x) ends == 1 && list_any (λ end. names_section net x end && same_direction end.side d) ends
 
+-- whether an end of section x names another section, which doesn't name x at exactly one of its ends, on the opposite side
+abbrev pub is_one_way : NetDraft → ℕ → End → Bool
+is_one_way net x end =
+    is_some_and (section_named net end.name) (λ y. not (y == x) && not (names_once net x (opposite end.side) (ends_of net y)))
+
 -- N5: a neighbour of section x, other than x, doesn't name x at exactly one of its ends, on the opposite side
 abbrev pub is_not_named_back : NetDraft → ℕ → Bool
-is_not_named_back net x =
-    list_any (λ end. is_some_and (section_named net end.name) (λ y. not (y == x) && not (names_once net x (opposite end.side) (ends_of net y)))) (ends_of net x)
+is_not_named_back net x = list_any (is_one_way net x) (ends_of net x)
 
 -- whether a section is linear and has no neighbour
 abbrev pub has_no_neighbour : KindDraft → Bool

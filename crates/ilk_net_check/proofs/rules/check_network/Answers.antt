@@ -1,4 +1,4 @@
-use Rattle.std.proofs.Common.{◌≡◌, ℕ, ◌≤◌, arith, length, ap, sym, ◌∙◌, refl}
+use Rattle.std.proofs.Common.{◌≤◌, arith, length, ap, sym, ◌∙◌}
 use Rattle.std.proofs.lemmas.List.FromFn.{length-map-range_with_len}
 use Rattle.ilk_plant.specs.Draft.{names_of_boards}
 use Rattle.ilk_plant.specs.NetworkRules.{network_rules_broken, repeats_name}
