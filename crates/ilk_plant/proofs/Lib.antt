@@ -1,4 +1,16 @@
+pub mod Boards
 pub mod Counts
+pub mod Leads
+pub mod NamesDiffer
+pub mod Neighbours
+pub mod Numbered
+pub mod Once
 pub mod Options
+pub mod RoutesOf
 pub mod Rows
+pub mod Rules
+pub mod Sides
+pub mod Sound
 pub mod Steps
+pub mod Tests
+pub mod Walks

@@ -1,5 +1,5 @@
 -- Lists by `slice_get`: what a row has at an index, and after a write.
-use Rattle.std.proofs.Common.{◌≡◌, ℕ, List, [], ◌∷◌, slice_get, set, Some, refl, ap, zero, suc, inl, inr, ◌⊎◌, sym, ◌∙◌, Bool, true, position, IsTrue, ◌==◌, eq-eqb}
+use Rattle.std.proofs.Common.{◌≡◌, ℕ, List, [], ◌∷◌, ◌++◌, ◌+◌, length, arith, slice_get, set, Some, refl, ap, zero, suc, inl, inr, ◌⊎◌, sym, ◌∙◌, Bool, true, position, IsTrue, ◌==◌, eq-eqb}
 use Rattle.std.proofs.lemmas.List.Folds.{list_any_at}
 use Rattle.ilk_plant.specs.Network.{has_section}
 use Rattle.std.proofs.lemmas.List.Quantifiers.{position-Some}
@@ -27,3 +27,16 @@ slice_get_set (x ∷ xs) zero (suc j) y z e = inr e
 slice_get_set (x ∷ xs) (suc i) zero y z e = inr e
 slice_get_set (x ∷ xs) (suc i) (suc j) y z e =
     elim (slice_get_set xs i j y z e) [ inl h ↦ inl (ap suc h.0, h.1) | inr h ↦ inr h ]
+
+-- what stands in the first of two lists stands at the same place in both together, and what stands in the second
+-- stands past the first
+pub at-before : {X : Type 0} (xs ys : List X) (k : ℕ) (x : X) → slice_get xs k ≡ Some x → slice_get (xs ++ ys) k ≡ Some x
+at-before [] ys k x e = cc
+at-before (y ∷ xs) ys zero x e = e
+at-before (y ∷ xs) ys (suc k) x e = at-before xs ys k x e
+
+pub at-past : {X : Type 0} (xs ys : List X) (k : ℕ) (x : X) → slice_get ys k ≡ Some x → slice_get (xs ++ ys) (length xs + k) ≡ Some x
+at-past [] ys k x e = ap (slice_get ys) (omega arith) ∙ e
+at-past (y ∷ xs) ys k x e =
+    let n : length (y ∷ xs) + k ≡ suc (length xs + k) = omega arith in
+    ap (slice_get (y ∷ xs ++ ys)) n ∙ at-past xs ys k x e

@@ -6,4 +6,9 @@ pub mod Plant
 pub mod State
 pub mod Start
 pub mod Draft
-pub mod PlainLine
+pub mod Broken
+pub mod TableRules
+pub mod ColumnRules
+pub mod NetworkRules
+pub mod Limits
+pub mod Sound

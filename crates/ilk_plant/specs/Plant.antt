@@ -1,8 +1,9 @@
 -- The plant: its numbered sections, boards and routes, with their names.
-use Rattle.std.specs.Prelude.{ℕ, ◌<◌, ◌≤◌, ◌≡◌, Bool, Option, Some, None, List, [], length, take, slice_get, count_by, position, bytes_eq, IsTrue, All}
+use Rattle.std.specs.Prelude.{ℕ, ◌<◌, ◌≤◌, ◌≡◌, ◌≢◌, ◌↔◌, false, Option, Some, None, IsSome, List, [], ◌++◌, length, map, take, slice_get, count_by, position, bytes_eq, IsTrue, All}
 use Rattle.ilk_plant.specs.Option.{◌>>=◌, only_if}
 use Rattle.ilk_plant.specs.Network.{beside, board_on, has_section, inward, is_point}
 use Rattle.ilk_plant.specs.declared.network.Dir.{Dir}
+use Rattle.ilk_plant.specs.declared.network.Dir.TheVariants.{Up, Down}
 use Rattle.ilk_plant.specs.declared.network.Section.{Section}
 use Rattle.ilk_plant.specs.declared.network.Board.{Board}
 use Rattle.ilk_plant.specs.declared.table.Route.{Route}
@@ -49,24 +50,50 @@ border p x = do
 abbrev pub first_named : List (List ℕ) → List ℕ → Option ℕ
 first_named names name = position (bytes_eq name) names
 
--- a route speaks of sections, boards and routes of the plant
+-- no item stands twice in a list
+abbrev pub EachOnce : {A : Type 0} → List A → Type 0
+EachOnce {A} xs = (i j : ℕ) (x : A) → slice_get xs i ≡ Some x → slice_get xs j ≡ Some x → i ≡ j
+
+-- a route speaks of sections, boards and routes of the plant, within the limits, and of each once
 pub record IsRouteOf (p : PlantLists) (route : Route) : Type 0 where
   pub source : route.source < length p.boards
+  pub destination : (m : ℕ) → route.destination ≡ Some m → m < length p.boards
   pub path : All (λ x. x < length p.sections) route.path
   pub overlap : All (λ x. x < length p.sections) route.overlap
+  pub sections_once : EachOnce (route.path ++ route.overlap)
   pub points : All (λ listed. listed.point < length p.sections) route.points
+  pub points_are_points : All (λ listed. IsSome (point_number p listed.point)) route.points
+  pub points_passed : All (λ listed. IsTrue (has_section listed.point (route.path ++ route.overlap))) route.points
+  pub points_once : EachOnce (map (λ listed. listed.point) route.points)
   pub conflicts : All (λ r. r < length p.routes) route.conflicts
+  pub conflicts_once : EachOnce route.conflicts
   pub path_begins : 0 < length route.path
   pub path_ends : length route.path ≤ 32
+  pub short_overlap : length route.overlap ≤ 8
+  pub few_points : length route.points ≤ 40
+  pub few_conflicts : length route.conflicts ≤ 128
 
--- what every plant has: the limits, a name for each, and no number that stands for nothing
+-- what every plant has: the limits, a name of its own for each, and no number that stands for nothing; a section has
+-- a neighbour, and its neighbours are other sections, each at one end alone, and have it on their opposite side; the boards of the
+-- sections are those listed, each where trains run on to a neighbour; and a route's conflicts are other routes
 pub record IsPlant (p : PlantLists) : Type 0 where
+  pub some_section : 0 < length p.sections
   pub few_sections : length p.sections ≤ 128
   pub few_boards : length p.boards ≤ 256
   pub few_routes : length p.routes ≤ 128
   pub sections_named : length p.section_names ≡ length p.sections
   pub boards_named : length p.board_names ≡ length p.boards
   pub routes_named : length p.route_names ≡ length p.routes
+  pub section_names_differ : EachOnce p.section_names
+  pub board_names_differ : EachOnce p.board_names
+  pub route_names_differ : EachOnce p.route_names
+  pub neighbours_some : (x : ℕ) → x < length p.sections → 0 < length (next_to p x Down ++ next_to p x Up)
   pub neighbours : (x y : ℕ) (d : Dir) → IsTrue (has_section y (next_to p x d)) → y < length p.sections
+  pub neighbours_other : (x : ℕ) (d : Dir) → has_section x (next_to p x d) ≡ false
+  pub neighbours_once : (x : ℕ) → EachOnce (next_to p x Down ++ next_to p x Up)
+  pub neighbours_back : (x y : ℕ) → IsTrue (has_section y (next_to p x Up)) ↔ IsTrue (has_section x (next_to p y Down))
   pub boards_known : (x m : ℕ) (d : Dir) → board_of p x d ≡ Some m → m < length p.boards
+  pub boards_listed : (x m : ℕ) (d : Dir) → (board_of p x d ≡ Some m) ↔ (slice_get p.boards m ≡ Some (record { section = x; dir = d }))
+  pub boards_lead_on : (x m : ℕ) (d : Dir) → board_of p x d ≡ Some m → 0 < length (next_to p x d)
   pub routes_known : (r : ℕ) (route : Route) → slice_get p.routes r ≡ Some route → IsRouteOf p route
+  pub conflicts_other : (r : ℕ) (route : Route) → slice_get p.routes r ≡ Some route → All (λ q. q ≢ r) route.conflicts

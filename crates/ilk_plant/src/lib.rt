@@ -7,7 +7,9 @@
 
 mod broken;
 mod draft;
+mod make;
 mod network;
+mod numbering;
 mod occupancy;
 mod plant;
 mod row;

@@ -1,5 +1,6 @@
 ghost use Rattle.std.specs.Prelude.{◌≡◌, ◌<◌, ◌≤◌, length, slice_get, Some, IfSome, count_by, take};
 ghost use Rattle.ilk_plant.specs.Network.{is_point};
+ghost use Rattle.ilk_plant.specs.Sound.{IsOfDrafts, IsSound, NeverReturns};
 ghost use Rattle.ilk_plant.specs.Plant.{IsPlant, IsRouteOf, board_of, border, first_named, next_to, point_count, point_number};
 
 use crate::{Board, Dir, Route, Row, Section, Text};
@@ -21,7 +22,8 @@ pub struct Plant {
 }
 
 impl Model for Plant {
-    ghost use Rattle.ilk_plant.specs.Plant.{PlantLists, IsPlant};
+    ghost use Rattle.ilk_plant.specs.Plant.{PlantLists};
+    ghost use Rattle.ilk_plant.specs.Sound.{IsSound};
 
     ghost Value = { PlantLists };
 
@@ -34,7 +36,7 @@ impl Model for Plant {
       route_names = p.route_names;
     } };
 
-    ghost invariant = { λ p. IsPlant (record {
+    ghost invariant = { λ p. IsSound (record {
       sections = p.sections;
       boards = p.boards;
       routes = p.routes;
@@ -44,8 +46,8 @@ impl Model for Plant {
     }) };
 }
 
-// The first place at which the names have this one.
-fn place_of(names: &Row<Text>, name: &str) -> Option<usize>
+/// The first place at which the names have this one.
+pub(crate) fn place_of(names: &Row<Text>, name: &str) -> Option<usize>
     ensures { result ≡ first_named names.now name.now }
 {
     names
@@ -55,7 +57,7 @@ fn place_of(names: &Row<Text>, name: &str) -> Option<usize>
 }
 
 // The number for which a name stands. None where nothing has it.
-fn number_of(names: &Row<Text>, name: &str) -> Option<u32>
+fn number_named(names: &Row<Text>, name: &str) -> Option<u32>
     requires { length names.now ≤ 256 }
     ensures number { result ≡ first_named names.now name.now }
     ensures known { IfSome result (λ n. n < length names.now) }
@@ -67,9 +69,54 @@ fn number_of(names: &Row<Text>, name: &str) -> Option<u32>
 }
 
 impl Plant {
-    /// What holds of every plant. It does nothing, and tells a proof.
+    /// The plant of these lists.
+    pub(crate) fn of_lists(
+        sections: Row<Section>,
+        boards: Row<Board>,
+        routes: Row<Route>,
+        section_names: Row<Text>,
+        board_names: Row<Text>,
+        route_names: Row<Text>,
+    ) -> Plant
+        requires { IsSound (record {
+          sections = sections;
+          boards = boards;
+          routes = routes;
+          section_names = section_names;
+          board_names = board_names;
+          route_names = route_names;
+        }) }
+        ensures { result ≡ record {
+          sections = sections;
+          boards = boards;
+          routes = routes;
+          section_names = section_names;
+          board_names = board_names;
+          route_names = route_names;
+        } }
+    {
+        Plant {
+            sections,
+            boards,
+            routes,
+            section_names,
+            board_names,
+            route_names,
+        }
+    }
+
+    /// What holds of the numbers of every plant. It does nothing, and tells a proof.
     pub fn is_sound(&self)
         ensures { IsPlant self.now }
+    {
+        let _ = &self.sections;
+    }
+
+    /// Where every plant comes from, which are drafts within the limits that break no rule; and
+    /// that no walk in one direction comes to a section twice. It does nothing, and tells a proof.
+    pub fn is_of_drafts(&self)
+        ensures drafts { IsOfDrafts self.now }
+        ensures walks { NeverReturns self.now }
     {
         let _ = &self.sections;
     }
@@ -188,7 +235,7 @@ impl Plant {
         ensures known { IfSome result (λ x. x < length self.now.sections) }
     {
         let _ = &self.sections;
-        number_of(&self.section_names, name)
+        number_named(&self.section_names, name)
     }
 
     /// The number of the board with this name. None exactly where no board has it.
@@ -197,7 +244,7 @@ impl Plant {
         ensures known { IfSome result (λ m. m < length self.now.boards) }
     {
         let _ = &self.sections;
-        number_of(&self.board_names, name)
+        number_named(&self.board_names, name)
     }
 
     /// The number of the route with this name. None exactly where no route has it.
@@ -206,7 +253,7 @@ impl Plant {
         ensures known { IfSome result (λ r. r < length self.now.routes) }
     {
         let _ = &self.sections;
-        number_of(&self.route_names, name)
+        number_named(&self.route_names, name)
     }
 
     /// The name of section `x`.

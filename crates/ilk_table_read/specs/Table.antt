@@ -2,6 +2,7 @@
 use Rattle.std.specs.Prelude.{ℕ, ◌≤◌, List, length, Result, Ok, IsTrue}
 use Rattle.std.specs.List.{All, list_all}
 use Rattle.serde_json.specs.Data.{Data}
+use Rattle.ilk_plant.specs.Limits.{RouteHasLimits}
 use Rattle.ilk_plant.specs.declared.draft.NetDraft.{NetDraft}
 use Rattle.ilk_plant.specs.declared.draft.RouteDraft.{RouteDraft}
 use Rattle.ilk_plant.specs.declared.draft.TableDraft.{TableDraft}
@@ -35,16 +36,8 @@ drafts_of bytes = do
   table ← table_of d
   Ok (net, table)
 
--- a route's lists are within their limits
-pub record HasLimits (route : RouteDraft) : Type 0 where
-  pub some : 1 ≤ length route.path
-  pub path : length route.path ≤ 32
-  pub overlap : length route.overlap ≤ 8
-  pub points : length route.points ≤ 40
-  pub conflicts : length route.conflicts ≤ 128
-
 -- there are at most 128 routes, each with lists within their limits, and each text in them is a name
 pub record IsWithin (table : TableDraft) : Type 0 where
   pub few : length table.routes ≤ 128
-  pub each : All HasLimits table.routes
+  pub each : All RouteHasLimits table.routes
   pub named : IsTrue (list_all route_has_names table.routes)

@@ -1,5 +1,6 @@
 //! The routes.
 
+ghost use Rattle.ilk_plant.specs.Limits.{RouteHasLimits};
 ghost use Rattle.std.specs.Prelude.{◌≡◌, ◌&&◌, nat_le, true, IfOk};
 ghost use Rattle.std.specs.List.{list_all};
 ghost use Rattle.serde_json.specs.View.{view};
@@ -67,7 +68,7 @@ fn has_names(route: &RouteDraft) -> bool
 
 fn is_within_limits(route: &RouteDraft) -> bool
     ensures exact { result ≡ spec.is_within_limits route.now }
-    ensures limits { result ≡ true → table.HasLimits route.now }
+    ensures limits { result ≡ true → RouteHasLimits route.now }
 {
     lies_within(1, 32, route.path.len() as usize)
         && route.overlap.len() <= 8
@@ -78,7 +79,7 @@ fn is_within_limits(route: &RouteDraft) -> bool
 /// The route of this number, from its value.
 pub(crate) fn route_of(alloc: Global, number: u32, value: &Value) -> Result<RouteDraft, FormError>
     ensures exact { Gives result (table.route_of number (view value.now)) }
-    ensures limits { IfOk result table.HasLimits }
+    ensures limits { IfOk result RouteHasLimits }
     ensures named { IfOk result (λ draft. spec.route_has_names draft ≡ true) }
 {
     let place = Place::Route(number);

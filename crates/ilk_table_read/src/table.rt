@@ -6,7 +6,8 @@ ghost use Rattle.serde_json.specs.View.{view, items_view};
 ghost use Rattle.ilk_net_read.specs.Fault.{Gives};
 ghost use Rattle.ilk_net_read.specs.Network.{in_order, HasDocument};
 ghost use Rattle.ilk_table_read.specs.Route.{route_has_names};
-ghost use Rattle.ilk_table_read.specs.Table.{table_of, route_of, HasLimits, IsWithin};
+ghost use Rattle.ilk_plant.specs.Limits.{RouteHasLimits};
+ghost use Rattle.ilk_table_read.specs.Table.{table_of, route_of, IsWithin};
 
 use crate::route::route_of;
 use ilk_net_read::{FormError, array_at};
@@ -18,7 +19,7 @@ fn routes(alloc: Global, values: &[Value]) -> Result<Row<RouteDraft>, FormError>
     requires { length values.now ≤ 128 }
     ensures exact { Gives result (in_order route_of 0 (items_view values.now)) }
     ensures count { IfOk result (λ routes. length routes ≡ length values.now) }
-    ensures limits { IfOk result (All HasLimits) }
+    ensures limits { IfOk result (All RouteHasLimits) }
     ensures named { IfOk result (λ routes. list_all route_has_names routes ≡ true) }
 {
     let mut routes = Row::new(alloc);

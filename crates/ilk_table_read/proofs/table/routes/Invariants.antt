@@ -4,13 +4,14 @@ use Rattle.serde_json.specs.View.{items_view}
 use Rattle.ilk_net_read.specs.Network.{in_order}
 use Rattle.ilk_net_read.proofs.InOrder.{with_front}
 use Rattle.ilk_table_read.specs.Route.{route_has_names}
-use Rattle.ilk_table_read.specs.Table.{route_of, HasLimits}
+use Rattle.ilk_plant.specs.Limits.{RouteHasLimits}
+use Rattle.ilk_table_read.specs.Table.{route_of}
 use Rattle.ilk_table_read.proofs.table.routes.Given as goal
 
 abbrev pub invariant-loop-i : goal.invariant-loop-i
 invariant-loop-i l = record {
   rest : with_front l.routes (in_order route_of l.i (items_view (drop l.i l.values))) ≡ in_order route_of 0 (items_view l.values);
   count : length l.routes ≡ l.i;
-  limits : All HasLimits l.routes;
+  limits : All RouteHasLimits l.routes;
   named : list_all route_has_names l.routes ≡ true;
 }

@@ -1,0 +1,59 @@
+-- What calls of a sink added that follow one another.
+use Rattle.std.proofs.Common.{◌≡◌, ℕ, Option, Some, None, List, [], ◌++◌, length, take, drop, refl, sym, ap, ◌∙◌, append_assoc, append-nil, length-append, length-drop, ◌-◌, subst, arith}
+use Rattle.std.proofs.Math.Seq.{take-append_seam, take-length}
+use Rattle.std.proofs.lemmas.List.{take-append-drop}
+use Rattle.std.specs.Option.{option_map}
+use Rattle.ilk_io.specs.Sink.{Adds, AddsPrefix}
+
+-- nothing added
+pub Adds-none : (a b : Option (List ℕ)) → b ≡ a → Adds a b []
+Adds-none None b e = e
+Adds-none (Some x) b e = e ∙ ap Some (sym (append-nil x))
+
+-- first these bytes, then those
+pub Adds-then : (a b c : Option (List ℕ)) (xs ys : List ℕ) → Adds a b xs → Adds b c ys → Adds a c (xs ++ ys)
+Adds-then None b c xs ys p q = q ∙ ap (option_map (λ all. all ++ ys)) p
+Adds-then (Some x) b c xs ys p q =
+    q ∙ ap (option_map (λ all. all ++ ys)) p ∙ ap Some (append_assoc x xs ys)
+
+-- the text is what was written of it so far and the rest
+pub record Written (old new : Option (List ℕ)) (text rest : List ℕ) : Type 0 where
+  pub done : List ℕ
+  pub split : text ≡ done ++ rest
+  pub adds : Adds old new done
+
+-- nothing is written yet
+pub Written-none : (old : Option (List ℕ)) (text : List ℕ) → Written old old text text
+Written-none old text = record { done = []; split = refl; adds = Adds-none old old refl }
+
+-- what a slice from n on has
+pub take-drop-rest : (rest : List ℕ) (n : ℕ) → take (length rest - n) (drop n rest) ≡ drop n rest
+take-drop-rest rest n = ap (λ m. take m (drop n rest)) (sym (length-drop n rest)) ∙ take-length (drop n rest)
+
+-- the first n bytes of the rest were written too
+pub Written-more : (old new after : Option (List ℕ)) (text rest : List ℕ) (n : ℕ) → Written old new text rest → Adds new after (take n rest) → Written old after text (take (length rest - n) (drop n rest))
+Written-more old new after text rest n w more = record {
+  done = w.done ++ take n rest;
+  split =
+      w.split
+      ∙ ap (λ tail. w.done ++ tail) (sym (take-append-drop n rest) ∙ ap (λ tail. take n rest ++ tail) (sym (take-drop-rest rest n)))
+      ∙ sym (append_assoc w.done (take n rest) (take (length rest - n) (drop n rest)));
+  adds = Adds-then old new after w.done (take n rest) w.adds more;
+}
+
+-- of an empty text nothing is left
+pub Written-empty : (old new : Option (List ℕ)) (text rest : List ℕ) → Written old new text rest → text ≡ [] → length rest ≡ 0
+Written-empty old new text rest w e =
+    omega (arith, ap length (sym w.split ∙ e), length-append w.done rest)
+
+-- what was written is a prefix of the text
+pub Written-prefix : (old new : Option (List ℕ)) (text rest : List ℕ) → Written old new text rest → AddsPrefix old new text
+Written-prefix old new text rest w =
+    let whole : take (length w.done) text ≡ w.done = ap (take (length w.done)) w.split ∙ take-append_seam w.done rest in
+    (length w.done, omega (arith, ap length w.split, length-append w.done rest), subst (Adds old new) (sym whole) w.adds)
+
+-- nothing is left to write
+pub Written-whole : (old new : Option (List ℕ)) (text rest : List ℕ) → Written old new text rest → rest ≡ [] → Adds old new text
+Written-whole old new text rest w e =
+    let whole : text ≡ w.done = w.split ∙ ap (λ tail. w.done ++ tail) e ∙ append-nil w.done in
+    subst (Adds old new) (sym whole) w.adds

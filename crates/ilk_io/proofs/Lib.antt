@@ -1,0 +1,4 @@
+pub mod FaultCounts
+pub mod Taken
+pub mod Added
+pub mod Untold

@@ -1,0 +1,14 @@
+use Rattle.std.proofs.Common.{◌+◌, ◌-◌, ◌≤◌, vec_len}
+use Rattle.ilk_io.specs.Source.{Takes}
+use Rattle.ilk_io.proofs.reading.read_all.Given as goal
+
+abbrev pub invariant-loop-bytes : goal.invariant-loop-bytes
+invariant-loop-bytes g l =
+    record {
+      taken : Takes (g.S.Source.left l.initial.source) (g.S.Source.left l.source) l.bytes.items;
+      within : vec_len l.bytes ≤ l.limit;
+      counted : g.S.Source.faults l.initial.source ≤ g.S.Source.faults l.source;
+    }
+
+abbrev pub decreases-loop-bytes : goal.decreases-loop-bytes
+decreases-loop-bytes g l = l.limit + 1 - vec_len l.bytes

@@ -1,0 +1,79 @@
+ghost use Rattle.std.specs.Prelude.{◌≡◌, ◌≤◌, ℕ, None, length, IfOk, IfSome, IsSome, OnOk, OnErr, is_ok, if◌then◌else◌};
+ghost use Rattle.std.specs.Io.KnownBytes.{ReadConsumes};
+ghost use Rattle.ilk_io.specs.Faults.{Rose};
+ghost use Rattle.ilk_io.specs.Plan.{one_more};
+
+use crate::plan::one_more;
+use crate::retry::read_once;
+use crate::{Failed, Source};
+use std::fs::{File, Files};
+
+/// A source over a file that is opened through the runtime at the first call. It doesn't tell what is
+/// left.
+///
+/// A refused opening is a failure, and the next call tries it again. A read that was interrupted is
+/// tried again at most 1000 times. Each failure is counted, up to the greatest `u64`.
+#[derive(Drop)]
+pub struct FileSource<'a, R: Files> {
+    rt: &'a R,
+    name: String,
+    file: Option<R::File>,
+    faults: u64,
+}
+
+impl<'a, R: Files> FileSource<'a, R> {
+    /// A source over the file of this name, which isn't opened yet.
+    pub fn new(rt: &'a R, name: String) -> Self
+        ensures name { result.name ≡ name }
+        ensures closed { result.file ≡ None }
+        ensures faults { result.faults ≡ 0 }
+    {
+        FileSource {
+            rt,
+            name,
+            file: None,
+            faults: 0,
+        }
+    }
+
+    // Reads once, and opens the file where it isn't open yet.
+    fn read_open(&mut self, into: &mut [u8]) -> Result<usize, Failed>
+        ensures within { IfOk result (λ n. n ≤ length into.new) }
+        ensures faults { self.new.faults ≡ self.old.faults }
+        ensures opened { OnOk result (IsSome self.new.file) }
+        // Once the file is open, each read gives what the file has left.
+        ensures bytes { IfSome self.old.file (λ old. IfSome self.new.file (λ new.
+            ReadConsumes (R.File.remaining old) (R.File.remaining new) result into.new)) }
+    {
+        if self.file.is_none() {
+            self.file = File::open(self.rt, self.name.as_str()).ok();
+        }
+        match &mut self.file {
+            Some(file) => read_once(file, into),
+            None => Err(Failed),
+        }
+    }
+}
+
+impl<R: Files> Source for FileSource<'_, R> {
+    ghost left = { λ _. None };
+
+    ghost faults = { λ s. s.faults };
+
+    fn read(&mut self, into: &mut [u8]) -> Result<usize, Failed>
+        ensures within { IfOk result (λ n. n ≤ length into.new) }
+        ensures failed { OnErr result (Rose self.old.faults self.new.faults) }
+        ensures faults { self.new.faults ≡ (if is_ok result then self.old.faults else one_more self.old.faults) }
+        ensures counted { self.old.faults ≤ self.new.faults }
+        ensures opened { OnOk result (IsSome self.new.file) }
+        // Once the file is open, each read gives what the file has left.
+        ensures bytes { IfSome self.old.file (λ old. IfSome self.new.file (λ new.
+            ReadConsumes (R.File.remaining old) (R.File.remaining new) result into.new)) }
+    {
+        let answer = self.read_open(into);
+        if answer.is_err() {
+            self.faults = one_more(self.faults);
+        }
+        answer
+    }
+}

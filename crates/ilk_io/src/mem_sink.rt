@@ -1,0 +1,83 @@
+ghost use Rattle.std.specs.Prelude.{◌≡◌, ℕ, ◌<◌, ◌≤◌, List, [], Some, length, take, IfOk, OnErr};
+ghost use Rattle.ilk_io.specs.Faults.{Rose};
+ghost use Rattle.ilk_io.specs.Sink.{Adds};
+ghost use Rattle.std.specs.Result.{result_ok};
+ghost use Rattle.ilk_io.specs.Memory.{write_count, after_write};
+
+use crate::plan::FaultPlan;
+use crate::{Failed, Sink};
+use std::alloc::{AllocError, Global};
+use std::marker::Model;
+
+/// A sink that keeps the bytes that it takes, has room for so many and no more, and fails at chosen
+/// calls. It tells what was written.
+#[derive(Drop)]
+pub struct MemSink {
+    bytes: Vec<u8>,
+    room: usize,
+    plan: FaultPlan,
+}
+
+impl Model for MemSink {
+    ghost use Rattle.std.specs.Prelude.{◌≤◌, vec_len};
+    ghost use Rattle.std.specs.Vec.{vec_capacity};
+    ghost use Rattle.ilk_io.specs.Memory.{Output};
+
+    ghost Value = { Output };
+
+    ghost view = { λ a. record { taken = a.bytes.items; room = a.room; plan = a.plan } };
+
+    ghost invariant = { λ a. (vec_len a.bytes ≤ a.room) × (a.room ≤ vec_capacity a.bytes) };
+}
+
+impl MemSink {
+    /// An empty sink with room for `room` bytes, or `AllocError` where there is no memory for them.
+    /// Those calls of `write` fail whose numbers, from 1, stand in `fails`, and those that find no
+    /// room for a piece that isn't empty.
+    pub fn new(alloc: Global, room: u64, fails: Vec<u64>) -> Result<MemSink, AllocError>
+        ensures { IfOk result (λ s. s ≡ record { taken = []; room = room; plan = record { fails = fails.items; calls = 0; faults = 0 } }) }
+    {
+        let room = room as usize;
+        Ok(MemSink {
+            bytes: Vec::with_capacity(alloc, room)?,
+            room,
+            plan: FaultPlan::new(fails),
+        })
+    }
+
+    /// The bytes that were taken so far, in order.
+    pub fn bytes(&self) -> &[u8]
+        ensures { result.now ≡ self.now.taken }
+    {
+        &self.bytes
+    }
+}
+
+impl Sink for MemSink {
+    ghost written = { λ s. Some s.taken };
+
+    ghost faults = { λ s. s.plan.faults };
+
+    fn write(&mut self, piece: &[u8]) -> Result<usize, Failed>
+        ensures within { IfOk result (λ n. n ≤ length piece.now) }
+        ensures some { IfOk result (λ n. 0 < length piece.now → 0 < n) }
+        ensures taken { IfOk result (λ n. Adds (Some self.old.taken) (Some self.new.taken) (take n piece.now)) }
+        ensures kept { OnErr result (self.new.taken ≡ self.old.taken) }
+        ensures failed { OnErr result (Rose self.old.plan.faults self.new.plan.faults) }
+        ensures counted { self.old.plan.faults ≤ self.new.plan.faults }
+        ensures count { result_ok result ≡ write_count self.old piece.now }
+        ensures after { self.new ≡ after_write self.old piece.now }
+    {
+        let count = piece.len().min(self.room - self.bytes.len());
+        let is_full = count == 0 && !piece.is_empty();
+        if self.plan.fails_next()
+            || is_full
+            || self.bytes.extend_from_slice(&piece[..count]).is_err()
+        {
+            self.plan.count_fault();
+            return Err(Failed);
+        }
+        self.plan.count_call();
+        Ok(count)
+    }
+}

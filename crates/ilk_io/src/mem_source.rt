@@ -1,0 +1,62 @@
+ghost use Rattle.std.specs.Prelude.{◌≡◌, ℕ, ◌<◌, ◌≤◌, List, Some, length, take, IfOk, OnErr};
+ghost use Rattle.ilk_io.specs.Faults.{Rose};
+ghost use Rattle.ilk_io.specs.Source.{Takes, IsAtEnd};
+ghost use Rattle.std.specs.Result.{result_ok};
+ghost use Rattle.ilk_io.specs.Memory.{read_count, after_read};
+
+use crate::plan::FaultPlan;
+use crate::unread::Unread;
+use crate::{Failed, Source};
+use std::marker::Model;
+
+/// A source that gives bytes of memory, and fails at chosen calls. It tells what is left.
+#[derive(Drop)]
+pub struct MemSource {
+    unread: Unread,
+    plan: FaultPlan,
+}
+
+impl Model for MemSource {
+    ghost use Rattle.ilk_io.specs.Memory.{Input};
+
+    ghost Value = { Input };
+
+    ghost view = { λ a. record { rest = a.unread; plan = a.plan } };
+}
+
+impl MemSource {
+    /// A source that gives these bytes. Those calls of `read` fail whose numbers, from 1, stand in
+    /// `fails`, and no other.
+    pub fn new(bytes: Vec<u8>, fails: Vec<u64>) -> MemSource
+        ensures { result ≡ record { rest = bytes.items; plan = record { fails = fails.items; calls = 0; faults = 0 } } }
+    {
+        MemSource {
+            unread: Unread::new(bytes),
+            plan: FaultPlan::new(fails),
+        }
+    }
+}
+
+impl Source for MemSource {
+    ghost left = { λ s. Some s.rest };
+
+    ghost faults = { λ s. s.plan.faults };
+
+    fn read(&mut self, into: &mut [u8]) -> Result<usize, Failed>
+        ensures within { IfOk result (λ n. n ≤ length into.new) }
+        ensures taken { IfOk result (λ n. Takes (Some self.old.rest) (Some self.new.rest) (take n into.new)) }
+        ensures end { IfOk result (λ n. n ≡ 0 → 0 < length into.new → IsAtEnd (Some self.new.rest)) }
+        ensures kept { OnErr result (self.new.rest ≡ self.old.rest) }
+        ensures failed { OnErr result (Rose self.old.plan.faults self.new.plan.faults) }
+        ensures counted { self.old.plan.faults ≤ self.new.plan.faults }
+        ensures count { result_ok result ≡ read_count self.old (length into.old) }
+        ensures after { self.new ≡ after_read self.old (length into.old) }
+    {
+        if self.plan.fails_next() {
+            self.plan.count_fault();
+            return Err(Failed);
+        }
+        self.plan.count_call();
+        Ok(self.unread.read(into))
+    }
+}

@@ -1,0 +1,67 @@
+ghost use Rattle.std.specs.Prelude.{◌≡◌, ◌≤◌};
+ghost use Rattle.ilk_io.specs.Faults.{Rose};
+ghost use Rattle.ilk_io.specs.Plan.{one_more, fails_next, after_call, after_fault};
+
+use std::marker::Model;
+
+// Which calls of a source or sink in memory fail, and how many calls and faults there were.
+#[derive(Drop)]
+pub struct FaultPlan {
+    fails: Vec<u64>,
+    calls: u64,
+    faults: u64,
+}
+
+impl Model for FaultPlan {
+    ghost use Rattle.ilk_io.specs.Plan.{Plan};
+
+    ghost Value = { Plan };
+
+    ghost view = { λ a. record { fails = a.fails.items; calls = a.calls; faults = a.faults } };
+}
+
+// One more, which stands still at the greatest `u64`.
+pub fn one_more(n: u64) -> u64
+    ensures value { result ≡ one_more n }
+    ensures rose { Rose n result }
+    ensures counted { n ≤ result }
+{
+    n.saturating_add(1)
+}
+
+impl FaultPlan {
+    pub fn new(fails: Vec<u64>) -> FaultPlan
+        ensures { result ≡ record { fails = fails.items; calls = 0; faults = 0 } }
+    {
+        FaultPlan {
+            fails,
+            calls: 0,
+            faults: 0,
+        }
+    }
+
+    // Whether the next call is one of those that are to fail.
+    pub fn fails_next(&self) -> bool
+        ensures { result ≡ fails_next self.now }
+    {
+        let number = one_more(self.calls);
+        self.fails.iter().any(|k| *k == number)
+    }
+
+    // Counts a call that went well.
+    pub fn count_call(&mut self)
+        ensures { self.new ≡ after_call self.old }
+    {
+        self.calls = one_more(self.calls);
+    }
+
+    // Counts a call that failed.
+    pub fn count_fault(&mut self)
+        ensures after { self.new ≡ after_fault self.old }
+        ensures rose { Rose self.old.faults self.new.faults }
+        ensures counted { self.old.faults ≤ self.new.faults }
+    {
+        self.calls = one_more(self.calls);
+        self.faults = one_more(self.faults);
+    }
+}

@@ -1,0 +1,58 @@
+ghost use Rattle.std.specs.Prelude.{◌≡◌, ℕ, ◌+◌, ◌^◌, ◌<◌, ◌≤◌, IfOk, IfErr, vec_len};
+ghost use Rattle.ilk_io.specs.Source.{TakesAtMost, IsAtEnd, IsWhole};
+ghost use Rattle.ilk_io.specs.ReadError.{HasCause};
+
+use crate::{Failed, Source};
+use std::alloc::Global;
+use thiserror::Error;
+
+/// Why a source wasn't read to its end.
+#[derive(Clone, Copy, Debug, PartialEq, Eq, Error)]
+pub enum ReadError {
+    /// A call of the source failed.
+    #[error("a read failed")]
+    Failed = 1,
+    /// The source has more bytes than the limit.
+    #[error("the input is longer than its limit")]
+    TooLong = 2,
+    /// There was no memory for the bytes.
+    #[error("out of memory")]
+    OutOfMemory = 3,
+}
+
+// How many bytes are asked of a source at once.
+const PIECE: usize = 4096;
+
+/// Reads the source to its end, and answers all that was left of it, at most `limit` bytes.
+///
+/// `Failed` comes where a call of the source failed, so only where its count of faults rose, and
+/// `TooLong` where more than `limit` bytes are there and no call failed first. At most `limit + 1`
+/// bytes are read, and after a refusal those that were read are gone from the source.
+pub fn read_all<S: Source>(alloc: Global, source: &mut S, limit: u64) -> Result<Vec<u8>, ReadError>
+    requires { limit < 2 ^ 40 }
+    ensures whole { IfOk result (λ v. IsWhole (S.left source.old) v.items) }
+    ensures end { IfOk result (λ _. IsAtEnd (S.left source.new)) }
+    ensures within { IfOk result (λ v. vec_len v ≤ limit) }
+    ensures cause { IfErr result (λ e. HasCause e limit (S.left source.old) (S.faults source.old) (S.faults source.new)) }
+    ensures taken { TakesAtMost (limit + 1) (S.left source.old) (S.left source.new) }
+    ensures counted { S.faults source.old ≤ S.faults source.new }
+{
+    let mut bytes = Vec::new(alloc);
+    let mut piece = [0; PIECE];
+    loop {
+        let room = limit + 1 - bytes.len() as u64;
+        let want = room.min(PIECE as u64) as usize;
+        match source.read(&mut piece[..want]) {
+            Err(Failed) => return Err(ReadError::Failed),
+            Ok(0) => return Ok(bytes),
+            Ok(n) => {
+                if bytes.extend_from_slice(&piece[..n]).is_err() {
+                    return Err(ReadError::OutOfMemory);
+                }
+            }
+        }
+        if bytes.len() as u64 > limit {
+            return Err(ReadError::TooLong);
+        }
+    }
+}

@@ -1,0 +1,92 @@
+ghost use Rattle.std.specs.Prelude.{◌≡◌, ℕ, ◌<◌, ◌≤◌, ◌+◌, ◌-◌, ◌^◌, min, List, Some, None, Ok, length, take, drop, IfOk};
+ghost use Rattle.ilk_io.specs.Source.{Takes, IsAtEnd};
+
+use crate::unread::Unread;
+use crate::{Failed, Sink, Source};
+use std::marker::Model;
+
+/// A source that gives bytes of memory and never fails. It tells what is left.
+#[derive(Drop)]
+pub struct SteadySource {
+    unread: Unread,
+}
+
+impl Model for SteadySource {
+    ghost use Rattle.std.specs.Prelude.{ℕ, List};
+
+    ghost Value = { List ℕ };
+
+    ghost view = { λ a. a.unread };
+}
+
+impl SteadySource {
+    /// A source that gives these bytes.
+    pub fn new(bytes: Vec<u8>) -> SteadySource
+        ensures { result ≡ bytes.items }
+    {
+        SteadySource {
+            unread: Unread::new(bytes),
+        }
+    }
+}
+
+impl Source for SteadySource {
+    ghost left = { λ s. Some s };
+
+    ghost faults = { λ _. 0 };
+
+    fn read(&mut self, into: &mut [u8]) -> Result<usize, Failed>
+        ensures within { IfOk result (λ n. n ≤ length into.new) }
+        ensures taken { IfOk result (λ n. Takes (Some self.old) (Some self.new) (take n into.new)) }
+        ensures end { IfOk result (λ n. n ≡ 0 → 0 < length into.new → IsAtEnd (Some self.new)) }
+        ensures count { result ≡ Ok (min (length into.old) (length self.old)) }
+        ensures after { self.new ≡ drop (length into.old) self.old }
+    {
+        Ok(self.unread.read(into))
+    }
+}
+
+/// A sink that takes every byte, keeps none, and never fails. It doesn't tell what was written, and
+/// counts the bytes.
+#[derive(Drop)]
+pub struct SteadySink {
+    count: u64,
+}
+
+impl Model for SteadySink {
+    ghost use Rattle.std.specs.Prelude.{ℕ};
+
+    ghost Value = { ℕ };
+
+    ghost view = { λ a. a.count };
+}
+
+impl SteadySink {
+    /// A sink that has taken no byte yet.
+    pub fn new() -> SteadySink
+        ensures { result ≡ 0 }
+    {
+        SteadySink { count: 0 }
+    }
+
+    /// How many bytes the sink took so far. The count stands still at the greatest `u64`.
+    pub fn count(&self) -> u64
+        ensures { result ≡ self.now }
+    {
+        self.count
+    }
+}
+
+impl Sink for SteadySink {
+    ghost written = { λ _. None };
+
+    ghost faults = { λ _. 0 };
+
+    fn write(&mut self, piece: &[u8]) -> Result<usize, Failed>
+        ensures count { result ≡ Ok (length piece.now) }
+        ensures after { self.new ≡ min (self.old + length piece.now) (2 ^ 64 - 1) }
+    {
+        self.count = self.count.saturating_add(piece.len() as u64);
+        Ok(piece.len())
+    }
+}

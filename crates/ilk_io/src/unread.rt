@@ -1,0 +1,41 @@
+ghost use Rattle.std.specs.Prelude.{◌≡◌, length, take, drop, min, IfOk};
+
+use std::marker::Model;
+
+// Bytes in memory that are read from the front; seen as the list of those not read yet.
+#[derive(Drop)]
+pub struct Unread {
+    bytes: Vec<u8>,
+    position: usize,
+}
+
+impl Model for Unread {
+    ghost use Rattle.std.specs.Prelude.{ℕ, ◌≤◌, List, drop, vec_len};
+
+    ghost Value = { List ℕ };
+
+    ghost view = { λ a. drop a.position a.bytes.items };
+
+    ghost invariant = { λ a. a.position ≤ vec_len a.bytes };
+}
+
+impl Unread {
+    pub fn new(bytes: Vec<u8>) -> Unread
+        ensures { result ≡ bytes.items }
+    {
+        Unread { bytes, position: 0 }
+    }
+
+    // Moves as many bytes as there are and the buffer has places for, and says how many.
+    pub fn read(&mut self, into: &mut [u8]) -> usize
+        ensures count { result ≡ min (length into.old) (length self.old) }
+        ensures bytes { take result into.new ≡ take result self.old }
+        ensures rest { self.new ≡ drop result self.old }
+    {
+        let start = self.position;
+        let count = into.len().min(self.bytes.len() - start);
+        into[..count].copy_from_slice(&self.bytes[start..start + count]);
+        self.position = start + count;
+        count
+    }
+}

@@ -1,0 +1,24 @@
+ghost use Rattle.std.specs.Prelude.{◌≡◌, [], ◌≤◌, IsOk, OnOk, OnErr};
+ghost use Rattle.ilk_io.specs.Faults.{Rose};
+ghost use Rattle.ilk_io.specs.Sink.{Adds, AddsPrefix};
+
+use crate::{Failed, Sink};
+
+/// Writes the whole text to the sink.
+///
+/// `Failed` comes where a call of the sink failed, so only where its count of faults rose, and then
+/// a prefix of the text was written. An empty text makes no call.
+pub fn write_all<K: Sink>(sink: &mut K, text: &[u8]) -> Result<(), Failed>
+    ensures whole { OnOk result (Adds (K.written sink.old) (K.written sink.new) text.now) }
+    ensures prefix { AddsPrefix (K.written sink.old) (K.written sink.new) text.now }
+    ensures failed { OnErr result (Rose (K.faults sink.old) (K.faults sink.new)) }
+    ensures counted { K.faults sink.old ≤ K.faults sink.new }
+    ensures untouched { text.now ≡ [] → IsOk result × (sink.new ≡ sink.old) }
+{
+    let mut rest = text;
+    while !rest.is_empty() {
+        let taken = sink.write(rest)?;
+        rest = &rest[taken..];
+    }
+    Ok(())
+}

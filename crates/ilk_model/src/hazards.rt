@@ -1,0 +1,115 @@
+ghost use Rattle.std.specs.Prelude.{◌≡◌, find, length};
+ghost use Rattle.std.specs.List.{list_any, range_with_len};
+ghost use Rattle.ilk_plant.specs.State.{HasShape, lie_of};
+ghost use Rattle.ilk_model.specs.Hazard.{has_pair, hazard, is_hazardous, is_two, is_wrong, strays};
+
+use ilk_plant::{Lie, Plant, Row, Section, State, Train, has_section};
+
+/// A hazard, at a section.
+#[derive(Clone, Copy, PartialEq, Eq, Debug)]
+pub enum HazardAt {
+    /// Two trains have the section in their bodies.
+    Two(u32),
+    /// A train is on the point, which moves, or lies other than the train's body runs.
+    Wrong(u32),
+}
+
+// Whether two or more trains have `x` in their bodies.
+fn is_two(s: &State, x: u32) -> bool
+    ensures { result ≡ is_two s.now x }
+{
+    s.trains
+        .as_slice()
+        .iter()
+        .filter(|train| has_section(&train.body, x))
+        .count()
+        > 1
+}
+
+// Whether `x` and `y` stand next to each other in the body, in either order.
+fn has_pair(body: &Row<u32>, x: u32, y: u32) -> bool
+    ensures { result ≡ has_pair x y body.now }
+{
+    let sections = body.as_slice();
+    sections
+        .iter()
+        .zip(sections.iter().skip(1))
+        .any(|(a, b)| (*a == x && *b == y) || (*a == y && *b == x))
+}
+
+// Where the point on section `x` lies. None where it is no point.
+fn lie_of(plant: &Plant, s: &State, x: u32) -> Option<Lie>
+    ensures { result ≡ lie_of plant.now s.now x }
+{
+    if x >= plant.sections() {
+        return None;
+    }
+    let n = plant.point_number(x)?;
+    Some(s.points.as_slice().get(n as usize)?.at)
+}
+
+// Whether the body is wrong on the point `x`, which lies so.
+fn strays(body: &Row<u32>, x: u32, plus: u32, minus: u32, lie: Option<Lie>) -> bool
+    ensures { result ≡ strays x plus minus lie body.now }
+{
+    match lie {
+        None => false,
+        Some(Lie::Plus) => has_pair(body, x, minus),
+        Some(Lie::Minus) => has_pair(body, x, plus),
+        Some(Lie::Moving) => has_section(body, x),
+    }
+}
+
+// Whether some train's body is wrong on the point `x`, which lies so.
+fn any_strays(trains: &Row<Train>, x: u32, plus: u32, minus: u32, lie: Option<Lie>) -> bool
+    ensures { result ≡ list_any (λ train. strays x plus minus lie train.body) trains.now }
+{
+    trains
+        .as_slice()
+        .iter()
+        .any(|train| strays(&train.body, x, plus, minus, lie))
+}
+
+// Whether `x` is a point on which some train's body is wrong.
+fn is_wrong(plant: &Plant, s: &State, x: u32) -> bool
+    ensures { result ≡ is_wrong plant.now s.now x }
+{
+    if x >= plant.sections() {
+        return false;
+    }
+    match *plant.section(x) {
+        Section::Linear { .. } => false,
+        Section::Point { plus, minus, .. } => {
+            let lie = lie_of(plant, s, x);
+            any_strays(&s.trains, x, plus, minus, lie)
+        }
+    }
+}
+
+// Whether there is a hazard at `x`.
+fn is_hazardous(plant: &Plant, s: &State, x: u32) -> bool
+    ensures { result ≡ is_hazardous plant.now s.now x }
+{
+    is_two(s, x) || is_wrong(plant, s, x)
+}
+
+// The least section with a hazard.
+fn first_hazardous(plant: &Plant, s: &State) -> Option<u32>
+    ensures { result ≡ find (is_hazardous plant.now s.now) (range_with_len 0 (length plant.now.sections)) }
+{
+    (0..plant.sections()).find(|x| is_hazardous(plant, s, *x))
+}
+
+/// The hazard with the least section, at one section two trains before a wrong point. None where
+/// no section has two trains and no train is on a point that moves or lies wrongly.
+pub fn hazard(plant: &Plant, s: &State) -> Option<HazardAt>
+    requires { HasShape plant.now s.now }
+    ensures { result ≡ hazard plant.now s.now }
+{
+    let x = first_hazardous(plant, s)?;
+    Some(if is_two(s, x) {
+        HazardAt::Two(x)
+    } else {
+        HazardAt::Wrong(x)
+    })
+}

@@ -1,0 +1,8 @@
+//! Events, runs and hazards of a plant.
+#![tactic(auto)]
+
+mod event;
+mod hazards;
+
+pub use event::{Event, apply};
+pub use hazards::{HazardAt, hazard};

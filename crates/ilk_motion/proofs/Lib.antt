@@ -1,0 +1,2 @@
+pub mod HeadAndTail
+pub mod Shape

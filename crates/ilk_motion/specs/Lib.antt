@@ -1,0 +1,4 @@
+pub mod Ahead
+pub mod Body
+pub mod Trains
+pub mod TwoSections

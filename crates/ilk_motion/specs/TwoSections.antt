@@ -1,0 +1,48 @@
+-- A line of two linear sections, a and then b, with no board and no route.
+use Rattle.std.specs.Prelude.{ℕ, Option, Some, None, List, [], ◌∷◌, map}
+use Rattle.ilk_plant.specs.Option.{◌>>=◌}
+use Rattle.ilk_plant.specs.Plant.{PlantLists}
+use Rattle.ilk_plant.specs.Start.{start}
+use Rattle.ilk_plant.specs.declared.network.Section.TheVariants.{Linear}
+use Rattle.ilk_plant.specs.declared.state.State.{State}
+use Rattle.ilk_motion.specs.Trains.{after_enter, after_head, after_leave, after_tail}
+
+abbrev pub two_sections : PlantLists
+two_sections = record {
+  sections = Linear None (Some 1) None None ∷ Linear (Some 0) None None None ∷ [];
+  boards = [];
+  routes = [];
+  section_names = (97 ∷ []) ∷ (98 ∷ []) ∷ [];
+  board_names = [];
+  route_names = [];
+}
+
+-- the bodies of the trains
+abbrev pub bodies : State → List (List ℕ)
+bodies s = map (λ train. train.body) s.trains
+
+-- one train has entered at a, and then another at b
+abbrev pub both_entered : Option State
+both_entered = do
+  s ← after_enter two_sections (start two_sections) 0
+  after_enter two_sections s 1
+
+-- then the one at a has moved its head on to b
+abbrev pub first_moved_on : Option State
+first_moved_on = do
+  s ← both_entered
+  after_head two_sections s 0
+
+-- then a third train would enter at a
+abbrev pub third_entered : Option State
+third_entered = do
+  s ← both_entered
+  after_enter two_sections s 0
+
+-- a train enters at a, moves its head on to b, then its tail, and leaves
+abbrev pub one_crossed : Option State
+one_crossed = do
+  at_a ← after_enter two_sections (start two_sections) 0
+  on_both ← after_head two_sections at_a 0
+  at_b ← after_tail two_sections on_both 0
+  after_leave two_sections at_b 1

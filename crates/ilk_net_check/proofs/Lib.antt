@@ -1,0 +1,5 @@
+pub mod Added
+pub mod Leads
+pub mod Numbered
+pub mod Positions
+pub mod Tables

@@ -1,0 +1,166 @@
+-- The rules over numbers are the rules over names.
+use Rattle.std.proofs.Common.{◌≡◌, ℕ, zero, suc, ◌<◌, ◌+◌, ◌≤◌, Bool, true, false, not, ◌&&◌, ◌||◌, ◌==◌, cond, Option, Some, None, List, [], ◌∷◌, ◌++◌, length, map, get_or, slice_get, count_by, nat_lt, ◌⊎◌, inl, inr, refl, sym, ◌∙◌, ap, subst, arith}
+use Rattle.std.specs.List.{list_any, range_with_len, sum_by}
+use Rattle.std.proofs.lemmas.List.{get_or_past, length-map}
+use Rattle.std.proofs.lemmas.List.FromFn.{length-map-range_with_len}
+use Rattle.std.proofs.lemmas.List.Sums.{sum_by-cons}
+use Rattle.std.proofs.lemmas.Bool.Decides.{nat_tests}
+use Rattle.std.proofs.lemmas.Option.{slice_get_past}
+use Rattle.ilk_plant.specs.Broken.{broken_at}
+use Rattle.ilk_plant.specs.Draft.{Name, names_of_boards, names_of_sections}
+use Rattle.ilk_plant.specs.Network.{same_direction}
+use Rattle.ilk_plant.specs.NetworkRules.{ends, ends_of, has_board_at_end, has_board_to_nowhere, has_no_neighbour, is_next_up, is_some_and, leads_by, network_rules_broken, opposite, repeats_name, returns, section_named, stands_alone}
+use Rattle.ilk_plant.specs.NetworkRules.{End as NamedEnd, is_not_named_back, names_once as names_once_by_name, names_no_other as names_no_other_by_name, names_section, names_another, repeats_neighbour as repeats_neighbour_by_name}
+use Rattle.ilk_plant.specs.declared.broken.Broken.{Broken}
+use Rattle.ilk_plant.specs.declared.broken.Rule.TheVariants.{N1, N2, N3, N4, N5, N6, N7, N8}
+use Rattle.ilk_plant.specs.declared.draft.NetDraft.{NetDraft}
+use Rattle.ilk_plant.specs.declared.draft.SectionDraft.{SectionDraft}
+use Rattle.ilk_plant.specs.declared.network.Dir.{Dir}
+use Rattle.ilk_net_check.specs.declared.ends.End.{End}
+use Rattle.ilk_net_check.specs.Numbers.{breaks, ends_at, entry, is_next, is_one_way, leads_to, names, names_no_other, names_once, numbered_end, numbered_ends, repeats_neighbour, section_is, table}
+use Rattle.ilk_net_check.proofs.Tables.{entry-table, flag-at}
+
+list_any-map : {X Y : Type 0} (p : Y → Bool) (f : X → Y) (xs : List X) → list_any p (map f xs) ≡ list_any (λ x. p (f x)) xs
+list_any-map p f [] = refl
+list_any-map p f (x ∷ xs) = ap (λ b. p (f x) || b) (list_any-map p f xs)
+
+count_by-map : {X Y : Type 0} (p : Y → Bool) (f : X → Y) (xs : List X) → count_by p (map f xs) ≡ count_by (λ x. p (f x)) xs
+count_by-map p f [] = refl
+count_by-map p f (x ∷ xs) =
+    sum_by-cons (λ y. cond (p y) 1 0) (f x) (map f xs) ∙ ap (λ n. cond (p (f x)) 1 0 + n) (count_by-map p f xs) ∙ sym (sum_by-cons (λ y. cond (p (f y)) 1 0) x xs)
+
+below_or_past : (x n : ℕ) → (x < n) ⊎ (n ≤ x)
+below_or_past x n = by_test (nat_lt x n) refl
+  where
+    by_test : (b : Bool) → nat_lt x n ≡ b → (x < n) ⊎ (n ≤ x)
+    by_test true e = inl (grind (arith, nat_tests))
+    by_test false e = inr (grind (arith, nat_tests))
+
+-- nothing past the end repeats a name
+repeats_name-past : (names : List Name) (i : ℕ) → length names ≤ i → repeats_name names i ≡ false
+repeats_name-past names i past = rw (slice_get_past names i past) refl
+
+-- the flags of the names that repeat earlier ones
+pub repeated-at : (names : List Name) (flags : List Bool) → flags ≡ map (repeats_name names) (range_with_len 0 (length names)) → (i : ℕ) → get_or flags i false ≡ repeats_name names i
+repeated-at names flags e i =
+    ap (λ l. get_or l i false) e ∙ flag-at (repeats_name names) (length names) (repeats_name-past names) i
+
+-- the ends of each section, with numbers for names
+abbrev numbered_all : (Name → Option ℕ) → List SectionDraft → List (List End)
+numbered_all number sections = map (λ section. numbered_ends number section.kind) sections
+
+-- numbers that are the same name by name
+pub numbered-same : (f g : Name → Option ℕ) → ((q : Name) → f q ≡ g q) → (sections : List SectionDraft) → map (λ section. numbered_ends f section.kind) sections ≡ map (λ section. numbered_ends g section.kind) sections
+numbered-same f g h sections = λ i. map (λ section. numbered_ends (λ q. h q i) section.kind) sections
+
+-- the ends of section x
+ends_at-numbered : (number : Name → Option ℕ) (sections : List SectionDraft) (x : ℕ) → ends_at (numbered_all number sections) x ≡ map (numbered_end number) (ends_of (record { sections = sections }) x)
+ends_at-numbered number [] zero = refl
+ends_at-numbered number [] (suc x) = refl
+ends_at-numbered number (section ∷ rest) zero = refl
+ends_at-numbered number (section ∷ rest) (suc x) = ends_at-numbered number rest x
+
+-- no end is past the last section
+ends_of-past : (net : NetDraft) (x : ℕ) → length net.sections ≤ x → ends_of net x ≡ []
+ends_of-past net x past = rw (slice_get_past net.sections x past) refl
+
+module _ (net : NetDraft) (all : List (List End)) (ends_are : all ≡ numbered_all (section_named net) net.sections) where
+  ends_here : (x : ℕ) → ends_at all x ≡ map (numbered_end (section_named net)) (ends_of net x)
+  ends_here x = ap (λ l. ends_at l x) ends_are ∙ ends_at-numbered (section_named net) net.sections x
+
+  any_here : (p : End → Bool) (x : ℕ) → list_any p (ends_at all x) ≡ list_any (λ end. p (numbered_end (section_named net) end)) (ends_of net x)
+  any_here p x = ap (list_any p) (ends_here x) ∙ list_any-map p (numbered_end (section_named net)) (ends_of net x)
+
+  count_here : (p : End → Bool) (x : ℕ) → count_by p (ends_at all x) ≡ count_by (λ end. p (numbered_end (section_named net) end)) (ends_of net x)
+  count_here p x = ap (count_by p) (ends_here x) ∙ count_by-map p (numbered_end (section_named net)) (ends_of net x)
+
+  -- N3
+  other_here : (x : ℕ) → list_any (names_no_other x) (ends_at all x) ≡ names_no_other_by_name net x
+  other_here x = any_here (names_no_other x) x
+
+  -- N5
+  once_here : (x y : ℕ) (d : Dir) → names_once x d (ends_at all y) ≡ names_once_by_name net x d (ends_of net y)
+  once_here x y d =
+      let n = count_here (names x) y in
+      let s = any_here (λ end. names x end && same_direction end.side d) y in
+      λ i. (n i == 1) && s i
+
+  back_here : (x : ℕ) → list_any (is_one_way all x) (ends_at all x) ≡ is_not_named_back net x
+  back_here x =
+      any_here (is_one_way all x) x ∙ (λ i. list_any (λ end. is_some_and (section_named net end.name) (λ y. not (y == x) && not (once_here x y (opposite end.side) i))) (ends_of net x))
+
+  -- N7
+  next_here : (x y : ℕ) → is_next all x y ≡ is_next_up net x y
+  next_here x y = any_here (leads_to y) x
+
+  no_next : (x y : ℕ) → length net.sections ≤ x → is_next_up net x y ≡ false
+  no_next x y past = rw (ends_of-past net x past) refl
+
+  no_lead : (n x y : ℕ) → length net.sections ≤ x → leads_by (is_next_up net) n x y ≡ false
+  no_lead zero x y past = no_next x y past
+  no_lead (suc n) x y past = rw (no_lead n x y past, no_lead n x n past) refl
+
+  leads_here : (n x y : ℕ) → leads_by (is_next all) n x y ≡ leads_by (is_next_up net) n x y
+  leads_here n x y = λ i. leads_by (λ u v. next_here u v i) n x y
+
+  returns_here : (leads : List (List Bool)) → leads ≡ table (length net.sections) (leads_by (is_next all) (length net.sections)) → (x : ℕ) → entry leads x x ≡ returns net x
+  returns_here leads e x = ap (λ t. entry t x x) e ∙ by_place (below_or_past x (length net.sections))
+    where
+      by_place : (x < length net.sections) ⊎ (length net.sections ≤ x) → entry (table (length net.sections) (leads_by (is_next all) (length net.sections))) x x ≡ returns net x
+      by_place (inl lt) =
+          entry-table (length net.sections) (leads_by (is_next all) (length net.sections)) x x lt lt ∙ leads_here (length net.sections) x x
+      by_place (inr past) = outside past ∙ sym (no_lead (length net.sections) x x past)
+        where
+          outside : length net.sections ≤ x → entry (table (length net.sections) (leads_by (is_next all) (length net.sections))) x x ≡ false
+          outside past =
+              let rows : ℕ → List Bool = λ x. map (leads_by (is_next all) (length net.sections) x) (range_with_len 0 (length net.sections)) in
+              let long : length (map rows (range_with_len 0 (length net.sections))) ≤ x = rw (length-map-range_with_len rows 0 (length net.sections)) past in
+              ap (λ row. get_or row x false) (get_or_past (map rows (range_with_len 0 (length net.sections))) x [] long) ∙ get_or_past [] x false (omega arith)
+
+-- N4: the kind of a section by its number
+neighbours_here : (net : NetDraft) (x : ℕ) → section_is net.sections repeats_neighbour x ≡ repeats_neighbour_by_name net x
+neighbours_here net x = by_section (slice_get net.sections x) refl
+  where
+    by_section : (o : Option SectionDraft) → slice_get net.sections x ≡ o → section_is net.sections repeats_neighbour x ≡ repeats_neighbour_by_name net x
+    by_section None e = rw e refl
+    by_section (Some section) e = rw e refl
+
+module _ (net : NetDraft) (sections : List SectionDraft) (repeated_sections repeated_boards : List Bool) (all : List (List End)) (leads : List (List Bool))
+    (same : sections ≡ net.sections)
+    (sections_are : repeated_sections ≡ map (repeats_name (names_of_sections net.sections)) (range_with_len 0 (length (names_of_sections net.sections))))
+    (boards_are : repeated_boards ≡ map (repeats_name (names_of_boards net.sections)) (range_with_len 0 (length (names_of_boards net.sections))))
+    (ends_are : all ≡ numbered_all (section_named net) net.sections)
+    (leads_are : leads ≡ table (length net.sections) (leads_by (is_next all) (length net.sections))) where
+  -- the lists of broken places, one after another
+  pub rules-joined : (b1 b2 b3 b4 b5 b6 b7 b8 : List Broken) (n boards : ℕ)
+      → n ≡ length net.sections
+      → boards ≡ length repeated_boards
+      → b1 ≡ broken_at N1 n (breaks sections repeated_sections repeated_boards all leads N1)
+      → b2 ≡ b1 ++ broken_at N2 boards (breaks sections repeated_sections repeated_boards all leads N2)
+      → b3 ≡ b2 ++ broken_at N3 n (breaks sections repeated_sections repeated_boards all leads N3)
+      → b4 ≡ b3 ++ broken_at N4 n (breaks sections repeated_sections repeated_boards all leads N4)
+      → b5 ≡ b4 ++ broken_at N5 n (breaks sections repeated_sections repeated_boards all leads N5)
+      → b6 ≡ b5 ++ broken_at N6 n (breaks sections repeated_sections repeated_boards all leads N6)
+      → b7 ≡ b6 ++ broken_at N7 n (breaks sections repeated_sections repeated_boards all leads N7)
+      → b8 ≡ b7 ++ broken_at N8 n (breaks sections repeated_sections repeated_boards all leads N8)
+      → b8 ≡ network_rules_broken net
+  rules-joined b1 b2 b3 b4 b5 b6 b7 b8 n boards count board_count e1 e2 e3 e4 e5 e6 e7 e8 =
+      let m : boards ≡ length (names_of_boards net.sections) =
+      board_count ∙ ap length boards_are ∙ length-map-range_with_len (repeats_name (names_of_boards net.sections)) 0 (length (names_of_boards net.sections)) in
+      let f1 : b1 ≡ broken_at N1 (length net.sections) (repeats_name (names_of_sections net.sections)) =
+      e1 ∙ (λ i. broken_at N1 (count i) (λ x. repeated-at (names_of_sections net.sections) repeated_sections sections_are x i)) in
+      let f2 : b2 ≡ b1 ++ broken_at N2 (length (names_of_boards net.sections)) (repeats_name (names_of_boards net.sections)) =
+      e2 ∙ (λ i. b1 ++ broken_at N2 (m i) (λ x. repeated-at (names_of_boards net.sections) repeated_boards boards_are x i)) in
+      let f3 : b3 ≡ b2 ++ broken_at N3 (length net.sections) (names_no_other_by_name net) =
+      e3 ∙ (λ i. b2 ++ broken_at N3 (count i) (λ x. other_here net all ends_are x i)) in
+      let f4 : b4 ≡ b3 ++ broken_at N4 (length net.sections) (repeats_neighbour_by_name net) =
+      e4 ∙ (λ i. b3 ++ broken_at N4 (count i) (section_is (same i) repeats_neighbour)) ∙ (λ i. b3 ++ broken_at N4 (length net.sections) (λ x. neighbours_here net x i)) in
+      let f5 : b5 ≡ b4 ++ broken_at N5 (length net.sections) (is_not_named_back net) =
+      e5 ∙ (λ i. b4 ++ broken_at N5 (count i) (λ x. back_here net all ends_are x i)) in
+      let f6 : b6 ≡ b5 ++ broken_at N6 (length net.sections) (stands_alone net) =
+      e6 ∙ (λ i. b5 ++ broken_at N6 (count i) (section_is (same i) has_no_neighbour)) in
+      let f7 : b7 ≡ b6 ++ broken_at N7 (length net.sections) (returns net) =
+      e7 ∙ (λ i. b6 ++ broken_at N7 (count i) (λ x. returns_here net all ends_are leads leads_are x i)) in
+      let f8 : b8 ≡ b7 ++ broken_at N8 (length net.sections) (has_board_at_end net) =
+      e8 ∙ (λ i. b7 ++ broken_at N8 (count i) (section_is (same i) has_board_to_nowhere)) in
+      rw (f8, f7, f6, f5, f4, f3, f2, f1) refl

@@ -1,0 +1,7 @@
+use Rattle.ilk_net_check.specs.Numbers.{is_next}
+use Rattle.ilk_net_check.proofs.Tables.{next_table}
+use Rattle.ilk_net_check.proofs.reach.walks_up.Goals as goal
+
+pub loop-k-preserved : goal.loop-k-preserved
+loop-k-preserved c =
+    next_table c.args.count c.loop-k.k (is_next c.args.ends.now) c.loop-k.leads c.in_ok-leads-2.leads c.loop-k-test.true c.loop-k.invariant c.in_ok-leads-2.ensures

@@ -1,0 +1,84 @@
+-- A network in numbers: the ends of its sections, and tables of tests over pairs of sections.
+use Rattle.std.specs.Prelude.{ℕ, Bool, false, not, ◌&&◌, ◌||◌, ◌==◌, Option, List, [], map, count_by, slice_get, slice_index_or}
+use Rattle.std.specs.List.{list_any, range_with_len}
+use Rattle.ilk_plant.specs.Draft.{Name}
+use Rattle.ilk_plant.specs.Network.{same_direction}
+use Rattle.ilk_plant.specs.NetworkRules.{ends, has_board_to_nowhere, has_no_neighbour, is_some_and, opposite}
+use Rattle.ilk_plant.specs.NetworkRules.{all_differ}
+use Rattle.ilk_plant.specs.declared.broken.Rule.{Rule}
+use Rattle.ilk_plant.specs.declared.broken.Rule.TheVariants.{N1, N2, N3, N4, N5, N6, N7, N8}
+use Rattle.ilk_plant.specs.NetworkRules.{End as NamedEnd}
+use Rattle.ilk_plant.specs.declared.draft.KindDraft.{KindDraft}
+use Rattle.ilk_plant.specs.declared.draft.SectionDraft.{SectionDraft}
+use Rattle.ilk_plant.specs.declared.network.Dir.{Dir}
+use Rattle.ilk_plant.specs.declared.network.Dir.TheVariants.{Up}
+use Rattle.ilk_net_check.specs.declared.ends.End.{End}
+
+-- an end with a number for its name
+abbrev pub numbered_end : (Name → Option ℕ) → NamedEnd → End
+numbered_end number end = record { side = end.side; section = number end.name }
+
+-- the ends of a section with numbers for names
+abbrev pub numbered_ends : (Name → Option ℕ) → KindDraft → List End
+numbered_ends number kind = map (numbered_end number) (ends kind)
+
+-- whether an end is on the up side and names section y
+abbrev pub leads_to : ℕ → End → Bool
+leads_to y end = same_direction end.side Up && is_some_and end.section (λ z. z == y)
+
+-- the ends of section x; none where x is no section
+abbrev pub ends_at : List (List End) → ℕ → List End
+ends_at all x = slice_index_or all x []
+
+-- whether section y is next to section x on its up side
+abbrev pub is_next : List (List End) → ℕ → ℕ → Bool
+is_next all x y = list_any (leads_to y) (ends_at all x)
+
+-- a test of each pair of numbers below n
+abbrev pub table : ℕ → (ℕ → ℕ → Bool) → List (List Bool)
+table n test = map (λ x. map (test x) (range_with_len 0 n)) (range_with_len 0 n)
+
+-- what a table has for x and y; false outside of it
+abbrev pub entry : List (List Bool) → ℕ → ℕ → Bool
+entry t x y = slice_index_or (slice_index_or t x []) y false
+
+-- whether a table has x and y, or both x and k and k and y
+abbrev pub joined : List (List Bool) → ℕ → ℕ → ℕ → Bool
+joined t k x y = entry t x y || (entry t x k && entry t k y)
+
+-- whether an end names section x
+abbrev pub names : ℕ → End → Bool
+names x end = is_some_and end.section (λ y. y == x)
+
+-- whether an end names no section other than x
+abbrev pub names_no_other : ℕ → End → Bool
+names_no_other x end = not (is_some_and end.section (λ y. not (y == x)))
+
+-- whether exactly one of these ends names section x, and that end is on side d
+abbrev pub names_once : ℕ → Dir → List End → Bool
+names_once x d ends = count_by (names x) ends == 1 && list_any (λ end. names x end && same_direction end.side d) ends
+
+-- whether an end of section x names a section other than x that doesn't name x back once, on the opposite side
+abbrev pub is_one_way : List (List End) → ℕ → End → Bool
+is_one_way all x end =
+    is_some_and end.section (λ y. not (y == x) && not (names_once x (opposite end.side) (ends_at all y)))
+
+-- whether two neighbours of a section have the same name
+abbrev pub repeats_neighbour : KindDraft → Bool
+repeats_neighbour kind = not (all_differ (map (λ end. end.name) (ends kind)))
+
+-- whether a section is there, and passes
+abbrev pub section_is : List SectionDraft → (KindDraft → Bool) → ℕ → Bool
+section_is sections test x = is_some_and (slice_get sections x) (λ section. test section.kind)
+
+-- whether section or board x breaks a rule of the network, by the drafts, by which names repeat earlier ones, by the ends, and by where walks lead
+abbrev pub breaks : List SectionDraft → List Bool → List Bool → List (List End) → List (List Bool) → Rule → ℕ → Bool
+breaks sections repeated_sections repeated_boards all leads N1 x = slice_index_or repeated_sections x false
+breaks sections repeated_sections repeated_boards all leads N2 x = slice_index_or repeated_boards x false
+breaks sections repeated_sections repeated_boards all leads N3 x = list_any (names_no_other x) (ends_at all x)
+breaks sections repeated_sections repeated_boards all leads N4 x = section_is sections repeats_neighbour x
+breaks sections repeated_sections repeated_boards all leads N5 x = list_any (is_one_way all x) (ends_at all x)
+breaks sections repeated_sections repeated_boards all leads N6 x = section_is sections has_no_neighbour x
+breaks sections repeated_sections repeated_boards all leads N7 x = entry leads x x
+breaks sections repeated_sections repeated_boards all leads N8 x = section_is sections has_board_to_nowhere x
+breaks sections repeated_sections repeated_boards all leads rule x = false

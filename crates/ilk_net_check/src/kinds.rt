@@ -1,0 +1,57 @@
+ghost use Rattle.std.specs.Prelude.{◌≡◌, bytes_eq};
+ghost use Rattle.ilk_plant.specs.NetworkRules.{has_board_to_nowhere, has_no_neighbour};
+ghost use Rattle.ilk_net_check.specs.Numbers.{repeats_neighbour};
+
+use ilk_plant::{KindDraft, Text};
+
+// Whether two names are one.
+fn same_name(name: &Text, other: &Text) -> bool
+    ensures { result ≡ bytes_eq name.now other.now }
+{
+    name.as_str() == other.as_str()
+}
+
+/// Whether two neighbours of a section have the same name.
+pub fn repeats_neighbour(kind: &KindDraft) -> bool
+    ensures { result ≡ repeats_neighbour kind.now }
+{
+    match kind {
+        KindDraft::Linear {
+            down: Some(down),
+            up: Some(up),
+            ..
+        } => same_name(down, up),
+        KindDraft::Linear { .. } => false,
+        KindDraft::Point {
+            stem,
+            plus,
+            minus,
+            ..
+        } => same_name(stem, plus) || same_name(stem, minus) || same_name(plus, minus),
+    }
+}
+
+/// Whether a section is linear and has no neighbour.
+pub fn has_no_neighbour(kind: &KindDraft) -> bool
+    ensures { result ≡ has_no_neighbour kind.now }
+{
+    match kind {
+        KindDraft::Linear { down, up, .. } => down.is_none() && up.is_none(),
+        KindDraft::Point { .. } => false,
+    }
+}
+
+/// Whether a section is linear and has a board in a direction in which it has no neighbour.
+pub fn has_board_to_nowhere(kind: &KindDraft) -> bool
+    ensures { result ≡ has_board_to_nowhere kind.now }
+{
+    match kind {
+        KindDraft::Linear {
+            down,
+            up,
+            board_down,
+            board_up,
+        } => { down.is_none() && board_down.is_some() || up.is_none() && board_up.is_some() }
+        KindDraft::Point { .. } => false,
+    }
+}

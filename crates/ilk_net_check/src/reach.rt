@@ -1,0 +1,113 @@
+ghost use Rattle.std.specs.Prelude.{◌≡◌, ◌≤◌, IfOk, false, map, slice_index_or};
+ghost use Rattle.std.specs.List.{list_any, range_with_len};
+ghost use Rattle.ilk_plant.specs.NetworkRules.{leads_by};
+ghost use Rattle.ilk_net_check.specs.Numbers.{entry, is_next, joined, leads_to, table};
+
+use crate::ends::{End, ends_at};
+use ilk_plant::{Dir, Row};
+use std::alloc::{AllocError, Global};
+
+/// What a table has for `x` and `y`; false outside of it.
+pub fn entry(table: &Row<Row<bool>>, x: u32, y: u32) -> bool
+    ensures { result ≡ entry table.now x y }
+{
+    match table.as_slice().get(x as usize) {
+        Some(row) => flag_at(row, y),
+        None => false,
+    }
+}
+
+/// Flag `i`; false where there is none.
+pub fn flag_at(flags: &Row<bool>, i: u32) -> bool
+    ensures { result ≡ slice_index_or flags.now i false }
+{
+    match flags.as_slice().get(i as usize) {
+        Some(flag) => *flag,
+        None => false,
+    }
+}
+
+// Whether one of these ends is on the up side and names section `y`.
+fn leads_to(ends: &[End], y: u32) -> bool
+    ensures { result ≡ list_any (leads_to y) ends.now }
+{
+    ends.iter().any(|end| end.side == Dir::Up && end.names(y))
+}
+
+// For each section below `count`, whether it is next to section `x` on its up side.
+fn next_of(alloc: Global, ends: &[End], count: u32) -> Result<Row<bool>, AllocError>
+    ensures { IfOk result (λ made. made ≡ map (λ y. list_any (leads_to y) ends.now) (range_with_len 0 count)) }
+{
+    let mut made = Row::new(alloc);
+    for y in 0..count {
+        made.push(leads_to(ends, y))?;
+    }
+    Ok(made)
+}
+
+// For each pair of sections below `count`, whether the second is next to the first on its up side.
+fn steps_up(alloc: Global, ends: &Row<Row<End>>, count: u32) -> Result<Row<Row<bool>>, AllocError>
+    ensures { IfOk result (λ made. made ≡ table count (is_next ends.now)) }
+{
+    let mut made = Row::new(alloc);
+    for x in 0..count {
+        made.push(next_of(alloc, ends_at(ends, x), count)?)?;
+    }
+    Ok(made)
+}
+
+// Whether steps lead from `x` to `y`, or from `x` to `k` and from `k` to `y`.
+fn joined(leads: &Row<Row<bool>>, k: u32, x: u32, y: u32) -> bool
+    ensures { result ≡ joined leads.now k x y }
+{
+    entry(leads, x, y) || entry(leads, x, k) && entry(leads, k, y)
+}
+
+// Where steps lead from section `x` if they may also go by way of section `k`.
+fn row_by_way_of(
+    alloc: Global,
+    leads: &Row<Row<bool>>,
+    k: u32,
+    x: u32,
+    count: u32,
+) -> Result<Row<bool>, AllocError>
+    ensures { IfOk result (λ made. made ≡ map (joined leads.now k x) (range_with_len 0 count)) }
+{
+    let mut made = Row::new(alloc);
+    for y in 0..count {
+        made.push(joined(leads, k, x, y))?;
+    }
+    Ok(made)
+}
+
+// Where steps lead if they may also go by way of section `k`.
+fn by_way_of(
+    alloc: Global,
+    leads: &Row<Row<bool>>,
+    k: u32,
+    count: u32,
+) -> Result<Row<Row<bool>>, AllocError>
+    ensures { IfOk result (λ made. made ≡ table count (joined leads.now k)) }
+{
+    let mut made = Row::new(alloc);
+    for x in 0..count {
+        made.push(row_by_way_of(alloc, leads, k, x, count)?)?;
+    }
+    Ok(made)
+}
+
+/// For each pair of sections below `count`, whether a walk up of one or more steps leads from the
+/// first to the second by way of sections below `count`.
+pub fn walks_up(
+    alloc: Global,
+    ends: &Row<Row<End>>,
+    count: u32,
+) -> Result<Row<Row<bool>>, AllocError>
+    ensures { IfOk result (λ made. made ≡ table count (leads_by (is_next ends.now) count)) }
+{
+    let mut leads = steps_up(alloc, ends, count)?;
+    for k in 0..count {
+        leads = by_way_of(alloc, &leads, k, count)?;
+    }
+    Ok(leads)
+}

@@ -1,0 +1,116 @@
+-- The routes of the plant, where no rule of the table is broken.
+use Rattle.std.proofs.Common.{◌≡◌, ◌≢◌, ℕ, ◌<◌, ◌≤◌, Bool, true, false, ◌&&◌, not, Option, Some, None, IsSome, IsTrue, List, [], ◌∷◌, All, length, slice_get, nat_lt, refl, sym, ◌∙◌, ap, arith}
+use Rattle.std.specs.List.{list_all}
+use Rattle.std.proofs.lemmas.Bool.Decides.{nat_tests}
+use Rattle.std.proofs.lemmas.List.{length-map}
+use Rattle.std.proofs.lemmas.List.Elements.{All-nil, All-cons, All-get_or}
+use Rattle.std.proofs.lemmas.List.Folds.{list_all-append, list_all-map}
+use Rattle.std.proofs.lemmas.Option.{get_or_from_slice_get, slice_get_within}
+use Rattle.ilk_plant.proofs.Numbered.{both}
+use Rattle.ilk_plant.proofs.Once.{none_twice-once}
+use Rattle.ilk_plant.proofs.Rules.{KeepsTableRules}
+use Rattle.ilk_plant.proofs.Tests.{map-at}
+use Rattle.ilk_plant.specs.Draft.{names_of_boards, names_of_routes, names_of_sections, number_of, numbered, numbered_point, numbered_route}
+use Rattle.ilk_plant.specs.Limits.{RouteHasLimits}
+use Rattle.ilk_plant.specs.Network.{has_section, is_point}
+use Rattle.ilk_plant.specs.Plant.{IsRouteOf, PlantLists, point_number}
+use Rattle.ilk_plant.specs.TableRules.{has_conflicts_once, has_destination_or_none, has_points_once, has_sections_once, has_source, is_board, is_other_route, is_point_section, is_section, none_twice, passes, points_of, route_fails, sections_of}
+use Rattle.ilk_plant.specs.declared.draft.NetDraft.{NetDraft}
+use Rattle.ilk_plant.specs.declared.draft.RouteDraft.{RouteDraft}
+use Rattle.ilk_plant.specs.declared.draft.TableDraft.{TableDraft}
+use Rattle.ilk_plant.specs.declared.network.Section.{Section}
+use Rattle.ilk_plant.specs.declared.table.Route.{Route}
+
+-- a route that doesn't fail a test passes it
+pub route-passes : (p : PlantLists) (test : Route → Bool) (r : ℕ) (route : Route) → route_fails p test r ≡ false → slice_get p.routes r ≡ Some route → test route ≡ true
+route-passes p test r route h at =
+    let kept : not (test route) ≡ false = rw at at h in not-not (test route) kept
+  where
+    not-not : (b : Bool) → not b ≡ false → b ≡ true
+    not-not true h = refl
+    not-not false h = cc
+
+-- what follows from a test that all items pass
+pub All-tested : {X : Type 0} (test : X → Bool) (P : X → Type 0) → ((x : X) → test x ≡ true → P x) → (xs : List X) → list_all test xs ≡ true → All P xs
+All-tested test P f [] h = All-nil P
+All-tested test P f (x ∷ xs) h =
+    let parts = both (test x) (list_all test xs) h in
+    All-cons P x xs (f x parts.0) (All-tested test P f xs parts.1)
+
+-- a number that is tested to be below a bound
+below : (x n : ℕ) → nat_lt x n ≡ true → x < n
+below x n h = grind (arith, nat_tests)
+
+-- a point section is a section
+point-within : (p : PlantLists) (x : ℕ) → is_point_section p x ≡ true → x < length p.sections
+point-within p x h = by_section (slice_get p.sections x) refl
+  where
+    by_section : (o : Option Section) → slice_get p.sections x ≡ o → x < length p.sections
+    by_section None at = let bad : passes is_point None ≡ true = rw at at h in cc
+    by_section (Some section) at = slice_get_within p.sections x section at
+
+-- a route of the plant is a numbered draft
+pub route-at : (net : NetDraft) (table : TableDraft) (r : ℕ) (route : Route) → slice_get (numbered net table).routes r ≡ Some route → (draft : RouteDraft) × (slice_get table.routes r ≡ Some draft) × (numbered_route (names_of_sections net.sections) (names_of_boards net.sections) (names_of_routes table.routes) draft ≡ route)
+route-at net table r route e =
+    map-at (numbered_route (names_of_sections net.sections) (names_of_boards net.sections) (names_of_routes table.routes)) table.routes r route e
+
+-- a point section has a number among the points
+point-numbered : (p : PlantLists) (x : ℕ) → is_point_section p x ≡ true → IsSome (point_number p x)
+point-numbered p x h = by_section (slice_get p.sections x) refl
+  where
+    by_section : (o : Option Section) → slice_get p.sections x ≡ o → IsSome (point_number p x)
+    by_section None at = let bad : passes is_point None ≡ true = rw at at h in cc
+    by_section (Some section) at = let yes : is_point section ≡ true = rw at at h in rw (at, yes) refl
+
+-- a number that is tested to be that of another route
+other : (p : PlantLists) (r q : ℕ) → is_other_route p r q ≡ true → q ≢ r
+other p r q h = grind (arith, nat_tests)
+
+-- a route of the plant has the limits of its draft
+route-limits : (net : NetDraft) (table : TableDraft) (r : ℕ) (route : Route) → All RouteHasLimits table.routes → slice_get (numbered net table).routes r ≡ Some route → (1 ≤ length route.path) × (length route.path ≤ 32) × (length route.overlap ≤ 8) × (length route.points ≤ 40) × (length route.conflicts ≤ 128)
+route-limits net table r route each e =
+    let found : (draft : RouteDraft) × (slice_get table.routes r ≡ Some draft) × (numbered_route (names_of_sections net.sections) (names_of_boards net.sections) (names_of_routes table.routes) draft ≡ route) = route-at net table r route e in
+    let limits : RouteHasLimits found.0 = rw (get_or_from_slice_get table.routes r found.0 found.0 found.1) at (All-get_or RouteHasLimits table.routes r found.0 (slice_get_within table.routes r found.0 found.1) each) in
+    let path : length route.path ≡ length found.0.path = ap (λ a. length a.path) (sym found.2) ∙ length-map found.0.path (number_of (names_of_sections net.sections)) in
+    let overlap : length route.overlap ≡ length found.0.overlap = ap (λ a. length a.overlap) (sym found.2) ∙ length-map found.0.overlap (number_of (names_of_sections net.sections)) in
+    let points : length route.points ≡ length found.0.points = ap (λ a. length a.points) (sym found.2) ∙ length-map found.0.points (numbered_point (names_of_sections net.sections)) in
+    let conflicts : length route.conflicts ≡ length found.0.conflicts = ap (λ a. length a.conflicts) (sym found.2) ∙ length-map found.0.conflicts (number_of (names_of_routes table.routes)) in
+    (omega (arith, path, limits.path_begins), omega (arith, path, limits.path), omega (arith, overlap, limits.overlap), omega (arith, points, limits.points), omega (arith, conflicts, limits.conflicts))
+
+-- a route of the plant speaks of what there is
+pub route-known : (net : NetDraft) (table : TableDraft) → KeepsTableRules (numbered net table) → All RouteHasLimits table.routes → (r : ℕ) (route : Route) → slice_get (numbered net table).routes r ≡ Some route → IsRouteOf (numbered net table) route
+route-known net table rules each r route e =
+    let p : PlantLists = numbered net table in
+    let within : r < length p.routes = slice_get_within p.routes r route e in
+    let source = route-passes p (has_source p) r route (rules.sources r within) e in
+    let sections = both (list_all (is_section p) (sections_of route)) (none_twice (sections_of route)) (route-passes p (has_sections_once p) r route (rules.sections_once r within) e) in
+    let each_section = both (list_all (is_section p) route.path) (list_all (is_section p) route.overlap) (sym (list_all-append (is_section p) route.path route.overlap) ∙ sections.0) in
+    let points = both (list_all (λ x. is_point_section p x && has_section x (sections_of route)) (points_of route)) (none_twice (points_of route)) (route-passes p (has_points_once p) r route (rules.points_once r within) e) in
+    let each_point : list_all (λ listed. is_point_section p listed.point && has_section listed.point (sections_of route)) route.points ≡ true = sym (list_all-map (λ x. is_point_section p x && has_section x (sections_of route)) (λ listed. listed.point) route.points) ∙ points.0 in
+    let destination = route-passes p (λ a. has_destination_or_none p a.destination) r route (rules.destinations r within) e in
+    let conflicts = both (list_all (is_other_route p r) route.conflicts) (none_twice route.conflicts) (route-passes p (has_conflicts_once p r) r route (rules.conflicts_once r within) e) in
+    let lengths = route-limits net table r route each e in
+    record {
+      destination = λ m is. let known : is_board p m ≡ true = rw is at destination in below m (length p.boards) known;
+      sections_once = none_twice-once (sections_of route) sections.1;
+      points_are_points = All-tested (λ listed. is_point_section p listed.point && has_section listed.point (sections_of route)) (λ listed. IsSome (point_number p listed.point)) (λ listed h. point-numbered p listed.point (both _ _ h).0) route.points each_point;
+      points_passed = All-tested (λ listed. is_point_section p listed.point && has_section listed.point (sections_of route)) (λ listed. IsTrue (has_section listed.point (sections_of route))) (λ listed h. (both _ _ h).1) route.points each_point;
+      points_once = none_twice-once (points_of route) points.1;
+      conflicts_once = none_twice-once route.conflicts conflicts.1;
+      short_overlap = lengths.2;
+      few_points = lengths.3;
+      few_conflicts = lengths.4;
+      source = below route.source (length p.boards) source;
+      path = All-tested (is_section p) (λ x. x < length p.sections) (λ x h. below x (length p.sections) h) route.path each_section.0;
+      overlap = All-tested (is_section p) (λ x. x < length p.sections) (λ x h. below x (length p.sections) h) route.overlap each_section.1;
+      points = All-tested (λ listed. is_point_section p listed.point && has_section listed.point (sections_of route)) (λ listed. listed.point < length p.sections) (λ listed h. point-within p listed.point (both _ _ h).0) route.points each_point;
+      conflicts = All-tested (is_other_route p r) (λ q. q < length p.routes) (λ q h. below q (length p.routes) (both _ _ h).0) route.conflicts conflicts.0;
+      path_begins = omega (arith, lengths.0);
+      path_ends = lengths.1;
+    }
+
+-- the conflicts of a route of the plant are other routes
+pub conflicts-other : (p : PlantLists) → KeepsTableRules p → (r : ℕ) (route : Route) → slice_get p.routes r ≡ Some route → All (λ q. q ≢ r) route.conflicts
+conflicts-other p rules r route e =
+    let conflicts = both (list_all (is_other_route p r) route.conflicts) (none_twice route.conflicts) (route-passes p (has_conflicts_once p r) r route (rules.conflicts_once r (slice_get_within p.routes r route e)) e) in
+    All-tested (is_other_route p r) (λ q. q ≢ r) (λ q h. other p r q h) route.conflicts conflicts.0

@@ -1,0 +1,51 @@
+-- What a section of a plant has on its two sides, and what its name stands for.
+use Rattle.std.proofs.Common.{◌≡◌, ℕ, ◌+◌, ◌<◌, Bool, true, false, ◌==◌, Some, List, ◌++◌, length, slice_get, refl, sym, ◌∙◌, ap, arith}
+use Rattle.std.specs.List.{list_any}
+use Rattle.std.proofs.lemmas.Bool.{eqb-true}
+use Rattle.std.proofs.lemmas.Option.{slice_get_within}
+use Rattle.ilk_plant.proofs.NamesDiffer.{first_named-own}
+use Rattle.ilk_plant.proofs.Rows.{at-before, at-past}
+use Rattle.ilk_plant.proofs.Tests.{list_any-at, not-true}
+use Rattle.ilk_plant.specs.Draft.{Name}
+use Rattle.ilk_plant.specs.Network.{has_section}
+use Rattle.ilk_plant.specs.NetworkRules.{opposite}
+use Rattle.ilk_plant.specs.Plant.{EachOnce, IsPlant, PlantLists, first_named, next_to}
+use Rattle.ilk_plant.specs.declared.network.Dir.{Dir}
+use Rattle.ilk_plant.specs.declared.network.Dir.TheVariants.{Up, Down}
+
+-- what stands in one of two lists doesn't stand in the other, where nothing stands twice in both together
+pub once-apart : (xs ys : List ℕ) (x : ℕ) → EachOnce (xs ++ ys) → has_section x xs ≡ true → has_section x ys ≡ true → ⊥
+once-apart xs ys x once first second =
+    let here : (k : ℕ) × (y : ℕ) × (slice_get xs k ≡ Some y) × ((y == x) ≡ true) = list_any-at (λ y. y == x) xs first in
+    let there : (k : ℕ) × (y : ℕ) × (slice_get ys k ≡ Some y) × ((y == x) ≡ true) = list_any-at (λ y. y == x) ys second in
+    let same : there.1 ≡ here.1 = eqb-true there.1 x there.3 ∙ sym (eqb-true here.1 x here.3) in
+    let within = slice_get_within xs here.0 here.1 here.2 in
+    let places = once here.0 (length xs + there.0) here.1 (at-before xs ys here.0 here.1 here.2) (at-past xs ys there.0 there.1 there.2 ∙ ap Some same) in
+    absurd (omega (arith, within, places))
+
+-- a section next to another has that one next to it on the opposite side
+pub back-opposite : (p : PlantLists) → IsPlant p → (x y : ℕ) (d : Dir) → has_section y (next_to p x d) ≡ true → has_section x (next_to p y (opposite d)) ≡ true
+back-opposite p plant x y Up h = (plant.neighbours_back x y).0 h
+back-opposite p plant x y Down h = (plant.neighbours_back y x).1 h
+
+-- a section next to another on one side isn't next to it on the other
+pub one-side : (p : PlantLists) → IsPlant p → (x y : ℕ) (d : Dir) → has_section y (next_to p x d) ≡ true → has_section y (next_to p x (opposite d)) ≡ false
+one-side p plant x y Up h =
+    not-true (has_section y (next_to p x Down)) (λ also. once-apart (next_to p x Down) (next_to p x Up) y (plant.neighbours_once x) also h)
+one-side p plant x y Down h =
+    not-true (has_section y (next_to p x Up)) (λ also. once-apart (next_to p x Down) (next_to p x Up) y (plant.neighbours_once x) h also)
+
+-- nor is it, in the same direction, next to what is next to it
+pub not-back : (p : PlantLists) → IsPlant p → (x y : ℕ) (d : Dir) → has_section y (next_to p x d) ≡ true → has_section x (next_to p y d) ≡ false
+not-back p plant x y Up h = one-side p plant y x Down (back-opposite p plant x y Up h)
+not-back p plant x y Down h = one-side p plant y x Up (back-opposite p plant x y Down h)
+
+-- the name of section x stands for x, and so for boards and routes
+pub section-own : (p : PlantLists) → IsPlant p → (x : ℕ) (name : Name) → slice_get p.section_names x ≡ Some name → first_named p.section_names name ≡ Some x
+section-own p plant x name at = first_named-own p.section_names name x plant.section_names_differ at
+
+pub board-own : (p : PlantLists) → IsPlant p → (m : ℕ) (name : Name) → slice_get p.board_names m ≡ Some name → first_named p.board_names name ≡ Some m
+board-own p plant m name at = first_named-own p.board_names name m plant.board_names_differ at
+
+pub route-own : (p : PlantLists) → IsPlant p → (r : ℕ) (name : Name) → slice_get p.route_names r ≡ Some name → first_named p.route_names name ≡ Some r
+route-own p plant r name at = first_named-own p.route_names name r plant.route_names_differ at

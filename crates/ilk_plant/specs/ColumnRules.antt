@@ -1,0 +1,121 @@
+-- The rules of the columns of the table of routes, C1 to C7, over the plant. A route has the direction of its
+-- source board, and `next_to` is asked in that direction, for the overlap too.
+use Rattle.std.specs.Prelude.{ℕ, Bool, true, false, not, Option, Some, None, List, [], ◌∷◌, ◌++◌, ◌&&◌, ◌||◌, ◌==◌, ◌-◌, nat_lt, is_none, length, take, slice_get}
+use Rattle.std.specs.List.{list_any, list_all}
+use Rattle.ilk_plant.specs.Broken.{broken_at, broken_at_pairs}
+use Rattle.ilk_plant.specs.Network.{has_section}
+use Rattle.ilk_plant.specs.Plant.{PlantLists, next_to, board_of, border}
+use Rattle.ilk_plant.specs.TableRules.{is_point_section, passes, points_of, route_fails, sections_of}
+use Rattle.ilk_plant.specs.declared.broken.Broken.{Broken}
+use Rattle.ilk_plant.specs.declared.broken.Rule.TheVariants.{C1, C2, C3, C4, C5, C6, C7}
+use Rattle.ilk_plant.specs.declared.network.Board.{Board}
+use Rattle.ilk_plant.specs.declared.network.Dir.{Dir}
+use Rattle.ilk_plant.specs.declared.network.Position.{Position}
+use Rattle.ilk_plant.specs.declared.network.Position.TheVariants.{Plus, Minus}
+use Rattle.ilk_plant.specs.declared.network.Section.{Section}
+use Rattle.ilk_plant.specs.declared.network.Section.TheVariants.{Linear, Point}
+use Rattle.ilk_plant.specs.declared.table.Listed.{Listed}
+use Rattle.ilk_plant.specs.declared.table.Route.{Route}
+
+-- whether the board at which a route begins passes the test
+abbrev pub source_passes : PlantLists → Route → (Board → Bool) → Bool
+source_passes p route test = passes test (slice_get p.boards route.source)
+
+-- the last section of a path
+abbrev pub last_of : List ℕ → Option ℕ
+last_of path = slice_get path (length path - 1)
+
+-- the sections of a path but the last
+abbrev pub all_but_last : List ℕ → List ℕ
+all_but_last path = take (length path - 1) path
+
+-- whether each section is next to the one before it in direction d, and the first is next to x
+abbrev pub is_way : PlantLists → Dir → ℕ → List ℕ → Bool
+is_way p d x [] = true
+is_way p d x (y ∷ rest) = has_section y (next_to p x d) && is_way p d y rest
+
+-- C1: the path is a way from the source's section
+abbrev pub path_is_way : PlantLists → Route → Bool
+path_is_way p route = source_passes p route (λ source. is_way p source.dir source.section route.path)
+
+-- whether section x, where a path in direction d ends, has the destination as its board; without a destination,
+-- whether it has no neighbour
+abbrev pub ends_at : PlantLists → Dir → Option ℕ → ℕ → Bool
+ends_at p d (Some m) x = passes (λ n. n == m) (board_of p x d)
+ends_at p d None x = length (next_to p x d) == 0
+
+-- whether section x has no board for direction d
+abbrev pub has_no_board : PlantLists → Dir → ℕ → Bool
+has_no_board p d x = is_none (board_of p x d)
+
+-- whether a path in direction d has no board before its last section, and ends at the destination
+abbrev pub is_between_boards : PlantLists → Dir → Option ℕ → List ℕ → Bool
+is_between_boards p d destination path =
+    list_all (has_no_board p d) (all_but_last path) && passes (ends_at p d destination) (last_of path)
+
+-- C2: no path section but the last has a board in the route's direction, and the path ends at the destination
+abbrev pub path_ends_at_board : PlantLists → Route → Bool
+path_ends_at_board p route = source_passes p route (λ source. is_between_boards p source.dir route.destination route.path)
+
+-- whether y is the leg of a section at a position
+abbrev pub is_leg : Position → ℕ → Section → Bool
+is_leg at y (Linear down up board_down board_up) = false
+is_leg Plus y (Point stem plus minus faces) = plus == y
+is_leg Minus y (Point stem plus minus faces) = minus == y
+
+-- whether x is listed at a position whose leg is one of these sections
+abbrev pub is_listed_towards : PlantLists → List Listed → List ℕ → ℕ → Bool
+is_listed_towards p points sections x =
+    list_any (λ listed. (listed.point == x) && list_any (λ y. passes (is_leg listed.at y) (slice_get p.sections x)) sections) points
+
+-- whether each point of these path sections is listed towards the section before it or the one after it
+abbrev pub points_lead_along : PlantLists → List Listed → ℕ → List ℕ → Bool
+points_lead_along p points before [] = true
+points_lead_along p points before (x ∷ rest) =
+    (not (is_point_section p x) || is_listed_towards p points (before ∷ take 1 rest) x) && points_lead_along p points x rest
+
+-- C3: each point of the path is listed towards its path, and each point of the overlap is listed
+abbrev pub points_are_set : PlantLists → Route → Bool
+points_are_set p route =
+    source_passes p route (λ source. points_lead_along p route.points source.section route.path)
+    && list_all (λ x. not (is_point_section p x) || has_section x (points_of route)) route.overlap
+
+-- C4: the overlap is a way from the last section of the path
+abbrev pub overlap_is_way : PlantLists → Route → Bool
+overlap_is_way p route =
+    source_passes p route (λ source. passes (λ x. is_way p source.dir x route.overlap) (last_of route.path))
+
+-- whether route i lists route j as a conflict
+abbrev pub lists : PlantLists → ℕ → ℕ → Bool
+lists p i j = passes (λ route. list_any (λ r. r == j) route.conflicts) (slice_get p.routes i)
+
+-- C5 is broken: route i lists j, and j doesn't list i
+abbrev pub lists_alone : PlantLists → ℕ → ℕ → Bool
+lists_alone p i j = lists p i j && not (lists p j i)
+
+-- whether route i has one of these sections in its path or overlap
+abbrev pub has_one_of : PlantLists → List ℕ → ℕ → Bool
+has_one_of p sections i = passes (λ route. list_any (λ x. has_section x (sections_of route)) sections) (slice_get p.routes i)
+
+-- whether routes i and j have one same section in path or overlap
+abbrev pub share_section : PlantLists → ℕ → ℕ → Bool
+share_section p i j = passes (λ route. has_one_of p (sections_of route) i) (slice_get p.routes j)
+
+-- C6 is broken: i is below j, they share a section, and i doesn't list j
+abbrev pub share_unlisted : PlantLists → ℕ → ℕ → Bool
+share_unlisted p i j = nat_lt i j && share_section p i j && not (lists p i j)
+
+-- C7 is broken: section x is a border, without a board in its inward direction
+abbrev pub is_open_border : PlantLists → ℕ → Bool
+is_open_border p x = passes (λ inward. has_no_board p inward x) (border p x)
+
+-- the broken rules of the columns, in order
+abbrev pub column_rules_broken : PlantLists → List Broken
+column_rules_broken p =
+    broken_at C1 (length p.routes) (route_fails p (path_is_way p))
+    ++ broken_at C2 (length p.routes) (route_fails p (path_ends_at_board p))
+    ++ broken_at C3 (length p.routes) (route_fails p (points_are_set p))
+    ++ broken_at C4 (length p.routes) (route_fails p (overlap_is_way p))
+    ++ broken_at_pairs C5 (length p.routes) (lists_alone p)
+    ++ broken_at_pairs C6 (length p.routes) (share_unlisted p)
+    ++ broken_at C7 (length p.sections) (is_open_border p)

@@ -1,0 +1,149 @@
+-- The rules of the network, N1 to N8: the list of those that a draft breaks.
+use Rattle.std.specs.Prelude.{ℕ, zero, suc, ◌≡◌, Bool, true, false, not, ◌&&◌, ◌||◌, ◌==◌, Option, Some, None, is_none, List, [], ◌∷◌, ◌++◌, length, map, take, slice_get, count_by, bytes_eq, IsTrue}
+use Rattle.std.specs.List.{list_any, last_or}
+use Rattle.ilk_plant.specs.Broken.{broken_at}
+use Rattle.ilk_plant.specs.Draft.{Name, names_of_boards, names_of_sections}
+use Rattle.ilk_plant.specs.Network.{same_direction}
+use Rattle.ilk_plant.specs.Plant.{first_named}
+use Rattle.ilk_plant.specs.declared.broken.Broken.{Broken}
+use Rattle.ilk_plant.specs.declared.broken.Rule.TheVariants.{N1, N2, N3, N4, N5, N6, N7, N8}
+use Rattle.ilk_plant.specs.declared.draft.KindDraft.{KindDraft}
+use Rattle.ilk_plant.specs.declared.draft.KindDraft.TheVariants.{Linear as LinearDraft, Point as PointDraft}
+use Rattle.ilk_plant.specs.declared.draft.NetDraft.{NetDraft}
+use Rattle.ilk_plant.specs.declared.draft.SectionDraft.{SectionDraft}
+use Rattle.ilk_plant.specs.declared.network.Dir.{Dir}
+use Rattle.ilk_plant.specs.declared.network.Dir.TheVariants.{Up, Down}
+
+-- whether no name stands twice
+abbrev pub all_differ : List Name → Bool
+all_differ [] = true
+all_differ (name ∷ rest) = not (list_any (bytes_eq name) rest) && all_differ rest
+
+-- whether a board is missing where its neighbour is
+abbrev pub has_no_board_at_end : Option Name → Option Name → Bool
+has_no_board_at_end None board = is_none board
+has_no_board_at_end (Some neighbour) board = true
+
+-- whether there is a value, and it passes
+abbrev pub is_some_and : {A : Type 0} → Option A → (A → Bool) → Bool
+is_some_and None test = false
+is_some_and (Some x) test = test x
+
+abbrev pub opposite : Dir → Dir
+opposite Up = Down
+opposite Down = Up
+
+-- an end of a section at which a neighbour is given: its side, and the name of the neighbour
+pub record End : Type 0 where
+  pub side : Dir
+  pub name : Name
+
+-- the end on this side, if a neighbour is given there
+abbrev pub end_with : Dir → Option Name → List End
+end_with side None = []
+end_with side (Some name) = record { side = side; name = name } ∷ []
+
+-- the ends of a section: a point has its legs on the side that it faces, and its stem on the other
+abbrev pub ends : KindDraft → List End
+ends (LinearDraft down up board_down board_up) = end_with Down down ++ end_with Up up
+ends (PointDraft stem plus minus faces) =
+    record { side = opposite faces; name = stem } ∷ record { side = faces; name = plus } ∷ record { side = faces; name = minus } ∷ []
+
+-- the ends of section x; none where x is no section
+abbrev pub ends_of : NetDraft → ℕ → List End
+ends_of net x = ends_if (slice_get net.sections x)
+  where
+    ends_if : Option SectionDraft → List End
+    ends_if None = []
+    ends_if (Some section) = ends section.kind
+
+-- a name stands for the first section that has it
+abbrev pub section_named : NetDraft → Name → Option ℕ
+section_named net name = first_named (names_of_sections net.sections) name
+
+-- whether the name at an end stands for section x
+abbrev pub names_section : NetDraft → ℕ → End → Bool
+names_section net x end = is_some_and (section_named net end.name) (λ y. y == x)
+
+-- whether the name at an end stands for a section other than x
+abbrev pub names_another : NetDraft → ℕ → End → Bool
+names_another net x end = is_some_and (section_named net end.name) (λ y. not (y == x))
+
+-- N1, N2: an earlier one has the same name
+abbrev pub repeats_name : List Name → ℕ → Bool
+repeats_name names i = is_some_and (slice_get names i) (λ name. list_any (bytes_eq name) (take i names))
+
+-- N3: a neighbour of section x isn't the name of a section other than x
+abbrev pub names_no_other : NetDraft → ℕ → Bool
+names_no_other net x = list_any (λ end. not (names_another net x end)) (ends_of net x)
+
+-- N4: two neighbours of section x have the same name
+abbrev pub repeats_neighbour : NetDraft → ℕ → Bool
+repeats_neighbour net x = not (all_differ (map (λ end. end.name) (ends_of net x)))
+
+-- whether exactly one of these ends names section x, and that end is on side d
+abbrev pub names_once : NetDraft → ℕ → Dir → List End → Bool
+names_once net x d ends =
+    count_by (names_section net x) ends == 1 && list_any (λ end. names_section net x end && same_direction end.side d) ends
+
+-- N5: a neighbour of section x, other than x, doesn't name x at exactly one of its ends, on the opposite side
+abbrev pub is_not_named_back : NetDraft → ℕ → Bool
+is_not_named_back net x =
+    list_any (λ end. is_some_and (section_named net end.name) (λ y. not (y == x) && not (names_once net x (opposite end.side) (ends_of net y)))) (ends_of net x)
+
+-- whether a section is linear and has no neighbour
+abbrev pub has_no_neighbour : KindDraft → Bool
+has_no_neighbour (LinearDraft down up board_down board_up) = is_none down && is_none up
+has_no_neighbour (PointDraft stem plus minus faces) = false
+
+-- N6: section x is linear, and has no neighbour
+abbrev pub stands_alone : NetDraft → ℕ → Bool
+stands_alone net x = is_some_and (slice_get net.sections x) (λ section. has_no_neighbour section.kind)
+
+-- whether section y is a known neighbour of section x on its up side
+abbrev pub is_next_up : NetDraft → ℕ → ℕ → Bool
+is_next_up net x y = list_any (λ end. same_direction end.side Up && names_section net y end) (ends_of net x)
+
+-- a walk up from section x: each section of the list is a known neighbour on the up side of the one before
+abbrev pub IsWalkUp : NetDraft → ℕ → List ℕ → Type 0
+IsWalkUp net x [] = Unit {0}
+IsWalkUp net x (y ∷ rest) = IsTrue (is_next_up net x y) × IsWalkUp net y rest
+
+-- some walk up of one or more steps, of any length, leads from section x to section y
+abbrev pub LeadsUp : NetDraft → ℕ → ℕ → Type 0
+LeadsUp net x y = (walk : List ℕ) × (IsWalkUp net x walk × (last_or None walk ≡ Some y))
+
+-- some walk up of one or more steps returns to section x
+abbrev pub Returns : NetDraft → ℕ → Type 0
+Returns net x = LeadsUp net x x
+
+-- whether steps lead from x to y by way of numbers below n alone: directly, or by way of the last of them
+abbrev pub leads_by : (ℕ → ℕ → Bool) → ℕ → ℕ → ℕ → Bool
+leads_by step zero x y = step x y
+leads_by step (suc n) x y = leads_by step n x y || (leads_by step n x n && leads_by step n n y)
+
+-- N7: a walk up returns to section x, by way of any sections
+abbrev pub returns : NetDraft → ℕ → Bool
+returns net x = leads_by (is_next_up net) (length net.sections) x x
+
+-- whether a section is linear and has a board in a direction in which it has no neighbour
+abbrev pub has_board_to_nowhere : KindDraft → Bool
+has_board_to_nowhere (LinearDraft down up board_down board_up) =
+    not (has_no_board_at_end down board_down && has_no_board_at_end up board_up)
+has_board_to_nowhere (PointDraft stem plus minus faces) = false
+
+-- N8: section x is linear, and has a board in a direction in which it has no neighbour
+abbrev pub has_board_at_end : NetDraft → ℕ → Bool
+has_board_at_end net x = is_some_and (slice_get net.sections x) (λ section. has_board_to_nowhere section.kind)
+
+-- the rules of the network that a draft breaks, each at every place
+abbrev pub network_rules_broken : NetDraft → List Broken
+network_rules_broken net =
+    broken_at N1 (length net.sections) (repeats_name (names_of_sections net.sections))
+    ++ broken_at N2 (length (names_of_boards net.sections)) (repeats_name (names_of_boards net.sections))
+    ++ broken_at N3 (length net.sections) (names_no_other net)
+    ++ broken_at N4 (length net.sections) (repeats_neighbour net)
+    ++ broken_at N5 (length net.sections) (is_not_named_back net)
+    ++ broken_at N6 (length net.sections) (stands_alone net)
+    ++ broken_at N7 (length net.sections) (returns net)
+    ++ broken_at N8 (length net.sections) (has_board_at_end net)

@@ -1,0 +1,91 @@
+-- The rules of the table of routes, R1 to R6. A name stands for the first section, board or route that has it:
+-- the rules are over the numbered drafts, where a name that nothing has is the count, and so no number of one.
+use Rattle.std.specs.Prelude.{ℕ, Bool, true, false, not, Option, Some, None, List, [], ◌∷◌, ◌++◌, ◌&&◌, ◌==◌, ◌≤◌, nat_lt, length, map, take, slice_get, bytes_eq, All}
+use Rattle.std.specs.List.{list_any, list_all}
+use Rattle.ilk_plant.specs.Broken.{broken_at}
+use Rattle.ilk_plant.specs.Draft.{Name, numbered}
+use Rattle.ilk_plant.specs.Network.{has_section, is_point}
+use Rattle.ilk_plant.specs.Plant.{PlantLists}
+use Rattle.ilk_plant.specs.declared.broken.Broken.{Broken}
+use Rattle.ilk_plant.specs.declared.broken.Rule.TheVariants.{R1, R2, R3, R4, R5, R6}
+use Rattle.ilk_plant.specs.declared.draft.NetDraft.{NetDraft}
+use Rattle.ilk_plant.specs.declared.draft.RouteDraft.{RouteDraft}
+use Rattle.ilk_plant.specs.declared.draft.TableDraft.{TableDraft}
+use Rattle.ilk_plant.specs.declared.table.Route.{Route}
+
+-- whether there is one, and it passes the test
+abbrev pub passes : {A : Type 0} → (A → Bool) → Option A → Bool
+passes test None = false
+passes test (Some x) = test x
+
+-- whether m is the number of a board
+abbrev pub is_board : PlantLists → ℕ → Bool
+is_board p m = nat_lt m (length p.boards)
+
+-- whether x is the number of a section
+abbrev pub is_section : PlantLists → ℕ → Bool
+is_section p x = nat_lt x (length p.sections)
+
+-- whether x is the number of a section that is a point
+abbrev pub is_point_section : PlantLists → ℕ → Bool
+is_point_section p x = passes is_point (slice_get p.sections x)
+
+-- whether r is the number of a route other than route i
+abbrev pub is_other_route : PlantLists → ℕ → ℕ → Bool
+is_other_route p i r = nat_lt r (length p.routes) && not (r == i)
+
+-- whether no number stands twice
+abbrev pub none_twice : List ℕ → Bool
+none_twice [] = true
+none_twice (x ∷ rest) = not (list_any (λ y. y == x) rest) && none_twice rest
+
+-- the sections of a route's path and of its overlap
+abbrev pub sections_of : Route → List ℕ
+sections_of route = route.path ++ route.overlap
+
+abbrev pub points_of : Route → List ℕ
+points_of route = map (λ listed. listed.point) route.points
+
+-- R1 is broken: an earlier route has the same name
+abbrev pub is_named_before : List Name → ℕ → Bool
+is_named_before names i = passes (λ name. list_any (bytes_eq name) (take i names)) (slice_get names i)
+
+-- R2: the source is a board
+abbrev pub has_source : PlantLists → Route → Bool
+has_source p route = is_board p route.source
+
+-- R3: path and overlap are sections, and no section stands twice in path and overlap together
+abbrev pub has_sections_once : PlantLists → Route → Bool
+has_sections_once p route = list_all (is_section p) (sections_of route) && none_twice (sections_of route)
+
+-- R4: each listed point is a point section of path or overlap, and none is listed twice
+abbrev pub has_points_once : PlantLists → Route → Bool
+has_points_once p route =
+    list_all (λ x. is_point_section p x && has_section x (sections_of route)) (points_of route) && none_twice (points_of route)
+
+-- R5: the destination is null or a board
+abbrev pub has_destination_or_none : PlantLists → Option ℕ → Bool
+has_destination_or_none p None = true
+has_destination_or_none p (Some m) = is_board p m
+
+-- R6: each conflict of route i is another route, and none is listed twice
+abbrev pub has_conflicts_once : PlantLists → ℕ → Route → Bool
+has_conflicts_once p i route = list_all (is_other_route p i) route.conflicts && none_twice route.conflicts
+
+-- whether route i fails the test
+abbrev pub route_fails : PlantLists → (Route → Bool) → ℕ → Bool
+route_fails p test i = passes (λ route. not (test route)) (slice_get p.routes i)
+
+-- the broken rules of the table, in order
+abbrev pub routes_broken : PlantLists → List Broken
+routes_broken p =
+    broken_at R1 (length p.routes) (is_named_before p.route_names)
+    ++ broken_at R2 (length p.routes) (route_fails p (has_source p))
+    ++ broken_at R3 (length p.routes) (route_fails p (has_sections_once p))
+    ++ broken_at R4 (length p.routes) (route_fails p (has_points_once p))
+    ++ broken_at R5 (length p.routes) (route_fails p (λ route. has_destination_or_none p route.destination))
+    ++ broken_at R6 (length p.routes) (λ i. route_fails p (has_conflicts_once p i) i)
+
+-- the broken rules of a network's table, in order
+abbrev pub table_rules_broken : NetDraft → TableDraft → List Broken
+table_rules_broken net table = routes_broken (numbered net table)

@@ -1,0 +1,44 @@
+ghost use Rattle.std.specs.Prelude.{◌≡◌, [], IfOk};
+ghost use Rattle.ilk_plant.specs.Draft.{numbered};
+ghost use Rattle.ilk_plant.specs.Limits.{HasLimits};
+ghost use Rattle.ilk_plant.specs.NetworkRules.{network_rules_broken};
+ghost use Rattle.ilk_plant.specs.TableRules.{table_rules_broken};
+
+use crate::numbering::{
+    named_boards, numbered_routes, numbered_sections, route_names, section_names,
+};
+use crate::{NetDraft, Plant, TableDraft};
+use std::alloc::{AllocError, Global};
+
+impl Plant {
+    /// The plant of a network and a table of routes, with numbers for names. Both are within the
+    /// limits, and break no rule of the network or of the table.
+    pub fn make(alloc: Global, net: &NetDraft, table: &TableDraft) -> Result<Plant, AllocError>
+        requires limits { HasLimits net.now table.now }
+        requires network { network_rules_broken net.now ≡ [] }
+        requires routes { table_rules_broken net.now table.now ≡ [] }
+        ensures { IfOk result (λ plant. plant ≡ numbered net.now table.now) }
+    {
+        let section_names = section_names(alloc, &net.sections)?;
+        let named = named_boards(alloc, &net.sections)?;
+        let route_names = route_names(alloc, &table.routes)?;
+        let sections = numbered_sections(alloc, &section_names, &named.names, &net.sections)?;
+        let routes = numbered_routes(
+            alloc,
+            &section_names,
+            &named.names,
+            &route_names,
+            &table.routes,
+        )?;
+        let boards = named.boards;
+        let board_names = named.names;
+        Ok(Plant::of_lists(
+            sections,
+            boards,
+            routes,
+            section_names,
+            board_names,
+            route_names,
+        ))
+    }
+}

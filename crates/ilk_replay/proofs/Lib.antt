@@ -1,0 +1,4 @@
+pub mod Leading
+pub mod Named
+pub mod Parts
+pub mod Runs

@@ -1,0 +1,6 @@
+pub mod Lasts
+pub mod Numbered
+pub mod Locks
+pub mod Commands
+pub mod Shape
+pub mod Example

@@ -1,0 +1,29 @@
+-- Locks, where some sections have been given one.
+use Rattle.std.proofs.Common.{◌≡◌, ℕ, Bool, true, false, Some, List, [], ◌∷◌, length, slice_get, set, refl, arith, if◌then◌else◌}
+use Rattle.std.proofs.lemmas.Grind.{common_steps}
+use Rattle.ilk_plant.specs.Network.{has_section}
+use Rattle.ilk_plant.specs.declared.state.Hold.{Hold}
+use Rattle.ilk_routes.specs.Locks.{with_locks}
+use Rattle.ilk_routes.proofs.Numbered.{length-map_numbered, map_numbered-same, map_numbered-set}
+
+pub length-with_locks : (locks : List Hold) (xs : List ℕ) (hold : Hold) → length (with_locks locks xs hold) ≡ length locks
+length-with_locks locks xs hold = length-map_numbered _ locks
+
+pub with_locks-none : (locks : List Hold) (hold : Hold) → with_locks locks [] hold ≡ locks
+with_locks-none locks hold = map_numbered-same _ locks (λ i z. refl)
+
+either : (b : Bool) (hold : Hold) → (if b then hold else hold) ≡ hold
+either true hold = refl
+either false hold = refl
+
+-- the first section is given the lock, and then the rest
+pub with_locks-first : (locks : List Hold) (x : ℕ) (rest : List ℕ) (hold lock : Hold) → slice_get locks x ≡ Some lock → with_locks (set locks x hold) rest hold ≡ with_locks locks (x ∷ rest) hold
+with_locks-first locks x rest hold lock at =
+    map_numbered-set (λ i z. if has_section i rest then hold else z) (λ i z. if has_section i (x ∷ rest) then hold else z) locks x lock hold at here other
+  where
+    here : (if has_section x rest then hold else hold) ≡ (if has_section x (x ∷ rest) then hold else lock)
+    here = let found : has_section x (x ∷ rest) ≡ true = grind (arith, common_steps) in rw found (either (has_section x rest) hold)
+
+    other : (i : ℕ) (z : Hold) → (x ≡ i → ⊥) → (if has_section i rest then hold else z) ≡ (if has_section i (x ∷ rest) then hold else z)
+    other i z apart =
+        let same : has_section i (x ∷ rest) ≡ has_section i rest = grind (arith, common_steps, apart) in rw same refl

@@ -1,0 +1,89 @@
+-- Lists whose items are made anew by number.
+use Rattle.std.proofs.Common.{◌≡◌, ℕ, ◌+◌, ◌<◌, ◌==◌, Bool, true, false, Option, Some, None, List, [], ◌∷◌, map, option_map, drop, drop-cons, get_or, length, slice_get, set, refl, ◌∙◌, sym, zero, suc, ap, arith}
+use Rattle.std.proofs.lemmas.Grind.{common_steps}
+use Rattle.std.proofs.lemmas.List.FromFn.{length-enumerate_from}
+use Rattle.std.proofs.lemmas.List.{length-map}
+use Rattle.std.proofs.lemmas.Option.{same_Some, slice_get_within}
+use Rattle.std.specs.List.{enumerate_from}
+use Rattle.ilk_routes.specs.Numbered.{map_numbered}
+
+pub slice_get-set_same : {X : Type 0} (xs : List X) (i : ℕ) (y : X) → i < length xs → slice_get (set xs i y) i ≡ Some y
+slice_get-set_same [] i y h = absurd (omega (arith, h))
+slice_get-set_same (x ∷ xs) zero y h = refl
+slice_get-set_same (x ∷ xs) (suc i) y h = slice_get-set_same xs i y (omega (arith, h))
+
+pub slice_get-set_other : {X : Type 0} (xs : List X) (i j : ℕ) (y : X) → (i ≡ j → ⊥) → slice_get (set xs i y) j ≡ slice_get xs j
+slice_get-set_other [] i j y apart = refl
+slice_get-set_other (x ∷ xs) zero zero y apart = absurd (apart refl)
+slice_get-set_other (x ∷ xs) zero (suc j) y apart = refl
+slice_get-set_other (x ∷ xs) (suc i) zero y apart = refl
+slice_get-set_other (x ∷ xs) (suc i) (suc j) y apart = slice_get-set_other xs i j y (λ e. apart (ap suc e))
+
+-- what is left of a list begins with the item at its number
+pub drop-next : {X : Type 0} (xs : List X) (i : ℕ) (d : X) → i < length xs → drop i xs ≡ get_or xs i d ∷ drop (i + 1) xs
+drop-next xs i d h = let e : suc i ≡ i + 1 = omega arith in rw (← e) (drop-cons xs i d h)
+
+-- two lists are one if they have the same at each number
+pub same_by_slice_get : {X : Type 0} (xs ys : List X) → ((i : ℕ) → slice_get xs i ≡ slice_get ys i) → xs ≡ ys
+same_by_slice_get [] [] same = refl
+same_by_slice_get [] (y ∷ ys) same = let none = same 0 in cc
+same_by_slice_get (x ∷ xs) [] same = let none = same 0 in cc
+same_by_slice_get (x ∷ xs) (y ∷ ys) same =
+    let first : x ≡ y = same_Some x y (same 0) in
+    let rest : xs ≡ ys = same_by_slice_get xs ys (λ i. same (suc i)) in
+    cc
+
+slice_get-map_from : {X : Type 0} (f : ℕ → X → X) (n : ℕ) (xs : List X) (i : ℕ) → slice_get (map (λ numbered. f numbered.0 numbered.1) (enumerate_from n xs)) i ≡ option_map (f (n + i)) (slice_get xs i)
+slice_get-map_from f n [] i = refl
+slice_get-map_from f n (x ∷ xs) zero = let e : n ≡ n + 0 = omega arith in ap (λ k. Some (f k x)) e
+slice_get-map_from f n (x ∷ xs) (suc i) =
+    let e : n + 1 + i ≡ n + suc i = omega arith in
+    slice_get-map_from f (n + 1) xs i ∙ ap (λ k. option_map (f k) (slice_get xs i)) e
+
+pub slice_get-map_numbered : {X : Type 0} (f : ℕ → X → X) (xs : List X) (i : ℕ) → slice_get (map_numbered f xs) i ≡ option_map (f i) (slice_get xs i)
+slice_get-map_numbered f xs i =
+    let e : 0 + i ≡ i = omega arith in
+    slice_get-map_from f 0 xs i ∙ ap (λ k. option_map (f k) (slice_get xs i)) e
+
+pub length-map_numbered : {X : Type 0} (f : ℕ → X → X) (xs : List X) → length (map_numbered f xs) ≡ length xs
+length-map_numbered f xs = length-map (enumerate_from 0 xs) (λ numbered. f numbered.0 numbered.1) ∙ length-enumerate_from 0 xs
+
+same_map : {X : Type 0} (f g : X → X) (o : Option X) → ((z : X) → f z ≡ g z) → option_map f o ≡ option_map g o
+same_map f g None same = refl
+same_map f g (Some z) same = ap (λ y. Some y) (same z)
+
+kept : {X : Type 0} (f : X → X) (o : Option X) → ((z : X) → f z ≡ z) → option_map f o ≡ o
+kept f None same = refl
+kept f (Some z) same = ap (λ y. Some y) (same z)
+
+-- what keeps each item keeps the list
+pub map_numbered-same : {X : Type 0} (f : ℕ → X → X) (xs : List X) → ((i : ℕ) (z : X) → f i z ≡ z) → map_numbered f xs ≡ xs
+map_numbered-same f xs same =
+    same_by_slice_get (map_numbered f xs) xs (λ i. slice_get-map_numbered f xs i ∙ kept (f i) (slice_get xs i) (same i))
+
+-- one that does the same to each item
+pub map_numbered-alike : {X : Type 0} (f g : ℕ → X → X) (xs : List X) → ((i : ℕ) (z : X) → f i z ≡ g i z) → map_numbered f xs ≡ map_numbered g xs
+map_numbered-alike f g xs same =
+    same_by_slice_get (map_numbered f xs) (map_numbered g xs) (λ i. slice_get-map_numbered f xs i ∙ same_map (f i) (g i) (slice_get xs i) (same i) ∙ sym (slice_get-map_numbered g xs i))
+
+-- one after another
+pub map_numbered-after : {X : Type 0} (f g h : ℕ → X → X) (xs : List X) → ((i : ℕ) (z : X) → f i (g i z) ≡ h i z) → map_numbered f (map_numbered g xs) ≡ map_numbered h xs
+map_numbered-after {X = X} f g h xs same =
+    same_by_slice_get (map_numbered f (map_numbered g xs)) (map_numbered h xs) (λ i. slice_get-map_numbered f (map_numbered g xs) i ∙ ap (option_map (f i)) (slice_get-map_numbered g xs i) ∙ both i (slice_get xs i) ∙ sym (slice_get-map_numbered h xs i))
+  where
+    both : (i : ℕ) (o : Option X) → option_map (f i) (option_map (g i) o) ≡ option_map (h i) o
+    both i None = refl
+    both i (Some z) = ap (λ y. Some y) (same i z)
+
+-- where f does to what is written at k what g does to what stood there, and else they do the same
+pub map_numbered-set : {X : Type 0} (f g : ℕ → X → X) (xs : List X) (k : ℕ) (x y : X) → slice_get xs k ≡ Some x → f k y ≡ g k x → ((i : ℕ) (z : X) → (k ≡ i → ⊥) → f i z ≡ g i z) → map_numbered f (set xs k y) ≡ map_numbered g xs
+map_numbered-set f g xs k x y at here else_ =
+    same_by_slice_get (map_numbered f (set xs k y)) (map_numbered g xs) (λ i. slice_get-map_numbered f (set xs k y) i ∙ by_test i (k == i) refl ∙ sym (slice_get-map_numbered g xs i))
+  where
+    by_test : (i : ℕ) (b : Bool) → (k == i) ≡ b → option_map (f i) (slice_get (set xs k y) i) ≡ option_map (g i) (slice_get xs i)
+    by_test i true e =
+        let same : k ≡ i = grind (arith, common_steps) in
+        rw (← same) (rw (slice_get-set_same xs k y (slice_get_within xs k x at), at) (ap (λ z. Some z) here))
+    by_test i false e =
+        let apart : k ≡ i → ⊥ = (λ same. grind (arith, common_steps, e, same)) in
+        rw (slice_get-set_other xs k i y apart) (same_map (f i) (g i) (slice_get xs i) (λ z. else_ i z apart))

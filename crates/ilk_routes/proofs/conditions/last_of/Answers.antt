@@ -1,0 +1,8 @@
+use Rattle.std.proofs.Common.{None, ◌-◌, length, arith}
+use Rattle.std.proofs.lemmas.Grind.{common_steps}
+use Rattle.ilk_routes.proofs.Lasts.{last_or-at}
+use Rattle.ilk_routes.proofs.conditions.last_of.Goals as goal
+
+pub returns-clause-last : goal.returns-clause-last
+returns-clause-last c =
+    last_or-at None c.args.sections.now (length c.args.sections.now - 1) _ (omega (arith, c.requires)) (grind (arith, common_steps))

@@ -1,0 +1,8 @@
+use Rattle.ilk_plant.specs.State.{HasShape}
+use Rattle.ilk_plant.proofs.Steps.{after_turn}
+use Rattle.ilk_routes.proofs.Shape.{after_settle-shape}
+use Rattle.ilk_routes.proofs.points.step_settle.Goals as goal
+
+pub returns-clause-shape : goal.returns-clause-shape
+returns-clause-shape c =
+    after_turn (HasShape c.args.plant.now) _ c.args.s.now c.settle.new.s c.requires (λ t e. after_settle-shape c.args.plant.now c.args.s.now t c.args.p c.requires e) c.settle.ensures.next

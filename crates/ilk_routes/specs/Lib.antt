@@ -1,0 +1,6 @@
+pub mod Numbered
+pub mod Modes
+pub mod Locks
+pub mod Lies
+pub mod Points
+pub mod Routes

@@ -1,0 +1,96 @@
+-- The six events of routes. Each is the state that follows, where the event is enabled.
+use Rattle.std.specs.Prelude.{ℕ, ◌+◌, Bool, Option, None, ◌==◌, ◌&&◌, ◌||◌, if◌then◌else◌, length, nat_le, slice_get, set, not}
+use Rattle.std.specs.List.{list_any, list_all, last_or}
+use Rattle.ilk_plant.specs.Option.{◌>>=◌, only_if}
+use Rattle.ilk_plant.specs.Plant.{PlantLists}
+use Rattle.ilk_plant.specs.State.{is_occupied}
+use Rattle.ilk_plant.specs.declared.state.Aspect.TheVariants.{Open, Closed}
+use Rattle.ilk_plant.specs.declared.state.Hold.TheVariants.{Free as FreeLock, Locked as LockedLock, Used as UsedLock}
+use Rattle.ilk_plant.specs.declared.state.Mode.TheVariants.{Free, Marked, Allocating, Locked, Occupied}
+use Rattle.ilk_plant.specs.declared.state.State.{State}
+use Rattle.ilk_plant.specs.declared.table.Route.{Route}
+use Rattle.ilk_routes.specs.Lies.{lies_as_listed, with_commands}
+use Rattle.ilk_routes.specs.Locks.{has_lock, is_clear, with_locks}
+use Rattle.ilk_routes.specs.Modes.{is_claimed, same_mode}
+
+-- mark r: r is Free; r is Marked
+abbrev pub after_mark : PlantLists → State → ℕ → Option State
+after_mark p s r = do
+  route ← slice_get p.routes r
+  now ← slice_get s.routes r
+  only_if (same_mode now.mode Free) (record s {
+    routes = set s.routes r (record now { mode = Marked });
+  })
+
+-- whether no conflict is Allocating or Locked, and every section of path and overlap has lock Free and is vacant
+abbrev pub can_claim : State → Route → Bool
+can_claim s route =
+    not (list_any (is_claimed s) route.conflicts)
+    && list_all (is_clear s) route.path
+    && list_all (is_clear s) route.overlap
+
+-- allocate r: r is Marked and can claim its sections; r is Allocating, those locks are Locked, and its points are
+-- commanded to their listed positions
+abbrev pub after_allocate : PlantLists → State → ℕ → Option State
+after_allocate p s r = do
+  route ← slice_get p.routes r
+  now ← slice_get s.routes r
+  only_if (same_mode now.mode Marked && can_claim s route) (record s {
+    routes = set s.routes r (record now { mode = Allocating });
+    locks = with_locks (with_locks s.locks route.path LockedLock) route.overlap LockedLock;
+    points = with_commands p s.points route.points;
+  })
+
+-- lock r: r is Allocating, and each listed point lies at its listed position; r is Locked, and its source is Open
+abbrev pub after_lock : PlantLists → State → ℕ → Option State
+after_lock p s r = do
+  route ← slice_get p.routes r
+  now ← slice_get s.routes r
+  only_if (same_mode now.mode Allocating && list_all (lies_as_listed p s) route.points) (record s {
+    routes = set s.routes r (record now { mode = Locked });
+    boards = set s.boards route.source Open;
+  })
+
+-- sense r: r is Locked or Occupied, and the path section after the seen ones is occupied and has lock Locked; that
+-- lock is Used, one more is seen, r is Occupied, and with the first section its source is Closed
+abbrev pub after_sense : PlantLists → State → ℕ → Option State
+after_sense p s r = do
+  route ← slice_get p.routes r
+  now ← slice_get s.routes r
+  x ← slice_get route.path now.seen
+  only_if ((same_mode now.mode Locked || same_mode now.mode Occupied)
+      && is_occupied s x
+      && has_lock s x LockedLock) (record s {
+        routes = set s.routes r (record now { mode = Occupied; seen = now.seen + 1 });
+        locks = set s.locks x UsedLock;
+        boards = (if now.seen == 0 then set s.boards route.source Closed else s.boards);
+      })
+
+-- release r: r is Occupied, two more are seen than released, and the path section after the released ones is vacant
+-- and has lock Used; that lock is Free, and one more is released
+abbrev pub after_release : PlantLists → State → ℕ → Option State
+after_release p s r = do
+  route ← slice_get p.routes r
+  now ← slice_get s.routes r
+  x ← slice_get route.path now.rel
+  only_if (same_mode now.mode Occupied
+      && nat_le (now.rel + 2) now.seen
+      && not (is_occupied s x)
+      && has_lock s x UsedLock) (record s {
+        routes = set s.routes r (record now { rel = now.rel + 1 });
+        locks = set s.locks x FreeLock;
+      })
+
+-- finish r: r is Occupied, the whole path is seen, and all of it but its last section is released; the locks of that
+-- section and of the overlap are Free, none is seen or released, and r is Free
+abbrev pub after_finish : PlantLists → State → ℕ → Option State
+after_finish p s r = do
+  route ← slice_get p.routes r
+  now ← slice_get s.routes r
+  x ← last_or None route.path
+  only_if (same_mode now.mode Occupied
+      && now.seen == length route.path
+      && now.rel + 1 == length route.path) (record s {
+        routes = set s.routes r (record { mode = Free; seen = 0; rel = 0 });
+        locks = with_locks (set s.locks x FreeLock) route.overlap FreeLock;
+      })

@@ -1,0 +1,140 @@
+ghost use Rattle.std.specs.Prelude.{◌≡◌, ◌<◌, ◌-◌, IfSome, None, Some, length, slice_get};
+ghost use Rattle.std.specs.List.{last_or, list_any, list_all};
+ghost use Rattle.ilk_plant.specs.Plant.{point_count, point_number};
+ghost use Rattle.ilk_plant.specs.State.{lie_of};
+ghost use Rattle.ilk_routes.specs.Lies.{is_moving, lie_in, lies_as_listed, lies_at};
+ghost use Rattle.ilk_routes.specs.Locks.{has_lock, is_clear};
+ghost use Rattle.ilk_routes.specs.Modes.{has_mode, is_claimed};
+ghost use Rattle.ilk_routes.specs.Routes.{can_claim};
+
+use ilk_plant::{Hold, Lie, Listed, Mode, Plant, Position, Route, Row, State, occupied};
+
+/// Whether section `x` has the lock.
+pub fn has_lock(s: &State, x: u32, hold: Hold) -> bool
+    ensures { result ≡ has_lock s.now x hold }
+{
+    match s.locks.as_slice().get(x as usize) {
+        Some(lock) => *lock == hold,
+        None => false,
+    }
+}
+
+/// Whether section `x` has lock Free and is vacant.
+pub fn is_clear(s: &State, x: u32) -> bool
+    ensures { result ≡ is_clear s.now x }
+{
+    has_lock(s, x, Hold::Free) && !occupied(s, x)
+}
+
+/// Whether route `r` has the mode.
+pub fn has_mode(s: &State, r: u32, mode: Mode) -> bool
+    ensures { result ≡ has_mode s.now r mode }
+{
+    match s.routes.as_slice().get(r as usize) {
+        Some(now) => now.mode == mode,
+        None => false,
+    }
+}
+
+/// Whether route `r` is Allocating or Locked.
+pub fn is_claimed(s: &State, r: u32) -> bool
+    ensures { result ≡ is_claimed s.now r }
+{
+    has_mode(s, r, Mode::Allocating) || has_mode(s, r, Mode::Locked)
+}
+
+// Whether one of the routes is Allocating or Locked.
+fn any_claimed(s: &State, routes: &Row<u32>) -> bool
+    ensures { result ≡ list_any (is_claimed s.now) routes.now }
+{
+    routes.as_slice().iter().any(|r| is_claimed(s, *r))
+}
+
+// Whether each of the sections has lock Free and is vacant.
+fn all_clear(s: &State, sections: &Row<u32>) -> bool
+    ensures { result ≡ list_all (is_clear s.now) sections.now }
+{
+    sections.as_slice().iter().all(|x| is_clear(s, *x))
+}
+
+/// Whether no conflicting route is Allocating or Locked, and each section of path and overlap has
+/// lock Free and is vacant.
+pub fn can_claim(s: &State, route: &Route) -> bool
+    ensures { result ≡ can_claim s.now route.now }
+{
+    !any_claimed(s, &route.conflicts) && all_clear(s, &route.path) && all_clear(s, &route.overlap)
+}
+
+/// The last of the sections.
+pub fn last_of(sections: &Row<u32>) -> u32
+    requires { 0 < length sections.now }
+    ensures last { last_or None sections.now ≡ Some result }
+    ensures at_end { slice_get sections.now (length sections.now - 1) ≡ Some result }
+{
+    *sections.at(sections.len() - 1)
+}
+
+/// Whether a point that lies so moves.
+pub fn is_moving(lie: Lie) -> bool
+    ensures { result ≡ is_moving lie }
+{
+    lie == Lie::Moving
+}
+
+/// How a point lies in this position.
+pub fn lie_in(position: Position) -> Lie
+    ensures { result ≡ lie_in position }
+{
+    match position {
+        Position::Plus => Lie::Plus,
+        Position::Minus => Lie::Minus,
+    }
+}
+
+/// Whether a point that lies so lies at this position.
+pub fn lies_at(lie: Lie, position: Position) -> bool
+    ensures { result ≡ lies_at lie position }
+{
+    lie == lie_in(position)
+}
+
+/// The number of the point on section `x`. None where `x` is no section, or one that is no point.
+pub fn point_on(plant: &Plant, x: u32) -> Option<u32>
+    ensures number { result ≡ point_number plant.now x }
+    ensures known { IfSome result (λ n. n < point_count plant.now) }
+{
+    if x < plant.sections() {
+        plant.point_number(x)
+    } else {
+        None
+    }
+}
+
+// Where the point on section `x` lies. None where there is none.
+fn lie_of(plant: &Plant, s: &State, x: u32) -> Option<Lie>
+    ensures { result ≡ lie_of plant.now s.now x }
+{
+    let n = point_on(plant, x)?;
+    let point = s.points.as_slice().get(n as usize)?;
+    Some(point.at)
+}
+
+// Whether a listed point lies at its listed position.
+fn lies_as_listed(plant: &Plant, s: &State, listed: &Listed) -> bool
+    ensures { result ≡ lies_as_listed plant.now s.now listed.now }
+{
+    match lie_of(plant, s, listed.point) {
+        Some(lie) => lies_at(lie, listed.at),
+        None => false,
+    }
+}
+
+/// Whether each listed point lies at its listed position.
+pub fn all_lie_as_listed(plant: &Plant, s: &State, points: &Row<Listed>) -> bool
+    ensures { result ≡ list_all (lies_as_listed plant.now s.now) points.now }
+{
+    points
+        .as_slice()
+        .iter()
+        .all(|listed| lies_as_listed(plant, s, listed))
+}

@@ -1,0 +1,224 @@
+ghost use Rattle.std.specs.Prelude.{◌≡◌, is_some, unwrap_or};
+ghost use Rattle.ilk_plant.specs.State.{HasShape};
+ghost use Rattle.ilk_routes.specs.Routes.{after_allocate, after_finish, after_lock, after_mark, after_release, after_sense};
+
+use crate::changes::{command, give_locks};
+use crate::conditions::{all_lie_as_listed, can_claim, has_lock, last_of};
+use ilk_plant::{Aspect, Hold, Mode, Plant, RouteState, State, occupied};
+
+// Marks route `r`, where that is enabled.
+fn mark(plant: &Plant, s: &mut State, r: u32) -> bool
+    requires { HasShape plant.now s.old }
+    ensures answer { result ≡ is_some (after_mark plant.now s.old r) }
+    ensures next { s.new ≡ unwrap_or (after_mark plant.now s.old r) s.old }
+{
+    if r >= plant.routes() || s.routes.at(r as u64).mode != Mode::Free {
+        return false;
+    }
+    s.routes.at_mut(r as u64).mode = Mode::Marked;
+    true
+}
+
+// Allocates route `r`, where that is enabled.
+fn allocate(plant: &Plant, s: &mut State, r: u32) -> bool
+    requires { HasShape plant.now s.old }
+    ensures answer { result ≡ is_some (after_allocate plant.now s.old r) }
+    ensures next { s.new ≡ unwrap_or (after_allocate plant.now s.old r) s.old }
+{
+    if r >= plant.routes() {
+        return false;
+    }
+    let route = plant.route(r);
+    if s.routes.at(r as u64).mode != Mode::Marked || !can_claim(s, route) {
+        return false;
+    }
+    s.routes.at_mut(r as u64).mode = Mode::Allocating;
+    give_locks(&mut s.locks, &route.path, Hold::Locked);
+    give_locks(&mut s.locks, &route.overlap, Hold::Locked);
+    command(plant, &mut s.points, &route.points);
+    true
+}
+
+// Locks route `r`, where that is enabled.
+fn lock(plant: &Plant, s: &mut State, r: u32) -> bool
+    requires { HasShape plant.now s.old }
+    ensures answer { result ≡ is_some (after_lock plant.now s.old r) }
+    ensures next { s.new ≡ unwrap_or (after_lock plant.now s.old r) s.old }
+{
+    if r >= plant.routes() {
+        return false;
+    }
+    let route = plant.route(r);
+    let mode = s.routes.at(r as u64).mode;
+    if mode != Mode::Allocating || !all_lie_as_listed(plant, s, &route.points) {
+        return false;
+    }
+    s.routes.at_mut(r as u64).mode = Mode::Locked;
+    *s.boards.at_mut(route.source as u64) = Aspect::Open;
+    true
+}
+
+// Senses the next path section of route `r`, where that is enabled.
+fn sense(plant: &Plant, s: &mut State, r: u32) -> bool
+    requires { HasShape plant.now s.old }
+    ensures answer { result ≡ is_some (after_sense plant.now s.old r) }
+    ensures next { s.new ≡ unwrap_or (after_sense plant.now s.old r) s.old }
+{
+    if r >= plant.routes() {
+        return false;
+    }
+    let route = plant.route(r);
+    let now = *s.routes.at(r as u64);
+    let seen = now.seen as u64;
+    if seen >= route.path.len() || (now.mode != Mode::Locked && now.mode != Mode::Occupied) {
+        return false;
+    }
+    let x = *route.path.at(seen);
+    if !occupied(s, x) || !has_lock(s, x, Hold::Locked) {
+        return false;
+    }
+    *s.locks.at_mut(x as u64) = Hold::Used;
+    if seen == 0 {
+        *s.boards.at_mut(route.source as u64) = Aspect::Closed;
+    }
+    let next = s.routes.at_mut(r as u64);
+    next.mode = Mode::Occupied;
+    next.seen += 1;
+    true
+}
+
+// Releases the next path section of route `r`, where that is enabled.
+fn release(plant: &Plant, s: &mut State, r: u32) -> bool
+    requires { HasShape plant.now s.old }
+    ensures answer { result ≡ is_some (after_release plant.now s.old r) }
+    ensures next { s.new ≡ unwrap_or (after_release plant.now s.old r) s.old }
+{
+    if r >= plant.routes() {
+        return false;
+    }
+    let route = plant.route(r);
+    let now = *s.routes.at(r as u64);
+    let rel = now.rel as u64;
+    if now.mode != Mode::Occupied || rel >= route.path.len() || rel + 2 > now.seen as u64 {
+        return false;
+    }
+    let x = *route.path.at(rel);
+    if occupied(s, x) || !has_lock(s, x, Hold::Used) {
+        return false;
+    }
+    *s.locks.at_mut(x as u64) = Hold::Free;
+    s.routes.at_mut(r as u64).rel += 1;
+    true
+}
+
+// Finishes route `r`, where that is enabled.
+fn finish(plant: &Plant, s: &mut State, r: u32) -> bool
+    requires { HasShape plant.now s.old }
+    ensures answer { result ≡ is_some (after_finish plant.now s.old r) }
+    ensures next { s.new ≡ unwrap_or (after_finish plant.now s.old r) s.old }
+{
+    if r >= plant.routes() {
+        return false;
+    }
+    let route = plant.route(r);
+    let now = *s.routes.at(r as u64);
+    let length = route.path.len();
+    if now.mode != Mode::Occupied || now.seen as u64 != length || now.rel as u64 + 1 != length {
+        return false;
+    }
+    let last = last_of(&route.path);
+    *s.locks.at_mut(last as u64) = Hold::Free;
+    give_locks(&mut s.locks, &route.overlap, Hold::Free);
+    *s.routes.at_mut(r as u64) = RouteState {
+        mode: Mode::Free,
+        seen: 0,
+        rel: 0,
+    };
+    true
+}
+
+/// Marks route `r`: it becomes Marked.
+///
+/// True exactly where that is enabled: `r` is a route, and Free. Otherwise false, and `s` is
+/// unchanged.
+pub fn step_mark(plant: &Plant, s: &mut State, r: u32) -> bool
+    requires { HasShape plant.now s.old }
+    ensures answer { result ≡ is_some (after_mark plant.now s.old r) }
+    ensures next { s.new ≡ unwrap_or (after_mark plant.now s.old r) s.old }
+    ensures shape { HasShape plant.now s.new }
+{
+    mark(plant, s, r)
+}
+
+/// Allocates route `r`: it becomes Allocating, the locks of its path and overlap become Locked, and
+/// each of its listed points is commanded to its listed position.
+///
+/// True exactly where that is enabled: `r` is a route, and Marked, no route that it lists as a
+/// conflict is Allocating or Locked, and every section of its path and overlap has lock Free and is
+/// vacant. Otherwise false, and `s` is unchanged.
+pub fn step_allocate(plant: &Plant, s: &mut State, r: u32) -> bool
+    requires { HasShape plant.now s.old }
+    ensures answer { result ≡ is_some (after_allocate plant.now s.old r) }
+    ensures next { s.new ≡ unwrap_or (after_allocate plant.now s.old r) s.old }
+    ensures shape { HasShape plant.now s.new }
+{
+    allocate(plant, s, r)
+}
+
+/// Locks route `r`: it becomes Locked, and its source board opens.
+///
+/// True exactly where that is enabled: `r` is a route, and Allocating, and each of its listed points
+/// lies at its listed position. Otherwise false, and `s` is unchanged.
+pub fn step_lock(plant: &Plant, s: &mut State, r: u32) -> bool
+    requires { HasShape plant.now s.old }
+    ensures answer { result ≡ is_some (after_lock plant.now s.old r) }
+    ensures next { s.new ≡ unwrap_or (after_lock plant.now s.old r) s.old }
+    ensures shape { HasShape plant.now s.new }
+{
+    lock(plant, s, r)
+}
+
+/// Senses that a train has taken the next path section of route `r`: the section's lock becomes
+/// Used, `seen` grows by 1, the route becomes Occupied, and with the first section its source board
+/// closes.
+///
+/// True exactly where that is enabled: `r` is a route, and Locked or Occupied, `seen` is below the
+/// length of its path, and the section at that place is occupied and has lock Locked. Otherwise
+/// false, and `s` is unchanged.
+pub fn step_sense(plant: &Plant, s: &mut State, r: u32) -> bool
+    requires { HasShape plant.now s.old }
+    ensures answer { result ≡ is_some (after_sense plant.now s.old r) }
+    ensures next { s.new ≡ unwrap_or (after_sense plant.now s.old r) s.old }
+    ensures shape { HasShape plant.now s.new }
+{
+    sense(plant, s, r)
+}
+
+/// Releases the next path section of route `r` behind a train: the section's lock becomes Free, and
+/// `rel` grows by 1.
+///
+/// True exactly where that is enabled: `r` is a route, and Occupied, `rel + 2` is at most `seen`, and
+/// the path section at place `rel` is vacant and has lock Used. Otherwise false, and `s` is
+/// unchanged.
+pub fn step_release(plant: &Plant, s: &mut State, r: u32) -> bool
+    requires { HasShape plant.now s.old }
+    ensures answer { result ≡ is_some (after_release plant.now s.old r) }
+    ensures next { s.new ≡ unwrap_or (after_release plant.now s.old r) s.old }
+    ensures shape { HasShape plant.now s.new }
+{
+    release(plant, s, r)
+}
+
+/// Finishes route `r`: the locks of its last path section and of its overlap become Free, `seen` and
+/// `rel` become 0, and the route becomes Free.
+///
+/// True exactly where that is enabled: `r` is a route, and Occupied, and both `seen` and `rel + 1`
+/// are the length of its path. Otherwise false, and `s` is unchanged.
+pub fn step_finish(plant: &Plant, s: &mut State, r: u32) -> bool
+    requires { HasShape plant.now s.old }
+    ensures answer { result ≡ is_some (after_finish plant.now s.old r) }
+    ensures next { s.new ≡ unwrap_or (after_finish plant.now s.old r) s.old }
+    ensures shape { HasShape plant.now s.new }
+{
+    finish(plant, s, r)
+}

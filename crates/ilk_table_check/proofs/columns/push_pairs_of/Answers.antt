@@ -1,0 +1,8 @@
+use Rattle.std.proofs.Common.{Some}
+use Rattle.ilk_table_check.specs.Columns.{breaks_together}
+use Rattle.ilk_table_check.proofs.Growth.{grows_if}
+use Rattle.ilk_table_check.proofs.columns.push_pairs_of.Goals as goal
+
+pub loop-j-preserved : goal.loop-j-preserved
+loop-j-preserved c =
+    grows_if (λ j. record { rule = c.args.rule; first = c.args.i; second = Some j }) (breaks_together c.args.plant.now c.args.rule c.args.i) c.loop-j.j c.breaks_together.result c.args.found.now c.loop-j.found c.push_if.new.found c.breaks_together.ensures c.loop-j.invariant c.in_ok-push_if.ensures

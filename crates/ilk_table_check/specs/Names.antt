@@ -1,0 +1,9 @@
+-- Names with an index: which number the index has for each name.
+use Rattle.std.specs.Prelude.{ℕ, ◌≡◌, List, String}
+use Rattle.indexmap.specs.IndexMap.{IndexMap, get_by_text}
+use Rattle.ilk_plant.specs.Draft.{Name}
+use Rattle.ilk_plant.specs.Plant.{first_named}
+
+-- the index has for each name the first number that has it
+abbrev pub IsIndexOf : {Y S : Type 0} → List Name → IndexMap (String Y) ℕ S → Type 0
+IsIndexOf names numbers = (q : Name) → get_by_text numbers q ≡ first_named names q

@@ -1,0 +1,163 @@
+ghost use Rattle.std.specs.Prelude.{◌≡◌, ◌==◌, ◌<◌, IfOk, OnOk, ◌++◌, length};
+ghost use Rattle.std.specs.List.{list_any};
+ghost use Rattle.ilk_plant.specs.Broken.{broken_at, broken_at_pairs};
+ghost use Rattle.ilk_plant.specs.Network.{has_section};
+ghost use Rattle.ilk_plant.specs.TableRules.{sections_of};
+ghost use Rattle.ilk_plant.specs.ColumnRules.{column_rules_broken, is_open_border, lists, share_section};
+ghost use Rattle.ilk_table_check.specs.Columns.{breaks_alone, breaks_together, pairs_of, places};
+
+use crate::listing::push_if;
+use crate::ways::{overlap_is_way, path_ends_at_board, path_is_way, points_are_set};
+use ilk_plant::{Broken, Plant, Route, Row, Rule, has_section};
+use std::alloc::{AllocError, Global};
+
+// Whether a route lists route `j` as a conflict.
+fn route_lists(route: &Route, j: u32) -> bool
+    ensures { result ≡ list_any (λ r. r == j) route.now.conflicts }
+{
+    route.conflicts.as_slice().iter().any(|r| *r == j)
+}
+
+// Whether route `i` lists route `j` as a conflict.
+fn lists(plant: &Plant, i: u32, j: u32) -> bool
+    requires { i < length plant.now.routes }
+    ensures { result ≡ lists plant.now i j }
+{
+    route_lists(plant.route(i), j)
+}
+
+// Whether a route has section `x` in its path or overlap.
+fn has_in_route(route: &Route, x: u32) -> bool
+    ensures { result ≡ has_section x (sections_of route.now) }
+{
+    has_section(&route.path, x) || has_section(&route.overlap, x)
+}
+
+// Whether a route has one of these sections in its path or overlap.
+fn has_one_of(route: &Route, sections: &Row<u32>) -> bool
+    ensures { result ≡ list_any (λ x. has_section x (sections_of route.now)) sections.now }
+{
+    sections.as_slice().iter().any(|x| has_in_route(route, *x))
+}
+
+// Whether routes `i` and `j` have one same section in path or overlap.
+fn share_section(plant: &Plant, i: u32, j: u32) -> bool
+    requires first { i < length plant.now.routes }
+    requires second { j < length plant.now.routes }
+    ensures { result ≡ share_section plant.now i j }
+{
+    let route = plant.route(i);
+    let other = plant.route(j);
+    has_one_of(route, &other.path) || has_one_of(route, &other.overlap)
+}
+
+// Whether section `x` is a border without a board in its inward direction.
+fn is_open_border(plant: &Plant, x: u32) -> bool
+    requires { x < length plant.now.sections }
+    ensures { result ≡ is_open_border plant.now x }
+{
+    match plant.border(x) {
+        Some(inward) => plant.board_of(x, inward).is_none(),
+        None => false,
+    }
+}
+
+// How many places a rule of one place is asked at: C7 at the sections, the others at the routes.
+fn places(plant: &Plant, rule: Rule) -> u32
+    ensures { result ≡ places plant.now rule }
+{
+    match rule {
+        Rule::C7 => plant.sections(),
+        _ => plant.routes(),
+    }
+}
+
+// Whether a rule of one place is broken at `i`: at section `i` for C7, at route `i` for the others.
+fn breaks_alone(plant: &Plant, rule: Rule, i: u32) -> bool
+    requires { i < places plant.now rule }
+    ensures { result ≡ breaks_alone plant.now rule i }
+{
+    match rule {
+        Rule::C1 => !path_is_way(plant, plant.route(i)),
+        Rule::C2 => !path_ends_at_board(plant, plant.route(i)),
+        Rule::C3 => !points_are_set(plant, plant.route(i)),
+        Rule::C4 => !overlap_is_way(plant, plant.route(i)),
+        Rule::C7 => is_open_border(plant, i),
+        _ => false,
+    }
+}
+
+// Whether a rule of two places is broken at routes `i` and `j`.
+fn breaks_together(plant: &Plant, rule: Rule, i: u32, j: u32) -> bool
+    requires first { i < length plant.now.routes }
+    requires second { j < length plant.now.routes }
+    ensures { result ≡ breaks_together plant.now rule i j }
+{
+    match rule {
+        Rule::C5 => lists(plant, i, j) && !lists(plant, j, i),
+        Rule::C6 => i < j && share_section(plant, i, j) && !lists(plant, i, j),
+        _ => false,
+    }
+}
+
+// Adds the places at which a rule of one place is broken.
+fn push_places(found: &mut Row<Broken>, plant: &Plant, rule: Rule) -> Result<(), AllocError>
+    ensures { OnOk result (found.new ≡ found.old ++ broken_at rule (places plant.now rule) (breaks_alone plant.now rule)) }
+{
+    for i in 0..places(plant, rule) {
+        let entry = Broken {
+            rule,
+            first: i,
+            second: None,
+        };
+        push_if(found, breaks_alone(plant, rule, i), entry)?;
+    }
+    Ok(())
+}
+
+// Adds the pairs whose first is route `i` at which a rule of two places is broken.
+fn push_pairs_of(
+    found: &mut Row<Broken>,
+    plant: &Plant,
+    rule: Rule,
+    i: u32,
+) -> Result<(), AllocError>
+    requires { i < length plant.now.routes }
+    ensures { OnOk result (found.new ≡ found.old ++ pairs_of rule (length plant.now.routes) i (breaks_together plant.now rule i)) }
+{
+    for j in 0..plant.routes() {
+        let entry = Broken {
+            rule,
+            first: i,
+            second: Some(j),
+        };
+        push_if(found, breaks_together(plant, rule, i, j), entry)?;
+    }
+    Ok(())
+}
+
+// Adds the pairs of routes at which a rule of two places is broken.
+fn push_pairs(found: &mut Row<Broken>, plant: &Plant, rule: Rule) -> Result<(), AllocError>
+    ensures { OnOk result (found.new ≡ found.old ++ broken_at_pairs rule (length plant.now.routes) (breaks_together plant.now rule)) }
+{
+    for i in 0..plant.routes() {
+        push_pairs_of(found, plant, rule, i)?;
+    }
+    Ok(())
+}
+
+/// All broken rules of the columns of a plant's table of routes, C1 to C7, in the order of the
+/// rules, then of the first place, then of the second. The only refusal is want of memory.
+pub fn check_columns(alloc: Global, plant: &Plant) -> Result<Row<Broken>, AllocError>
+    ensures { IfOk result (λ found. found ≡ column_rules_broken plant.now) }
+{
+    let mut found = Row::new(alloc);
+    push_places(&mut found, plant, Rule::C1)?;
+    push_places(&mut found, plant, Rule::C2)?;
+    push_places(&mut found, plant, Rule::C3)?;
+    push_places(&mut found, plant, Rule::C4)?;
+    push_pairs(&mut found, plant, Rule::C5)?;
+    push_pairs(&mut found, plant, Rule::C6)?;
+    push_places(&mut found, plant, Rule::C7)?;
+    Ok(found)
+}

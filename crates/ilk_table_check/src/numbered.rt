@@ -1,0 +1,126 @@
+ghost use Rattle.std.specs.Prelude.{◌≡◌, ◌≤◌, ◌<◌, IfOk, Some, length, slice_get};
+ghost use Rattle.ilk_plant.specs.Draft.{numbered};
+ghost use Rattle.ilk_plant.specs.TableRules.{is_board, is_named_before, is_other_route, is_point_section, is_section};
+
+use crate::names::Names;
+use crate::numbering::{
+    named_boards, numbered_routes, numbered_sections, route_names, section_names,
+};
+use ilk_plant::{Board, NetDraft, Route, Row, Section, TableDraft};
+use std::alloc::{AllocError, Global};
+use std::marker::Model;
+
+/// A network and a table of routes with numbers for names, as a plant has them, of which no rule is
+/// known to hold. A name that nothing has is numbered with the count.
+#[derive(Drop)]
+pub struct Numbered {
+    sections: Row<Section>,
+    boards: Row<Board>,
+    routes: Row<Route>,
+    section_names: Names,
+    board_names: Names,
+    route_names: Names,
+}
+
+impl Model for Numbered {
+    ghost use Rattle.std.specs.Prelude.{◌≡◌, ◌≤◌, length};
+    ghost use Rattle.ilk_plant.specs.Plant.{PlantLists};
+
+    ghost Value = { PlantLists };
+
+    ghost view = { λ p. record {
+      sections = p.sections;
+      boards = p.boards;
+      routes = p.routes;
+      section_names = p.section_names;
+      board_names = p.board_names;
+      route_names = p.route_names;
+    } };
+
+    ghost invariant = { λ p. (length p.sections ≤ 128) × (length p.boards ≤ 256) × (length p.routes ≤ 128) × (length p.route_names ≡ length p.routes) };
+}
+
+impl Numbered {
+    /// The numbered network and table. The only refusal is want of memory.
+    pub fn of(alloc: Global, net: &NetDraft, table: &TableDraft) -> Result<Numbered, AllocError>
+        requires few_sections { length net.now.sections ≤ 128 }
+        requires few_routes { length table.now.routes ≤ 128 }
+        ensures { IfOk result (λ made. made ≡ numbered net.now table.now) }
+    {
+        let named = named_boards(alloc, &net.sections)?;
+        let section_names = Names::of(alloc, section_names(alloc, &net.sections)?)?;
+        let board_names = Names::of(alloc, named.names)?;
+        let route_names = Names::of(alloc, route_names(alloc, &table.routes)?)?;
+        let sections = numbered_sections(alloc, &section_names, &board_names, &net.sections)?;
+        let routes = numbered_routes(
+            alloc,
+            &section_names,
+            &board_names,
+            &route_names,
+            &table.routes,
+        )?;
+        Ok(Numbered {
+            sections,
+            boards: named.boards,
+            routes,
+            section_names,
+            board_names,
+            route_names,
+        })
+    }
+
+    /// The number of routes, at most 128.
+    pub fn routes(&self) -> u32
+        ensures { result ≡ length self.now.routes }
+    {
+        self.routes.len() as u32
+    }
+
+    /// Route `i`.
+    pub fn route(&self, i: u32) -> &Route
+        requires { i < length self.now.routes }
+        ensures { slice_get self.now.routes i ≡ Some result.now }
+    {
+        self.routes.at(i as u64)
+    }
+
+    /// Whether an earlier route has the name of route `i`.
+    pub fn is_named_before(&self, i: u32) -> bool
+        requires { i < length self.now.routes }
+        ensures { result ≡ is_named_before self.now.route_names i }
+    {
+        let _ = &self.routes;
+        self.route_names.is_named_before(i)
+    }
+
+    /// Whether `m` is the number of a board.
+    pub fn is_board(&self, m: u32) -> bool
+        ensures { result ≡ is_board self.now m }
+    {
+        (m as u64) < self.boards.len()
+    }
+
+    /// Whether `x` is the number of a section.
+    pub fn is_section(&self, x: u32) -> bool
+        ensures { result ≡ is_section self.now x }
+    {
+        (x as u64) < self.sections.len()
+    }
+
+    /// Whether `x` is the number of a section that is a point.
+    pub fn is_point_section(&self, x: u32) -> bool
+        ensures { result ≡ is_point_section self.now x }
+    {
+        match self.sections.as_slice().get(x as usize) {
+            Some(section) => section.is_point(),
+            None => false,
+        }
+    }
+
+    /// Whether `r` is the number of a route other than route `i`.
+    pub fn is_other_route(&self, i: u32, r: u32) -> bool
+        ensures { result ≡ is_other_route self.now i r }
+    {
+        (r as u64) < self.routes.len() && r != i
+    }
+}

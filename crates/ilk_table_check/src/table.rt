@@ -1,0 +1,203 @@
+ghost use Rattle.std.specs.Prelude.{◌≡◌, ◌==◌, ◌&&◌, ◌<◌, ◌++◌, IfOk, OnOk, length, map};
+ghost use Rattle.std.specs.List.{list_all, list_any};
+ghost use Rattle.ilk_plant.specs.Broken.{broken_at};
+ghost use Rattle.ilk_plant.specs.Network.{has_section};
+ghost use Rattle.ilk_plant.specs.Limits.{HasLimits};
+ghost use Rattle.ilk_plant.specs.TableRules.{has_conflicts_once, has_destination_or_none, has_points_once, has_sections_once, is_other_route, is_point_section, is_section, none_twice, points_of, sections_of, table_rules_broken};
+ghost use Rattle.ilk_table_check.specs.Table.{breaks_table};
+
+use crate::listing::push_if;
+use crate::numbered::Numbered;
+use ilk_plant::{Broken, Listed, NetDraft, Route, Row, Rule, TableDraft};
+use std::alloc::{AllocError, Global};
+
+// Whether the numbers have this one.
+fn is_among(x: u32, numbers: &[u32]) -> bool
+    ensures { result ≡ list_any (λ y. y == x) numbers.now }
+{
+    numbers.iter().any(|y| *y == x)
+}
+
+// Whether no number stands twice.
+fn none_twice(numbers: &[u32]) -> bool
+    ensures { result ≡ none_twice numbers.now }
+{
+    for (i, x) in numbers.iter().enumerate() {
+        if is_among(*x, &numbers[i + 1..]) {
+            return false;
+        }
+    }
+    true
+}
+
+// Whether one of two lists has this number.
+fn is_among_both(x: u32, first: &[u32], second: &[u32]) -> bool
+    ensures { result ≡ list_any (λ y. y == x) (first.now ++ second.now) }
+{
+    is_among(x, first) || is_among(x, second)
+}
+
+// Whether no number stands twice in two lists together.
+fn none_twice_in_both(first: &[u32], second: &[u32]) -> bool
+    ensures { result ≡ none_twice (first.now ++ second.now) }
+{
+    for (i, x) in first.iter().enumerate() {
+        if is_among_both(*x, &first[i + 1..], second) {
+            return false;
+        }
+    }
+    none_twice(second)
+}
+
+// Whether each number is that of a section.
+fn are_sections(plant: &Numbered, sections: &[u32]) -> bool
+    ensures { result ≡ list_all (is_section plant.now) sections.now }
+{
+    sections.iter().all(|x| plant.is_section(*x))
+}
+
+// Whether each number in two lists is that of a section.
+fn both_are_sections(plant: &Numbered, first: &[u32], second: &[u32]) -> bool
+    ensures { result ≡ list_all (is_section plant.now) (first.now ++ second.now) }
+{
+    are_sections(plant, first) && are_sections(plant, second)
+}
+
+// Whether path and overlap are sections, none of which stands twice in them.
+fn has_sections_once(plant: &Numbered, route: &Route) -> bool
+    ensures { result ≡ has_sections_once plant.now route.now }
+{
+    let path = route.path.as_slice();
+    let overlap = route.overlap.as_slice();
+    both_are_sections(plant, path, overlap) && none_twice_in_both(path, overlap)
+}
+
+// Whether `x` is a point section of a route's path or overlap.
+fn is_point_of(plant: &Numbered, route: &Route, x: u32) -> bool
+    ensures { result ≡ (is_point_section plant.now x && has_section x (sections_of route.now)) }
+{
+    plant.is_point_section(x) && is_among_both(x, route.path.as_slice(), route.overlap.as_slice())
+}
+
+// Whether each listed point is a point section of path or overlap.
+fn are_points_of(plant: &Numbered, route: &Route) -> bool
+    ensures { result ≡ list_all (λ x. is_point_section plant.now x && has_section x (sections_of route.now)) (points_of route.now) }
+{
+    let points = route.points.as_slice();
+    points
+        .iter()
+        .map(|listed| listed.point)
+        .all(|x| is_point_of(plant, route, x))
+}
+
+// Whether point `x` is listed among these.
+fn is_listed(x: u32, points: &[Listed]) -> bool
+    ensures { result ≡ list_any (λ y. y == x) (map (λ listed. listed.point) points.now) }
+{
+    points.iter().map(|listed| listed.point).any(|y| y == x)
+}
+
+// Whether no point is listed twice.
+fn none_listed_twice(points: &[Listed]) -> bool
+    ensures { result ≡ none_twice (map (λ listed. listed.point) points.now) }
+{
+    for (i, listed) in points.iter().enumerate() {
+        if is_listed(listed.point, &points[i + 1..]) {
+            return false;
+        }
+    }
+    true
+}
+
+// Whether each listed point is a point section of path or overlap, and none is listed twice.
+fn has_points_once(plant: &Numbered, route: &Route) -> bool
+    ensures { result ≡ has_points_once plant.now route.now }
+{
+    are_points_of(plant, route) && none_listed_twice(route.points.as_slice())
+}
+
+// Whether the destination is null or a board.
+fn has_destination_or_none(plant: &Numbered, destination: Option<u32>) -> bool
+    ensures { result ≡ has_destination_or_none plant.now destination }
+{
+    match destination {
+        Some(m) => plant.is_board(m),
+        None => true,
+    }
+}
+
+// Whether each conflict is a route other than route `i`.
+fn are_other_routes(plant: &Numbered, i: u32, routes: &Row<u32>) -> bool
+    ensures { result ≡ list_all (is_other_route plant.now i) routes.now }
+{
+    routes
+        .as_slice()
+        .iter()
+        .all(|r| plant.is_other_route(i, *r))
+}
+
+// Whether each conflict of route `i` is another route, and none is listed twice.
+fn has_conflicts_once(plant: &Numbered, i: u32, route: &Route) -> bool
+    ensures { result ≡ has_conflicts_once plant.now i route.now }
+{
+    are_other_routes(plant, i, &route.conflicts) && none_twice(route.conflicts.as_slice())
+}
+
+// Whether a rule of the table is broken at route `i`.
+fn breaks_table(plant: &Numbered, rule: Rule, i: u32) -> bool
+    requires { i < length plant.now.routes }
+    ensures { result ≡ breaks_table plant.now rule i }
+{
+    let route = plant.route(i);
+    match rule {
+        Rule::R1 => plant.is_named_before(i),
+        Rule::R2 => !plant.is_board(route.source),
+        Rule::R3 => !has_sections_once(plant, route),
+        Rule::R4 => !has_points_once(plant, route),
+        Rule::R5 => !has_destination_or_none(plant, route.destination),
+        Rule::R6 => !has_conflicts_once(plant, i, route),
+        _ => false,
+    }
+}
+
+// Adds the routes at which a rule of the table is broken.
+fn push_routes(
+    found: &mut Row<Broken>,
+    plant: &Numbered,
+    rule: Rule,
+) -> Result<(), AllocError>
+    ensures { OnOk result (found.new ≡ found.old ++ broken_at rule (length plant.now.routes) (breaks_table plant.now rule)) }
+{
+    for i in 0..plant.routes() {
+        let entry = Broken {
+            rule,
+            first: i,
+            second: None,
+        };
+        push_if(found, breaks_table(plant, rule, i), entry)?;
+    }
+    Ok(())
+}
+
+/// All broken rules of a table of routes, R1 to R6, in the order of the rules and then of the
+/// routes. A name stands for the first section, board or route that has it. The network has 1 to
+/// 128 sections and the table at most 128 routes, each with 1 to 32 sections in its path, at most 8
+/// in its overlap, at most 40 points and at most 128 conflicts. The only refusal is want of memory.
+pub fn check_table(
+    alloc: Global,
+    net: &NetDraft,
+    table: &TableDraft,
+) -> Result<Row<Broken>, AllocError>
+    requires { HasLimits net.now table.now }
+    ensures { IfOk result (λ found. found ≡ table_rules_broken net.now table.now) }
+{
+    let plant = Numbered::of(alloc, net, table)?;
+    let mut found = Row::new(alloc);
+    push_routes(&mut found, &plant, Rule::R1)?;
+    push_routes(&mut found, &plant, Rule::R2)?;
+    push_routes(&mut found, &plant, Rule::R3)?;
+    push_routes(&mut found, &plant, Rule::R4)?;
+    push_routes(&mut found, &plant, Rule::R5)?;
+    push_routes(&mut found, &plant, Rule::R6)?;
+    Ok(found)
+}

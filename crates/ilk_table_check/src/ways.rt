@@ -1,0 +1,247 @@
+ghost use Rattle.std.specs.Prelude.{◌≡◌, ◌==◌, slice_get, take, ◌∷◌, ◌||◌, not};
+ghost use Rattle.std.specs.List.{list_all, list_any};
+ghost use Rattle.std.specs.Option.{option_copied};
+ghost use Rattle.ilk_plant.specs.Network.{beside, has_section};
+ghost use Rattle.ilk_plant.specs.Plant.{next_to};
+ghost use Rattle.ilk_plant.specs.TableRules.{is_point_section, passes, points_of};
+ghost use Rattle.ilk_plant.specs.ColumnRules.{ends_at, has_no_board, is_between_boards, is_leg, is_listed_towards, is_way, overlap_is_way, path_ends_at_board, path_is_way, points_are_set, points_lead_along};
+
+use ilk_plant::{Board, Dir, Listed, Plant, Position, Route, Row, Section};
+
+// Section `x`. None where there is no such section.
+fn section_at(plant: &Plant, x: u32) -> Option<&Section>
+    ensures { option_copied result ≡ slice_get plant.now.sections x }
+{
+    if x < plant.sections() {
+        Some(plant.section(x))
+    } else {
+        None
+    }
+}
+
+// The board at which a route begins.
+fn source_of(plant: &Plant, route: &Route) -> Option<Board>
+    ensures { result ≡ slice_get plant.now.boards route.now.source }
+{
+    if route.source < plant.boards() {
+        Some(*plant.board(route.source))
+    } else {
+        None
+    }
+}
+
+// Whether section `y` is beside a section on side `d`.
+fn is_beside(section: &Section, d: Dir, y: u32) -> bool
+    ensures { result ≡ has_section y (beside section.now d) }
+{
+    section.beside(d, 0) == Some(y) || section.beside(d, 1) == Some(y)
+}
+
+// Whether section `y` is next to section `x` in direction `d`.
+fn is_next(plant: &Plant, d: Dir, x: u32, y: u32) -> bool
+    ensures { result ≡ has_section y (next_to plant.now x d) }
+{
+    match section_at(plant, x) {
+        Some(section) => is_beside(section, d, y),
+        None => false,
+    }
+}
+
+// Whether each section is next to the one before it in direction `d`, and the first is next to `x`.
+fn is_way(plant: &Plant, d: Dir, x: u32, sections: &Row<u32>) -> bool
+    ensures { result ≡ is_way plant.now d x sections.now }
+{
+    let mut before = x;
+    for y in sections.as_slice() {
+        if !is_next(plant, d, before, *y) {
+            return false;
+        }
+        before = *y;
+    }
+    true
+}
+
+/// Whether the path is a way from the source's section.
+pub fn path_is_way(plant: &Plant, route: &Route) -> bool
+    ensures { result ≡ path_is_way plant.now route.now }
+{
+    match source_of(plant, route) {
+        Some(source) => is_way(plant, source.dir, source.section, &route.path),
+        None => false,
+    }
+}
+
+// Whether section `x` has no board for direction `d`.
+fn has_no_board(plant: &Plant, d: Dir, x: u32) -> bool
+    ensures { result ≡ has_no_board plant.now d x }
+{
+    match section_at(plant, x) {
+        Some(section) => section.board_on(d).is_none(),
+        None => true,
+    }
+}
+
+// Whether a path in direction `d` that ends at section `x` has this destination.
+fn ends_at(plant: &Plant, d: Dir, destination: Option<u32>, x: u32) -> bool
+    ensures { result ≡ ends_at plant.now d destination x }
+{
+    match (destination, section_at(plant, x)) {
+        (Some(m), Some(section)) => section.board_on(d) == Some(m),
+        (Some(_), None) => false,
+        (None, Some(section)) => section.beside(d, 0).is_none(),
+        (None, None) => true,
+    }
+}
+
+// Whether no section of these has a board for direction `d`.
+fn have_no_board(plant: &Plant, d: Dir, sections: &[u32]) -> bool
+    ensures { result ≡ list_all (has_no_board plant.now d) sections.now }
+{
+    sections.iter().all(|x| has_no_board(plant, d, *x))
+}
+
+// Whether a path in direction `d` has no board before its last section, and ends at the destination.
+fn is_between_boards(plant: &Plant, d: Dir, destination: Option<u32>, path: &Row<u32>) -> bool
+    ensures { result ≡ is_between_boards plant.now d destination path.now }
+{
+    match path.as_slice() {
+        [before @ .., last] => {
+            have_no_board(plant, d, before) && ends_at(plant, d, destination, *last)
+        }
+        [] => false,
+    }
+}
+
+/// Whether no path section but the last has a board in the route's direction, and the path ends at
+/// the destination.
+pub fn path_ends_at_board(plant: &Plant, route: &Route) -> bool
+    ensures { result ≡ path_ends_at_board plant.now route.now }
+{
+    match source_of(plant, route) {
+        Some(source) => is_between_boards(plant, source.dir, route.destination, &route.path),
+        None => false,
+    }
+}
+
+// Whether section `x` is a point.
+fn is_point_section(plant: &Plant, x: u32) -> bool
+    ensures { result ≡ is_point_section plant.now x }
+{
+    match section_at(plant, x) {
+        Some(section) => section.is_point(),
+        None => false,
+    }
+}
+
+// Whether section `y` is the leg of section `x` at a position.
+fn is_leg(plant: &Plant, x: u32, at: Position, y: u32) -> bool
+    ensures { result ≡ passes (is_leg at y) (slice_get plant.now.sections x) }
+{
+    match (section_at(plant, x), at) {
+        (Some(Section::Point { plus, .. }), Position::Plus) => *plus == y,
+        (Some(Section::Point { minus, .. }), Position::Minus) => *minus == y,
+        _ => false,
+    }
+}
+
+// Whether the leg of section `x` at a position is the section before it or the first after it.
+fn leads_along(plant: &Plant, x: u32, at: Position, before: u32, rest: &[u32]) -> bool
+    ensures { result ≡ list_any (λ y. passes (is_leg at y) (slice_get plant.now.sections x)) (before ∷ take 1 rest.now) }
+{
+    is_leg(plant, x, at, before)
+        || match rest {
+            [after, ..] => is_leg(plant, x, at, *after),
+            [] => false,
+        }
+}
+
+// Whether section `x` is listed at a position whose leg is the section before it or the first after it.
+fn is_listed_towards(
+    plant: &Plant,
+    points: &Row<Listed>,
+    before: u32,
+    rest: &[u32],
+    x: u32,
+) -> bool
+    ensures { result ≡ is_listed_towards plant.now points.now (before ∷ take 1 rest.now) x }
+{
+    points
+        .as_slice()
+        .iter()
+        .any(|listed| listed.point == x && leads_along(plant, x, listed.at, before, rest))
+}
+
+// Whether section `x` is no point, or is listed towards the section before it or the first after it.
+fn leads_through(
+    plant: &Plant,
+    points: &Row<Listed>,
+    before: u32,
+    rest: &[u32],
+    x: u32,
+) -> bool
+    ensures { result ≡ (not (is_point_section plant.now x) || is_listed_towards plant.now points.now (before ∷ take 1 rest.now) x) }
+{
+    !is_point_section(plant, x) || is_listed_towards(plant, points, before, rest, x)
+}
+
+// Whether each point of a path is listed towards the section before it or the one after it.
+fn points_lead_along(plant: &Plant, points: &Row<Listed>, start: u32, path: &Row<u32>) -> bool
+    ensures { result ≡ points_lead_along plant.now points.now start path.now }
+{
+    let path = path.as_slice();
+    let mut before = start;
+    for (i, x) in path.iter().enumerate() {
+        if !leads_through(plant, points, before, &path[i + 1..], *x) {
+            return false;
+        }
+        before = *x;
+    }
+    true
+}
+
+// Whether section `x` is listed.
+fn is_listed(route: &Route, x: u32) -> bool
+    ensures { result ≡ has_section x (points_of route.now) }
+{
+    let points = route.points.as_slice();
+    points.iter().map(|listed| listed.point).any(|y| y == x)
+}
+
+// Whether section `x` is no point, or is listed.
+fn is_listed_if_point(plant: &Plant, route: &Route, x: u32) -> bool
+    ensures { result ≡ (not (is_point_section plant.now x) || has_section x (points_of route.now)) }
+{
+    !is_point_section(plant, x) || is_listed(route, x)
+}
+
+// Whether each point of an overlap is listed.
+fn overlap_points_are_listed(plant: &Plant, route: &Route) -> bool
+    ensures { result ≡ list_all (λ x. not (is_point_section plant.now x) || has_section x (points_of route.now)) route.now.overlap }
+{
+    let overlap = route.overlap.as_slice();
+    overlap.iter().all(|x| is_listed_if_point(plant, route, *x))
+}
+
+/// Whether each point of the path is listed towards the section before it or the one after it, and
+/// each point of the overlap is listed.
+pub fn points_are_set(plant: &Plant, route: &Route) -> bool
+    ensures { result ≡ points_are_set plant.now route.now }
+{
+    match source_of(plant, route) {
+        Some(source) => {
+            points_lead_along(plant, &route.points, source.section, &route.path)
+                && overlap_points_are_listed(plant, route)
+        }
+        None => false,
+    }
+}
+
+/// Whether the overlap is a way from the last section of the path.
+pub fn overlap_is_way(plant: &Plant, route: &Route) -> bool
+    ensures { result ≡ overlap_is_way plant.now route.now }
+{
+    match (source_of(plant, route), route.path.as_slice().last()) {
+        (Some(source), Some(last)) => is_way(plant, source.dir, *last, &route.overlap),
+        _ => false,
+    }
+}

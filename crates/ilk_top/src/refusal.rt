@@ -1,0 +1,134 @@
+ghost use Rattle.std.specs.Prelude.{◌≡◌, ◌++◌, IfOk, codes, string_bytes};
+ghost use Rattle.ilk_top.specs.Refusal.{form_name, place_text, places_text, broken_places, entry_text, refusal_line, rule_name};
+
+use ilk_net_read::{Form, FormFault, Place};
+use ilk_plant::{Broken, Rule};
+use std::alloc::{AllocError, Global};
+
+/// Why a configuration is refused.
+#[derive(Clone, Copy, PartialEq, Eq, Debug)]
+pub enum Refusal {
+    /// A rule of the form is broken.
+    Form(FormFault),
+    /// A rule of the network or of the table of routes is broken.
+    Rule(Broken),
+}
+
+// The name of a rule of the form.
+fn form_name(form: Form) -> &'static str
+    ensures { result.now ≡ form_name form }
+{
+    match form {
+        Form::F1 => "F1",
+        Form::F2 => "F2",
+        Form::F3 => "F3",
+        Form::F4 => "F4",
+        Form::F5 => "F5",
+        Form::F6 => "F6",
+    }
+}
+
+// The name of a rule of the network or of the table.
+fn rule_name(rule: Rule) -> &'static str
+    ensures { result.now ≡ rule_name rule }
+{
+    match rule {
+        Rule::N1 => "N1",
+        Rule::N2 => "N2",
+        Rule::N3 => "N3",
+        Rule::N4 => "N4",
+        Rule::N5 => "N5",
+        Rule::N6 => "N6",
+        Rule::N7 => "N7",
+        Rule::N8 => "N8",
+        Rule::R1 => "R1",
+        Rule::R2 => "R2",
+        Rule::R3 => "R3",
+        Rule::R4 => "R4",
+        Rule::R5 => "R5",
+        Rule::R6 => "R6",
+        Rule::C1 => "C1",
+        Rule::C2 => "C2",
+        Rule::C3 => "C3",
+        Rule::C4 => "C4",
+        Rule::C5 => "C5",
+        Rule::C6 => "C6",
+        Rule::C7 => "C7",
+    }
+}
+
+// What the places of a rule are.
+fn places_of(rule: Rule) -> &'static str
+    ensures { result.now ≡ places_text rule }
+{
+    match rule {
+        Rule::N2 => "boards",
+        Rule::N1 | Rule::N3 | Rule::N4 | Rule::N5 | Rule::N6 | Rule::N7 | Rule::N8 | Rule::C7 =>
+            "sections",
+        Rule::R1
+        | Rule::R2
+        | Rule::R3
+        | Rule::R4
+        | Rule::R5
+        | Rule::R6
+        | Rule::C1
+        | Rule::C2
+        | Rule::C3
+        | Rule::C4
+        | Rule::C5
+        | Rule::C6 => "routes",
+    }
+}
+
+// The text of a place of the form.
+fn place_text(alloc: Global, place: Place) -> Result<String, AllocError>
+    ensures { IfOk result (λ text. string_bytes text ≡ place_text place) }
+{
+    match place {
+        Place::Document => String::from_str(alloc, "document"),
+        Place::Extra => String::from_str(alloc, "extra"),
+        Place::Section(i) => entry_text(alloc, "sections", i),
+        Place::Route(i) => entry_text(alloc, "routes", i),
+    }
+}
+
+// One entry of these places, as `routes[3]`.
+fn entry_text(alloc: Global, places: &str, i: u32) -> Result<String, AllocError>
+    ensures { IfOk result (λ text. string_bytes text ≡ entry_text places.now i) }
+{
+    format!(in alloc; "{places}[{i}]")
+}
+
+// The text of the one or two places of a broken rule.
+fn broken_text(alloc: Global, broken: Broken) -> Result<String, AllocError>
+    ensures { IfOk result (λ text. string_bytes text ≡ broken_places broken) }
+{
+    let places = places_of(broken.rule);
+    let first = entry_text(alloc, places, broken.first)?;
+    match broken.second {
+        None => Ok(first),
+        Some(second) => {
+            let second = entry_text(alloc, places, second)?;
+            joined(alloc, first.as_str(), second.as_str())
+        }
+    }
+}
+
+// Two texts with a space between them.
+fn joined(alloc: Global, first: &str, second: &str) -> Result<String, AllocError>
+    ensures { IfOk result (λ text. string_bytes text ≡ first.now ++ (codes " " ++ second.now)) }
+{
+    format!(in alloc; "{first} {second}")
+}
+
+/// The line that a refusal prints: its rule, and where it is broken.
+pub fn refusal_line(alloc: Global, refusal: Refusal) -> Result<String, AllocError>
+    ensures { IfOk result (λ line. string_bytes line ≡ refusal_line refusal) }
+{
+    let (rule, place) = match refusal {
+        Refusal::Form(fault) => (form_name(fault.rule), place_text(alloc, fault.place)?),
+        Refusal::Rule(broken) => (rule_name(broken.rule), broken_text(alloc, broken)?),
+    };
+    let place = place.as_str();
+    format!(in alloc; "refused {rule} {place}\n")
+}

@@ -1,0 +1,70 @@
+ghost use Rattle.std.specs.Prelude.{◌≡◌, ◌+◌, ◌≤◌, ◌⊎◌, IfOk, IfSome, IsTrue, Err};
+ghost use Rattle.ilk_io.specs.Faults.{Rose};
+ghost use Rattle.ilk_io.specs.Source.{IsAtEnd, IsLonger, TakesAtMost};
+ghost use Rattle.ilk_top.specs.Answer.{replay_reply, seen_reply, tale_reply};
+ghost use Rattle.ilk_top.specs.Status.{is_answer};
+ghost use Rattle.ilk_replay.specs.Told.{tale_of};
+
+use crate::report::{hazard_line, not_a_run_line, rejected_line};
+use crate::{NoReply, Refusal, Reply, Status};
+use ilk_io::{ReadError, Source, read_all};
+use ilk_net_read::{Form, FormFault, Place};
+use ilk_plant::Plant;
+use ilk_replay::{Seen, Tale, read_run, replay};
+use std::alloc::{AllocError, Global};
+
+/// The greatest length of a run text, in bytes.
+pub const RUN_LIMIT: u64 = 1048576;
+
+// The reply to what a replay shows.
+fn seen_reply(alloc: Global, plant: &Plant, seen: Seen) -> Result<Reply, AllocError>
+    ensures reply { IfOk result (λ made. made ≡ seen_reply plant.now seen) }
+    ensures answer { IfOk result (λ made. IsTrue (is_answer made.status)) }
+{
+    match seen {
+        Seen::NotARun { at } => Ok(Reply::of(Status::Rejected, not_a_run_line(alloc, at)?)),
+        Seen::NoHazard => {
+            let line = String::from_str(alloc, "no hazard\n")?;
+            Ok(Reply::of(Status::Rejected, line))
+        }
+        Seen::Hazard(at) => Ok(Reply::of(Status::Good, hazard_line(alloc, plant, at)?)),
+    }
+}
+
+// The reply to a run text.
+fn text_reply(alloc: Global, plant: &Plant, text: &[u8]) -> Result<Reply, AllocError>
+    ensures reply { IfOk result (λ made. made ≡ tale_reply plant.now (tale_of plant.now text.now)) }
+    ensures answer { IfOk result (λ made. IsTrue (is_answer made.status)) }
+{
+    match read_run(alloc, plant, text)? {
+        Tale::Bad { line } => Ok(Reply::of(Status::Rejected, rejected_line(alloc, line)?)),
+        Tale::Told(told) => {
+            let seen = replay(alloc, plant, told.first, &told.events)?;
+            seen_reply(alloc, plant, seen)
+        }
+    }
+}
+
+/// Reads a run text to its end, and replays it over the plant. Refused where it is longer than the
+/// limit; ReadFault only where the source's count rose.
+pub fn read_reply<D: Source>(alloc: Global, plant: &Plant, extra: &mut D) -> Result<Reply, NoReply>
+    ensures ok { IfOk result (λ made. IfSome (D.left extra.old) (λ x. made ≡ replay_reply plant.now x)) }
+    ensures answer { IfOk result (λ made. IsTrue (is_answer made.status)) }
+    ensures fault { result ≡ Err NoReply.ReadFault → Rose (D.faults extra.old) (D.faults extra.new) }
+    ensures taken { TakesAtMost (1048576 + 1) (D.left extra.old) (D.left extra.new) }
+    ensures end { IfOk result (λ _. IsAtEnd (D.left extra.new) ⊎ IsLonger (D.left extra.old) 1048576) }
+    ensures counted { D.faults extra.old ≤ D.faults extra.new }
+{
+    match read_all(alloc, extra, RUN_LIMIT) {
+        Ok(text) => Ok(text_reply(alloc, plant, text.as_slice())?),
+        Err(ReadError::TooLong) => Ok(Reply::refused(
+            alloc,
+            Refusal::Form(FormFault {
+                rule: Form::F1,
+                place: Place::Extra,
+            }),
+        )?),
+        Err(ReadError::Failed) => Err(NoReply::ReadFault),
+        Err(ReadError::OutOfMemory) => Err(NoReply::OutOfMemory),
+    }
+}

@@ -1,0 +1,95 @@
+-- What some command lines mean, each computed.
+use Rattle.std.proofs.Common.{◌≡◌, refl, [], ◌∷◌, Some, None, codes}
+use Rattle.clap.proofs.OnLiterals.{clap_on_literals}
+use Rattle.ilk_words.specs.declared.command.Columns.TheVariants.{Strict, Free}
+use Rattle.ilk_words.specs.declared.command.Command.TheVariants.{Check, Replay}
+use Rattle.ilk_words.specs.Line.{app}
+use Rattle.ilk_words.specs.Words.{command_of}
+
+no_word : command_of [] ≡ None
+unfolding clap_on_literals app
+no_word = refl
+
+program_alone : command_of (codes "irv" ∷ []) ≡ None
+unfolding clap_on_literals app
+program_alone = refl
+
+check_alone : command_of (codes "irv" ∷ codes "check" ∷ []) ≡ Some (Check Strict)
+unfolding clap_on_literals app
+check_alone = refl
+
+check_free : command_of (codes "irv" ∷ codes "--columns" ∷ codes "free" ∷ codes "check" ∷ []) ≡ Some (Check Free)
+unfolding clap_on_literals app
+check_free = refl
+
+check_strict : command_of (codes "irv" ∷ codes "check" ∷ codes "--columns=strict" ∷ []) ≡ Some (Check Strict)
+unfolding clap_on_literals app
+check_strict = refl
+
+unknown_columns : command_of (codes "irv" ∷ codes "check" ∷ codes "--columns" ∷ codes "loose" ∷ []) ≡ None
+unfolding clap_on_literals app
+unknown_columns = refl
+
+empty_columns : command_of (codes "irv" ∷ codes "check" ∷ codes "--columns=" ∷ []) ≡ None
+unfolding clap_on_literals app
+empty_columns = refl
+
+check_with_run : command_of (codes "irv" ∷ codes "check" ∷ codes "--run" ∷ codes "r" ∷ []) ≡ None
+unfolding clap_on_literals app
+check_with_run = refl
+
+replay_run : command_of (codes "irv" ∷ codes "replay" ∷ codes "--run" ∷ codes "r" ∷ []) ≡ Some (Replay Strict (codes "r"))
+unfolding clap_on_literals app
+replay_run = refl
+
+replay_run_attached : command_of (codes "irv" ∷ codes "replay" ∷ codes "--run=r" ∷ codes "--columns" ∷ codes "free" ∷ []) ≡ Some (Replay Free (codes "r"))
+unfolding clap_on_literals app
+replay_run_attached = refl
+
+replay_run_empty : command_of (codes "irv" ∷ codes "replay" ∷ codes "--run=" ∷ []) ≡ Some (Replay Strict [])
+unfolding clap_on_literals app
+replay_run_empty = refl
+
+replay_run_hyphen : command_of (codes "irv" ∷ codes "replay" ∷ codes "--run" ∷ codes "-" ∷ []) ≡ Some (Replay Strict (codes "-"))
+unfolding clap_on_literals app
+replay_run_hyphen = refl
+
+replay_alone : command_of (codes "irv" ∷ codes "replay" ∷ []) ≡ None
+unfolding clap_on_literals app
+replay_alone = refl
+
+replay_run_twice : command_of (codes "irv" ∷ codes "replay" ∷ codes "--run" ∷ codes "r" ∷ codes "--run" ∷ codes "s" ∷ []) ≡ None
+unfolding clap_on_literals app
+replay_run_twice = refl
+
+replay_run_without_value : command_of (codes "irv" ∷ codes "replay" ∷ codes "--run" ∷ []) ≡ None
+unfolding clap_on_literals app
+replay_run_without_value = refl
+
+command_after_escape : command_of (codes "irv" ∷ codes "--run" ∷ codes "r" ∷ codes "--" ∷ codes "replay" ∷ []) ≡ Some (Replay Strict (codes "r"))
+unfolding clap_on_literals app
+command_after_escape = refl
+
+option_after_escape : command_of (codes "irv" ∷ codes "replay" ∷ codes "--" ∷ codes "--run" ∷ codes "r" ∷ []) ≡ None
+unfolding clap_on_literals app
+option_after_escape = refl
+
+two_commands : command_of (codes "irv" ∷ codes "check" ∷ codes "check" ∷ []) ≡ None
+unfolding clap_on_literals app
+two_commands = refl
+
+unknown_command : command_of (codes "irv" ∷ codes "prove" ∷ []) ≡ None
+unfolding clap_on_literals app
+unknown_command = refl
+
+unknown_option : command_of (codes "irv" ∷ codes "check" ∷ codes "--depth" ∷ codes "3" ∷ []) ≡ None
+unfolding clap_on_literals app
+unknown_option = refl
+
+help : command_of (codes "irv" ∷ codes "--help" ∷ []) ≡ None
+unfolding clap_on_literals app
+help = refl
+
+short_help : command_of (codes "irv" ∷ codes "check" ∷ codes "-h" ∷ []) ≡ None
+unfolding clap_on_literals app
+short_help = refl

@@ -1,0 +1,15 @@
+-- The files that a command line names besides the configuration.
+use Rattle.std.specs.Prelude.{ℕ, Option, Some, None, List, option_map}
+use Rattle.ilk_words.specs.Words.{command_of}
+use Rattle.ilk_words.specs.declared.command.Command.{Command}
+use Rattle.ilk_words.specs.declared.command.Command.TheVariants.{Check, Replay}
+use Rattle.ilk_words.specs.declared.files.FileNames.{FileNames}
+
+-- replay reads the file of its run; no command that is built writes a certificate
+abbrev pub files_of : Command → FileNames
+files_of (Check columns) = record { extra = None; cert = None }
+files_of (Replay columns run) = record { extra = Some run; cert = None }
+
+-- none where the words give no command
+abbrev pub files_named : List (List ℕ) → Option FileNames
+files_named words = option_map files_of (command_of words)

@@ -1,0 +1,24 @@
+-- A command line but for where the texts of its possible values lie in memory.
+use Rattle.std.specs.Prelude.{List, map, option_map}
+use Rattle.std.specs.Borrow.{Bor}
+use Rattle.clap.specs.Words.{App, Rule, Shape, Text}
+use Rattle.clap.specs.declared.builder.value_parser.ValueParser.{ValueParser}
+use Rattle.clap.specs.declared.builder.value_parser.ValueParser.TheVariants as parser
+use Rattle.ilk_words.specs.Line.{held}
+
+-- the same parser, with its texts where the definition of the line has them
+abbrev pub moved : ValueParser → ValueParser
+moved (parser.Names names) = parser.Names (held (map (λ (s : Bor Text). held s.now) names.now))
+moved p = p
+
+abbrev pub moved_rule : Rule → Rule
+moved_rule a = record a { parser = option_map moved a.parser }
+
+abbrev pub moved_rules : List Rule → List Rule
+moved_rules = map moved_rule
+
+abbrev pub moved_shape : Shape → Shape
+moved_shape s = record s { rules = moved_rules s.rules }
+
+abbrev pub moved_app : App → App
+moved_app a = record a { top = moved_shape a.top }
