@@ -31,3 +31,16 @@ fn line_with_a_point(rt: HostRuntime) -> Result<(), Fail> {
     }
     Ok(())
 }
+
+#[test]
+fn faults_are_shown(rt: HostRuntime) -> Result<(), Fail> {
+    let fault = FormFault {
+        rule: Form::F5,
+        place: Place::Section(12),
+    };
+    let shown = format!(in rt.alloc(); "{fault}")?;
+    assert_eq!(rt; shown.as_str(), "F5 sections[12]");
+    let shown = format!(in rt.alloc(); "{} {} {}", Place::Document, Place::Extra, Place::Route(0))?;
+    assert_eq!(rt; shown.as_str(), "document extra routes[0]");
+    Ok(())
+}
