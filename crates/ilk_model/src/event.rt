@@ -30,12 +30,7 @@ pub enum Event {
 
 /// Does the event, if it is enabled. True exactly where it is; on false and for want of memory
 /// the state is as it was.
-pub fn apply(
-    alloc: Global,
-    plant: &Plant,
-    s: &mut State,
-    event: Event,
-) -> Result<bool, AllocError>
+pub fn apply(alloc: Global, plant: &Plant, s: &mut State, event: Event) -> Result<bool, AllocError>
     requires { HasShape plant.now s.old }
     ensures answer { IfOk result (λ enabled. enabled ≡ is_some (next plant.now s.old event)) }
     ensures next { OnOk result (s.new ≡ unwrap_or (next plant.now s.old event) s.old) }

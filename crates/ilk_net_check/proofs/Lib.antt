@@ -1,5 +1,4 @@
 pub mod Added
-pub mod Leads
 pub mod Numbered
 pub mod Positions
 pub mod Tables

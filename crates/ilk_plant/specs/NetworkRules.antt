@@ -1,5 +1,5 @@
 -- The rules of the network, N1 to N8: the list of those that a draft breaks.
-use Rattle.std.specs.Prelude.{ℕ, zero, suc, ◌≡◌, Bool, false, not, ◌&&◌, ◌||◌, ◌==◌, Option, Some, None, is_none, List, [], ◌∷◌, ◌++◌, length, map, take, slice_get, count_by, bytes_eq, IsTrue}
+use Rattle.std.specs.Prelude.{ℕ, zero, suc, ◌≡◌, Bool, true, false, not, ◌&&◌, ◌||◌, ◌==◌, Option, Some, None, is_none, List, [], ◌∷◌, ◌++◌, length, map, take, slice_get, count_by, bytes_eq, IsTrue}
 use Rattle.std.specs.List.{list_any, last_or}
 use Rattle.ilk_plant.specs.Broken.{broken_at}
 use Rattle.ilk_plant.specs.Draft.{Name, names_of_boards, names_of_sections}

@@ -6,13 +6,13 @@ ghost use Rattle.ilk_top.specs.Answer.{broken_lines, check_answer, check_drafts_
 ghost use Rattle.ilk_top.specs.Status.{is_reply};
 
 use crate::checks::{Checked, check_drafts};
-use crate::drafts::read_drafts;
 use crate::plant_stage::CONF_LIMIT;
 use crate::refusal::refusal_line;
 use crate::{NoReply, Refusal, Reply, Status};
 use ilk_io::{ReadError, Source, read_all};
 use ilk_net_read::{Form, FormError, FormFault, Place};
 use ilk_plant::{Broken, Row};
+use ilk_table_read::read_drafts;
 use ilk_words::Columns;
 use std::alloc::{AllocError, Global};
 

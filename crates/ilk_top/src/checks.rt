@@ -21,11 +21,7 @@ pub enum Checked {
 }
 
 // The broken rules of the columns; none where they are free.
-fn broken_columns(
-    alloc: Global,
-    columns: Columns,
-    plant: &Plant,
-) -> Result<Row<Broken>, AllocError>
+fn broken_columns(alloc: Global, columns: Columns, plant: &Plant) -> Result<Row<Broken>, AllocError>
     ensures { IfOk result (λ found. found ≡ columns_broken columns plant.now) }
 {
     match columns {

@@ -3,7 +3,6 @@
 
 mod check_stage;
 mod checks;
-mod drafts;
 mod plant_stage;
 mod program;
 mod refusal;

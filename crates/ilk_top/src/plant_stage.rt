@@ -5,11 +5,11 @@ ghost use Rattle.ilk_table_read.specs.Table.{drafts_of};
 ghost use Rattle.ilk_top.specs.Answer.{EndsOrLonger, StopsAs, plant_of, plant_of_drafts};
 
 use crate::checks::{Checked, check_drafts};
-use crate::drafts::read_drafts;
 use crate::{Refusal, Stop};
 use ilk_io::{ReadError, Source, read_all};
 use ilk_net_read::{Form, FormError, FormFault, Place};
 use ilk_plant::Plant;
+use ilk_table_read::read_drafts;
 use ilk_words::Columns;
 use std::alloc::Global;
 

@@ -3,7 +3,8 @@ use ilk_io::{MemSink, MemSource, SteadySink};
 use std::alloc::{AllocError, Global};
 use std::test::Fail;
 
-const TWO_SECTIONS: &str = r#"{"version":1,"sections":[{"name":"a","kind":"linear","down":null,"up":"b","board_down":null,"board_up":null},{"name":"b","kind":"linear","down":"a","up":null,"board_down":null,"board_up":null}],"routes":[]}"#;
+const TWO_SECTIONS: &str =
+    r#"{"version":1,"sections":[{"name":"a","kind":"linear","down":null,"up":"b","board_down":null,"board_up":null},{"name":"b","kind":"linear","down":"a","up":null,"board_down":null,"board_up":null}],"routes":[]}"#;
 
 const TWO_TRAINS: &str = "run 1\nstart\nenter a\nenter b\nhead a\nend\n";
 

@@ -1,4 +1,4 @@
-use Rattle.ilk_net_check.proofs.Leads.{returns-walks}
+use Rattle.ilk_plant.proofs.Leads.{returns-walks}
 use Rattle.ilk_net_check.proofs.walks.returning_walks.Goals as goal
 
 pub returns : goal.returns

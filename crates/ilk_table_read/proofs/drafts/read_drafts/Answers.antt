@@ -1,4 +1,4 @@
-use Rattle.ilk_top.proofs.drafts.read_drafts.Goals as goal
+use Rattle.ilk_table_read.proofs.drafts.read_drafts.Goals as goal
 
 pub returns-clause-limits : goal.returns-clause-limits
 returns-clause-limits c = record {
