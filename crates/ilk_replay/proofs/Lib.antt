@@ -6,3 +6,5 @@ pub mod Numbers
 pub mod Parts
 pub mod Runs
 pub mod Shape
+pub mod Written
+pub mod WrittenRun
