@@ -294,7 +294,7 @@ text-lines (x ∷ text) = join (x == 10) refl (parts_follow 10 text) (text-lines
 append_nothing : (xs : Bytes) → xs ++ [] ≡ xs
 append_nothing xs = grind (arith, common_steps)
 
-abbrev answered : Result Told ℕ → Tale
+abbrev pub answered : Result Told ℕ → Tale
 answered (Ok x) = IsTold x
 answered (Err n) = Bad n
 

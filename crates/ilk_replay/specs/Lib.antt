@@ -7,4 +7,5 @@ pub mod Told
 pub mod Reading
 pub mod Seen
 pub mod RunText
+pub mod Writable
 pub mod Examples
