@@ -4,5 +4,9 @@ pub mod Leading
 pub mod Named
 pub mod Numbers
 pub mod Parts
+pub mod ReadBack
 pub mod Runs
 pub mod Shape
+pub mod StartedBack
+pub mod Written
+pub mod WrittenRun

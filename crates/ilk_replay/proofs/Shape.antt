@@ -26,14 +26,14 @@ use Rattle.ilk_replay.specs.StateTold.{Part, each_told, is_point_at, numbers_of,
 use Rattle.ilk_replay.proofs.Each.{values_left}
 use Rattle.ilk_replay.proofs.Parts.{parts_follow}
 
-some_is : {A : Type 0} {x y : A} → Some x ≡ Some y → x ≡ y
+pub some_is : {A : Type 0} {x y : A} → Some x ≡ Some y → x ≡ y
 some_is e = cc
 
-bind_some : {A B : Type 0} (o : Option A) (f : A → Option B) (y : B) → option_and_then f o ≡ Some y → (x : A) × (o ≡ Some x) × (f x ≡ Some y)
+pub bind_some : {A B : Type 0} (o : Option A) (f : A → Option B) (y : B) → option_and_then f o ≡ Some y → (x : A) × (o ≡ Some x) × (f x ≡ Some y)
 bind_some None f y e = cc
 bind_some (Some x) f y e = (x, refl, e)
 
-only_some : {A : Type 0} (b : Bool) (x y : A) → only_if b x ≡ Some y → (b ≡ true) × (x ≡ y)
+pub only_some : {A : Type 0} (b : Bool) (x y : A) → only_if b x ≡ Some y → (b ≡ true) × (x ≡ y)
 only_some true x y e = (refl, cc)
 only_some false x y e = cc
 
@@ -67,11 +67,11 @@ range_get a zero i x e = cc
 range_get a (suc n) zero x e = let same : a ≡ x = cc in omega arith
 range_get a (suc n) (suc i) x e = let rest = range_get (a + 1) n i x e in omega arith
 
-first_passes : (b c : Bool) → (b && c) ≡ true → b ≡ true
+pub first_passes : (b c : Bool) → (b && c) ≡ true → b ≡ true
 first_passes true c h = refl
 first_passes false c h = cc
 
-second_passes : (b c : Bool) → (b && c) ≡ true → c ≡ true
+pub second_passes : (b c : Bool) → (b && c) ≡ true → c ≡ true
 second_passes true c h = h
 second_passes false c h = cc
 

@@ -6,4 +6,6 @@ pub mod StateTold
 pub mod Told
 pub mod Reading
 pub mod Seen
+pub mod RunText
+pub mod Writable
 pub mod Examples

@@ -4,6 +4,7 @@
 mod cursor;
 mod event_line;
 mod examples;
+mod laws;
 mod lines;
 mod names;
 mod reading;
@@ -13,6 +14,7 @@ mod state_reading;
 mod state_words;
 mod told;
 
+pub use laws::{started_text_is_told, text_is_written};
 pub use reading::read_run;
 pub use seen::{Seen, replay};
 pub use told::{Tale, Told};
