@@ -9,6 +9,7 @@ pub mod Options
 pub mod RoutesOf
 pub mod Rows
 pub mod Rules
+pub mod Shapes
 pub mod Sides
 pub mod Sound
 pub mod Steps

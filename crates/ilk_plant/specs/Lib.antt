@@ -5,6 +5,7 @@ pub mod Network
 pub mod Plant
 pub mod State
 pub mod Start
+pub mod Shape
 pub mod Draft
 pub mod Broken
 pub mod TableRules

@@ -13,6 +13,7 @@ mod numbering;
 mod occupancy;
 mod plant;
 mod row;
+mod shape;
 mod start;
 mod state;
 mod table;

@@ -155,6 +155,13 @@ impl Plant {
             .count() as u32
     }
 
+    /// The routes, in the order of their numbers.
+    pub(crate) fn routes_as_slice(&self) -> &[Route]
+        ensures { result.now ≡ self.now.routes }
+    {
+        self.routes.as_slice()
+    }
+
     /// Section `x`.
     pub fn section(&self, x: u32) -> &Section
         requires { x < length self.now.sections }

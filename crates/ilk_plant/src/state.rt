@@ -1,4 +1,7 @@
+ghost use Rattle.std.specs.Prelude.{◌≡◌, IfOk};
+
 use crate::{Dir, Position, Row};
+use std::alloc::{AllocError, Global};
 
 /// How far the setting and the use of a route have come.
 #[derive(Clone, Copy, PartialEq, Eq, Debug)]
@@ -64,4 +67,42 @@ pub struct State {
     pub boards: Row<Aspect>,
     pub locks: Row<Hold>,
     pub trains: Row<Train>,
+}
+
+impl Train {
+    // An equal train.
+    fn copy(&self, alloc: Global) -> Result<Train, AllocError>
+        ensures { IfOk result (λ train. train ≡ self.now) }
+    {
+        Ok(Train {
+            dir: self.dir,
+            body: self.body.copy(alloc)?,
+        })
+    }
+}
+
+// An equal list of trains.
+fn copy_trains(alloc: Global, trains: &Row<Train>) -> Result<Row<Train>, AllocError>
+    ensures { IfOk result (λ made. made ≡ trains.now) }
+{
+    let mut made = Row::new(alloc);
+    for train in trains.as_slice() {
+        made.push(train.copy(alloc)?)?;
+    }
+    Ok(made)
+}
+
+impl State {
+    /// An equal state.
+    pub fn copy(&self, alloc: Global) -> Result<State, AllocError>
+        ensures { IfOk result (λ state. state ≡ self.now) }
+    {
+        Ok(State {
+            routes: self.routes.copy(alloc)?,
+            points: self.points.copy(alloc)?,
+            boards: self.boards.copy(alloc)?,
+            locks: self.locks.copy(alloc)?,
+            trains: copy_trains(alloc, &self.trains)?,
+        })
+    }
 }
