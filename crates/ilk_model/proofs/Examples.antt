@@ -92,24 +92,24 @@ path_is_occupied = refl
 abbrev station : PlantLists
 station = record {
   sections =
-    Linear None (Some 1) None (Some 0)
-    ∷ Point 0 2 3 Up
-    ∷ Linear (Some 1) (Some 4) (Some 1) (Some 2)
-    ∷ Linear (Some 1) (Some 4) (Some 3) (Some 4)
-    ∷ Point 5 2 3 Down
-    ∷ Linear (Some 4) None (Some 5) None
-    ∷ [];
+      Linear None (Some 1) None (Some 0)
+      ∷ Point 0 2 3 Up
+      ∷ Linear (Some 1) (Some 4) (Some 1) (Some 2)
+      ∷ Linear (Some 1) (Some 4) (Some 3) (Some 4)
+      ∷ Point 5 2 3 Down
+      ∷ Linear (Some 4) None (Some 5) None
+      ∷ [];
   boards = board 0 Up ∷ board 2 Down ∷ board 2 Up ∷ board 3 Down ∷ board 3 Up ∷ board 5 Down ∷ [];
   routes =
-    route 0 (Some 2) (1 ∷ 2 ∷ []) ((1, Plus) ∷ []) (1 ∷ 4 ∷ 6 ∷ 7 ∷ [])
-    ∷ route 0 (Some 4) (1 ∷ 3 ∷ []) ((1, Minus) ∷ []) (0 ∷ 5 ∷ 6 ∷ 7 ∷ [])
-    ∷ route 2 None (4 ∷ 5 ∷ []) ((4, Plus) ∷ []) (3 ∷ 4 ∷ 5 ∷ [])
-    ∷ route 4 None (4 ∷ 5 ∷ []) ((4, Minus) ∷ []) (2 ∷ 4 ∷ 5 ∷ [])
-    ∷ route 5 (Some 1) (4 ∷ 2 ∷ []) ((4, Plus) ∷ []) (0 ∷ 2 ∷ 3 ∷ 5 ∷ [])
-    ∷ route 5 (Some 3) (4 ∷ 3 ∷ []) ((4, Minus) ∷ []) (1 ∷ 2 ∷ 3 ∷ 4 ∷ [])
-    ∷ route 1 None (1 ∷ 0 ∷ []) ((1, Plus) ∷ []) (0 ∷ 1 ∷ 7 ∷ [])
-    ∷ route 3 None (1 ∷ 0 ∷ []) ((1, Minus) ∷ []) (0 ∷ 1 ∷ 6 ∷ [])
-    ∷ [];
+      route 0 (Some 2) (1 ∷ 2 ∷ []) ((1, Plus) ∷ []) (1 ∷ 4 ∷ 6 ∷ 7 ∷ [])
+      ∷ route 0 (Some 4) (1 ∷ 3 ∷ []) ((1, Minus) ∷ []) (0 ∷ 5 ∷ 6 ∷ 7 ∷ [])
+      ∷ route 2 None (4 ∷ 5 ∷ []) ((4, Plus) ∷ []) (3 ∷ 4 ∷ 5 ∷ [])
+      ∷ route 4 None (4 ∷ 5 ∷ []) ((4, Minus) ∷ []) (2 ∷ 4 ∷ 5 ∷ [])
+      ∷ route 5 (Some 1) (4 ∷ 2 ∷ []) ((4, Plus) ∷ []) (0 ∷ 2 ∷ 3 ∷ 5 ∷ [])
+      ∷ route 5 (Some 3) (4 ∷ 3 ∷ []) ((4, Minus) ∷ []) (1 ∷ 2 ∷ 3 ∷ 4 ∷ [])
+      ∷ route 1 None (1 ∷ 0 ∷ []) ((1, Plus) ∷ []) (0 ∷ 1 ∷ 7 ∷ [])
+      ∷ route 3 None (1 ∷ 0 ∷ []) ((1, Minus) ∷ []) (0 ∷ 1 ∷ 6 ∷ [])
+      ∷ [];
   section_names = codes "b1" ∷ codes "p1" ∷ codes "t1" ∷ codes "t2" ∷ codes "p2" ∷ codes "b2" ∷ [];
   board_names = codes "m1" ∷ codes "m4" ∷ codes "m3" ∷ codes "m6" ∷ codes "m5" ∷ codes "m2" ∷ [];
   route_names = codes "r1" ∷ codes "r2" ∷ codes "r3" ∷ codes "r4" ∷ codes "r5" ∷ codes "r6" ∷ codes "r7" ∷ codes "r8" ∷ [];

@@ -3,11 +3,13 @@ pub mod Counts
 pub mod Leads
 pub mod NamesDiffer
 pub mod Neighbours
-pub mod Numbered
+pub mod KnownNames
+pub mod NumberedLists
 pub mod Once
 pub mod Options
 pub mod RoutesOf
 pub mod Rows
+pub mod Positions
 pub mod Rules
 pub mod Shapes
 pub mod Sides

@@ -5,7 +5,7 @@ use Rattle.std.proofs.lemmas.Bool.Decides.{nat_tests}
 use Rattle.std.proofs.lemmas.List.Quantifiers.{position-Some}
 use Rattle.std.proofs.lemmas.Option.{slice_get-get_or, slice_get_within}
 use Rattle.std.proofs.lemmas.Slice.Eq.{bytes_eq-Decides}
-use Rattle.ilk_plant.proofs.Numbered.{number_of-known}
+use Rattle.ilk_plant.proofs.KnownNames.{number_of-known}
 use Rattle.ilk_plant.proofs.Tests.{list_any-from, list_any-none}
 use Rattle.ilk_plant.specs.Draft.{Name, number_of}
 use Rattle.ilk_plant.specs.NetworkRules.{repeats_name}

@@ -6,7 +6,7 @@ use Rattle.std.specs.Cmp.Derive.{both_true}
 use Rattle.std.proofs.lemmas.Option.{same_Some, slice_get-map, slice_get_within}
 use Rattle.std.proofs.lemmas.Slice.Eq.{bytes_eq-Decides}
 use Rattle.ilk_plant.proofs.NamesDiffer.{first_named-at, known-at, number_of-at, number_of-first}
-use Rattle.ilk_plant.proofs.Numbered.{both}
+use Rattle.ilk_plant.proofs.KnownNames.{both}
 use Rattle.ilk_plant.proofs.Once.{none_twice-turned}
 use Rattle.ilk_plant.proofs.Rules.{KeepsNetworkRules}
 use Rattle.ilk_plant.proofs.Tests.{list_any-at, list_any-from, list_any-none, map-at, not-true}

@@ -3,7 +3,7 @@ use Rattle.std.proofs.Common.{◌≡◌, ℕ, zero, suc, Bool, true, false, ◌=
 use Rattle.std.specs.List.{list_any}
 use Rattle.std.proofs.lemmas.Bool.{eq-eqb}
 use Rattle.std.proofs.lemmas.Bool.Decides.{nat_tests}
-use Rattle.ilk_plant.proofs.Numbered.{both}
+use Rattle.ilk_plant.proofs.KnownNames.{both}
 use Rattle.ilk_plant.proofs.Tests.{list_any-from}
 use Rattle.ilk_plant.specs.Plant.{EachOnce}
 use Rattle.ilk_plant.specs.TableRules.{none_twice}

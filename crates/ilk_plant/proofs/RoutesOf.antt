@@ -6,7 +6,7 @@ use Rattle.std.proofs.lemmas.List.{length-map}
 use Rattle.std.proofs.lemmas.List.Elements.{All-nil, All-cons, All-get_or}
 use Rattle.std.proofs.lemmas.List.Folds.{list_all-append, list_all-map}
 use Rattle.std.proofs.lemmas.Option.{get_or_from_slice_get, slice_get_within}
-use Rattle.ilk_plant.proofs.Numbered.{both}
+use Rattle.ilk_plant.proofs.KnownNames.{both}
 use Rattle.ilk_plant.proofs.Once.{none_twice-once}
 use Rattle.ilk_plant.proofs.Rules.{KeepsTableRules}
 use Rattle.ilk_plant.proofs.Tests.{map-at}

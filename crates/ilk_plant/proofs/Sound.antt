@@ -58,31 +58,6 @@ numbered-IsSound net table sound = record {
   drafts = record { net = net; table = table; sound = sound; same = refl };
 }
 
--- the plant of lists that are numbered one by one
-pub numbered-parts : (net : NetDraft) (table : TableDraft) (p : PlantLists) → p.section_names ≡ names_of_sections net.sections → p.board_names ≡ names_of_boards net.sections → p.route_names ≡ names_of_routes table.routes → p.boards ≡ map (λ named. named.board) (boards_from 0 net.sections) → p.sections ≡ map (λ section. numbered_section p.section_names p.board_names section.kind) net.sections → p.routes ≡ map (numbered_route p.section_names p.board_names p.route_names) table.routes → p ≡ numbered net table
-numbered-parts net table p section_names board_names route_names boards sections routes =
-    by_names p.section_names p.board_names p.route_names section_names board_names route_names sections routes
-  where
-    by_names : (s b r : List Name) → s ≡ names_of_sections net.sections → b ≡ names_of_boards net.sections → r ≡ names_of_routes table.routes → p.sections ≡ map (λ section. numbered_section s b section.kind) net.sections → p.routes ≡ map (numbered_route s b r) table.routes → p ≡ numbered net table
-    by_names s b r es eb er f g =
-        let with_sections : p.sections ≡ (numbered net table).sections =
-        let P : List Name → Type 0 = λ v. p.sections ≡ map (λ section. numbered_section v (names_of_boards net.sections) section.kind) net.sections in
-        let Q : List Name → Type 0 = λ v. p.sections ≡ map (λ section. numbered_section s v section.kind) net.sections in
-        subst P es (subst Q eb f) in
-        let with_routes : p.routes ≡ (numbered net table).routes =
-        let P : List Name → Type 0 = λ v. p.routes ≡ map (numbered_route v b r) table.routes in
-        let Q : List Name → Type 0 = λ v. p.routes ≡ map (numbered_route (names_of_sections net.sections) v r) table.routes in
-        let R : List Name → Type 0 = λ v. p.routes ≡ map (numbered_route (names_of_sections net.sections) (names_of_boards net.sections) v) table.routes in
-        subst R er (subst Q eb (subst P es g)) in
-        λ i. record {
-          sections = with_sections i;
-          boards = boards i;
-          routes = with_routes i;
-          section_names = section_names i;
-          board_names = board_names i;
-          route_names = route_names i;
-        }
-
 -- a plant breaks no rule of the table
 pub table-kept : (p : PlantLists) → IsOfDrafts p → routes_broken p ≡ []
 table-kept p drafts =

@@ -6,7 +6,7 @@ use Rattle.std.proofs.lemmas.Bool.{eqb-true, eq-eqb}
 use Rattle.std.proofs.lemmas.List.{length-map}
 use Rattle.ilk_plant.proofs.Leads.{leads-step, leads-through, either}
 use Rattle.ilk_plant.proofs.Neighbours.{leads_to, end-number, next-back, next-end, next-known}
-use Rattle.ilk_plant.proofs.Numbered.{both}
+use Rattle.ilk_plant.proofs.KnownNames.{both}
 use Rattle.ilk_plant.proofs.Once.{none_twice-once}
 use Rattle.ilk_plant.proofs.Rules.{KeepsNetworkRules}
 use Rattle.ilk_plant.proofs.Tests.{list_any-from, not-true}

@@ -10,6 +10,7 @@ pub mod Draft
 pub mod Broken
 pub mod TableRules
 pub mod ColumnRules
+pub mod Names
 pub mod NetworkRules
 pub mod Limits
 pub mod Sound

@@ -8,7 +8,9 @@
 mod broken;
 mod draft;
 mod make;
+mod names;
 mod network;
+mod numbered_drafts;
 mod numbering;
 mod occupancy;
 mod plant;
@@ -21,7 +23,9 @@ mod text;
 
 pub use broken::{Broken, Rule};
 pub use draft::{KindDraft, ListedDraft, NetDraft, RouteDraft, SectionDraft, TableDraft};
+pub use names::Names;
 pub use network::{Board, Dir, Position, Section};
+pub use numbered_drafts::Numbered;
 pub use occupancy::{has_section, occupied};
 pub use plant::Plant;
 pub use row::Row;

@@ -4,10 +4,7 @@ ghost use Rattle.ilk_plant.specs.Limits.{HasLimits};
 ghost use Rattle.ilk_plant.specs.NetworkRules.{network_rules_broken};
 ghost use Rattle.ilk_plant.specs.TableRules.{table_rules_broken};
 
-use crate::numbering::{
-    named_boards, numbered_routes, numbered_sections, route_names, section_names,
-};
-use crate::{NetDraft, Plant, TableDraft};
+use crate::{NetDraft, Numbered, Plant, TableDraft};
 use std::alloc::{AllocError, Global};
 
 impl Plant {
@@ -19,26 +16,7 @@ impl Plant {
         requires routes { table_rules_broken net.now table.now ≡ [] }
         ensures { IfOk result (λ plant. plant ≡ numbered net.now table.now) }
     {
-        let section_names = section_names(alloc, &net.sections)?;
-        let named = named_boards(alloc, &net.sections)?;
-        let route_names = route_names(alloc, &table.routes)?;
-        let sections = numbered_sections(alloc, &section_names, &named.names, &net.sections)?;
-        let routes = numbered_routes(
-            alloc,
-            &section_names,
-            &named.names,
-            &route_names,
-            &table.routes,
-        )?;
-        let boards = named.boards;
-        let board_names = named.names;
-        Ok(Plant::of_lists(
-            sections,
-            boards,
-            routes,
-            section_names,
-            board_names,
-            route_names,
-        ))
+        let made = Numbered::of(alloc, net, table)?;
+        Ok(Plant::of_numbered(made))
     }
 }

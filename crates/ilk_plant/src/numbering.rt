@@ -1,7 +1,7 @@
-ghost use Rattle.std.specs.Prelude.{◌≡◌, ◌≤◌, ◌+◌, ◌*◌, ◌<◌, ◌++◌, IfOk, OnOk, IsTrue, length, map, option_map};
-ghost use Rattle.ilk_plant.specs.Draft.{board_named, boards_from, boards_on, names_of_boards, names_of_routes, names_of_sections, number_of, numbered, numbered_point, numbered_route, numbered_section};
+ghost use Rattle.std.specs.Prelude.{◌≡◌, ◌≤◌, ◌<◌, ◌++◌, IfOk, OnOk, length, map};
+ghost use Rattle.ilk_plant.specs.Draft.{board_named, boards_from, boards_on, names_of_boards, names_of_routes, names_of_sections, number_of, numbered_point, numbered_route, numbered_section};
 
-use crate::plant::place_of;
+use crate::names::Names;
 use crate::{
     Board, Dir, KindDraft, Listed, ListedDraft, Route, RouteDraft, Row, Section, SectionDraft, Text,
 };
@@ -97,44 +97,19 @@ pub fn named_boards(alloc: Global, sections: &Row<SectionDraft>) -> Result<Named
     Ok(made)
 }
 
-// The number for which a name stands; the count of the names, where nothing has it.
-fn number_of(names: &Row<Text>, name: &Text) -> u32
-    requires { length names.now ≤ 256 }
-    ensures { result ≡ number_of names.now name.now }
-{
-    match place_of(names, name.as_str()) {
-        Some(i) => i as u32,
-        None => names.len() as u32,
-    }
-}
-
-// The number for which a name stands, if there is a name.
-fn number_if_named(names: &Row<Text>, name: &Option<Text>) -> Option<u32>
-    requires { length names.now ≤ 256 }
-    ensures { result ≡ option_map (number_of names.now) name.now }
-{
-    match name {
-        Some(name) => Some(number_of(names, name)),
-        None => None,
-    }
-}
-
 // The numbers for which these names stand.
-fn numbers_of(alloc: Global, names: &Row<Text>, wanted: &Row<Text>) -> Result<Row<u32>, AllocError>
-    requires { length names.now ≤ 256 }
+fn numbers_of(alloc: Global, names: &Names, wanted: &Row<Text>) -> Result<Row<u32>, AllocError>
     ensures { IfOk result (λ numbers. numbers ≡ map (number_of names.now) wanted.now) }
 {
     let mut numbers = Row::new(alloc);
     for name in wanted.as_slice() {
-        numbers.push(number_of(names, name))?;
+        numbers.push(names.number_of(name))?;
     }
     Ok(numbers)
 }
 
 // A section with numbers for names.
-fn numbered_section(sections: &Row<Text>, boards: &Row<Text>, kind: &KindDraft) -> Section
-    requires few_sections { length sections.now ≤ 256 }
-    requires few_boards { length boards.now ≤ 256 }
+fn numbered_section(sections: &Names, boards: &Names, kind: &KindDraft) -> Section
     ensures { result ≡ numbered_section sections.now boards.now kind.now }
 {
     match kind {
@@ -144,10 +119,10 @@ fn numbered_section(sections: &Row<Text>, boards: &Row<Text>, kind: &KindDraft) 
             board_down,
             board_up,
         } => Section::Linear {
-            down: number_if_named(sections, down),
-            up: number_if_named(sections, up),
-            board_down: number_if_named(boards, board_down),
-            board_up: number_if_named(boards, board_up),
+            down: sections.number_if_named(down),
+            up: sections.number_if_named(up),
+            board_down: boards.number_if_named(board_down),
+            board_up: boards.number_if_named(board_up),
         },
         KindDraft::Point {
             stem,
@@ -155,9 +130,9 @@ fn numbered_section(sections: &Row<Text>, boards: &Row<Text>, kind: &KindDraft) 
             minus,
             faces,
         } => Section::Point {
-            stem: number_of(sections, stem),
-            plus: number_of(sections, plus),
-            minus: number_of(sections, minus),
+            stem: sections.number_of(stem),
+            plus: sections.number_of(plus),
+            minus: sections.number_of(minus),
             faces: *faces,
         },
     }
@@ -166,12 +141,10 @@ fn numbered_section(sections: &Row<Text>, boards: &Row<Text>, kind: &KindDraft) 
 /// The sections with numbers for names.
 pub fn numbered_sections(
     alloc: Global,
-    section_names: &Row<Text>,
-    board_names: &Row<Text>,
+    section_names: &Names,
+    board_names: &Names,
     sections: &Row<SectionDraft>,
 ) -> Result<Row<Section>, AllocError>
-    requires few_sections { length section_names.now ≤ 256 }
-    requires few_boards { length board_names.now ≤ 256 }
     ensures { IfOk result
         (λ made. made ≡ map (λ section. numbered_section section_names.now board_names.now section.kind) sections.now) }
 {
@@ -185,16 +158,15 @@ pub fn numbered_sections(
 // The listed points with numbers for names.
 fn numbered_points(
     alloc: Global,
-    section_names: &Row<Text>,
+    section_names: &Names,
     points: &Row<ListedDraft>,
 ) -> Result<Row<Listed>, AllocError>
-    requires { length section_names.now ≤ 256 }
     ensures { IfOk result (λ made. made ≡ map (numbered_point section_names.now) points.now) }
 {
     let mut made = Row::new(alloc);
     for listed in points.as_slice() {
         made.push(Listed {
-            point: number_of(section_names, &listed.point),
+            point: section_names.number_of(&listed.point),
             at: listed.at,
         })?;
     }
@@ -204,20 +176,17 @@ fn numbered_points(
 // A route with numbers for names.
 fn numbered_route(
     alloc: Global,
-    section_names: &Row<Text>,
-    board_names: &Row<Text>,
-    route_names: &Row<Text>,
+    section_names: &Names,
+    board_names: &Names,
+    route_names: &Names,
     route: &RouteDraft,
 ) -> Result<Route, AllocError>
-    requires few_sections { length section_names.now ≤ 256 }
-    requires few_boards { length board_names.now ≤ 256 }
-    requires few_routes { length route_names.now ≤ 256 }
     ensures { IfOk result
         (λ made. made ≡ numbered_route section_names.now board_names.now route_names.now route.now) }
 {
     Ok(Route {
-        source: number_of(board_names, &route.source),
-        destination: number_if_named(board_names, &route.destination),
+        source: board_names.number_of(&route.source),
+        destination: board_names.number_if_named(&route.destination),
         path: numbers_of(alloc, section_names, &route.path)?,
         overlap: numbers_of(alloc, section_names, &route.overlap)?,
         points: numbered_points(alloc, section_names, &route.points)?,
@@ -228,14 +197,11 @@ fn numbered_route(
 /// The routes with numbers for names.
 pub fn numbered_routes(
     alloc: Global,
-    section_names: &Row<Text>,
-    board_names: &Row<Text>,
-    route_names: &Row<Text>,
+    section_names: &Names,
+    board_names: &Names,
+    route_names: &Names,
     routes: &Row<RouteDraft>,
 ) -> Result<Row<Route>, AllocError>
-    requires few_sections { length section_names.now ≤ 256 }
-    requires few_boards { length board_names.now ≤ 256 }
-    requires few_routes { length route_names.now ≤ 256 }
     ensures { IfOk result
         (λ made. made ≡ map (numbered_route section_names.now board_names.now route_names.now) routes.now) }
 {

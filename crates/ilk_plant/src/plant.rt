@@ -3,7 +3,7 @@ ghost use Rattle.ilk_plant.specs.Network.{is_point};
 ghost use Rattle.ilk_plant.specs.Sound.{IsOfDrafts, IsSound, NeverReturns};
 ghost use Rattle.ilk_plant.specs.Plant.{IsPlant, IsRouteOf, board_of, border, first_named, next_to, point_count, point_number};
 
-use crate::{Board, Dir, Route, Row, Section, Text};
+use crate::{Board, Dir, Names, Numbered, Route, Row, Section};
 use std::marker::Model;
 
 /// A plant: its sections, boards and routes by number from 0, with their names.
@@ -17,9 +17,9 @@ pub struct Plant {
     sections: Row<Section>,
     boards: Row<Board>,
     routes: Row<Route>,
-    section_names: Row<Text>,
-    board_names: Row<Text>,
-    route_names: Row<Text>,
+    section_names: Names,
+    board_names: Names,
+    route_names: Names,
 }
 
 impl Model for Plant {
@@ -47,55 +47,20 @@ impl Model for Plant {
     }) };
 }
 
-/// The first place at which the names have this one.
-pub(crate) fn place_of(names: &Row<Text>, name: &str) -> Option<usize>
-    ensures { result ≡ first_named names.now name.now }
-{
-    names
-        .as_slice()
-        .iter()
-        .position(|other| name == other.as_str())
-}
-
-// The number for which a name stands. None where nothing has it.
-fn number_named(names: &Row<Text>, name: &str) -> Option<u32>
-    requires { length names.now ≤ 256 }
-    ensures number { result ≡ first_named names.now name.now }
-    ensures known { IfSome result (λ n. n < length names.now) }
-{
-    match place_of(names, name) {
-        Some(i) => Some(i as u32),
-        None => None,
-    }
-}
-
 impl Plant {
-    /// The plant of these lists.
-    pub(crate) fn of_lists(
-        sections: Row<Section>,
-        boards: Row<Board>,
-        routes: Row<Route>,
-        section_names: Row<Text>,
-        board_names: Row<Text>,
-        route_names: Row<Text>,
-    ) -> Plant
-        requires { IsSound (record {
-          sections = sections;
-          boards = boards;
-          routes = routes;
-          section_names = section_names;
-          board_names = board_names;
-          route_names = route_names;
-        }) }
-        ensures { result ≡ record {
-          sections = sections;
-          boards = boards;
-          routes = routes;
-          section_names = section_names;
-          board_names = board_names;
-          route_names = route_names;
-        } }
+    /// The plant of a numbered network and table.
+    pub(crate) fn of_numbered(numbered: Numbered) -> Plant
+        requires { IsSound numbered }
+        ensures { result ≡ numbered }
     {
+        let Numbered {
+            sections,
+            boards,
+            routes,
+            section_names,
+            board_names,
+            route_names,
+        } = numbered;
         Plant {
             sections,
             boards,
@@ -243,7 +208,7 @@ impl Plant {
         ensures known { IfSome result (λ x. x < length self.now.sections) }
     {
         let _ = &self.sections;
-        number_named(&self.section_names, name)
+        self.section_names.number(name)
     }
 
     /// The number of the board with this name. None exactly where no board has it.
@@ -252,7 +217,7 @@ impl Plant {
         ensures known { IfSome result (λ m. m < length self.now.boards) }
     {
         let _ = &self.sections;
-        number_named(&self.board_names, name)
+        self.board_names.number(name)
     }
 
     /// The number of the route with this name. None exactly where no route has it.
@@ -261,7 +226,7 @@ impl Plant {
         ensures known { IfSome result (λ r. r < length self.now.routes) }
     {
         let _ = &self.sections;
-        number_named(&self.route_names, name)
+        self.route_names.number(name)
     }
 
     /// The name of section `x`.
@@ -270,7 +235,7 @@ impl Plant {
         ensures { slice_get self.now.section_names x ≡ Some result.now }
     {
         let _ = &self.sections;
-        self.section_names.at(x as u64).as_str()
+        self.section_names.name(x).as_str()
     }
 
     /// The name of board `m`.
@@ -279,7 +244,7 @@ impl Plant {
         ensures { slice_get self.now.board_names m ≡ Some result.now }
     {
         let _ = &self.sections;
-        self.board_names.at(m as u64).as_str()
+        self.board_names.name(m).as_str()
     }
 
     /// The name of route `r`.
@@ -288,6 +253,6 @@ impl Plant {
         ensures { slice_get self.now.route_names r ≡ Some result.now }
     {
         let _ = &self.sections;
-        self.route_names.at(r as u64).as_str()
+        self.route_names.name(r).as_str()
     }
 }

@@ -46,7 +46,8 @@ impl Plant {
     {
         match train.body.as_slice() {
             [] => false,
-            [first, rest @ ..] => *first < self.sections() && self.leads_on(train.dir, *first, rest),
+            [first, rest @ ..] => *first < self.sections()
+                && self.leads_on(train.dir, *first, rest),
         }
     }
 

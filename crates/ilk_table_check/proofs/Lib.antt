@@ -1,4 +1,2 @@
 mod Examples
 pub mod Growth
-pub mod NumberedLists
-pub mod Positions

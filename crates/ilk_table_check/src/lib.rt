@@ -4,9 +4,6 @@
 
 mod columns;
 mod listing;
-mod names;
-mod numbered;
-mod numbering;
 mod table;
 #[cfg(test)]
 mod tests;

@@ -7,8 +7,7 @@ ghost use Rattle.ilk_plant.specs.TableRules.{has_conflicts_once, has_destination
 ghost use Rattle.ilk_table_check.specs.Table.{breaks_table};
 
 use crate::listing::push_if;
-use crate::numbered::Numbered;
-use ilk_plant::{Broken, Listed, NetDraft, Route, Row, Rule, TableDraft};
+use ilk_plant::{Broken, Listed, NetDraft, Numbered, Route, Row, Rule, TableDraft};
 use std::alloc::{AllocError, Global};
 
 // Whether the numbers have this one.

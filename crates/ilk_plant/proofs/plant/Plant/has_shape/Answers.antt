@@ -9,8 +9,7 @@ returns-then-not-counts_fit c =
 pub returns : goal.returns
 returns c =
     let lengths : c.has_lengths.result ≡ true = search rules in
-    let counts : c.counts_fit.result ≡ true = search rules in
-    (
+    let counts : c.counts_fit.result ≡ true = search rules in (
       λ h. shape-true c.args.self.now c.args.s.now (c.has_lengths.ensures.0 lengths) (sym c.counts_fit.ensures ∙ counts) (sym c.has_bodies.ensures ∙ h),
       λ shape. c.has_bodies.ensures ∙ (shape-tests c.args.self.now c.args.s.now shape).2,
     )

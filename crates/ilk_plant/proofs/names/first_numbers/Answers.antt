@@ -2,9 +2,9 @@ use Rattle.std.proofs.Common.{◌≡◌, ℕ, ◌<◌, true, false, List, Option
 use Rattle.std.proofs.lemmas.Map.Text.{hash_map_updates_text}
 use Rattle.std.proofs.lemmas.Option.{slice_get_read}
 use Rattle.indexmap.specs.IndexMap.{get_by_text}
-use Rattle.ilk_table_check.proofs.Positions.{after-known, after-new}
-use Rattle.ilk_table_check.proofs.names.first_numbers.Goals as goal
-use Rattle.ilk_table_check.proofs.names.first_numbers.Goals.{then-not-is_known+in_ok-from_str+in_ok-insert, else-not-is_known}
+use Rattle.ilk_plant.proofs.Positions.{after-known, after-new}
+use Rattle.ilk_plant.proofs.names.first_numbers.Goals as goal
+use Rattle.ilk_plant.proofs.names.first_numbers.Goals.{then-not-is_known+in_ok-from_str+in_ok-insert, else-not-is_known}
 
 pub loop-i-preserved : goal.loop-i-preserved
 loop-i-preserved c =

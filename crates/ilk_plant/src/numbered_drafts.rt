@@ -6,7 +6,7 @@ use crate::names::Names;
 use crate::numbering::{
     named_boards, numbered_routes, numbered_sections, route_names, section_names,
 };
-use ilk_plant::{Board, NetDraft, Route, Row, Section, TableDraft};
+use crate::{Board, NetDraft, Route, Row, Section, TableDraft};
 use std::alloc::{AllocError, Global};
 use std::marker::Model;
 
@@ -14,12 +14,12 @@ use std::marker::Model;
 /// known to hold. A name that nothing has is numbered with the count.
 #[derive(Drop)]
 pub struct Numbered {
-    sections: Row<Section>,
-    boards: Row<Board>,
-    routes: Row<Route>,
-    section_names: Names,
-    board_names: Names,
-    route_names: Names,
+    pub(crate) sections: Row<Section>,
+    pub(crate) boards: Row<Board>,
+    pub(crate) routes: Row<Route>,
+    pub(crate) section_names: Names,
+    pub(crate) board_names: Names,
+    pub(crate) route_names: Names,
 }
 
 impl Model for Numbered {

@@ -1,10 +1,10 @@
-ghost use Rattle.std.specs.Prelude.{◌≡◌, ◌<◌, ◌≤◌, IfOk, Some, length, option_map, slice_get};
+ghost use Rattle.std.specs.Prelude.{◌≡◌, ◌<◌, ◌≤◌, IfOk, IfSome, Some, length, option_map, slice_get};
 ghost use Rattle.ilk_plant.specs.Draft.{number_of};
 ghost use Rattle.ilk_plant.specs.Plant.{first_named};
 ghost use Rattle.ilk_plant.specs.TableRules.{is_named_before};
-ghost use Rattle.ilk_table_check.specs.Names.{IsIndexOf};
+ghost use Rattle.ilk_plant.specs.Names.{IsIndexOf};
 
-use ilk_plant::{Row, Text};
+use crate::{Row, Text};
 use indexmap::IndexMap;
 use std::alloc::{AllocError, Global};
 use std::marker::Model;
@@ -18,7 +18,7 @@ pub struct Names {
 
 impl Model for Names {
     ghost use Rattle.std.specs.Prelude.{ℕ, List, ◌≤◌, length};
-    ghost use Rattle.ilk_table_check.specs.Names.{IsIndexOf};
+    ghost use Rattle.ilk_plant.specs.Names.{IsIndexOf};
 
     ghost Value = { List (List ℕ) };
 
@@ -60,26 +60,37 @@ impl Names {
         self.names.len() as u32
     }
 
-    // Name `i`.
-    fn name(&self, i: u32) -> &Text
+    /// Name `i`.
+    pub fn name(&self, i: u32) -> &Text
         requires { i < length self.now }
         ensures { slice_get self.now i ≡ Some result.now }
     {
         self.names.at(i as u64)
     }
 
-    /// The first number that has the name. None where nothing has it.
-    pub fn number(&self, name: &Text) -> Option<u32>
+    // The number that the index has for the name.
+    fn indexed(&self, name: &str) -> Option<u32>
         ensures { result ≡ first_named self.now name.now }
     {
-        self.numbers.get(name.as_str()).copied()
+        self.numbers.get(name).copied()
+    }
+
+    /// The first number that has the name. None where nothing has it.
+    pub fn number(&self, name: &str) -> Option<u32>
+        ensures number { result ≡ first_named self.now name.now }
+        ensures known { IfSome result (λ n. n < length self.now) }
+    {
+        match self.indexed(name) {
+            Some(n) => Some(n),
+            None => None,
+        }
     }
 
     /// The number for which a name stands; the count of the names, where nothing has it.
     pub fn number_of(&self, name: &Text) -> u32
         ensures { result ≡ number_of self.now name.now }
     {
-        match self.number(name) {
+        match self.number(name.as_str()) {
             Some(n) => n,
             None => self.len(),
         }
@@ -100,7 +111,7 @@ impl Names {
         requires { i < length self.now }
         ensures { result ≡ is_named_before self.now i }
     {
-        match self.number(self.name(i)) {
+        match self.number(self.name(i).as_str()) {
             Some(first) => first < i,
             None => false,
         }

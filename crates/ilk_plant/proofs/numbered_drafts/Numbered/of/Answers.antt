@@ -1,6 +1,6 @@
 use Rattle.std.proofs.Common.{◌∙◌}
-use Rattle.ilk_table_check.proofs.NumberedLists.{numbered-lists}
-use Rattle.ilk_table_check.proofs.numbered.Numbered.of.Goals as goal
+use Rattle.ilk_plant.proofs.NumberedLists.{numbered-lists}
+use Rattle.ilk_plant.proofs.numbered_drafts.Numbered.of.Goals as goal
 
 pub returns : goal.returns
 returns c =
