@@ -10,3 +10,5 @@ pub mod Shape
 pub mod StartedBack
 pub mod Written
 pub mod WrittenRun
+pub mod StateBack
+pub mod WholeBack

@@ -25,15 +25,15 @@ use Rattle.ilk_replay.proofs.Parts.{lines_cut}
 same_byte : (c : ℕ) → (c == c) ≡ true
 same_byte c = grind (arith, nat_tests)
 
-or_none : (b c : Bool) → (b || c) ≡ false → (b ≡ false) × (c ≡ false)
+pub or_none : (b c : Bool) → (b || c) ≡ false → (b ≡ false) × (c ≡ false)
 or_none true c h = cc
 or_none false c h = (refl, h)
 
-both_none : (b c : Bool) → b ≡ false → c ≡ false → (b || c) ≡ false
+pub both_none : (b c : Bool) → b ≡ false → c ≡ false → (b || c) ≡ false
 both_none b c e f = rw (e, f) refl
 
 -- a part that lacks the byte, and then the byte, is the first part
-part_first : (c : ℕ) (line rest : Bytes) → Lacks c line → parts_at c (line ++ c ∷ rest) ≡ line ∷ parts_at c rest
+pub part_first : (c : ℕ) (line rest : Bytes) → Lacks c line → parts_at c (line ++ c ∷ rest) ≡ line ∷ parts_at c rest
 part_first c [] rest lacks = rw (same_byte c) refl
 part_first c (x ∷ line) rest lacks =
     let parts = or_none (x == c) (list_any (λ b. b == c) line) lacks in

@@ -62,7 +62,7 @@ value_at value [] lines i v e = cc
 value_at value (x ∷ items) [] i v e = cc
 value_at value (x ∷ items) (line ∷ lines) i v e = value_first value x items line (values_left value items lines) (value x line) refl (λ j w. value_at value items lines j w) i v e
 
-range_get : (a n i x : ℕ) → slice_get (range_with_len a n) i ≡ Some x → x ≡ a + i
+pub range_get : (a n i x : ℕ) → slice_get (range_with_len a n) i ≡ Some x → x ≡ a + i
 range_get a zero i x e = cc
 range_get a (suc n) zero x e = let same : a ≡ x = cc in omega arith
 range_get a (suc n) (suc i) x e = let rest = range_get (a + 1) n i x e in omega arith
@@ -134,7 +134,7 @@ is_point_found None = false
 is_point_found (Some section) = is_point section
 
 -- as many sections are point sections as there are points
-point_sections-length : (p : PlantLists) → length (point_sections p) ≡ point_count p
+pub point_sections-length : (p : PlantLists) → length (point_sections p) ≡ point_count p
 point_sections-length p = filter_length (is_point_at p) p.sections 0 (λ k s at. ap (is_point_at p) (zero-add k) ∙ ap is_point_found at) ∙ length-filter is_point p.sections
 
 leads_each : (p : PlantLists) (d : Dir) (x : ℕ) (rest : List ℕ) → leads_on p d (x ∷ rest) ≡ true → LeadsOn p d x rest

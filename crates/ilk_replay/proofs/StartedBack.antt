@@ -16,7 +16,7 @@ use Rattle.ilk_replay.specs.declared.told.Tale.TheVariants.{Told as IsTold}
 use Rattle.ilk_replay.proofs.WrittenRun.{answered}
 use Rattle.ilk_replay.proofs.ReadBack.{event_back, lines_back}
 
-name_lacks : (c : ℕ) (names : List Bytes) (i : ℕ) → All (Lacks c) names → Lacks c (name_of names i)
+pub name_lacks : (c : ℕ) (names : List Bytes) (i : ℕ) → All (Lacks c) names → Lacks c (name_of names i)
 name_lacks c names i plain = by_place (slice_get names i) refl
   where
     by_place : (o : Option Bytes) → slice_get names i ≡ o → Lacks c (unwrap_or o [])
@@ -37,14 +37,14 @@ event_line-plain p plain (Head x) = name_lacks 10 p.section_names x plain.sectio
 event_line-plain p plain (Tail x) = name_lacks 10 p.section_names x plain.sections
 event_line-plain p plain (Leave x) = name_lacks 10 p.section_names x plain.sections
 
-one_more : {X : Type 0} (P : X → Type 0) (x : X) (xs : List X) → P x → All P xs → All P (x ∷ xs)
+pub one_more : {X : Type 0} (P : X → Type 0) (x : X) (xs : List X) → P x → All P xs → All P (x ∷ xs)
 one_more P x xs first rest zero d h = first
 one_more P x xs first rest (suc k) d h = rest k d (omega arith)
 
-none_at_all : {X : Type 0} (P : X → Type 0) → All P []
+pub none_at_all : {X : Type 0} (P : X → Type 0) → All P []
 none_at_all P k d h = absurd (omega arith)
 
-event_lines-plain : (p : PlantLists) → HasPlainNames p → (events : List Event) → All (Lacks 10) (map (event_line p) events ++ codes "end" ∷ [])
+pub event_lines-plain : (p : PlantLists) → HasPlainNames p → (events : List Event) → All (Lacks 10) (map (event_line p) events ++ codes "end" ∷ [])
 event_lines-plain p plain [] = one_more (Lacks 10) (codes "end") [] refl (none_at_all (Lacks 10))
 event_lines-plain p plain (event ∷ events) = one_more (Lacks 10) (event_line p event) (map (event_line p) events ++ codes "end" ∷ []) (event_line-plain p plain event) (event_lines-plain p plain events)
 
@@ -58,7 +58,7 @@ drop_back : (p : PlantLists) (events : List Event) → drop (length events) (map
 drop_back p [] = refl
 drop_back p (event ∷ events) = drop_back p events
 
-events_back : (p : PlantLists) → IsPlant p → (n : ℕ) (events : List Event) → All (IsAbout p) events → events_told p n (map (event_line p) events ++ codes "end" ∷ []) [] ≡ Ok events
+pub events_back : (p : PlantLists) → IsPlant p → (n : ℕ) (events : List Event) → All (IsAbout p) events → events_told p n (map (event_line p) events ++ codes "end" ∷ []) [] ≡ Ok events
 events_back p plant n events about =
     let lines : List Bytes = map (event_line p) events ++ codes "end" ∷ [] in
     ap (λ (es : List Event). after_line (codes "end") (n + length es) (drop (length es) lines) >>= (λ more. at_the_end es (n + length es + 1) more [])) (leading_back p plant events about)

@@ -170,7 +170,7 @@ event_of-line p line event e =
     let a = bind_some (first_word line) _ event e in
     first_word-joins line a.0.0 a.0.1 a.1 ∙ event_told-line p a.0.0 a.0.1 event a.2
 
-digits_same : (word : Bytes) → list_all is_ascii_digit word ≡ all_ascii_digits word
+pub digits_same : (word : Bytes) → list_all is_ascii_digit word ≡ all_ascii_digits word
 digits_same [] = refl
 digits_same (b ∷ word) = ap (λ t. is_ascii_digit b && t) (digits_same word)
 

@@ -180,7 +180,7 @@ after_line-joins wanted n (line ∷ lines) more e = by_test (bytes_eq line wante
     by_test true same that = ap (λ l. l ∷ lines) ((bytes_eq-Decides line wanted).0 same) ∙ ap (λ ls. wanted ∷ ls) (ok_is that)
     by_test false differs that = cc
 
-regroup : (a b c d e f : List Bytes) → a ++ (b ++ (c ++ (d ++ (e ++ f)))) ≡ ((((a ++ b) ++ c) ++ d) ++ e) ++ f
+pub regroup : (a b c d e f : List Bytes) → a ++ (b ++ (c ++ (d ++ (e ++ f)))) ≡ ((((a ++ b) ++ c) ++ d) ++ e) ++ f
 regroup a b c d e f = sym (simp append_assoc)
 
 in_a_row : (l0 l1 l2 l3 l4 l5 a b c d e f : List Bytes) → l0 ≡ a ++ l1 → l1 ≡ b ++ l2 → l2 ≡ c ++ l3 → l3 ≡ d ++ l4 → l4 ≡ e ++ l5 → l5 ≡ f → l0 ≡ ((((a ++ b) ++ c) ++ d) ++ e) ++ f
@@ -188,7 +188,7 @@ in_a_row l0 l1 l2 l3 l4 l5 a b c d e f h0 h1 h2 h3 h4 h5 =
     h0 ∙ ap (λ ls. a ++ ls) (h1 ∙ ap (λ ls. b ++ ls) (h2 ∙ ap (λ ls. c ++ ls) (h3 ∙ ap (λ ls. d ++ ls) (h4 ∙ ap (λ ls. e ++ ls) h5)))) ∙ regroup a b c d e f
 
 -- the state that these parts make, and the lines after it
-abbrev made : List RouteState → List PointState → List Aspect → List Hold → List Train → ℕ → List Bytes → Beginning
+abbrev pub made : List RouteState → List PointState → List Aspect → List Hold → List Train → ℕ → List Bytes → Beginning
 made routes points boards locks trains number lines = record {
   first = record { routes = routes; points = points; boards = boards; locks = locks; trains = trains };
   from_start = false;

@@ -3,6 +3,7 @@ use Rattle.std.specs.Prelude.{ℕ, ◌≡◌, ◌<◌, ◌==◌, true, false, Al
 use Rattle.std.specs.List.{list_any}
 use Rattle.ilk_plant.specs.Plant.{PlantLists}
 use Rattle.ilk_plant.specs.Start.{start}
+use Rattle.ilk_plant.specs.declared.state.State.{State}
 use Rattle.ilk_model.specs.declared.event.Event.{Event}
 use Rattle.ilk_model.specs.declared.event.Event.TheVariants.{Mark, Allocate, Lock, Sense, Release, Finish, Throw, Settle, Enter, Head, Tail, Leave}
 use Rattle.ilk_replay.specs.Lines.{Bytes}
@@ -38,3 +39,7 @@ IsAbout p (Leave x) = x < length p.sections
 -- the run of these events from the start
 abbrev pub started : PlantLists → List Event → Told
 started p events = record { first = start p; from_start = true; events = events }
+
+-- the run of these events from this state, which the text tells
+abbrev pub resumed : State → List Event → Told
+resumed s events = record { first = s; from_start = false; events = events }
