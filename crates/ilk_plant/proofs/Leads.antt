@@ -1,11 +1,10 @@
 -- Steps lead from one section to another exactly where a walk of any length does.
-use Rattle.std.proofs.Common.{◌≡◌, ℕ, zero, suc, ◌<◌, ◌+◌, Bool, true, false, ◌&&◌, ◌||◌, not, ◌==◌, Option, Some, None, List, [], ◌∷◌, ◌++◌, length, map, take, slice_get, bytes_eq, position, IsTrue, ◌⊎◌, inl, inr, refl, sym, ◌∙◌, ap, subst, arith}
+use Rattle.std.proofs.Common.{◌≡◌, ℕ, zero, suc, ◌<◌, Bool, true, false, ◌&&◌, ◌||◌, ◌==◌, Option, Some, None, List, [], ◌∷◌, ◌++◌, length, bytes_eq, IsTrue, ◌⊎◌, inl, inr, refl, subst, arith}
 use Rattle.std.specs.Prelude.{◌↔◌}
-use Rattle.std.specs.List.{list_any, last_or, prefix_len}
+use Rattle.std.specs.List.{list_any, last_or}
 use Rattle.std.proofs.lemmas.List.{length-map}
 use Rattle.std.proofs.lemmas.List.Quantifiers.{position-Some}
 use Rattle.std.proofs.lemmas.Bool.Decides.{nat_tests}
-use Rattle.std.proofs.lemmas.Grind.{common_steps}
 use Rattle.ilk_plant.proofs.KnownNames.{both}
 use Rattle.ilk_plant.specs.Draft.{Name, names_of_sections}
 use Rattle.ilk_plant.specs.NetworkRules.{End, IsWalkUp, LeadsUp, Returns, ends_of, is_next_up, is_some_and, leads_by, names_section, returns, section_named}

@@ -1,11 +1,10 @@
 -- The shape of states as a test, and as facts.
-use Rattle.std.proofs.Common.{◌≡◌, ℕ, zero, suc, ◌≤◌, ◌<◌, Bool, true, false, ◌&&◌, Some, List, [], ◌∷◌, All, length, nat_le, nat_lt, slice_get, zip, IsTrue, ◌↔◌, refl, arith}
+use Rattle.std.proofs.Common.{◌≡◌, ℕ, zero, suc, ◌<◌, true, Some, List, [], ◌∷◌, length, nat_le, nat_lt, slice_get, zip, refl, arith}
 use Rattle.std.specs.List.{AllByRecursion, list_all}
 use Rattle.std.proofs.lemmas.Bool.Decides.{nat_tests}
 use Rattle.std.proofs.lemmas.List.Elements.{All-from_recursion, recursion_from_All}
 use Rattle.ilk_plant.proofs.KnownNames.{both}
-use Rattle.ilk_plant.specs.Network.{has_section}
-use Rattle.ilk_plant.specs.Plant.{PlantLists, next_to}
+use Rattle.ilk_plant.specs.Plant.{PlantLists}
 use Rattle.ilk_plant.specs.Shape.{HasLengths, is_body, is_within, leads_on}
 use Rattle.ilk_plant.specs.State.{HasShape, IsBody, IsWithin, LeadsOn}
 use Rattle.ilk_plant.specs.declared.network.Dir.{Dir}

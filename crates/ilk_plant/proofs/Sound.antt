@@ -1,5 +1,5 @@
 -- Drafts within the limits that break no rule give a plant.
-use Rattle.std.proofs.Common.{◌≡◌, List, length, map, refl, sym, ◌∙◌, subst, arith, []}
+use Rattle.std.proofs.Common.{◌≡◌, length, refl, sym, ◌∙◌, subst, arith, []}
 use Rattle.std.proofs.lemmas.List.{length-map}
 use Rattle.ilk_plant.proofs.Boards.{boards-agree, boards-lead, boards-numbered, few-boards}
 use Rattle.ilk_plant.proofs.Neighbours.{next-back, next-known, next-once, next-other, next-some}
@@ -8,7 +8,7 @@ use Rattle.ilk_plant.proofs.Once.{none_twice-once}
 use Rattle.ilk_plant.proofs.RoutesOf.{conflicts-other, route-known}
 use Rattle.ilk_plant.proofs.Rules.{network_rules-kept, table_rules-kept}
 use Rattle.ilk_plant.proofs.Walks.{never-returns}
-use Rattle.ilk_plant.specs.Draft.{Name, boards_from, names_of_boards, names_of_routes, names_of_sections, numbered, numbered_route, numbered_section}
+use Rattle.ilk_plant.specs.Draft.{boards_from, names_of_boards, names_of_routes, names_of_sections, numbered, numbered_route, numbered_section}
 use Rattle.ilk_plant.specs.Plant.{EachOnce, IsPlant, PlantLists}
 use Rattle.ilk_plant.specs.declared.network.Dir.TheVariants.{Up, Down}
 use Rattle.ilk_plant.specs.Sound.{AreSound, IsOfDrafts, IsSound}

@@ -1,7 +1,6 @@
 -- No walk over the plant in one direction comes to a section twice.
 use Rattle.std.proofs.Common.{◌≡◌, ℕ, ◌<◌, Bool, true, false, ◌&&◌, ◌==◌, inl, inr, not, Some, List, [], ◌∷◌, length, slice_get, refl, sym, ◌∙◌, ap, arith}
 use Rattle.std.specs.Cmp.Derive.{both_true}
-use Rattle.std.specs.List.{list_any}
 use Rattle.std.proofs.lemmas.Bool.{eqb-true, eq-eqb}
 use Rattle.std.proofs.lemmas.List.{length-map}
 use Rattle.ilk_plant.proofs.Leads.{leads-step, leads-through, either}
