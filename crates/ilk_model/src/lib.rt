@@ -6,3 +6,4 @@ mod hazards;
 
 pub use event::{Event, apply};
 pub use hazards::{HazardAt, hazard};
+pub use ilk_plant::start_state as start;
