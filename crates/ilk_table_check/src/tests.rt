@@ -1,6 +1,6 @@
 //! What no clause says: that the check of a table succeeds where memory is there.
 ghost use Rattle.std.specs.Prelude.{◌≡◌, IfOk, length};
-ghost use Rattle.ilk_plant.specs.TableRules.{HasRouteLimits};
+ghost use Rattle.ilk_plant.specs.Limits.{RouteHasLimits};
 
 use crate::check_table;
 use ilk_plant::{
@@ -49,7 +49,7 @@ fn route(
     section: &str,
     conflict: &str,
 ) -> Result<RouteDraft, AllocError>
-    ensures { IfOk result HasRouteLimits }
+    ensures { IfOk result RouteHasLimits }
 {
     Ok(RouteDraft {
         name: text(alloc, "r")?,
