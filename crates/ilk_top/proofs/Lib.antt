@@ -1,1 +1,2 @@
+pub mod CheckReplies
 pub mod Statuses
