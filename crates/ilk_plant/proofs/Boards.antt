@@ -10,7 +10,8 @@ use Rattle.ilk_plant.proofs.Rows.{at-before, at-past}
 use Rattle.ilk_plant.proofs.Rules.{KeepsNetworkRules}
 use Rattle.ilk_plant.proofs.Tests.{map-at}
 use Rattle.ilk_plant.proofs.KnownNames.{board_on-known, boards_known, both, is_known, list_all-slice_get, list_all-weaken}
-use Rattle.ilk_plant.specs.Draft.{Name, NamedBoard, board_named, boards_from, boards_on, names_of_boards, names_of_sections, number_of, numbered, numbered_section}
+use Rattle.ilk_plant.specs.Draft.{NamedBoard, board_named, boards_from, boards_on, names_of_boards, names_of_sections, number_of, numbered, numbered_section}
+use Rattle.ilk_plant.specs.Name.{Name}
 use Rattle.ilk_plant.specs.Network.{beside, board_on}
 use Rattle.ilk_plant.specs.NetworkRules.{has_board_at_end}
 use Rattle.ilk_plant.specs.NetworkRules.{has_no_board_at_end}

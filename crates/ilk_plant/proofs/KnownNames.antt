@@ -1,8 +1,10 @@
 -- What numbering makes of names that are among the names.
-use Rattle.std.proofs.Common.{◌≡◌, ℕ, zero, suc, ◌<◌, Bool, true, false, ◌&&◌, not, Option, Some, None, List, [], ◌∷◌, length, slice_get, bytes_eq, option_map, refl, arith}
+use Rattle.std.proofs.Common.{◌≡◌, ℕ, zero, suc, ◌<◌, Bool, true, false, ◌&&◌, not, Option, Some, None, List, [], ◌∷◌, All, length, slice_get, bytes_eq, option_map, refl, arith}
 use Rattle.std.specs.List.{list_any, list_all, prefix_len}
 use Rattle.std.proofs.lemmas.Bool.Decides.{nat_tests}
-use Rattle.ilk_plant.specs.Draft.{Name, number_of, numbered_section}
+use Rattle.std.proofs.lemmas.List.Elements.{All-nil, All-cons}
+use Rattle.ilk_plant.specs.Draft.{number_of, numbered_section}
+use Rattle.ilk_plant.specs.Name.{Name}
 use Rattle.ilk_plant.specs.Network.{board_on}
 use Rattle.ilk_plant.specs.declared.network.Dir.{Dir}
 use Rattle.ilk_plant.specs.declared.network.Dir.TheVariants.{Up, Down}
@@ -34,6 +36,13 @@ pub list_all-weaken : {X : Type 0} (p q : X → Bool) → ((x : X) → p x ≡ t
 list_all-weaken p q f [] h = refl
 list_all-weaken p q f (x ∷ xs) h =
     let parts = both (p x) (list_all p xs) h in rw (f x parts.0) (list_all-weaken p q f xs parts.1)
+
+-- what follows from a test that all items pass
+pub All-tested : {X : Type 0} (test : X → Bool) (P : X → Type 0) → ((x : X) → test x ≡ true → P x) → (xs : List X) → list_all test xs ≡ true → All P xs
+All-tested test P f [] h = All-nil P
+All-tested test P f (x ∷ xs) h =
+    let parts = both (test x) (list_all test xs) h in
+    All-cons P x xs (f x parts.0) (All-tested test P f xs parts.1)
 
 -- what all items pass, item i passes
 pub list_all-slice_get : {X : Type 0} (p : X → Bool) (xs : List X) (i : ℕ) (x : X) → list_all p xs ≡ true → slice_get xs i ≡ Some x → p x ≡ true

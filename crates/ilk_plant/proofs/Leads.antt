@@ -6,8 +6,10 @@ use Rattle.std.proofs.lemmas.List.{length-map}
 use Rattle.std.proofs.lemmas.List.Quantifiers.{position-Some}
 use Rattle.std.proofs.lemmas.Bool.Decides.{nat_tests}
 use Rattle.ilk_plant.proofs.KnownNames.{both}
-use Rattle.ilk_plant.specs.Draft.{Name, names_of_sections}
-use Rattle.ilk_plant.specs.NetworkRules.{End, IsWalkUp, LeadsUp, Returns, ends_of, is_next_up, is_some_and, leads_by, names_section, returns, section_named}
+use Rattle.ilk_plant.specs.Draft.{names_of_sections}
+use Rattle.ilk_plant.specs.Name.{Name}
+use Rattle.ilk_plant.specs.Option.{is_some_and}
+use Rattle.ilk_plant.specs.NetworkRules.{End, IsWalkUp, LeadsUp, Returns, ends_of, is_next_up, leads_by, names_section, returns, section_named}
 use Rattle.ilk_plant.specs.Network.{same_direction}
 use Rattle.ilk_plant.specs.declared.draft.NetDraft.{NetDraft}
 use Rattle.ilk_plant.specs.declared.network.Dir.TheVariants.{Up}

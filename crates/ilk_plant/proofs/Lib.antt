@@ -1,5 +1,7 @@
+pub mod AllowedNames
 pub mod Boards
 pub mod Counts
+pub mod Growth
 pub mod Leads
 pub mod NamesDiffer
 pub mod Neighbours
@@ -9,6 +11,7 @@ pub mod Once
 pub mod Options
 pub mod RoutesOf
 pub mod Rows
+pub mod PointNumbers
 pub mod Positions
 pub mod Rules
 pub mod Shapes

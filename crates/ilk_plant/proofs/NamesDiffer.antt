@@ -7,10 +7,9 @@ use Rattle.std.proofs.lemmas.Option.{slice_get-get_or, slice_get_within}
 use Rattle.std.proofs.lemmas.Slice.Eq.{bytes_eq-Decides}
 use Rattle.ilk_plant.proofs.KnownNames.{number_of-known}
 use Rattle.ilk_plant.proofs.Tests.{list_any-from, list_any-none}
-use Rattle.ilk_plant.specs.Draft.{Name, number_of}
-use Rattle.ilk_plant.specs.NetworkRules.{repeats_name}
+use Rattle.ilk_plant.specs.Draft.{is_named_before, number_of}
+use Rattle.ilk_plant.specs.Name.{Name}
 use Rattle.ilk_plant.specs.Plant.{EachOnce, first_named}
-use Rattle.ilk_plant.specs.TableRules.{is_named_before}
 
 -- a name that stands for a number is the name at that number
 pub first_named-at : (names : List Name) (name : Name) (z : ℕ) → first_named names name ≡ Some z → (z < length names) × (slice_get names z ≡ Some name)
@@ -65,12 +64,7 @@ names-once names kept i j name at also =
     by_order false true first second = absurd (earlier j i (grind (arith, nat_tests)) also at)
     by_order false false first second = grind (arith, nat_tests)
 
--- the same of names that the rules of the network test
-pub repeated-none : (names : List Name) → ((i : ℕ) → i < length names → repeats_name names i ≡ false) → EachOnce names
-repeated-none names kept =
-    names-once names (λ j name at. let none : list_any (bytes_eq name) (take j names) ≡ false = rw at at (kept j (slice_get_within names j name at)) in none)
-
--- and of those that the rules of the table test
+-- the same of names that the rules test
 pub named-once : (names : List Name) → ((i : ℕ) → i < length names → is_named_before names i ≡ false) → EachOnce names
 named-once names kept =
     names-once names (λ j name at. let none : list_any (bytes_eq name) (take j names) ≡ false = rw at at (kept j (slice_get_within names j name at)) in none)

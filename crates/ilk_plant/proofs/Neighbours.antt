@@ -10,9 +10,11 @@ use Rattle.ilk_plant.proofs.KnownNames.{both}
 use Rattle.ilk_plant.proofs.Once.{none_twice-turned}
 use Rattle.ilk_plant.proofs.Rules.{KeepsNetworkRules}
 use Rattle.ilk_plant.proofs.Tests.{list_any-at, list_any-from, list_any-none, map-at, not-true}
-use Rattle.ilk_plant.specs.Draft.{Name, names_of_boards, names_of_sections, number_of, numbered, numbered_section}
+use Rattle.ilk_plant.specs.Draft.{names_of_boards, names_of_sections, number_of, numbered, numbered_section}
+use Rattle.ilk_plant.specs.Name.{Name}
 use Rattle.ilk_plant.specs.Network.{beside, has_section, same_direction}
-use Rattle.ilk_plant.specs.NetworkRules.{End, ends, ends_of, has_no_neighbour, is_some_and, names_another, names_once, names_section, opposite, section_named, stands_alone}
+use Rattle.ilk_plant.specs.Option.{is_some_and}
+use Rattle.ilk_plant.specs.NetworkRules.{End, ends, ends_of, has_no_neighbour, names_another, names_once, names_section, opposite, section_named, stands_alone}
 use Rattle.ilk_plant.specs.NetworkRules.{all_differ}
 use Rattle.ilk_plant.specs.Plant.{first_named, next_to}
 use Rattle.ilk_plant.specs.TableRules.{none_twice}

@@ -1,6 +1,7 @@
 -- Lists that were numbered one by one are the numbered drafts.
 use Rattle.std.proofs.Common.{◌≡◌, List, map, refl}
-use Rattle.ilk_plant.specs.Draft.{Name, boards_from, names_of_boards, names_of_routes, names_of_sections, numbered, numbered_route, numbered_section}
+use Rattle.ilk_plant.specs.Draft.{boards_from, names_of_boards, names_of_routes, names_of_sections, numbered, numbered_route, numbered_section}
+use Rattle.ilk_plant.specs.Name.{Name}
 use Rattle.ilk_plant.specs.Plant.{PlantLists}
 use Rattle.ilk_plant.specs.declared.draft.NetDraft.{NetDraft}
 use Rattle.ilk_plant.specs.declared.draft.TableDraft.{TableDraft}

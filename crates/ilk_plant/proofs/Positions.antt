@@ -1,13 +1,14 @@
 -- The first position at which a test passes, when one more item is looked at.
-use Rattle.std.proofs.Common.{◌≡◌, ℕ, zero, suc, ◌<◌, ◌+◌, Bool, true, false, cond, ◌||◌, Option, Some, None, option_map, is_some, List, [], ◌∷◌, ◌++◌, length, take, slice_get, position, bytes_eq, refl, sym, ◌∙◌, ap, subst, arith, nat_lt, length-take}
+use Rattle.std.proofs.Common.{◌≡◌, ℕ, zero, suc, ◌<◌, ◌≤◌, ◌+◌, Bool, true, false, cond, ◌||◌, Option, Some, None, option_map, is_some, List, [], ◌∷◌, ◌++◌, length, take, slice_get, position, bytes_eq, refl, sym, ◌∙◌, ap, subst, arith, nat_lt, length-take}
 use Rattle.std.specs.List.{list_any, position_or_len}
 use Rattle.std.proofs.lemmas.Bool.Decides.{nat_tests}
 use Rattle.std.proofs.lemmas.Slice.Eq.{bytes_eq-Decides}
 use Rattle.std.proofs.lemmas.List.{take_more}
-use Rattle.std.proofs.lemmas.Option.{get_or_from_slice_get}
-use Rattle.ilk_plant.specs.Draft.{Name}
+use Rattle.std.proofs.lemmas.Option.{get_or_from_slice_get, slice_get_past}
+use Rattle.ilk_plant.specs.Name.{Name}
 use Rattle.ilk_plant.specs.Plant.{first_named}
-use Rattle.ilk_plant.specs.TableRules.{is_named_before, passes}
+use Rattle.ilk_plant.specs.Draft.{is_named_before}
+use Rattle.ilk_plant.specs.Option.{is_some_and}
 
 -- one more number for each
 lt-suc : (n m : ℕ) → nat_lt (1 + n) (suc m) ≡ nat_lt n m
@@ -28,12 +29,12 @@ position-cons p x xs = by_test (p x) refl
     by_test false e = rw e (later (position_or_len p xs) (length xs))
 
 -- whether the first position is below i is whether one of the first i passes
-pub position-below : {X : Type 0} (p : X → Bool) (xs : List X) (i : ℕ) → passes (λ k. nat_lt k i) (position p xs) ≡ list_any p (take i xs)
+pub position-below : {X : Type 0} (p : X → Bool) (xs : List X) (i : ℕ) → is_some_and (position p xs) (λ k. nat_lt k i) ≡ list_any p (take i xs)
 position-below p [] zero = refl
 position-below p [] (suc i) = refl
 position-below p (x ∷ xs) zero = none_below (position p (x ∷ xs))
   where
-    none_below : (o : Option ℕ) → passes (λ k. nat_lt k 0) o ≡ false
+    none_below : (o : Option ℕ) → is_some_and o (λ k. nat_lt k 0) ≡ false
     none_below None = refl
     none_below (Some k) = grind (arith, nat_tests)
 position-below p (x ∷ xs) (suc i) = rw (position-cons p x xs) (by_test (p x) (position p xs) (position-below p xs i))
@@ -44,7 +45,7 @@ position-below p (x ∷ xs) (suc i) = rw (position-cons p x xs) (by_test (p x) (
     first : nat_lt 0 (suc i) ≡ true
     first = grind (arith, nat_tests)
 
-    by_test : (b : Bool) (o : Option ℕ) → passes (λ k. nat_lt k i) o ≡ list_any p (take i xs) → passes (λ k. nat_lt k (suc i)) (cond b (Some 0) (option_map suc o)) ≡ (b || list_any p (take i xs))
+    by_test : (b : Bool) (o : Option ℕ) → is_some_and o (λ k. nat_lt k i) ≡ list_any p (take i xs) → is_some_and (cond b (Some 0) (option_map suc o)) (λ k. nat_lt k (suc i)) ≡ (b || list_any p (take i xs))
     by_test true o e = first
     by_test false None e = e
     by_test false (Some k) e = more k ∙ e
@@ -144,7 +145,11 @@ module _ (names : List Name) (i : ℕ) (name : Name) (lt : i < length names) (at
       rw one_more (now q ∙ ap (cond (bytes_eq name q) (Some i)) (before q) ∙ known_at)
 
 -- whether name i stands earlier too, by the first number that has it
-pub named_before : (names : List Name) (i : ℕ) (name : Name) (first : Option ℕ) → slice_get names i ≡ Some name → first ≡ first_named names name → passes (λ k. nat_lt k i) first ≡ is_named_before names i
+pub named_before : (names : List Name) (i : ℕ) (name : Name) (first : Option ℕ) → slice_get names i ≡ Some name → first ≡ first_named names name → is_some_and first (λ k. nat_lt k i) ≡ is_named_before names i
 named_before names i name first at is =
-    let P : Option Name → Type 0 = λ o. passes (λ n. list_any (bytes_eq n) (take i names)) o ≡ is_named_before names i in
-    ap (passes (λ k. nat_lt k i)) is ∙ position-below (bytes_eq name) names i ∙ subst P at refl
+    let P : Option Name → Type 0 = λ o. is_some_and o (λ n. list_any (bytes_eq n) (take i names)) ≡ is_named_before names i in
+    ap (λ o. is_some_and o (λ k. nat_lt k i)) is ∙ position-below (bytes_eq name) names i ∙ subst P at refl
+
+-- no name past the end stands earlier
+pub none_past : (names : List Name) (i : ℕ) → length names ≤ i → is_named_before names i ≡ false
+none_past names i past = rw (slice_get_past names i past) refl

@@ -1,20 +1,22 @@
 -- The routes of the plant, where no rule of the table is broken.
-use Rattle.std.proofs.Common.{◌≡◌, ◌≢◌, ℕ, ◌<◌, ◌≤◌, Bool, true, false, ◌&&◌, not, Option, Some, None, IsSome, IsTrue, List, [], ◌∷◌, All, length, slice_get, nat_lt, refl, sym, ◌∙◌, ap, arith}
+use Rattle.std.proofs.Common.{◌≡◌, ◌≢◌, ℕ, ◌<◌, ◌≤◌, Bool, true, false, ◌&&◌, not, Option, Some, None, IsSome, IsTrue, All, length, slice_get, nat_lt, refl, sym, ◌∙◌, ap, arith}
 use Rattle.std.specs.List.{list_all}
 use Rattle.std.proofs.lemmas.Bool.Decides.{nat_tests}
 use Rattle.std.proofs.lemmas.List.{length-map}
-use Rattle.std.proofs.lemmas.List.Elements.{All-nil, All-cons, All-get_or}
+use Rattle.std.proofs.lemmas.List.Elements.{All-get_or}
 use Rattle.std.proofs.lemmas.List.Folds.{list_all-append, list_all-map}
 use Rattle.std.proofs.lemmas.Option.{get_or_from_slice_get, slice_get_within}
-use Rattle.ilk_plant.proofs.KnownNames.{both}
+use Rattle.ilk_plant.proofs.KnownNames.{All-tested, both}
 use Rattle.ilk_plant.proofs.Once.{none_twice-once}
 use Rattle.ilk_plant.proofs.Rules.{KeepsTableRules}
 use Rattle.ilk_plant.proofs.Tests.{map-at}
 use Rattle.ilk_plant.specs.Draft.{names_of_boards, names_of_routes, names_of_sections, number_of, numbered, numbered_point, numbered_route}
 use Rattle.ilk_plant.specs.Limits.{RouteHasLimits}
 use Rattle.ilk_plant.specs.Network.{has_section, is_point}
+use Rattle.ilk_plant.specs.Option.{is_some_and}
 use Rattle.ilk_plant.specs.Plant.{IsRouteOf, PlantLists, point_number}
-use Rattle.ilk_plant.specs.TableRules.{has_conflicts_once, has_destination_or_none, has_points_once, has_sections_once, has_source, is_board, is_other_route, is_point_section, is_section, none_twice, passes, points_of, route_fails, sections_of}
+use Rattle.ilk_plant.specs.TableRules.{has_conflicts_once, has_destination_or_none, has_points_once, has_sections_once, has_source, is_board, is_other_route, is_section, none_twice, points_of, route_fails, sections_of}
+use Rattle.ilk_plant.specs.Plant.{is_point_section}
 use Rattle.ilk_plant.specs.declared.draft.NetDraft.{NetDraft}
 use Rattle.ilk_plant.specs.declared.draft.RouteDraft.{RouteDraft}
 use Rattle.ilk_plant.specs.declared.draft.TableDraft.{TableDraft}
@@ -30,13 +32,6 @@ route-passes p test r route h at =
     not-not true h = refl
     not-not false h = cc
 
--- what follows from a test that all items pass
-pub All-tested : {X : Type 0} (test : X → Bool) (P : X → Type 0) → ((x : X) → test x ≡ true → P x) → (xs : List X) → list_all test xs ≡ true → All P xs
-All-tested test P f [] h = All-nil P
-All-tested test P f (x ∷ xs) h =
-    let parts = both (test x) (list_all test xs) h in
-    All-cons P x xs (f x parts.0) (All-tested test P f xs parts.1)
-
 -- a number that is tested to be below a bound
 below : (x n : ℕ) → nat_lt x n ≡ true → x < n
 below x n h = grind (arith, nat_tests)
@@ -46,7 +41,7 @@ point-within : (p : PlantLists) (x : ℕ) → is_point_section p x ≡ true → 
 point-within p x h = by_section (slice_get p.sections x) refl
   where
     by_section : (o : Option Section) → slice_get p.sections x ≡ o → x < length p.sections
-    by_section None at = let bad : passes is_point None ≡ true = rw at at h in cc
+    by_section None at = let bad : is_some_and None is_point ≡ true = rw at at h in cc
     by_section (Some section) at = slice_get_within p.sections x section at
 
 -- a route of the plant is a numbered draft
@@ -59,7 +54,7 @@ point-numbered : (p : PlantLists) (x : ℕ) → is_point_section p x ≡ true �
 point-numbered p x h = by_section (slice_get p.sections x) refl
   where
     by_section : (o : Option Section) → slice_get p.sections x ≡ o → IsSome (point_number p x)
-    by_section None at = let bad : passes is_point None ≡ true = rw at at h in cc
+    by_section None at = let bad : is_some_and None is_point ≡ true = rw at at h in cc
     by_section (Some section) at = let yes : is_point section ≡ true = rw at at h in rw (at, yes) refl
 
 -- a number that is tested to be that of another route

@@ -1,13 +1,18 @@
 -- The shape of states as a test, and as facts.
-use Rattle.std.proofs.Common.{◌≡◌, ℕ, zero, suc, ◌<◌, true, Some, List, [], ◌∷◌, length, nat_le, nat_lt, slice_get, zip, refl, arith}
+use Rattle.std.proofs.Common.{◌≡◌, ℕ, zero, suc, ◌<◌, true, Some, List, [], ◌∷◌, length, nat_le, nat_lt, replicate, slice_get, zip, refl, sym, ◌∙◌, subst, arith}
 use Rattle.std.specs.List.{AllByRecursion, list_all}
 use Rattle.std.proofs.lemmas.Bool.Decides.{nat_tests}
-use Rattle.std.proofs.lemmas.List.Elements.{All-from_recursion, recursion_from_All}
+use Rattle.std.proofs.lemmas.List.{get_or-replicate, length-replicate}
+use Rattle.std.proofs.lemmas.List.Elements.{All-from_recursion, All-nil, recursion_from_All}
+use Rattle.std.proofs.lemmas.Option.{get_or_from_slice_get, slice_get_within}
 use Rattle.ilk_plant.proofs.KnownNames.{both}
-use Rattle.ilk_plant.specs.Plant.{PlantLists}
+use Rattle.ilk_plant.specs.Plant.{PlantLists, point_count}
 use Rattle.ilk_plant.specs.Shape.{HasLengths, is_body, is_within, leads_on}
+use Rattle.ilk_plant.specs.Start.{free_route, plus_point, start}
 use Rattle.ilk_plant.specs.State.{HasShape, IsBody, IsWithin, LeadsOn}
 use Rattle.ilk_plant.specs.declared.network.Dir.{Dir}
+use Rattle.ilk_plant.specs.declared.state.Aspect.TheVariants.{Closed}
+use Rattle.ilk_plant.specs.declared.state.Hold.TheVariants.{Free}
 use Rattle.ilk_plant.specs.declared.state.RouteState.{RouteState}
 use Rattle.ilk_plant.specs.declared.state.State.{State}
 use Rattle.ilk_plant.specs.declared.state.Train.{Train}
@@ -51,7 +56,7 @@ leads-test : (p : PlantLists) (d : Dir) (x : ℕ) (rest : List ℕ) → LeadsOn 
 leads-test p d x [] h = refl
 leads-test p d x (y ∷ rest) h = rw h.0 (leads-test p d y rest h.1)
 
-body-true : (p : PlantLists) (train : Train) → is_body p train ≡ true → IsBody p train
+pub body-true : (p : PlantLists) (train : Train) → is_body p train ≡ true → IsBody p train
 body-true p train h = of_body train.body h
   where
     of_body : (body : List ℕ) → is_body p (record train { body = body }) ≡ true → IsBody p (record train { body = body })
@@ -61,7 +66,7 @@ body-true p train h = of_body train.body h
         let inside : nat_lt x (length p.sections) ≡ true = parts.0 in
         (grind (arith, nat_tests), leads-true p train.dir x rest parts.1)
 
-body-test : (p : PlantLists) (train : Train) → IsBody p train → is_body p train ≡ true
+pub body-test : (p : PlantLists) (train : Train) → IsBody p train → is_body p train ≡ true
 body-test p train h = of_body train.body h
   where
     of_body : (body : List ℕ) → IsBody p (record train { body = body }) → is_body p (record train { body = body }) ≡ true
@@ -92,3 +97,23 @@ shape-true p s lengths counts bodies = record {
 
 pub shape-tests : (p : PlantLists) (s : State) → HasShape p s → HasLengths p s × (list_all (λ pair. is_within pair.0 pair.1) (zip p.routes s.routes) ≡ true) × (list_all (is_body p) s.trains ≡ true)
 shape-tests p s shape = (record { routes = shape.routes; points = shape.points; boards = shape.boards; locks = shape.locks }, counts-test p.routes s.routes shape.counts, bodies-test p s.trains (recursion_from_All (IsBody p) s.trains shape.bodies))
+
+-- one of some copies of a thing is that thing
+copied : {X : Type 0} (n i : ℕ) (x y : X) → slice_get (replicate n x) i ≡ Some y → x ≡ y
+copied n i x y at =
+    let within = slice_get_within (replicate n x) i y at in
+    let long = length-replicate n x in
+    sym (get_or-replicate n i x y (omega arith)) ∙ get_or_from_slice_get (replicate n x) i y y at
+
+-- the start has the shape
+pub start-shape : (p : PlantLists) → HasShape p (start p)
+start-shape p = record {
+  routes = length-replicate (length p.routes) free_route;
+  points = length-replicate (point_count p) plus_point;
+  boards = length-replicate (length p.boards) Closed;
+  locks = length-replicate (length p.sections) Free;
+  counts = λ r route now here at.
+      (let free : free_route ≡ now = copied (length p.routes) r free_route now at in
+      let P : RouteState → Type 0 = λ q. IsWithin route q in subst P free (omega arith, omega arith));
+  bodies = All-nil (IsBody p);
+}

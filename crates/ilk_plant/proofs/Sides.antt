@@ -5,7 +5,7 @@ use Rattle.std.proofs.lemmas.Option.{slice_get_within}
 use Rattle.ilk_plant.proofs.NamesDiffer.{first_named-own}
 use Rattle.ilk_plant.proofs.Rows.{at-before, at-past}
 use Rattle.ilk_plant.proofs.Tests.{list_any-at, not-true}
-use Rattle.ilk_plant.specs.Draft.{Name}
+use Rattle.ilk_plant.specs.Name.{Name}
 use Rattle.ilk_plant.specs.Network.{has_section}
 use Rattle.ilk_plant.specs.NetworkRules.{opposite}
 use Rattle.ilk_plant.specs.Plant.{EachOnce, IsPlant, PlantLists, first_named, next_to}

@@ -1,9 +1,10 @@
 -- Drafts within the limits that break no rule give a plant.
 use Rattle.std.proofs.Common.{◌≡◌, length, refl, sym, ◌∙◌, subst, arith, []}
 use Rattle.std.proofs.lemmas.List.{length-map}
+use Rattle.ilk_plant.proofs.AllowedNames.{board_names-allowed, route_names-allowed, section_names-allowed}
 use Rattle.ilk_plant.proofs.Boards.{boards-agree, boards-lead, boards-numbered, few-boards}
 use Rattle.ilk_plant.proofs.Neighbours.{next-back, next-known, next-once, next-other, next-some}
-use Rattle.ilk_plant.proofs.NamesDiffer.{named-once, repeated-none}
+use Rattle.ilk_plant.proofs.NamesDiffer.{named-once}
 use Rattle.ilk_plant.proofs.Once.{none_twice-once}
 use Rattle.ilk_plant.proofs.RoutesOf.{conflicts-other, route-known}
 use Rattle.ilk_plant.proofs.Rules.{network_rules-kept, table_rules-kept}
@@ -25,13 +26,16 @@ sound-IsPlant net table sound =
     let names : length (names_of_sections net.sections) ≡ length net.sections = length-map net.sections (λ section. section.name) in
     let boards : length (numbered net table).boards ≡ length (names_of_boards net.sections) = length-map (boards_from 0 net.sections) (λ named. named.board) ∙ sym (length-map (boards_from 0 net.sections) (λ named. named.name)) in
     let count_routes : length (numbered net table).routes ≡ length table.routes = length-map table.routes (numbered_route (names_of_sections net.sections) (names_of_boards net.sections) (names_of_routes table.routes)) in
-    let board_names : EachOnce (names_of_boards net.sections) = repeated-none (names_of_boards net.sections) network.boards_differ in
+    let board_names : EachOnce (names_of_boards net.sections) = named-once (names_of_boards net.sections) network.boards_differ in
     let count_names : length (names_of_routes table.routes) ≡ length table.routes = length-map table.routes (λ route. route.name) in
     record {
       some_section = omega (arith, count, sound.limits.some_section);
-      section_names_differ = repeated-none (names_of_sections net.sections) (λ i h. network.sections_differ i (omega (arith, names)));
+      section_names_differ = named-once (names_of_sections net.sections) (λ i h. network.sections_differ i (omega (arith, names)));
       board_names_differ = board_names;
       route_names_differ = named-once (names_of_routes table.routes) (λ i h. routes.names_differ i (omega (arith, count_routes, count_names)));
+      section_names_allowed = section_names-allowed net.sections sound.limits.sections_named;
+      board_names_allowed = board_names-allowed net.sections sound.limits.sections_named;
+      route_names_allowed = route_names-allowed table.routes sound.limits.routes_named;
       neighbours_some = λ x h. next-some net table network x (omega (arith, count));
       neighbours_other = next-other net table network;
       neighbours_once = λ x. none_twice-once _ (next-once net table network x);

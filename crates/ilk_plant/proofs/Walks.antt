@@ -11,7 +11,8 @@ use Rattle.ilk_plant.proofs.Rules.{KeepsNetworkRules}
 use Rattle.ilk_plant.proofs.Tests.{list_any-from, not-true}
 use Rattle.ilk_plant.specs.Draft.{names_of_sections, number_of, numbered}
 use Rattle.ilk_plant.specs.Network.{has_section, same_direction}
-use Rattle.ilk_plant.specs.NetworkRules.{End, ends_of, is_next_up, is_some_and, leads_by, names_section, returns}
+use Rattle.ilk_plant.specs.Option.{is_some_and}
+use Rattle.ilk_plant.specs.NetworkRules.{End, ends_of, is_next_up, leads_by, names_section, returns}
 use Rattle.ilk_plant.specs.Plant.{next_to}
 use Rattle.ilk_plant.specs.Sound.{NeverReturns}
 use Rattle.ilk_plant.specs.State.{LeadsOn}

@@ -2,10 +2,13 @@
 -- source board, and `next_to` is asked in that direction, for the overlap too.
 use Rattle.std.specs.Prelude.{ℕ, Bool, true, false, not, Option, Some, None, List, [], ◌∷◌, ◌++◌, ◌&&◌, ◌||◌, ◌==◌, ◌-◌, nat_lt, is_none, length, take, slice_get}
 use Rattle.std.specs.List.{list_any, list_all}
+use Rattle.ilk_plant.specs.Option.{is_some_and}
 use Rattle.ilk_plant.specs.Broken.{broken_at, broken_at_pairs}
 use Rattle.ilk_plant.specs.Network.{has_section}
 use Rattle.ilk_plant.specs.Plant.{PlantLists, next_to, board_of, border}
-use Rattle.ilk_plant.specs.TableRules.{is_point_section, passes, points_of, route_fails, sections_of}
+use Rattle.ilk_plant.specs.Shape.{leads_on}
+use Rattle.ilk_plant.specs.TableRules.{points_of, route_fails, sections_of}
+use Rattle.ilk_plant.specs.Plant.{is_point_section}
 use Rattle.ilk_plant.specs.declared.broken.Broken.{Broken}
 use Rattle.ilk_plant.specs.declared.broken.Rule.TheVariants.{C1, C2, C3, C4, C5, C6, C7}
 use Rattle.ilk_plant.specs.declared.network.Board.{Board}
@@ -19,7 +22,7 @@ use Rattle.ilk_plant.specs.declared.table.Route.{Route}
 
 -- whether the board at which a route begins passes the test
 abbrev pub source_passes : PlantLists → Route → (Board → Bool) → Bool
-source_passes p route test = passes test (slice_get p.boards route.source)
+source_passes p route test = is_some_and (slice_get p.boards route.source) test
 
 -- the last section of a path
 abbrev pub last_of : List ℕ → Option ℕ
@@ -29,19 +32,14 @@ last_of path = slice_get path (length path - 1)
 abbrev pub all_but_last : List ℕ → List ℕ
 all_but_last path = take (length path - 1) path
 
--- whether each section is next to the one before it in direction d, and the first is next to x
-abbrev pub is_way : PlantLists → Dir → ℕ → List ℕ → Bool
-is_way p d x [] = true
-is_way p d x (y ∷ rest) = has_section y (next_to p x d) && is_way p d y rest
-
--- C1: the path is a way from the source's section
-abbrev pub path_is_way : PlantLists → Route → Bool
-path_is_way p route = source_passes p route (λ source. is_way p source.dir source.section route.path)
+-- C1: the path leads on from the source's section
+abbrev pub path_leads_on : PlantLists → Route → Bool
+path_leads_on p route = source_passes p route (λ source. leads_on p source.dir source.section route.path)
 
 -- whether section x, where a path in direction d ends, has the destination as its board; without a destination,
 -- whether it has no neighbour
 abbrev pub ends_at : PlantLists → Dir → Option ℕ → ℕ → Bool
-ends_at p d (Some m) x = passes (λ n. n == m) (board_of p x d)
+ends_at p d (Some m) x = is_some_and (board_of p x d) (λ n. n == m)
 ends_at p d None x = length (next_to p x d) == 0
 
 -- whether section x has no board for direction d
@@ -51,7 +49,7 @@ has_no_board p d x = is_none (board_of p x d)
 -- whether a path in direction d has no board before its last section, and ends at the destination
 abbrev pub is_between_boards : PlantLists → Dir → Option ℕ → List ℕ → Bool
 is_between_boards p d destination path =
-    list_all (has_no_board p d) (all_but_last path) && passes (ends_at p d destination) (last_of path)
+    list_all (has_no_board p d) (all_but_last path) && is_some_and (last_of path) (ends_at p d destination)
 
 -- C2: no path section but the last has a board in the route's direction, and the path ends at the destination
 abbrev pub path_ends_at_board : PlantLists → Route → Bool
@@ -66,7 +64,7 @@ is_leg Minus y (Point stem plus minus faces) = minus == y
 -- whether x is listed at a position whose leg is one of these sections
 abbrev pub is_listed_towards : PlantLists → List Listed → List ℕ → ℕ → Bool
 is_listed_towards p points sections x =
-    list_any (λ listed. (listed.point == x) && list_any (λ y. passes (is_leg listed.at y) (slice_get p.sections x)) sections) points
+    list_any (λ listed. (listed.point == x) && list_any (λ y. is_some_and (slice_get p.sections x) (is_leg listed.at y)) sections) points
 
 -- whether each point of these path sections is listed towards the section before it or the one after it
 abbrev pub points_lead_along : PlantLists → List Listed → ℕ → List ℕ → Bool
@@ -80,14 +78,14 @@ points_are_set p route =
     source_passes p route (λ source. points_lead_along p route.points source.section route.path)
     && list_all (λ x. not (is_point_section p x) || has_section x (points_of route)) route.overlap
 
--- C4: the overlap is a way from the last section of the path
-abbrev pub overlap_is_way : PlantLists → Route → Bool
-overlap_is_way p route =
-    source_passes p route (λ source. passes (λ x. is_way p source.dir x route.overlap) (last_of route.path))
+-- C4: the overlap leads on from the last section of the path
+abbrev pub overlap_leads_on : PlantLists → Route → Bool
+overlap_leads_on p route =
+    source_passes p route (λ source. is_some_and (last_of route.path) (λ x. leads_on p source.dir x route.overlap))
 
 -- whether route i lists route j as a conflict
 abbrev pub lists : PlantLists → ℕ → ℕ → Bool
-lists p i j = passes (λ route. list_any (λ r. r == j) route.conflicts) (slice_get p.routes i)
+lists p i j = is_some_and (slice_get p.routes i) (λ route. list_any (λ r. r == j) route.conflicts)
 
 -- C5 is broken: route i lists j, and j doesn't list i
 abbrev pub lists_alone : PlantLists → ℕ → ℕ → Bool
@@ -95,11 +93,11 @@ lists_alone p i j = lists p i j && not (lists p j i)
 
 -- whether route i has one of these sections in its path or overlap
 abbrev pub has_one_of : PlantLists → List ℕ → ℕ → Bool
-has_one_of p sections i = passes (λ route. list_any (λ x. has_section x (sections_of route)) sections) (slice_get p.routes i)
+has_one_of p sections i = is_some_and (slice_get p.routes i) (λ route. list_any (λ x. has_section x (sections_of route)) sections)
 
 -- whether routes i and j have one same section in path or overlap
 abbrev pub share_section : PlantLists → ℕ → ℕ → Bool
-share_section p i j = passes (λ route. has_one_of p (sections_of route) i) (slice_get p.routes j)
+share_section p i j = is_some_and (slice_get p.routes j) (λ route. has_one_of p (sections_of route) i)
 
 -- C6 is broken: i is below j, they share a section, and i doesn't list j
 abbrev pub share_unlisted : PlantLists → ℕ → ℕ → Bool
@@ -107,15 +105,15 @@ share_unlisted p i j = nat_lt i j && share_section p i j && not (lists p i j)
 
 -- C7 is broken: section x is a border, without a board in its inward direction
 abbrev pub is_open_border : PlantLists → ℕ → Bool
-is_open_border p x = passes (λ inward. has_no_board p inward x) (border p x)
+is_open_border p x = is_some_and (border p x) (λ inward. has_no_board p inward x)
 
 -- the broken rules of the columns, in order
 abbrev pub column_rules_broken : PlantLists → List Broken
 column_rules_broken p =
-    broken_at C1 (length p.routes) (route_fails p (path_is_way p))
+    broken_at C1 (length p.routes) (route_fails p (path_leads_on p))
     ++ broken_at C2 (length p.routes) (route_fails p (path_ends_at_board p))
     ++ broken_at C3 (length p.routes) (route_fails p (points_are_set p))
-    ++ broken_at C4 (length p.routes) (route_fails p (overlap_is_way p))
+    ++ broken_at C4 (length p.routes) (route_fails p (overlap_leads_on p))
     ++ broken_at_pairs C5 (length p.routes) (lists_alone p)
     ++ broken_at_pairs C6 (length p.routes) (share_unlisted p)
     ++ broken_at C7 (length p.sections) (is_open_border p)

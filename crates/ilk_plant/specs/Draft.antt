@@ -1,5 +1,8 @@
 -- Drafts: the names in a configuration, and the plant that comes of numbering them.
-use Rattle.std.specs.Prelude.{ℕ, ◌+◌, Option, Some, None, List, [], ◌∷◌, ◌++◌, length, map, option_map, unwrap_or}
+use Rattle.std.specs.Prelude.{ℕ, ◌+◌, Bool, Option, Some, None, List, [], ◌∷◌, ◌++◌, bytes_eq, length, map, option_map, slice_get, take, unwrap_or}
+use Rattle.std.specs.List.{list_any}
+use Rattle.ilk_plant.specs.Option.{is_some_and}
+use Rattle.ilk_plant.specs.Name.{Name}
 use Rattle.ilk_plant.specs.Plant.{PlantLists, first_named}
 use Rattle.ilk_plant.specs.declared.draft.KindDraft.{KindDraft}
 use Rattle.ilk_plant.specs.declared.draft.KindDraft.TheVariants.{Linear as LinearDraft, Point as PointDraft}
@@ -15,10 +18,6 @@ use Rattle.ilk_plant.specs.declared.network.Section.{Section}
 use Rattle.ilk_plant.specs.declared.network.Section.TheVariants.{Linear, Point}
 use Rattle.ilk_plant.specs.declared.table.Listed.{Listed}
 use Rattle.ilk_plant.specs.declared.table.Route.{Route}
-
--- a name is its bytes
-abbrev pub Name : Type 0
-Name = List ℕ
 
 abbrev pub names_of_sections : List SectionDraft → List Name
 names_of_sections sections = map (λ section. section.name) sections
@@ -53,6 +52,10 @@ names_of_routes routes = map (λ route. route.name) routes
 -- nothing has stands for no number, which is written as the count of the names
 abbrev pub number_of : List Name → Name → ℕ
 number_of names name = unwrap_or (first_named names name) (length names)
+
+-- whether an earlier one has the same name as name i
+abbrev pub is_named_before : List Name → ℕ → Bool
+is_named_before names i = is_some_and (slice_get names i) (λ name. list_any (bytes_eq name) (take i names))
 
 -- a section with numbers for names
 abbrev pub numbered_section : List Name → List Name → KindDraft → Section

@@ -1,4 +1,5 @@
 pub mod Option
+pub mod Result
 pub mod Each
 pub mod Row
 pub mod Network
@@ -7,6 +8,7 @@ pub mod State
 pub mod Start
 pub mod Shape
 pub mod Draft
+pub mod Name
 pub mod Broken
 pub mod TableRules
 pub mod ColumnRules

@@ -1,7 +1,7 @@
 -- Names with an index: which number the index has for each name.
 use Rattle.std.specs.Prelude.{ℕ, ◌≡◌, List, String}
 use Rattle.indexmap.specs.IndexMap.{IndexMap, get_by_text}
-use Rattle.ilk_plant.specs.Draft.{Name}
+use Rattle.ilk_plant.specs.Name.{Name}
 use Rattle.ilk_plant.specs.Plant.{first_named}
 
 -- the index has for each name the first number that has it

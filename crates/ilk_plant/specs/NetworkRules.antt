@@ -1,8 +1,10 @@
 -- The rules of the network, N1 to N8: the list of those that a draft breaks.
-use Rattle.std.specs.Prelude.{ℕ, zero, suc, ◌≡◌, Bool, true, false, not, ◌&&◌, ◌||◌, ◌==◌, Option, Some, None, is_none, List, [], ◌∷◌, ◌++◌, length, map, take, slice_get, count_by, bytes_eq, IsTrue}
+use Rattle.std.specs.Prelude.{ℕ, zero, suc, ◌≡◌, Bool, true, false, not, ◌&&◌, ◌||◌, ◌==◌, Option, Some, None, is_none, List, [], ◌∷◌, ◌++◌, length, map, slice_get, count_by, bytes_eq, IsTrue}
 use Rattle.std.specs.List.{list_any, last_or}
 use Rattle.ilk_plant.specs.Broken.{broken_at}
-use Rattle.ilk_plant.specs.Draft.{Name, names_of_boards, names_of_sections}
+use Rattle.ilk_plant.specs.Option.{is_some_and}
+use Rattle.ilk_plant.specs.Draft.{is_named_before, names_of_boards, names_of_sections}
+use Rattle.ilk_plant.specs.Name.{Name}
 use Rattle.ilk_plant.specs.Network.{same_direction}
 use Rattle.ilk_plant.specs.Plant.{first_named}
 use Rattle.ilk_plant.specs.declared.broken.Broken.{Broken}
@@ -23,11 +25,6 @@ all_differ (name ∷ rest) = not (list_any (bytes_eq name) rest) && all_differ r
 abbrev pub has_no_board_at_end : Option Name → Option Name → Bool
 has_no_board_at_end None board = is_none board
 has_no_board_at_end (Some neighbour) board = true
-
--- whether there is a value, and it passes
-abbrev pub is_some_and : {A : Type 0} → Option A → (A → Bool) → Bool
-is_some_and None test = false
-is_some_and (Some x) test = test x
 
 abbrev pub opposite : Dir → Dir
 opposite Up = Down
@@ -68,10 +65,6 @@ names_section net x end = is_some_and (section_named net end.name) (λ y. y == x
 -- whether the name at an end stands for a section other than x
 abbrev pub names_another : NetDraft → ℕ → End → Bool
 names_another net x end = is_some_and (section_named net end.name) (λ y. not (y == x))
-
--- N1, N2: an earlier one has the same name
-abbrev pub repeats_name : List Name → ℕ → Bool
-repeats_name names i = is_some_and (slice_get names i) (λ name. list_any (bytes_eq name) (take i names))
 
 -- N3: a neighbour of section x isn't the name of a section other than x
 abbrev pub names_no_other : NetDraft → ℕ → Bool
@@ -143,8 +136,8 @@ has_board_at_end net x = is_some_and (slice_get net.sections x) (λ section. has
 -- the rules of the network that a draft breaks, each at every place
 abbrev pub network_rules_broken : NetDraft → List Broken
 network_rules_broken net =
-    broken_at N1 (length net.sections) (repeats_name (names_of_sections net.sections))
-    ++ broken_at N2 (length (names_of_boards net.sections)) (repeats_name (names_of_boards net.sections))
+    broken_at N1 (length net.sections) (is_named_before (names_of_sections net.sections))
+    ++ broken_at N2 (length (names_of_boards net.sections)) (is_named_before (names_of_boards net.sections))
     ++ broken_at N3 (length net.sections) (names_no_other net)
     ++ broken_at N4 (length net.sections) (repeats_neighbour net)
     ++ broken_at N5 (length net.sections) (is_not_named_back net)

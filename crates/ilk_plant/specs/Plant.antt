@@ -1,6 +1,8 @@
 -- The plant: its numbered sections, boards and routes, with their names.
-use Rattle.std.specs.Prelude.{ℕ, ◌<◌, ◌≤◌, ◌≡◌, ◌≢◌, ◌↔◌, false, Option, Some, None, IsSome, List, [], ◌++◌, length, map, take, slice_get, count_by, position, bytes_eq, IsTrue, All}
-use Rattle.ilk_plant.specs.Option.{◌>>=◌, only_if}
+use Rattle.std.specs.Prelude.{ℕ, ◌<◌, ◌≤◌, ◌≡◌, ◌≢◌, ◌↔◌, Bool, false, Option, Some, None, IsSome, List, [], ◌++◌, length, map, take, slice_get, count_by, position, bytes_eq, IsTrue, All}
+use Rattle.std.specs.List.{range_with_len}
+use Rattle.ilk_plant.specs.Option.{◌>>=◌, is_some_and, only_if}
+use Rattle.ilk_plant.specs.Name.{IsName}
 use Rattle.ilk_plant.specs.Network.{beside, board_on, has_section, inward, is_point}
 use Rattle.ilk_plant.specs.declared.network.Dir.{Dir}
 use Rattle.ilk_plant.specs.declared.network.Dir.TheVariants.{Up, Down}
@@ -31,11 +33,19 @@ board_of p x d = do
   section ← slice_get p.sections x
   board_on section d
 
+-- whether x is the number of a section that is a point
+abbrev pub is_point_section : PlantLists → ℕ → Bool
+is_point_section p x = is_some_and (slice_get p.sections x) is_point
+
 -- points are numbered in the order of their sections
 abbrev pub point_number : PlantLists → ℕ → Option ℕ
 point_number p x = do
   section ← slice_get p.sections x
   only_if (is_point section) (count_by is_point (take x p.sections))
+
+-- for each section its number among the points, if it is one
+abbrev pub point_numbers : PlantLists → List (Option ℕ)
+point_numbers p = map (point_number p) (range_with_len 0 (length p.sections))
 
 abbrev pub point_count : PlantLists → ℕ
 point_count p = count_by is_point p.sections
@@ -80,13 +90,16 @@ pub record IsPlant (p : PlantLists) : Type 0 where
   pub few_sections : length p.sections ≤ 128
   pub few_boards : length p.boards ≤ 256
   pub few_routes : length p.routes ≤ 128
-  -- each section, board and route has a name of its own
+  -- each section, board and route has a name of its own, of 1 to 32 of the allowed characters
   pub sections_named : length p.section_names ≡ length p.sections
   pub boards_named : length p.board_names ≡ length p.boards
   pub routes_named : length p.route_names ≡ length p.routes
   pub section_names_differ : EachOnce p.section_names
   pub board_names_differ : EachOnce p.board_names
   pub route_names_differ : EachOnce p.route_names
+  pub section_names_allowed : All IsName p.section_names
+  pub board_names_allowed : All IsName p.board_names
+  pub route_names_allowed : All IsName p.route_names
   -- a section has a neighbour, and its neighbours are other sections, each at one end alone
   pub neighbours_some : (x : ℕ) → x < length p.sections → 0 < length (next_to p x Down ++ next_to p x Up)
   pub neighbours : (x y : ℕ) (d : Dir) → IsTrue (has_section y (next_to p x d)) → y < length p.sections

@@ -1,9 +1,9 @@
 -- Which plants there are: those of drafts within the limits that break no rule.
-use Rattle.std.specs.Prelude.{ℕ, ◌≡◌, List, [], ◌∷◌}
+use Rattle.std.specs.Prelude.{ℕ, ◌≡◌, Option, List, [], ◌∷◌}
 use Rattle.ilk_plant.specs.Draft.{numbered}
 use Rattle.ilk_plant.specs.Limits.{HasLimits}
 use Rattle.ilk_plant.specs.NetworkRules.{network_rules_broken}
-use Rattle.ilk_plant.specs.Plant.{EachOnce, IsPlant, PlantLists}
+use Rattle.ilk_plant.specs.Plant.{EachOnce, IsPlant, PlantLists, point_numbers}
 use Rattle.ilk_plant.specs.State.{LeadsOn}
 use Rattle.ilk_plant.specs.TableRules.{table_rules_broken}
 use Rattle.ilk_plant.specs.declared.draft.NetDraft.{NetDraft}
@@ -32,3 +32,8 @@ pub record IsSound (p : PlantLists) : Type 0 where
   pub plant : IsPlant p
   pub walks : NeverReturns p
   pub drafts : IsOfDrafts p
+
+-- a sound plant with the numbers of its points
+pub record IsIndexed (p : PlantLists) (numbers : List (Option ℕ)) : Type 0 where
+  pub sound : IsSound p
+  pub points : numbers ≡ point_numbers p

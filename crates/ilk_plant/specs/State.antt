@@ -1,10 +1,12 @@
 -- What a state says of trains and points, and which states have the plant's shape.
-use Rattle.std.specs.Prelude.{ℕ, ◌≡◌, ◌<◌, ◌≤◌, Bool, Option, Some, List, [], ◌∷◌, IsTrue, All, length, slice_get}
+use Rattle.std.specs.Prelude.{ℕ, ◌≡◌, ◌<◌, ◌≤◌, ◌&&◌, Bool, true, false, not, Option, Some, List, [], ◌∷◌, IsTrue, All, length, slice_get}
 use Rattle.std.specs.List.{list_any}
-use Rattle.ilk_plant.specs.Option.{◌>>=◌}
+use Rattle.ilk_plant.specs.Option.{◌>>=◌, is_some_and}
 use Rattle.ilk_plant.specs.Network.{has_section}
 use Rattle.ilk_plant.specs.Plant.{PlantLists, next_to, point_count, point_number}
 use Rattle.ilk_plant.specs.declared.network.Dir.{Dir}
+use Rattle.ilk_plant.specs.declared.state.Hold.{Hold}
+use Rattle.ilk_plant.specs.declared.state.Hold.TheVariants.{Free, Locked, Used}
 use Rattle.ilk_plant.specs.declared.state.Lie.{Lie}
 use Rattle.ilk_plant.specs.declared.state.RouteState.{RouteState}
 use Rattle.ilk_plant.specs.declared.state.State.{State}
@@ -14,6 +16,21 @@ use Rattle.ilk_plant.specs.declared.table.Route.{Route}
 -- whether some train's body has section x
 abbrev pub is_occupied : State → ℕ → Bool
 is_occupied s x = list_any (λ train. has_section x train.body) s.trains
+
+-- whether two locks are one
+abbrev pub same_hold : Hold → Hold → Bool
+same_hold Free Free = true
+same_hold Locked Locked = true
+same_hold Used Used = true
+same_hold a b = false
+
+-- whether section x has this lock
+abbrev pub has_lock : State → ℕ → Hold → Bool
+has_lock s x hold = is_some_and (slice_get s.locks x) (λ lock. same_hold lock hold)
+
+-- whether section x has lock Free and is vacant
+abbrev pub is_clear : State → ℕ → Bool
+is_clear s x = has_lock s x Free && not (is_occupied s x)
 
 -- where the point on section x lies; none where x is no point
 abbrev pub lie_of : PlantLists → State → ℕ → Option Lie

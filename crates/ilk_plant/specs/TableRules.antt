@@ -1,21 +1,17 @@
 -- The rules of the table of routes, R1 to R6. A name stands for the first section, board or route that has it:
 -- the rules are over the numbered drafts, where a name that nothing has is the count, and so no number of one.
-use Rattle.std.specs.Prelude.{ℕ, Bool, true, false, not, Option, Some, None, List, [], ◌∷◌, ◌++◌, ◌&&◌, ◌==◌, nat_lt, length, map, take, slice_get, bytes_eq}
+use Rattle.std.specs.Prelude.{ℕ, Bool, true, not, Option, Some, None, List, [], ◌∷◌, ◌++◌, ◌&&◌, ◌==◌, nat_lt, length, map, slice_get}
 use Rattle.std.specs.List.{list_any, list_all}
 use Rattle.ilk_plant.specs.Broken.{broken_at}
-use Rattle.ilk_plant.specs.Draft.{Name, numbered}
-use Rattle.ilk_plant.specs.Network.{has_section, is_point}
-use Rattle.ilk_plant.specs.Plant.{PlantLists}
+use Rattle.ilk_plant.specs.Option.{is_some_and}
+use Rattle.ilk_plant.specs.Draft.{is_named_before, numbered}
+use Rattle.ilk_plant.specs.Network.{has_section}
+use Rattle.ilk_plant.specs.Plant.{PlantLists, is_point_section}
 use Rattle.ilk_plant.specs.declared.broken.Broken.{Broken}
 use Rattle.ilk_plant.specs.declared.broken.Rule.TheVariants.{R1, R2, R3, R4, R5, R6}
 use Rattle.ilk_plant.specs.declared.draft.NetDraft.{NetDraft}
 use Rattle.ilk_plant.specs.declared.draft.TableDraft.{TableDraft}
 use Rattle.ilk_plant.specs.declared.table.Route.{Route}
-
--- whether there is one, and it passes the test
-abbrev pub passes : {A : Type 0} → (A → Bool) → Option A → Bool
-passes test None = false
-passes test (Some x) = test x
 
 -- whether m is the number of a board
 abbrev pub is_board : PlantLists → ℕ → Bool
@@ -24,10 +20,6 @@ is_board p m = nat_lt m (length p.boards)
 -- whether x is the number of a section
 abbrev pub is_section : PlantLists → ℕ → Bool
 is_section p x = nat_lt x (length p.sections)
-
--- whether x is the number of a section that is a point
-abbrev pub is_point_section : PlantLists → ℕ → Bool
-is_point_section p x = passes is_point (slice_get p.sections x)
 
 -- whether r is the number of a route other than route i
 abbrev pub is_other_route : PlantLists → ℕ → ℕ → Bool
@@ -44,10 +36,6 @@ sections_of route = route.path ++ route.overlap
 
 abbrev pub points_of : Route → List ℕ
 points_of route = map (λ listed. listed.point) route.points
-
--- R1 is broken: an earlier route has the same name
-abbrev pub is_named_before : List Name → ℕ → Bool
-is_named_before names i = passes (λ name. list_any (bytes_eq name) (take i names)) (slice_get names i)
 
 -- R2: the source is a board
 abbrev pub has_source : PlantLists → Route → Bool
@@ -73,7 +61,7 @@ has_conflicts_once p i route = list_all (is_other_route p i) route.conflicts && 
 
 -- whether route i fails the test
 abbrev pub route_fails : PlantLists → (Route → Bool) → ℕ → Bool
-route_fails p test i = passes (λ route. not (test route)) (slice_get p.routes i)
+route_fails p test i = is_some_and (slice_get p.routes i) (λ route. not (test route))
 
 -- the broken rules of the table, in order
 abbrev pub routes_broken : PlantLists → List Broken

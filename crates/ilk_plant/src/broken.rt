@@ -1,3 +1,8 @@
+ghost use Rattle.std.specs.Prelude.{◌≡◌, ◌∷◌, [], ◌++◌, if◌then◌else◌, OnOk};
+
+use crate::Row;
+use std::alloc::AllocError;
+
 /// A rule of the network (N), of the table of routes (R) or of its columns (C).
 #[derive(Clone, Copy, PartialEq, Eq, Debug)]
 pub enum Rule {
@@ -30,4 +35,14 @@ pub struct Broken {
     pub rule: Rule,
     pub first: u32,
     pub second: Option<u32>,
+}
+
+/// Adds an entry to a list where it is broken. The only refusal is want of memory.
+pub fn push_if(found: &mut Row<Broken>, is_broken: bool, entry: Broken) -> Result<(), AllocError>
+    ensures { OnOk result (found.new ≡ found.old ++ (if is_broken then entry ∷ [] else [])) }
+{
+    if is_broken {
+        found.push(entry)?;
+    }
+    Ok(())
 }

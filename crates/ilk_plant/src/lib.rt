@@ -7,6 +7,7 @@
 
 mod broken;
 mod draft;
+mod locks;
 mod make;
 mod names;
 mod network;
@@ -14,6 +15,7 @@ mod numbered_drafts;
 mod numbering;
 mod occupancy;
 mod plant;
+mod points;
 mod row;
 mod shape;
 mod start;
@@ -21,13 +23,16 @@ mod state;
 mod table;
 mod text;
 
-pub use broken::{Broken, Rule};
+pub use broken::{Broken, Rule, push_if};
 pub use draft::{KindDraft, ListedDraft, NetDraft, RouteDraft, SectionDraft, TableDraft};
+pub use locks::{has_lock, is_clear};
 pub use names::Names;
 pub use network::{Board, Dir, Position, Section};
 pub use numbered_drafts::Numbered;
+pub use numbering::{board_names, section_names};
 pub use occupancy::{has_section, occupied};
 pub use plant::Plant;
+pub use points::{lie_of, point_on};
 pub use row::Row;
 pub use start::start_state;
 pub use state::{Aspect, Hold, Lie, Mode, PointState, RouteState, State, Train};

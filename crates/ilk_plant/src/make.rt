@@ -17,6 +17,6 @@ impl Plant {
         ensures { IfOk result (λ plant. plant ≡ numbered net.now table.now) }
     {
         let made = Numbered::of(alloc, net, table)?;
-        Ok(Plant::of_numbered(made))
+        Plant::of_numbered(alloc, made)
     }
 }

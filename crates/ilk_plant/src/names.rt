@@ -1,7 +1,6 @@
 ghost use Rattle.std.specs.Prelude.{◌≡◌, ◌<◌, ◌≤◌, IfOk, IfSome, Some, length, option_map, slice_get};
-ghost use Rattle.ilk_plant.specs.Draft.{number_of};
+ghost use Rattle.ilk_plant.specs.Draft.{is_named_before, number_of};
 ghost use Rattle.ilk_plant.specs.Plant.{first_named};
-ghost use Rattle.ilk_plant.specs.TableRules.{is_named_before};
 ghost use Rattle.ilk_plant.specs.Names.{IsIndexOf};
 
 use crate::{Row, Text};
@@ -106,11 +105,13 @@ impl Names {
         }
     }
 
-    /// Whether name `i` stands earlier too.
+    /// Whether name `i` stands earlier too; false where there is no name `i`.
     pub fn is_named_before(&self, i: u32) -> bool
-        requires { i < length self.now }
         ensures { result ≡ is_named_before self.now i }
     {
+        if i >= self.len() {
+            return false;
+        }
         match self.number(self.name(i).as_str()) {
             Some(first) => first < i,
             None => false,

@@ -1,6 +1,7 @@
 ghost use Rattle.std.specs.Prelude.{◌≡◌, ◌≤◌, ◌<◌, IfOk, Some, length, slice_get};
-ghost use Rattle.ilk_plant.specs.Draft.{numbered};
-ghost use Rattle.ilk_plant.specs.TableRules.{is_board, is_named_before, is_other_route, is_point_section, is_section};
+ghost use Rattle.ilk_plant.specs.Draft.{is_named_before, numbered};
+ghost use Rattle.ilk_plant.specs.TableRules.{is_board, is_other_route, is_section};
+ghost use Rattle.ilk_plant.specs.Plant.{is_point_section, point_numbers};
 
 use crate::names::Names;
 use crate::numbering::{
@@ -48,9 +49,9 @@ impl Numbered {
         ensures { IfOk result (λ made. made ≡ numbered net.now table.now) }
     {
         let named = named_boards(alloc, &net.sections)?;
-        let section_names = Names::of(alloc, section_names(alloc, &net.sections)?)?;
+        let section_names = section_names(alloc, &net.sections)?;
         let board_names = Names::of(alloc, named.names)?;
-        let route_names = Names::of(alloc, route_names(alloc, &table.routes)?)?;
+        let route_names = route_names(alloc, &table.routes)?;
         let sections = numbered_sections(alloc, &section_names, &board_names, &net.sections)?;
         let routes = numbered_routes(
             alloc,
@@ -69,6 +70,24 @@ impl Numbered {
         })
     }
 
+    /// For each section its number among the points, if it is one. The only refusal is want of
+    /// memory.
+    pub(crate) fn point_numbers(&self, alloc: Global) -> Result<Row<Option<u32>>, AllocError>
+        ensures { IfOk result (λ numbers. numbers ≡ point_numbers self.now) }
+    {
+        let mut numbers = Row::new(alloc);
+        let mut points = 0;
+        for section in self.sections.as_slice() {
+            if section.is_point() {
+                numbers.push(Some(points))?;
+                points += 1;
+            } else {
+                numbers.push(None)?;
+            }
+        }
+        Ok(numbers)
+    }
+
     /// The number of routes, at most 128.
     pub fn routes(&self) -> u32
         ensures { result ≡ length self.now.routes }
@@ -84,9 +103,8 @@ impl Numbered {
         self.routes.at(i as u64)
     }
 
-    /// Whether an earlier route has the name of route `i`.
+    /// Whether an earlier route has the name of route `i`; false where there is no route `i`.
     pub fn is_named_before(&self, i: u32) -> bool
-        requires { i < length self.now.routes }
         ensures { result ≡ is_named_before self.now.route_names i }
     {
         let _ = &self.routes;

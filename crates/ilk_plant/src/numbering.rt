@@ -8,25 +8,27 @@ use crate::{
 use std::alloc::{AllocError, Global};
 
 /// The names of the sections, in order.
-pub fn section_names(alloc: Global, sections: &Row<SectionDraft>) -> Result<Row<Text>, AllocError>
+pub fn section_names(alloc: Global, sections: &Row<SectionDraft>) -> Result<Names, AllocError>
+    requires { length sections.now ≤ 128 }
     ensures { IfOk result (λ names. names ≡ names_of_sections sections.now) }
 {
     let mut names = Row::new(alloc);
     for section in sections.as_slice() {
         names.push(section.name.copy(alloc)?)?;
     }
-    Ok(names)
+    Names::of(alloc, names)
 }
 
 /// The names of the routes, in order.
-pub fn route_names(alloc: Global, routes: &Row<RouteDraft>) -> Result<Row<Text>, AllocError>
+pub fn route_names(alloc: Global, routes: &Row<RouteDraft>) -> Result<Names, AllocError>
+    requires { length routes.now ≤ 128 }
     ensures { IfOk result (λ names. names ≡ names_of_routes routes.now) }
 {
     let mut names = Row::new(alloc);
     for route in routes.as_slice() {
         names.push(route.name.copy(alloc)?)?;
     }
-    Ok(names)
+    Names::of(alloc, names)
 }
 
 /// Boards and their names, in the order of their numbers.
@@ -95,6 +97,14 @@ pub fn named_boards(alloc: Global, sections: &Row<SectionDraft>) -> Result<Named
         push_boards(alloc, &mut made, i as u32, &section.kind)?;
     }
     Ok(made)
+}
+
+/// The names of the boards, in the order of their numbers.
+pub fn board_names(alloc: Global, sections: &Row<SectionDraft>) -> Result<Names, AllocError>
+    requires { length sections.now ≤ 128 }
+    ensures { IfOk result (λ names. names ≡ names_of_boards sections.now) }
+{
+    Names::of(alloc, named_boards(alloc, sections)?.names)
 }
 
 // The numbers for which these names stand.

@@ -1,17 +1,18 @@
-ghost use Rattle.std.specs.Prelude.{◌≡◌, ◌<◌, ◌≤◌, length, slice_get, Some, IfSome, count_by, take};
-ghost use Rattle.ilk_plant.specs.Network.{is_point};
+ghost use Rattle.std.specs.Prelude.{◌≡◌, ◌<◌, ◌≤◌, length, slice_get, Some, IfOk, IfSome};
 ghost use Rattle.ilk_plant.specs.Sound.{IsOfDrafts, IsSound, NeverReturns};
 ghost use Rattle.ilk_plant.specs.Plant.{IsPlant, IsRouteOf, board_of, border, first_named, next_to, point_count, point_number};
 
 use crate::{Board, Dir, Names, Numbered, Route, Row, Section};
+use std::alloc::{AllocError, Global};
 use std::marker::Model;
 
 /// A plant: its sections, boards and routes by number from 0, with their names.
 ///
 /// Sections and routes are numbered as the configuration lists them. Boards are numbered in the
 /// order of their sections, on one section the board for direction down first, and points in the
-/// order of their sections. A plant has 1 to 128 sections and at most 128 routes, and breaks no
-/// rule of the network or of the table of routes.
+/// order of their sections. A plant has 1 to 128 sections and at most 128 routes, each name is of 1
+/// to 32 of the characters `A-Z a-z 0-9 _ -`, and it breaks no rule of the network or of the table
+/// of routes.
 #[derive(Drop)]
 pub struct Plant {
     sections: Row<Section>,
@@ -20,11 +21,13 @@ pub struct Plant {
     section_names: Names,
     board_names: Names,
     route_names: Names,
+    // For each section its number among the points, if it is one.
+    point_numbers: Row<Option<u32>>,
 }
 
 impl Model for Plant {
     ghost use Rattle.ilk_plant.specs.Plant.{PlantLists};
-    ghost use Rattle.ilk_plant.specs.Sound.{IsSound};
+    ghost use Rattle.ilk_plant.specs.Sound.{IsIndexed};
 
     ghost Value = { PlantLists };
 
@@ -37,22 +40,23 @@ impl Model for Plant {
       route_names = p.route_names;
     } };
 
-    ghost invariant = { λ p. IsSound (record {
+    ghost invariant = { λ p. IsIndexed (record {
       sections = p.sections;
       boards = p.boards;
       routes = p.routes;
       section_names = p.section_names;
       board_names = p.board_names;
       route_names = p.route_names;
-    }) };
+    }) p.point_numbers };
 }
 
 impl Plant {
-    /// The plant of a numbered network and table.
-    pub(crate) fn of_numbered(numbered: Numbered) -> Plant
+    /// The plant of a numbered network and table. The only refusal is want of memory.
+    pub(crate) fn of_numbered(alloc: Global, numbered: Numbered) -> Result<Plant, AllocError>
         requires { IsSound numbered }
-        ensures { result ≡ numbered }
+        ensures { IfOk result (λ plant. plant ≡ numbered) }
     {
+        let point_numbers = numbered.point_numbers(alloc)?;
         let Numbered {
             sections,
             boards,
@@ -61,14 +65,15 @@ impl Plant {
             board_names,
             route_names,
         } = numbered;
-        Plant {
+        Ok(Plant {
             sections,
             boards,
             routes,
             section_names,
             board_names,
             route_names,
-        }
+            point_numbers,
+        })
     }
 
     /// What holds of the numbers of every plant. It does nothing, and tells a proof.
@@ -172,26 +177,13 @@ impl Plant {
         self.section(x).beside(d, i)
     }
 
-    // How many points have a lower number than section `x`.
-    fn points_before(&self, x: u32) -> u32
-        requires { x < length self.now.sections }
-        ensures { result ≡ count_by is_point (take x self.now.sections) }
-    {
-        let before = &self.sections.as_slice()[..x as usize];
-        before.iter().filter(|section| section.is_point()).count() as u32
-    }
-
     /// The number of the point on section `x`. None where the section is no point.
     pub fn point_number(&self, x: u32) -> Option<u32>
         requires { x < length self.now.sections }
         ensures number { result ≡ point_number self.now x }
         ensures known { IfSome result (λ n. n < point_count self.now) }
     {
-        if self.section(x).is_point() {
-            Some(self.points_before(x))
-        } else {
-            None
-        }
+        *self.point_numbers.at(x as u64)
     }
 
     /// The inward direction of section `x`, in which trains enter. None where it is no border.

@@ -26,8 +26,9 @@ impl Plant {
         self.neighbour(x, d, 0) == Some(y) || self.neighbour(x, d, 1) == Some(y)
     }
 
-    // Whether each section of the rest is next to the one before, in direction `d`.
-    fn leads_on(&self, d: Dir, first: u32, rest: &[u32]) -> bool
+    /// Whether each section of the rest is next to the one before in direction `d`, the first of
+    /// them next to section `first`. A number that is no section has nothing next to it.
+    pub fn leads_on(&self, d: Dir, first: u32, rest: &[u32]) -> bool
         ensures { result ≡ leads_on self.now d first rest.now }
     {
         let mut x = first;
@@ -40,8 +41,9 @@ impl Plant {
         true
     }
 
-    // Whether a train has a body: it isn't empty, begins at a section of the plant, and leads on.
-    fn is_body(&self, train: &Train) -> bool
+    /// Whether a train has a body: it isn't empty, begins at a section of the plant, and leads on
+    /// in the train's direction.
+    pub fn is_body(&self, train: &Train) -> bool
         ensures { result ≡ is_body self.now train.now }
     {
         match train.body.as_slice() {

@@ -1,0 +1,58 @@
+-- The numbers of the points of the first sections, when one more section is looked at.
+use Rattle.std.proofs.Common.{◌≡◌, ℕ, ◌+◌, ◌<◌, Bool, true, false, Option, Some, None, IfSome, List, [], ◌∷◌, ◌++◌, count_by, get_or, length, map, slice_get, take, sym, ap, ◌∙◌, arith}
+use Rattle.std.specs.List.{range_with_len}
+use Rattle.std.proofs.lemmas.List.FromFn.{length-map-range_with_len, map-range_with_len_more}
+use Rattle.std.proofs.lemmas.List.Sums.{count_by_more_no, count_by_more_yes}
+use Rattle.std.proofs.lemmas.Option.{cond_some, option_and_then_some, same_Some, slice_get-get_or, slice_get-map}
+use Rattle.ilk_plant.specs.Option.{◌>>=◌, only_if}
+use Rattle.ilk_plant.specs.Network.{is_point}
+use Rattle.ilk_plant.specs.Plant.{PlantLists, point_count, point_number, point_numbers}
+use Rattle.ilk_plant.specs.declared.network.Section.{Section}
+use Rattle.ilk_plant.proofs.Counts.{count_by-take-lt}
+use Rattle.ilk_plant.proofs.Options.{IfSome-from}
+use Rattle.ilk_plant.proofs.Rules.{range-at}
+
+module _ (p : PlantLists) (x : ℕ) (d : Section) (within : x < length p.sections) (numbers new : List (Option ℕ)) (points : ℕ) (so_far : numbers ≡ map (point_number p) (range_with_len 0 x)) (count : points ≡ count_by is_point (take x p.sections)) where
+  here : (b : Bool) → is_point (get_or p.sections x d) ≡ b → point_number p x ≡ only_if b (count_by is_point (take x p.sections))
+  here b e =
+      ap (λ (o : Option Section). o >>= (λ section. only_if (is_point section) (count_by is_point (take x p.sections)))) (slice_get-get_or p.sections x d within)
+      ∙ ap (λ c. only_if c (count_by is_point (take x p.sections))) e
+
+  with : (number : Option ℕ) → number ≡ point_number p x → new ≡ numbers ++ number ∷ [] → new ≡ map (point_number p) (range_with_len 0 (x + 1))
+  with number same now =
+      now ∙ ap (λ l. l ++ number ∷ []) so_far ∙ ap (λ o. map (point_number p) (range_with_len 0 x) ++ o ∷ []) same
+      ∙ sym (map-range_with_len_more (point_number p) 0 x x (omega arith))
+
+  -- the section is a point
+  pub point_more : is_point (get_or p.sections x d) ≡ true → new ≡ numbers ++ Some points ∷ [] → (new ≡ map (point_number p) (range_with_len 0 (x + 1))) × (points + 1 ≡ count_by is_point (take (x + 1) p.sections))
+  point_more e now =
+      (with (Some points) (ap Some count ∙ sym (here true e)) now, ap (λ n. n + 1) count ∙ sym (count_by_more_yes is_point p.sections x d within e))
+
+  -- the section is no point
+  pub point_same : is_point (get_or p.sections x d) ≡ false → new ≡ numbers ++ None ∷ [] → (new ≡ map (point_number p) (range_with_len 0 (x + 1))) × (points ≡ count_by is_point (take (x + 1) p.sections))
+  point_same e now = (with None (sym (here false e)) now, count ∙ sym (count_by_more_no is_point p.sections x d within e))
+
+-- the number of the point on section x, by the index
+point_numbers-at : (p : PlantLists) (x : ℕ) → x < length p.sections → slice_get (point_numbers p) x ≡ Some (point_number p x)
+point_numbers-at p x within =
+    slice_get-map (point_number p) (range_with_len 0 (length p.sections)) x ∙ ap (λ (o : Option ℕ). o >>= (λ y. Some (point_number p y))) (range-at (length p.sections) x within)
+
+-- the index has an entry for each section
+pub length-point_numbers : (p : PlantLists) → length (point_numbers p) ≡ length p.sections
+length-point_numbers p = length-map-range_with_len (point_number p) 0 (length p.sections)
+
+-- an entry of the index at section x is the number of its point
+pub indexed-number : (p : PlantLists) (numbers : List (Option ℕ)) (x : ℕ) (number : Option ℕ) → numbers ≡ point_numbers p → x < length p.sections → slice_get numbers x ≡ Some number → number ≡ point_number p x
+indexed-number p numbers x number index within at =
+    same_Some number (point_number p x) (sym at ∙ ap (λ l. slice_get l x) index ∙ point_numbers-at p x within)
+
+-- a point's number is below the count of points
+pub point_number-below : (p : PlantLists) (x : ℕ) → IfSome (point_number p x) (λ n. n < point_count p)
+point_number-below p x = IfSome-from (point_number p x) (λ n. n < point_count p) below
+  where
+    below : (n : ℕ) → point_number p x ≡ Some n → n < point_count p
+    below n e =
+        option_and_then_some (λ section. only_if (is_point section) (count_by is_point (take x p.sections))) (slice_get p.sections x) n e (λ section at e1.
+        let numbered = cond_some (is_point section) (count_by is_point (take x p.sections)) n e1 in
+        let less = count_by-take-lt is_point p.sections x section at numbered.0 in
+        omega (arith, less, numbered.1))

@@ -1,0 +1,21 @@
+ghost use Rattle.std.specs.Prelude.{◌≡◌};
+ghost use Rattle.ilk_plant.specs.State.{has_lock, is_clear};
+
+use crate::{Hold, State, occupied};
+
+/// Whether section `x` has this lock. A number that is no section has none.
+pub fn has_lock(s: &State, x: u32, hold: Hold) -> bool
+    ensures { result ≡ has_lock s.now x hold }
+{
+    match s.locks.as_slice().get(x as usize) {
+        Some(lock) => *lock == hold,
+        None => false,
+    }
+}
+
+/// Whether section `x` has lock Free and is vacant.
+pub fn is_clear(s: &State, x: u32) -> bool
+    ensures { result ≡ is_clear s.now x }
+{
+    has_lock(s, x, Hold::Free) && !occupied(s, x)
+}
