@@ -4,8 +4,9 @@ use Rattle.std.specs.Prelude.{IsOk}
 use Rattle.serde_json.specs.Data.{Data, Items}
 use Rattle.serde_json.specs.Events.{items_len}
 use Rattle.ilk_plant.specs.Option.{only_if}
+use Rattle.ilk_plant.specs.Result.{◌>>=◌}
 use Rattle.ilk_net_read.specs.Document.{Parts, as_document, has_version, is_within_limits}
-use Rattle.ilk_net_read.specs.Fault.{◌>>=◌, broken, checked, or_fault}
+use Rattle.ilk_net_read.specs.Fault.{broken, checked, or_fault}
 use Rattle.ilk_net_read.specs.Member.{array_at}
 use Rattle.ilk_net_read.specs.Network.{HasDocument, document_of}
 use Rattle.ilk_net_read.specs.declared.fault.Form.TheVariants.{F3, F4, F6}

@@ -2,9 +2,9 @@
 use Rattle.std.specs.Prelude.{ℕ, Bool, Option, ◌&&◌, ◌==◌, codes, nat_le}
 use Rattle.serde_json.specs.Data.{Data, Items}
 use Rattle.serde_json.specs.Events.{items_len}
+use Rattle.ilk_plant.specs.Name.{lies_within}
 use Rattle.ilk_plant.specs.Option.{◌>>=◌, only_if}
 use Rattle.ilk_net_read.specs.Member.{has_members, whole_number_at, array_at}
-use Rattle.ilk_net_read.specs.Name.{lies_within}
 
 pub record Parts : Type 0 where
   pub version : ℕ

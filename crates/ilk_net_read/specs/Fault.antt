@@ -9,12 +9,6 @@ use Rattle.ilk_net_read.specs.declared.fault.KindError.{KindError}
 use Rattle.ilk_net_read.specs.declared.fault.KindError.TheVariants.{WrongKind, OutOfMemory as NoMemory}
 use Rattle.ilk_net_read.specs.declared.fault.Place.{Place}
 
--- `x ← r` in a `do` block: x is the value of r, and where r is a fault the whole is that fault
-infixl 10 ◌>>=◌
-abbrev pub ◌>>=◌ : {A B : Type 0} → Result A FormFault → (A → Result B FormFault) → Result B FormFault
-(Ok x) >>= f = f x
-(Err fault) >>= f = Err fault
-
 -- this rule is broken at this place
 abbrev pub broken : Form → Place → FormFault
 broken rule place = record { rule = rule; place = place }

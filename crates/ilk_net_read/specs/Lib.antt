@@ -1,5 +1,4 @@
 pub mod Fault
-pub mod Name
 pub mod Member
 pub mod Document
 pub mod Section

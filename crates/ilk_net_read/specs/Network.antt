@@ -4,14 +4,16 @@ use Rattle.std.specs.List.{list_all}
 use Rattle.std.specs.Str.{is_utf8}
 use Rattle.serde_json.specs.Data.{Data, Items, no_items, item}
 use Rattle.serde_json.specs.Read.{read}
+use Rattle.ilk_plant.specs.Limits.{section_has_names}
+use Rattle.ilk_plant.specs.Result.{◌>>=◌}
 use Rattle.ilk_plant.specs.declared.draft.NetDraft.{NetDraft}
 use Rattle.ilk_plant.specs.declared.draft.SectionDraft.{SectionDraft}
 use Rattle.ilk_net_read.specs.declared.fault.Form.TheVariants.{F2, F3, F4, F5, F6}
 use Rattle.ilk_net_read.specs.declared.fault.FormFault.{FormFault}
 use Rattle.ilk_net_read.specs.declared.fault.Place.TheVariants.{Document, Section}
 use Rattle.ilk_net_read.specs.Document.{Parts, as_document, has_version, is_within_limits}
-use Rattle.ilk_net_read.specs.Fault.{◌>>=◌, broken, checked, or_fault}
-use Rattle.ilk_net_read.specs.Section.{as_section, section_has_names}
+use Rattle.ilk_net_read.specs.Fault.{broken, checked, or_fault}
+use Rattle.ilk_net_read.specs.Section.{as_section}
 
 -- the value that a text is: F2 where the bytes aren't the UTF-8 of a JSON text
 abbrev pub value_of : List ℕ → Result Data FormFault

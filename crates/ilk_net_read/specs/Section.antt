@@ -1,15 +1,13 @@
 -- A section: its kind, its neighbours and its boards.
-use Rattle.std.specs.Prelude.{Bool, Option, Some, None, ◌&&◌, bytes_eq, codes, if◌then◌else◌}
+use Rattle.std.specs.Prelude.{Option, Some, None, bytes_eq, codes, if◌then◌else◌}
 use Rattle.serde_json.specs.Data.{Data}
-use Rattle.ilk_plant.specs.Draft.{Name}
+use Rattle.ilk_plant.specs.Name.{Name}
 use Rattle.ilk_plant.specs.Option.{◌>>=◌, only_if}
-use Rattle.ilk_plant.specs.declared.draft.KindDraft.{KindDraft}
 use Rattle.ilk_plant.specs.declared.draft.KindDraft.TheVariants.{Linear, Point}
 use Rattle.ilk_plant.specs.declared.draft.SectionDraft.{SectionDraft}
 use Rattle.ilk_plant.specs.declared.network.Dir.{Dir}
 use Rattle.ilk_plant.specs.declared.network.Dir.TheVariants.{Up, Down}
 use Rattle.ilk_net_read.specs.Member.{has_members, text_at, optional_text_at}
-use Rattle.ilk_net_read.specs.Name.{is_name, is_name_if_given}
 
 -- the direction that a text names: `up` or `down`
 abbrev pub direction_named : Name → Option Dir
@@ -46,13 +44,3 @@ abbrev pub as_section : Data → Option SectionDraft
 as_section d = do
   kind ← text_at (codes "kind") d
   if bytes_eq kind (codes "linear") then as_linear d else (if bytes_eq kind (codes "point") then as_point d else None)
-
--- whether the texts of neighbours and boards are names
-abbrev pub kind_has_names : KindDraft → Bool
-kind_has_names (Linear down up board_down board_up) =
-    is_name_if_given down && is_name_if_given up && is_name_if_given board_down && is_name_if_given board_up
-kind_has_names (Point stem plus minus faces) = is_name stem && is_name plus && is_name minus
-
--- whether each text of a section, but for those of `kind` and `faces`, is a name
-abbrev pub section_has_names : SectionDraft → Bool
-section_has_names section = is_name section.name && kind_has_names section.kind

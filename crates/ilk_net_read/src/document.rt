@@ -2,9 +2,9 @@
 
 ghost use Rattle.std.specs.Prelude.{◌≡◌, ◌&&◌, nat_le, option_map, true, IfOk};
 ghost use Rattle.serde_json.specs.View.{view};
+ghost use Rattle.ilk_plant.specs.Name as name;
 ghost use Rattle.ilk_net_read.specs.Document as parts;
 ghost use Rattle.ilk_net_read.specs.Fault.{GivesBy};
-ghost use Rattle.ilk_net_read.specs.Name as name;
 ghost use Rattle.ilk_net_read.specs.Network as network;
 ghost use Rattle.ilk_net_read.specs.Seen.{seen, HasLimits};
 

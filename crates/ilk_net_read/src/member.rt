@@ -5,7 +5,6 @@ ghost use Rattle.serde_json.specs.Find.{as_str};
 ghost use Rattle.serde_json.specs.View.{view, items_view};
 ghost use Rattle.ilk_net_read.specs.Fault.{Reads};
 ghost use Rattle.ilk_net_read.specs.Member as member;
-ghost use Rattle.ilk_net_read.specs.Name as name;
 
 use crate::KindError;
 use ilk_plant::{Row, Text};

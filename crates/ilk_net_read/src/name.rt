@@ -2,7 +2,7 @@
 
 ghost use Rattle.std.specs.Prelude.{◌≡◌};
 ghost use Rattle.std.specs.List.{list_all};
-ghost use Rattle.ilk_net_read.specs.Name as name;
+ghost use Rattle.ilk_plant.specs.Name as name;
 
 use ilk_plant::Text;
 

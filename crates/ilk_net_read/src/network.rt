@@ -3,9 +3,9 @@
 ghost use Rattle.std.specs.Prelude.{◌≡◌, ◌≤◌, length, true, IfOk};
 ghost use Rattle.std.specs.List.{list_all};
 ghost use Rattle.serde_json.specs.View.{view, items_view};
+ghost use Rattle.ilk_plant.specs.Limits.{section_has_names};
 ghost use Rattle.ilk_net_read.specs.Fault.{Gives};
 ghost use Rattle.ilk_net_read.specs.Network.{network_of, section_of, in_order, HasDocument, IsWithin};
-ghost use Rattle.ilk_net_read.specs.Section.{section_has_names};
 
 use crate::FormError;
 use crate::document::document_of;

@@ -2,6 +2,7 @@
 
 ghost use Rattle.std.specs.Prelude.{◌≡◌, true, IfOk};
 ghost use Rattle.serde_json.specs.View.{view};
+ghost use Rattle.ilk_plant.specs.Limits.{kind_has_names, section_has_names};
 ghost use Rattle.ilk_net_read.specs.Fault.{Gives, Reads};
 ghost use Rattle.ilk_net_read.specs.Network as network;
 ghost use Rattle.ilk_net_read.specs.Section as section;
@@ -84,7 +85,7 @@ fn section(alloc: Global, value: &Value) -> Result<SectionDraft, KindError>
 }
 
 fn has_names(kind: &KindDraft) -> bool
-    ensures { result ≡ section.kind_has_names kind.now }
+    ensures { result ≡ kind_has_names kind.now }
 {
     match kind {
         KindDraft::Linear {
@@ -114,7 +115,7 @@ pub(crate) fn section_of(
     value: &Value,
 ) -> Result<SectionDraft, FormError>
     ensures exact { Gives result (network.section_of number (view value.now)) }
-    ensures named { IfOk result (λ draft. section.section_has_names draft ≡ true) }
+    ensures named { IfOk result (λ draft. section_has_names draft ≡ true) }
 {
     let place = Place::Section(number);
     let draft = match section(alloc, value) {

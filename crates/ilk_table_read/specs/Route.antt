@@ -1,15 +1,13 @@
 -- A route: its boards, its sections, and what it lists.
 use Rattle.std.specs.Prelude.{Bool, Option, Some, None, List, ◌&&◌, bytes_eq, codes, length, nat_le, if◌then◌else◌}
-use Rattle.std.specs.List.{list_all}
 use Rattle.serde_json.specs.Data.{Data}
-use Rattle.ilk_plant.specs.Draft.{Name}
+use Rattle.ilk_plant.specs.Name.{Name, lies_within}
 use Rattle.ilk_plant.specs.Option.{◌>>=◌, only_if}
 use Rattle.ilk_plant.specs.declared.draft.ListedDraft.{ListedDraft}
 use Rattle.ilk_plant.specs.declared.draft.RouteDraft.{RouteDraft}
 use Rattle.ilk_plant.specs.declared.network.Position.{Position}
 use Rattle.ilk_plant.specs.declared.network.Position.TheVariants.{Plus, Minus}
 use Rattle.ilk_net_read.specs.Member.{has_members, text_at, optional_text_at, array_at, texts_at, each_as}
-use Rattle.ilk_net_read.specs.Name.{is_name, is_name_if_given, lies_within}
 
 -- the position that a text names: `plus` or `minus`
 abbrev pub position_named : Name → Option Position
@@ -42,11 +40,6 @@ as_route d = do
   points ← points_of d
   conflicts ← texts_at (codes "conflicts") d
   only_if (has_members 7 d) (record { name = name; source = source; destination = destination; path = path; overlap = overlap; points = points; conflicts = conflicts })
-
--- whether each text of a route, but for those of `position`, is a name
-abbrev pub route_has_names : RouteDraft → Bool
-route_has_names route =
-    is_name route.name && is_name route.source && is_name_if_given route.destination && list_all is_name route.path && list_all is_name route.overlap && list_all (λ listed. is_name listed.point) route.points && list_all is_name route.conflicts
 
 -- whether a route has 1 to 32 sections in its path, at most 8 in its overlap, and lists at most 40
 -- points and at most 128 conflicts

@@ -2,16 +2,17 @@
 use Rattle.std.specs.Prelude.{ℕ, ◌≤◌, List, length, Result, Ok, IsTrue}
 use Rattle.std.specs.List.{All, list_all}
 use Rattle.serde_json.specs.Data.{Data}
-use Rattle.ilk_plant.specs.Limits.{RouteHasLimits}
+use Rattle.ilk_plant.specs.Limits.{RouteHasLimits, route_has_names}
+use Rattle.ilk_plant.specs.Result.{◌>>=◌}
 use Rattle.ilk_plant.specs.declared.draft.NetDraft.{NetDraft}
 use Rattle.ilk_plant.specs.declared.draft.RouteDraft.{RouteDraft}
 use Rattle.ilk_plant.specs.declared.draft.TableDraft.{TableDraft}
 use Rattle.ilk_net_read.specs.declared.fault.Form.TheVariants.{F3, F5, F6}
 use Rattle.ilk_net_read.specs.declared.fault.FormFault.{FormFault}
 use Rattle.ilk_net_read.specs.declared.fault.Place.TheVariants.{Route}
-use Rattle.ilk_net_read.specs.Fault.{◌>>=◌, broken, checked, or_fault}
+use Rattle.ilk_net_read.specs.Fault.{broken, checked, or_fault}
 use Rattle.ilk_net_read.specs.Network.{document_of, in_order, network_of, value_of}
-use Rattle.ilk_table_read.specs.Route.{as_route, is_within_limits, route_has_names}
+use Rattle.ilk_table_read.specs.Route.{as_route, is_within_limits}
 
 -- route i: F3 where the value isn't one, then F5, its names, then F6, its lists
 abbrev pub route_of : ℕ → Data → Result RouteDraft FormFault

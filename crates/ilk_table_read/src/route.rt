@@ -1,11 +1,11 @@
 //! The routes.
 
-ghost use Rattle.ilk_plant.specs.Limits.{RouteHasLimits};
 ghost use Rattle.std.specs.Prelude.{◌≡◌, ◌&&◌, nat_le, true, IfOk};
 ghost use Rattle.std.specs.List.{list_all};
 ghost use Rattle.serde_json.specs.View.{view};
+ghost use Rattle.ilk_plant.specs.Limits.{RouteHasLimits, route_has_names};
+ghost use Rattle.ilk_plant.specs.Name as name;
 ghost use Rattle.ilk_net_read.specs.Fault.{Gives, Reads};
-ghost use Rattle.ilk_net_read.specs.Name as name;
 ghost use Rattle.ilk_table_read.specs.Route as spec;
 ghost use Rattle.ilk_table_read.specs.Table as table;
 
@@ -55,7 +55,7 @@ fn points_are_names(points: &[ListedDraft]) -> bool
 }
 
 fn has_names(route: &RouteDraft) -> bool
-    ensures { result ≡ spec.route_has_names route.now }
+    ensures { result ≡ route_has_names route.now }
 {
     is_name(&route.name)
         && is_name(&route.source)
@@ -80,7 +80,7 @@ fn is_within_limits(route: &RouteDraft) -> bool
 pub(crate) fn route_of(alloc: Global, number: u32, value: &Value) -> Result<RouteDraft, FormError>
     ensures exact { Gives result (table.route_of number (view value.now)) }
     ensures limits { IfOk result RouteHasLimits }
-    ensures named { IfOk result (λ draft. spec.route_has_names draft ≡ true) }
+    ensures named { IfOk result (λ draft. route_has_names draft ≡ true) }
 {
     let place = Place::Route(number);
     let draft = match route(alloc, value) {

@@ -3,10 +3,9 @@
 ghost use Rattle.std.specs.Prelude.{◌≡◌, ◌≤◌, length, true, IfOk};
 ghost use Rattle.std.specs.List.{All, list_all};
 ghost use Rattle.serde_json.specs.View.{view, items_view};
+ghost use Rattle.ilk_plant.specs.Limits.{RouteHasLimits, route_has_names};
 ghost use Rattle.ilk_net_read.specs.Fault.{Gives};
 ghost use Rattle.ilk_net_read.specs.Network.{in_order, HasDocument};
-ghost use Rattle.ilk_table_read.specs.Route.{route_has_names};
-ghost use Rattle.ilk_plant.specs.Limits.{RouteHasLimits};
 ghost use Rattle.ilk_table_read.specs.Table.{table_of, route_of, IsWithin};
 
 use crate::route::route_of;

@@ -2,7 +2,7 @@ use Rattle.std.proofs.Common.{◌≡◌, drop, length, true}
 use Rattle.std.specs.List.{list_all}
 use Rattle.serde_json.specs.View.{items_view}
 use Rattle.ilk_net_read.specs.Network.{in_order, section_of}
-use Rattle.ilk_net_read.specs.Section.{section_has_names}
+use Rattle.ilk_plant.specs.Limits.{section_has_names}
 use Rattle.ilk_net_read.proofs.InOrder.{with_front}
 use Rattle.ilk_net_read.proofs.network.sections.Given as goal
 

@@ -6,4 +6,6 @@ returns-clause-limits c = record {
   few_sections = c.in_ok-net.ensures.limits.few;
   few_routes = c.in_ok-table.ensures.limits.few;
   each_route = c.in_ok-table.ensures.limits.each;
+  sections_named = c.in_ok-net.ensures.limits.named;
+  routes_named = c.in_ok-table.ensures.limits.named;
 }

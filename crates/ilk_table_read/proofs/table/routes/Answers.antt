@@ -3,8 +3,7 @@ use Rattle.std.proofs.lemmas.List.{length-append}
 use Rattle.std.proofs.lemmas.List.Elements.{All-append, All-from_recursion}
 use Rattle.ilk_net_read.proofs.InOrder.{in_order-more}
 use Rattle.ilk_net_read.proofs.Limits.{list_all-more}
-use Rattle.ilk_table_read.specs.Route.{route_has_names}
-use Rattle.ilk_plant.specs.Limits.{RouteHasLimits}
+use Rattle.ilk_plant.specs.Limits.{RouteHasLimits, route_has_names}
 use Rattle.ilk_table_read.specs.Table.{route_of}
 use Rattle.ilk_table_read.proofs.table.routes.Goals as goal
 

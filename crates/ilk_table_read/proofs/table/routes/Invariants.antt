@@ -3,8 +3,7 @@ use Rattle.std.specs.List.{All, list_all}
 use Rattle.serde_json.specs.View.{items_view}
 use Rattle.ilk_net_read.specs.Network.{in_order}
 use Rattle.ilk_net_read.proofs.InOrder.{with_front}
-use Rattle.ilk_table_read.specs.Route.{route_has_names}
-use Rattle.ilk_plant.specs.Limits.{RouteHasLimits}
+use Rattle.ilk_plant.specs.Limits.{RouteHasLimits, route_has_names}
 use Rattle.ilk_table_read.specs.Table.{route_of}
 use Rattle.ilk_table_read.proofs.table.routes.Given as goal
 
