@@ -1,4 +1,2 @@
-pub mod Added
 pub mod Numbered
-pub mod Positions
 pub mod Tables

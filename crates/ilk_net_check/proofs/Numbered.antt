@@ -1,23 +1,25 @@
 -- The rules over numbers are the rules over names.
-use Rattle.std.proofs.Common.{◌≡◌, ℕ, zero, suc, ◌<◌, ◌+◌, ◌≤◌, Bool, false, not, ◌&&◌, ◌||◌, ◌==◌, cond, Option, Some, None, List, [], ◌∷◌, ◌++◌, length, map, get_or, slice_get, count_by, ◌⊎◌, inl, inr, refl, sym, ◌∙◌, ap, arith}
+use Rattle.std.proofs.Common.{◌≡◌, ℕ, zero, suc, ◌<◌, ◌+◌, ◌≤◌, Bool, false, not, ◌&&◌, ◌||◌, ◌==◌, cond, Option, List, [], ◌∷◌, ◌++◌, length, map, get_or, count_by, ◌⊎◌, inl, inr, refl, sym, ◌∙◌, ap, arith}
 use Rattle.std.specs.List.{list_any, range_with_len}
 use Rattle.std.proofs.lemmas.List.{get_or_past}
 use Rattle.std.proofs.lemmas.List.FromFn.{length-map-range_with_len}
 use Rattle.std.proofs.lemmas.List.Sums.{sum_by-cons}
 use Rattle.std.proofs.lemmas.Option.{slice_get_past}
 use Rattle.ilk_plant.specs.Broken.{broken_at}
-use Rattle.ilk_plant.specs.Draft.{Name, names_of_boards, names_of_sections}
+use Rattle.ilk_plant.specs.Draft.{is_named_before, names_of_boards, names_of_sections}
+use Rattle.ilk_plant.specs.Name.{Name}
 use Rattle.ilk_plant.specs.Network.{same_direction}
-use Rattle.ilk_plant.specs.NetworkRules.{ends_of, has_board_at_end, has_board_to_nowhere, has_no_neighbour, is_next_up, is_some_and, leads_by, network_rules_broken, opposite, repeats_name, returns, section_named, stands_alone}
-use Rattle.ilk_plant.specs.NetworkRules.{is_not_named_back, names_once as names_once_by_name, names_no_other as names_no_other_by_name, repeats_neighbour as repeats_neighbour_by_name}
+use Rattle.ilk_plant.specs.NetworkRules.{ends_of, has_board_at_end, is_next_up, leads_by, network_rules_broken, opposite, repeats_neighbour, returns, section_named, stands_alone}
+use Rattle.ilk_plant.specs.NetworkRules.{is_not_named_back, names_once as names_once_by_name, names_no_other as names_no_other_by_name}
+use Rattle.ilk_plant.specs.Option.{is_some_and}
 use Rattle.ilk_plant.specs.declared.broken.Broken.{Broken}
 use Rattle.ilk_plant.specs.declared.broken.Rule.TheVariants.{N1, N2, N3, N4, N5, N6, N7, N8}
 use Rattle.ilk_plant.specs.declared.draft.NetDraft.{NetDraft}
 use Rattle.ilk_plant.specs.declared.draft.SectionDraft.{SectionDraft}
 use Rattle.ilk_plant.specs.declared.network.Dir.{Dir}
 use Rattle.ilk_net_check.specs.declared.ends.End.{End}
-use Rattle.ilk_net_check.specs.Numbers.{breaks, ends_at, entry, is_next, is_one_way, leads_to, names, names_no_other, names_once, numbered_end, numbered_ends, repeats_neighbour, section_is, table}
-use Rattle.ilk_net_check.proofs.Tables.{below_or_past, entry-table, flag-at}
+use Rattle.ilk_net_check.specs.Numbers.{breaks, ends_at, entry, is_next, is_one_way, leads_to, names, names_no_other, names_once, numbered_end, numbered_ends, table}
+use Rattle.ilk_net_check.proofs.Tables.{below_or_past, entry-table}
 
 list_any-map : {X Y : Type 0} (p : Y → Bool) (f : X → Y) (xs : List X) → list_any p (map f xs) ≡ list_any (λ x. p (f x)) xs
 list_any-map p f [] = refl
@@ -28,22 +30,9 @@ count_by-map p f [] = refl
 count_by-map p f (x ∷ xs) =
     sum_by-cons (λ y. cond (p y) 1 0) (f x) (map f xs) ∙ ap (λ n. cond (p (f x)) 1 0 + n) (count_by-map p f xs) ∙ sym (sum_by-cons (λ y. cond (p (f y)) 1 0) x xs)
 
--- nothing past the end repeats a name
-repeats_name-past : (names : List Name) (i : ℕ) → length names ≤ i → repeats_name names i ≡ false
-repeats_name-past names i past = rw (slice_get_past names i past) refl
-
--- the flags of the names that repeat earlier ones
-pub repeated-at : (names : List Name) (flags : List Bool) → flags ≡ map (repeats_name names) (range_with_len 0 (length names)) → (i : ℕ) → get_or flags i false ≡ repeats_name names i
-repeated-at names flags e i =
-    ap (λ l. get_or l i false) e ∙ flag-at (repeats_name names) (length names) (repeats_name-past names) i
-
 -- the ends of each section, with numbers for names
 abbrev numbered_all : (Name → Option ℕ) → List SectionDraft → List (List End)
 numbered_all number sections = map (λ section. numbered_ends number section.kind) sections
-
--- numbers that are the same name by name
-pub numbered-same : (f g : Name → Option ℕ) → ((q : Name) → f q ≡ g q) → (sections : List SectionDraft) → map (λ section. numbered_ends f section.kind) sections ≡ map (λ section. numbered_ends g section.kind) sections
-numbered-same f g h sections = λ i. map (λ section. numbered_ends (λ q. h q i) section.kind) sections
 
 -- the ends of section x
 ends_at-numbered : (number : Name → Option ℕ) (sections : List SectionDraft) (x : ℕ) → ends_at (numbered_all number sections) x ≡ map (numbered_end number) (ends_of (record { sections = sections }) x)
@@ -109,50 +98,41 @@ module _ (net : NetDraft) (all : List (List End)) (ends_are : all ≡ numbered_a
               let long : length (map rows (range_with_len 0 (length net.sections))) ≤ x = rw (length-map-range_with_len rows 0 (length net.sections)) past in
               ap (λ row. get_or row x false) (get_or_past (map rows (range_with_len 0 (length net.sections))) x [] long) ∙ get_or_past [] x false (omega arith)
 
--- N4: the kind of a section by its number
-neighbours_here : (net : NetDraft) (x : ℕ) → section_is net.sections repeats_neighbour x ≡ repeats_neighbour_by_name net x
-neighbours_here net x = by_section (slice_get net.sections x) refl
-  where
-    by_section : (o : Option SectionDraft) → slice_get net.sections x ≡ o → section_is net.sections repeats_neighbour x ≡ repeats_neighbour_by_name net x
-    by_section None e = rw e refl
-    by_section (Some section) e = rw e refl
-
-module _ (net : NetDraft) (sections : List SectionDraft) (repeated_sections repeated_boards : List Bool) (all : List (List End)) (leads : List (List Bool))
-    (same : sections ≡ net.sections)
-    (sections_are : repeated_sections ≡ map (repeats_name (names_of_sections net.sections)) (range_with_len 0 (length (names_of_sections net.sections))))
-    (boards_are : repeated_boards ≡ map (repeats_name (names_of_boards net.sections)) (range_with_len 0 (length (names_of_boards net.sections))))
+module _ (net draft : NetDraft) (section_names board_names : List Name) (all : List (List End)) (leads : List (List Bool))
+    (same : draft ≡ net)
+    (sections_named : section_names ≡ names_of_sections net.sections)
+    (boards_named : board_names ≡ names_of_boards net.sections)
     (ends_are : all ≡ numbered_all (section_named net) net.sections)
     (leads_are : leads ≡ table (length net.sections) (leads_by (is_next all) (length net.sections))) where
   -- the lists of broken places, one after another
   pub rules-joined : (b1 b2 b3 b4 b5 b6 b7 b8 : List Broken) (n boards : ℕ)
       → n ≡ length net.sections
-      → boards ≡ length repeated_boards
-      → b1 ≡ broken_at N1 n (breaks sections repeated_sections repeated_boards all leads N1)
-      → b2 ≡ b1 ++ broken_at N2 boards (breaks sections repeated_sections repeated_boards all leads N2)
-      → b3 ≡ b2 ++ broken_at N3 n (breaks sections repeated_sections repeated_boards all leads N3)
-      → b4 ≡ b3 ++ broken_at N4 n (breaks sections repeated_sections repeated_boards all leads N4)
-      → b5 ≡ b4 ++ broken_at N5 n (breaks sections repeated_sections repeated_boards all leads N5)
-      → b6 ≡ b5 ++ broken_at N6 n (breaks sections repeated_sections repeated_boards all leads N6)
-      → b7 ≡ b6 ++ broken_at N7 n (breaks sections repeated_sections repeated_boards all leads N7)
-      → b8 ≡ b7 ++ broken_at N8 n (breaks sections repeated_sections repeated_boards all leads N8)
+      → boards ≡ length board_names
+      → b1 ≡ broken_at N1 n (breaks draft section_names board_names all leads N1)
+      → b2 ≡ b1 ++ broken_at N2 boards (breaks draft section_names board_names all leads N2)
+      → b3 ≡ b2 ++ broken_at N3 n (breaks draft section_names board_names all leads N3)
+      → b4 ≡ b3 ++ broken_at N4 n (breaks draft section_names board_names all leads N4)
+      → b5 ≡ b4 ++ broken_at N5 n (breaks draft section_names board_names all leads N5)
+      → b6 ≡ b5 ++ broken_at N6 n (breaks draft section_names board_names all leads N6)
+      → b7 ≡ b6 ++ broken_at N7 n (breaks draft section_names board_names all leads N7)
+      → b8 ≡ b7 ++ broken_at N8 n (breaks draft section_names board_names all leads N8)
       → b8 ≡ network_rules_broken net
   rules-joined b1 b2 b3 b4 b5 b6 b7 b8 n boards count board_count e1 e2 e3 e4 e5 e6 e7 e8 =
-      let m : boards ≡ length (names_of_boards net.sections) =
-      board_count ∙ ap length boards_are ∙ length-map-range_with_len (repeats_name (names_of_boards net.sections)) 0 (length (names_of_boards net.sections)) in
-      let f1 : b1 ≡ broken_at N1 (length net.sections) (repeats_name (names_of_sections net.sections)) =
-      e1 ∙ (λ i. broken_at N1 (count i) (λ x. repeated-at (names_of_sections net.sections) repeated_sections sections_are x i)) in
-      let f2 : b2 ≡ b1 ++ broken_at N2 (length (names_of_boards net.sections)) (repeats_name (names_of_boards net.sections)) =
-      e2 ∙ (λ i. b1 ++ broken_at N2 (m i) (λ x. repeated-at (names_of_boards net.sections) repeated_boards boards_are x i)) in
+      let m : boards ≡ length (names_of_boards net.sections) = board_count ∙ ap length boards_named in
+      let f1 : b1 ≡ broken_at N1 (length net.sections) (is_named_before (names_of_sections net.sections)) =
+      e1 ∙ (λ i. broken_at N1 (count i) (is_named_before (sections_named i))) in
+      let f2 : b2 ≡ b1 ++ broken_at N2 (length (names_of_boards net.sections)) (is_named_before (names_of_boards net.sections)) =
+      e2 ∙ (λ i. b1 ++ broken_at N2 (m i) (is_named_before (boards_named i))) in
       let f3 : b3 ≡ b2 ++ broken_at N3 (length net.sections) (names_no_other_by_name net) =
       e3 ∙ (λ i. b2 ++ broken_at N3 (count i) (λ x. other_here net all ends_are x i)) in
-      let f4 : b4 ≡ b3 ++ broken_at N4 (length net.sections) (repeats_neighbour_by_name net) =
-      e4 ∙ (λ i. b3 ++ broken_at N4 (count i) (section_is (same i) repeats_neighbour)) ∙ (λ i. b3 ++ broken_at N4 (length net.sections) (λ x. neighbours_here net x i)) in
+      let f4 : b4 ≡ b3 ++ broken_at N4 (length net.sections) (repeats_neighbour net) =
+      e4 ∙ (λ i. b3 ++ broken_at N4 (count i) (repeats_neighbour (same i))) in
       let f5 : b5 ≡ b4 ++ broken_at N5 (length net.sections) (is_not_named_back net) =
       e5 ∙ (λ i. b4 ++ broken_at N5 (count i) (λ x. back_here net all ends_are x i)) in
       let f6 : b6 ≡ b5 ++ broken_at N6 (length net.sections) (stands_alone net) =
-      e6 ∙ (λ i. b5 ++ broken_at N6 (count i) (section_is (same i) has_no_neighbour)) in
+      e6 ∙ (λ i. b5 ++ broken_at N6 (count i) (stands_alone (same i))) in
       let f7 : b7 ≡ b6 ++ broken_at N7 (length net.sections) (returns net) =
       e7 ∙ (λ i. b6 ++ broken_at N7 (count i) (λ x. returns_here net all ends_are leads leads_are x i)) in
       let f8 : b8 ≡ b7 ++ broken_at N8 (length net.sections) (has_board_at_end net) =
-      e8 ∙ (λ i. b7 ++ broken_at N8 (count i) (section_is (same i) has_board_to_nowhere)) in
+      e8 ∙ (λ i. b7 ++ broken_at N8 (count i) (has_board_at_end (same i))) in
       rw (f8, f7, f6, f5, f4, f3, f2, f1) refl

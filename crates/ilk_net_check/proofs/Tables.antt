@@ -1,9 +1,8 @@
 -- Tables of tests over pairs of numbers.
-use Rattle.std.proofs.Common.{◌≡◌, ℕ, zero, suc, ◌<◌, ◌+◌, ◌≤◌, Bool, true, false, List, [], ◌∷◌, ◌++◌, length, map, get_or, refl, sym, ◌∙◌, subst, arith, ◌⊎◌, inl, inr, nat_lt}
+use Rattle.std.proofs.Common.{◌≡◌, ℕ, zero, suc, ◌<◌, ◌+◌, ◌≤◌, Bool, true, false, List, [], ◌∷◌, ◌++◌, map, refl, ◌∙◌, subst, arith, ◌⊎◌, inl, inr, nat_lt}
 use Rattle.std.specs.List.{range_with_len}
-use Rattle.std.proofs.lemmas.List.FromFn.{get_or-map-range_with_len, length-map-range_with_len, map-range_with_len_more}
+use Rattle.std.proofs.lemmas.List.FromFn.{get_or-map-range_with_len, map-range_with_len_more}
 use Rattle.std.proofs.lemmas.Bool.Decides.{nat_tests}
-use Rattle.std.proofs.lemmas.List.{get_or_past}
 use Rattle.ilk_plant.specs.NetworkRules.{leads_by}
 use Rattle.ilk_net_check.specs.Numbers.{entry, joined, table}
 
@@ -50,13 +49,3 @@ below_or_past x n = by_test (nat_lt x n) refl
     by_test : (b : Bool) → nat_lt x n ≡ b → (x < n) ⊎ (n ≤ x)
     by_test true e = inl (grind (arith, nat_tests))
     by_test false e = inr (grind (arith, nat_tests))
-
--- what a list has at an index, of what a function gives; nothing past its end
-pub flag-at : (f : ℕ → Bool) (n : ℕ) → ((x : ℕ) → n ≤ x → f x ≡ false) → (x : ℕ) → get_or (map f (range_with_len 0 n)) x false ≡ f x
-flag-at f n past x = by_place (below_or_past x n)
-  where
-    by_place : (x < n) ⊎ (n ≤ x) → get_or (map f (range_with_len 0 n)) x false ≡ f x
-    by_place (inl lt) = get_or-map-range_with_len f 0 n x x false lt (omega arith)
-    by_place (inr le) =
-        let long : length (map f (range_with_len 0 n)) ≤ x = rw (length-map-range_with_len f 0 n) le in
-        get_or_past (map f (range_with_len 0 n)) x false long ∙ sym (past x le)

@@ -1,6 +1,6 @@
 -- Small networks: a plain line of two sections, the same with a neighbour left out, rings, and lines that divide in two.
 use Rattle.std.specs.Prelude.{ℕ, Option, Some, None, [], ◌∷◌}
-use Rattle.ilk_plant.specs.Draft.{Name}
+use Rattle.ilk_plant.specs.Name.{Name}
 use Rattle.ilk_plant.specs.declared.broken.Broken.{Broken}
 use Rattle.ilk_plant.specs.declared.broken.Rule.{Rule}
 use Rattle.ilk_plant.specs.declared.draft.KindDraft.TheVariants.{Linear as LinearDraft, Point as PointDraft}

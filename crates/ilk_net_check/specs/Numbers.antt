@@ -1,15 +1,16 @@
 -- A network in numbers: the ends of its sections, and tables of tests over pairs of sections.
-use Rattle.std.specs.Prelude.{ℕ, Bool, false, not, ◌&&◌, ◌||◌, ◌==◌, Option, List, [], map, count_by, slice_get, slice_index_or}
+use Rattle.std.specs.Prelude.{ℕ, Bool, false, not, ◌&&◌, ◌||◌, ◌==◌, Option, List, [], map, count_by, slice_index_or}
 use Rattle.std.specs.List.{list_any, range_with_len}
-use Rattle.ilk_plant.specs.Draft.{Name}
+use Rattle.ilk_plant.specs.Draft.{is_named_before}
+use Rattle.ilk_plant.specs.Name.{Name}
 use Rattle.ilk_plant.specs.Network.{same_direction}
-use Rattle.ilk_plant.specs.NetworkRules.{ends, has_board_to_nowhere, has_no_neighbour, is_some_and, opposite}
-use Rattle.ilk_plant.specs.NetworkRules.{all_differ}
+use Rattle.ilk_plant.specs.NetworkRules.{ends, has_board_at_end, opposite, repeats_neighbour, stands_alone}
+use Rattle.ilk_plant.specs.Option.{is_some_and}
 use Rattle.ilk_plant.specs.declared.broken.Rule.{Rule}
 use Rattle.ilk_plant.specs.declared.broken.Rule.TheVariants.{N1, N2, N3, N4, N5, N6, N7, N8}
 use Rattle.ilk_plant.specs.NetworkRules.{End as NamedEnd}
 use Rattle.ilk_plant.specs.declared.draft.KindDraft.{KindDraft}
-use Rattle.ilk_plant.specs.declared.draft.SectionDraft.{SectionDraft}
+use Rattle.ilk_plant.specs.declared.draft.NetDraft.{NetDraft}
 use Rattle.ilk_plant.specs.declared.network.Dir.{Dir}
 use Rattle.ilk_plant.specs.declared.network.Dir.TheVariants.{Up}
 use Rattle.ilk_net_check.specs.declared.ends.End.{End}
@@ -63,22 +64,14 @@ abbrev pub is_one_way : List (List End) → ℕ → End → Bool
 is_one_way all x end =
     is_some_and end.section (λ y. not (y == x) && not (names_once x (opposite end.side) (ends_at all y)))
 
--- whether two neighbours of a section have the same name
-abbrev pub repeats_neighbour : KindDraft → Bool
-repeats_neighbour kind = not (all_differ (map (λ end. end.name) (ends kind)))
-
--- whether a section is there, and passes
-abbrev pub section_is : List SectionDraft → (KindDraft → Bool) → ℕ → Bool
-section_is sections test x = is_some_and (slice_get sections x) (λ section. test section.kind)
-
--- whether section or board x breaks a rule of the network, by the drafts, by which names repeat earlier ones, by the ends, and by where walks lead
-abbrev pub breaks : List SectionDraft → List Bool → List Bool → List (List End) → List (List Bool) → Rule → ℕ → Bool
-breaks sections repeated_sections repeated_boards all leads N1 x = slice_index_or repeated_sections x false
-breaks sections repeated_sections repeated_boards all leads N2 x = slice_index_or repeated_boards x false
-breaks sections repeated_sections repeated_boards all leads N3 x = list_any (names_no_other x) (ends_at all x)
-breaks sections repeated_sections repeated_boards all leads N4 x = section_is sections repeats_neighbour x
-breaks sections repeated_sections repeated_boards all leads N5 x = list_any (is_one_way all x) (ends_at all x)
-breaks sections repeated_sections repeated_boards all leads N6 x = section_is sections has_no_neighbour x
-breaks sections repeated_sections repeated_boards all leads N7 x = entry leads x x
-breaks sections repeated_sections repeated_boards all leads N8 x = section_is sections has_board_to_nowhere x
-breaks sections repeated_sections repeated_boards all leads rule x = false
+-- whether section or board x breaks a rule of the network, by its draft, by the names of the sections and of the boards, by the ends, and by where walks lead
+abbrev pub breaks : NetDraft → List Name → List Name → List (List End) → List (List Bool) → Rule → ℕ → Bool
+breaks net section_names board_names all leads N1 x = is_named_before section_names x
+breaks net section_names board_names all leads N2 x = is_named_before board_names x
+breaks net section_names board_names all leads N3 x = list_any (names_no_other x) (ends_at all x)
+breaks net section_names board_names all leads N4 x = repeats_neighbour net x
+breaks net section_names board_names all leads N5 x = list_any (is_one_way all x) (ends_at all x)
+breaks net section_names board_names all leads N6 x = stands_alone net x
+breaks net section_names board_names all leads N7 x = entry leads x x
+breaks net section_names board_names all leads N8 x = has_board_at_end net x
+breaks net section_names board_names all leads rule x = false

@@ -1,10 +1,10 @@
-ghost use Rattle.std.specs.Prelude.{◌≡◌, ◌==◌, ◌++◌, not, bytes_eq, IfOk, OnOk, map};
-ghost use Rattle.indexmap.specs.IndexMap.{get_by};
-ghost use Rattle.ilk_plant.specs.NetworkRules.{end_with, is_some_and, opposite as opposite_of};
+ghost use Rattle.std.specs.Prelude.{◌≡◌, ◌==◌, ◌++◌, not, IfOk, OnOk, map};
+ghost use Rattle.ilk_plant.specs.NetworkRules.{end_with, opposite as opposite_of};
+ghost use Rattle.ilk_plant.specs.Option.{is_some_and};
+ghost use Rattle.ilk_plant.specs.Plant.{first_named};
 ghost use Rattle.ilk_net_check.specs.Numbers.{ends_at, numbered_end, numbered_ends};
 
-use ilk_plant::{Dir, KindDraft, Row, SectionDraft, Text};
-use indexmap::IndexMap;
+use ilk_plant::{Dir, KindDraft, Names, Row, SectionDraft, Text};
 use std::alloc::{AllocError, Global};
 
 /// An end of a section at which a neighbour is given: its side, and the number of the section for
@@ -48,45 +48,41 @@ pub fn opposite(dir: Dir) -> Dir
 }
 
 // The end on side `side`, where a neighbour has this name.
-fn end_of(numbers: &IndexMap<&str, u32>, side: Dir, name: &Text) -> End
-    ensures { result ≡ record { side = side; section = get_by (λ key. bytes_eq name.now key.now) numbers.now } }
+fn end_of(names: &Names, side: Dir, name: &Text) -> End
+    ensures { result ≡ record { side = side; section = first_named names.now name.now } }
 {
     End {
         side,
-        section: numbers.get(name.as_str()).copied(),
+        section: names.number(name.as_str()),
     }
 }
 
 // Adds the end on side `side`, if a neighbour is given there.
 fn push_end(
-    numbers: &IndexMap<&str, u32>,
+    names: &Names,
     ends: &mut Row<End>,
     side: Dir,
     name: &Option<Text>,
 ) -> Result<(), AllocError>
     ensures { OnOk result
-        (ends.new ≡ ends.old ++ map (numbered_end (λ q. get_by (λ key. bytes_eq q key.now) numbers.now)) (end_with side name.now)) }
+        (ends.new ≡ ends.old ++ map (numbered_end (first_named names.now)) (end_with side name.now)) }
 {
     if let Some(name) = name {
-        ends.push(end_of(numbers, side, name))?;
+        ends.push(end_of(names, side, name))?;
     }
     Ok(())
 }
 
 // The ends of a section, with numbers for names.
-fn numbered_ends(
-    alloc: Global,
-    numbers: &IndexMap<&str, u32>,
-    kind: &KindDraft,
-) -> Result<Row<End>, AllocError>
+fn numbered_ends(alloc: Global, names: &Names, kind: &KindDraft) -> Result<Row<End>, AllocError>
     ensures { IfOk result
-        (λ made. made ≡ numbered_ends (λ q. get_by (λ key. bytes_eq q key.now) numbers.now) kind.now) }
+        (λ made. made ≡ numbered_ends (first_named names.now) kind.now) }
 {
     let mut ends = Row::new(alloc);
     match kind {
         KindDraft::Linear { down, up, .. } => {
-            push_end(numbers, &mut ends, Dir::Down, down)?;
-            push_end(numbers, &mut ends, Dir::Up, up)?;
+            push_end(names, &mut ends, Dir::Down, down)?;
+            push_end(names, &mut ends, Dir::Up, up)?;
         }
         KindDraft::Point {
             stem,
@@ -94,9 +90,9 @@ fn numbered_ends(
             minus,
             faces,
         } => {
-            ends.push(end_of(numbers, opposite(*faces), stem))?;
-            ends.push(end_of(numbers, *faces, plus))?;
-            ends.push(end_of(numbers, *faces, minus))?;
+            ends.push(end_of(names, opposite(*faces), stem))?;
+            ends.push(end_of(names, *faces, plus))?;
+            ends.push(end_of(names, *faces, minus))?;
         }
     }
     Ok(ends)
@@ -105,15 +101,15 @@ fn numbered_ends(
 /// The ends of each section, with the numbers that the names of the neighbours stand for.
 pub fn all_ends(
     alloc: Global,
-    numbers: &IndexMap<&str, u32>,
+    names: &Names,
     sections: &[SectionDraft],
 ) -> Result<Row<Row<End>>, AllocError>
     ensures { IfOk result
-        (λ made. made ≡ map (λ section. numbered_ends (λ q. get_by (λ key. bytes_eq q key.now) numbers.now) section.kind) sections.now) }
+        (λ made. made ≡ map (λ section. numbered_ends (first_named names.now) section.kind) sections.now) }
 {
     let mut made = Row::new(alloc);
     for section in sections {
-        made.push(numbered_ends(alloc, numbers, &section.kind)?)?;
+        made.push(numbered_ends(alloc, names, &section.kind)?)?;
     }
     Ok(made)
 }

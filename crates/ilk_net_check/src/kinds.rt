@@ -1,6 +1,5 @@
-ghost use Rattle.std.specs.Prelude.{◌≡◌, bytes_eq};
-ghost use Rattle.ilk_plant.specs.NetworkRules.{has_board_to_nowhere, has_no_neighbour};
-ghost use Rattle.ilk_net_check.specs.Numbers.{repeats_neighbour};
+ghost use Rattle.std.specs.Prelude.{◌≡◌, bytes_eq, map, not};
+ghost use Rattle.ilk_plant.specs.NetworkRules.{all_differ, ends, has_board_to_nowhere, has_no_neighbour};
 
 use ilk_plant::{KindDraft, Text};
 
@@ -13,7 +12,7 @@ fn same_name(name: &Text, other: &Text) -> bool
 
 /// Whether two neighbours of a section have the same name.
 pub fn repeats_neighbour(kind: &KindDraft) -> bool
-    ensures { result ≡ repeats_neighbour kind.now }
+    ensures { result ≡ not (all_differ (map (λ end. end.name) (ends kind.now))) }
 {
     match kind {
         KindDraft::Linear {

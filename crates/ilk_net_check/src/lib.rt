@@ -4,7 +4,6 @@
 mod ends;
 mod examples;
 mod kinds;
-mod names;
 mod neighbours;
 mod reach;
 mod rules;

@@ -17,8 +17,8 @@ pub fn entry(table: &Row<Row<bool>>, x: u32, y: u32) -> bool
     }
 }
 
-/// Flag `i`; false where there is none.
-pub fn flag_at(flags: &Row<bool>, i: u32) -> bool
+// Flag `i`; false where there is none.
+fn flag_at(flags: &Row<bool>, i: u32) -> bool
     ensures { result ≡ slice_index_or flags.now i false }
 {
     match flags.as_slice().get(i as usize) {

@@ -5,4 +5,4 @@ use Rattle.ilk_net_check.proofs.rules.push_broken.Given as goal
 
 abbrev pub invariant-loop-x : goal.invariant-loop-x
 invariant-loop-x l =
-    l.broken ≡ l.initial.broken ++ broken_at l.rule l.x (breaks l.network.sections.now l.network.repeated_sections l.network.repeated_boards l.network.ends l.network.leads l.rule)
+    l.broken ≡ l.initial.broken ++ broken_at l.rule l.x (breaks l.network.net.now l.network.section_names l.network.board_names l.network.ends l.network.leads l.rule)
