@@ -2,7 +2,8 @@
 use Rattle.std.proofs.Common.{◌≡◌, ℕ, Option, Some, None, List, [], ◌∷◌, ◌++◌, refl}
 use Rattle.std.specs.Prelude.{codes}
 use Rattle.ilk_plant.specs.ColumnRules.{column_rules_broken}
-use Rattle.ilk_plant.specs.Draft.{Name, numbered}
+use Rattle.ilk_plant.specs.Draft.{numbered}
+use Rattle.ilk_plant.specs.Name.{Name}
 use Rattle.ilk_plant.specs.TableRules.{table_rules_broken}
 use Rattle.ilk_plant.specs.declared.broken.Broken.{Broken}
 use Rattle.ilk_plant.specs.declared.broken.Rule.{Rule}

@@ -1,7 +1,8 @@
 -- The rules of the table by their names.
 use Rattle.std.specs.Prelude.{ℕ, Bool, false}
+use Rattle.ilk_plant.specs.Draft.{is_named_before}
 use Rattle.ilk_plant.specs.Plant.{PlantLists}
-use Rattle.ilk_plant.specs.TableRules.{has_conflicts_once, has_destination_or_none, has_points_once, has_sections_once, has_source, is_named_before, route_fails}
+use Rattle.ilk_plant.specs.TableRules.{has_conflicts_once, has_destination_or_none, has_points_once, has_sections_once, has_source, route_fails}
 use Rattle.ilk_plant.specs.declared.broken.Rule.{Rule}
 use Rattle.ilk_plant.specs.declared.broken.Rule.TheVariants.{R1, R2, R3, R4, R5, R6}
 

@@ -6,9 +6,8 @@ ghost use Rattle.ilk_plant.specs.TableRules.{sections_of};
 ghost use Rattle.ilk_plant.specs.ColumnRules.{column_rules_broken, is_open_border, lists, share_section};
 ghost use Rattle.ilk_table_check.specs.Columns.{breaks_alone, breaks_together, pairs_of, places};
 
-use crate::listing::push_if;
-use crate::ways::{overlap_is_way, path_ends_at_board, path_is_way, points_are_set};
-use ilk_plant::{Broken, Plant, Route, Row, Rule, has_section};
+use crate::ways::{overlap_leads_on, path_ends_at_board, path_leads_on, points_are_set};
+use ilk_plant::{Broken, Plant, Route, Row, Rule, has_section, push_if};
 use std::alloc::{AllocError, Global};
 
 // Whether a route lists route `j` as a conflict.
@@ -78,10 +77,10 @@ fn breaks_alone(plant: &Plant, rule: Rule, i: u32) -> bool
     ensures { result ≡ breaks_alone plant.now rule i }
 {
     match rule {
-        Rule::C1 => !path_is_way(plant, plant.route(i)),
+        Rule::C1 => !path_leads_on(plant, plant.route(i)),
         Rule::C2 => !path_ends_at_board(plant, plant.route(i)),
         Rule::C3 => !points_are_set(plant, plant.route(i)),
-        Rule::C4 => !overlap_is_way(plant, plant.route(i)),
+        Rule::C4 => !overlap_leads_on(plant, plant.route(i)),
         Rule::C7 => is_open_border(plant, i),
         _ => false,
     }

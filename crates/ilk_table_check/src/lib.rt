@@ -3,7 +3,7 @@
 #![tactic(auto)]
 
 mod columns;
-mod listing;
+mod listed;
 mod table;
 #[cfg(test)]
 mod tests;

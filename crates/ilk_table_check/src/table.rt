@@ -3,11 +3,12 @@ ghost use Rattle.std.specs.List.{list_all, list_any};
 ghost use Rattle.ilk_plant.specs.Broken.{broken_at};
 ghost use Rattle.ilk_plant.specs.Network.{has_section};
 ghost use Rattle.ilk_plant.specs.Limits.{HasLimits};
-ghost use Rattle.ilk_plant.specs.TableRules.{has_conflicts_once, has_destination_or_none, has_points_once, has_sections_once, is_other_route, is_point_section, is_section, none_twice, points_of, routes_broken, sections_of, table_rules_broken};
+ghost use Rattle.ilk_plant.specs.Plant.{is_point_section};
+ghost use Rattle.ilk_plant.specs.TableRules.{has_conflicts_once, has_destination_or_none, has_points_once, has_sections_once, is_other_route, is_section, none_twice, points_of, routes_broken, sections_of, table_rules_broken};
 ghost use Rattle.ilk_table_check.specs.Table.{breaks_table};
 
-use crate::listing::push_if;
-use ilk_plant::{Broken, Listed, NetDraft, Numbered, Route, Row, Rule, TableDraft};
+use crate::listed::is_listed;
+use ilk_plant::{Broken, Listed, NetDraft, Numbered, Route, Row, Rule, TableDraft, push_if};
 use std::alloc::{AllocError, Global};
 
 // Whether the numbers have this one.
@@ -87,13 +88,6 @@ fn are_points_of(plant: &Numbered, route: &Route) -> bool
         .iter()
         .map(|listed| listed.point)
         .all(|x| is_point_of(plant, route, x))
-}
-
-// Whether point `x` is listed among these.
-fn is_listed(x: u32, points: &[Listed]) -> bool
-    ensures { result ≡ list_any (λ y. y == x) (map (λ listed. listed.point) points.now) }
-{
-    points.iter().map(|listed| listed.point).any(|y| y == x)
 }
 
 // Whether no point is listed twice.
@@ -191,7 +185,8 @@ fn broken_routes(alloc: Global, plant: &Numbered) -> Result<Row<Broken>, AllocEr
 /// All broken rules of a table of routes, R1 to R6, in the order of the rules and then of the
 /// routes. A name stands for the first section, board or route that has it. The network has 1 to
 /// 128 sections and the table at most 128 routes, each with 1 to 32 sections in its path, at most 8
-/// in its overlap, at most 40 points and at most 128 conflicts. The only refusal is want of memory.
+/// in its overlap, at most 40 points and at most 128 conflicts, and each text in both is a name. The
+/// only refusal is want of memory.
 pub fn check_table(
     alloc: Global,
     net: &NetDraft,

@@ -1,6 +1,8 @@
 //! What no clause says: that the check of a table succeeds where memory is there.
-ghost use Rattle.std.specs.Prelude.{◌≡◌, IfOk, length};
-ghost use Rattle.ilk_plant.specs.Limits.{RouteHasLimits};
+ghost use Rattle.std.specs.Prelude.{◌≡◌, ◌∷◌, [], IfOk, length, true};
+ghost use Rattle.std.specs.List.{list_all};
+ghost use Rattle.ilk_plant.specs.Limits.{RouteHasLimits, route_has_names, section_has_names};
+ghost use Rattle.ilk_plant.specs.Name.{is_name, is_name_if_given};
 
 use crate::check_table;
 use ilk_plant::{
@@ -10,17 +12,24 @@ use std::alloc::{AllocError, Global};
 use std::test::Fail;
 
 // A text of these characters.
-fn text(alloc: Global, name: &str) -> Result<Text, AllocError> {
+fn text(alloc: Global, name: &str) -> Result<Text, AllocError>
+    ensures { IfOk result (λ text. text ≡ name.now) }
+{
     Ok(Text::of(String::from_str(alloc, name)?))
 }
 
-// A linear section without boards.
+// A linear section without boards, whose texts are names.
 fn section(
     alloc: Global,
     name: &str,
     down: Option<Text>,
     up: Option<Text>,
-) -> Result<SectionDraft, AllocError> {
+) -> Result<SectionDraft, AllocError>
+    requires name { is_name name.now ≡ true }
+    requires down { is_name_if_given down ≡ true }
+    requires up { is_name_if_given up ≡ true }
+    ensures { IfOk result (λ section. section_has_names section ≡ true) }
+{
     let kind = KindDraft::Linear {
         down,
         up,
@@ -35,7 +44,7 @@ fn section(
 
 // A row of one text.
 fn row_of(alloc: Global, name: &str) -> Result<Row<Text>, AllocError>
-    ensures { IfOk result (λ row. length row ≡ 1) }
+    ensures { IfOk result (λ row. row ≡ name.now ∷ []) }
 {
     let mut row = Row::new(alloc);
     row.push(text(alloc, name)?)?;
@@ -49,7 +58,11 @@ fn route(
     section: &str,
     conflict: &str,
 ) -> Result<RouteDraft, AllocError>
-    ensures { IfOk result RouteHasLimits }
+    requires source { is_name source.now ≡ true }
+    requires section { is_name section.now ≡ true }
+    requires conflict { is_name conflict.now ≡ true }
+    ensures limits { IfOk result RouteHasLimits }
+    ensures named { IfOk result (λ route. route_has_names route ≡ true) }
 {
     Ok(RouteDraft {
         name: text(alloc, "r")?,
@@ -64,7 +77,8 @@ fn route(
 
 // The sections a and b, in a line and without boards.
 fn line(alloc: Global) -> Result<NetDraft, AllocError>
-    ensures { IfOk result (λ net. length net.sections ≡ 2) }
+    ensures count { IfOk result (λ net. length net.sections ≡ 2) }
+    ensures named { IfOk result (λ net. list_all section_has_names net.sections ≡ true) }
 {
     let mut sections = Row::new(alloc);
     sections.push(section(alloc, "a", None, Some(text(alloc, "b")?))?)?;
@@ -73,7 +87,10 @@ fn line(alloc: Global) -> Result<NetDraft, AllocError>
 }
 
 // What the check finds in a table of one route on the line, which begins at no board.
-fn found(alloc: Global, section: &str, conflict: &str) -> Result<Row<Broken>, AllocError> {
+fn found(alloc: Global, section: &str, conflict: &str) -> Result<Row<Broken>, AllocError>
+    requires section { is_name section.now ≡ true }
+    requires conflict { is_name conflict.now ≡ true }
+{
     let net = line(alloc)?;
     let mut routes = Row::new(alloc);
     routes.push(route(alloc, "m", section, conflict)?)?;

@@ -1,11 +1,13 @@
 ghost use Rattle.std.specs.Prelude.{◌≡◌, ◌==◌, slice_get, take, ◌∷◌, ◌||◌, not};
 ghost use Rattle.std.specs.List.{list_all, list_any};
 ghost use Rattle.std.specs.Option.{option_copied};
-ghost use Rattle.ilk_plant.specs.Network.{beside, has_section};
-ghost use Rattle.ilk_plant.specs.Plant.{next_to};
-ghost use Rattle.ilk_plant.specs.TableRules.{is_point_section, passes, points_of};
-ghost use Rattle.ilk_plant.specs.ColumnRules.{ends_at, has_no_board, is_between_boards, is_leg, is_listed_towards, is_way, overlap_is_way, path_ends_at_board, path_is_way, points_are_set, points_lead_along};
+ghost use Rattle.ilk_plant.specs.Network.{has_section};
+ghost use Rattle.ilk_plant.specs.Option.{is_some_and};
+ghost use Rattle.ilk_plant.specs.TableRules.{points_of};
+ghost use Rattle.ilk_plant.specs.Plant.{is_point_section};
+ghost use Rattle.ilk_plant.specs.ColumnRules.{ends_at, has_no_board, is_between_boards, is_leg, is_listed_towards, overlap_leads_on, path_ends_at_board, path_leads_on, points_are_set, points_lead_along};
 
+use crate::listed::is_listed;
 use ilk_plant::{Board, Dir, Listed, Plant, Position, Route, Row, Section};
 
 // Section `x`. None where there is no such section.
@@ -30,43 +32,12 @@ fn source_of(plant: &Plant, route: &Route) -> Option<Board>
     }
 }
 
-// Whether section `y` is beside a section on side `d`.
-fn is_beside(section: &Section, d: Dir, y: u32) -> bool
-    ensures { result ≡ has_section y (beside section.now d) }
-{
-    section.beside(d, 0) == Some(y) || section.beside(d, 1) == Some(y)
-}
-
-// Whether section `y` is next to section `x` in direction `d`.
-fn is_next(plant: &Plant, d: Dir, x: u32, y: u32) -> bool
-    ensures { result ≡ has_section y (next_to plant.now x d) }
-{
-    match section_at(plant, x) {
-        Some(section) => is_beside(section, d, y),
-        None => false,
-    }
-}
-
-// Whether each section is next to the one before it in direction `d`, and the first is next to `x`.
-fn is_way(plant: &Plant, d: Dir, x: u32, sections: &Row<u32>) -> bool
-    ensures { result ≡ is_way plant.now d x sections.now }
-{
-    let mut before = x;
-    for y in sections.as_slice() {
-        if !is_next(plant, d, before, *y) {
-            return false;
-        }
-        before = *y;
-    }
-    true
-}
-
-/// Whether the path is a way from the source's section.
-pub fn path_is_way(plant: &Plant, route: &Route) -> bool
-    ensures { result ≡ path_is_way plant.now route.now }
+/// Whether the path leads on from the source's section.
+pub fn path_leads_on(plant: &Plant, route: &Route) -> bool
+    ensures { result ≡ path_leads_on plant.now route.now }
 {
     match source_of(plant, route) {
-        Some(source) => is_way(plant, source.dir, source.section, &route.path),
+        Some(source) => plant.leads_on(source.dir, source.section, route.path.as_slice()),
         None => false,
     }
 }
@@ -135,7 +106,7 @@ fn is_point_section(plant: &Plant, x: u32) -> bool
 
 // Whether section `y` is the leg of section `x` at a position.
 fn is_leg(plant: &Plant, x: u32, at: Position, y: u32) -> bool
-    ensures { result ≡ passes (is_leg at y) (slice_get plant.now.sections x) }
+    ensures { result ≡ is_some_and (slice_get plant.now.sections x) (is_leg at y) }
 {
     match (section_at(plant, x), at) {
         (Some(Section::Point { plus, .. }), Position::Plus) => *plus == y,
@@ -146,7 +117,7 @@ fn is_leg(plant: &Plant, x: u32, at: Position, y: u32) -> bool
 
 // Whether the leg of section `x` at a position is the section before it or the first after it.
 fn leads_along(plant: &Plant, x: u32, at: Position, before: u32, rest: &[u32]) -> bool
-    ensures { result ≡ list_any (λ y. passes (is_leg at y) (slice_get plant.now.sections x)) (before ∷ take 1 rest.now) }
+    ensures { result ≡ list_any (λ y. is_some_and (slice_get plant.now.sections x) (is_leg at y)) (before ∷ take 1 rest.now) }
 {
     is_leg(plant, x, at, before)
         || match rest {
@@ -185,19 +156,11 @@ fn points_lead_along(plant: &Plant, points: &Row<Listed>, start: u32, path: &Row
     true
 }
 
-// Whether section `x` is listed.
-fn is_listed(route: &Route, x: u32) -> bool
-    ensures { result ≡ has_section x (points_of route.now) }
-{
-    let points = route.points.as_slice();
-    points.iter().map(|listed| listed.point).any(|y| y == x)
-}
-
 // Whether section `x` is no point, or is listed.
 fn is_listed_if_point(plant: &Plant, route: &Route, x: u32) -> bool
     ensures { result ≡ (not (is_point_section plant.now x) || has_section x (points_of route.now)) }
 {
-    !is_point_section(plant, x) || is_listed(route, x)
+    !is_point_section(plant, x) || is_listed(x, route.points.as_slice())
 }
 
 // Whether each point of an overlap is listed.
@@ -222,12 +185,12 @@ pub fn points_are_set(plant: &Plant, route: &Route) -> bool
     }
 }
 
-/// Whether the overlap is a way from the last section of the path.
-pub fn overlap_is_way(plant: &Plant, route: &Route) -> bool
-    ensures { result ≡ overlap_is_way plant.now route.now }
+/// Whether the overlap leads on from the last section of the path.
+pub fn overlap_leads_on(plant: &Plant, route: &Route) -> bool
+    ensures { result ≡ overlap_leads_on plant.now route.now }
 {
     match (source_of(plant, route), route.path.as_slice().last()) {
-        (Some(source), Some(last)) => is_way(plant, source.dir, *last, &route.overlap),
+        (Some(source), Some(last)) => plant.leads_on(source.dir, *last, route.overlap.as_slice()),
         _ => false,
     }
 }
