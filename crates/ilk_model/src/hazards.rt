@@ -1,9 +1,9 @@
 ghost use Rattle.std.specs.Prelude.{◌≡◌, find, length};
 ghost use Rattle.std.specs.List.{list_any, range_with_len};
-ghost use Rattle.ilk_plant.specs.State.{HasShape, lie_of};
+ghost use Rattle.ilk_plant.specs.State.{HasShape};
 ghost use Rattle.ilk_model.specs.Hazard.{has_pair, hazard, is_hazardous, is_two, is_wrong, strays};
 
-use ilk_plant::{Lie, Plant, Row, Section, State, Train, has_section};
+use ilk_plant::{Lie, Plant, Row, Section, State, Train, has_section, lie_of};
 
 /// A hazard, at a section.
 #[derive(Clone, Copy, PartialEq, Eq, Debug)]
@@ -35,17 +35,6 @@ fn has_pair(body: &Row<u32>, x: u32, y: u32) -> bool
         .iter()
         .zip(sections.iter().skip(1))
         .any(|(a, b)| (*a == x && *b == y) || (*a == y && *b == x))
-}
-
-// Where the point on section `x` lies. None where it is no point.
-fn lie_of(plant: &Plant, s: &State, x: u32) -> Option<Lie>
-    ensures { result ≡ lie_of plant.now s.now x }
-{
-    if x >= plant.sections() {
-        return None;
-    }
-    let n = plant.point_number(x)?;
-    Some(s.points.as_slice().get(n as usize)?.at)
 }
 
 // Whether the body is wrong on the point `x`, which lies so.

@@ -31,9 +31,8 @@ border-known p x d e = option_and_then_some inward (slice_get p.sections x) d e 
 pub after_enter-shape : (p : PlantLists) (s t : State) (x : ℕ) → HasShape p s → after_enter p s x ≡ Some t → HasShape p t
 after_enter-shape p s t x shape e =
     option_and_then_some _ (border p x) t e (λ d at e1.
-    option_and_then_some _ (slice_get s.locks x) t e1 (λ lock at2 e2.
-    let r = cond_some _ _ t e2 in
-    subst (HasShape p) r.1 (with_trains p s _ shape (All-push (IsBody p) s.trains _ shape.bodies (border-known p x d at, tt)))))
+    let r = cond_some _ _ t e1 in
+    subst (HasShape p) r.1 (with_trains p s _ shape (All-push (IsBody p) s.trains _ shape.bodies (border-known p x d at, tt))))
 
 -- what a section leads to lies beside it
 leads_to-beside : (k : Section) (d : Dir) (lie : Option Lie) (y : ℕ) → leads_to k d lie ≡ Some y → IsTrue (has_section y (beside k d))

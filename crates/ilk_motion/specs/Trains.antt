@@ -1,29 +1,22 @@
 -- The four events of trains. Each is the state that follows, where the event is enabled, and none
 -- where it isn't. All that it doesn't name stays as it was.
-use Rattle.std.specs.Prelude.{ℕ, Bool, true, false, Option, Some, None, List, [], ◌∷◌, ◌++◌, ◌&&◌, slice_get, set, remove, position, not}
-use Rattle.ilk_plant.specs.Option.{◌>>=◌, only_if}
+use Rattle.std.specs.Prelude.{ℕ, Bool, true, false, Option, Some, None, List, [], ◌∷◌, ◌++◌, slice_get, set, remove, position, not}
+use Rattle.ilk_plant.specs.Option.{◌>>=◌, is_some_and, only_if}
 use Rattle.ilk_plant.specs.Network.{beside}
 use Rattle.ilk_plant.specs.Plant.{PlantLists, border, board_of}
-use Rattle.ilk_plant.specs.State.{is_occupied}
+use Rattle.ilk_plant.specs.State.{is_clear}
 use Rattle.ilk_motion.specs.Ahead.{ahead}
 use Rattle.ilk_motion.specs.Body.{has_head, has_tail, stands_on, train_on, with_new_head, without_tail}
 use Rattle.ilk_plant.specs.declared.network.Dir.{Dir}
 use Rattle.ilk_plant.specs.declared.network.Section.{Section}
 use Rattle.ilk_plant.specs.declared.state.Aspect.{Aspect}
 use Rattle.ilk_plant.specs.declared.state.Aspect.TheVariants.{Open, Closed}
-use Rattle.ilk_plant.specs.declared.state.Hold.{Hold}
-use Rattle.ilk_plant.specs.declared.state.Hold.TheVariants.{Free, Locked, Used}
 use Rattle.ilk_plant.specs.declared.state.State.{State}
 use Rattle.ilk_plant.specs.declared.state.Train.{Train}
 
 abbrev pub is_open : Aspect → Bool
 is_open Open = true
 is_open Closed = false
-
-abbrev pub is_free : Hold → Bool
-is_free Free = true
-is_free Locked = false
-is_free Used = false
 
 -- whether a section has a neighbour on side d
 abbrev pub has_neighbour : Section → Dir → Bool
@@ -36,11 +29,7 @@ has_neighbour section d = some_of (beside section d)
 -- whether a train may pass the board: there is none, or it is open
 abbrev pub may_pass : State → Option ℕ → Bool
 may_pass s None = true
-may_pass s (Some m) = shows_open (slice_get s.boards m)
-  where
-    shows_open : Option Aspect → Bool
-    shows_open None = false
-    shows_open (Some aspect) = is_open aspect
+may_pass s (Some m) = is_some_and (slice_get s.boards m) is_open
 
 -- the state in which the board, if there is one, is closed
 abbrev pub with_board_closed : Option ℕ → State → State
@@ -56,9 +45,7 @@ with_train i train s = record s { trains = set s.trains i train }
 abbrev pub after_enter : PlantLists → State → ℕ → Option State
 after_enter p s x = do
   inward ← border p x
-  lock ← slice_get s.locks x
-  only_if (not (is_occupied s x) && is_free lock)
-      (record s { trains = s.trains ++ train_on x inward ∷ [] })
+  only_if (is_clear s x) (record s { trains = s.trains ++ train_on x inward ∷ [] })
 
 -- head x: the first train with its head at x; x has no board in its direction or that board is
 -- open; what lies ahead of x joins the body as its head; the board, if any, is closed

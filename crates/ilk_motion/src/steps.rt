@@ -5,7 +5,7 @@ ghost use Rattle.ilk_motion.specs.Trains.{after_enter, after_head, after_leave, 
 
 use crate::ahead;
 use crate::trains::{standing_on, with_head, with_tail};
-use ilk_plant::{Aspect, Hold, Plant, Row, State, Train, occupied};
+use ilk_plant::{Aspect, Plant, Row, State, Train, is_clear};
 use std::alloc::{AllocError, Global};
 
 // A train enters at section `x`, where that is enabled.
@@ -21,7 +21,7 @@ fn enter(alloc: Global, plant: &Plant, s: &mut State, x: u32) -> Result<bool, Al
     let Some(dir) = plant.border(x) else {
         return Ok(false);
     };
-    if occupied(s, x) || *s.locks.at(x as u64) != Hold::Free {
+    if !is_clear(s, x) {
         return Ok(false);
     }
     let mut body = Row::new(alloc);

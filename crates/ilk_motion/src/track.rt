@@ -1,7 +1,7 @@
 ghost use Rattle.std.specs.Prelude.{◌≡◌};
 ghost use Rattle.ilk_motion.specs.Ahead.{ahead};
 
-use ilk_plant::{Dir, Lie, Plant, Section, State};
+use ilk_plant::{Dir, Lie, Plant, Section, State, lie_of};
 
 /// The section ahead of section `x` in direction `d`: for a linear section its neighbour, for a
 /// point that faces `d` the leg at which it lies, for a point that faces the other way the stem.
@@ -26,8 +26,7 @@ pub fn ahead(plant: &Plant, s: &State, x: u32, d: Dir) -> Option<u32>
             if faces != d {
                 return Some(stem);
             }
-            let n = plant.point_number(x)?;
-            match s.points.as_slice().get(n as usize)?.at {
+            match lie_of(plant, s, x)? {
                 Lie::Plus => Some(plus),
                 Lie::Minus => Some(minus),
                 Lie::Moving => None,

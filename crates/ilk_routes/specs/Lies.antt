@@ -1,7 +1,7 @@
 -- Where points lie, and where they are commanded.
-use Rattle.std.specs.Prelude.{ℕ, Bool, true, false, Option, Some, None, List, [], ◌∷◌, ◌==◌, unwrap_or}
+use Rattle.std.specs.Prelude.{ℕ, Bool, true, false, Option, None, List, [], ◌∷◌, ◌==◌, unwrap_or}
 use Rattle.std.specs.Option.{option_or}
-use Rattle.ilk_plant.specs.Option.{only_if}
+use Rattle.ilk_plant.specs.Option.{is_some_and, only_if}
 use Rattle.ilk_plant.specs.Plant.{PlantLists, point_number}
 use Rattle.ilk_plant.specs.State.{lie_of}
 use Rattle.ilk_plant.specs.declared.network.Position.{Position}
@@ -32,19 +32,11 @@ lies_at lie position = false
 
 -- whether a listed point lies at its listed position
 abbrev pub lies_as_listed : PlantLists → State → Listed → Bool
-lies_as_listed p s listed = of (lie_of p s listed.point)
-  where
-    of : Option Lie → Bool
-    of None = false
-    of (Some lie) = lies_at lie listed.at
+lies_as_listed p s listed = is_some_and (lie_of p s listed.point) (λ lie. lies_at lie listed.at)
 
 -- whether an entry lists the point with number n
 abbrev pub lists_point : PlantLists → ℕ → Listed → Bool
-lists_point p n listed = of (point_number p listed.point)
-  where
-    of : Option ℕ → Bool
-    of None = false
-    of (Some m) = m == n
+lists_point p n listed = is_some_and (point_number p listed.point) (λ m. m == n)
 
 -- the position at which these entries list the point with number n; if several do, the last of them counts
 abbrev pub listed_position : PlantLists → ℕ → List Listed → Option Position

@@ -1,8 +1,8 @@
 -- The modes of routes.
-use Rattle.std.specs.Prelude.{ℕ, Bool, true, false, Option, Some, None, ◌||◌, slice_get}
+use Rattle.std.specs.Prelude.{ℕ, Bool, true, false, ◌||◌, slice_get}
+use Rattle.ilk_plant.specs.Option.{is_some_and}
 use Rattle.ilk_plant.specs.declared.state.Mode.{Mode}
 use Rattle.ilk_plant.specs.declared.state.Mode.TheVariants.{Free, Marked, Allocating, Locked, Occupied}
-use Rattle.ilk_plant.specs.declared.state.RouteState.{RouteState}
 use Rattle.ilk_plant.specs.declared.state.State.{State}
 
 -- whether two modes are one
@@ -16,11 +16,7 @@ same_mode a b = false
 
 -- whether route r has this mode
 abbrev pub has_mode : State → ℕ → Mode → Bool
-has_mode s r mode = of (slice_get s.routes r)
-  where
-    of : Option RouteState → Bool
-    of None = false
-    of (Some now) = same_mode now.mode mode
+has_mode s r mode = is_some_and (slice_get s.routes r) (λ now. same_mode now.mode mode)
 
 -- whether route r is Allocating or Locked: it has sections locked for a train that it has not seen yet
 abbrev pub is_claimed : State → ℕ → Bool

@@ -3,14 +3,14 @@ use Rattle.std.specs.Prelude.{ℕ, ◌+◌, Bool, Option, None, ◌==◌, ◌&&�
 use Rattle.std.specs.List.{list_any, list_all, last_or}
 use Rattle.ilk_plant.specs.Option.{◌>>=◌, only_if}
 use Rattle.ilk_plant.specs.Plant.{PlantLists}
-use Rattle.ilk_plant.specs.State.{is_occupied}
+use Rattle.ilk_plant.specs.State.{has_lock, is_clear, is_occupied}
 use Rattle.ilk_plant.specs.declared.state.Aspect.TheVariants.{Open, Closed}
 use Rattle.ilk_plant.specs.declared.state.Hold.TheVariants.{Free as FreeLock, Locked as LockedLock, Used as UsedLock}
 use Rattle.ilk_plant.specs.declared.state.Mode.TheVariants.{Free, Marked, Allocating, Locked, Occupied}
 use Rattle.ilk_plant.specs.declared.state.State.{State}
 use Rattle.ilk_plant.specs.declared.table.Route.{Route}
 use Rattle.ilk_routes.specs.Lies.{lies_as_listed, with_commands}
-use Rattle.ilk_routes.specs.Locks.{has_lock, is_clear, with_locks}
+use Rattle.ilk_routes.specs.Locks.{with_locks}
 use Rattle.ilk_routes.specs.Modes.{is_claimed, same_mode}
 
 -- mark r: r is Free; r is Marked

@@ -1,30 +1,11 @@
 ghost use Rattle.std.specs.Prelude.{◌≡◌, ◌<◌, ◌-◌, IfSome, None, Some, length, slice_get};
 ghost use Rattle.std.specs.List.{last_or, list_any, list_all};
-ghost use Rattle.ilk_plant.specs.Plant.{point_count, point_number};
-ghost use Rattle.ilk_plant.specs.State.{lie_of};
+ghost use Rattle.ilk_plant.specs.State.{is_clear};
 ghost use Rattle.ilk_routes.specs.Lies.{is_moving, lie_in, lies_as_listed, lies_at};
-ghost use Rattle.ilk_routes.specs.Locks.{has_lock, is_clear};
 ghost use Rattle.ilk_routes.specs.Modes.{has_mode, is_claimed};
 ghost use Rattle.ilk_routes.specs.Routes.{can_claim};
 
-use ilk_plant::{Hold, Lie, Listed, Mode, Plant, Position, Route, Row, State, occupied};
-
-/// Whether section `x` has the lock.
-pub fn has_lock(s: &State, x: u32, hold: Hold) -> bool
-    ensures { result ≡ has_lock s.now x hold }
-{
-    match s.locks.as_slice().get(x as usize) {
-        Some(lock) => *lock == hold,
-        None => false,
-    }
-}
-
-/// Whether section `x` has lock Free and is vacant.
-pub fn is_clear(s: &State, x: u32) -> bool
-    ensures { result ≡ is_clear s.now x }
-{
-    has_lock(s, x, Hold::Free) && !occupied(s, x)
-}
+use ilk_plant::{Lie, Listed, Mode, Plant, Position, Route, Row, State, is_clear, lie_of};
 
 /// Whether route `r` has the mode.
 pub fn has_mode(s: &State, r: u32, mode: Mode) -> bool
@@ -96,27 +77,6 @@ pub fn lies_at(lie: Lie, position: Position) -> bool
     ensures { result ≡ lies_at lie position }
 {
     lie == lie_in(position)
-}
-
-/// The number of the point on section `x`. None where `x` is no section, or one that is no point.
-pub fn point_on(plant: &Plant, x: u32) -> Option<u32>
-    ensures number { result ≡ point_number plant.now x }
-    ensures known { IfSome result (λ n. n < point_count plant.now) }
-{
-    if x < plant.sections() {
-        plant.point_number(x)
-    } else {
-        None
-    }
-}
-
-// Where the point on section `x` lies. None where there is none.
-fn lie_of(plant: &Plant, s: &State, x: u32) -> Option<Lie>
-    ensures { result ≡ lie_of plant.now s.now x }
-{
-    let n = point_on(plant, x)?;
-    let point = s.points.as_slice().get(n as usize)?;
-    Some(point.at)
 }
 
 // Whether a listed point lies at its listed position.

@@ -2,8 +2,8 @@ ghost use Rattle.std.specs.Prelude.{◌≡◌, is_some, unwrap_or};
 ghost use Rattle.ilk_plant.specs.State.{HasShape};
 ghost use Rattle.ilk_routes.specs.Points.{after_settle, after_throw};
 
-use crate::conditions::{is_moving, lie_in, lies_at, point_on};
-use ilk_plant::{Lie, Plant, State};
+use crate::conditions::{is_moving, lie_in, lies_at};
+use ilk_plant::{Lie, Plant, State, point_on};
 
 // Throws the point on section `p`, where that is enabled.
 fn throw(plant: &Plant, s: &mut State, p: u32) -> bool

@@ -3,8 +3,8 @@ ghost use Rattle.ilk_plant.specs.State.{HasShape};
 ghost use Rattle.ilk_routes.specs.Routes.{after_allocate, after_finish, after_lock, after_mark, after_release, after_sense};
 
 use crate::changes::{command, give_locks};
-use crate::conditions::{all_lie_as_listed, can_claim, has_lock, last_of};
-use ilk_plant::{Aspect, Hold, Mode, Plant, RouteState, State, occupied};
+use crate::conditions::{all_lie_as_listed, can_claim, last_of};
+use ilk_plant::{Aspect, Hold, Mode, Plant, RouteState, State, has_lock, occupied};
 
 // Marks route `r`, where that is enabled.
 fn mark(plant: &Plant, s: &mut State, r: u32) -> bool
