@@ -1,5 +1,5 @@
 -- Lines that are told in order, one for each item.
-use Rattle.std.proofs.Common.{◌≡◌, ℕ, ◌+◌, ◌-◌, ◌<◌, ◌≤◌, Bool, true, false, ◌==◌, Option, Some, None, option_map, Result, Ok, Err, List, [], ◌∷◌, ◌++◌, length, drop, filter, zip, refl, sym, ap, ◌∙◌, arith, suc, append_assoc, if◌then◌else◌}
+use Rattle.std.proofs.Common.{◌≡◌, ℕ, ◌+◌, ◌-◌, ◌<◌, ◌≤◌, Bool, true, false, ◌==◌, Option, Some, None, option_map, Result, Ok, Err, List, [], ◌∷◌, ◌++◌, length, drop, filter, zip, refl, sym, ap, ◌∙◌, arith, suc, append_assoc, if◌then◌else◌, append-nil}
 use Rattle.std.specs.List.{range_with_len}
 use Rattle.std.proofs.lemmas.Bool.Decides.{nat_tests}
 use Rattle.std.proofs.lemmas.Grind.{common_steps}
@@ -18,7 +18,8 @@ pub record IsAt {A : Type 0} (value : ℕ → Bytes → Option A) (items : List 
   pub lines_are : rest ≡ drop (length taken) lines
   pub number_is : number ≡ n + length taken
 
-some_is : {A : Type 0} {x y : A} → Some x ≡ Some y → x ≡ y
+-- two values that are there are equal
+pub some_is : {A : Type 0} {x y : A} → Some x ≡ Some y → x ≡ y
 some_is e = cc
 
 -- nothing is taken yet
@@ -50,9 +51,6 @@ at_next {A = A} value items n lines taken new x left following number next (line
 abbrev pub told_with : {A : Type 0} → List ℕ → ℕ → List Bytes → List A → Result (Part A) ℕ
 told_with items n lines values = if length values == length items then Ok (record { values = values; number = n + length items; lines = drop (length items) lines }) else Err (n + length values)
 
-append_nothing : {A : Type 0} (xs : List A) → xs ++ [] ≡ xs
-append_nothing xs = grind (arith, common_steps)
-
 nothing_left : {A : Type 0} (value : ℕ → Bytes → Option A) (x : ℕ) (following : List ℕ) (rest : List Bytes) → one_told value x rest ≡ None → values_left value (x ∷ following) rest ≡ []
 nothing_left value x following [] none = refl
 nothing_left {A = A} value x following (line ∷ after) none = by_value (value x line) none
@@ -66,7 +64,7 @@ pub at_bad : {A : Type 0} (value : ℕ → Bytes → Option A) (items : List ℕ
 at_bad value items n lines taken x left following number rest at e refused =
     let none : values_left value left rest ≡ [] = ap (λ xs. values_left value xs rest) e ∙ nothing_left value x following rest refused in
     let d : length left ≡ length following + 1 = ap length e ∙ omega arith in
-    let values : values_left value items lines ≡ taken = at.values_are ∙ ap (λ vs. taken ++ vs) none ∙ append_nothing taken in
+    let values : values_left value items lines ≡ taken = at.values_are ∙ ap (λ vs. taken ++ vs) none ∙ append-nil taken in
     let c = at.counts_are in
     let fewer : (length taken == length items) ≡ false = grind (arith, nat_tests, common_steps) in
     ap (told_with items n lines) values ∙ rw fewer (ap Err (sym at.number_is))
@@ -74,7 +72,7 @@ at_bad value items n lines taken x left following number rest at e refused =
 -- where no item is left, all are told
 pub at_last : {A : Type 0} (value : ℕ → Bytes → Option A) (items : List ℕ) (n : ℕ) (lines : List Bytes) (taken : List A) (number : ℕ) (rest : List Bytes) → IsAt value items n lines taken [] number rest → each_told value items n lines ≡ Ok (record { values = taken; number = number; lines = rest })
 at_last value items n lines taken number rest at =
-    let values : values_left value items lines ≡ taken = at.values_are ∙ append_nothing taken in
+    let values : values_left value items lines ≡ taken = at.values_are ∙ append-nil taken in
     let c : length taken ≡ length items = let d = at.counts_are in omega arith in
     let all : (length taken == length items) ≡ true = grind (arith, nat_tests) in
     let count : n + length items ≡ number = let d = at.number_is in omega arith in

@@ -1,9 +1,12 @@
 pub mod Bodies
+pub mod ByLine
 pub mod Each
+pub mod FirstBad
 pub mod Leading
-pub mod Named
 pub mod Numbers
+pub mod OfPlant
 pub mod Parts
+pub mod PlainNames
 pub mod ReadBack
 pub mod Runs
 pub mod Shape

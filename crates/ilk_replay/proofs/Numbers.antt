@@ -5,6 +5,7 @@ use Rattle.std.specs.List.{list_all}
 use Rattle.std.specs.Str.Parse.{digits_value, digits_value_after}
 use Rattle.std.proofs.lemmas.Bool.Decides.{nat_tests}
 use Rattle.std.proofs.lemmas.List.{drop_more}
+use Rattle.ilk_plant.proofs.KnownNames.{both}
 use Rattle.ilk_replay.specs.StateLine.{is_number, number_to}
 
 -- more digits make no smaller number
@@ -15,10 +16,6 @@ value_grows n (b ∷ word) = let rest = value_grows (n * 10 + digit_value b) wor
 digit_is : (b : ℕ) → is_ascii_digit b ≡ true → digit_value b ≡ b - 48
 digit_is b h = grind (arith, nat_tests)
 
-first_passes : (b : Bool) (c : Bool) → (b && c) ≡ true → b ≡ true
-first_passes true c h = refl
-first_passes false c h = cc
-
 not_both : (b c : Bool) (n : ℕ) → c ≡ false → None ≡ cond (b && c) (Some n) None
 not_both true c n h = rw h refl
 not_both false c n h = refl
@@ -27,7 +24,7 @@ not_both false c n h = refl
 pub over_limit : (word : List ℕ) (n limit i : ℕ) → digits_value 10 word ≡ digits_value_after 10 n (drop i word) → list_all is_ascii_digit (drop i word) ≡ true → i < length word → limit < n * 10 + (get_or word i 0 - 48) → None ≡ number_to limit word
 over_limit word n limit i value digits within over =
     let more : drop i word ≡ get_or word i 0 ∷ drop (i + 1) word = drop_more word i 0 within in
-    let digit : digit_value (get_or word i 0) ≡ get_or word i 0 - 48 = digit_is (get_or word i 0) (first_passes _ _ (sym (ap (list_all is_ascii_digit) more) ∙ digits)) in
+    let digit : digit_value (get_or word i 0) ≡ get_or word i 0 - 48 = digit_is (get_or word i 0) ((both _ _ (sym (ap (list_all is_ascii_digit) more) ∙ digits)).0) in
     let split : digits_value 10 word ≡ digits_value_after 10 (n * 10 + digit_value (get_or word i 0)) (drop (i + 1) word) = value ∙ ap (digits_value_after 10 n) more in
     let grows : n * 10 + digit_value (get_or word i 0) ≤ digits_value_after 10 (n * 10 + digit_value (get_or word i 0)) (drop (i + 1) word) = value_grows (n * 10 + digit_value (get_or word i 0)) (drop (i + 1) word) in
     let above : limit < digits_value 10 word = omega (arith, split, grows, digit) in

@@ -2,13 +2,12 @@
 use Rattle.std.proofs.Common.{◌≡◌, ℕ, ◌+◌, ◌<◌, Bool, true, false, ◌==◌, ◌||◌, All, Option, Some, None, option_map, List, [], ◌∷◌, ◌++◌, codes, drop, flat_map, get_or, length, position, slice_get, take, unwrap_or, refl, sym, ap, ◌∙◌, arith, append_assoc, suc, zero, zero-add}
 use Rattle.std.specs.List.{list_any, onto_first, position_from}
 use Rattle.std.specs.Option.{option_or}
-use Rattle.std.specs.Str.{bytes_eq}
 use Rattle.std.proofs.lemmas.Bool.Decides.{nat_tests}
 use Rattle.std.proofs.lemmas.Iterator.Adapters.{position_from-zero}
 use Rattle.std.proofs.lemmas.List.{drop_at, take_at, length_push}
 use Rattle.std.proofs.lemmas.Option.{slice_get-get_or, slice_get_within}
-use Rattle.std.proofs.lemmas.Slice.Eq.{bytes_eq-Decides}
-use Rattle.ilk_plant.specs.Option.{◌>>=◌, only_if}
+use Rattle.ilk_plant.proofs.NamesDiffer.{first_named-own}
+use Rattle.ilk_plant.specs.Option.{◌>>=◌, is_some_and, only_if}
 use Rattle.ilk_plant.specs.Network.{is_point}
 use Rattle.ilk_plant.specs.Plant.{EachOnce, IsPlant, PlantLists, first_named}
 use Rattle.ilk_plant.specs.declared.network.Section.{Section}
@@ -16,10 +15,10 @@ use Rattle.ilk_model.specs.declared.event.Event.{Event}
 use Rattle.ilk_model.specs.declared.event.Event.TheVariants.{Mark, Allocate, Lock, Sense, Release, Finish, Throw, Settle, Enter, Head, Tail, Leave}
 use Rattle.ilk_replay.specs.Lines.{Bytes, after_lines, first_word, lines_of, parts_at}
 use Rattle.ilk_replay.specs.EventLine.{event_of, event_told, point_event, point_named, route_event, section_event}
-use Rattle.ilk_replay.specs.StateTold.{is_point_at}
+use Rattle.ilk_plant.specs.Plant.{is_point_section}
 use Rattle.ilk_replay.specs.RunText.{event_line, name_of, spaced}
-use Rattle.ilk_replay.specs.Writable.{IsAbout, Lacks}
-use Rattle.ilk_replay.proofs.Named.{first_at}
+use Rattle.ilk_replay.specs.Writable.{IsAbout}
+use Rattle.ilk_replay.proofs.PlainNames.{Lacks}
 use Rattle.ilk_replay.proofs.Parts.{lines_cut}
 
 same_byte : (c : ℕ) → (c == c) ≡ true
@@ -72,17 +71,7 @@ first_back word rest lacks =
 pub named_back : (names : List Bytes) (i : ℕ) → EachOnce names → i < length names → first_named names (name_of names i) ≡ Some i
 named_back names i once within =
     let here : slice_get names i ≡ Some (get_or names i []) = slice_get-get_or names i [] within in
-    let name : name_of names i ≡ get_or names i [] = ap (λ (o : Option Bytes). unwrap_or o []) here in
-    let same : bytes_eq (name_of names i) (get_or names i []) ≡ true = (bytes_eq-Decides (name_of names i) (get_or names i [])).1 name in
-    sym (first_at names (name_of names i) (get_or names i []) i here same (λ k before. differs (bytes_eq (name_of names i) (get_or names k [])) k before refl here name))
-  where
-    differs : (b : Bool) (k : ℕ) → k < i → bytes_eq (name_of names i) (get_or names k []) ≡ b → slice_get names i ≡ Some (get_or names i []) → name_of names i ≡ get_or names i [] → b ≡ false
-    differs false k before test here name = refl
-    differs true k before test here name =
-        let equal : get_or names i [] ≡ get_or names k [] = sym name ∙ (bytes_eq-Decides (name_of names i) (get_or names k [])).0 test in
-        let there : slice_get names k ≡ Some (get_or names i []) = slice_get-get_or names k [] (omega arith) ∙ ap Some (sym equal) in
-        let one : i ≡ k = once i k (get_or names i []) here there in
-        absurd (omega arith)
+    first_named-own names (name_of names i) i once (here ∙ ap Some (sym (ap (λ (o : Option Bytes). unwrap_or o []) here)))
 
 no_route : (o : Option ℕ) (word : Bytes) → ((r : ℕ) → route_event word r ≡ None) → (o >>= route_event word) ≡ None
 no_route None word none = refl
@@ -99,18 +88,14 @@ route_back p word r event plant within tells =
     ap (λ (o : Option ℕ). option_or (o >>= route_event word) (option_or (point_named p (name_of p.route_names r) >>= point_event word) (first_named p.section_names (name_of p.route_names r) >>= section_event word))) first
     ∙ ap (λ (o : Option Event). option_or o (option_or (point_named p (name_of p.route_names r) >>= point_event word) (first_named p.section_names (name_of p.route_names r) >>= section_event word))) tells
 
-found_point : (p : PlantLists) (x : ℕ) → is_point_at p x ≡ true → (section : Section) × (slice_get p.sections x ≡ Some section) × (is_point section ≡ true)
+found_point : (p : PlantLists) (x : ℕ) → is_point_section p x ≡ true → (section : Section) × (slice_get p.sections x ≡ Some section) × (is_point section ≡ true)
 found_point p x e = by_section (slice_get p.sections x) refl e
   where
-    at : Option Section → Bool
-    at None = false
-    at (Some section) = is_point section
-
-    by_section : (o : Option Section) → slice_get p.sections x ≡ o → at o ≡ true → (section : Section) × (slice_get p.sections x ≡ Some section) × (is_point section ≡ true)
+    by_section : (o : Option Section) → slice_get p.sections x ≡ o → is_some_and o is_point ≡ true → (section : Section) × (slice_get p.sections x ≡ Some section) × (is_point section ≡ true)
     by_section None this that = cc
     by_section (Some section) this that = (section, this, that)
 
-point_back : (p : PlantLists) (word : Bytes) (x : ℕ) (event : Event) → IsPlant p → is_point_at p x ≡ true → ((r : ℕ) → route_event word r ≡ None) → point_event word x ≡ Some event → event_told p word (name_of p.section_names x) ≡ Some event
+point_back : (p : PlantLists) (word : Bytes) (x : ℕ) (event : Event) → IsPlant p → is_point_section p x ≡ true → ((r : ℕ) → route_event word r ≡ None) → point_event word x ≡ Some event → event_told p word (name_of p.section_names x) ≡ Some event
 point_back p word x event plant at none tells =
     let named = plant.sections_named in
     let found = found_point p x at in

@@ -10,6 +10,7 @@ use Rattle.ilk_plant.specs.declared.state.State.{State}
 use Rattle.ilk_model.specs.Run.{run, step}
 use Rattle.ilk_model.specs.declared.event.Event.{Event}
 use Rattle.ilk_replay.specs.Seen.{seen_of}
+use Rattle.ilk_replay.proofs.Each.{some_is}
 use Rattle.ilk_replay.specs.declared.seen.Seen.TheVariants.{NotARun}
 
 -- the least number of a range that passes the test is found
@@ -21,9 +22,6 @@ find-least test a (suc n) k above below passes least =
       | inr later ↦ (let no : test a ≡ false = least a (omega arith) later in
           rw no (find-least test (a + 1) n k (omega arith) (omega arith) passes (λ j after before. least j (omega arith) before)))
     ]
-
-some-same : {A : Type 0} {x y : A} → Some x ≡ Some y → x ≡ y
-some-same e = cc
 
 none-of : {A : Type 0} (o : Option A) → is_some o ≡ false → o ≡ None
 none-of None e = refl
@@ -38,7 +36,7 @@ pub run-refused : (p : PlantLists) (s t : State) (events : List Event) (event : 
 run-refused p s t [] event i n ends here refused more = cc
 run-refused p s t (first ∷ rest) event i zero ends here refused more = absurd (omega arith)
 run-refused p s t (first ∷ rest) event zero (suc n) ends here refused more =
-    let none : step p s first ≡ None = subst (λ (e : Event). step p s e ≡ None) (sym (some-same here)) (subst (λ (u : State). step p u event ≡ None) (sym (some-same ends)) refused) in
+    let none : step p s first ≡ None = subst (λ (e : Event). step p s e ≡ None) (sym (some_is here)) (subst (λ (u : State). step p u event ≡ None) (sym (some_is ends)) refused) in
     ap (λ (o : Option State). o >>= (λ u. run p u (take n rest))) none
 run-refused p s t (first ∷ rest) event (suc i) (suc n) ends here refused more =
     refused-after p t (step p s first) (take i rest) (take n rest) (λ u e. run-refused p u t rest event i n e here refused (omega arith)) ends
@@ -66,8 +64,8 @@ run-more p s t [] event i ends here = cc
 run-more p s t (first ∷ rest) event zero ends here = once (step p s first) refl
   where
     once : (o : Option State) → step p s first ≡ o → (o >>= (λ u. run p u [])) ≡ step p t event
-    once None e = sym (subst (λ (v : Event). step p t v ≡ None) (some-same here) (subst (λ (u : State). step p u first ≡ None) (some-same ends) e))
-    once (Some u) e = sym (subst (λ (v : Event). step p t v ≡ Some u) (some-same here) (subst (λ (w : State). step p w first ≡ Some u) (some-same ends) e))
+    once None e = sym (subst (λ (v : Event). step p t v ≡ None) (some_is here) (subst (λ (u : State). step p u first ≡ None) (some_is ends) e))
+    once (Some u) e = sym (subst (λ (v : Event). step p t v ≡ Some u) (some_is here) (subst (λ (w : State). step p w first ≡ Some u) (some_is ends) e))
 run-more p s t (first ∷ rest) event (suc i) ends here =
     more-after p t (step p s first) (take i rest) (take (suc i) rest) (step p t event) (λ u e. run-more p u t rest event i e here) ends
 

@@ -1,18 +1,21 @@
 -- A state that lines tell has the plant's shape.
-use Rattle.std.proofs.Common.{◌≡◌, ℕ, ◌+◌, ◌<◌, ◌≤◌, Bool, true, false, ◌==◌, ◌&&◌, Option, Some, None, Result, Ok, Err, List, [], ◌∷◌, All, codes, length, drop, filter, nat_le, slice_get, cond, refl, sym, ap, ◌∙◌, arith, suc, zero, add-zero, zero-add, subst}
+use Rattle.std.proofs.Common.{◌≡◌, ℕ, ◌+◌, ◌≤◌, Bool, true, false, ◌==◌, ◌&&◌, Option, Some, None, Result, Ok, Err, List, [], ◌∷◌, All, codes, length, drop, filter, nat_le, slice_get, cond, refl, sym, ap, ◌∙◌, arith, suc, zero, add-zero, zero-add, subst}
 use Rattle.std.specs.List.{range_with_len}
 use Rattle.std.specs.Option.{option_and_then}
-use Rattle.std.specs.Str.{bytes_eq}
 use Rattle.std.specs.Str.Parse.{digits_value}
 use Rattle.std.proofs.lemmas.Bool.Decides.{Decides-eqb, nat_tests}
 use Rattle.std.proofs.lemmas.List.FromFn.{length-range_with_len}
-use Rattle.std.proofs.lemmas.List.Quantifiers.{position-Some}
 use Rattle.std.proofs.lemmas.List.Sums.{length-filter}
-use Rattle.ilk_plant.specs.Option.{only_if}
-use Rattle.ilk_plant.specs.Network.{has_section, is_point}
-use Rattle.ilk_plant.specs.Plant.{IsPlant, PlantLists, first_named, next_to, point_count}
-use Rattle.ilk_plant.specs.State.{HasShape, IsBody, IsWithin, LeadsOn}
-use Rattle.ilk_plant.specs.declared.network.Dir.{Dir}
+use Rattle.ilk_plant.proofs.KnownNames.{both}
+use Rattle.std.proofs.lemmas.Option.{cond_some}
+use Rattle.std.proofs.lemmas.List.Elements.{All-nil}
+use Rattle.std.proofs.lemmas.List.Elements.{All-cons}
+use Rattle.ilk_plant.proofs.Shapes.{body-true}
+use Rattle.ilk_plant.specs.Option.{is_some_and}
+use Rattle.ilk_plant.specs.Shape.{is_body}
+use Rattle.ilk_plant.specs.Network.{is_point}
+use Rattle.ilk_plant.specs.Plant.{PlantLists, point_count}
+use Rattle.ilk_plant.specs.State.{HasShape, IsBody, IsWithin}
 use Rattle.ilk_plant.specs.declared.network.Section.{Section}
 use Rattle.ilk_plant.specs.declared.state.Aspect.{Aspect}
 use Rattle.ilk_plant.specs.declared.state.Hold.{Hold}
@@ -20,22 +23,15 @@ use Rattle.ilk_plant.specs.declared.state.PointState.{PointState}
 use Rattle.ilk_plant.specs.declared.state.RouteState.{RouteState}
 use Rattle.ilk_plant.specs.declared.state.Train.{Train}
 use Rattle.ilk_plant.specs.declared.table.Route.{Route}
-use Rattle.ilk_replay.specs.Lines.{Bytes, first_word, leading, onto, parts_at, words_of}
-use Rattle.ilk_replay.specs.StateLine.{leads_on, board_told, is_number, lock_told, mode_of, number_to, point_told, route_said, route_told, said_of, sections_named, train_said, train_told}
-use Rattle.ilk_replay.specs.StateTold.{Part, each_told, is_point_at, numbers_of, point_sections}
-use Rattle.ilk_replay.proofs.Each.{values_left}
-use Rattle.ilk_replay.proofs.Parts.{parts_follow}
-
-pub some_is : {A : Type 0} {x y : A} → Some x ≡ Some y → x ≡ y
-some_is e = cc
+use Rattle.ilk_replay.specs.Lines.{Bytes, first_word, leading, onto, words_of}
+use Rattle.ilk_replay.specs.StateLine.{board_told, is_number, lock_told, mode_of, number_to, point_told, route_said, route_told, said_of, sections_named, train_said, train_told}
+use Rattle.ilk_replay.specs.StateTold.{Part, each_told, numbers_of, point_sections}
+use Rattle.ilk_plant.specs.Plant.{is_point_section}
+use Rattle.ilk_replay.proofs.Each.{some_is, values_left}
 
 pub bind_some : {A B : Type 0} (o : Option A) (f : A → Option B) (y : B) → option_and_then f o ≡ Some y → (x : A) × (o ≡ Some x) × (f x ≡ Some y)
 bind_some None f y e = cc
 bind_some (Some x) f y e = (x, refl, e)
-
-pub only_some : {A : Type 0} (b : Bool) (x y : A) → only_if b x ≡ Some y → (b ≡ true) × (x ≡ y)
-only_some true x y e = (refl, cc)
-only_some false x y e = cc
 
 -- the values that are told are those of the lines, one for each item
 pub each_ok : {A : Type 0} (value : ℕ → Bytes → Option A) (items : List ℕ) (n : ℕ) (lines : List Bytes) (part : Part A) → each_told value items n lines ≡ Ok part → (part.values ≡ values_left value items lines) × (length part.values ≡ length items)
@@ -67,18 +63,10 @@ range_get a zero i x e = cc
 range_get a (suc n) zero x e = let same : a ≡ x = cc in omega arith
 range_get a (suc n) (suc i) x e = let rest = range_get (a + 1) n i x e in omega arith
 
-pub first_passes : (b c : Bool) → (b && c) ≡ true → b ≡ true
-first_passes true c h = refl
-first_passes false c h = cc
-
-pub second_passes : (b c : Bool) → (b && c) ≡ true → c ≡ true
-second_passes true c h = h
-second_passes false c h = cc
-
 number_within : (limit : ℕ) (word : Bytes) (n : ℕ) → number_to limit word ≡ Some n → n ≤ limit
 number_within limit word n e =
-    let read = only_some (is_number word && nat_le (digits_value 10 word) limit) (digits_value 10 word) n e in
-    let small : nat_le (digits_value 10 word) limit ≡ true = second_passes (is_number word) (nat_le (digits_value 10 word) limit) read.0 in
+    let read = cond_some (is_number word && nat_le (digits_value 10 word) limit) (digits_value 10 word) n e in
+    let small : nat_le (digits_value 10 word) limit ≡ true = (both (is_number word) (nat_le (digits_value 10 word) limit) read.0).1 in
     let same : digits_value 10 word ≡ n = read.1 in
     let below : digits_value 10 word ≤ limit = grind (arith, nat_tests) in
     omega arith
@@ -103,19 +91,12 @@ route_within p r line now route e here =
     let within = said_within (length a.0.path) c.0 now c.2 in
     subst (λ (q : Route). IsWithin q now) same within
 
-all_none : {X : Type 0} (P : X → Type 0) → All P []
-all_none P k d h = absurd (omega arith)
-
-all_cons : {X : Type 0} (P : X → Type 0) (x : X) (xs : List X) → P x → All P xs → All P (x ∷ xs)
-all_cons P x xs first rest zero d h = first
-all_cons P x xs first rest (suc k) d h = rest k d (omega arith)
-
 onto_all : {A : Type 0} (value : Bytes → Option A) (P : A → Type 0) (line : Bytes) (o : Option A) → value line ≡ o → (rest : List A) → ((l : Bytes) (v : A) → value l ≡ Some v → P v) → All P rest → All P (onto o rest)
-onto_all value P line None this rest holds later = all_none P
-onto_all value P line (Some v) this rest holds later = all_cons P v rest (holds line v this) later
+onto_all value P line None this rest holds later = All-nil P
+onto_all value P line (Some v) this rest holds later = All-cons P v rest (holds line v this) later
 
-leading_all : {A : Type 0} (value : Bytes → Option A) (P : A → Type 0) → ((line : Bytes) (v : A) → value line ≡ Some v → P v) → (lines : List Bytes) → All P (leading value lines)
-leading_all value P holds [] = all_none P
+pub leading_all : {A : Type 0} (value : Bytes → Option A) (P : A → Type 0) → ((line : Bytes) (v : A) → value line ≡ Some v → P v) → (lines : List Bytes) → All P (leading value lines)
+leading_all value P holds [] = All-nil P
 leading_all value P holds (line ∷ lines) = onto_all value P line (value line) refl (leading value lines) holds (leading_all value P holds lines)
 
 counted : (b : Bool) (i : ℕ) (x : Section) (ns : List ℕ) (xs : List Section) (c : Bool) → c ≡ b → length ns ≡ length xs → length (cond c (i ∷ ns) ns) ≡ length (cond b (x ∷ xs) xs)
@@ -129,41 +110,21 @@ filter_length test (x ∷ xs) i same =
     let rest : length (filter test (range_with_len (i + 1) (length xs))) ≡ length (filter is_point xs) = filter_length test xs (i + 1) (λ k s at. ap test (omega arith) ∙ same (suc k) s at) in
     counted (is_point x) i x (filter test (range_with_len (i + 1) (length xs))) (filter is_point xs) (test i) here rest
 
-abbrev is_point_found : Option Section → Bool
-is_point_found None = false
-is_point_found (Some section) = is_point section
-
 -- as many sections are point sections as there are points
 pub point_sections-length : (p : PlantLists) → length (point_sections p) ≡ point_count p
-point_sections-length p = filter_length (is_point_at p) p.sections 0 (λ k s at. ap (is_point_at p) (zero-add k) ∙ ap is_point_found at) ∙ length-filter is_point p.sections
-
-leads_each : (p : PlantLists) (d : Dir) (x : ℕ) (rest : List ℕ) → leads_on p d (x ∷ rest) ≡ true → LeadsOn p d x rest
-leads_each p d x [] e = tt
-leads_each p d x (y ∷ rest) e = (first_passes (has_section y (next_to p x d)) _ e, leads_each p d y rest (second_passes (has_section y (next_to p x d)) _ e))
-
-name_known : (p : PlantLists) → IsPlant p → (name : Bytes) (x : ℕ) → first_named p.section_names name ≡ Some x → x < length p.sections
-name_known p plant name x e = let within = (position-Some (bytes_eq name) p.section_names x [] e).0 in let named = plant.sections_named in omega arith
-
-body_of : (p : PlantLists) → IsPlant p → (d : Dir) (names : Bytes) (body : List ℕ) → ((part : Bytes) × (parts : List Bytes) × (parts_at 32 names ≡ part ∷ parts)) → sections_named p (words_of names) ≡ Some body → leads_on p d body ≡ true → IsBody p (record { dir = d; body = body })
-body_of p plant d names body (part, parts, follows) e leads =
-    let whole : sections_named p (part ∷ parts) ≡ Some body = ap (sections_named p) (sym follows) ∙ e in
-    let a = bind_some (first_named p.section_names part) _ body whole in
-    let b = bind_some (sections_named p parts) _ body a.2 in
-    let same : a.0 ∷ b.0 ≡ body = some_is b.2 in
-    subst (λ (xs : List ℕ). IsBody p (record { dir = d; body = xs })) same
-    (name_known p plant part a.0 a.1, leads_each p d a.0 b.0 (ap (leads_on p d) same ∙ leads))
+point_sections-length p = filter_length (is_point_section p) p.sections 0 (λ k s at. ap (is_point_section p) (zero-add k) ∙ ap (λ (o : Option Section). is_some_and o is_point) at) ∙ length-filter is_point p.sections
 
 -- a train that a line tells has a body
-train_body : (p : PlantLists) → IsPlant p → (line : Bytes) (train : Train) → train_told p line ≡ Some train → IsBody p train
-train_body p plant line train e =
+train_body : (p : PlantLists) → (line : Bytes) (train : Train) → train_told p line ≡ Some train → IsBody p train
+train_body p line train e =
     let a = bind_some (train_said line) _ train e in
     let b = bind_some (sections_named p (words_of a.0.1)) _ train a.2 in
-    let c = only_some (leads_on p a.0.0 b.0) (record { dir = a.0.0; body = b.0 }) train b.2 in
-    subst (IsBody p) c.1 (body_of p plant a.0.0 a.0.1 b.0 (parts_follow 32 a.0.1) b.1 c.0)
+    let c = cond_some (is_body p (record { dir = a.0.0; body = b.0 })) (record { dir = a.0.0; body = b.0 }) train b.2 in
+    subst (IsBody p) c.1 (body-true p (record { dir = a.0.0; body = b.0 }) c.0)
 
 -- the first state that lines tell has the shape
-pub shaped : (p : PlantLists) → IsPlant p → (routes : List RouteState) (points : List PointState) (boards : List Aspect) (locks : List Hold) (trains : List Train) (n1 m1 n2 m2 n3 m3 n4 m4 : ℕ) (l1 k1 l2 k2 l3 k3 l4 k4 l5 : List Bytes) → each_told (route_told p) (numbers_of p.routes) n1 l1 ≡ Ok (record { values = routes; number = m1; lines = k1 }) → each_told (point_told p) (point_sections p) n2 l2 ≡ Ok (record { values = points; number = m2; lines = k2 }) → each_told (board_told p) (numbers_of p.boards) n3 l3 ≡ Ok (record { values = boards; number = m3; lines = k3 }) → each_told (lock_told p) (numbers_of p.sections) n4 l4 ≡ Ok (record { values = locks; number = m4; lines = k4 }) → trains ≡ leading (train_told p) l5 → HasShape p (record { routes = routes; points = points; boards = boards; locks = locks; trains = trains })
-shaped p plant routes points boards locks trains n1 m1 n2 m2 n3 m3 n4 m4 l1 k1 l2 k2 l3 k3 l4 k4 l5 a b c d e =
+pub shaped : (p : PlantLists) → (routes : List RouteState) (points : List PointState) (boards : List Aspect) (locks : List Hold) (trains : List Train) (n1 m1 n2 m2 n3 m3 n4 m4 : ℕ) (l1 k1 l2 k2 l3 k3 l4 k4 l5 : List Bytes) → each_told (route_told p) (numbers_of p.routes) n1 l1 ≡ Ok (record { values = routes; number = m1; lines = k1 }) → each_told (point_told p) (point_sections p) n2 l2 ≡ Ok (record { values = points; number = m2; lines = k2 }) → each_told (board_told p) (numbers_of p.boards) n3 l3 ≡ Ok (record { values = boards; number = m3; lines = k3 }) → each_told (lock_told p) (numbers_of p.sections) n4 l4 ≡ Ok (record { values = locks; number = m4; lines = k4 }) → trains ≡ leading (train_told p) l5 → HasShape p (record { routes = routes; points = points; boards = boards; locks = locks; trains = trains })
+shaped p routes points boards locks trains n1 m1 n2 m2 n3 m3 n4 m4 l1 k1 l2 k2 l3 k3 l4 k4 l5 a b c d e =
     let ra = each_ok (route_told p) (numbers_of p.routes) n1 l1 (record { values = routes; number = m1; lines = k1 }) a in
     let rb = each_ok (point_told p) (point_sections p) n2 l2 (record { values = points; number = m2; lines = k2 }) b in
     let rc = each_ok (board_told p) (numbers_of p.boards) n3 l3 (record { values = boards; number = m3; lines = k3 }) c in
@@ -177,5 +138,5 @@ shaped p plant routes points boards locks trains n1 m1 n2 m2 n3 m3 n4 m4 l1 k1 l
           (let v = value_at (route_told p) (numbers_of p.routes) l1 r now (ap (λ xs. slice_get xs r) (sym ra.0) ∙ at) in
           let same : v.0 ≡ r = range_get 0 (length p.routes) r v.0 v.2 ∙ zero-add r in
           route_within p v.0 v.1 now route v.3 (ap (slice_get p.routes) same ∙ here));
-      bodies = subst (All (IsBody p)) (sym e) (leading_all (train_told p) (IsBody p) (train_body p plant) l5);
+      bodies = subst (All (IsBody p)) (sym e) (leading_all (train_told p) (IsBody p) (train_body p) l5);
     }

@@ -1,7 +1,9 @@
 -- The text of a run from the start tells that run.
 use Rattle.std.proofs.Common.{◌≡◌, ℕ, ◌+◌, true, All, Option, Some, None, Result, Ok, List, [], ◌∷◌, ◌++◌, codes, drop, length, map, slice_get, unwrap_or, refl, ap, ◌∙◌, arith, subst, suc, zero}
 use Rattle.std.proofs.lemmas.Option.{slice_get_within, get_or_from_slice_get}
-use Rattle.ilk_replay.specs.Result.{◌>>=◌}
+use Rattle.std.proofs.lemmas.List.Elements.{All-nil}
+use Rattle.std.proofs.lemmas.List.Elements.{All-cons}
+use Rattle.ilk_plant.specs.Result.{◌>>=◌}
 use Rattle.ilk_plant.specs.Plant.{IsPlant, PlantLists}
 use Rattle.ilk_plant.specs.Start.{start}
 use Rattle.ilk_model.specs.declared.event.Event.{Event}
@@ -11,7 +13,9 @@ use Rattle.ilk_replay.specs.EventLine.{event_of}
 use Rattle.ilk_replay.specs.StateTold.{after_line}
 use Rattle.ilk_replay.specs.Told.{at_the_end, events_told, tale_of, told}
 use Rattle.ilk_replay.specs.RunText.{event_line, name_of, run_text}
-use Rattle.ilk_replay.specs.Writable.{HasPlainNames, IsAbout, Lacks, started}
+use Rattle.ilk_replay.specs.Writable.{IsAbout}
+use Rattle.ilk_replay.specs.declared.told.Told.{Told}
+use Rattle.ilk_replay.proofs.PlainNames.{HasPlainNames, Lacks}
 use Rattle.ilk_replay.specs.declared.told.Tale.TheVariants.{Told as IsTold}
 use Rattle.ilk_replay.proofs.WrittenRun.{answered}
 use Rattle.ilk_replay.proofs.ReadBack.{event_back, lines_back}
@@ -37,16 +41,9 @@ event_line-plain p plain (Head x) = name_lacks 10 p.section_names x plain.sectio
 event_line-plain p plain (Tail x) = name_lacks 10 p.section_names x plain.sections
 event_line-plain p plain (Leave x) = name_lacks 10 p.section_names x plain.sections
 
-pub one_more : {X : Type 0} (P : X → Type 0) (x : X) (xs : List X) → P x → All P xs → All P (x ∷ xs)
-one_more P x xs first rest zero d h = first
-one_more P x xs first rest (suc k) d h = rest k d (omega arith)
-
-pub none_at_all : {X : Type 0} (P : X → Type 0) → All P []
-none_at_all P k d h = absurd (omega arith)
-
 pub event_lines-plain : (p : PlantLists) → HasPlainNames p → (events : List Event) → All (Lacks 10) (map (event_line p) events ++ codes "end" ∷ [])
-event_lines-plain p plain [] = one_more (Lacks 10) (codes "end") [] refl (none_at_all (Lacks 10))
-event_lines-plain p plain (event ∷ events) = one_more (Lacks 10) (event_line p event) (map (event_line p) events ++ codes "end" ∷ []) (event_line-plain p plain event) (event_lines-plain p plain events)
+event_lines-plain p plain [] = All-cons (Lacks 10) (codes "end") [] refl (All-nil (Lacks 10))
+event_lines-plain p plain (event ∷ events) = All-cons (Lacks 10) (event_line p event) (map (event_line p) events ++ codes "end" ∷ []) (event_line-plain p plain event) (event_lines-plain p plain events)
 
 leading_back : (p : PlantLists) → IsPlant p → (events : List Event) → All (IsAbout p) events → leading (event_of p) (map (event_line p) events ++ codes "end" ∷ []) ≡ events
 leading_back p plant [] about = refl
@@ -64,12 +61,16 @@ events_back p plant n events about =
     ap (λ (es : List Event). after_line (codes "end") (n + length es) (drop (length es) lines) >>= (λ more. at_the_end es (n + length es + 1) more [])) (leading_back p plant events about)
     ∙ ap (λ (ls : List Bytes). after_line (codes "end") (n + length events) ls >>= (λ more. at_the_end events (n + length events + 1) more [])) (drop_back p events)
 
+-- the run of these events from the start
+abbrev pub started : PlantLists → List Event → Told
+started p events = record { first = start p; from_start = true; events = events }
+
 -- the text of a run from the start tells that run
 pub started_back : (p : PlantLists) → IsPlant p → HasPlainNames p → (events : List Event) → All (IsAbout p) events → tale_of p (run_text p (started p events)) ≡ IsTold (started p events)
 started_back p plant plain events about =
     let lines : List Bytes = map (event_line p) events ++ codes "end" ∷ [] in
     let all : All (Lacks 10) (codes "run 1" ∷ codes "start" ∷ lines) =
-    one_more (Lacks 10) (codes "run 1") (codes "start" ∷ lines) refl (one_more (Lacks 10) (codes "start") lines refl (event_lines-plain p plain events)) in
+    All-cons (Lacks 10) (codes "run 1") (codes "start" ∷ lines) refl (All-cons (Lacks 10) (codes "start") lines refl (event_lines-plain p plain events)) in
     let back = lines_back (codes "run 1" ∷ codes "start" ∷ lines) all in
     ap (λ (ls : List Bytes). answered (told p ls (after_lines (run_text p (started p events))))) back.0
     ∙ ap (λ (bs : Bytes). answered (told p (codes "run 1" ∷ codes "start" ∷ lines) bs)) back.1

@@ -1,17 +1,17 @@
 -- What is written of a state is read back.
-use Rattle.std.proofs.Common.{◌≡◌, ℕ, ◌<◌, ◌≤◌, ◌^◌, Bool, true, false, ◌==◌, ◌&&◌, ◌||◌, not, All, Option, Some, List, [], ◌∷◌, ◌++◌, codes, drop, flat_map, get_or, length, map, nat_le, slice_get, slice_index, take, unwrap_or, refl, sym, ap, ◌∙◌, arith, subst, suc, zero}
+use Rattle.std.proofs.Common.{◌≡◌, ℕ, ◌<◌, ◌≤◌, ◌^◌, Bool, true, false, ◌==◌, ◌&&◌, ◌||◌, not, All, Option, Some, List, [], ◌∷◌, ◌++◌, codes, drop, flat_map, get_or, length, map, nat_le, slice_get, slice_index, take, unwrap_or, refl, sym, ap, ◌∙◌, arith, subst, suc, zero, append-nil}
 use Rattle.std.specs.Char.{is_ascii_digit}
 use Rattle.std.specs.Fmt.{decimal}
 use Rattle.std.specs.List.{list_all, list_any, onto_first}
 use Rattle.std.specs.Str.{all_ascii_digits, bytes_eq}
 use Rattle.std.specs.Str.Parse.{digits_value}
-use Rattle.std.proofs.lemmas.Bool.Decides.{Decides-eqb, nat_tests}
+use Rattle.std.proofs.lemmas.Bool.Decides.{nat_tests}
 use Rattle.std.proofs.lemmas.Fmt.{decimal_digit, decimal_nonempty, digits_decimal, digits_value-decimal, first_decimal}
-use Rattle.std.proofs.lemmas.Grind.{common_steps}
 use Rattle.std.proofs.lemmas.List.{drop_at, take_at}
 use Rattle.std.proofs.lemmas.Option.{slice_get-get_or}
 use Rattle.std.proofs.lemmas.Slice.Eq.{bytes_eq-Decides}
 use Rattle.std.proofs.lemmas.Str.Parse.{IsNumeralModel, numerals_by_value, tells_all_ascii_digits}
+use Rattle.ilk_plant.proofs.Shapes.{body-test}
 use Rattle.ilk_plant.specs.Option.{◌>>=◌, only_if}
 use Rattle.ilk_plant.specs.Plant.{IsPlant, PlantLists}
 use Rattle.ilk_plant.specs.State.{IsBody, IsWithin, LeadsOn}
@@ -32,11 +32,10 @@ use Rattle.ilk_plant.specs.declared.state.RouteState.{RouteState}
 use Rattle.ilk_plant.specs.declared.state.Train.{Train}
 use Rattle.ilk_plant.specs.declared.table.Route.{Route}
 use Rattle.ilk_replay.specs.Lines.{Bytes, after_start, after_word, first_word, parts_at, words_of}
-use Rattle.ilk_replay.specs.StateLine.{aspect_of, board_told, direction_of, hold_of, is_number, leads_on, lie_of_word, lock_told, mode_of, number_to, point_said, point_told, position_of_word, route_said, route_told, said_of, sections_named, train_said, train_told}
+use Rattle.ilk_replay.specs.StateLine.{aspect_of, board_told, direction_of, hold_of, is_number, lie_of_word, lock_told, mode_of, number_to, point_said, point_told, position_of_word, route_said, route_told, said_of, sections_named, train_said, train_told, train_with}
 use Rattle.ilk_replay.specs.RunText.{aspect_word, board_line, direction_word, hold_word, lie_word, mode_word, name_of, point_line, position_word, route_line, section_line, spaced, train_line}
-use Rattle.ilk_replay.specs.Writable.{HasPlainNames, Lacks}
+use Rattle.ilk_replay.proofs.PlainNames.{HasPlainNames, Lacks, lacks_failing}
 use Rattle.ilk_replay.proofs.ReadBack.{first_back, named_back, or_none, part_first}
-use Rattle.ilk_replay.proofs.Shape.{first_passes, second_passes}
 use Rattle.ilk_replay.proofs.Written.{digits_same}
 
 start_back : (beginning rest : Bytes) → after_start beginning (beginning ++ rest) ≡ Some rest
@@ -128,18 +127,9 @@ number_back limit n small below =
     at_most : (k m : ℕ) → k ≤ m → nat_le k m ≡ true
     at_most k m h = grind (arith, nat_tests)
 
-lacks_more : (b : Bool) (c d : ℕ) (rest : Bool) → (d == c) ≡ b → is_ascii_digit c ≡ false → is_ascii_digit d ≡ true → rest ≡ false → (b || rest) ≡ false
-lacks_more true c d rest same other digit lacks = let equal : d ≡ c = (Decides-eqb d c).0 same in let wrong : is_ascii_digit d ≡ false = ap is_ascii_digit equal ∙ other in cc
-lacks_more false c d rest same other digit lacks = lacks
-
-digits_lack : (c : ℕ) (ds : Bytes) → is_ascii_digit c ≡ false → list_all is_ascii_digit ds ≡ true → Lacks c ds
-digits_lack c [] other digits = refl
-digits_lack c (d ∷ ds) other digits =
-    lacks_more (d == c) c d (list_any (λ e. e == c) ds) refl other (first_passes (is_ascii_digit d) _ digits) (digits_lack c ds other (second_passes (is_ascii_digit d) _ digits))
-
 -- a number has neither spaces nor line feeds
 pub decimal_plain : (c n : ℕ) → is_ascii_digit c ≡ false → n < 2 ^ 32 → Lacks c (decimal n)
-decimal_plain c n other small = digits_lack c (decimal n) other (digits_same (decimal n) ∙ digits_decimal own n (omega arith))
+decimal_plain c n other small = lacks_failing is_ascii_digit c (decimal n) other (digits_same (decimal n) ∙ digits_decimal own n (omega arith))
 
 said_route_back : (limit : ℕ) (now : RouteState) → limit < 2 ^ 32 → now.seen ≤ limit → now.rel ≤ limit → route_said limit (spaced (mode_word now.mode) (spaced (decimal now.seen) (decimal now.rel))) ≡ Some now
 said_route_back limit now small seen rel =
@@ -199,9 +189,6 @@ part_alone c (x ∷ text) lacks =
     let parts = or_none (x == c) (list_any (λ b. b == c) text) lacks in
     rw (parts.0) (ap (onto_first x) (part_alone c text parts.1))
 
-append_none : (xs : Bytes) → xs ++ [] ≡ xs
-append_none xs = grind (arith, common_steps)
-
 name_lacks : (names : List Bytes) (c i : ℕ) → All (Lacks c) names → i < length names → Lacks c (name_of names i)
 name_lacks names c i plain within = subst (Lacks c) (sym (ap (λ (o : Option Bytes). unwrap_or o []) (slice_get-get_or names i [] within))) (plain i [] within)
 
@@ -209,7 +196,7 @@ name_lacks names c i plain within = subst (Lacks c) (sym (ap (λ (o : Option Byt
 body_words : (p : PlantLists) → IsPlant p → HasPlainNames p → (x : ℕ) (rest : List ℕ) → All (λ y. y < length p.sections) (x ∷ rest) → words_of (name_of p.section_names x ++ flat_map (λ y. 32 ∷ name_of p.section_names y) rest) ≡ map (name_of p.section_names) (x ∷ rest)
 body_words p plant plain x [] known =
     let named = plant.sections_named in let first = known zero 0 (omega arith) in
-    ap words_of (append_none (name_of p.section_names x)) ∙ part_alone 32 (name_of p.section_names x) (name_lacks p.section_names 32 x plain.section_words (omega arith))
+    ap words_of (append-nil (name_of p.section_names x)) ∙ part_alone 32 (name_of p.section_names x) (name_lacks p.section_names 32 x plain.section_words (omega arith))
 body_words p plant plain x (y ∷ rest) known =
     let named = plant.sections_named in let first = known zero 0 (omega arith) in
     part_first 32 (name_of p.section_names x) (name_of p.section_names y ++ flat_map (λ z. 32 ∷ name_of p.section_names z) rest) (name_lacks p.section_names 32 x plain.section_words (omega arith))
@@ -227,10 +214,6 @@ known_next p plant d x rest within leads zero e below = within
 known_next p plant d x [] within leads (suc k) e below = absurd (omega arith)
 known_next p plant d x (y ∷ rest) within leads (suc k) e below = known_next p plant d y rest (plant.neighbours x y d leads.0) leads.1 k e (omega arith)
 
-leads_back : (p : PlantLists) (d : Dir) (x : ℕ) (rest : List ℕ) → LeadsOn p d x rest → leads_on p d (x ∷ rest) ≡ true
-leads_back p d x [] leads = refl
-leads_back p d x (y ∷ rest) leads = all_and _ _ leads.0 (leads_back p d y rest leads.1)
-
 abbrev said_pair : Dir → Bytes → Option (Dir × Bytes)
 said_pair dir names = Some (dir, names)
 
@@ -245,10 +228,10 @@ body_back p plant plain d [] shape = absurd shape
 body_back p plant plain d (x ∷ rest) shape =
     let known : All (λ y. y < length p.sections) (x ∷ rest) = known_next p plant d x rest shape.0 shape.1 in
     let names : Bytes = name_of p.section_names x ++ flat_map (λ y. 32 ∷ name_of p.section_names y) rest in
-    ap (λ (o : Option (Dir × Bytes)). o >>= (λ said. sections_named p (words_of said.1) >>= (λ body. only_if (leads_on p said.0 body) (record { dir = said.0; body = body })))) (said_train_back d names)
-    ∙ ap (λ (ws : List Bytes). sections_named p ws >>= (λ body. only_if (leads_on p d body) (record { dir = d; body = body }))) (body_words p plant plain x rest known)
-    ∙ ap (λ (o : Option (List ℕ)). o >>= (λ body. only_if (leads_on p d body) (record { dir = d; body = body }))) (names_back p plant (x ∷ rest) known)
-    ∙ ap (λ b. only_if b (record { dir = d; body = x ∷ rest })) (leads_back p d x rest shape.1)
+    ap (λ (o : Option (Dir × Bytes)). o >>= (λ said. sections_named p (words_of said.1) >>= train_with p said.0)) (said_train_back d names)
+    ∙ ap (λ (ws : List Bytes). sections_named p ws >>= train_with p d) (body_words p plant plain x rest known)
+    ∙ ap (λ (o : Option (List ℕ)). o >>= train_with p d) (names_back p plant (x ∷ rest) known)
+    ∙ ap (λ b. only_if b (record { dir = d; body = x ∷ rest })) (body-test p (record { dir = d; body = x ∷ rest }) shape)
 
 -- a train's line tells the train
 pub train_back : (p : PlantLists) → IsPlant p → HasPlainNames p → (train : Train) → IsBody p train → train_told p (train_line p train) ≡ Some train

@@ -3,7 +3,7 @@ use Rattle.std.proofs.Common.{◌≡◌, ℕ, ◌+◌, ◌<◌, ◌^◌, Bool, t
 use Rattle.std.specs.Fmt.{decimal}
 use Rattle.std.specs.List.{range_with_len}
 use Rattle.std.proofs.lemmas.Bool.Decides.{Decides-eqb}
-use Rattle.std.proofs.lemmas.List.Elements.{All-append}
+use Rattle.std.proofs.lemmas.List.Elements.{All-append, All-nil, All-cons}
 use Rattle.std.proofs.lemmas.List.FromFn.{length-range_with_len}
 use Rattle.std.proofs.lemmas.List.Folds.{list_any-append}
 use Rattle.std.proofs.lemmas.Option.{slice_get_within}
@@ -26,18 +26,21 @@ use Rattle.ilk_plant.specs.declared.state.RouteState.{RouteState}
 use Rattle.ilk_plant.specs.declared.state.State.{State}
 use Rattle.ilk_plant.specs.declared.state.Train.{Train}
 use Rattle.ilk_model.specs.declared.event.Event.{Event}
-use Rattle.ilk_replay.specs.Result.{◌>>=◌}
+use Rattle.ilk_plant.specs.Result.{◌>>=◌}
 use Rattle.ilk_replay.specs.Lines.{Bytes, after_lines, leading, onto}
 use Rattle.ilk_replay.specs.StateLine.{board_told, lock_told, point_told, route_told, train_told}
-use Rattle.ilk_replay.specs.StateTold.{Beginning, Part, after_line, each_told, is_point_at, leading_part, numbers_of, point_sections, state_told}
+use Rattle.ilk_replay.specs.StateTold.{Beginning, Part, after_line, each_told, leading_part, numbers_of, point_sections, state_told}
+use Rattle.ilk_plant.specs.Plant.{is_point_section}
 use Rattle.ilk_replay.specs.Told.{events_told, tale_of, told}
 use Rattle.ilk_replay.specs.RunText.{aspect_word, board_line, direction_word, each_line, event_line, hold_word, lie_word, mode_word, name_of, point_line, position_word, route_line, run_lines, run_text, section_line, spaced, state_lines, train_line}
-use Rattle.ilk_replay.specs.Writable.{HasPlainNames, IsAbout, Lacks, resumed}
+use Rattle.ilk_replay.specs.Writable.{IsAbout}
+use Rattle.ilk_replay.specs.declared.told.Told.{Told}
+use Rattle.ilk_replay.proofs.PlainNames.{HasPlainNames, Lacks}
 use Rattle.ilk_replay.specs.declared.told.Tale.TheVariants.{Told as IsTold}
 use Rattle.ilk_replay.proofs.Each.{told_with, values_left}
 use Rattle.ilk_replay.proofs.ReadBack.{both_none, lines_back}
 use Rattle.ilk_replay.proofs.Shape.{point_sections-length, range_get}
-use Rattle.ilk_replay.proofs.StartedBack.{event_lines-plain, events_back, name_lacks, none_at_all, one_more}
+use Rattle.ilk_replay.proofs.StartedBack.{event_lines-plain, events_back, name_lacks}
 use Rattle.ilk_replay.proofs.StateBack.{board_back, decimal_plain, lock_back, point_back, route_back, train_back}
 use Rattle.ilk_replay.proofs.WrittenRun.{answered, made, regroup}
 
@@ -75,12 +78,12 @@ trains_past : (p : PlantLists) (trains : List Train) (rest : List Bytes) → dro
 trains_past p [] rest = refl
 trains_past p (train ∷ trains) rest = trains_past p trains rest
 
-item_at : {X : Type 0} (xs : List X) (i : ℕ) → i < length xs → (x : X) × (slice_get xs i ≡ Some x)
+pub item_at : {X : Type 0} (xs : List X) (i : ℕ) → i < length xs → (x : X) × (slice_get xs i ≡ Some x)
 item_at [] i within = absurd (omega arith)
 item_at (x ∷ xs) zero within = (x, refl)
 item_at (x ∷ xs) (suc i) within = item_at xs i (omega arith)
 
-range_within : (n i x : ℕ) → slice_get (range_with_len 0 n) i ≡ Some x → (x ≡ i) × (x < n)
+pub range_within : (n i x : ℕ) → slice_get (range_with_len 0 n) i ≡ Some x → (x ≡ i) × (x < n)
 range_within n i x at =
     let same : x ≡ 0 + i = range_get 0 n i x at in
     let within = slice_get_within (range_with_len 0 n) i x at in
@@ -97,8 +100,8 @@ passing_within test a (suc n) i x at = by_test (test a) i at (λ j here. passing
     by_test true (suc j) here later = let below = later j here in omega arith
     by_test false j here later = let below = later j here in omega arith
 
-point_within : (p : PlantLists) (i x : ℕ) → slice_get (point_sections p) i ≡ Some x → x < length p.sections
-point_within p i x at = let below = passing_within (is_point_at p) 0 (length p.sections) i x at in omega arith
+pub point_within : (p : PlantLists) (i x : ℕ) → slice_get (point_sections p) i ≡ Some x → x < length p.sections
+point_within p i x at = let below = passing_within (is_point_section p) 0 (length p.sections) i x at in omega arith
 
 routes_hold : (p : PlantLists) → IsPlant p → (s : State) → HasShape p s → (i x : ℕ) (v : RouteState) → slice_get (numbers_of p.routes) i ≡ Some x → slice_get s.routes i ≡ Some v → route_told p x (route_line p x v) ≡ Some v
 routes_hold p plant s shape i x v at here =
@@ -192,18 +195,18 @@ body_plain p plain [] = refl
 body_plain p plain (x ∷ body) = lacks_append 10 (name_of p.section_names x) (flat_map (λ y. 32 ∷ name_of p.section_names y) body) (name_lacks 10 p.section_names x plain.sections) (body_plain p plain body)
 
 train_plain : (p : PlantLists) → HasPlainNames p → (trains : List Train) → All (Lacks 10) (map (train_line p) trains)
-train_plain p plain [] = none_at_all (Lacks 10)
+train_plain p plain [] = All-nil (Lacks 10)
 train_plain p plain (train ∷ trains) =
-    one_more (Lacks 10) (train_line p train) (map (train_line p) trains)
+    All-cons (Lacks 10) (train_line p train) (map (train_line p) trains)
     (lacks_spaced (codes "train") (direction_word train.dir ++ flat_map (λ x. 32 ∷ name_of p.section_names x) train.body) refl
     (lacks_append 10 (direction_word train.dir) (flat_map (λ x. 32 ∷ name_of p.section_names x) train.body) (direction_plain train.dir) (body_plain p plain train.body)))
     (train_plain p plain trains)
 
 each_plain : {A : Type 0} (line_of : ℕ → A → Bytes) (items : List ℕ) (values : List A) → ((i x : ℕ) (v : A) → slice_get items i ≡ Some x → slice_get values i ≡ Some v → Lacks 10 (line_of x v)) → All (Lacks 10) (each_line line_of items values)
-each_plain line_of [] values holds = none_at_all (Lacks 10)
-each_plain line_of (x ∷ items) [] holds = none_at_all (Lacks 10)
+each_plain line_of [] values holds = All-nil (Lacks 10)
+each_plain line_of (x ∷ items) [] holds = All-nil (Lacks 10)
 each_plain line_of (x ∷ items) (v ∷ values) holds =
-    one_more (Lacks 10) (line_of x v) (each_line line_of items values) (holds 0 x v refl refl) (each_plain line_of items values (λ i y w at here. holds (suc i) y w at here))
+    All-cons (Lacks 10) (line_of x v) (each_line line_of items values) (holds 0 x v refl refl) (each_plain line_of items values (λ i y w at here. holds (suc i) y w at here))
 
 route_plain : (p : PlantLists) → IsPlant p → HasPlainNames p → (s : State) → HasShape p s → (i x : ℕ) (v : RouteState) → slice_get (numbers_of p.routes) i ≡ Some x → slice_get s.routes i ≡ Some v → Lacks 10 (route_line p x v)
 route_plain p plant plain s shape i x v at here =
@@ -238,6 +241,10 @@ state_plain p plant plain s shape =
 row : (a : List Bytes) (v : Bytes) (b c : List Bytes) → ((a ++ v ∷ []) ++ b) ++ c ≡ a ++ v ∷ (b ++ c)
 row a v b c = simp append_assoc
 
+-- the run of these events from this state, which the text tells
+abbrev pub resumed : State → List Event → Told
+resumed s events = record { first = s; from_start = false; events = events }
+
 -- the text of a run that begins in a state tells that run
 pub resumed_back : (p : PlantLists) → IsPlant p → HasPlainNames p → (s : State) → HasShape p s → (events : List Event) → All (IsAbout p) events → tale_of p (run_text p (resumed s events)) ≡ IsTold (resumed s events)
 resumed_back p plant plain s shape events about =
@@ -245,8 +252,8 @@ resumed_back p plant plain s shape events about =
     let lines : List Bytes = codes "run 1" ∷ codes "state" ∷ (state_lines p s ++ codes "events" ∷ last) in
     let same : run_lines p (resumed s events) ≡ lines = ap (λ ls. codes "run 1" ∷ codes "state" ∷ ls) (row (state_lines p s) (codes "events") (map (event_line p) events) (codes "end" ∷ [])) in
     let all : All (Lacks 10) lines =
-    one_more (Lacks 10) (codes "run 1") (codes "state" ∷ (state_lines p s ++ codes "events" ∷ last)) refl (one_more (Lacks 10) (codes "state") (state_lines p s ++ codes "events" ∷ last) refl (All-append (Lacks 10) (state_lines p s) (codes "events" ∷ last) (state_plain p plant plain s shape)
-    (one_more (Lacks 10) (codes "events") last refl (event_lines-plain p plain events)))) in
+    All-cons (Lacks 10) (codes "run 1") (codes "state" ∷ (state_lines p s ++ codes "events" ∷ last)) refl (All-cons (Lacks 10) (codes "state") (state_lines p s ++ codes "events" ∷ last) refl (All-append (Lacks 10) (state_lines p s) (codes "events" ∷ last) (state_plain p plant plain s shape)
+    (All-cons (Lacks 10) (codes "events") last refl (event_lines-plain p plain events)))) in
     let back = lines_back lines all in
     ap (λ (ls : List Bytes). tale_of p (flat_map (λ line. line ++ 10 ∷ []) ls)) same
     ∙ ap (λ (ls : List Bytes). answered (told p ls (after_lines (flat_map (λ line. line ++ 10 ∷ []) lines)))) back.0

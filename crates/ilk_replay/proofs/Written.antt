@@ -10,9 +10,10 @@ use Rattle.std.proofs.lemmas.Bool.Decides.{Decides-eqb, nat_tests}
 use Rattle.std.proofs.lemmas.Fmt.{decimal-digits_value}
 use Rattle.std.proofs.lemmas.List.{drop_more, take-append-drop}
 use Rattle.std.proofs.lemmas.List.Quantifiers.{position-Some}
-use Rattle.std.proofs.lemmas.Option.{unwrap_or-slice_get}
+use Rattle.std.proofs.lemmas.Option.{unwrap_or-slice_get, cond_some}
 use Rattle.std.proofs.lemmas.Slice.Eq.{bytes_eq-Decides}
 use Rattle.std.proofs.lemmas.Str.Parse.{numerals_by_value, tells_all_ascii_digits}
+use Rattle.ilk_plant.proofs.KnownNames.{both}
 use Rattle.ilk_plant.specs.Option.{◌>>=◌}
 use Rattle.ilk_plant.specs.Network.{is_point}
 use Rattle.ilk_plant.specs.Plant.{PlantLists, first_named}
@@ -34,7 +35,8 @@ use Rattle.ilk_replay.specs.Lines.{Bytes, after_start, after_word, first_word}
 use Rattle.ilk_replay.specs.EventLine.{event_of, event_told, point_event, point_named, route_event, section_event}
 use Rattle.ilk_replay.specs.StateLine.{aspect_of, direction_of, hold_of, is_number, lie_of_word, mode_of, number_to, position_of_word, said_of}
 use Rattle.ilk_replay.specs.RunText.{aspect_word, direction_word, event_line, hold_word, lie_word, mode_word, name_of, position_word, spaced}
-use Rattle.ilk_replay.proofs.Shape.{bind_some, first_passes, only_some, second_passes, some_is}
+use Rattle.ilk_replay.proofs.Each.{some_is}
+use Rattle.ilk_replay.proofs.Shape.{bind_some}
 
 -- a line is its first word, a space, and what follows
 pub first_word-joins : (line word rest : Bytes) → first_word line ≡ Some (word, rest) → line ≡ spaced word rest
@@ -50,7 +52,7 @@ first_word-joins line word rest e = by_place (position (λ b. b == 32) line) ref
 
 pub after_start-joins : (beginning line rest : Bytes) → after_start beginning line ≡ Some rest → line ≡ beginning ++ rest
 after_start-joins beginning line rest e =
-    let begins = only_some (bytes_eq (take (length beginning) line) beginning) (drop (length beginning) line) rest e in
+    let begins = cond_some (bytes_eq (take (length beginning) line) beginning) (drop (length beginning) line) rest e in
     let same : take (length beginning) line ≡ beginning = (bytes_eq-Decides (take (length beginning) line) beginning).0 begins.0 in
     sym (take-append-drop (length beginning) line) ∙ ap (λ xs. xs ++ drop (length beginning) line) same ∙ ap (λ ys. beginning ++ ys) begins.1
 
@@ -65,7 +67,7 @@ said_of-joins kind name line text e =
     after_word-joins kind line a.0 a.1 ∙ ap (spaced kind) (after_word-joins name a.0 text a.2)
 
 -- what holds of the word w and its value holds of a word that is w, or else of those that are left
-word_case : {A : Type 0} (P : Bytes → A → Type 0) (word w : Bytes) (x e : A) (rest : Option A) → P w x → (rest ≡ Some e → P word e) → cond (bytes_eq word w) (Some x) rest ≡ Some e → P word e
+pub word_case : {A : Type 0} (P : Bytes → A → Type 0) (word w : Bytes) (x e : A) (rest : Option A) → P w x → (rest ≡ Some e → P word e) → cond (bytes_eq word w) (Some x) rest ≡ Some e → P word e
 word_case {A = A} P word w x e rest here later found = by_test (bytes_eq word w) refl found
   where
     by_test : (b : Bool) → bytes_eq word w ≡ b → cond b (Some x) rest ≡ Some e → P word e
@@ -127,18 +129,18 @@ named-name names name i e =
     let found = position-Some (bytes_eq name) names i [] e in
     (bytes_eq-Decides name (get_or names i [])).0 found.1 ∙ sym (unwrap_or-slice_get names i [])
 
-or_cases : {A : Type 0} (P : Type 0) (a b : Option A) (x : A) → option_or a b ≡ Some x → (a ≡ Some x → P) → (b ≡ Some x → P) → P
+pub or_cases : {A : Type 0} (P : Type 0) (a b : Option A) (x : A) → option_or a b ≡ Some x → (a ≡ Some x → P) → (b ≡ Some x → P) → P
 or_cases P None b x e left right = right e
 or_cases P (Some y) b x e left right = left e
 
 -- the events that a word and a name tell of a route, of a point, and of trains at a section
-abbrev of_route : PlantLists → Bytes → Bytes → Option Event
+abbrev pub of_route : PlantLists → Bytes → Bytes → Option Event
 of_route p word name = first_named p.route_names name >>= route_event word
 
-abbrev of_point : PlantLists → Bytes → Bytes → Option Event
+abbrev pub of_point : PlantLists → Bytes → Bytes → Option Event
 of_point p word name = point_named p name >>= point_event word
 
-abbrev of_section : PlantLists → Bytes → Bytes → Option Event
+abbrev pub of_section : PlantLists → Bytes → Bytes → Option Event
 of_section p word name = first_named p.section_names name >>= section_event word
 
 of_route-line : (p : PlantLists) (word name : Bytes) (event : Event) → of_route p word name ≡ Some event → spaced word name ≡ event_line p event
@@ -151,7 +153,7 @@ of_point-line p word name event e =
     let b = bind_some (point_named p name) (point_event word) event e in
     let c = bind_some (first_named p.section_names name) _ b.0 b.1 in
     let d = bind_some (slice_get p.sections c.0) _ b.0 c.2 in
-    let same : c.0 ≡ b.0 = (only_some (is_point d.0) c.0 b.0 d.2).1 in
+    let same : c.0 ≡ b.0 = (cond_some (is_point d.0) c.0 b.0 d.2).1 in
     ap (spaced word) (named-name p.section_names name c.0 c.1 ∙ ap (name_of p.section_names) same) ∙ point_event-line p word b.0 event b.2
 
 of_section-line : (p : PlantLists) (word name : Bytes) (event : Event) → of_section p word name ≡ Some event → spaced word name ≡ event_line p event
@@ -183,13 +185,13 @@ alone n first h e = grind (arith, nat_tests)
 -- a number that is read is written so
 pub number-written : (limit : ℕ) (word : Bytes) (n : ℕ) → limit < 2 ^ 32 → number_to limit word ≡ Some n → word ≡ decimal n
 number-written limit word n small e =
-    let read = only_some (is_number word && nat_le (digits_value 10 word) limit) (digits_value 10 word) n e in
-    let number : is_number word ≡ true = first_passes (is_number word) (nat_le (digits_value 10 word) limit) read.0 in
-    let within : nat_le (digits_value 10 word) limit ≡ true = second_passes (is_number word) (nat_le (digits_value 10 word) limit) read.0 in
+    let read = cond_some (is_number word && nat_le (digits_value 10 word) limit) (digits_value 10 word) n e in
+    let number : is_number word ≡ true = (both (is_number word) (nat_le (digits_value 10 word) limit) read.0).0 in
+    let within : nat_le (digits_value 10 word) limit ≡ true = (both (is_number word) (nat_le (digits_value 10 word) limit) read.0).1 in
     let below : digits_value 10 word ≤ limit = grind (arith, nat_tests) in
-    let begins = first_passes (list_all is_ascii_digit word && not (length word == 0)) _ number in
-    let digits : all_ascii_digits word ≡ true = sym (digits_same word) ∙ first_passes (list_all is_ascii_digit word) _ begins in
-    let some : 0 < length word = not_zero (length word) (second_passes (list_all is_ascii_digit word) _ begins) in
-    let led = second_passes (list_all is_ascii_digit word && not (length word == 0)) (length word == 1 || not (slice_index word 0 == 48)) number in
+    let begins = (both (list_all is_ascii_digit word && not (length word == 0)) _ number).0 in
+    let digits : all_ascii_digits word ≡ true = sym (digits_same word) ∙ (both (list_all is_ascii_digit word) _ begins).0 in
+    let some : 0 < length word = not_zero (length word) ((both (list_all is_ascii_digit word) _ begins).1) in
+    let led = (both (list_all is_ascii_digit word && not (length word == 0)) (length word == 1 || not (slice_index word 0 == 48)) number).1 in
     sym (decimal-digits_value (numerals_by_value (λ ds. all_ascii_digits ds ≡ true) tells_all_ascii_digits) word digits some (alone (length word) (slice_index word 0) led) (omega arith))
     ∙ ap decimal read.1

@@ -1,12 +1,13 @@
 -- A text that tells a run is the text that is written for it.
-use Rattle.std.proofs.Common.{◌≡◌, ℕ, ◌+◌, ◌<◌, ◌^◌, Bool, true, false, ◌==◌, Option, Some, None, Result, Ok, Err, List, [], ◌∷◌, ◌++◌, codes, drop, flat_map, length, map, slice_get, unwrap_or, cond, refl, sym, ap, ◌∙◌, arith, subst, append_assoc, suc}
+use Rattle.std.proofs.Common.{◌≡◌, ℕ, ◌+◌, ◌<◌, ◌^◌, Bool, true, false, ◌==◌, Option, Some, None, Result, Ok, Err, List, [], ◌∷◌, ◌++◌, codes, drop, flat_map, length, map, slice_get, unwrap_or, cond, refl, sym, ap, ◌∙◌, arith, subst, append_assoc, suc, append-nil}
 use Rattle.std.specs.Fmt.{decimal}
 use Rattle.std.specs.List.{onto_first}
 use Rattle.std.specs.Str.{bytes_eq}
 use Rattle.std.proofs.lemmas.Bool.Decides.{Decides-eqb}
-use Rattle.std.proofs.lemmas.Grind.{common_steps}
 use Rattle.std.proofs.lemmas.Slice.Eq.{bytes_eq-Decides}
+use Rattle.std.proofs.lemmas.Option.{cond_some}
 use Rattle.ilk_plant.specs.Plant.{IsPlant, PlantLists, first_named}
+use Rattle.ilk_plant.specs.Shape.{is_body}
 use Rattle.ilk_plant.specs.Start.{start}
 use Rattle.ilk_plant.specs.declared.network.Dir.{Dir}
 use Rattle.ilk_plant.specs.declared.state.Aspect.{Aspect}
@@ -15,19 +16,19 @@ use Rattle.ilk_plant.specs.declared.state.PointState.{PointState}
 use Rattle.ilk_plant.specs.declared.state.RouteState.{RouteState}
 use Rattle.ilk_plant.specs.declared.state.Train.{Train}
 use Rattle.ilk_model.specs.declared.event.Event.{Event}
-use Rattle.ilk_replay.specs.Result.{◌>>=◌}
+use Rattle.ilk_plant.specs.Result.{◌>>=◌}
 use Rattle.ilk_replay.specs.Lines.{Bytes, after_lines, after_word, but_last, first_word, last_of, leading, lines_of, onto, parts_at, words_of}
 use Rattle.ilk_replay.specs.EventLine.{event_of}
-use Rattle.ilk_replay.specs.StateLine.{board_told, direction_of, leads_on, lie_of_word, lock_told, mode_of, number_to, point_said, point_told, position_of_word, route_said, route_told, said_of, sections_named, train_said, train_told}
+use Rattle.ilk_replay.specs.StateLine.{board_told, direction_of, lie_of_word, lock_told, mode_of, number_to, point_said, point_told, position_of_word, route_said, route_told, said_of, sections_named, train_said, train_told}
 use Rattle.ilk_replay.specs.StateTold.{Beginning, Part, after_line, each_told, numbers_of, point_sections, state_told}
 use Rattle.ilk_replay.specs.Told.{at_the_end, beginning_told, events_told, told, tale_of}
 use Rattle.ilk_replay.specs.RunText.{beginning_lines, board_line, direction_word, each_line, event_line, lie_word, mode_word, name_of, point_line, position_word, route_line, run_lines, run_text, section_line, spaced, state_lines, train_line}
 use Rattle.ilk_replay.specs.declared.told.Tale.{Tale}
 use Rattle.ilk_replay.specs.declared.told.Tale.TheVariants.{Told as IsTold, Bad}
 use Rattle.ilk_replay.specs.declared.told.Told.{Told}
-use Rattle.ilk_replay.proofs.Each.{values_left}
+use Rattle.ilk_replay.proofs.Each.{some_is, values_left}
 use Rattle.ilk_replay.proofs.Parts.{parts_follow}
-use Rattle.ilk_replay.proofs.Shape.{bind_some, each_ok, only_some, some_is}
+use Rattle.ilk_replay.proofs.Shape.{bind_some, each_ok}
 use Rattle.ilk_replay.proofs.Written.{after_word-joins, aspect_of-word, direction_of-word, event_of-line, first_word-joins, hold_of-word, lie_of-word, mode_of-word, named-name, number-written, position_of-word, said_of-joins}
 
 name_at : (names : List Bytes) (i : ℕ) (name : Bytes) → slice_get names i ≡ Some name → name ≡ name_of names i
@@ -122,7 +123,7 @@ train_told-line : (p : PlantLists) (line : Bytes) (train : Train) → train_told
 train_told-line p line train e =
     let a = bind_some (train_said line) _ train e in
     let b = bind_some (sections_named p (words_of a.0.1)) _ train a.2 in
-    let same : record { dir = a.0.0; body = b.0 } ≡ train = (only_some (leads_on p a.0.0 b.0) (record { dir = a.0.0; body = b.0 }) train b.2).1 in
+    let same : record { dir = a.0.0; body = b.0 } ≡ train = (cond_some (is_body p (record { dir = a.0.0; body = b.0 })) (record { dir = a.0.0; body = b.0 }) train b.2).1 in
     let names : 32 ∷ a.0.1 ≡ flat_map (λ x. 32 ∷ name_of p.section_names x) b.0 = parts-joined 32 a.0.1 ∙ names-joined p (words_of a.0.1) b.0 b.1 in
     train_said-line line a.0 a.1 ∙ ap (λ t. spaced (codes "train") (direction_word a.0.0 ++ t)) names ∙ ap (train_line p) same
 
@@ -140,10 +141,10 @@ each_lines {A = A} value line_of holds (x ∷ items) (line ∷ lines) all = by_v
         let fewer : length (values_left value items lines) ≡ length items = omega arith in
         ap (λ l. l ∷ lines) (holds x line v this) ∙ ap (λ ls. line_of x v ∷ ls) (rest fewer)
 
-ok_is : {A : Type 0} {x y : A} → ◌≡◌ {A = Result A ℕ} (Ok x) (Ok y) → x ≡ y
+pub ok_is : {A : Type 0} {x y : A} → ◌≡◌ {A = Result A ℕ} (Ok x) (Ok y) → x ≡ y
 ok_is e = cc
 
-bind_ok : {A B : Type 0} (r : Result A ℕ) (f : A → Result B ℕ) (y : B) → (r >>= f) ≡ Ok y → (x : A) × (r ≡ Ok x) × (f x ≡ Ok y)
+pub bind_ok : {A B : Type 0} (r : Result A ℕ) (f : A → Result B ℕ) (y : B) → (r >>= f) ≡ Ok y → (x : A) × (r ≡ Ok x) × (f x ≡ Ok y)
 bind_ok (Ok x) f y e = (x, refl, e)
 bind_ok (Err n) f y e = cc
 
@@ -249,7 +250,7 @@ beginning_told-lines p plant (line ∷ more) b e = by_start (bytes_eq line (code
     by_start true same that = subst (λ (z : Beginning). begins p (line ∷ more) z) (ok_is that) (ap (λ l. l ∷ more) ((bytes_eq-Decides line (codes "start")).0 same))
     by_start false differs that = by_state (bytes_eq line (codes "state")) refl that
 
-at_the_end-ends : {A : Type 0} (x y : A) (n : ℕ) (more : List Bytes) (bytes : Bytes) → at_the_end x n more bytes ≡ Ok y → (x ≡ y) × (more ≡ []) × (bytes ≡ [])
+pub at_the_end-ends : {A : Type 0} (x y : A) (n : ℕ) (more : List Bytes) (bytes : Bytes) → at_the_end x n more bytes ≡ Ok y → (x ≡ y) × (more ≡ []) × (bytes ≡ [])
 at_the_end-ends x y n [] [] e = (ok_is e, refl, refl)
 at_the_end-ends x y n [] (b ∷ bytes) e = cc
 at_the_end-ends x y n (line ∷ more) bytes e = cc
@@ -265,7 +266,7 @@ events_told-lines p n lines bytes events e =
       last.2,
     )
 
-told-lines : (p : PlantLists) → IsPlant p → (lines : List Bytes) (bytes : Bytes) (t : Told) → told p lines bytes ≡ Ok t → (lines ≡ run_lines p t) × (bytes ≡ [])
+pub told-lines : (p : PlantLists) → IsPlant p → (lines : List Bytes) (bytes : Bytes) (t : Told) → told p lines bytes ≡ Ok t → (lines ≡ run_lines p t) × (bytes ≡ [])
 told-lines p plant lines bytes t e =
     let a = bind_ok (after_line (codes "run 1") 1 lines) _ t e in
     let b = bind_ok (beginning_told p a.0) _ t a.2 in
@@ -291,9 +292,6 @@ text-lines (x ∷ text) = join (x == 10) refl (parts_follow 10 text) (text-lines
     join false differs (part, [], follows) rest = ap (λ ys. x ∷ ys) (rest ∙ ap whole follows) ∙ sym (ap (λ ps. whole (onto_first x ps)) follows)
     join false differs (part, next ∷ parts, follows) rest = ap (λ ys. x ∷ ys) (rest ∙ ap whole follows) ∙ sym (ap (λ ps. whole (onto_first x ps)) follows)
 
-append_nothing : (xs : Bytes) → xs ++ [] ≡ xs
-append_nothing xs = grind (arith, common_steps)
-
 abbrev pub answered : Result Told ℕ → Tale
 answered (Ok x) = IsTold x
 answered (Err n) = Bad n
@@ -306,5 +304,5 @@ text_written p plant text t e = by_answer (told p (lines_of text) (after_lines t
     by_answer (Ok u) this that =
         let same : u ≡ t = cc in
         let all = told-lines p plant (lines_of text) (after_lines text) u this in
-        text-lines text ∙ ap (λ ls. flat_map (λ line. line ++ 10 ∷ []) ls ++ after_lines text) all.0 ∙ ap (λ bs. run_text p u ++ bs) all.1 ∙ append_nothing (run_text p u) ∙ ap (run_text p) same
+        text-lines text ∙ ap (λ ls. flat_map (λ line. line ++ 10 ∷ []) ls ++ after_lines text) all.0 ∙ ap (λ bs. run_text p u ++ bs) all.1 ∙ append-nil (run_text p u) ∙ ap (run_text p) same
     by_answer (Err n) this that = cc

@@ -1,4 +1,3 @@
-pub mod Result
 pub mod Lines
 pub mod EventLine
 pub mod StateLine
@@ -8,4 +7,5 @@ pub mod Reading
 pub mod Seen
 pub mod RunText
 pub mod Writable
+pub mod FirstBad
 pub mod Examples

@@ -1,11 +1,11 @@
 -- The lines of a state: each names what it is about, and says how that is.
-use Rattle.std.specs.Prelude.{ℕ, Bool, false, ◌==◌, ◌&&◌, ◌||◌, Option, Some, None, List, [], ◌∷◌, codes, bytes_eq, drop, zip, length, nat_le, not, slice_get, slice_index, if◌then◌else◌}
+use Rattle.std.specs.Prelude.{ℕ, Bool, ◌==◌, ◌&&◌, ◌||◌, Option, Some, None, List, [], ◌∷◌, codes, bytes_eq, length, nat_le, not, slice_get, slice_index, if◌then◌else◌}
 use Rattle.std.specs.List.{list_all}
 use Rattle.std.specs.Char.{is_ascii_digit}
 use Rattle.std.specs.Str.Parse.{digits_value}
 use Rattle.ilk_plant.specs.Option.{◌>>=◌, only_if}
-use Rattle.ilk_plant.specs.Network.{has_section}
-use Rattle.ilk_plant.specs.Plant.{PlantLists, first_named, next_to}
+use Rattle.ilk_plant.specs.Plant.{PlantLists, first_named}
+use Rattle.ilk_plant.specs.Shape.{is_body}
 use Rattle.ilk_plant.specs.declared.network.Dir.{Dir}
 use Rattle.ilk_plant.specs.declared.network.Dir.TheVariants.{Up, Down}
 use Rattle.ilk_plant.specs.declared.network.Position.{Position}
@@ -127,15 +127,6 @@ sections_named p (name ∷ more) = do
   rest ← sections_named p more
   Some (x ∷ rest)
 
--- whether each section but the first is next to the one before, in direction d
-abbrev pub leads_on : PlantLists → Dir → List ℕ → Bool
-leads_on p d body = list_all (λ pair. has_section pair.1 (next_to p pair.0 d)) (zip body (drop 1 body))
-
--- whether an entry of a list is section y
-abbrev pub is_entry : Option ℕ → ℕ → Bool
-is_entry None y = false
-is_entry (Some x) y = x == y
-
 -- a train's direction and the names of its sections: what stands after `train`
 abbrev pub train_said : Bytes → Option (Dir × Bytes)
 train_said line = do
@@ -144,10 +135,14 @@ train_said line = do
   dir ← direction_of words.0
   Some (dir, words.1)
 
+-- a train with this body, where it has one that leads on in its direction
+abbrev pub train_with : PlantLists → Dir → List ℕ → Option Train
+train_with p dir body = only_if (is_body p (record { dir = dir; body = body })) (record { dir = dir; body = body })
+
 -- the train that a line tells: `train`, its direction, and the names of its sections from tail to
 -- head, each next to the one before
 abbrev pub train_told : PlantLists → Bytes → Option Train
 train_told p line = do
   said ← train_said line
   body ← sections_named p (words_of said.1)
-  only_if (leads_on p said.0 body) (record { dir = said.0; body = body })
+  train_with p said.0 body

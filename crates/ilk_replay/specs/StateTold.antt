@@ -1,11 +1,9 @@
 -- The lines of a state, in their order: routes, points, boards, sections, trains, and then `events`.
-use Rattle.std.specs.Prelude.{ℕ, ◌+◌, ◌==◌, Bool, false, Result, Ok, Err, Option, Some, None, List, [], ◌∷◌, codes, bytes_eq, drop, filter, length, option_map, slice_get, zip, if◌then◌else◌}
+use Rattle.std.specs.Prelude.{ℕ, ◌+◌, ◌==◌, Bool, false, Result, Ok, Err, Option, None, List, [], ◌∷◌, codes, bytes_eq, drop, filter, length, option_map, zip, if◌then◌else◌}
 use Rattle.std.specs.List.{range_with_len}
-use Rattle.ilk_plant.specs.Network.{is_point}
-use Rattle.ilk_plant.specs.Plant.{PlantLists}
-use Rattle.ilk_plant.specs.declared.network.Section.{Section}
+use Rattle.ilk_plant.specs.Plant.{PlantLists, is_point_section}
 use Rattle.ilk_plant.specs.declared.state.State.{State}
-use Rattle.ilk_replay.specs.Result.{◌>>=◌}
+use Rattle.ilk_plant.specs.Result.{◌>>=◌}
 use Rattle.ilk_replay.specs.Lines.{Bytes, leading}
 use Rattle.ilk_replay.specs.StateLine.{board_told, lock_told, point_told, route_told, train_told}
 
@@ -44,17 +42,9 @@ each_told value items n lines =
 abbrev pub numbers_of : {A : Type 0} → List A → List ℕ
 numbers_of items = range_with_len 0 (length items)
 
--- whether section x is a point
-abbrev pub is_point_at : PlantLists → ℕ → Bool
-is_point_at p x = of_section (slice_get p.sections x)
-  where
-    of_section : Option Section → Bool
-    of_section None = false
-    of_section (Some section) = is_point section
-
 -- the point sections, in order
 abbrev pub point_sections : PlantLists → List ℕ
-point_sections p = filter (is_point_at p) (numbers_of p.sections)
+point_sections p = filter (is_point_section p) (numbers_of p.sections)
 
 -- how a run begins: its first state, and the lines of its events, of which the first has this number
 pub record Beginning : Type 0 where

@@ -1,25 +1,16 @@
 -- Which runs have a text that tells them.
-use Rattle.std.specs.Prelude.{ℕ, ◌≡◌, ◌<◌, ◌==◌, true, false, All, List, length}
-use Rattle.std.specs.List.{list_any}
+use Rattle.std.specs.Prelude.{ℕ, ◌≡◌, ◌≢◌, ◌<◌, true, All, length}
 use Rattle.ilk_plant.specs.Plant.{PlantLists}
 use Rattle.ilk_plant.specs.Start.{start}
-use Rattle.ilk_plant.specs.declared.state.State.{State}
+use Rattle.ilk_plant.specs.State.{HasShape}
 use Rattle.ilk_model.specs.declared.event.Event.{Event}
 use Rattle.ilk_model.specs.declared.event.Event.TheVariants.{Mark, Allocate, Lock, Sense, Release, Finish, Throw, Settle, Enter, Head, Tail, Leave}
 use Rattle.ilk_replay.specs.Lines.{Bytes}
-use Rattle.ilk_replay.specs.StateTold.{is_point_at}
+use Rattle.ilk_replay.specs.RunText.{run_text}
+use Rattle.ilk_plant.specs.Plant.{is_point_section}
+use Rattle.ilk_replay.specs.Told.{tale_of}
+use Rattle.ilk_replay.specs.declared.told.Tale.TheVariants.{Bad}
 use Rattle.ilk_replay.specs.declared.told.Told.{Told}
-
--- no byte of the text is c
-abbrev pub Lacks : ℕ → Bytes → Type 0
-Lacks c text = list_any (λ b. b == c) text ≡ false
-
--- no name has a line feed or a space
-pub record HasPlainNames (p : PlantLists) : Type 0 where
-  pub routes : All (Lacks 10) p.route_names
-  pub boards : All (Lacks 10) p.board_names
-  pub sections : All (Lacks 10) p.section_names
-  pub section_words : All (Lacks 32) p.section_names
 
 -- an event is about a route, a point or a section of the plant
 abbrev pub IsAbout : PlantLists → Event → Type 0
@@ -29,17 +20,28 @@ IsAbout p (Lock r) = r < length p.routes
 IsAbout p (Sense r) = r < length p.routes
 IsAbout p (Release r) = r < length p.routes
 IsAbout p (Finish r) = r < length p.routes
-IsAbout p (Throw x) = is_point_at p x ≡ true
-IsAbout p (Settle x) = is_point_at p x ≡ true
+IsAbout p (Throw x) = is_point_section p x ≡ true
+IsAbout p (Settle x) = is_point_section p x ≡ true
 IsAbout p (Enter x) = x < length p.sections
 IsAbout p (Head x) = x < length p.sections
 IsAbout p (Tail x) = x < length p.sections
 IsAbout p (Leave x) = x < length p.sections
 
--- the run of these events from the start
-abbrev pub started : PlantLists → List Event → Told
-started p events = record { first = start p; from_start = true; events = events }
+-- a run of the plant, as a text may tell it: it begins in a state with the plant's shape, which is the
+-- start where the text says so, and its events are about what there is
+pub record IsOfPlant (p : PlantLists) (told : Told) : Type 0 where
+  pub shape : HasShape p told.first
+  pub start : told.from_start ≡ true → told.first ≡ start p
+  pub events : All (IsAbout p) told.events
 
--- the run of these events from this state, which the text tells
-abbrev pub resumed : State → List Event → Told
-resumed s events = record { first = s; from_start = false; events = events }
+-- a text is the one that is written for this run of the plant
+abbrev pub IsTextOf : PlantLists → Told → Bytes → Type 0
+IsTextOf p told text = IsOfPlant p told × (text ≡ run_text p told)
+
+-- no line of a text is bad
+abbrev pub HasNoBadLine : PlantLists → Bytes → Type 0
+HasNoBadLine p text = (n : ℕ) → tale_of p text ≢ Bad n
+
+-- a text is the one of some run of the plant
+abbrev pub IsSomeText : PlantLists → Bytes → Type 0
+IsSomeText p text = (told : Told) × IsTextOf p told text

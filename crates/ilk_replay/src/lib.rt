@@ -14,7 +14,7 @@ mod state_reading;
 mod state_words;
 mod told;
 
-pub use laws::{resumed_text_is_told, started_text_is_told, text_is_written};
+pub use laws::texts_are_those_written;
 pub use reading::read_run;
 pub use seen::{Seen, replay};
 pub use told::{Tale, Told};

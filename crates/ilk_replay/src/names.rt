@@ -4,33 +4,28 @@ ghost use Rattle.ilk_replay.specs.EventLine.{point_named};
 
 use ilk_plant::Plant;
 
-#[tactic(auto, using(crate::proofs::Named::first_at, crate::proofs::Named::first_none, crate::proofs::Named::more_differ))]
-/// The number of the first route that has this name.
+// Names are of ASCII, so what isn't UTF-8 is no name.
+/// The number of the route that has this name. None exactly where no route has it.
 pub(crate) fn route_named(plant: &Plant, name: &[u8]) -> Option<u32>
     ensures { result ≡ first_named plant.now.route_names name.now }
 {
     plant.is_sound();
-    for r in 0..plant.routes() {
-        if name == plant.route_name(r).as_bytes() {
-            return Some(r);
-        }
+    match str::from_utf8(name) {
+        Ok(name) => plant.route_named(name),
+        Err(_) => None,
     }
-    None
 }
 
-#[tactic(auto, using(crate::proofs::Named::first_at, crate::proofs::Named::first_none, crate::proofs::Named::more_differ))]
-/// The number of the first section that has this name.
+/// The number of the section that has this name. None exactly where no section has it.
 pub(crate) fn section_named(plant: &Plant, name: &[u8]) -> Option<u32>
     ensures number { result ≡ first_named plant.now.section_names name.now }
     ensures known { IfSome result (λ x. x < length plant.now.sections) }
 {
     plant.is_sound();
-    for x in 0..plant.sections() {
-        if name == plant.section_name(x).as_bytes() {
-            return Some(x);
-        }
+    match str::from_utf8(name) {
+        Ok(name) => plant.section_named(name),
+        Err(_) => None,
     }
-    None
 }
 
 /// The number of the section that has this name, if it is a point.

@@ -1,9 +1,6 @@
 ghost use Rattle.std.specs.Prelude.{◌≡◌, ◌<◌, ◌≤◌, ◌^◌, IfOk, IfSome, length, option_map};
-ghost use Rattle.ilk_replay.specs.StateLine.{board_told, leads_on, lock_told, point_said, point_told, route_said, route_told, said_of, sections_named, train_said, train_told};
-ghost use Rattle.ilk_plant.specs.Network.{has_section};
-ghost use Rattle.ilk_plant.specs.Plant.{next_to};
+ghost use Rattle.ilk_replay.specs.StateLine.{board_told, lock_told, point_said, point_told, route_said, route_told, said_of, sections_named, train_said, train_told, train_with};
 ghost use Rattle.ilk_replay.specs.Lines.{words_of};
-ghost use Rattle.ilk_replay.specs.StateLine.{is_entry};
 
 use crate::lines::{after_word, cut, first_word};
 use crate::names::section_named;
@@ -102,38 +99,6 @@ fn sections_named(
     Ok(Some(body))
 }
 
-// Whether the entry is this section.
-fn is_entry(entry: Option<u32>, y: u32) -> bool
-    ensures { result ≡ is_entry entry y }
-{
-    match entry {
-        Some(x) => x == y,
-        None => false,
-    }
-}
-
-#[tactic(auto, using(crate::proofs::Bodies::two_entries))]
-// Whether section `y` is next to section `x` on side `d`.
-fn is_next(plant: &Plant, x: u32, d: Dir, y: u32) -> bool
-    ensures { result ≡ has_section y (next_to plant.now x d) }
-{
-    if x >= plant.sections() {
-        return false;
-    }
-    is_entry(plant.neighbour(x, d, 0), y) || is_entry(plant.neighbour(x, d, 1), y)
-}
-
-// Whether each section but the first is next to the one before, in direction `d`.
-fn leads_on(plant: &Plant, d: Dir, body: &Row<u32>) -> bool
-    ensures { result ≡ leads_on plant.now d body.now }
-{
-    let sections = body.as_slice();
-    sections
-        .iter()
-        .zip(sections.iter().skip(1))
-        .all(|(x, y)| is_next(plant, *x, d, *y))
-}
-
 // A train's direction and the names of its sections.
 fn train_said(line: &[u8]) -> Option<(Dir, &[u8])>
     ensures { option_map (λ said. (said.0, said.1.now)) result ≡ train_said line.now }
@@ -141,6 +106,18 @@ fn train_said(line: &[u8]) -> Option<(Dir, &[u8])>
     let rest = after_word(line, b"train")?;
     let (dir, names) = first_word(rest)?;
     Some((direction_of(dir)?, names))
+}
+
+// A train with this body. None where the body doesn't lead on in its direction.
+fn train_with(plant: &Plant, dir: Dir, body: Row<u32>) -> Option<Train>
+    ensures { result ≡ train_with plant.now dir body }
+{
+    let train = Train { dir, body };
+    if plant.is_body(&train) {
+        Some(train)
+    } else {
+        None
+    }
 }
 
 /// The train that a line tells. None where it is no train's line.
@@ -157,9 +134,5 @@ pub(crate) fn train_told(
     let Some(body) = sections_named(alloc, plant, names)? else {
         return Ok(None);
     };
-    if leads_on(plant, dir, &body) {
-        Ok(Some(Train { dir, body }))
-    } else {
-        Ok(None)
-    }
+    Ok(train_with(plant, dir, body))
 }

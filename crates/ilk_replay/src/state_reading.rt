@@ -2,7 +2,8 @@ ghost use Rattle.std.specs.Prelude.{◌≡◌, ◌<◌, ◌+◌, [], ◌∷◌, 
 ghost use Rattle.ilk_plant.specs.State.{HasShape};
 ghost use Rattle.ilk_replay.specs.Lines.{after_lines, leading, lines_of, onto};
 ghost use Rattle.ilk_replay.specs.StateLine.{board_told, lock_told, point_told, route_told, train_told};
-ghost use Rattle.ilk_replay.specs.StateTold.{each_told, is_point_at, numbers_of, one_told, point_sections, state_told};
+ghost use Rattle.ilk_replay.specs.StateTold.{each_told, numbers_of, one_told, point_sections, state_told};
+ghost use Rattle.ilk_plant.specs.Plant.{is_point_section};
 ghost use Rattle.ilk_replay.specs.Reading.{StateWith, TellsPart};
 ghost use Rattle.ilk_replay.specs.declared.cursor.Fault.TheVariants.{BadLine};
 
@@ -123,9 +124,9 @@ fn read_point(plant: &Plant, x: u32, lines: &mut Lines) -> Result<PointState, Fa
 }
 
 // Whether section `x` is a point.
-fn is_point_at(plant: &Plant, x: u32) -> bool
+fn is_point_section(plant: &Plant, x: u32) -> bool
     requires { x < length plant.now.sections }
-    ensures { result ≡ is_point_at plant.now x }
+    ensures { result ≡ is_point_section plant.now x }
 {
     plant.section(x).is_point()
 }
@@ -139,7 +140,7 @@ fn read_points(alloc: Global, plant: &Plant, lines: &mut Lines) -> Result<Row<Po
 {
     let mut states = Row::new(alloc);
     for x in 0..plant.sections() {
-        if !is_point_at(plant, x) {
+        if !is_point_section(plant, x) {
             continue;
         }
         states.push(read_point(plant, x, lines)?)?;

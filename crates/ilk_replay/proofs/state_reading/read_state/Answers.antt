@@ -4,7 +4,7 @@ use Rattle.ilk_replay.proofs.state_reading.read_state.Goals as goal
 
 pub returns-clause-shape : goal.returns-clause-shape
 returns-clause-shape c =
-    shaped c.args.plant.now c.is_sound.ensures c.in_ok-routes.routes c.in_ok-points.points c.in_ok-boards.boards c.in_ok-locks.locks c.in_ok-trains.trains
+    shaped c.args.plant.now c.in_ok-routes.routes c.in_ok-points.points c.in_ok-boards.boards c.in_ok-locks.locks c.in_ok-trains.trains
     c.args.lines.now.number c.read_routes.new.lines.number c.read_routes.new.lines.number c.read_points.new.lines.number c.read_points.new.lines.number c.read_boards.new.lines.number c.read_boards.new.lines.number c.read_locks.new.lines.number
     (lines_of c.args.lines.now.rest.now) (lines_of c.read_routes.new.lines.rest.now) (lines_of c.read_routes.new.lines.rest.now) (lines_of c.read_points.new.lines.rest.now) (lines_of c.read_points.new.lines.rest.now)
     (lines_of c.read_boards.new.lines.rest.now) (lines_of c.read_boards.new.lines.rest.now) (lines_of c.read_locks.new.lines.rest.now) (lines_of c.read_locks.new.lines.rest.now)

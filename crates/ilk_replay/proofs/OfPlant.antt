@@ -1,0 +1,181 @@
+-- What a text tells is a run of the plant, and the text is the one that is written for it.
+use Rattle.std.proofs.Common.{◌≡◌, ℕ, ◌+◌, ◌<◌, Bool, true, false, All, Option, Some, None, Result, Ok, Err, List, [], ◌∷◌, codes, drop, length, slice_get, cond, refl, sym, ap, ◌∙◌, arith, subst}
+use Rattle.std.specs.Prelude.{◌↔◌}
+use Rattle.std.specs.Option.{option_or}
+use Rattle.std.specs.Str.{bytes_eq}
+use Rattle.std.proofs.lemmas.List.Quantifiers.{position-Some}
+use Rattle.std.proofs.lemmas.Option.{cond_some}
+use Rattle.ilk_plant.proofs.Shapes.{start-shape}
+use Rattle.ilk_plant.specs.Network.{is_point}
+use Rattle.ilk_plant.specs.Option.{is_some_and}
+use Rattle.ilk_plant.specs.Plant.{IsPlant, PlantLists, first_named}
+use Rattle.ilk_plant.specs.Start.{start}
+use Rattle.ilk_plant.specs.State.{HasShape}
+use Rattle.ilk_plant.specs.declared.network.Section.{Section}
+use Rattle.ilk_model.specs.declared.event.Event.{Event}
+use Rattle.ilk_model.specs.declared.event.Event.TheVariants.{Mark, Allocate, Lock, Sense, Release, Finish, Throw, Settle, Enter, Head, Tail, Leave}
+use Rattle.ilk_replay.specs.Lines.{Bytes, after_lines, first_word, leading, lines_of}
+use Rattle.ilk_replay.specs.EventLine.{event_of, point_event, point_named, route_event, section_event}
+use Rattle.ilk_replay.specs.RunText.{run_text}
+use Rattle.ilk_replay.specs.StateLine.{board_told, lock_told, point_told, route_told, train_told}
+use Rattle.ilk_replay.specs.StateTold.{Beginning, after_line, each_told, numbers_of, point_sections, state_told}
+use Rattle.ilk_plant.specs.Plant.{is_point_section}
+use Rattle.ilk_replay.specs.Told.{beginning_told, events_told, tale_of, told}
+use Rattle.ilk_replay.specs.Writable.{HasNoBadLine, IsAbout, IsOfPlant, IsSomeText, IsTextOf}
+use Rattle.ilk_replay.specs.declared.told.Tale.{Tale}
+use Rattle.ilk_replay.specs.declared.told.Tale.TheVariants.{Told as IsTold, Bad}
+use Rattle.ilk_replay.specs.declared.told.Told.{Told}
+use Rattle.ilk_replay.proofs.PlainNames.{plain_names}
+use Rattle.ilk_replay.proofs.Shape.{bind_some, leading_all, shaped}
+use Rattle.ilk_replay.proofs.StartedBack.{started, started_back}
+use Rattle.ilk_replay.proofs.WholeBack.{resumed, resumed_back}
+use Rattle.ilk_replay.proofs.Written.{of_point, of_route, of_section, or_cases, word_case}
+use Rattle.ilk_replay.proofs.WrittenRun.{answered, at_the_end-ends, bind_ok, made, ok_is, text_written}
+
+-- a name that is known has a number below the count of the names
+named-within : (names : List Bytes) (name : Bytes) (i : ℕ) → first_named names name ≡ Some i → i < length names
+named-within names name i e = (position-Some (bytes_eq name) names i [] e).0
+
+route_event-about : (p : PlantLists) (word : Bytes) (r : ℕ) (event : Event) → r < length p.routes → route_event word r ≡ Some event → IsAbout p event
+route_event-about p word r event within e =
+    let P : Bytes → Event → Type 0 = λ w x. IsAbout p x in
+    word_case P word (codes "mark") (Mark r) event _ within (λ e1. word_case P word (codes "allocate") (Allocate r) event _ within (λ e2. word_case P word (codes "lock") (Lock r) event _ within
+    (λ e3. word_case P word (codes "sense") (Sense r) event _ within (λ e4. word_case P word (codes "release") (Release r) event _ within
+    (λ e5. word_case P word (codes "finish") (Finish r) event None within (λ e6. cc) e5) e4) e3) e2) e1) e
+
+point_event-about : (p : PlantLists) (word : Bytes) (x : ℕ) (event : Event) → is_point_section p x ≡ true → point_event word x ≡ Some event → IsAbout p event
+point_event-about p word x event at e =
+    let P : Bytes → Event → Type 0 = λ w y. IsAbout p y in
+    word_case P word (codes "throw") (Throw x) event _ at (λ e1. word_case P word (codes "settle") (Settle x) event None at (λ e2. cc) e1) e
+
+section_event-about : (p : PlantLists) (word : Bytes) (x : ℕ) (event : Event) → x < length p.sections → section_event word x ≡ Some event → IsAbout p event
+section_event-about p word x event within e =
+    let P : Bytes → Event → Type 0 = λ w y. IsAbout p y in
+    word_case P word (codes "enter") (Enter x) event _ within (λ e1. word_case P word (codes "head") (Head x) event _ within (λ e2. word_case P word (codes "tail") (Tail x) event _ within
+    (λ e3. word_case P word (codes "leave") (Leave x) event None within (λ e4. cc) e3) e2) e1) e
+
+of_route-about : (p : PlantLists) → IsPlant p → (word name : Bytes) (event : Event) → of_route p word name ≡ Some event → IsAbout p event
+of_route-about p plant word name event e =
+    let named = plant.routes_named in
+    let b = bind_some (first_named p.route_names name) (route_event word) event e in
+    let below = named-within p.route_names name b.0 b.1 in
+    route_event-about p word b.0 event (omega arith) b.2
+
+of_section-about : (p : PlantLists) → IsPlant p → (word name : Bytes) (event : Event) → of_section p word name ≡ Some event → IsAbout p event
+of_section-about p plant word name event e =
+    let named = plant.sections_named in
+    let b = bind_some (first_named p.section_names name) (section_event word) event e in
+    let below = named-within p.section_names name b.0 b.1 in
+    section_event-about p word b.0 event (omega arith) b.2
+
+of_point-about : (p : PlantLists) (word name : Bytes) (event : Event) → of_point p word name ≡ Some event → IsAbout p event
+of_point-about p word name event e =
+    let b = bind_some (point_named p name) (point_event word) event e in
+    let c = bind_some (first_named p.section_names name) _ b.0 b.1 in
+    let d = bind_some (slice_get p.sections c.0) _ b.0 c.2 in
+    let point = cond_some (is_point d.0) c.0 b.0 d.2 in
+    let at : is_point_section p c.0 ≡ true = ap (λ (o : Option Section). is_some_and o is_point) d.1 ∙ point.0 in
+    point_event-about p word b.0 event (ap (is_point_section p) (sym point.1) ∙ at) b.2
+
+-- an event that a line tells is about what there is
+event_of-about : (p : PlantLists) → IsPlant p → (line : Bytes) (event : Event) → event_of p line ≡ Some event → IsAbout p event
+event_of-about p plant line event e =
+    let a = bind_some (first_word line) _ event e in
+    let word : Bytes = a.0.0 in
+    let name : Bytes = a.0.1 in
+    or_cases (IsAbout p event) (of_route p word name) (option_or (of_point p word name) (of_section p word name)) event a.2 (of_route-about p plant word name event)
+    (λ other. or_cases (IsAbout p event) (of_point p word name) (of_section p word name) event other (of_point-about p word name event) (of_section-about p plant word name event))
+
+events_told-about : (p : PlantLists) → IsPlant p → (n : ℕ) (lines : List Bytes) (bytes : Bytes) (events : List Event) → events_told p n lines bytes ≡ Ok events → All (IsAbout p) events
+events_told-about p plant n lines bytes events e =
+    let found : List Event = leading (event_of p) lines in
+    let v = bind_ok (after_line (codes "end") (n + length found) (drop (length found) lines)) _ events e in
+    let last = at_the_end-ends found events (n + length found + 1) v.0 bytes v.2 in
+    subst (All (IsAbout p)) last.0 (leading_all (event_of p) (IsAbout p) (event_of-about p plant) lines)
+
+-- how a run of the plant begins
+abbrev BeginsWell : PlantLists → Beginning → Type 0
+BeginsWell p b = HasShape p b.first × (b.from_start ≡ true → b.first ≡ start p)
+
+from_neither : {P : Type 0} → false ≡ true → P
+from_neither e = cc
+
+state_told-begins : (p : PlantLists) (lines : List Bytes) (b : Beginning) → state_told p lines ≡ Ok b → BeginsWell p b
+state_told-begins p lines b e =
+    let r = bind_ok (each_told (route_told p) (numbers_of p.routes) 3 lines) _ b e in
+    let q = bind_ok (each_told (point_told p) (point_sections p) r.0.number r.0.lines) _ b r.2 in
+    let m = bind_ok (each_told (board_told p) (numbers_of p.boards) q.0.number q.0.lines) _ b q.2 in
+    let k = bind_ok (each_told (lock_told p) (numbers_of p.sections) m.0.number m.0.lines) _ b m.2 in
+    let trains = leading (train_told p) k.0.lines in
+    let v = bind_ok (after_line (codes "events") (k.0.number + length trains) (drop (length trains) k.0.lines)) _ b k.2 in
+    let same : made r.0.values q.0.values m.0.values k.0.values trains (k.0.number + length trains + 1) v.0 ≡ b = ok_is v.2 in
+    let shape : HasShape p (record { routes = r.0.values; points = q.0.values; boards = m.0.values; locks = k.0.values; trains = trains }) =
+    shaped p r.0.values q.0.values m.0.values k.0.values trains 3 r.0.number r.0.number q.0.number q.0.number m.0.number m.0.number k.0.number lines r.0.lines r.0.lines q.0.lines q.0.lines m.0.lines m.0.lines k.0.lines k.0.lines r.1 q.1 m.1 k.1 refl in
+    subst (BeginsWell p) same (shape, λ other. from_neither other)
+
+beginning_told-begins : (p : PlantLists) (lines : List Bytes) (b : Beginning) → beginning_told p lines ≡ Ok b → BeginsWell p b
+beginning_told-begins p [] b e = cc
+beginning_told-begins p (line ∷ more) b e = by_start (bytes_eq line (codes "start")) e
+  where
+    by_state : (c : Bool) → cond {A = Result Beginning ℕ} c (state_told p more) (Err 2) ≡ Ok b → BeginsWell p b
+    by_state true that = state_told-begins p more b that
+    by_state false that = cc
+
+    starts : Beginning
+    starts = record { first = start p; from_start = true; number = 3; lines = more }
+
+    by_start : (c : Bool) → cond {A = Result Beginning ℕ} c (Ok starts) (cond {A = Result Beginning ℕ} (bytes_eq line (codes "state")) (state_told p more) (Err 2)) ≡ Ok b → BeginsWell p b
+    by_start true that = subst (BeginsWell p) (ok_is that) (start-shape p, λ from. refl)
+    by_start false that = by_state (bytes_eq line (codes "state")) that
+
+pub told-of_plant : (p : PlantLists) → IsPlant p → (lines : List Bytes) (bytes : Bytes) (t : Told) → told p lines bytes ≡ Ok t → IsOfPlant p t
+told-of_plant p plant lines bytes t e =
+    let a = bind_ok (after_line (codes "run 1") 1 lines) _ t e in
+    let b = bind_ok (beginning_told p a.0) _ t a.2 in
+    let c = bind_ok (events_told p b.0.number b.0.lines bytes) _ t b.2 in
+    let same : ◌≡◌ {A = Told} (record { first = b.0.first; from_start = b.0.from_start; events = c.0 }) t = ok_is c.2 in
+    let begins = beginning_told-begins p a.0 b.0 b.1 in
+    let here : IsOfPlant p (record { first = b.0.first; from_start = b.0.from_start; events = c.0 }) = record {
+      shape = begins.0;
+      start = begins.1;
+      events = events_told-about p plant b.0.number b.0.lines bytes c.0 c.1;
+    } in
+    subst (IsOfPlant p) same here
+
+-- what a text tells is a run of the plant
+tale_of-of_plant : (p : PlantLists) → IsPlant p → (text : Bytes) (t : Told) → tale_of p text ≡ IsTold t → IsOfPlant p t
+tale_of-of_plant p plant text t e = by_answer (told p (lines_of text) (after_lines text)) refl e
+  where
+    by_answer : (r : Result Told ℕ) → told p (lines_of text) (after_lines text) ≡ r → answered r ≡ IsTold t → IsOfPlant p t
+    by_answer (Ok u) this that =
+        let same : u ≡ t = cc in subst (IsOfPlant p) same (told-of_plant p plant (lines_of text) (after_lines text) u this)
+    by_answer (Err n) this that = cc
+
+-- the text of a run of the plant tells that run
+pub written-told : (p : PlantLists) → IsPlant p → (t : Told) → IsOfPlant p t → tale_of p (run_text p t) ≡ IsTold t
+written-told p plant t is = by_start t.from_start refl
+  where
+    by_start : (b : Bool) → t.from_start ≡ b → tale_of p (run_text p t) ≡ IsTold t
+    by_start true e =
+        let same : started p t.events ≡ t = λ i. record { first = sym (is.start e) i; from_start = sym e i; events = t.events } in
+        let P : Told → Type 0 = λ u. tale_of p (run_text p u) ≡ IsTold u in
+        subst P same (started_back p plant (plain_names p plant) t.events is.events)
+    by_start false e =
+        let same : resumed t.first t.events ≡ t = λ i. record { first = t.first; from_start = sym e i; events = t.events } in
+        let P : Told → Type 0 = λ u. tale_of p (run_text p u) ≡ IsTold u in
+        subst P same (resumed_back p plant (plain_names p plant) t.first is.shape t.events is.events)
+
+-- a text tells a run exactly where it is the text of that run
+pub told_exactly : (p : PlantLists) → IsPlant p → (text : Bytes) (t : Told) → (tale_of p text ≡ IsTold t) ↔ IsTextOf p t text
+told_exactly p plant text t = (
+  λ e. (tale_of-of_plant p plant text t e, text_written p plant text t e),
+  λ is. ap (tale_of p) is.1 ∙ written-told p plant t is.0,
+)
+
+-- no line of a text is bad exactly where it is the text of some run
+pub no_line_bad : (p : PlantLists) → IsPlant p → (text : Bytes) → HasNoBadLine p text ↔ IsSomeText p text
+no_line_bad p plant text = (λ none. by_tale (tale_of p text) refl none, λ some n bad. let told = (told_exactly p plant text some.0).1 some.1 in cc)
+  where
+    by_tale : (tale : Tale) → tale_of p text ≡ tale → HasNoBadLine p text → IsSomeText p text
+    by_tale (IsTold t) e none = (t, (told_exactly p plant text t).0 e)
+    by_tale (Bad n) e none = absurd (none n e)

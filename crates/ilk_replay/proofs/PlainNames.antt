@@ -1,0 +1,71 @@
+-- The names of a plant have no space and no line feed, and are UTF-8.
+use Rattle.std.proofs.Common.{◌≡◌, ℕ, zero, suc, ◌<◌, Bool, true, false, ◌==◌, ◌||◌, All, Option, Some, None, List, [], ◌∷◌, get_or, length, ap, refl, arith, subst, sym, ◌∙◌}
+use Rattle.std.specs.List.{list_all, list_any}
+use Rattle.std.specs.Str.{IsAscii, IsUtf8, bytes_eq}
+use Rattle.std.proofs.lemmas.Bool.Decides.{Decides-eqb, nat_tests}
+use Rattle.std.proofs.lemmas.List.Quantifiers.{position-Some}
+use Rattle.std.proofs.lemmas.Slice.Eq.{bytes_eq-Decides}
+use Rattle.std.proofs.lemmas.Str.{IsUtf8-from_ascii}
+use Rattle.ilk_plant.proofs.KnownNames.{both}
+use Rattle.ilk_plant.specs.Name.{IsName, is_name_character, lies_within}
+use Rattle.ilk_plant.specs.Plant.{IsPlant, PlantLists, first_named}
+use Rattle.ilk_replay.specs.Lines.{Bytes}
+
+-- no byte of the text is c
+abbrev pub Lacks : ℕ → Bytes → Type 0
+Lacks c text = list_any (λ b. b == c) text ≡ false
+
+-- no name has a line feed or a space
+pub record HasPlainNames (p : PlantLists) : Type 0 where
+  pub routes : All (Lacks 10) p.route_names
+  pub boards : All (Lacks 10) p.board_names
+  pub sections : All (Lacks 10) p.section_names
+  pub section_words : All (Lacks 32) p.section_names
+
+lacks_more : (test : ℕ → Bool) (b : Bool) (c d : ℕ) (rest : Bool) → (d == c) ≡ b → test c ≡ false → test d ≡ true → rest ≡ false → (b || rest) ≡ false
+lacks_more test true c d rest same other passes lacks = let equal : d ≡ c = (Decides-eqb d c).0 same in let wrong : test d ≡ false = ap test equal ∙ other in cc
+lacks_more test false c d rest same other passes lacks = lacks
+
+-- a text whose bytes all pass a test that c fails has no c
+pub lacks_failing : (test : ℕ → Bool) (c : ℕ) (text : Bytes) → test c ≡ false → list_all test text ≡ true → Lacks c text
+lacks_failing test c [] other passes = refl
+lacks_failing test c (d ∷ text) other passes =
+    let parts = both (test d) (list_all test text) passes in
+    lacks_more test (d == c) c d (list_any (λ e. e == c) text) refl other parts.0 (lacks_failing test c text other parts.1)
+
+name-lacks : (c : ℕ) → is_name_character c ≡ false → (name : Bytes) → IsName name → Lacks c name
+name-lacks c other name is = lacks_failing is_name_character c name other (both (lies_within 1 32 (length name)) (list_all is_name_character name) is).1
+
+each-lacks : (c : ℕ) → is_name_character c ≡ false → (names : List Bytes) → All IsName names → All (Lacks c) names
+each-lacks c other names is k d within = name-lacks c other (get_or names k d) (is k d within)
+
+-- the names of a plant are plain
+pub plain_names : (p : PlantLists) → IsPlant p → HasPlainNames p
+plain_names p plant = record {
+  routes = each-lacks 10 refl p.route_names plant.route_names_allowed;
+  boards = each-lacks 10 refl p.board_names plant.board_names_allowed;
+  sections = each-lacks 10 refl p.section_names plant.section_names_allowed;
+  section_words = each-lacks 32 refl p.section_names plant.section_names_allowed;
+}
+
+character-ascii : (c : ℕ) → is_name_character c ≡ true → c < 128
+character-ascii c h = grind (arith, nat_tests)
+
+ascii : (name : Bytes) → list_all is_name_character name ≡ true → IsAscii name
+ascii [] h i = omega arith
+ascii (c ∷ name) h zero = character-ascii c (both (is_name_character c) (list_all is_name_character name) h).0
+ascii (c ∷ name) h (suc i) = ascii name (both (is_name_character c) (list_all is_name_character name) h).1 i
+
+name-utf8 : (name : Bytes) → IsName name → IsUtf8 name
+name-utf8 name is = IsUtf8-from_ascii name (ascii name (both (lies_within 1 32 (length name)) (list_all is_name_character name) is).1)
+
+-- what isn't UTF-8 is none of these names
+pub no_utf8-unnamed : (names : List Bytes) (name : Bytes) → All IsName names → (IsUtf8 name → ⊥) → None ≡ first_named names name
+no_utf8-unnamed names name is none = by_first (first_named names name) refl
+  where
+    by_first : (o : Option ℕ) → first_named names name ≡ o → None ≡ o
+    by_first None e = refl
+    by_first (Some i) e =
+        let found : (i < length names) × (bytes_eq name (get_or names i name) ≡ true) × ((k : ℕ) → k < i → bytes_eq name (get_or names k name) ≡ false) = position-Some (bytes_eq name) names i name e in
+        let same : name ≡ get_or names i name = (bytes_eq-Decides name (get_or names i name)).0 found.1 in
+        absurd (none (subst IsUtf8 (sym same) (name-utf8 (get_or names i name) (is i name found.0))))
