@@ -1,3 +1,4 @@
 pub mod Event
 pub mod Hazard
 pub mod Run
+pub mod Shared

@@ -1,8 +1,10 @@
 ghost use Rattle.std.specs.Prelude.{◌≡◌, find, length};
 ghost use Rattle.std.specs.List.{list_any, range_with_len};
 ghost use Rattle.ilk_plant.specs.State.{HasShape};
-ghost use Rattle.ilk_model.specs.Hazard.{has_pair, hazard, is_hazardous, is_two, is_wrong, strays};
+ghost use Rattle.ilk_model.specs.Hazard.{has_pair, hazard, is_wrong, strays};
+ghost use Rattle.ilk_model.specs.Shared.{is_bad};
 
+use crate::shared::{has_bit, shared_sections};
 use ilk_plant::{Lie, Plant, Row, Section, State, Train, has_section, lie_of};
 
 /// A hazard, at a section.
@@ -12,18 +14,6 @@ pub enum HazardAt {
     Two(u32),
     /// A train is on the point, which moves, or lies other than the train's body runs.
     Wrong(u32),
-}
-
-// Whether two or more trains have `x` in their bodies.
-fn is_two(s: &State, x: u32) -> bool
-    ensures { result ≡ is_two s.now x }
-{
-    s.trains
-        .as_slice()
-        .iter()
-        .filter(|train| has_section(&train.body, x))
-        .count()
-        > 1
 }
 
 // Whether `x` and `y` stand next to each other in the body, in either order.
@@ -75,18 +65,18 @@ fn is_wrong(plant: &Plant, s: &State, x: u32) -> bool
     }
 }
 
-// Whether there is a hazard at `x`.
-fn is_hazardous(plant: &Plant, s: &State, x: u32) -> bool
-    ensures { result ≡ is_hazardous plant.now s.now x }
+// Whether two trains share `x`, by these bits, or some train's body is wrong on it.
+fn is_hazardous(plant: &Plant, s: &State, shared: u128, x: u32) -> bool
+    ensures { result ≡ is_bad plant.now s.now shared x }
 {
-    is_two(s, x) || is_wrong(plant, s, x)
+    has_bit(shared, x) || is_wrong(plant, s, x)
 }
 
-// The least section with a hazard.
-fn first_hazardous(plant: &Plant, s: &State) -> Option<u32>
-    ensures { result ≡ find (is_hazardous plant.now s.now) (range_with_len 0 (length plant.now.sections)) }
+// The least section that two trains share, by these bits, or on which some train's body is wrong.
+fn first_hazardous(plant: &Plant, s: &State, shared: u128) -> Option<u32>
+    ensures { result ≡ find (is_bad plant.now s.now shared) (range_with_len 0 (length plant.now.sections)) }
 {
-    (0..plant.sections()).find(|x| is_hazardous(plant, s, *x))
+    (0..plant.sections()).find(|x| is_hazardous(plant, s, shared, *x))
 }
 
 /// The hazard with the least section, at one section two trains before a wrong point. None where
@@ -95,8 +85,10 @@ pub fn hazard(plant: &Plant, s: &State) -> Option<HazardAt>
     requires { HasShape plant.now s.now }
     ensures { result ≡ hazard plant.now s.now }
 {
-    let x = first_hazardous(plant, s)?;
-    Some(if is_two(s, x) {
+    plant.is_sound();
+    let shared = shared_sections(s);
+    let x = first_hazardous(plant, s, shared)?;
+    Some(if has_bit(shared, x) {
         HazardAt::Two(x)
     } else {
         HazardAt::Wrong(x)

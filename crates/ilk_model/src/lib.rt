@@ -3,6 +3,7 @@
 
 mod event;
 mod hazards;
+mod shared;
 
 pub use event::{Event, apply};
 pub use hazards::{HazardAt, hazard};

@@ -1,0 +1,15 @@
+use Rattle.std.proofs.Common.{true, false, ◌∙◌}
+use Rattle.ilk_model.proofs.LeastHazard.{least_hazard, no_hazard}
+use Rattle.ilk_model.proofs.hazards.hazard.Goals as goal
+
+pub returns-in_err-x : goal.returns-in_err-x
+returns-in_err-x c =
+    c.from_residual.ensures ∙ no_hazard c.args.plant.now c.is_sound.ensures c.args.s.now c.shared_sections-shared.result c.shared_sections-shared.ensures c.in_err-x.ensures
+
+pub returns-then-has_bit : goal.returns-then-has_bit
+returns-then-has_bit c =
+    least_hazard c.args.plant.now c.is_sound.ensures c.args.s.now c.shared_sections-shared.result c.shared_sections-shared.ensures c.in_ok-x.x true c.in_ok-x.ensures c.if-has_bit.ensures
+
+pub returns-else-has_bit : goal.returns-else-has_bit
+returns-else-has_bit c =
+    least_hazard c.args.plant.now c.is_sound.ensures c.args.s.now c.shared_sections-shared.result c.shared_sections-shared.ensures c.in_ok-x.x false c.in_ok-x.ensures c.if-has_bit.ensures
