@@ -1,0 +1,4 @@
+pub mod Option
+pub mod Result
+pub mod Each
+pub mod Row

@@ -1,0 +1,93 @@
+ghost use Rattle.std.specs.Prelude.{◌≡◌, ◌+◌, ◌<◌, ◌∷◌, ◌++◌, [], length, remove as remove_at, slice_get, Some, IfOk, OnOk, OnErr};
+ghost use Rattle.std.specs.Borrow.{sem};
+ghost use Rattle.ilk_base.specs.Row.{LendsItem};
+
+use std::alloc::{AllocError, Global};
+use std::marker::Model;
+
+/// A list of items, which contracts see as that list.
+#[derive(Drop)]
+pub struct Row<T> {
+    items: Vec<T>,
+}
+
+impl<T> Model for Row<T> {
+    ghost use Rattle.std.specs.Prelude.{List};
+
+    ghost Value = { List T };
+
+    ghost view = { λ r. r.items.items };
+}
+
+impl<T> Row<T> {
+    /// An empty row.
+    pub fn new(alloc: Global) -> Self
+        ensures { result ≡ [] }
+    {
+        Row {
+            items: Vec::new(alloc),
+        }
+    }
+
+    /// How many items there are.
+    pub fn len(&self) -> u64
+        ensures { result ≡ length self.now }
+    {
+        self.items.len() as u64
+    }
+
+    /// The items.
+    pub fn as_slice(&self) -> &[T]
+        ensures { result.now ≡ self.now }
+    {
+        self.items.as_slice()
+    }
+
+    /// Item `i`.
+    pub fn at(&self, i: u64) -> &T
+        requires { i < length self.now }
+        ensures { slice_get self.now i ≡ Some result.now }
+    {
+        &self.items[i as usize]
+    }
+
+    /// Item `i`, for writing.
+    pub fn at_mut(&mut self, i: u64) -> &mut T
+        requires { i < length self.old }
+        ensures* writes_back { sem 𝓛 (LendsItem T.row self.entry i result) }
+        ensures value { slice_get self.old i ≡ Some result.now }
+    {
+        &mut self.items[i as usize]
+    }
+}
+
+impl<T: Drop> Row<T> {
+    /// Adds an item at the end.
+    pub fn push(&mut self, item: T) -> Result<(), AllocError>
+        ensures ok { OnOk result (self.new ≡ self.old ++ item ∷ []) }
+        ensures err { OnErr result (self.new ≡ self.old) }
+    {
+        self.items.push(item)?;
+        Ok(())
+    }
+
+    /// Takes item `i` out, and closes up.
+    pub fn remove(&mut self, i: u64) -> T
+        requires { i < length self.old }
+        ensures taken { slice_get self.old i ≡ Some result }
+        ensures rest { self.new ≡ remove_at self.old i }
+    {
+        self.items.remove(i as usize)
+    }
+}
+
+impl<T: Copy> Row<T> {
+    /// An equal row.
+    pub fn copy(&self, alloc: Global) -> Result<Self, AllocError>
+        ensures { IfOk result (λ row. row ≡ self.now) }
+    {
+        Ok(Row {
+            items: Vec::from_slice(alloc, self.items.as_slice())?,
+        })
+    }
+}
