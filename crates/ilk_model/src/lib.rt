@@ -1,4 +1,9 @@
-//! Events, runs and hazards of a plant.
+//! Events, runs and hazards of a plant: the one table of all events, over those of trains and those
+//! of routes and points.
+//!
+//! A run begins in a state, at the start by `start`, and goes on by `apply`, an event at a time;
+//! `hazard` tells whether a state has two trains in one section, or a train on a point that moves or
+//! lies wrongly. The definition of a run (`specs/Run.antt`) goes on only from states without hazard.
 #![tactic(auto)]
 
 mod event;

@@ -1,4 +1,9 @@
 //! Reads the network of a configuration, and refuses the first rule of its form that is broken.
+//!
+//! The form is asked in one order, which the definition of the reading has too, so that a
+//! configuration has one first fault. `read_value` reads the bytes as JSON, `read_network` the
+//! document and the sections; what the members of objects are read by is handed on to the reader of
+//! the table of routes.
 #![tactic(auto)]
 
 mod document;

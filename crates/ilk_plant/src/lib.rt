@@ -1,8 +1,15 @@
-//! The plant of a railway line, its state, and the lists that both are made of.
+//! The plant of a railway line and its state: what every rule, event and text speaks of.
 //!
 //! The network and the table of routes are those of an ETCS Level 2 line without lineside
 //! signals, as in Vu, Haxthausen and Peleska, "Formal modelling and verification of interlocking
 //! systems featuring sequential release", Science of Computer Programming 133 (2017).
+//!
+//! A configuration is read into drafts, which have names (`draft`); `Numbered` has numbers for
+//! names, and `Plant::make` makes the plant of drafts that break no rule, so that a plant keeps as
+//! facts what the rules ask. The definitions of the rules stand here (`specs/NetworkRules.antt`,
+//! `TableRules.antt`, `ColumnRules.antt`), since the plant's own facts rest on them. A state begins
+//! at `start_state`; `has_shape` tells which states are about a plant. The limits have their names
+//! in `limits`, the words of texts in `words`.
 #![tactic(auto)]
 
 mod broken;

@@ -4,6 +4,10 @@
 //! The rules are those of an interlocking with sequential release, as in Vu, Haxthausen and Peleska,
 //! "Formal modelling and verification of interlocking systems featuring sequential release",
 //! Science of Computer Programming 133 (2017).
+//!
+//! Each `step_..` asks whether its event is enabled, and changes the state as its row of the table
+//! of events says (`specs/Routes.antt`, `Points.antt`), or leaves it unchanged. `ilk_model` calls
+//! them by `apply`.
 #![tactic(auto)]
 
 mod changes;

@@ -1,4 +1,6 @@
-//! Reads the table of routes of a configuration, and refuses the first rule of its form that is broken.
+//! Reads the table of routes of a configuration, and refuses the first rule of its form that is
+//! broken. `read_table` reads the routes of a document that is right; `read_drafts` reads a whole
+//! configuration, its network first.
 #![tactic(auto)]
 
 mod drafts;

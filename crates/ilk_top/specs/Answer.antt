@@ -30,6 +30,7 @@ use Rattle.ilk_top.specs.declared.status.Status.{Status}
 use Rattle.ilk_top.specs.declared.status.Status.TheVariants.{Good, Refused as IsRefused, Rejected, Usage}
 use Rattle.ilk_top.specs.declared.stop.Stop.{Stop}
 use Rattle.ilk_top.specs.declared.stop.Stop.TheVariants.{Refused, ReadFault, OutOfMemory}
+use Rattle.ilk_top.specs.declared.limits.TheConstants.{MAX_CONFIGURATION, MAX_RUN_TEXT}
 
 abbrev pub reply : Status → List ℕ → Reply
 reply status report = record { status = status; report = report }
@@ -47,10 +48,10 @@ abbrev pub plant_of_drafts : Columns → Result (NetDraft × TableDraft) FormFau
 plant_of_drafts columns (Err fault) = Err (FormRefusal fault)
 plant_of_drafts columns (Ok (net, table)) = or_refused (rules_broken columns net table) (numbered net table)
 
--- the plant of a configuration of these bytes, or why it is refused; more than 4194304 bytes break F1
+-- the plant of a configuration of these bytes, or why it is refused; more than MAX_CONFIGURATION bytes break F1
 abbrev pub plant_of : Columns → List ℕ → Result PlantLists Refusal
 plant_of columns conf =
-    if nat_lt 4194304 (length conf) then Err (FormRefusal (broken F1 Document)) else plant_of_drafts columns (drafts_of conf)
+    if nat_lt MAX_CONFIGURATION (length conf) then Err (FormRefusal (broken F1 Document)) else plant_of_drafts columns (drafts_of conf)
 
 -- a line for each of the broken rules
 abbrev pub broken_lines : List Broken → List ℕ
@@ -68,7 +69,7 @@ check_drafts_reply columns (Ok (net, table)) = check_reply (rules_broken columns
 -- what check answers to a configuration of these bytes
 abbrev pub check_answer : Columns → List ℕ → Reply
 check_answer columns conf =
-    if nat_lt 4194304 (length conf) then refused (FormRefusal (broken F1 Document)) else check_drafts_reply columns (drafts_of conf)
+    if nat_lt MAX_CONFIGURATION (length conf) then refused (FormRefusal (broken F1 Document)) else check_drafts_reply columns (drafts_of conf)
 
 -- a stop is the refusal that is given, but for faults and want of memory
 abbrev pub StopsAs : {A : Type 0} → Stop → Result A Refusal → Type 0
@@ -93,10 +94,10 @@ abbrev pub tale_reply : PlantLists → Tale → Reply
 tale_reply p (Bad line) = reply Rejected (rejected_line line)
 tale_reply p (IsTold run) = seen_reply p (seen_of p run.first run.events)
 
--- the reply to a run text; more than 1048576 bytes break F1
+-- the reply to a run text; more than MAX_RUN_TEXT bytes break F1
 abbrev pub replay_reply : PlantLists → List ℕ → Reply
 replay_reply p extra =
-    if nat_lt 1048576 (length extra) then refused (FormRefusal (broken F1 Extra)) else tale_reply p (tale_of p extra)
+    if nat_lt MAX_RUN_TEXT (length extra) then refused (FormRefusal (broken F1 Extra)) else tale_reply p (tale_of p extra)
 
 -- what replay answers to these bytes of the configuration and of the run text
 abbrev pub replay_answer : Columns → List ℕ → List ℕ → Reply

@@ -4,9 +4,10 @@ ghost use Rattle.ilk_io.specs.Source.{IsAtEnd, IsLonger, TakesAtMost};
 ghost use Rattle.ilk_table_read.specs.Table.{drafts_of};
 ghost use Rattle.ilk_top.specs.Answer.{broken_lines, check_answer, check_drafts_reply, check_reply};
 ghost use Rattle.ilk_top.specs.Status.{is_reply};
+ghost use Rattle.ilk_top.specs.declared.limits.TheConstants.{MAX_CONFIGURATION};
 
 use crate::checks::{Checked, check_drafts};
-use crate::plant_stage::CONF_LIMIT;
+use crate::limits::MAX_CONFIGURATION;
 use crate::refusal::refusal_line;
 use crate::{NoReply, Refusal, Reply, Status};
 use ilk_io::{ReadError, Source, read_all};
@@ -67,11 +68,11 @@ pub fn read_and_check<C: Source>(
     ensures ok { IfOk result (λ made. IfSome (C.left conf.old) (λ c. made ≡ check_answer columns c)) }
     ensures answer { IfOk result (λ made. IsTrue (is_reply made.status)) }
     ensures fault { result ≡ Err NoReply.ReadFault → Rose (C.faults conf.old) (C.faults conf.new) }
-    ensures taken { TakesAtMost (4194304 + 1) (C.left conf.old) (C.left conf.new) }
-    ensures end { IfOk result (λ _. IsAtEnd (C.left conf.new) ⊎ IsLonger (C.left conf.old) 4194304) }
+    ensures taken { TakesAtMost (MAX_CONFIGURATION + 1) (C.left conf.old) (C.left conf.new) }
+    ensures end { IfOk result (λ _. IsAtEnd (C.left conf.new) ⊎ IsLonger (C.left conf.old) MAX_CONFIGURATION) }
     ensures counted { C.faults conf.old ≤ C.faults conf.new }
 {
-    match read_all(alloc, conf, CONF_LIMIT) {
+    match read_all(alloc, conf, MAX_CONFIGURATION) {
         Ok(text) => Ok(conf_reply(alloc, columns, text.as_slice())?),
         Err(ReadError::TooLong) => Ok(Reply::refused(
             alloc,

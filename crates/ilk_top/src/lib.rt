@@ -1,8 +1,17 @@
-//! The program: its command line, its reports and its statuses.
+//! The program, as one call: `run` takes the words of the command line and the sources and sinks
+//! that it is handed, does all that the program does, and answers a status.
+//!
+//! So the promise of the program is a clause of a call that `main` really makes: for every list of
+//! words and all bytes, the report and the status are those of the definition `answer`
+//! (`specs/Answer.antt`). A run goes by stages, a file each: the words (`ilk_words`), the
+//! configuration to a plant or all broken rules (`plant_stage`, `check_stage`, both over `checks`),
+//! the run text and its replay (`replay_stage`), the report (`report`, `refusal`), and last the
+//! status with the one write (`program`).
 #![tactic(auto)]
 
 mod check_stage;
 mod checks;
+mod limits;
 mod plant_stage;
 mod program;
 mod refusal;
@@ -14,6 +23,7 @@ mod stop;
 
 pub use checks::Checked;
 pub use ilk_words::{FileNames, names_of};
+pub use limits::{MAX_CONFIGURATION, MAX_RUN_TEXT};
 pub use program::run;
 pub use refusal::Refusal;
 pub use reply::Reply;

@@ -3,8 +3,10 @@ ghost use Rattle.ilk_io.specs.Faults.{Rose};
 ghost use Rattle.ilk_io.specs.Source.{IsAtEnd, TakesAtMost};
 ghost use Rattle.ilk_table_read.specs.Table.{drafts_of};
 ghost use Rattle.ilk_top.specs.Answer.{EndsOrLonger, StopsAs, plant_of, plant_of_drafts};
+ghost use Rattle.ilk_top.specs.declared.limits.TheConstants.{MAX_CONFIGURATION};
 
 use crate::checks::{Checked, check_drafts};
+use crate::limits::MAX_CONFIGURATION;
 use crate::{Refusal, Stop};
 use ilk_io::{ReadError, Source, read_all};
 use ilk_net_read::{Form, FormError, FormFault, Place};
@@ -12,9 +14,6 @@ use ilk_plant::Plant;
 use ilk_table_read::read_drafts;
 use ilk_words::Columns;
 use std::alloc::Global;
-
-/// The greatest length of a configuration, in bytes.
-pub const CONF_LIMIT: u64 = 4194304;
 
 // The plant of a configuration, or why it is refused.
 fn plant_of(alloc: Global, columns: Columns, conf: &[u8]) -> Result<Plant, Stop>
@@ -42,12 +41,12 @@ pub fn read_plant<C: Source>(alloc: Global, columns: Columns, conf: &mut C) -> R
     ensures ok { IfOk result (λ plant. IfSome (C.left conf.old) (λ c. plant_of columns c ≡ Ok plant)) }
     ensures stop { IfErr result (λ stop. IfSome (C.left conf.old) (λ c. StopsAs stop (plant_of columns c))) }
     ensures fault { result ≡ Err Stop.ReadFault → Rose (C.faults conf.old) (C.faults conf.new) }
-    ensures taken { TakesAtMost (4194304 + 1) (C.left conf.old) (C.left conf.new) }
+    ensures taken { TakesAtMost (MAX_CONFIGURATION + 1) (C.left conf.old) (C.left conf.new) }
     ensures end { IfOk result (λ _. IsAtEnd (C.left conf.new)) }
-    ensures refused_end { IfErr result (λ stop. EndsOrLonger stop 4194304 (C.left conf.old) (C.left conf.new)) }
+    ensures refused_end { IfErr result (λ stop. EndsOrLonger stop MAX_CONFIGURATION (C.left conf.old) (C.left conf.new)) }
     ensures counted { C.faults conf.old ≤ C.faults conf.new }
 {
-    match read_all(alloc, conf, CONF_LIMIT) {
+    match read_all(alloc, conf, MAX_CONFIGURATION) {
         Ok(text) => plant_of(alloc, columns, text.as_slice()),
         Err(ReadError::TooLong) => Err(Stop::Refused(Refusal::Form(FormFault {
             rule: Form::F1,

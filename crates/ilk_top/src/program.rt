@@ -6,6 +6,7 @@ ghost use Rattle.ilk_words.specs.Words.{command_of};
 ghost use Rattle.ilk_top.specs.Answer.{answer, command_answer, plant_of, reads_extra, replay_answer};
 ghost use Rattle.ilk_top.specs.Ends.{IsReadOrLonger};
 ghost use Rattle.ilk_top.specs.Status.{is_answer, is_reply, is_told, is_unwritten};
+ghost use Rattle.ilk_top.specs.declared.limits.TheConstants.{MAX_CONFIGURATION, MAX_RUN_TEXT};
 
 use crate::check_stage::read_and_check;
 use crate::plant_stage::read_plant;
@@ -25,10 +26,10 @@ fn replay_reply<C: Source, D: Source>(
     ensures ok { IfOk result (λ made. IfSome (C.left conf.old) (λ c. IfSome (D.left extra.old) (λ x. made ≡ replay_answer columns c x))) }
     ensures answer { IfOk result (λ made. IsTrue (is_reply made.status)) }
     ensures fault { result ≡ Err NoReply.ReadFault → Rose (C.faults conf.old) (C.faults conf.new) ⊎ Rose (D.faults extra.old) (D.faults extra.new) }
-    ensures conf_taken { TakesAtMost (4194304 + 1) (C.left conf.old) (C.left conf.new) }
-    ensures conf_end { IfOk result (λ _. IsReadOrLonger 4194304 (C.left conf.old) (C.left conf.new)) }
-    ensures extra_taken { TakesAtMost (1048576 + 1) (D.left extra.old) (D.left extra.new) }
-    ensures extra_end { IfOk result (λ _. (extra.new ≡ extra.old) ⊎ IsReadOrLonger 1048576 (D.left extra.old) (D.left extra.new)) }
+    ensures conf_taken { TakesAtMost (MAX_CONFIGURATION + 1) (C.left conf.old) (C.left conf.new) }
+    ensures conf_end { IfOk result (λ _. IsReadOrLonger MAX_CONFIGURATION (C.left conf.old) (C.left conf.new)) }
+    ensures extra_taken { TakesAtMost (MAX_RUN_TEXT + 1) (D.left extra.old) (D.left extra.new) }
+    ensures extra_end { IfOk result (λ _. (extra.new ≡ extra.old) ⊎ IsReadOrLonger MAX_RUN_TEXT (D.left extra.old) (D.left extra.new)) }
     ensures extra_unread { IfSome (C.left conf.old) (λ c. is_ok (plant_of columns c) ≡ false → extra.new ≡ extra.old) }
     ensures conf_counted { C.faults conf.old ≤ C.faults conf.new }
     ensures extra_counted { D.faults extra.old ≤ D.faults extra.new }
@@ -51,10 +52,10 @@ fn command_reply<C: Source, D: Source>(
     ensures ok { IfOk result (λ made. IfSome (C.left conf.old) (λ c. IfSome (D.left extra.old) (λ x. made ≡ command_answer command.now c x))) }
     ensures answer { IfOk result (λ made. IsTrue (is_reply made.status)) }
     ensures fault { result ≡ Err NoReply.ReadFault → Rose (C.faults conf.old) (C.faults conf.new) ⊎ Rose (D.faults extra.old) (D.faults extra.new) }
-    ensures conf_taken { TakesAtMost (4194304 + 1) (C.left conf.old) (C.left conf.new) }
-    ensures conf_end { IfOk result (λ _. IsReadOrLonger 4194304 (C.left conf.old) (C.left conf.new)) }
-    ensures extra_taken { TakesAtMost (1048576 + 1) (D.left extra.old) (D.left extra.new) }
-    ensures extra_end { IfOk result (λ _. (extra.new ≡ extra.old) ⊎ IsReadOrLonger 1048576 (D.left extra.old) (D.left extra.new)) }
+    ensures conf_taken { TakesAtMost (MAX_CONFIGURATION + 1) (C.left conf.old) (C.left conf.new) }
+    ensures conf_end { IfOk result (λ _. IsReadOrLonger MAX_CONFIGURATION (C.left conf.old) (C.left conf.new)) }
+    ensures extra_taken { TakesAtMost (MAX_RUN_TEXT + 1) (D.left extra.old) (D.left extra.new) }
+    ensures extra_end { IfOk result (λ _. (extra.new ≡ extra.old) ⊎ IsReadOrLonger MAX_RUN_TEXT (D.left extra.old) (D.left extra.new)) }
     ensures extra_unread { IfSome (C.left conf.old) (λ c. reads_extra (Some command.now) c ≡ false → extra.new ≡ extra.old) }
     ensures conf_counted { C.faults conf.old ≤ C.faults conf.new }
     ensures extra_counted { D.faults extra.old ≤ D.faults extra.new }
@@ -99,10 +100,10 @@ fn perform<C: Source, D: Source, O: Sink>(
     ensures unwritten { IsTrue (is_unwritten result) → out.new ≡ out.old }
     ensures no_usage { result ≢ Status.Usage }
     ensures extra_unread { IfSome (C.left conf.old) (λ c. reads_extra (Some command.now) c ≡ false → extra.new ≡ extra.old) }
-    ensures conf_taken { TakesAtMost (4194304 + 1) (C.left conf.old) (C.left conf.new) }
-    ensures conf_end { IsTrue (is_answer result) → IsReadOrLonger 4194304 (C.left conf.old) (C.left conf.new) }
-    ensures extra_taken { TakesAtMost (1048576 + 1) (D.left extra.old) (D.left extra.new) }
-    ensures extra_end { IsTrue (is_answer result) → (extra.new ≡ extra.old) ⊎ IsReadOrLonger 1048576 (D.left extra.old) (D.left extra.new) }
+    ensures conf_taken { TakesAtMost (MAX_CONFIGURATION + 1) (C.left conf.old) (C.left conf.new) }
+    ensures conf_end { IsTrue (is_answer result) → IsReadOrLonger MAX_CONFIGURATION (C.left conf.old) (C.left conf.new) }
+    ensures extra_taken { TakesAtMost (MAX_RUN_TEXT + 1) (D.left extra.old) (D.left extra.new) }
+    ensures extra_end { IsTrue (is_answer result) → (extra.new ≡ extra.old) ⊎ IsReadOrLonger MAX_RUN_TEXT (D.left extra.old) (D.left extra.new) }
     ensures conf_counted { C.faults conf.old ≤ C.faults conf.new }
     ensures extra_counted { D.faults extra.old ≤ D.faults extra.new }
     ensures out_counted { O.faults out.old ≤ O.faults out.new }
@@ -150,10 +151,10 @@ pub fn run<C: Source, D: Source, O: Sink, L: Sink>(
         IfSome (C.left conf.old) (λ c. reads_extra asked c ≡ false → extra.new ≡ extra.old) }
 
     // what was read was read to its end, or was longer than its limit, and no more than one byte past that was taken
-    ensures conf_taken { TakesAtMost (4194304 + 1) (C.left conf.old) (C.left conf.new) }
-    ensures conf_end { IsTrue (is_answer result) → (conf.new ≡ conf.old) ⊎ IsReadOrLonger 4194304 (C.left conf.old) (C.left conf.new) }
-    ensures extra_taken { TakesAtMost (1048576 + 1) (D.left extra.old) (D.left extra.new) }
-    ensures extra_end { IsTrue (is_answer result) → (extra.new ≡ extra.old) ⊎ IsReadOrLonger 1048576 (D.left extra.old) (D.left extra.new) }
+    ensures conf_taken { TakesAtMost (MAX_CONFIGURATION + 1) (C.left conf.old) (C.left conf.new) }
+    ensures conf_end { IsTrue (is_answer result) → (conf.new ≡ conf.old) ⊎ IsReadOrLonger MAX_CONFIGURATION (C.left conf.old) (C.left conf.new) }
+    ensures extra_taken { TakesAtMost (MAX_RUN_TEXT + 1) (D.left extra.old) (D.left extra.new) }
+    ensures extra_end { IsTrue (is_answer result) → (extra.new ≡ extra.old) ⊎ IsReadOrLonger MAX_RUN_TEXT (D.left extra.old) (D.left extra.new) }
     ensures conf_counted { C.faults conf.old ≤ C.faults conf.new }
     ensures extra_counted { D.faults extra.old ≤ D.faults extra.new }
     ensures out_counted { O.faults out.old ≤ O.faults out.new }

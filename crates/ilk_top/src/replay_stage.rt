@@ -4,7 +4,9 @@ ghost use Rattle.ilk_io.specs.Source.{IsAtEnd, IsLonger, TakesAtMost};
 ghost use Rattle.ilk_top.specs.Answer.{replay_reply, seen_reply, tale_reply};
 ghost use Rattle.ilk_top.specs.Status.{is_reply};
 ghost use Rattle.ilk_replay.specs.Told.{tale_of};
+ghost use Rattle.ilk_top.specs.declared.limits.TheConstants.{MAX_RUN_TEXT};
 
+use crate::limits::MAX_RUN_TEXT;
 use crate::report::{hazard_line, not_a_run_line, rejected_line};
 use crate::{NoReply, Refusal, Reply, Status};
 use ilk_io::{ReadError, Source, read_all};
@@ -12,9 +14,6 @@ use ilk_net_read::{Form, FormFault, Place};
 use ilk_plant::Plant;
 use ilk_replay::{Seen, Tale, read_run, replay};
 use std::alloc::{AllocError, Global};
-
-/// The greatest length of a run text, in bytes.
-pub const RUN_LIMIT: u64 = 1048576;
 
 // The reply to what a replay shows.
 fn seen_reply(alloc: Global, plant: &Plant, seen: Seen) -> Result<Reply, AllocError>
@@ -51,11 +50,11 @@ pub fn read_reply<D: Source>(alloc: Global, plant: &Plant, extra: &mut D) -> Res
     ensures ok { IfOk result (λ made. IfSome (D.left extra.old) (λ x. made ≡ replay_reply plant.now x)) }
     ensures answer { IfOk result (λ made. IsTrue (is_reply made.status)) }
     ensures fault { result ≡ Err NoReply.ReadFault → Rose (D.faults extra.old) (D.faults extra.new) }
-    ensures taken { TakesAtMost (1048576 + 1) (D.left extra.old) (D.left extra.new) }
-    ensures end { IfOk result (λ _. IsAtEnd (D.left extra.new) ⊎ IsLonger (D.left extra.old) 1048576) }
+    ensures taken { TakesAtMost (MAX_RUN_TEXT + 1) (D.left extra.old) (D.left extra.new) }
+    ensures end { IfOk result (λ _. IsAtEnd (D.left extra.new) ⊎ IsLonger (D.left extra.old) MAX_RUN_TEXT) }
     ensures counted { D.faults extra.old ≤ D.faults extra.new }
 {
-    match read_all(alloc, extra, RUN_LIMIT) {
+    match read_all(alloc, extra, MAX_RUN_TEXT) {
         Ok(text) => Ok(text_reply(alloc, plant, text.as_slice())?),
         Err(ReadError::TooLong) => Ok(Reply::refused(
             alloc,

@@ -1,4 +1,8 @@
 //! What the words of the command line mean, read by `clap` as one simple command.
+//!
+//! `read_words` gives the command with its options, or none, which is a usage error; `names_of` gives
+//! the files that a command names, for the caller that opens them. The commands and their options
+//! are one table, `specs/Line.antt`, which the code hands to `clap`.
 #![tactic(auto)]
 
 mod command;
