@@ -11,8 +11,12 @@ Tells told (Ok x) = told ≡ Ok x
 Tells told (Err (BadLine n)) = told ≡ Err n
 Tells told (Err OutOfMemory) = Unit {0}
 
+-- these values, and what is left after them
+abbrev pub part_of : {A : Type 0} → List A → LinesLeft → Part A
+part_of values left = record { values = values; number = left.number; lines = left.lines }
+
 -- the answer is the values of a part that is told, and this is left after it
 abbrev pub TellsPart : {A : Type 0} → Result (Part A) ℕ → LinesLeft → Result (List A) LineFault → Type 0
-TellsPart told left (Ok values) = told ≡ Ok (record { values = values; number = left.number; lines = left.lines })
+TellsPart told left (Ok values) = told ≡ Ok (part_of values left)
 TellsPart told left (Err (BadLine n)) = told ≡ Err n
 TellsPart told left (Err OutOfMemory) = Unit {0}

@@ -1,5 +1,5 @@
 -- What lines tell a reader that asks them one by one: a value, or the number of the first bad line.
-use Rattle.std.specs.Prelude.{ℕ, ◌+◌, ◌==◌, Result, Ok, Err, Option, Some, None, List, [], ◌∷◌, bytes_eq, drop, length, option_map, zip, if◌then◌else◌}
+use Rattle.std.specs.Prelude.{ℕ, ◌+◌, ◌==◌, Result, Ok, Err, Option, Some, None, List, [], ◌∷◌, bytes_eq, drop, length, zip, if◌then◌else◌}
 use Rattle.std.specs.List.{range_with_len}
 use Rattle.ilk_lines.specs.Lines.{Bytes}
 
@@ -37,11 +37,6 @@ leading_part value n lines = record {
   number = n + length (leading value lines);
   lines = drop (length (leading value lines)) lines;
 }
-
--- the value that the first of these lines tells of item x, and the lines after it
-abbrev pub one_told : {A : Type 0} → (ℕ → Bytes → Option A) → ℕ → List Bytes → Option (A × List Bytes)
-one_told value x [] = None
-one_told value x (line ∷ more) = option_map (λ v. (v, more)) (value x line)
 
 -- the values of as many lines as there are items, the one for each item in order; the first line
 -- that isn't its item's is bad
