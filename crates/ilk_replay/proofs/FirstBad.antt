@@ -4,7 +4,7 @@ use Rattle.std.specs.Prelude.{◌↔◌, nat_lt}
 use Rattle.std.specs.Str.{bytes_eq}
 use Rattle.std.proofs.lemmas.Bool.Decides.{nat_tests}
 use Rattle.ilk_plant.specs.Plant.{IsPlant, PlantLists}
-use Rattle.ilk_plant.specs.Result.{◌>>=◌}
+use Rattle.ilk_base.specs.Result.{◌>>=◌}
 use Rattle.ilk_plant.specs.Start.{free_route, plus_point, start}
 use Rattle.ilk_plant.specs.declared.state.Aspect.{Aspect}
 use Rattle.ilk_plant.specs.declared.state.Aspect.TheVariants.{Closed}

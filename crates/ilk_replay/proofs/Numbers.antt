@@ -5,8 +5,8 @@ use Rattle.std.specs.List.{list_all}
 use Rattle.std.specs.Str.Parse.{digits_value, digits_value_after}
 use Rattle.std.proofs.lemmas.Bool.Decides.{nat_tests}
 use Rattle.std.proofs.lemmas.List.{drop_more}
-use Rattle.ilk_plant.proofs.KnownNames.{both}
 use Rattle.ilk_replay.specs.StateLine.{is_number, number_to}
+use Rattle.std.proofs.lemmas.Bool.{and_parts}
 
 -- more digits make no smaller number
 pub value_grows : (n : ℕ) (word : List ℕ) → n ≤ digits_value_after 10 n word
@@ -24,7 +24,7 @@ not_both false c n h = refl
 pub over_limit : (word : List ℕ) (n limit i : ℕ) → digits_value 10 word ≡ digits_value_after 10 n (drop i word) → list_all is_ascii_digit (drop i word) ≡ true → i < length word → limit < n * 10 + (get_or word i 0 - 48) → None ≡ number_to limit word
 over_limit word n limit i value digits within over =
     let more : drop i word ≡ get_or word i 0 ∷ drop (i + 1) word = drop_more word i 0 within in
-    let digit : digit_value (get_or word i 0) ≡ get_or word i 0 - 48 = digit_is (get_or word i 0) ((both _ _ (sym (ap (list_all is_ascii_digit) more) ∙ digits)).0) in
+    let digit : digit_value (get_or word i 0) ≡ get_or word i 0 - 48 = digit_is (get_or word i 0) ((and_parts _ _ (sym (ap (list_all is_ascii_digit) more) ∙ digits)).0) in
     let split : digits_value 10 word ≡ digits_value_after 10 (n * 10 + digit_value (get_or word i 0)) (drop (i + 1) word) = value ∙ ap (digits_value_after 10 n) more in
     let grows : n * 10 + digit_value (get_or word i 0) ≤ digits_value_after 10 (n * 10 + digit_value (get_or word i 0)) (drop (i + 1) word) = value_grows (n * 10 + digit_value (get_or word i 0)) (drop (i + 1) word) in
     let above : limit < digits_value 10 word = omega (arith, split, grows, digit) in

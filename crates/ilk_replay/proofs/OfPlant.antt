@@ -7,10 +7,10 @@ use Rattle.std.proofs.lemmas.List.Quantifiers.{position-Some}
 use Rattle.std.proofs.lemmas.Option.{cond_some}
 use Rattle.ilk_plant.proofs.Shapes.{start-shape}
 use Rattle.ilk_plant.specs.Network.{is_point}
-use Rattle.ilk_plant.specs.Option.{is_some_and}
-use Rattle.ilk_plant.specs.Plant.{IsPlant, PlantLists, first_named}
+use Rattle.ilk_base.specs.Option.{is_some_and}
+use Rattle.ilk_plant.specs.Plant.{IsPlant, PlantLists, first_named, is_point_section}
 use Rattle.ilk_plant.specs.Start.{start}
-use Rattle.ilk_plant.specs.State.{HasShape}
+use Rattle.ilk_plant.specs.Shape.{HasShape}
 use Rattle.ilk_plant.specs.declared.network.Section.{Section}
 use Rattle.ilk_model.specs.declared.event.Event.{Event}
 use Rattle.ilk_model.specs.declared.event.Event.TheVariants.{Mark, Allocate, Lock, Sense, Release, Finish, Throw, Settle, Enter, Head, Tail, Leave}
@@ -19,7 +19,6 @@ use Rattle.ilk_replay.specs.EventLine.{event_of, point_event, point_named, route
 use Rattle.ilk_replay.specs.RunText.{run_text}
 use Rattle.ilk_replay.specs.StateLine.{board_told, lock_told, point_told, route_told, train_told}
 use Rattle.ilk_replay.specs.StateTold.{Beginning, after_line, each_told, numbers_of, point_sections, state_told}
-use Rattle.ilk_plant.specs.Plant.{is_point_section}
 use Rattle.ilk_replay.specs.Told.{beginning_told, events_told, tale_of, told}
 use Rattle.ilk_replay.specs.Writable.{HasNoBadLine, IsAbout, IsOfPlant, IsSomeText, IsTextOf}
 use Rattle.ilk_replay.specs.declared.told.Tale.{Tale}

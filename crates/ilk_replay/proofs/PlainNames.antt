@@ -6,10 +6,10 @@ use Rattle.std.proofs.lemmas.Bool.Decides.{Decides-eqb, nat_tests}
 use Rattle.std.proofs.lemmas.List.Quantifiers.{position-Some}
 use Rattle.std.proofs.lemmas.Slice.Eq.{bytes_eq-Decides}
 use Rattle.std.proofs.lemmas.Str.{IsUtf8-from_ascii}
-use Rattle.ilk_plant.proofs.KnownNames.{both}
 use Rattle.ilk_plant.specs.Name.{IsName, is_name_character, lies_within}
 use Rattle.ilk_plant.specs.Plant.{IsPlant, PlantLists, first_named}
 use Rattle.ilk_replay.specs.Lines.{Bytes}
+use Rattle.std.proofs.lemmas.Bool.{and_parts}
 
 -- no byte of the text is c
 abbrev pub Lacks : ℕ → Bytes → Type 0
@@ -30,11 +30,11 @@ lacks_more test false c d rest same other passes lacks = lacks
 pub lacks_failing : (test : ℕ → Bool) (c : ℕ) (text : Bytes) → test c ≡ false → list_all test text ≡ true → Lacks c text
 lacks_failing test c [] other passes = refl
 lacks_failing test c (d ∷ text) other passes =
-    let parts = both (test d) (list_all test text) passes in
+    let parts = and_parts (test d) (list_all test text) passes in
     lacks_more test (d == c) c d (list_any (λ e. e == c) text) refl other parts.0 (lacks_failing test c text other parts.1)
 
 name-lacks : (c : ℕ) → is_name_character c ≡ false → (name : Bytes) → IsName name → Lacks c name
-name-lacks c other name is = lacks_failing is_name_character c name other (both (lies_within 1 32 (length name)) (list_all is_name_character name) is).1
+name-lacks c other name is = lacks_failing is_name_character c name other (and_parts (lies_within 1 32 (length name)) (list_all is_name_character name) is).1
 
 each-lacks : (c : ℕ) → is_name_character c ≡ false → (names : List Bytes) → All IsName names → All (Lacks c) names
 each-lacks c other names is k d within = name-lacks c other (get_or names k d) (is k d within)
@@ -53,11 +53,11 @@ character-ascii c h = grind (arith, nat_tests)
 
 ascii : (name : Bytes) → list_all is_name_character name ≡ true → IsAscii name
 ascii [] h i = omega arith
-ascii (c ∷ name) h zero = character-ascii c (both (is_name_character c) (list_all is_name_character name) h).0
-ascii (c ∷ name) h (suc i) = ascii name (both (is_name_character c) (list_all is_name_character name) h).1 i
+ascii (c ∷ name) h zero = character-ascii c (and_parts (is_name_character c) (list_all is_name_character name) h).0
+ascii (c ∷ name) h (suc i) = ascii name (and_parts (is_name_character c) (list_all is_name_character name) h).1 i
 
 name-utf8 : (name : Bytes) → IsName name → IsUtf8 name
-name-utf8 name is = IsUtf8-from_ascii name (ascii name (both (lies_within 1 32 (length name)) (list_all is_name_character name) is).1)
+name-utf8 name is = IsUtf8-from_ascii name (ascii name (and_parts (lies_within 1 32 (length name)) (list_all is_name_character name) is).1)
 
 -- what isn't UTF-8 is none of these names
 pub no_utf8-unnamed : (names : List Bytes) (name : Bytes) → All IsName names → (IsUtf8 name → ⊥) → None ≡ first_named names name

@@ -7,15 +7,15 @@ use Rattle.std.proofs.lemmas.Iterator.Adapters.{position_from-zero}
 use Rattle.std.proofs.lemmas.List.{drop_at, take_at, length_push}
 use Rattle.std.proofs.lemmas.Option.{slice_get-get_or, slice_get_within}
 use Rattle.ilk_plant.proofs.NamesDiffer.{first_named-own}
-use Rattle.ilk_plant.specs.Option.{◌>>=◌, is_some_and, only_if}
+use Rattle.ilk_base.specs.Option.{◌>>=◌, is_some_and, only_if}
 use Rattle.ilk_plant.specs.Network.{is_point}
-use Rattle.ilk_plant.specs.Plant.{EachOnce, IsPlant, PlantLists, first_named}
+use Rattle.ilk_plant.specs.Plant.{IsPlant, PlantLists, first_named, is_point_section}
+use Rattle.ilk_base.proofs.Once.{EachOnce}
 use Rattle.ilk_plant.specs.declared.network.Section.{Section}
 use Rattle.ilk_model.specs.declared.event.Event.{Event}
 use Rattle.ilk_model.specs.declared.event.Event.TheVariants.{Mark, Allocate, Lock, Sense, Release, Finish, Throw, Settle, Enter, Head, Tail, Leave}
 use Rattle.ilk_replay.specs.Lines.{Bytes, after_lines, first_word, lines_of, parts_at}
 use Rattle.ilk_replay.specs.EventLine.{event_of, event_told, point_event, point_named, route_event, section_event}
-use Rattle.ilk_plant.specs.Plant.{is_point_section}
 use Rattle.ilk_replay.specs.RunText.{event_line, name_of, spaced}
 use Rattle.ilk_replay.specs.Writable.{IsAbout}
 use Rattle.ilk_replay.proofs.PlainNames.{Lacks}

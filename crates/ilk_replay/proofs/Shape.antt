@@ -6,16 +6,14 @@ use Rattle.std.specs.Str.Parse.{digits_value}
 use Rattle.std.proofs.lemmas.Bool.Decides.{Decides-eqb, nat_tests}
 use Rattle.std.proofs.lemmas.List.FromFn.{length-range_with_len}
 use Rattle.std.proofs.lemmas.List.Sums.{length-filter}
-use Rattle.ilk_plant.proofs.KnownNames.{both}
 use Rattle.std.proofs.lemmas.Option.{cond_some}
-use Rattle.std.proofs.lemmas.List.Elements.{All-nil}
-use Rattle.std.proofs.lemmas.List.Elements.{All-cons}
+use Rattle.std.proofs.lemmas.List.Elements.{All-nil, All-cons}
 use Rattle.ilk_plant.proofs.Shapes.{body-true}
-use Rattle.ilk_plant.specs.Option.{is_some_and}
-use Rattle.ilk_plant.specs.Shape.{is_body}
+use Rattle.ilk_base.specs.Option.{is_some_and}
+use Rattle.ilk_plant.specs.Shape.{is_body, HasShape}
 use Rattle.ilk_plant.specs.Network.{is_point}
-use Rattle.ilk_plant.specs.Plant.{PlantLists, point_count}
-use Rattle.ilk_plant.specs.State.{HasShape, IsBody, IsWithin}
+use Rattle.ilk_plant.specs.Plant.{PlantLists, point_count, is_point_section}
+use Rattle.ilk_plant.specs.State.{IsBody, IsWithin}
 use Rattle.ilk_plant.specs.declared.network.Section.{Section}
 use Rattle.ilk_plant.specs.declared.state.Aspect.{Aspect}
 use Rattle.ilk_plant.specs.declared.state.Hold.{Hold}
@@ -26,8 +24,8 @@ use Rattle.ilk_plant.specs.declared.table.Route.{Route}
 use Rattle.ilk_replay.specs.Lines.{Bytes, first_word, leading, onto, words_of}
 use Rattle.ilk_replay.specs.StateLine.{board_told, is_number, lock_told, mode_of, number_to, point_told, route_said, route_told, said_of, sections_named, train_said, train_told}
 use Rattle.ilk_replay.specs.StateTold.{Part, each_told, numbers_of, point_sections}
-use Rattle.ilk_plant.specs.Plant.{is_point_section}
 use Rattle.ilk_replay.proofs.Each.{some_is, values_left}
+use Rattle.std.proofs.lemmas.Bool.{and_parts}
 
 pub bind_some : {A B : Type 0} (o : Option A) (f : A → Option B) (y : B) → option_and_then f o ≡ Some y → (x : A) × (o ≡ Some x) × (f x ≡ Some y)
 bind_some None f y e = cc
@@ -66,7 +64,7 @@ range_get a (suc n) (suc i) x e = let rest = range_get (a + 1) n i x e in omega 
 number_within : (limit : ℕ) (word : Bytes) (n : ℕ) → number_to limit word ≡ Some n → n ≤ limit
 number_within limit word n e =
     let read = cond_some (is_number word && nat_le (digits_value 10 word) limit) (digits_value 10 word) n e in
-    let small : nat_le (digits_value 10 word) limit ≡ true = (both (is_number word) (nat_le (digits_value 10 word) limit) read.0).1 in
+    let small : nat_le (digits_value 10 word) limit ≡ true = (and_parts (is_number word) (nat_le (digits_value 10 word) limit) read.0).1 in
     let same : digits_value 10 word ≡ n = read.1 in
     let below : digits_value 10 word ≤ limit = grind (arith, nat_tests) in
     omega arith

@@ -7,8 +7,9 @@ use Rattle.std.proofs.lemmas.List.Elements.{All-append, All-nil, All-cons}
 use Rattle.std.proofs.lemmas.List.FromFn.{length-range_with_len}
 use Rattle.std.proofs.lemmas.List.Folds.{list_any-append}
 use Rattle.std.proofs.lemmas.Option.{slice_get_within}
-use Rattle.ilk_plant.specs.Plant.{IsPlant, PlantLists}
-use Rattle.ilk_plant.specs.State.{HasShape, IsBody}
+use Rattle.ilk_plant.specs.Plant.{IsPlant, PlantLists, is_point_section}
+use Rattle.ilk_plant.specs.State.{IsBody}
+use Rattle.ilk_plant.specs.Shape.{HasShape}
 use Rattle.ilk_plant.specs.declared.network.Dir.{Dir}
 use Rattle.ilk_plant.specs.declared.network.Dir.TheVariants.{Up, Down}
 use Rattle.ilk_plant.specs.declared.network.Position.{Position}
@@ -26,11 +27,10 @@ use Rattle.ilk_plant.specs.declared.state.RouteState.{RouteState}
 use Rattle.ilk_plant.specs.declared.state.State.{State}
 use Rattle.ilk_plant.specs.declared.state.Train.{Train}
 use Rattle.ilk_model.specs.declared.event.Event.{Event}
-use Rattle.ilk_plant.specs.Result.{◌>>=◌}
+use Rattle.ilk_base.specs.Result.{◌>>=◌}
 use Rattle.ilk_replay.specs.Lines.{Bytes, after_lines, leading, onto}
 use Rattle.ilk_replay.specs.StateLine.{board_told, lock_told, point_told, route_told, train_told}
 use Rattle.ilk_replay.specs.StateTold.{Beginning, Part, after_line, each_told, leading_part, numbers_of, point_sections, state_told}
-use Rattle.ilk_plant.specs.Plant.{is_point_section}
 use Rattle.ilk_replay.specs.Told.{events_told, tale_of, told}
 use Rattle.ilk_replay.specs.RunText.{aspect_word, board_line, direction_word, each_line, event_line, hold_word, lie_word, mode_word, name_of, point_line, position_word, route_line, run_lines, run_text, section_line, spaced, state_lines, train_line}
 use Rattle.ilk_replay.specs.Writable.{IsAbout}

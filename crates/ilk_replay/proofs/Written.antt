@@ -13,8 +13,7 @@ use Rattle.std.proofs.lemmas.List.Quantifiers.{position-Some}
 use Rattle.std.proofs.lemmas.Option.{unwrap_or-slice_get, cond_some}
 use Rattle.std.proofs.lemmas.Slice.Eq.{bytes_eq-Decides}
 use Rattle.std.proofs.lemmas.Str.Parse.{numerals_by_value, tells_all_ascii_digits}
-use Rattle.ilk_plant.proofs.KnownNames.{both}
-use Rattle.ilk_plant.specs.Option.{◌>>=◌}
+use Rattle.ilk_base.specs.Option.{◌>>=◌}
 use Rattle.ilk_plant.specs.Network.{is_point}
 use Rattle.ilk_plant.specs.Plant.{PlantLists, first_named}
 use Rattle.ilk_plant.specs.declared.network.Dir.{Dir}
@@ -37,6 +36,7 @@ use Rattle.ilk_replay.specs.StateLine.{aspect_of, direction_of, hold_of, is_numb
 use Rattle.ilk_replay.specs.RunText.{aspect_word, direction_word, event_line, hold_word, lie_word, mode_word, name_of, position_word, spaced}
 use Rattle.ilk_replay.proofs.Each.{some_is}
 use Rattle.ilk_replay.proofs.Shape.{bind_some}
+use Rattle.std.proofs.lemmas.Bool.{and_parts}
 
 -- a line is its first word, a space, and what follows
 pub first_word-joins : (line word rest : Bytes) → first_word line ≡ Some (word, rest) → line ≡ spaced word rest
@@ -186,12 +186,12 @@ alone n first h e = grind (arith, nat_tests)
 pub number-written : (limit : ℕ) (word : Bytes) (n : ℕ) → limit < 2 ^ 32 → number_to limit word ≡ Some n → word ≡ decimal n
 number-written limit word n small e =
     let read = cond_some (is_number word && nat_le (digits_value 10 word) limit) (digits_value 10 word) n e in
-    let number : is_number word ≡ true = (both (is_number word) (nat_le (digits_value 10 word) limit) read.0).0 in
-    let within : nat_le (digits_value 10 word) limit ≡ true = (both (is_number word) (nat_le (digits_value 10 word) limit) read.0).1 in
+    let number : is_number word ≡ true = (and_parts (is_number word) (nat_le (digits_value 10 word) limit) read.0).0 in
+    let within : nat_le (digits_value 10 word) limit ≡ true = (and_parts (is_number word) (nat_le (digits_value 10 word) limit) read.0).1 in
     let below : digits_value 10 word ≤ limit = grind (arith, nat_tests) in
-    let begins = (both (list_all is_ascii_digit word && not (length word == 0)) _ number).0 in
-    let digits : all_ascii_digits word ≡ true = sym (digits_same word) ∙ (both (list_all is_ascii_digit word) _ begins).0 in
-    let some : 0 < length word = not_zero (length word) ((both (list_all is_ascii_digit word) _ begins).1) in
-    let led = (both (list_all is_ascii_digit word && not (length word == 0)) (length word == 1 || not (slice_index word 0 == 48)) number).1 in
+    let begins = (and_parts (list_all is_ascii_digit word && not (length word == 0)) _ number).0 in
+    let digits : all_ascii_digits word ≡ true = sym (digits_same word) ∙ (and_parts (list_all is_ascii_digit word) _ begins).0 in
+    let some : 0 < length word = not_zero (length word) ((and_parts (list_all is_ascii_digit word) _ begins).1) in
+    let led = (and_parts (list_all is_ascii_digit word && not (length word == 0)) (length word == 1 || not (slice_index word 0 == 48)) number).1 in
     sym (decimal-digits_value (numerals_by_value (λ ds. all_ascii_digits ds ≡ true) tells_all_ascii_digits) word digits some (alone (length word) (slice_index word 0) led) (omega arith))
     ∙ ap decimal read.1

@@ -16,7 +16,7 @@ use Rattle.ilk_plant.specs.declared.state.PointState.{PointState}
 use Rattle.ilk_plant.specs.declared.state.RouteState.{RouteState}
 use Rattle.ilk_plant.specs.declared.state.Train.{Train}
 use Rattle.ilk_model.specs.declared.event.Event.{Event}
-use Rattle.ilk_plant.specs.Result.{◌>>=◌}
+use Rattle.ilk_base.specs.Result.{◌>>=◌}
 use Rattle.ilk_replay.specs.Lines.{Bytes, after_lines, after_word, but_last, first_word, last_of, leading, lines_of, onto, parts_at, words_of}
 use Rattle.ilk_replay.specs.EventLine.{event_of}
 use Rattle.ilk_replay.specs.StateLine.{board_told, direction_of, lie_of_word, lock_told, mode_of, number_to, point_said, point_told, position_of_word, route_said, route_told, said_of, sections_named, train_said, train_told}

@@ -1,7 +1,7 @@
 -- The line of an event: its word, one space, and the name of what it is about.
 use Rattle.std.specs.Prelude.{ℕ, Option, Some, None, codes, bytes_eq, slice_get, if◌then◌else◌}
 use Rattle.std.specs.Option.{option_or}
-use Rattle.ilk_plant.specs.Option.{◌>>=◌, only_if}
+use Rattle.ilk_base.specs.Option.{◌>>=◌, only_if}
 use Rattle.ilk_plant.specs.Network.{is_point}
 use Rattle.ilk_plant.specs.Plant.{PlantLists, first_named}
 use Rattle.ilk_model.specs.declared.event.Event.{Event}

@@ -1,7 +1,7 @@
 -- The lines of a text, and the words of a line.
 use Rattle.std.specs.Prelude.{ℕ, ◌+◌, Option, Some, None, List, [], ◌∷◌, ◌==◌, bytes_eq, drop, length, option_map, position, take}
 use Rattle.std.specs.List.{slice_split}
-use Rattle.ilk_plant.specs.Option.{◌>>=◌, only_if}
+use Rattle.ilk_base.specs.Option.{◌>>=◌, only_if}
 
 -- a line, or a word, is its bytes
 abbrev pub Bytes : Type 0

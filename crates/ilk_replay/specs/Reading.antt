@@ -1,7 +1,7 @@
 -- What a reader answers, for what is told.
 use Rattle.std.specs.Prelude.{ℕ, ◌≡◌, Result, Ok, Err, List, Bool, false}
 use Rattle.ilk_plant.specs.Plant.{PlantLists}
-use Rattle.ilk_plant.specs.State.{HasShape}
+use Rattle.ilk_plant.specs.Shape.{HasShape}
 use Rattle.ilk_plant.specs.declared.state.State.{State}
 use Rattle.ilk_replay.specs.Lines.{Bytes}
 use Rattle.ilk_replay.specs.StateTold.{Beginning, Part}

@@ -3,7 +3,7 @@ use Rattle.std.specs.Prelude.{ℕ, ◌+◌, ◌==◌, Bool, false, Result, Ok, E
 use Rattle.std.specs.List.{range_with_len}
 use Rattle.ilk_plant.specs.Plant.{PlantLists, is_point_section}
 use Rattle.ilk_plant.specs.declared.state.State.{State}
-use Rattle.ilk_plant.specs.Result.{◌>>=◌}
+use Rattle.ilk_base.specs.Result.{◌>>=◌}
 use Rattle.ilk_replay.specs.Lines.{Bytes, leading}
 use Rattle.ilk_replay.specs.StateLine.{board_told, lock_told, point_told, route_told, train_told}
 

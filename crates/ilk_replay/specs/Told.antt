@@ -4,7 +4,7 @@ use Rattle.std.specs.Prelude.{ℕ, ◌+◌, true, Result, Ok, Err, List, [], ◌
 use Rattle.ilk_plant.specs.Plant.{PlantLists}
 use Rattle.ilk_plant.specs.Start.{start}
 use Rattle.ilk_model.specs.declared.event.Event.{Event}
-use Rattle.ilk_plant.specs.Result.{◌>>=◌}
+use Rattle.ilk_base.specs.Result.{◌>>=◌}
 use Rattle.ilk_replay.specs.Lines.{Bytes, after_lines, lines_of}
 use Rattle.ilk_replay.specs.EventLine.{event_of}
 use Rattle.ilk_replay.specs.StateTold.{Beginning, after_line, leading_part, state_told}

@@ -1,13 +1,12 @@
 -- Which runs have a text that tells them.
 use Rattle.std.specs.Prelude.{ℕ, ◌≡◌, ◌≢◌, ◌<◌, true, All, length}
-use Rattle.ilk_plant.specs.Plant.{PlantLists}
+use Rattle.ilk_plant.specs.Plant.{PlantLists, is_point_section}
 use Rattle.ilk_plant.specs.Start.{start}
-use Rattle.ilk_plant.specs.State.{HasShape}
+use Rattle.ilk_plant.specs.Shape.{HasShape}
 use Rattle.ilk_model.specs.declared.event.Event.{Event}
 use Rattle.ilk_model.specs.declared.event.Event.TheVariants.{Mark, Allocate, Lock, Sense, Release, Finish, Throw, Settle, Enter, Head, Tail, Leave}
 use Rattle.ilk_replay.specs.Lines.{Bytes}
 use Rattle.ilk_replay.specs.RunText.{run_text}
-use Rattle.ilk_plant.specs.Plant.{is_point_section}
 use Rattle.ilk_replay.specs.Told.{tale_of}
 use Rattle.ilk_replay.specs.declared.told.Tale.TheVariants.{Bad}
 use Rattle.ilk_replay.specs.declared.told.Told.{Told}

@@ -1,5 +1,5 @@
 ghost use Rattle.std.specs.Prelude.{◌≡◌, ◌<◌, ◌+◌, ◌^◌, [], ◌∷◌, length, IfOk, OnOk, IfErr, OnErr, IfSome, IfNone, List, drop};
-ghost use Rattle.ilk_plant.specs.State.{HasShape};
+ghost use Rattle.ilk_plant.specs.Shape.{HasShape};
 ghost use Rattle.ilk_replay.specs.Lines.{after_lines, leading, lines_of};
 ghost use Rattle.ilk_replay.specs.EventLine.{event_of};
 ghost use Rattle.ilk_replay.specs.Reading.{BeginsWith, Tells, TellsShape};

@@ -1,5 +1,5 @@
 ghost use Rattle.std.specs.Prelude.{◌≡◌, ◌<◌, ◌+◌, [], ◌∷◌, length, IfOk, OnOk, OnErr, IfErr, IsSome, IsNone, MatchResult, None, Some, drop};
-ghost use Rattle.ilk_plant.specs.State.{HasShape};
+ghost use Rattle.ilk_plant.specs.Shape.{HasShape};
 ghost use Rattle.ilk_replay.specs.Lines.{after_lines, leading, lines_of, onto};
 ghost use Rattle.ilk_replay.specs.StateLine.{board_told, lock_told, point_told, route_told, train_told};
 ghost use Rattle.ilk_replay.specs.StateTold.{each_told, numbers_of, one_told, point_sections, state_told};
