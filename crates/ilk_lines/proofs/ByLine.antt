@@ -6,7 +6,7 @@ use Rattle.std.proofs.lemmas.Slice.Eq.{bytes_eq-Decides}
 use Rattle.ilk_base.specs.Result.{◌>>=◌}
 use Rattle.ilk_lines.specs.Lines.{Bytes}
 use Rattle.ilk_lines.specs.Reading.{Part, after_line, each_told, leading, onto}
-use Rattle.ilk_lines.proofs.General.{same_Err}
+use Rattle.ilk_base.proofs.Results.{err_is}
 use Rattle.ilk_lines.proofs.InOrder.{told_with, values_left}
 
 -- a reader of lines and of the bytes after them
@@ -65,13 +65,13 @@ pub after_by_line : {T : Type 0} (wanted : Bytes) (n : ℕ) (next : Reader T) �
 after_by_line wanted n next by = record { fills = after_fills wanted n next by.fills; fails = fails }
   where
     fails : (lines : List Bytes) (bytes : Bytes) (m : ℕ) → after_then wanted n next lines bytes ≡ Err m → FailsAt n (after_then wanted n next) lines m
-    fails [] bytes m e = fails_first n m (after_then wanted n next) [] (sym (same_Err e)) (λ some. absurd (omega arith)) (after_fills wanted n next by.fills)
+    fails [] bytes m e = fails_first n m (after_then wanted n next) [] (sym (err_is e)) (λ some. absurd (omega arith)) (after_fills wanted n next by.fills)
     fails (line ∷ lines) bytes m e = by_test (bytes_eq line wanted) refl
       where
         by_test : (b : Bool) → bytes_eq line wanted ≡ b → FailsAt n (after_then wanted n next) (line ∷ lines) m
         by_test true same = fails_next n m (after_then wanted n next) next line lines (after_passes wanted n next line same) (by.fails lines bytes m (sym (after_passes wanted n next line same lines bytes) ∙ e))
         by_test false differs =
-            let here : n ≡ m = same_Err (sym (after_refuses wanted n next line differs lines bytes) ∙ e) in
+            let here : n ≡ m = err_is (sym (after_refuses wanted n next line differs lines bytes) ∙ e) in
             fails_first n m (after_then wanted n next) (line ∷ lines) (sym here) (λ some more others. after_refuses wanted n next line differs more others ∙ ap (λ k. Err k) here) (after_fills wanted n next by.fills)
 
 -- the part with one value more
@@ -140,7 +140,7 @@ each_more {A = A} value x items n next own rest = record { fills = fills; fails 
 
     by_value : (line : Bytes) (lines : List Bytes) (bytes : Bytes) (m : ℕ) → each_then value (x ∷ items) n next (line ∷ lines) bytes ≡ Err m → (o : Option A) → value x line ≡ o → FailsAt n (each_then value (x ∷ items) n next) (line ∷ lines) m
     by_value line lines bytes m e None none =
-        let here : n + 0 ≡ m = same_Err (sym (each_refuses value x items n next line none lines bytes) ∙ e) in
+        let here : n + 0 ≡ m = err_is (sym (each_refuses value x items n next line none lines bytes) ∙ e) in
         fails_first n m (each_then value (x ∷ items) n next) (line ∷ lines) (omega (arith, here)) (λ some more others. each_refuses value x items n next line none more others ∙ ap (λ k. Err k) here) fills
     by_value line lines bytes m e (Some v) some =
         fails_next n m (each_then value (x ∷ items) n next) (each_then value items (n + 1) (λ part. next (with_value v part))) line lines (each_goes value x items n next line v some)
@@ -148,7 +148,7 @@ each_more {A = A} value x items n next own rest = record { fills = fills; fails 
 
     fails : (lines : List Bytes) (bytes : Bytes) (m : ℕ) → each_then value (x ∷ items) n next lines bytes ≡ Err m → FailsAt n (each_then value (x ∷ items) n next) lines m
     fails [] bytes m e =
-        let here : n + 0 ≡ m = same_Err (sym (each_missing value x items n next bytes) ∙ e) in
+        let here : n + 0 ≡ m = err_is (sym (each_missing value x items n next bytes) ∙ e) in
         fails_first n m (each_then value (x ∷ items) n next) [] (omega (arith, here)) (λ some. absurd (omega arith)) fills
     fails (line ∷ lines) bytes m e = by_value line lines bytes m e (value x line) refl
 
@@ -191,7 +191,7 @@ leading_fills value wanted n next none (more, t, e) =
 
 leading_fails : {A T : Type 0} (value : Bytes → Option A) (wanted : Bytes) → value wanted ≡ None → (lines : List Bytes) (n : ℕ) (next : List A → ℕ → Reader T) → ((values : List A) (number : ℕ) → IsByLine number (next values number)) → (bytes : Bytes) (m : ℕ) → leading_then value wanted n next lines bytes ≡ Err m → FailsAt n (leading_then value wanted n next) lines m
 leading_fails value wanted none [] n next by bytes m e =
-    let here : n + 0 ≡ m = same_Err e in
+    let here : n + 0 ≡ m = err_is e in
     fails_first n m (leading_then value wanted n next) [] (omega (arith, here)) (λ some. absurd (omega arith)) (leading_fills value wanted n next none (by [] (n + 1)).fills)
 leading_fails {A = A} value wanted none (line ∷ lines) n next by bytes m e =
     by_value (value line) refl (λ v. leading_fails value wanted none lines (n + 1) (λ values. next (v ∷ values)) (λ values number. by (v ∷ values) number) bytes m)

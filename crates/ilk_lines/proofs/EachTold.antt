@@ -7,7 +7,7 @@ use Rattle.std.proofs.lemmas.Slice.Eq.{bytes_eq-Decides}
 use Rattle.ilk_lines.specs.Lines.{Bytes}
 use Rattle.ilk_lines.specs.Reading.{Part, after_line, at_the_end, each_told, onto}
 use Rattle.ilk_lines.specs.Written.{Lacks, each_line}
-use Rattle.ilk_lines.proofs.General.{same_Ok}
+use Rattle.ilk_base.proofs.Results.{ok_is}
 use Rattle.ilk_lines.proofs.InOrder.{told_with, values_left}
 
 -- the values that are told are those of the lines, one for each item
@@ -80,7 +80,7 @@ each_rest {A = A} value items n lines part e = by_count (length (values_left val
     whole = record { values = values_left value items lines; number = n + length items; lines = drop (length items) lines }
 
     by_count : (b : Bool) → cond {A = Result (Part A) ℕ} b (Ok whole) (Err (n + length (values_left value items lines))) ≡ Ok part → part.lines ≡ drop (length items) lines
-    by_count true here = ap (λ (q : Part A). q.lines) (sym (same_Ok here))
+    by_count true here = ap (λ (q : Part A). q.lines) (sym (ok_is here))
     by_count false here = cc
 
 -- where each value's line is the one that is written for it, the lines are those that are written for the values
@@ -96,7 +96,7 @@ after_line-joins wanted n [] more e = cc
 after_line-joins wanted n (line ∷ lines) more e = by_test (bytes_eq line wanted) refl e
   where
     by_test : (b : Bool) → bytes_eq line wanted ≡ b → cond {A = Result (List Bytes) ℕ} b (Ok lines) (Err n) ≡ Ok more → line ∷ lines ≡ wanted ∷ more
-    by_test true same that = ap (λ l. l ∷ lines) ((bytes_eq-Decides line wanted).0 same) ∙ ap (λ ls. wanted ∷ ls) (same_Ok that)
+    by_test true same that = ap (λ l. l ∷ lines) ((bytes_eq-Decides line wanted).0 same) ∙ ap (λ ls. wanted ∷ ls) (ok_is that)
     by_test false differs that = cc
 
 -- where nothing is left, neither lines nor bytes are

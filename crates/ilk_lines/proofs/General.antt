@@ -1,46 +1,15 @@
--- Lemmas that know nothing of lines: values that may be missing or be faults, taken one after
--- another, and lists of numbers.
-use Rattle.std.proofs.Common.{◌≡◌, ℕ, ◌+◌, ◌-◌, ◌<◌, Bool, true, false, Option, Some, Result, Ok, Err, None, List, [], ◌∷◌, cond, filter, length, slice_get, refl, ap, ◌∙◌, arith, suc, zero}
+-- Lemmas that know nothing of lines: values that may be missing, taken one after another, and lists
+-- of numbers.
+use Rattle.std.proofs.Common.{◌≡◌, ℕ, ◌+◌, ◌<◌, Bool, true, false, Option, Some, None, List, [], ◌∷◌, cond, filter, length, slice_get, refl, arith, suc, zero}
 use Rattle.std.specs.List.{range_with_len}
 use Rattle.std.specs.Option.{option_and_then}
 use Rattle.std.proofs.lemmas.List.FromFn.{length-range_with_len}
 use Rattle.std.proofs.lemmas.Option.{slice_get_within}
-use Rattle.ilk_base.specs.Result.{◌>>=◌}
 
 -- where the whole has a value, so has the first, and the rest from it
 pub bind_some : {A B : Type 0} (o : Option A) (f : A → Option B) (y : B) → option_and_then f o ≡ Some y → (x : A) × (o ≡ Some x) × (f x ≡ Some y)
 bind_some None f y e = cc
 bind_some (Some x) f y e = (x, refl, e)
-
-pub bind_ok : {A B E : Type 0} (r : Result A E) (f : A → Result B E) (y : B) → (r >>= f) ≡ Ok y → (x : A) × (r ≡ Ok x) × (f x ≡ Ok y)
-bind_ok (Ok x) f y e = (x, refl, e)
-bind_ok (Err n) f y e = cc
-
-pub bind-assoc : {A B C E : Type 0} (r : Result A E) (f : A → Result B E) (g : B → Result C E) → ((r >>= f) >>= g) ≡ (r >>= (λ x. f x >>= g))
-bind-assoc (Ok x) f g = refl
-bind-assoc (Err n) f g = refl
-
-pub same_Ok : {A E : Type 0} {x y : A} → ◌≡◌ {A = Result A E} (Ok x) (Ok y) → x ≡ y
-same_Ok e = cc
-
-pub same_Err : {A E : Type 0} {m n : E} → ◌≡◌ {A = Result A E} (Err m) (Err n) → m ≡ n
-same_Err e = cc
-
-pub Ok_no_Err : {A E P : Type 0} {x : A} {n : E} → ◌≡◌ {A = Result A E} (Ok x) (Err n) → P
-Ok_no_Err e = cc
-
--- the numbers from i on begin with i
-pub range_next : (i n : ℕ) → i < n → range_with_len i (n - i) ≡ i ∷ range_with_len (i + 1) (n - (i + 1))
-range_next i n below = by_rest (n - i) (n - (i + 1)) (omega arith)
-  where
-    by_rest : (k m : ℕ) → k ≡ suc m → range_with_len i k ≡ i ∷ range_with_len (i + 1) m
-    by_rest k m e = ap (range_with_len i) e
-
-pub filter_next : (test : ℕ → Bool) (i n : ℕ) → i < n → test i ≡ true → filter test (range_with_len i (n - i)) ≡ i ∷ filter test (range_with_len (i + 1) (n - (i + 1)))
-filter_next test i n below passes = ap (filter test) (range_next i n below) ∙ rw passes refl
-
-pub filter_skip : (test : ℕ → Bool) (i n : ℕ) → i < n → test i ≡ false → filter test (range_with_len i (n - i)) ≡ filter test (range_with_len (i + 1) (n - (i + 1)))
-filter_skip test i n below fails = ap (filter test) (range_next i n below) ∙ rw fails refl
 
 -- number i of the numbers from a on is a + i
 pub range_get : (a n i x : ℕ) → slice_get (range_with_len a n) i ≡ Some x → x ≡ a + i

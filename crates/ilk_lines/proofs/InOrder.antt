@@ -1,13 +1,11 @@
 -- Lines that are told in order, one for each item.
-use Rattle.std.proofs.Common.{◌≡◌, ℕ, ◌+◌, ◌-◌, ◌<◌, ◌≤◌, Bool, true, false, ◌==◌, Option, Some, None, option_map, Result, Ok, Err, List, [], ◌∷◌, ◌++◌, length, drop, filter, get_or, zip, refl, sym, ap, ◌∙◌, arith, append_assoc, if◌then◌else◌, append-nil}
-use Rattle.std.specs.List.{range_with_len}
+use Rattle.std.proofs.Common.{◌≡◌, ℕ, ◌+◌, ◌<◌, ◌≤◌, true, false, ◌==◌, Option, Some, None, option_map, Result, Ok, Err, List, [], ◌∷◌, ◌++◌, length, drop, get_or, zip, refl, sym, ap, ◌∙◌, arith, append_assoc, if◌then◌else◌, append-nil}
 use Rattle.std.proofs.lemmas.Bool.Decides.{nat_tests}
 use Rattle.std.proofs.lemmas.Grind.{common_steps}
 use Rattle.std.proofs.lemmas.List.{drop-drop, drop_all, drop_more, length_push}
 use Rattle.std.proofs.lemmas.Option.{same_Some}
 use Rattle.ilk_lines.specs.Lines.{Bytes}
 use Rattle.ilk_lines.specs.Reading.{Part, each_told, leading, onto}
-use Rattle.ilk_lines.proofs.General.{filter_next, filter_skip, range_next}
 
 -- the value that the first of these lines tells of item x, and the lines after it
 abbrev pub one_told : {A : Type 0} → (ℕ → Bytes → Option A) → ℕ → List Bytes → Option (A × List Bytes)
@@ -24,10 +22,6 @@ pub record IsAt {A : Type 0} (value : ℕ → Bytes → Option A) (items : List 
   pub counts_are : length taken + length left ≡ length items
   pub lines_are : rest ≡ drop (length taken) lines
   pub number_is : number ≡ n + length taken
-
--- nothing is taken yet
-pub at_first : {A : Type 0} (value : ℕ → Bytes → Option A) (items : List ℕ) (n : ℕ) (lines : List Bytes) → IsAt value items n lines [] items n lines
-at_first value items n lines = record { values_are = refl; counts_are = omega arith; lines_are = refl; number_is = omega arith }
 
 -- a line that tells its item's value is taken
 pub at_next : {A : Type 0} (value : ℕ → Bytes → Option A) (items : List ℕ) (n : ℕ) (lines : List Bytes) (taken new : List A) (x : ℕ) (left following : List ℕ) (number next : ℕ) (rest more : List Bytes) (v : A) → IsAt value items n lines taken left number rest → left ≡ x ∷ following → one_told value x rest ≡ Some (v, more) → new ≡ taken ++ v ∷ [] → next ≡ number + 1 → IsAt value items n lines new following next more
@@ -81,37 +75,6 @@ at_last value items n lines taken number rest at =
     let count : n + length items ≡ number = let d = at.number_is in omega arith in
     let left : drop (length items) lines ≡ rest = ap (λ k. drop k lines) (sym c) ∙ sym at.lines_are in
     ap (told_with items n lines) values ∙ rw (all, count, left) refl
-
--- the same where the items are the numbers from 0 on, of which those from i on are left
-pub range_more : {A : Type 0} (value : ℕ → Bytes → Option A) (items : List ℕ) (n : ℕ) (lines : List Bytes) (taken new : List A) (i m number next : ℕ) (rest more : List Bytes) (v : A) → IsAt value items n lines taken (range_with_len i (m - i)) number rest → i < m → one_told value i rest ≡ Some (v, more) → new ≡ taken ++ v ∷ [] → next ≡ number + 1 → IsAt value items n lines new (range_with_len (i + 1) (m - (i + 1))) next more
-range_more value items n lines taken new i m number next rest more v at below told f g =
-    at_next value items n lines taken new i (range_with_len i (m - i)) (range_with_len (i + 1) (m - (i + 1))) number next rest more v at (range_next i m below) told f g
-
-pub range_bad : {A : Type 0} (value : ℕ → Bytes → Option A) (items : List ℕ) (n : ℕ) (lines : List Bytes) (taken : List A) (i m number : ℕ) (rest : List Bytes) → IsAt value items n lines taken (range_with_len i (m - i)) number rest → i < m → one_told value i rest ≡ None → each_told value items n lines ≡ Err number
-range_bad value items n lines taken i m number rest at below refused =
-    at_bad value items n lines taken i (range_with_len i (m - i)) (range_with_len (i + 1) (m - (i + 1))) number rest at (range_next i m below) refused
-
-pub range_last : {A : Type 0} (value : ℕ → Bytes → Option A) (items : List ℕ) (n : ℕ) (lines : List Bytes) (taken : List A) (i m number : ℕ) (rest : List Bytes) → IsAt value items n lines taken (range_with_len i (m - i)) number rest → m ≤ i → each_told value items n lines ≡ Ok (record { values = taken; number = number; lines = rest })
-range_last value items n lines taken i m number rest at past =
-    let none : m - i ≡ 0 = omega arith in
-    at_last value items n lines taken number rest (rw none at at)
-
--- the same where the items are the numbers from 0 on that pass a test
-pub passing_more : {A : Type 0} (value : ℕ → Bytes → Option A) (test : ℕ → Bool) (items : List ℕ) (n : ℕ) (lines : List Bytes) (taken new : List A) (i m number next : ℕ) (rest more : List Bytes) (v : A) → IsAt value items n lines taken (filter test (range_with_len i (m - i))) number rest → i < m → test i ≡ true → one_told value i rest ≡ Some (v, more) → new ≡ taken ++ v ∷ [] → next ≡ number + 1 → IsAt value items n lines new (filter test (range_with_len (i + 1) (m - (i + 1)))) next more
-passing_more value test items n lines taken new i m number next rest more v at below passes told f g =
-    at_next value items n lines taken new i (filter test (range_with_len i (m - i))) (filter test (range_with_len (i + 1) (m - (i + 1)))) number next rest more v at (filter_next test i m below passes) told f g
-
-pub passing_skip : {A : Type 0} (value : ℕ → Bytes → Option A) (test : ℕ → Bool) (items : List ℕ) (n : ℕ) (lines : List Bytes) (taken : List A) (i m number : ℕ) (rest : List Bytes) → IsAt value items n lines taken (filter test (range_with_len i (m - i))) number rest → i < m → test i ≡ false → IsAt value items n lines taken (filter test (range_with_len (i + 1) (m - (i + 1)))) number rest
-passing_skip value test items n lines taken i m number rest at below fails = rw (filter_skip test i m below fails) at at
-
-pub passing_bad : {A : Type 0} (value : ℕ → Bytes → Option A) (test : ℕ → Bool) (items : List ℕ) (n : ℕ) (lines : List Bytes) (taken : List A) (i m number : ℕ) (rest : List Bytes) → IsAt value items n lines taken (filter test (range_with_len i (m - i))) number rest → i < m → test i ≡ true → one_told value i rest ≡ None → each_told value items n lines ≡ Err number
-passing_bad value test items n lines taken i m number rest at below passes refused =
-    at_bad value items n lines taken i (filter test (range_with_len i (m - i))) (filter test (range_with_len (i + 1) (m - (i + 1)))) number rest at (filter_next test i m below passes) refused
-
-pub passing_last : {A : Type 0} (value : ℕ → Bytes → Option A) (test : ℕ → Bool) (items : List ℕ) (n : ℕ) (lines : List Bytes) (taken : List A) (i m number : ℕ) (rest : List Bytes) → IsAt value items n lines taken (filter test (range_with_len i (m - i))) number rest → m ≤ i → each_told value items n lines ≡ Ok (record { values = taken; number = number; lines = rest })
-passing_last value test items n lines taken i m number rest at past =
-    let none : m - i ≡ 0 = omega arith in
-    at_last value items n lines taken number rest (rw none at at)
 
 -- the same where the items are those of a list, of which those from index i on are left
 pub item_more : {A : Type 0} (value : ℕ → Bytes → Option A) (items : List ℕ) (n : ℕ) (lines : List Bytes) (taken new : List A) (i number next : ℕ) (line : Bytes) (rest more : List Bytes) (v : A) → IsAt value items n lines taken (drop i items) number rest → i < length items → rest ≡ line ∷ more → Some v ≡ value (get_or items i 0) line → new ≡ taken ++ v ∷ [] → next ≡ number + 1 → IsAt value items n lines new (drop (i + 1) items) next more
