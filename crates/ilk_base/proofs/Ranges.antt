@@ -5,8 +5,9 @@ use Rattle.std.proofs.lemmas.List.Concat.{flat_map-append}
 use Rattle.std.proofs.lemmas.List.Elements.{filter-append}
 use Rattle.std.proofs.lemmas.List.FromFn.{map-range_with_len_more, get_or-range_with_len, length-range_with_len}
 use Rattle.std.proofs.lemmas.List.{map-append}
-use Rattle.std.proofs.lemmas.Option.{same_Some, slice_get-get_or}
-use Rattle.std.specs.List.{filter, range_with_len, flat_map}
+use Rattle.std.proofs.lemmas.Option.{same_Some, slice_get-get_or, slice_get_within}
+use Rattle.std.proofs.Math.Nat.{eq-or-lt_of_le}
+use Rattle.std.specs.List.{range_with_len, flat_map}
 use Rattle.std.specs.Prelude.{filter}
 
 pub range-suc : (a n : ℕ) → range_with_len a (suc n) ≡ range_with_len a n ++ (a + n) ∷ []
@@ -99,3 +100,37 @@ find-within f a (suc n) x e = by_test (f a) e (find-within f (a + 1) n x)
     by_test : (b : Bool) → cond b (Some a) (find f (range_with_len (a + 1) n)) ≡ Some x → (find f (range_with_len (a + 1) n) ≡ Some x → x < (a + 1) + n) → x < a + suc n
     by_test true this later = let same : a ≡ x = same_Some a x this in omega arith
     by_test false this later = let below = later this in omega arith
+
+-- number i of the numbers from a on is a + i
+pub range_get : (a n i x : ℕ) → slice_get (range_with_len a n) i ≡ Some x → x ≡ a + i
+range_get a zero i x e = cc
+range_get a (suc n) zero x e = let same : a ≡ x = cc in omega arith
+range_get a (suc n) (suc i) x e = let rest = range_get (a + 1) n i x e in omega arith
+
+pub range_within : (n i x : ℕ) → slice_get (range_with_len 0 n) i ≡ Some x → (x ≡ i) × (x < n)
+range_within n i x at =
+    let same : x ≡ 0 + i = range_get 0 n i x at in
+    let within = slice_get_within (range_with_len 0 n) i x at in
+    let long = length-range_with_len 0 n in
+    (omega arith, omega arith)
+
+-- those of the numbers from a on that pass a test are among them
+pub passing_within : (test : ℕ → Bool) (a n i x : ℕ) → slice_get (filter test (range_with_len a n)) i ≡ Some x → x < a + n
+passing_within test a zero i x at = cc
+passing_within test a (suc n) i x at = by_test (test a) i at (λ j here. passing_within test (a + 1) n j x here)
+  where
+    by_test : (b : Bool) (j : ℕ) → slice_get (cond b (a ∷ filter test (range_with_len (a + 1) n)) (filter test (range_with_len (a + 1) n))) j ≡ Some x
+        → ((k : ℕ) → slice_get (filter test (range_with_len (a + 1) n)) k ≡ Some x → x < (a + 1) + n) → x < a + suc n
+    by_test true zero here later = let same : a ≡ x = cc in omega arith
+    by_test true (suc j) here later = let below = later j here in omega arith
+    by_test false j here later = let below = later j here in omega arith
+
+-- the least number of a range that passes the test is found
+pub find-least : (test : ℕ → Bool) (a n k : ℕ) → a ≤ k → k < a + n → test k ≡ true → ((j : ℕ) → a ≤ j → j < k → test j ≡ false) → find test (range_with_len a n) ≡ Some k
+find-least test a zero k above below passes least = absurd (omega arith)
+find-least test a (suc n) k above below passes least =
+    elim (eq-or-lt_of_le above) [
+      | inl here ↦ (let yes : test a ≡ true = ap test here ∙ passes in rw yes (ap Some here))
+      | inr later ↦ (let no : test a ≡ false = least a (omega arith) later in
+          rw no (find-least test (a + 1) n k (omega arith) (omega arith) passes (λ j after before. least j (omega arith) before)))
+    ]

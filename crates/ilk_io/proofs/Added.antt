@@ -1,7 +1,7 @@
 -- What calls of a sink added that follow one another.
 use Rattle.std.proofs.Common.{◌≡◌, ℕ, Option, Some, None, List, [], ◌++◌, length, take, drop, refl, sym, ap, ◌∙◌, append_assoc, append-nil, length-append, length-drop, ◌-◌, subst, arith}
 use Rattle.std.proofs.Math.Seq.{take-append_seam, take-length}
-use Rattle.std.proofs.lemmas.List.{take-append-drop}
+use Rattle.std.proofs.lemmas.List.{take-append-drop, take_rest}
 use Rattle.std.specs.Option.{option_map}
 use Rattle.ilk_io.specs.Sink.{Adds, AddsPrefix}
 
@@ -26,17 +26,13 @@ pub record Written (old new : Option (List ℕ)) (text rest : List ℕ) : Type 0
 pub Written-none : (old : Option (List ℕ)) (text : List ℕ) → Written old old text text
 Written-none old text = record { done = []; split = refl; adds = Adds-none old old refl }
 
--- what a slice from n on has
-pub take-drop-rest : (rest : List ℕ) (n : ℕ) → take (length rest - n) (drop n rest) ≡ drop n rest
-take-drop-rest rest n = ap (λ m. take m (drop n rest)) (sym (length-drop n rest)) ∙ take-length (drop n rest)
-
 -- the first n bytes of the rest were written too
 pub Written-more : (old new after : Option (List ℕ)) (text rest : List ℕ) (n : ℕ) → Written old new text rest → Adds new after (take n rest) → Written old after text (take (length rest - n) (drop n rest))
 Written-more old new after text rest n w more = record {
   done = w.done ++ take n rest;
   split =
       w.split
-      ∙ ap (λ tail. w.done ++ tail) (sym (take-append-drop n rest) ∙ ap (λ tail. take n rest ++ tail) (sym (take-drop-rest rest n)))
+      ∙ ap (λ tail. w.done ++ tail) (sym (take-append-drop n rest) ∙ ap (λ tail. take n rest ++ tail) (sym (take_rest rest n)))
       ∙ sym (append_assoc w.done (take n rest) (take (length rest - n) (drop n rest)));
   adds = Adds-then old new after w.done (take n rest) w.adds more;
 }

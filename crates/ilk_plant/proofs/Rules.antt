@@ -9,7 +9,7 @@ use Rattle.ilk_plant.specs.TableRules.{has_conflicts_once, has_destination_or_no
 use Rattle.ilk_plant.specs.declared.broken.Rule.{Rule}
 use Rattle.ilk_plant.specs.declared.broken.Rule.TheVariants.{N1, N2, N3, N4, N5, N6, N7, N8, R1, R2, R3, R4, R5, R6}
 use Rattle.ilk_plant.specs.declared.draft.NetDraft.{NetDraft}
-use Rattle.ilk_base.proofs.Lists.{append-none, map-none}
+use Rattle.ilk_base.proofs.Lists.{append-none, map-none, eight-none, six-none}
 use Rattle.ilk_base.proofs.Ranges.{range-at}
 use Rattle.ilk_base.proofs.Tested.{filter-none}
 
@@ -17,23 +17,6 @@ use Rattle.ilk_base.proofs.Tested.{filter-none}
 pub rule-kept : (rule : Rule) (n : ℕ) (test : ℕ → Bool) → broken_at rule n test ≡ [] → (i : ℕ) → i < n → test i ≡ false
 rule-kept rule n test e i h =
     filter-none test (range_with_len 0 n) i i (map-none (λ j. record { rule = rule; first = j; second = None }) (filter test (range_with_len 0 n)) e) (range-at n i h)
-
--- six lists that are empty together, and eight
-six-none : {X : Type 0} (a b c d e f : List X) → a ++ b ++ c ++ d ++ e ++ f ≡ [] → (a ≡ []) × (b ≡ []) × (c ≡ []) × (d ≡ []) × (e ≡ []) × (f ≡ [])
-six-none a b c d e f h =
-    let one = append-none (a ++ b ++ c ++ d ++ e) f h in
-    let two = append-none (a ++ b ++ c ++ d) e one.0 in
-    let three = append-none (a ++ b ++ c) d two.0 in
-    let four = append-none (a ++ b) c three.0 in
-    let five = append-none a b four.0 in
-    (five.0, five.1, four.1, three.1, two.1, one.1)
-
-eight-none : {X : Type 0} (a b c d e f g h : List X) → a ++ b ++ c ++ d ++ e ++ f ++ g ++ h ≡ [] → (a ≡ []) × (b ≡ []) × (c ≡ []) × (d ≡ []) × (e ≡ []) × (f ≡ []) × (g ≡ []) × (h ≡ [])
-eight-none a b c d e f g h k =
-    let one = append-none (a ++ b ++ c ++ d ++ e ++ f ++ g) h k in
-    let two = append-none (a ++ b ++ c ++ d ++ e ++ f) g one.0 in
-    let rest = six-none a b c d e f two.0 in
-    (rest.0, rest.1, rest.2, rest.3, rest.4, rest.5, two.1, one.1)
 
 -- no rule of the network is broken at any place
 pub record KeepsNetworkRules (net : NetDraft) : Type 0 where
