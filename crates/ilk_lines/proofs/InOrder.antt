@@ -1,8 +1,8 @@
 -- Lines that are told in order, one for each item.
-use Rattle.std.proofs.Common.{◌≡◌, ℕ, ◌+◌, ◌<◌, ◌≤◌, true, false, ◌==◌, Option, Some, None, option_map, Result, Ok, Err, List, [], ◌∷◌, ◌++◌, length, drop, get_or, zip, refl, sym, ap, ◌∙◌, arith, append_assoc, if◌then◌else◌, append-nil}
+use Rattle.std.proofs.Common.{◌≡◌, ℕ, ◌+◌, ◌<◌, false, ◌==◌, Option, Some, None, option_map, Result, Ok, Err, List, [], ◌∷◌, ◌++◌, length, drop, get_or, zip, refl, sym, ap, ◌∙◌, arith, append_assoc, if◌then◌else◌, append-nil}
 use Rattle.std.proofs.lemmas.Bool.Decides.{nat_tests}
 use Rattle.std.proofs.lemmas.Grind.{common_steps}
-use Rattle.std.proofs.lemmas.List.{drop-drop, drop_all, drop_more, length_push}
+use Rattle.std.proofs.lemmas.List.{drop-drop, drop_more, length_push}
 use Rattle.std.proofs.lemmas.Option.{same_Some}
 use Rattle.ilk_lines.specs.Lines.{Bytes}
 use Rattle.ilk_lines.specs.Reading.{Part, each_told, leading, onto}
@@ -66,32 +66,12 @@ at_bad value items n lines taken x left following number rest at e refused =
     let fewer : (length taken == length items) ≡ false = grind (arith, nat_tests, common_steps) in
     ap (told_with items n lines) values ∙ rw fewer (ap Err (sym at.number_is))
 
--- where no item is left, all are told
-pub at_last : {A : Type 0} (value : ℕ → Bytes → Option A) (items : List ℕ) (n : ℕ) (lines : List Bytes) (taken : List A) (number : ℕ) (rest : List Bytes) → IsAt value items n lines taken [] number rest → each_told value items n lines ≡ Ok (record { values = taken; number = number; lines = rest })
-at_last value items n lines taken number rest at =
-    let values : values_left value items lines ≡ taken = at.values_are ∙ append-nil taken in
-    let c : length taken ≡ length items = let d = at.counts_are in omega arith in
-    let all : (length taken == length items) ≡ true = grind (arith, nat_tests) in
-    let count : n + length items ≡ number = let d = at.number_is in omega arith in
-    let left : drop (length items) lines ≡ rest = ap (λ k. drop k lines) (sym c) ∙ sym at.lines_are in
-    ap (told_with items n lines) values ∙ rw (all, count, left) refl
-
 -- the same where the items are those of a list, of which those from index i on are left
 pub item_more : {A : Type 0} (value : ℕ → Bytes → Option A) (items : List ℕ) (n : ℕ) (lines : List Bytes) (taken new : List A) (i number next : ℕ) (line : Bytes) (rest more : List Bytes) (v : A) → IsAt value items n lines taken (drop i items) number rest → i < length items → rest ≡ line ∷ more → Some v ≡ value (get_or items i 0) line → new ≡ taken ++ v ∷ [] → next ≡ number + 1 → IsAt value items n lines new (drop (i + 1) items) next more
 item_more value items n lines taken new i number next line rest more v at below first told f g =
     at_next value items n lines taken new (get_or items i 0) (drop i items) (drop (i + 1) items) number next rest more v at (drop_more items i 0 below)
     (ap (one_told value (get_or items i 0)) first ∙ ap (option_map (λ w. (w, more))) (sym told)) f g
 
-pub item_bad : {A : Type 0} (value : ℕ → Bytes → Option A) (items : List ℕ) (n : ℕ) (lines : List Bytes) (taken : List A) (i number : ℕ) (line : Bytes) (rest more : List Bytes) → IsAt value items n lines taken (drop i items) number rest → i < length items → rest ≡ line ∷ more → None ≡ value (get_or items i 0) line → each_told value items n lines ≡ Err number
-item_bad value items n lines taken i number line rest more at below first none =
-    at_bad value items n lines taken (get_or items i 0) (drop i items) (drop (i + 1) items) number rest at (drop_more items i 0 below)
-    (ap (one_told value (get_or items i 0)) first ∙ ap (option_map (λ w. (w, more))) (sym none))
-
 pub item_missing : {A : Type 0} (value : ℕ → Bytes → Option A) (items : List ℕ) (n : ℕ) (lines : List Bytes) (taken : List A) (i number : ℕ) (rest : List Bytes) → IsAt value items n lines taken (drop i items) number rest → i < length items → rest ≡ [] → each_told value items n lines ≡ Err number
 item_missing value items n lines taken i number rest at below none =
     at_bad value items n lines taken (get_or items i 0) (drop i items) (drop (i + 1) items) number rest at (drop_more items i 0 below) (ap (one_told value (get_or items i 0)) none)
-
-pub item_last : {A : Type 0} (value : ℕ → Bytes → Option A) (items : List ℕ) (n : ℕ) (lines : List Bytes) (taken : List A) (i number : ℕ) (rest : List Bytes) → IsAt value items n lines taken (drop i items) number rest → length items ≤ i → each_told value items n lines ≡ Ok (record { values = taken; number = number; lines = rest })
-item_last value items n lines taken i number rest at past =
-    let none : drop i items ≡ [] = drop_all i items past in
-    at_last value items n lines taken number rest (rw none at at)

@@ -1,5 +1,5 @@
 -- Lines, and words of a line, as they are written.
-use Rattle.std.specs.Prelude.{ℕ, ◌≡◌, false, List, [], ◌∷◌, ◌++◌, ◌==◌, flat_map, map, zip}
+use Rattle.std.specs.Prelude.{ℕ, ◌≡◌, Bool, false, List, [], ◌∷◌, ◌++◌, ◌==◌, flat_map, map, zip}
 use Rattle.std.specs.List.{list_any}
 use Rattle.ilk_lines.specs.Lines.{Bytes}
 
@@ -17,9 +17,13 @@ line_of [] = []
 line_of (word ∷ []) = word
 line_of (word ∷ next ∷ more) = spaced word (line_of (next ∷ more))
 
+-- whether a text has the byte c
+abbrev pub has_byte : ℕ → Bytes → Bool
+has_byte c text = list_any (λ b. b == c) text
+
 -- no byte of the text is c
 abbrev pub Lacks : ℕ → Bytes → Type 0
-Lacks c text = list_any (λ b. b == c) text ≡ false
+Lacks c text = has_byte c text ≡ false
 
 -- a line for each item, with its value
 abbrev pub each_line : {A : Type 0} → (ℕ → A → Bytes) → List ℕ → List A → List Bytes

@@ -1,4 +1,4 @@
-ghost use Rattle.std.specs.Prelude.{◌≡◌, ◌<◌, ◌≤◌, ◌*◌, ◌+◌, ◌-◌, ◌^◌, ◌++◌, IfOk, OnOk, nat_le, string_bytes};
+ghost use Rattle.std.specs.Prelude.{◌≡◌, ◌<◌, ◌≤◌, ◌*◌, ◌+◌, ◌-◌, ◌^◌, ◌++◌, OnOk, nat_le, string_bytes};
 ghost use Rattle.std.specs.Char.{is_ascii_digit, digit_value};
 ghost use Rattle.std.specs.Fmt.{decimal};
 ghost use Rattle.std.specs.List.{list_all};
@@ -45,7 +45,8 @@ pub fn decimal_up_to(word: &[u8], limit: u64) -> Option<u64>
     Some(number)
 }
 
-/// Writes a number in decimal at the end of a text.
+/// Writes a number in decimal at the end of a text. Where there is no memory for it, nothing is said
+/// of what the text then has.
 pub fn push_decimal(text: &mut String, number: u64) -> Result<(), AllocError>
     ensures { OnOk result (string_bytes text.new ≡ string_bytes text.old ++ decimal number) }
 {

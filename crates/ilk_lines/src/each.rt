@@ -1,4 +1,4 @@
-ghost use Rattle.std.specs.Prelude.{ℕ, ◌≡◌, Option, Ok, IfOk, OnOk};
+ghost use Rattle.std.specs.Prelude.{ℕ, ◌≡◌, ◌<◌, ◌^◌, Option, Ok, IfOk, OnOk};
 ghost use Rattle.ilk_lines.specs.Answers.{TellsPart, part_of};
 ghost use Rattle.ilk_lines.specs.Lines.{Bytes};
 ghost use Rattle.ilk_lines.specs.Reading.{each_told, leading_part};
@@ -7,8 +7,10 @@ use crate::{LineFault, Lines};
 use ilk_base::Row;
 use std::alloc::{AllocError, Global};
 
-/// Reads a line for each item, in order, and answers what these tell. The first line that is
-/// missing, or of which `tell` answers none for its item, is bad.
+/// Reads a line for each item, in order, and answers what these tell: `tell` answers what a line
+/// tells of an item. The first line that is missing, or that tells nothing of its item, is bad.
+/// Where `tell` computes the function `value` of an item and a line, the answer is the one that the
+/// definition `each_told` gives for `value`.
 pub fn read_each<T: Drop, F: Fn(u32, &[u8]) -> Option<T>>(
     alloc: Global,
     lines: &mut Lines,
@@ -16,7 +18,7 @@ pub fn read_each<T: Drop, F: Fn(u32, &[u8]) -> Option<T>>(
     tell: F,
 ) -> Result<Row<T>, LineFault>
     requires { F.IsAlwaysCallable tell }
-    ensures told { (value : ℕ → Bytes → Option T) → ((x : ℕ) (line : _) (v : _) → F.post tell x line v → v ≡ value x line.now) → TellsPart (each_told value items.now lines.old.number lines.old.lines) lines.new result }
+    ensures told { (value : ℕ → Bytes → Option T) → ((x : ℕ) (line : _) (v : _) → x < 2 ^ 32 → F.post tell x line v → v ≡ value x line.now) → TellsPart (each_told value items.now lines.old.number lines.old.lines) lines.new result }
     ensures after { OnOk result (lines.new.after ≡ lines.old.after) }
 {
     let mut values = Row::new(alloc);
@@ -33,7 +35,9 @@ pub fn read_each<T: Drop, F: Fn(u32, &[u8]) -> Option<T>>(
     Ok(values)
 }
 
-/// Reads the next lines, as long as `tell` answers something of them, and answers what they tell.
+/// Reads the next lines, as long as they tell something, and answers what they tell: `tell` answers
+/// what a line tells, or that there is no memory for it. Where it computes the function `value` of a
+/// line, the answer is the one that the definition `leading_part` gives for `value`.
 pub fn read_leading<T: Drop, F: Fn(&[u8]) -> Result<Option<T>, AllocError>>(
     alloc: Global,
     lines: &mut Lines,

@@ -9,6 +9,6 @@ returns-in_default-clause-told g c value agrees =
 pub loop-x-preserved : goal.loop-x-preserved
 loop-x-preserved g c = record {
   at = λ value agrees. item_more value _ _ _ c.loop-x.values c.push.new.self c.loop-x.x-index _ _ c.in-Some.line.now c.loop-x.lines.lines _ c.in-Some-tell.value
-      (c.loop-x.invariant.at value agrees) (omega arith) c.in-Some.ensures.line (agrees _ _ _ c.in-Some-tell.ensures) (c.in_ok-push.ensures.ok) (omega (arith, c.in-Some.ensures.number));
+      (c.loop-x.invariant.at value agrees) (omega arith) c.in-Some.ensures.line (agrees _ _ _ (omega (arith, c.type_inv.items c.loop-x.x-index)) c.in-Some-tell.ensures) (c.in_ok-push.ensures.ok) (omega (arith, c.in-Some.ensures.number));
   after = search rules;
 }

@@ -8,4 +8,4 @@ use Rattle.ilk_replay.proofs.state_reading.read_boards.Goals as goal
 pub returns-clause-told : goal.returns-clause-told
 returns-clause-told c =
     same_items (board_told c.args.plant.now) c.as_slice.result.now (numbers_of c.args.plant.now.boards) _ _ c.read_each.new.lines c.read_each.result (c.as_slice.ensures ∙ c.in_ok-boards.ensures ∙ ap (range_with_len 0) c.boards.ensures)
-    (c.read_each.ensures.told (board_told c.args.plant.now) (λ x line v e. search rules))
+    (c.read_each.ensures.told (board_told c.args.plant.now) (λ x line v small e. search rules))

@@ -7,4 +7,4 @@ use Rattle.ilk_replay.proofs.state_reading.read_points.Goals as goal
 pub returns-clause-told : goal.returns-clause-told
 returns-clause-told c =
     same_items (point_told c.args.plant.now) c.as_slice.result.now (point_sections c.args.plant.now) _ _ c.read_each.new.lines c.read_each.result (c.as_slice.ensures ∙ c.in_ok-points.ensures)
-    (c.read_each.ensures.told (point_told c.args.plant.now) (λ x line v e. search rules))
+    (c.read_each.ensures.told (point_told c.args.plant.now) (λ x line v small e. search rules))

@@ -8,4 +8,4 @@ use Rattle.ilk_replay.proofs.state_reading.read_routes.Goals as goal
 pub returns-clause-told : goal.returns-clause-told
 returns-clause-told c =
     same_items (route_told c.args.plant.now) c.as_slice.result.now (numbers_of c.args.plant.now.routes) _ _ c.read_each.new.lines c.read_each.result (c.as_slice.ensures ∙ c.in_ok-routes.ensures ∙ ap (range_with_len 0) c.routes.ensures)
-    (c.read_each.ensures.told (route_told c.args.plant.now) (λ x line v e. search rules))
+    (c.read_each.ensures.told (route_told c.args.plant.now) (λ x line v small e. search rules))
