@@ -3,7 +3,6 @@ use Rattle.std.proofs.Common.{◌≡◌, ℕ, ◌+◌, ◌-◌, ◌<◌, Bool, t
 use Rattle.std.specs.List.{position_from, position_or_len, onto_first}
 use Rattle.std.proofs.lemmas.Bool.{ltb-true}
 use Rattle.std.proofs.lemmas.Iterator.Adapters.{position_from-zero}
-use Rattle.std.proofs.lemmas.List.{length-drop, take_all}
 use Rattle.std.proofs.lemmas.List.Splits.{slice_split_first}
 use Rattle.ilk_lines.specs.Reading.{at_the_end}
 use Rattle.ilk_lines.specs.Lines.{after_lines, last_part, lines_of, parts_at, parts_but_last}
@@ -62,7 +61,3 @@ not_at_end n (b ∷ text) some = by_first (b == 10) (parts_follow 10 text)
     by_first true (part, parts, follows) = rw follows refl
     by_first false (part, [], follows) = rw follows refl
     by_first false (part, next ∷ parts, follows) = rw follows refl
-
--- all that is left from a place on
-pub take_rest : (k : ℕ) (xs : List ℕ) → take (length xs - k) (drop k xs) ≡ drop k xs
-take_rest k xs = take_all (length xs - k) (drop k xs) (omega (arith, length-drop k xs))

@@ -1,4 +1,3 @@
-pub mod General
 pub mod Cuts
 pub mod Lacking
 pub mod Numbers

@@ -14,7 +14,7 @@ use Rattle.ilk_lines.specs.Lines.{Bytes, parts_at}
 use Rattle.ilk_lines.specs.Words.{after_start, after_word, first_word, words_of}
 use Rattle.ilk_lines.specs.Written.{Lacks, line_of, spaced}
 use Rattle.ilk_lines.proofs.Cuts.{parts_follow}
-use Rattle.ilk_lines.proofs.General.{bind_some}
+use Rattle.ilk_base.proofs.Options.{bind_some}
 use Rattle.ilk_lines.proofs.Lacking.{part_alone, part_first}
 
 place_from : (i : ℕ) (word rest : Bytes) → Lacks 32 word → position_from (λ b. b == 32) i (word ++ 32 ∷ rest) ≡ Some (i + length word)

@@ -4,7 +4,7 @@ ghost use Rattle.ilk_lines.specs.Words.{after_start, after_word, first_word, wor
 
 use crate::parts::{cut, place_of};
 
-#[tactic(auto, using(crate::proofs::Cuts::take_rest))]
+#[tactic(auto, using(std::proofs::lemmas::List::take_rest))]
 /// What stands before the first space of a line, and what stands after it. None exactly where there
 /// is no space.
 pub fn first_word(line: &[u8]) -> Option<(&[u8], &[u8])>

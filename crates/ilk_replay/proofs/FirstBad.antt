@@ -21,7 +21,8 @@ use Rattle.ilk_lines.specs.Lines.{Bytes, after_lines, lines_of}
 use Rattle.ilk_lines.specs.Reading.{Part, after_line, at_the_end, each_told, leading_part, numbers_of}
 use Rattle.ilk_lines.proofs.ByLine.{FailsAt, Fills, HasLine, IsByLine, Reader, after_by_line, each_by_line, each_then, fails_first, fails_next, leading_by_line, leading_then}
 use Rattle.ilk_base.proofs.Results.{bind-assoc, err_is, ok_no_err}
-use Rattle.ilk_lines.proofs.General.{item_at, range_within}
+use Rattle.ilk_base.proofs.Lists.{item_at}
+use Rattle.ilk_base.proofs.Ranges.{range_within}
 use Rattle.ilk_replay.specs.RunText.{board_line, point_line, route_line, run_lines, run_text, section_line}
 use Rattle.ilk_replay.specs.StateLine.{board_told, lock_told, point_told, route_told, train_told}
 use Rattle.ilk_replay.specs.StateTold.{Beginning, point_sections, state_told}

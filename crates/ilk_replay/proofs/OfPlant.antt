@@ -8,7 +8,7 @@ use Rattle.std.proofs.lemmas.Option.{cond_some}
 use Rattle.ilk_plant.proofs.Shapes.{start-shape}
 use Rattle.ilk_plant.specs.Network.{is_point}
 use Rattle.ilk_base.specs.Option.{is_some_and}
-use Rattle.ilk_plant.specs.Plant.{IsPlant, PlantLists, first_named}
+use Rattle.ilk_plant.specs.Plant.{IsPlant, PlantLists, first_named, is_point_section}
 use Rattle.ilk_plant.specs.Start.{start}
 use Rattle.ilk_plant.specs.Shape.{HasShape}
 use Rattle.ilk_plant.specs.declared.network.Section.{Section}
@@ -17,14 +17,13 @@ use Rattle.ilk_lines.specs.Lines.{Bytes, after_lines, lines_of}
 use Rattle.ilk_lines.specs.Reading.{after_line, at_the_end, each_told, leading, numbers_of}
 use Rattle.ilk_lines.specs.Words.{first_word}
 use Rattle.ilk_base.proofs.Results.{bind_ok, ok_is}
-use Rattle.ilk_lines.proofs.General.{bind_some}
+use Rattle.ilk_base.proofs.Options.{bind_some, or_cases}
 use Rattle.ilk_lines.proofs.Leading.{leading_all}
 use Rattle.ilk_replay.specs.EventLine.{event_of, point_named}
 use Rattle.ilk_replay.specs.EventWords.{event_with}
 use Rattle.ilk_replay.specs.RunText.{run_text}
 use Rattle.ilk_replay.specs.StateLine.{board_told, lock_told, point_told, route_told, train_told}
 use Rattle.ilk_replay.specs.StateTold.{Beginning, point_sections, state_told}
-use Rattle.ilk_plant.specs.Plant.{is_point_section}
 use Rattle.ilk_replay.specs.Told.{beginning_told, events_told, tale_of, told}
 use Rattle.ilk_replay.specs.Writable.{HasNoBadLine, HasSubject, IsAbout, IsOfPlant, IsSomeText, IsTextOf}
 use Rattle.ilk_replay.specs.declared.event_line.Subject.{Subject}
@@ -36,7 +35,7 @@ use Rattle.ilk_replay.proofs.PlainNames.{plain_names}
 use Rattle.ilk_replay.proofs.Shape.{shaped}
 use Rattle.ilk_replay.proofs.StartedBack.{started, started_back}
 use Rattle.ilk_replay.proofs.WholeBack.{resumed, resumed_back}
-use Rattle.ilk_replay.proofs.Written.{event_with-about, of_point, of_route, of_section, or_cases}
+use Rattle.ilk_replay.proofs.Written.{event_with-about, of_point, of_route, of_section}
 use Rattle.ilk_replay.proofs.WrittenRun.{answered, made, text_written}
 
 -- a name that is known has a number below the count of the names

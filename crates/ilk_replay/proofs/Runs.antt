@@ -1,7 +1,6 @@
 -- Runs, taken apart, and the least number that passes a test.
-use Rattle.std.proofs.Common.{◌≡◌, ℕ, ◌+◌, ◌<◌, ◌≤◌, Bool, true, false, Option, Some, None, List, [], ◌∷◌, length, take, slice_get, is_none, find, unwrap_or, refl, sym, ap, ◌∙◌, arith, subst, suc, zero, inl, inr, get_or, is_some, add-one}
+use Rattle.std.proofs.Common.{◌≡◌, ℕ, ◌+◌, ◌<◌, ◌≤◌, false, Option, Some, None, List, [], ◌∷◌, length, take, slice_get, is_none, find, unwrap_or, refl, sym, ap, ◌∙◌, arith, subst, suc, zero, get_or, is_some, add-one}
 use Rattle.std.specs.List.{range_with_len}
-use Rattle.std.proofs.Math.Nat.{eq-or-lt_of_le}
 use Rattle.std.proofs.lemmas.List.{take_all}
 use Rattle.std.proofs.lemmas.Option.{same_Some, slice_get_within, slice_get-get_or}
 use Rattle.ilk_base.specs.Option.{◌>>=◌}
@@ -11,20 +10,8 @@ use Rattle.ilk_model.specs.Run.{run, step}
 use Rattle.ilk_model.specs.declared.event.Event.{Event}
 use Rattle.ilk_replay.specs.Seen.{seen_of}
 use Rattle.ilk_replay.specs.declared.seen.Seen.TheVariants.{NotARun}
-
--- the least number of a range that passes the test is found
-pub find-least : (test : ℕ → Bool) (a n k : ℕ) → a ≤ k → k < a + n → test k ≡ true → ((j : ℕ) → a ≤ j → j < k → test j ≡ false) → find test (range_with_len a n) ≡ Some k
-find-least test a zero k above below passes least = absurd (omega arith)
-find-least test a (suc n) k above below passes least =
-    elim (eq-or-lt_of_le above) [
-      | inl here ↦ (let yes : test a ≡ true = ap test here ∙ passes in rw yes (ap Some here))
-      | inr later ↦ (let no : test a ≡ false = least a (omega arith) later in
-          rw no (find-least test (a + 1) n k (omega arith) (omega arith) passes (λ j after before. least j (omega arith) before)))
-    ]
-
-none-of : {A : Type 0} (o : Option A) → is_some o ≡ false → o ≡ None
-none-of None e = refl
-none-of (Some x) e = cc
+use Rattle.ilk_base.proofs.Options.{none-of}
+use Rattle.ilk_base.proofs.Ranges.{find-least}
 
 refused-after : (p : PlantLists) (t : State) (o : Option State) (events more : List Event) → ((u : State) → run p u events ≡ Some t → run p u more ≡ None) → (o >>= (λ u. run p u events)) ≡ Some t → (o >>= (λ u. run p u more)) ≡ None
 refused-after p t None events more f e = refl

@@ -1,16 +1,15 @@
 -- A state that lines tell has the plant's shape.
 use Rattle.std.proofs.Common.{◌≡◌, ℕ, ◌+◌, ◌≤◌, Bool, true, false, Option, Some, Ok, List, [], ◌∷◌, codes, length, filter, slice_get, cond, refl, sym, ap, ◌∙◌, arith, suc, add-zero, zero-add, subst}
-use Rattle.std.specs.List.{range_with_len}
+use Rattle.std.specs.List.{range_with_len, list_all}
 use Rattle.std.proofs.lemmas.List.FromFn.{length-range_with_len}
 use Rattle.std.proofs.lemmas.List.Sums.{length-filter}
 use Rattle.std.proofs.lemmas.Option.{cond_some, same_Some}
 use Rattle.ilk_base.proofs.Tested.{list_all-from_All}
-use Rattle.std.specs.List.{list_all}
 use Rattle.ilk_plant.proofs.Shapes.{fits_path-from_counts}
 use Rattle.ilk_base.specs.Option.{is_some_and}
 use Rattle.ilk_plant.specs.Shape.{HasShape, fits_path, is_body}
 use Rattle.ilk_plant.specs.Network.{is_point}
-use Rattle.ilk_plant.specs.Plant.{PlantLists, point_count}
+use Rattle.ilk_plant.specs.Plant.{PlantLists, point_count, is_point_section}
 use Rattle.ilk_plant.specs.declared.network.Section.{Section}
 use Rattle.ilk_plant.specs.declared.state.Aspect.{Aspect}
 use Rattle.ilk_plant.specs.declared.state.Hold.{Hold}
@@ -24,12 +23,12 @@ use Rattle.ilk_lines.specs.Reading.{each_told, leading, numbers_of}
 use Rattle.ilk_lines.specs.Words.{first_word, words_of}
 use Rattle.ilk_lines.proofs.Decimals.{decimal-within}
 use Rattle.ilk_lines.proofs.EachTold.{each_ok, value_at}
-use Rattle.ilk_lines.proofs.General.{bind_some, range_get}
+use Rattle.ilk_base.proofs.Options.{bind_some}
+use Rattle.ilk_base.proofs.Ranges.{range_get}
 use Rattle.ilk_lines.proofs.Leading.{leading_all}
 use Rattle.ilk_replay.specs.StateLine.{board_told, lock_told, point_told, route_said, route_told, said_of, sections_named, train_said, train_told}
 use Rattle.ilk_replay.specs.StateTold.{point_sections}
 use Rattle.ilk_plant.specs.Words.{mode_of_word}
-use Rattle.ilk_plant.specs.Plant.{is_point_section}
 
 said_within : (limit : ℕ) (text : Bytes) (now : RouteState) → route_said limit text ≡ Some now → (now.seen ≤ limit) × (now.rel ≤ limit)
 said_within limit text now e =

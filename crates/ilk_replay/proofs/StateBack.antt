@@ -10,7 +10,7 @@ use Rattle.ilk_lines.proofs.LineWords.{first_back, word_back}
 use Rattle.std.specs.Fmt.{decimal}
 use Rattle.std.proofs.lemmas.Option.{slice_get-get_or}
 use Rattle.ilk_base.specs.Option.{◌>>=◌, only_if}
-use Rattle.ilk_plant.specs.Plant.{IsPlant, PlantLists}
+use Rattle.ilk_plant.specs.Plant.{IsPlant, PlantLists, next_to}
 use Rattle.ilk_plant.specs.declared.network.Dir.{Dir}
 use Rattle.ilk_plant.specs.declared.network.Position.{Position}
 use Rattle.ilk_plant.specs.declared.state.Aspect.{Aspect}
@@ -27,7 +27,6 @@ use Rattle.ilk_replay.specs.RunText.{board_line, name_of, point_line, route_line
 use Rattle.ilk_replay.proofs.PlainNames.{HasPlainNames}
 use Rattle.ilk_plant.proofs.Shapes.{fits_path-counts}
 use Rattle.ilk_plant.specs.Network.{has_section}
-use Rattle.ilk_plant.specs.Plant.{next_to}
 use Rattle.ilk_plant.specs.Shape.{fits_path, is_body, leads_on}
 use Rattle.ilk_replay.proofs.ReadBack.{named_back}
 use Rattle.ilk_replay.proofs.StateWords.{aspect_back, direction_back, direction_lacks, hold_back, lie_back, lie_lacks, mode_back, mode_lacks, position_back}

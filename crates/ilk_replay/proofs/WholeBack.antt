@@ -5,14 +5,15 @@ use Rattle.ilk_lines.specs.Reading.{Part, after_line, each_told, leading_part, n
 use Rattle.ilk_lines.specs.Written.{Lacks, each_line, spaced, text_of}
 use Rattle.ilk_lines.proofs.Decimals.{decimal_lacks}
 use Rattle.ilk_lines.proofs.EachTold.{each_back, each_plain}
-use Rattle.ilk_lines.proofs.General.{item_at, passing_within, range_within}
+use Rattle.ilk_base.proofs.Lists.{item_at}
+use Rattle.ilk_base.proofs.Ranges.{passing_within, range_within}
 use Rattle.ilk_lines.proofs.Lacking.{lacks_append, lacks_spaced}
 use Rattle.ilk_lines.proofs.Leading.{leading_back, past_lines}
 use Rattle.ilk_lines.proofs.TextLines.{lines_back}
 use Rattle.std.specs.Fmt.{decimal}
 use Rattle.std.proofs.lemmas.List.Elements.{All-append, All-nil, All-cons}
 use Rattle.std.proofs.lemmas.List.FromFn.{length-range_with_len}
-use Rattle.ilk_plant.specs.Plant.{IsPlant, PlantLists}
+use Rattle.ilk_plant.specs.Plant.{IsPlant, PlantLists, is_point_section}
 use Rattle.ilk_plant.specs.Shape.{HasShape, is_body}
 use Rattle.ilk_base.proofs.Tested.{All-tested}
 use Rattle.ilk_plant.proofs.Shapes.{fits_path-counts}
@@ -25,7 +26,6 @@ use Rattle.ilk_plant.specs.declared.state.Train.{Train}
 use Rattle.ilk_model.specs.declared.event.Event.{Event}
 use Rattle.ilk_base.specs.Result.{◌>>=◌}
 use Rattle.ilk_replay.specs.StateLine.{board_told, lock_told, point_told, route_told, train_told}
-use Rattle.ilk_plant.specs.Plant.{is_point_section}
 use Rattle.ilk_replay.specs.Told.{events_told, tale_of, told}
 use Rattle.ilk_replay.specs.Writable.{IsAbout}
 use Rattle.ilk_replay.specs.StateTold.{Beginning, point_sections, state_told}

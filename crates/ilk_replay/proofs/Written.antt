@@ -1,5 +1,5 @@
 -- A line that tells something is the line that is written for it.
-use Rattle.std.proofs.Common.{◌≡◌, ℕ, Option, Some, None, List, [], get_or, slice_get, refl, sym, ap, ◌∙◌}
+use Rattle.std.proofs.Common.{◌≡◌, ℕ, Option, Some, List, [], get_or, slice_get, refl, sym, ap, ◌∙◌}
 use Rattle.std.specs.Option.{option_or}
 use Rattle.std.specs.Str.{bytes_eq}
 use Rattle.std.proofs.lemmas.List.Quantifiers.{position-Some}
@@ -8,7 +8,7 @@ use Rattle.std.proofs.lemmas.Slice.Eq.{bytes_eq-Decides}
 use Rattle.ilk_lines.specs.Lines.{Bytes}
 use Rattle.ilk_lines.specs.Words.{after_word, first_word}
 use Rattle.ilk_lines.specs.Written.{spaced}
-use Rattle.ilk_lines.proofs.General.{bind_some}
+use Rattle.ilk_base.proofs.Options.{bind_some, or_cases}
 use Rattle.ilk_lines.proofs.LineWords.{after_word-joins, first_word-joins}
 use Rattle.ilk_replay.proofs.WordTables.{Each, value_of_word-each, value_of_word-word}
 use Rattle.ilk_base.specs.Option.{◌>>=◌}
@@ -47,10 +47,6 @@ pub named-name : (names : List Bytes) (name : Bytes) (i : ℕ) → first_named n
 named-name names name i e =
     let found = position-Some (bytes_eq name) names i [] e in
     (bytes_eq-Decides name (get_or names i [])).0 found.1 ∙ sym (unwrap_or-slice_get names i [])
-
-pub or_cases : {A : Type 0} (P : Type 0) (a b : Option A) (x : A) → option_or a b ≡ Some x → (a ≡ Some x → P) → (b ≡ Some x → P) → P
-or_cases P None b x e left right = right e
-or_cases P (Some y) b x e left right = left e
 
 -- the events that a word and a name tell of a route, of a point, and of trains at a section
 abbrev pub of_route : PlantLists → Bytes → Bytes → Option Event

@@ -9,7 +9,7 @@ use Rattle.ilk_lines.specs.Written.{each_line, spaced, text_of}
 use Rattle.ilk_lines.proofs.Decimals.{decimal-written}
 use Rattle.ilk_lines.proofs.EachTold.{after_line-joins, at_the_end-ends, told_lines}
 use Rattle.ilk_base.proofs.Results.{bind_ok, ok_is}
-use Rattle.ilk_lines.proofs.General.{bind_some}
+use Rattle.ilk_base.proofs.Options.{bind_some}
 use Rattle.ilk_lines.proofs.Leading.{leading_lines}
 use Rattle.ilk_lines.proofs.LineWords.{after_word-joins, first_word-joins, parts-joined}
 use Rattle.ilk_lines.proofs.TextLines.{text-lines}

@@ -1,13 +1,12 @@
 -- Which runs have a text that tells them.
 use Rattle.std.specs.Prelude.{ℕ, ◌≡◌, ◌≢◌, ◌<◌, true, All, IsTrue, length}
-use Rattle.ilk_plant.specs.Plant.{PlantLists}
+use Rattle.ilk_plant.specs.Plant.{PlantLists, is_point_section}
 use Rattle.ilk_plant.specs.Start.{start}
 use Rattle.ilk_plant.specs.Shape.{HasShape}
 use Rattle.ilk_model.specs.declared.event.Event.{Event}
 use Rattle.ilk_lines.specs.Lines.{Bytes}
 use Rattle.ilk_replay.specs.EventWords.{subject}
 use Rattle.ilk_replay.specs.RunText.{run_text}
-use Rattle.ilk_plant.specs.Plant.{is_point_section}
 use Rattle.ilk_replay.specs.Told.{tale_of}
 use Rattle.ilk_replay.specs.declared.event_line.Subject.{Subject}
 use Rattle.ilk_replay.specs.declared.event_line.Subject.TheVariants.{Route, Point, Section}
