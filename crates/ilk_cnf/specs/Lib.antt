@@ -1,0 +1,4 @@
+pub mod Literal
+pub mod Formula
+pub mod Truth
+pub mod Extends
