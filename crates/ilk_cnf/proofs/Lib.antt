@@ -1,3 +1,5 @@
 pub mod Literals
 pub mod Distinct
 pub mod Parts
+pub mod Gates
+pub mod Extending

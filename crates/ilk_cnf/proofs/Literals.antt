@@ -16,7 +16,7 @@ vars_differ-push (m ∷ ls) l h k =
     let both : has_var m.var (ls ++ l ∷ []) ≡ false = list_any-append (λ (x : Literal). x.var == m.var) ls (l ∷ []) ∙ or_from _ _ none (or_from _ _ other refl) in
     and_from _ _ (not_from_false _ both) (vars_differ-push ls l parts.1 away.1)
 
-lit_in-more : (m n : ℕ) (l : Literal) → m ≤ n → lit_in m l ≡ true → lit_in n l ≡ true
+pub lit_in-more : (m n : ℕ) (l : Literal) → m ≤ n → lit_in m l ≡ true → lit_in n l ≡ true
 lit_in-more m n l le h =
     let parts = and_parts _ _ h in
     let here = leb-true l.var m parts.1 in

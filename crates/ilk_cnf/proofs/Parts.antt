@@ -17,7 +17,7 @@ value-new a b x v h = get_or_at (false ∷ a) x b false v (omega (arith, h))
 pub is_true-left : (a b : List Bool) (l : Literal) → l.var ≤ length a → is_true (a ++ b) l ≡ is_true a l
 is_true-left a b l h = ap (λ (x : Bool). cond l.positive x (not x)) (value-left a b l.var h)
 
-some_true-left : (a b : List Bool) (c : List Literal) → clause_in (length a) c ≡ true → some_true (a ++ b) c ≡ some_true a c
+pub some_true-left : (a b : List Bool) (c : List Literal) → clause_in (length a) c ≡ true → some_true (a ++ b) c ≡ some_true a c
 some_true-left a b [] h = refl
 some_true-left a b (l ∷ c) h =
     let parts = and_parts _ _ h in

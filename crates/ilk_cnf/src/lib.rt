@@ -8,9 +8,10 @@
 //!
 //! A formula is made by `Cnf::new` and grown by `fresh` and `add`. What is built of other parts may
 //! name one thing twice: `add_lits` takes any literals of the formula, and adds the clause that has
-//! each once, or none where the list can't be false. It is read by `vars`, `clauses` and `clause`.
+//! each once, or none where the list can't be false. `all_of` and `any_of` add a variable that
+//! stands for several literals. A formula is read by `vars`, `clauses` and `clause`.
 //!
-//! `specs/Extends` says how a part of a formula that adds variables and clauses extends the
+//! What is added in one go is a part (`specs/Part`), and `specs/Extends` says how a part extends the
 //! assignments of what stood before it. Parts that follow one another compose (`proofs/Parts`), so
 //! a law of a whole formula is made of the laws of its parts.
 #![tactic(auto)]
@@ -18,9 +19,11 @@
 mod assignment;
 mod clause;
 mod cnf;
+mod gate;
 mod lit;
 
 pub use assignment::Assignment;
 pub use clause::{Clause, Lits};
 pub use cnf::Cnf;
+pub use gate::{all_of, any_of};
 pub use lit::Lit;
