@@ -4,6 +4,7 @@ use Rattle.std.specs.List.{list_all}
 use Rattle.std.proofs.lemmas.List.{append-nil}
 use Rattle.std.proofs.lemmas.List.Folds.{list_all-append}
 use Rattle.std.proofs.lemmas.Bool.{and_parts, and_from, or_parts, or_from, or_left, cond_both, true≢false, eq-eqb, eqb-false, ne_eqb, not-true, not_from_false}
+use Rattle.ilk_cnf.proofs.General.{drop_at}
 use Rattle.ilk_cnf.specs.Literal.{Literal, has_lit, has_var, opposite}
 use Rattle.ilk_cnf.specs.Formula.{distinct, is_tautology, as_clause, clause_in, clauses_in}
 
@@ -79,10 +80,7 @@ reading_end ls kept r = rw (r.clash, r.literals) (ap (λ (c : List Literal). c �
 
 -- the same, where the rest is told by an index
 pub reading_at : (ls kept : List Literal) (i : ℕ) (l : Literal) → i < length ls → l ≡ get_or ls i l → Reading ls kept (drop i ls) → Reading ls kept (l ∷ drop (i + 1) ls)
-reading_at ls kept i l h e r =
-    let same : drop i ls ≡ l ∷ drop (i + 1) ls = drop-cons ls i l h ∙ ap (λ (m : Literal). m ∷ drop (suc i) ls) (sym e) ∙ ap (λ (n : ℕ). l ∷ drop n ls) (sym (add-one i)) in
-    let P : List Literal → Type 0 = λ rest. Reading ls kept rest in
-    subst P same r
+reading_at ls kept i l h e r = let P : List Literal → Type 0 = λ rest. Reading ls kept rest in subst P (drop_at ls i l h e) r
 
 -- the literals of the clause are among the given ones
 distinct_in : (n : ℕ) (ls : List Literal) → clause_in n ls ≡ true → clause_in n (distinct ls) ≡ true

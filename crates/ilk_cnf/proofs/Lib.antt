@@ -1,3 +1,4 @@
+pub mod General
 pub mod Literals
 pub mod Distinct
 pub mod Parts

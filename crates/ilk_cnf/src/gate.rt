@@ -11,8 +11,8 @@ use crate::cnf::Cnf;
 use crate::lit::Lit;
 use std::alloc::{AllocError, Global};
 
-// The literals, each turned to the other of its variable.
-fn opposites(alloc: Global, lits: &[Lit]) -> Result<Lits, AllocError>
+/// The literals, each turned to the other of its variable.
+pub fn opposites(alloc: Global, lits: &[Lit]) -> Result<Lits, AllocError>
     ensures { IfOk result (λ others. others ≡ map opposite lits.now) }
 {
     let mut others = Lits::new(alloc);

@@ -25,5 +25,5 @@ mod lit;
 pub use assignment::Assignment;
 pub use clause::{Clause, Lits};
 pub use cnf::Cnf;
-pub use gate::{all_of, any_of};
+pub use gate::{all_of, any_of, opposites};
 pub use lit::Lit;

@@ -1,0 +1,3 @@
+pub mod OneOfLaw
+pub mod BitsLaw
+pub mod NumberLaw
