@@ -149,3 +149,15 @@ pub has_value-exact : (a : List Bool) (first range v w : ℕ) → range ≤ 2 ^ 
 has_value-exact a first range v w enough hv hw is =
     let b = bit_count range in
     ap (λ (u : List Bool). same_bits u (bits_of b v)) is ∙ bits-test b w v (omega arith) (omega arith)
+
+-- an integer of range 2 is its one bit
+pub bit_is-exact : (a : List Bool) (first v : ℕ) → v < 2 → is_true a (record { var = first; positive = (v == 1) }) ≡ has_value a first 2 v
+bit_is-exact a first v less =
+    elim (cases_eq v 1) [
+      | inl is ↦ (let one : (v == 1) ≡ true = eq-eqb v 1 is in let odd : (v % 2 == 1) ≡ true = eq-eqb (v % 2) 1 (omega arith) in rw (one, odd) (and_end (value a first)))
+      | inr other ↦ (let one : (v == 1) ≡ false = ne_eqb v 1 other in let even : (v % 2 == 1) ≡ false = ne_eqb (v % 2) 1 (λ e. absurd (omega arith)) in rw (one, even) (and_end (not (value a first))))
+    ]
+  where
+    and_end : (p : Bool) → p ≡ (p && true)
+    and_end true = refl
+    and_end false = refl

@@ -1,3 +1,4 @@
 pub mod OneOfLaw
 pub mod BitsLaw
 pub mod NumberLaw
+pub mod AtMostLaw

@@ -62,12 +62,15 @@ pub rest-low : (s : Literal) (ls : List Literal) (n : ℕ) → n ≤ (one_of_res
 rest-low s [] n = omega arith
 rest-low s (l ∷ ls) n = let h = rest-low (plus (n + 1)) ls (n + 1) in omega arith
 
+more : (n : ℕ) → n ≤ n + 1
+more n = omega arith
+
 -- the literals of the next step
 pub next-in : (s l : Literal) (ls : List Literal) (n : ℕ) → clause_in n (s ∷ l ∷ ls) ≡ true → clause_in (n + 1) (plus (n + 1) ∷ ls) ≡ true
 next-in s l ls n h =
     let one = and_parts _ _ h in
     let two = and_parts _ _ one.1 in
-    and_from _ _ (new-in n true) (clause_in-more n (n + 1) ls (omega arith) two.1)
+    and_from _ _ (new-in n true) (clause_in-more n (n + 1) ls (more n) two.1)
 
 pub either-next-in : (s l : Literal) (ls : List Literal) (n : ℕ) → clause_in n (s ∷ l ∷ ls) ≡ true → clause_in (n + 1) (s ∷ l ∷ plus (n + 1) ∷ []) ≡ true
 either-next-in s l ls n h =
@@ -100,11 +103,12 @@ rest-law (l ∷ ls) a s p n size h sp =
     let li : l.var ≤ n = leb-true _ _ (and_parts _ _ two.0).1 in
     let q = is_true a l in
     let low = rest-low (plus (n + 1)) ls (n + 1) in
+    let fits : length a ≤ n + 1 = rw size (more n) in
     let here : length (a ++ (p || q) ∷ []) ≡ n + 1 = length-append a ((p || q) ∷ []) ∙ ap (λ (k : ℕ). k + 1) size in
     let same : map (is_true (a ++ (p || q) ∷ [])) ls ≡ map (is_true a) ls = map-left a ((p || q) ∷ []) ls (rw size two.1) in
     let next : Extends (a ++ (p || q) ∷ []) (one_of_rest (plus (n + 1)) ls (n + 1)).vars (one_of_rest (plus (n + 1)) ls (n + 1)).clauses (OnlyIf (one_true ((p || q) ∷ map (is_true a) ls)) (seen_after (p || q) (map (is_true a) ls))) =
     subst (λ (xs : List Bool). Extends (a ++ (p || q) ∷ []) (one_of_rest (plus (n + 1)) ls (n + 1)).vars (one_of_rest (plus (n + 1)) ls (n + 1)).clauses (OnlyIf (one_true ((p || q) ∷ xs)) (seen_after (p || q) xs))) same (rest-law ls (a ++ (p || q) ∷ []) (plus (n + 1)) (p || q) (n + 1) here (next-in s l ls n h) (value-new a [] (p || q) (n + 1) (ap (λ (k : ℕ). k + 1) size))) in
-    let both = if_then_if a ((p || q) ∷ []) (seen_after (p || q) (map (is_true a) ls)) (not (p && q)) (one_true ((p || q) ∷ map (is_true a) ls)) (n + 1) (one_of_rest (plus (n + 1)) ls (n + 1)).vars (either_of s l (plus (n + 1))) (one_of_rest (plus (n + 1)) ls (n + 1)).clauses (omega (arith, size)) low (either_of-in (n + 1) s l (plus (n + 1)) (either-next-in s l ls n h)) (either_of-law a s l p q (n + 1) (ap (λ (k : ℕ). k + 1) size) (rw size si) (rw size li) sp refl) (λ _. next) in
+    let both = if_then_if a ((p || q) ∷ []) (seen_after (p || q) (map (is_true a) ls)) (not (p && q)) (one_true ((p || q) ∷ map (is_true a) ls)) (n + 1) (one_of_rest (plus (n + 1)) ls (n + 1)).vars (either_of s l (plus (n + 1))) (one_of_rest (plus (n + 1)) ls (n + 1)).clauses fits low (either_of-in (n + 1) s l (plus (n + 1)) (either-next-in s l ls n h)) (either_of-law a s l p q (n + 1) (ap (λ (k : ℕ). k + 1) size) (rw size si) (rw size li) sp refl) (λ _. next) in
     subst (λ (o : Bool). Extends a (one_of_rest (plus (n + 1)) ls (n + 1)).vars (either_of s l (plus (n + 1)) ++ (one_of_rest (plus (n + 1)) ls (n + 1)).clauses) (OnlyIf o (seen_after p (q ∷ map (is_true a) ls)))) (one_true-step p q (map (is_true a) ls)) both
 
 pub one_of-law : (ls : List Literal) (a : List Bool) (n : ℕ) → length a ≡ n → clause_in n ls ≡ true → Extends a (one_of_part ls n).vars (one_of_part ls n).clauses (OnlyIf (one_true (map (is_true a) ls)) (one_of_bits (map (is_true a) ls)))

@@ -1,5 +1,5 @@
 -- Literals that say that an integer is at most some value.
-use Rattle.std.specs.Prelude.{ℕ, ◌+◌, ◌-◌, ◌^◌, ◌==◌, Bool, List, [], ◌∷◌, nat_le, min, if◌then◌else◌}
+use Rattle.std.specs.Prelude.{ℕ, ◌+◌, ◌-◌, ◌^◌, ◌==◌, Bool, List, [], ◌∷◌, nat_le, if◌then◌else◌}
 use Rattle.ilk_cnf.specs.Literal.{Literal, plus, minus}
 use Rattle.ilk_cnf.specs.Part.{Part, nothing_at, any_of_part}
 use Rattle.ilk_ints.specs.Bits.{bit_count}

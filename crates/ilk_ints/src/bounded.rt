@@ -4,7 +4,7 @@ ghost use Rattle.ilk_cnf.specs.Extends.{PartExtends, Only};
 ghost use Rattle.ilk_cnf.specs.Formula.{grown, as_clause};
 ghost use Rattle.ilk_cnf.specs.Literal.{opposite, plus};
 ghost use Rattle.ilk_cnf.specs.Part.{with_part, as_clauses};
-ghost use Rattle.ilk_cnf.specs.Truth.{satisfies};
+ghost use Rattle.ilk_cnf.specs.Truth.{is_true, satisfies};
 ghost use Rattle.ilk_ints.specs.Bits.{bit_count, bits_of, bits_at, bit_lits};
 ghost use Rattle.ilk_ints.specs.Number.{IsValue, ruled_out, number_part, is_part, has_value};
 
@@ -20,7 +20,7 @@ pub struct Bounded {
 }
 
 // How many bits the values below `range` need.
-fn bits(range: u8) -> u64
+pub(crate) fn bits(range: u8) -> u64
     ensures count { result ≡ bit_count range }
     ensures enough { range ≤ 2 ^ result }
     ensures few { result ≤ 8 }
@@ -128,6 +128,19 @@ pub fn is(alloc: Global, cnf: &mut Cnf, n: Bounded, value: u8) -> Result<Lit, Al
     let lits = lits_of(alloc, n.first, bits(n.range), u64::from(value))?;
     let lit = all_of(alloc, cnf, lits.as_slice())?;
     Ok(lit)
+}
+
+/// The literal that is true exactly where an integer of range 2 has the value: its one bit says so,
+/// and nothing is added.
+pub fn bit_is(n: Bounded, value: u8) -> Lit
+    requires range { n.range ≡ 2 }
+    requires value { value < 2 }
+    requires from_1 { 0 < n.first }
+    requires numbered { n.first ≤ 2 ^ 62 }
+    ensures lit { result ≡ record { var = n.first; positive = (value == 1) } }
+    ensures exact { (a : List Bool) → is_true a result ≡ has_value a n.first n.range value }
+{
+    Lit::new(n.first, value == 1)
 }
 
 /// The value that the integer has in the assignment.
