@@ -2,3 +2,4 @@ pub mod Bits
 pub mod Number
 pub mod OneOf
 pub mod AtMost
+pub mod Named
