@@ -1,0 +1,6 @@
+pub mod General
+pub mod Literals
+pub mod Distinct
+pub mod Parts
+pub mod Gates
+pub mod Extending

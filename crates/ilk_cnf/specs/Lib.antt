@@ -1,0 +1,5 @@
+pub mod Literal
+pub mod Formula
+pub mod Truth
+pub mod Part
+pub mod Extends

@@ -1,0 +1,104 @@
+ghost use Rattle.std.specs.Prelude.{◌≡◌, ◌<◌, ◌+◌, drop, ◌++◌, ◌∷◌, [], length, slice_get, option_to_list, Some, OnOk, OnErr, IfOk, IsTrue, false};
+ghost use Rattle.ilk_cnf.specs.Formula.{as_clause};
+ghost use Rattle.ilk_cnf.specs.Literal.{has_lit, has_var, vars_differ};
+
+use crate::lit::Lit;
+use ilk_base::Row;
+use std::alloc::{AllocError, Global};
+use std::marker::Model;
+
+/// A list of literals, in which a variable may stand twice.
+pub type Lits = Row<Lit>;
+
+/// A list of literals over different variables.
+#[derive(Drop)]
+pub struct Clause {
+    lits: Vec<Lit>,
+}
+
+impl Model for Clause {
+    ghost use Rattle.std.specs.Prelude.{List, IsTrue};
+    ghost use Rattle.ilk_cnf.specs.Literal.{Literal, vars_differ};
+
+    ghost Value = { List Literal };
+
+    ghost view = { λ c. c.lits.items };
+
+    ghost invariant = { λ c. IsTrue (vars_differ c.lits.items) };
+}
+
+impl Clause {
+    /// The clause of no literal, which is never true.
+    pub fn new(alloc: Global) -> Self
+        ensures { result ≡ [] }
+    {
+        Clause {
+            lits: Vec::new(alloc),
+        }
+    }
+
+    /// The clause that says that one of the literals is true, each literal once. `None` where the
+    /// list has both literals of a variable, so that one of them is true anyway.
+    pub fn of(alloc: Global, lits: &[Lit]) -> Result<Option<Clause>, AllocError>
+        ensures { IfOk result (λ clause. option_to_list clause ≡ as_clause lits.now) }
+    {
+        let mut clause = Clause::new(alloc);
+        for (i, lit) in lits.iter().enumerate() {
+            if stands_after(lits, i, lit.negated()) {
+                return Ok(None);
+            }
+            if !stands_after(lits, i, *lit) {
+                clause.push(*lit)?;
+            }
+        }
+        Ok(Some(clause))
+    }
+
+    /// Adds a literal at the end.
+    pub fn push(&mut self, item: Lit) -> Result<(), AllocError>
+        requires { has_var item.var self.old ≡ false }
+        ensures ok { OnOk result (self.new ≡ self.old ++ item ∷ []) }
+        ensures err { OnErr result (self.new ≡ self.old) }
+    {
+        self.lits.push(item)?;
+        Ok(())
+    }
+
+    /// Whether a literal of the variable stands in the clause.
+    pub fn has_var(&self, v: u64) -> bool
+        ensures { result ≡ has_var v self.now }
+    {
+        self.lits.iter().any(|lit| lit.var() == v)
+    }
+
+    /// How many literals there are.
+    pub fn len(&self) -> u64
+        ensures { result ≡ length self.now }
+    {
+        self.lits.len() as u64
+    }
+
+    /// Literal `i`.
+    pub fn at(&self, i: u64) -> &Lit
+        requires { i < length self.now }
+        ensures { slice_get self.now i ≡ Some result.now }
+    {
+        &self.lits[i as usize]
+    }
+
+    /// The literals.
+    pub fn as_slice(&self) -> &[Lit]
+        ensures items { result.now ≡ self.now }
+        ensures differ { IsTrue (vars_differ self.now) }
+    {
+        self.lits.as_slice()
+    }
+}
+
+// Whether the literal stands after entry `i`.
+fn stands_after(lits: &[Lit], i: usize, lit: Lit) -> bool
+    requires { i < length lits.now }
+    ensures { result ≡ has_lit lit (drop (i + 1) lits.now) }
+{
+    lits.iter().skip(i + 1).any(|other| lit.is(*other))
+}

@@ -1,0 +1,112 @@
+ghost use Rattle.std.specs.Prelude.{◌≡◌, ◌<◌, ◌≤◌, ◌+◌, ◌-◌, ◌^◌, ◌++◌, ◌∷◌, [], length, slice_get, Some, OnOk, OnErr, IfOk, IsTrue};
+ghost use Rattle.ilk_cnf.specs.Formula.{grown, as_clause, clause_in, IsFormula};
+ghost use Rattle.ilk_cnf.specs.Literal.{vars_differ};
+ghost use Rattle.ilk_cnf.specs.Truth.{satisfies};
+
+use crate::assignment::Assignment;
+use crate::clause::Clause;
+use crate::lit::Lit;
+use std::alloc::{AllocError, Global};
+use std::marker::Model;
+
+/// A formula: the variables 1 to `vars`, and clauses over them.
+#[derive(Drop)]
+pub struct Cnf {
+    // One entry for each variable: no two bytes of memory have one number, so there are at most
+    // 2^62 of them.
+    marks: Vec<u16>,
+    clauses: Vec<Clause>,
+}
+
+impl Model for Cnf {
+    ghost use Rattle.std.specs.Prelude.{length};
+    ghost use Rattle.ilk_cnf.specs.Formula.{Formula, IsFormula};
+
+    ghost Value = { Formula };
+
+    ghost view = { λ c. record { vars = length c.marks.items; clauses = c.clauses.items } };
+
+    ghost invariant = { λ c. IsFormula (record { vars = length c.marks.items; clauses = c.clauses.items }) };
+}
+
+impl Cnf {
+    /// The formula of no variable and no clause.
+    pub fn new(alloc: Global) -> Self
+        ensures { result ≡ record { vars = 0; clauses = [] } }
+    {
+        Cnf {
+            marks: Vec::new(alloc),
+            clauses: Vec::new(alloc),
+        }
+    }
+
+    /// Adds a variable, and gives its number.
+    pub fn fresh(&mut self) -> Result<u64, AllocError>
+        ensures ok { IfOk result (λ v. v ≡ self.old.vars + 1) }
+        ensures numbered { IfOk result (λ v. v ≤ 2 ^ 62) }
+        ensures grown { OnOk result (self.new ≡ grown self.old (self.old.vars + 1) []) }
+        ensures err { OnErr result (self.new ≡ self.old) }
+    {
+        self.marks.push(0)?;
+        Ok(self.marks.len() as u64)
+    }
+
+    /// Adds a clause at the end.
+    pub fn add(&mut self, clause: Clause) -> Result<(), AllocError>
+        requires { IsTrue (clause_in self.old.vars clause) }
+        ensures ok { OnOk result (self.new ≡ grown self.old self.old.vars (clause ∷ [])) }
+        ensures err { OnErr result (self.new ≡ self.old) }
+    {
+        let _ = clause.as_slice();
+        self.clauses.push(clause)?;
+        Ok(())
+    }
+
+    /// Demands that one of the literals is true: adds the clause that has each of them once, or
+    /// nothing where the list has both literals of a variable.
+    pub fn add_lits(&mut self, lits: &[Lit]) -> Result<(), AllocError>
+        requires { IsTrue (clause_in self.old.vars lits.now) }
+        ensures ok { OnOk result (self.new ≡ grown self.old self.old.vars (as_clause lits.now)) }
+        ensures err { OnErr result (self.new ≡ self.old) }
+    {
+        match Clause::of(*self.clauses.allocator(), lits)? {
+            Some(clause) => self.add(clause),
+            None => Ok(()),
+        }
+    }
+
+    /// How many variables there are.
+    pub fn vars(&self) -> u64
+        ensures count { result ≡ self.now.vars }
+        ensures numbered { result ≤ 2 ^ 62 }
+    {
+        self.marks.len() as u64
+    }
+
+    /// How many clauses there are.
+    pub fn clauses(&self) -> u64
+        ensures count { result ≡ length self.now.clauses }
+        ensures formula { IsFormula self.now }
+    {
+        self.clauses.len() as u64
+    }
+
+    /// Clause `n`, from 1.
+    pub fn clause(&self, n: u64) -> &Clause
+        requires from_1 { 0 < n }
+        requires within { n ≤ length self.now.clauses }
+        ensures clause { slice_get self.now.clauses (n - 1) ≡ Some result.now }
+        ensures within { IsTrue (clause_in self.now.vars result.now) }
+        ensures differ { IsTrue (vars_differ result.now) }
+    {
+        &self.clauses[n as usize - 1]
+    }
+
+    /// Whether each clause has a literal that the assignment makes true.
+    pub fn satisfies(&self, a: &Assignment) -> bool
+        requires { length a.now ≡ self.now.vars }
+        ensures { result ≡ satisfies a.now self.now.clauses }
+    {
+        self.clauses.iter().all(|clause| a.makes_some(clause))
+    }
+}

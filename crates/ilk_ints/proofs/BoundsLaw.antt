@@ -1,0 +1,249 @@
+-- The literals of an integer's bounds.
+use Rattle.std.proofs.Common.{◌≡◌, ℕ, ◌+◌, ◌-◌, ◌^◌, ◌<◌, ◌≤◌, zero, suc, Bool, true, false, List, [], ◌∷◌, ◌++◌, length, take, drop, get_or, map, cond, refl, inl, inr, sym, ap, ◌∙◌, subst, arith, eqb, leb, ltb, append_assoc}
+use Rattle.std.proofs.lemmas.List.{length-take-le}
+use Rattle.std.proofs.lemmas.List.Folds.{list_all-append}
+use Rattle.std.proofs.lemmas.Bool.{and_parts, and_from, cases_lt, le-leb, lt-leb, lt-ltb, le-ltb, leb-true, eq-eqb, ne_eqb}
+use Rattle.ilk_cnf.specs.Literal.{Literal, plus, minus}
+use Rattle.ilk_cnf.specs.Formula.{Formula, lit_in, clause_in, clauses_in}
+use Rattle.ilk_cnf.specs.Truth.{is_true}
+use Rattle.ilk_cnf.specs.Extends.{Extends, Only}
+use Rattle.ilk_cnf.specs.Part.{nothing_at, with_part, any_of_part}
+use Rattle.ilk_cnf.proofs.Literals.{clause_in-more, clauses_in-more}
+use Rattle.ilk_cnf.proofs.Parts.{is_true-left, one_by_one}
+use Rattle.ilk_cnf.proofs.Gates.{new-in, any_of-in, with_part-and_then}
+use Rattle.ilk_cnf.proofs.Extending.{no_more_if, only_from_if}
+use Rattle.ilk_ints.specs.Bits.{bit_count, bits_of, bits_at}
+use Rattle.ilk_ints.specs.AtMost.{highest_bit_says, at_most_part, at_most_lit, at_most_bits}
+use Rattle.ilk_ints.specs.Named.{value_bits, bound_count, bounds_from, bounds_part, bound_bits, bounds_bits}
+use Rattle.ilk_ints.proofs.OneOfLaw.{map-left}
+use Rattle.ilk_ints.proofs.ValuesLaw.{bits_at-left}
+use Rattle.ilk_ints.proofs.AtMostLaw.{at_most-law, at_most-exact, bits_some}
+
+-- one bound
+
+pub at_most-low : (range k n : ℕ) (below equal : Literal) → n ≤ (at_most_part range k below equal n).vars
+at_most-low range k n below equal = by_case (highest_bit_says range k)
+  where
+    by_case : (h : Bool) → n ≤ (cond h (nothing_at n) (any_of_part (below ∷ equal ∷ []) n)).vars
+    by_case true = omega arith
+    by_case false = omega arith
+
+pub at_most-in : (range k n : ℕ) (below equal : Literal) → clause_in n (below ∷ equal ∷ []) ≡ true → clauses_in (at_most_part range k below equal n).vars (at_most_part range k below equal n).clauses ≡ true
+at_most-in range k n below equal h = by_case (highest_bit_says range k)
+  where
+    by_case : (b : Bool) → clauses_in (cond b (nothing_at n) (any_of_part (below ∷ equal ∷ []) n)).vars (cond b (nothing_at n) (any_of_part (below ∷ equal ∷ []) n)).clauses ≡ true
+    by_case true = refl
+    by_case false = any_of-in n (below ∷ equal ∷ []) h
+
+pub at_most-lit_in : (first range k n : ℕ) (below equal : Literal) → 0 < first → 0 < bit_count range → first + bit_count range ≤ n + 1 → lit_in (at_most_part range k below equal n).vars (at_most_lit first range k n) ≡ true
+at_most-lit_in first range k n below equal low some high = by_case (highest_bit_says range k)
+  where
+    by_case : (b : Bool) → lit_in (cond b (nothing_at n) (any_of_part (below ∷ equal ∷ []) n)).vars (cond b (minus (first + (bit_count range - 1))) (plus (n + 1))) ≡ true
+    by_case true = and_from _ _ (lt-ltb 0 (first + (bit_count range - 1)) (omega arith)) (le-leb (first + (bit_count range - 1)) n (omega arith))
+    by_case false = new-in n true
+
+below_next : (w k : ℕ) → leb w k ≡ ltb w (k + 1)
+below_next w k =
+    elim (cases_lt k w) [
+      | inl past ↦ lt-leb w k past ∙ sym (le-ltb w (k + 1) (omega arith))
+      | inr upto ↦ le-leb w k upto ∙ sym (lt-ltb w (k + 1) (omega arith))
+    ]
+
+-- all of them
+
+pub bounds-low : (es : List Literal) (first range k n : ℕ) (below : Literal) → n ≤ (bounds_from first range below k es n).part.vars
+bounds-low [] first range k n below = omega arith
+bounds-low (e ∷ es) first range k n below =
+    let one = at_most-low range k n below e in
+    let rest = bounds-low es first range (k + 1) (at_most_part range k below e n).vars (at_most_lit first range k n) in
+    omega arith
+
+-- one bound more
+pub next-inside : (first range k n : ℕ) (below e : Literal) (es : List Literal) → 0 < first → 0 < bit_count range → first + bit_count range ≤ n + 1 → clause_in n (below ∷ e ∷ es) ≡ true → clause_in (at_most_part range k below e n).vars (at_most_lit first range k n ∷ es) ≡ true
+next-inside first range k n below e es low some high h =
+    let rest = (and_parts _ _ (and_parts _ _ h).1).1 in
+    and_from _ _ (at_most-lit_in first range k n below e low some high) (clause_in-more n (at_most_part range k below e n).vars es (at_most-low range k n below e) rest)
+
+pub two-inside : (n : ℕ) (below e : Literal) (es : List Literal) → clause_in n (below ∷ e ∷ es) ≡ true → clause_in n (below ∷ e ∷ []) ≡ true
+two-inside n below e es h =
+    let one = and_parts _ _ h in
+    and_from _ _ one.0 (and_from _ _ (and_parts _ _ one.1).0 refl)
+
+pub bounds-in : (es : List Literal) (first range k n : ℕ) (below : Literal) → 0 < first → 0 < bit_count range → first + bit_count range ≤ n + 1 → clause_in n (below ∷ es) ≡ true → clauses_in (bounds_from first range below k es n).part.vars (bounds_from first range below k es n).part.clauses ≡ true
+bounds-in [] first range k n below low some high h = refl
+bounds-in (e ∷ es) first range k n below low some high h =
+    let p = at_most_part range k below e n in
+    let l = at_most_lit first range k n in
+    let rest = bounds_from first range l (k + 1) es p.vars in
+    let grows = at_most-low range k n below e in
+    let end = bounds-low es first range (k + 1) p.vars l in
+    list_all-append (clause_in rest.part.vars) p.clauses rest.part.clauses
+    ∙ and_from _ _ (clauses_in-more p.vars rest.part.vars p.clauses end (at_most-in range k n below e (two-inside n below e es h))) (bounds-in es first range (k + 1) p.vars l low some (omega arith) (next-inside first range k n below e es low some high h))
+
+pub bounds-law : (es : List Literal) (a : List Bool) (first range k w n : ℕ) (below : Literal) → length a ≡ n → 0 < first → 0 < bit_count range → first + bit_count range ≤ n + 1 → range ≤ 2 ^ bit_count range → w < range → bits_at a first (bit_count range) ≡ bits_of (bit_count range) w → clause_in n (below ∷ es) ≡ true → is_true a below ≡ ltb w k → map (is_true a) es ≡ value_bits w k (length es) → Extends a (bounds_from first range below k es n).part.vars (bounds_from first range below k es n).part.clauses (Only (bounds_bits range w k (length es)))
+bounds-law [] a first range k w n below size low some high enough less is inside under same = only_from_if a n [] [] (no_more_if a n [] true size refl)
+bounds-law (e ∷ es) a first range k w n below size low some high enough less is inside under same =
+    let p = at_most_part range k below e n in
+    let l = at_most_lit first range k n in
+    let b = at_most_bits range k w in
+    let rest = bounds_from first range l (k + 1) es p.vars in
+    let here : is_true a e ≡ eqb w k = first_of (is_true a e) (eqb w k) (map (is_true a) es) (value_bits w (k + 1) (length es)) same in
+    let others : map (is_true a) es ≡ value_bits w (k + 1) (length es) = rest_of (is_true a e) (eqb w k) (map (is_true a) es) (value_bits w (k + 1) (length es)) same in
+    let one : Extends a p.vars p.clauses (Only b) = at_most-law a range k w n below e size (two-inside n below e es inside) under here in
+    let long : length (a ++ b) ≡ p.vars = one.sized b refl in
+    let grows : n ≤ p.vars = at_most-low range k n below e in
+    let kept : bits_at (a ++ b) first (bit_count range) ≡ bits_of (bit_count range) w = bits_at-left (bit_count range) a b first (rw size high) ∙ is in
+    let next_under : is_true (a ++ b) l ≡ ltb w (k + 1) = at_most-exact a first range k w n size some enough less is ∙ below_next w k in
+    let next_same : map (is_true (a ++ b)) es ≡ value_bits w (k + 1) (length es) = map-left a b es (rw size (and_parts _ _ (and_parts _ _ inside).1).1) ∙ others in
+    let next = bounds-law es (a ++ b) first range (k + 1) w p.vars l long low some (omega (arith, high, grows)) enough less kept (next-inside first range k n below e es low some high inside) next_under next_same in
+    let fits : length a ≤ p.vars = rw size grows in
+    one_by_one a b (bounds_bits range w (k + 1) (length es)) p.vars rest.part.vars p.clauses rest.part.clauses fits (bounds-low es first range (k + 1) p.vars l) (at_most-in range k n below e (two-inside n below e es inside)) one next
+  where
+    first_of : (p q : Bool) (ps qs : List Bool) → p ∷ ps ≡ q ∷ qs → p ≡ q
+    first_of p q ps qs h = cc
+
+    rest_of : (p q : Bool) (ps qs : List Bool) → p ∷ ps ≡ q ∷ qs → ps ≡ qs
+    rest_of p q ps qs h = cc
+
+-- and the literals say so, whatever follows
+pub bounds-say : (es : List Literal) (a c : List Bool) (first range k w n : ℕ) (below : Literal) → length a ≡ n → 0 < first → 0 < bit_count range → first + bit_count range ≤ n + 1 → range ≤ 2 ^ bit_count range → w < range → bits_at a first (bit_count range) ≡ bits_of (bit_count range) w → clause_in n (below ∷ es) ≡ true → is_true a below ≡ ltb w k → map (is_true a) es ≡ value_bits w k (length es) → map (is_true (a ++ (bounds_bits range w k (length es) ++ c))) (bounds_from first range below k es n).lits ≡ bound_bits w k (length es)
+bounds-say [] a c first range k w n below size low some high enough less is inside under same = refl
+bounds-say (e ∷ es) a c first range k w n below size low some high enough less is inside under same =
+    let p = at_most_part range k below e n in
+    let l = at_most_lit first range k n in
+    let b = at_most_bits range k w in
+    let d = bounds_bits range w (k + 1) (length es) in
+    let here : is_true a e ≡ eqb w k = first_of (is_true a e) (eqb w k) (map (is_true a) es) (value_bits w (k + 1) (length es)) same in
+    let others : map (is_true a) es ≡ value_bits w (k + 1) (length es) = rest_of (is_true a e) (eqb w k) (map (is_true a) es) (value_bits w (k + 1) (length es)) same in
+    let one : Extends a p.vars p.clauses (Only b) = at_most-law a range k w n below e size (two-inside n below e es inside) under here in
+    let long : length (a ++ b) ≡ p.vars = one.sized b refl in
+    let grows : n ≤ p.vars = at_most-low range k n below e in
+    let kept : bits_at (a ++ b) first (bit_count range) ≡ bits_of (bit_count range) w = bits_at-left (bit_count range) a b first (rw size high) ∙ is in
+    let says : is_true (a ++ b) l ≡ leb w k = at_most-exact a first range k w n size some enough less is in
+    let next_same : map (is_true (a ++ b)) es ≡ value_bits w (k + 1) (length es) = map-left a b es (rw size (and_parts _ _ (and_parts _ _ inside).1).1) ∙ others in
+    let rest = bounds-say es (a ++ b) c first range (k + 1) w p.vars l long low some (omega (arith, high, grows)) enough less kept (next-inside first range k n below e es low some high inside) (says ∙ below_next w k) next_same in
+    let whole : (a ++ b) ++ (d ++ c) ≡ a ++ ((b ++ d) ++ c) = append_assoc a b (d ++ c) ∙ ap (λ (u : List Bool). a ++ u) (sym (append_assoc b d c)) in
+    let var_in : l.var ≤ length (a ++ b) = rw long (leb-true _ _ (and_parts _ _ (at_most-lit_in first range k n below e low some high)).1) in
+    let head : is_true (a ++ ((b ++ d) ++ c)) l ≡ leb w k = subst (λ (u : List Bool). is_true u l ≡ leb w k) whole (is_true-left (a ++ b) (d ++ c) l var_in ∙ says) in
+    let tail : map (is_true (a ++ ((b ++ d) ++ c))) (bounds_from first range l (k + 1) es p.vars).lits ≡ bound_bits w (k + 1) (length es) = subst (λ (u : List Bool). map (is_true u) (bounds_from first range l (k + 1) es p.vars).lits ≡ bound_bits w (k + 1) (length es)) whole rest in
+    join head tail
+  where
+    first_of : (p q : Bool) (ps qs : List Bool) → p ∷ ps ≡ q ∷ qs → p ≡ q
+    first_of p q ps qs h = cc
+
+    rest_of : (p q : Bool) (ps qs : List Bool) → p ∷ ps ≡ q ∷ qs → ps ≡ qs
+    rest_of p q ps qs h = cc
+
+    join : {p q : Bool} {ps qs : List Bool} → p ≡ q → ps ≡ qs → p ∷ ps ≡ q ∷ qs
+    join h k = cc
+
+-- one step of the walk over the literals
+pub bounds_step : (f g : Formula) (lits whole : List Literal) (first range k : ℕ) (below l e : Literal) (es rest : List Literal) → es ≡ e ∷ rest → 0 < first → 0 < bit_count range → first + bit_count range ≤ f.vars + 1 → clause_in f.vars (below ∷ es) ≡ true → l ≡ at_most_lit first range k f.vars → g ≡ with_part f (at_most_part range k below e f.vars) → lits ++ (bounds_from first range below k es f.vars).lits ≡ whole → (first + bit_count range ≤ g.vars + 1) × (clause_in g.vars (l ∷ rest) ≡ true) × ((lits ++ l ∷ []) ++ (bounds_from first range l (k + 1) rest g.vars).lits ≡ whole) × (with_part g (bounds_from first range l (k + 1) rest g.vars).part ≡ with_part f (bounds_from first range below k es f.vars).part)
+bounds_step f g lits whole first range k below l e es rest split low some high inside is made h =
+    let n = f.vars in
+    let p = at_most_part range k below e n in
+    let m = at_most_lit first range k n in
+    let vars : g.vars ≡ p.vars = ap (λ (u : Formula). u.vars) made in
+    let grows : n ≤ p.vars = at_most-low range k n below e in
+    let whole_in : clause_in n (below ∷ e ∷ rest) ≡ true = ap (λ (us : List Literal). clause_in n (below ∷ us)) (sym split) ∙ inside in
+    let next_in : clause_in p.vars (m ∷ rest) ≡ true = next-inside first range k n below e rest low some high whole_in in (
+      omega (arith, vars, grows, high),
+      ap (λ (u : ℕ). clause_in u (l ∷ rest)) vars ∙ ap (λ (u : Literal). clause_in p.vars (u ∷ rest)) is ∙ next_in,
+      append_assoc lits (l ∷ []) (bounds_from first range l (k + 1) rest g.vars).lits
+          ∙ ap (λ (u : Literal). lits ++ u ∷ (bounds_from first range u (k + 1) rest g.vars).lits) is
+          ∙ ap (λ (u : ℕ). lits ++ m ∷ (bounds_from first range m (k + 1) rest u).lits) vars
+          ∙ ap (λ (us : List Literal). lits ++ (bounds_from first range below k us n).lits) (sym split)
+          ∙ h,
+      ap (λ (u : Literal). with_part g (bounds_from first range u (k + 1) rest g.vars).part) is
+          ∙ ap (λ (u : Formula). with_part u (bounds_from first range m (k + 1) rest u.vars).part) made
+          ∙ with_part-and_then f p (λ u. (bounds_from first range m (k + 1) rest u).part)
+          ∙ ap (λ (us : List Literal). with_part f (bounds_from first range below k us n).part) (sym split),
+    )
+
+-- the bounds of a range
+
+few_bounds : (range : ℕ) → bound_count range ≤ range - 3
+few_bounds range = omega arith
+
+clause_in-take : (n k : ℕ) (ls : List Literal) → clause_in n ls ≡ true → clause_in n (take k ls) ≡ true
+clause_in-take n zero ls h = refl
+clause_in-take n (suc k) [] h = refl
+clause_in-take n (suc k) (l ∷ ls) h = let parts = and_parts _ _ h in and_from _ _ parts.0 (clause_in-take n k ls parts.1)
+
+pub some-inside : (n k : ℕ) (e : Literal) (es : List Literal) → clause_in n (e ∷ es) ≡ true → clause_in n (e ∷ take k es) ≡ true
+some-inside n k e es h = let parts = and_parts _ _ h in and_from _ _ parts.0 (clause_in-take n k es parts.1)
+
+take-says : (k : ℕ) (a : List Bool) (w v r : ℕ) (es : List Literal) → map (is_true a) es ≡ value_bits w v r → map (is_true a) (take k es) ≡ value_bits w v (length (take k es))
+take-says zero a w v r es h = refl
+take-says (suc k) a w v r [] h = refl
+take-says (suc k) a w v zero (e ∷ es) h = cc
+take-says (suc k) a w v (suc r) (e ∷ es) h =
+    let here : is_true a e ≡ eqb w v = head_of (is_true a e) (eqb w v) (map (is_true a) es) (value_bits w (v + 1) r) h in
+    let rest = take-says k a w (v + 1) r es (tail_of (is_true a e) (eqb w v) (map (is_true a) es) (value_bits w (v + 1) r) h) in
+    join here rest
+  where
+    head_of : (p q : Bool) (ps qs : List Bool) → p ∷ ps ≡ q ∷ qs → p ≡ q
+    head_of p q ps qs h = cc
+
+    tail_of : (p q : Bool) (ps qs : List Bool) → p ∷ ps ≡ q ∷ qs → ps ≡ qs
+    tail_of p q ps qs h = cc
+
+    join : {p q : Bool} {ps qs : List Bool} → p ≡ q → ps ≡ qs → p ∷ ps ≡ q ∷ qs
+    join h k = cc
+
+-- what both laws of the bounds need of the literals of the values
+record Ready (a : List Bool) (first range w n : ℕ) (e : Literal) (es : List Literal) : Type 0 where
+  pub count : length (take (bound_count range) es) ≡ bound_count range
+  pub inside : clause_in n (e ∷ take (bound_count range) es) ≡ true
+  pub under : is_true a e ≡ ltb w 1
+  pub same : map (is_true a) (take (bound_count range) es) ≡ value_bits w 1 (length (take (bound_count range) es))
+
+ready : (a : List Bool) (first range w n : ℕ) (e : Literal) (es : List Literal) → length (e ∷ es) ≡ range → clause_in n (e ∷ es) ≡ true → map (is_true a) (e ∷ es) ≡ value_bits w 0 range → Ready a first range w n e es
+ready a first range w n e es all inside says =
+    let whole : is_true a e ∷ map (is_true a) es ≡ eqb w 0 ∷ value_bits w 1 (length es) = says ∙ ap (value_bits w 0) (sym all) in
+    record {
+      count = length-take-le (bound_count range) es (omega (arith, few_bounds range, all));
+      inside = some-inside n (bound_count range) e es inside;
+      under = head_of (is_true a e) (eqb w 0) (map (is_true a) es) (value_bits w 1 (length es)) whole ∙ zero_below w;
+      same = take-says (bound_count range) a w 1 (length es) es (tail_of (is_true a e) (eqb w 0) (map (is_true a) es) (value_bits w 1 (length es)) whole);
+    }
+  where
+    head_of : (p q : Bool) (ps qs : List Bool) → p ∷ ps ≡ q ∷ qs → p ≡ q
+    head_of p q ps qs h = cc
+
+    tail_of : (p q : Bool) (ps qs : List Bool) → p ∷ ps ≡ q ∷ qs → ps ≡ qs
+    tail_of p q ps qs h = cc
+
+    zero_below : (w : ℕ) → eqb w 0 ≡ ltb w 1
+    zero_below w = elim (cases_lt w 1) [ inl low ↦ eq-eqb w 0 (omega arith) ∙ sym (lt-ltb w 1 low) | inr high ↦ ne_eqb w 0 (λ e. absurd (omega arith)) ∙ sym (le-ltb w 1 high) ]
+
+pub bounds_part-law : (values : List Literal) (a : List Bool) (first range w n : ℕ) → length a ≡ n → 0 < first → first + bit_count range ≤ n + 1 → range ≤ 2 ^ bit_count range → length values ≡ range → clause_in n values ≡ true → w < range → bits_at a first (bit_count range) ≡ bits_of (bit_count range) w → map (is_true a) values ≡ value_bits w 0 range → Extends a (bounds_part first range values n).part.vars (bounds_part first range values n).part.clauses (Only (bounds_bits range w 1 (bound_count range)))
+bounds_part-law [] a first range w n size low high enough all inside less is says = absurd (omega arith)
+bounds_part-law (e ∷ es) a first range w n size low high enough all inside less is says =
+    elim (cases_lt 1 range) [
+      | inl more ↦
+          (let r = ready a first range w n e es all inside says in
+          subst (λ (j : ℕ). Extends a (bounds_part first range (e ∷ es) n).part.vars (bounds_part first range (e ∷ es) n).part.clauses (Only (bounds_bits range w 1 j))) r.count (bounds-law (take (bound_count range) es) a first range 1 w n e size low (bits_some range (bit_count range) more enough) high enough less is r.inside r.under r.same))
+      | inr one ↦
+          (let none : 0 ≡ bound_count range = omega (arith, few_bounds range) in
+          subst (λ (j : ℕ). Extends a (bounds_from first range e 1 (take j es) n).part.vars (bounds_from first range e 1 (take j es) n).part.clauses (Only (bounds_bits range w 1 j))) none (only_from_if a n [] [] (no_more_if a n [] true size refl)))
+    ]
+
+pub bounds_part-say : (values : List Literal) (a c : List Bool) (first range w n : ℕ) → length a ≡ n → 0 < first → first + bit_count range ≤ n + 1 → range ≤ 2 ^ bit_count range → length values ≡ range → clause_in n values ≡ true → w < range → bits_at a first (bit_count range) ≡ bits_of (bit_count range) w → map (is_true a) values ≡ value_bits w 0 range → map (is_true (a ++ (bounds_bits range w 1 (bound_count range) ++ c))) (bounds_part first range values n).lits ≡ bound_bits w 1 (bound_count range)
+bounds_part-say [] a c first range w n size low high enough all inside less is says = absurd (omega arith)
+bounds_part-say (e ∷ es) a c first range w n size low high enough all inside less is says =
+    elim (cases_lt 1 range) [
+      | inl more ↦
+          (let r = ready a first range w n e es all inside says in
+          subst (λ (j : ℕ). map (is_true (a ++ (bounds_bits range w 1 j ++ c))) (bounds_part first range (e ∷ es) n).lits ≡ bound_bits w 1 j) r.count (bounds-say (take (bound_count range) es) a c first range 1 w n e size low (bits_some range (bit_count range) more enough) high enough less is r.inside r.under r.same))
+      | inr one ↦
+          (let none : 0 ≡ bound_count range = omega (arith, few_bounds range) in
+          subst (λ (j : ℕ). map (is_true (a ++ (bounds_bits range w 1 j ++ c))) (bounds_from first range e 1 (take j es) n).lits ≡ bound_bits w 1 j) none refl)
+    ]
+
+-- the same, where the first literal and the others are told by index
+pub split-inside : (n k m : ℕ) (values : List Literal) (e : Literal) → 1 ≤ length values → e ≡ get_or values 0 e → clause_in n values ≡ true → clause_in n (e ∷ take k (take m (drop 1 values))) ≡ true
+split-inside n k m [] e some is h = absurd (omega arith)
+split-inside n k m (x ∷ xs) e some is h =
+    let parts = and_parts _ _ h in
+    and_from _ _ (ap (lit_in n) is ∙ parts.0) (clause_in-take n k (take m xs) (clause_in-take n m xs parts.1))

@@ -1,0 +1,6 @@
+pub mod OneOfLaw
+pub mod BitsLaw
+pub mod NumberLaw
+pub mod AtMostLaw
+pub mod ValuesLaw
+pub mod BoundsLaw

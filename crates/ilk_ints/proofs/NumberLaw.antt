@@ -1,0 +1,159 @@
+-- A bounded integer has exactly the values below its range.
+use Rattle.std.proofs.Common.{◌≡◌, ℕ, ◌+◌, ◌-◌, ◌*◌, ◌^◌, ◌<◌, ◌≤◌, zero, suc, Bool, true, false, not, ◌&&◌, List, [], ◌∷◌, ◌++◌, length, map, cond, refl, inl, inr, sym, ap, ◌∙◌, subst, arith, add-one, length-append, append_assoc}
+use mir.Val.{bool_byte}
+use Rattle.std.specs.List.{list_all, range_with_len}
+use Rattle.std.proofs.Math.Pow.{pow_mono}
+use Rattle.std.proofs.lemmas.Bool.{and_parts, and_from, ne_eqb, cases_eq, cases_lt, false≢true}
+use Rattle.ilk_cnf.specs.Literal.{Literal, opposite}
+use Rattle.ilk_cnf.specs.Formula.{Formula, grown, as_clause, clause_in, clauses_in}
+use Rattle.ilk_cnf.specs.Truth.{value, some_true, satisfies}
+use Rattle.ilk_cnf.specs.Extends.{Extends}
+use Rattle.ilk_cnf.specs.Part.{as_clauses}
+use Rattle.ilk_cnf.proofs.Parts.{value-new}
+use Rattle.ilk_cnf.proofs.Gates.{some_true-opposites, opposites-in, satisfies-as_clauses}
+use Rattle.ilk_ints.specs.Bits.{bit_count, bits_of, bits_at, bit_lits, same_bits}
+use Rattle.ilk_ints.specs.Number.{value_lits, ruled_out, number_part, has_value, IsValue}
+use Rattle.ilk_ints.proofs.BitsLaw.{number_of, number-less, number-bits, bits-number, bits-twice, pow-suc, length-bits, same_bits-self, bits-test, value_lits-say, value_lits-in}
+
+-- numbers from a on
+
+each-range : (p : ℕ → Bool) (n a i : ℕ) → list_all p (range_with_len a n) ≡ true → a ≤ i → i < a + n → p i ≡ true
+each-range p zero a i h low high = absurd (omega arith)
+each-range p (suc n) a i h low high =
+    elim (cases_eq a i) [
+      | inl same ↦ subst (λ (u : ℕ). p u ≡ true) same (and_parts _ _ h).0
+      | inr other ↦ each-range p n (a + 1) i (and_parts _ _ h).1 (omega arith) (omega arith)
+    ]
+
+range-each : (p : ℕ → Bool) (n a : ℕ) → ((i : ℕ) → a ≤ i → i < a + n → p i ≡ true) → list_all p (range_with_len a n) ≡ true
+range-each p zero a h = refl
+range-each p (suc n) a h = and_from _ _ (h a (omega arith) (omega arith)) (range-each p n (a + 1) (λ i low high. h i (omega arith) (omega arith)))
+
+satisfies-map : (a : List Bool) (f : ℕ → List Literal) (vs : List ℕ) → satisfies a (map f vs) ≡ list_all (λ v. some_true a (f v)) vs
+satisfies-map a f [] = refl
+satisfies-map a f (v ∷ vs) = ap (λ (r : Bool). some_true a (f v) && r) (satisfies-map a f vs)
+
+clauses_in-map : (n : ℕ) (f : ℕ → List Literal) (vs : List ℕ) → ((v : ℕ) → clause_in n (f v) ≡ true) → clauses_in n (map f vs) ≡ true
+clauses_in-map n f [] h = refl
+clauses_in-map n f (v ∷ vs) h = and_from _ _ (h v) (clauses_in-map n f vs h)
+
+-- bits of an assignment
+
+length-bits_at : (a : List Bool) (b first : ℕ) → length (bits_at a first b) ≡ b
+length-bits_at a zero first = refl
+length-bits_at a (suc b) first = ap suc (length-bits_at a b (first + 1))
+
+-- new variables have their new values
+pub bits_at-new : (d a : List Bool) (first : ℕ) → length a + 1 ≡ first → bits_at (a ++ d) first (length d) ≡ d
+bits_at-new [] a first size = refl
+bits_at-new (q ∷ d) a first size =
+    let here : value (a ++ q ∷ d) first ≡ q = value-new a d q first size in
+    let longer : length (a ++ q ∷ []) + 1 ≡ first + 1 = omega (arith, length-append a (q ∷ []), size) in
+    let rest : bits_at (a ++ q ∷ d) (first + 1) (length d) ≡ d = subst (λ (u : List Bool). bits_at u (first + 1) (length d) ≡ d) (append_assoc a (q ∷ []) d) (bits_at-new d (a ++ q ∷ []) (first + 1) longer) in
+    rw (here, rest) refl
+
+-- the list that rules a pattern out
+ruled-says : (a : List Bool) (first range v : ℕ) → some_true a (map opposite (value_lits first range v)) ≡ not (has_value a first range v)
+ruled-says a first range v = some_true-opposites a (value_lits first range v) ∙ ap not (value_lits-say a first range v)
+
+-- where every other pattern is ruled out, the bits are those of a value
+pub value-below : (a : List Bool) (first range : ℕ) → range ≤ 2 ^ bit_count range → satisfies a (ruled_out first range) ≡ true → IsValue range (bits_at a first (bit_count range))
+value-below a first range enough sat = below
+  where
+    b : ℕ
+    b = bit_count range
+
+    v : ℕ
+    v = number_of (bits_at a first b)
+
+    is : bits_at a first b ≡ bits_of b v
+    is = sym (bits-number (bits_at a first b)) ∙ ap (λ (k : ℕ). bits_of k v) (length-bits_at a b first)
+
+    less : v < 2 ^ b
+    less = subst (λ (k : ℕ). v < 2 ^ k) (length-bits_at a b first) (number-less (bits_at a first b))
+
+    same : has_value a first range v ≡ true
+    same = ap (λ (u : List Bool). same_bits u (bits_of b v)) is ∙ same_bits-self (bits_of b v)
+
+    past : range ≤ v → ⊥
+    past h =
+        let each : list_all (λ u. some_true a (map opposite (value_lits first range u))) (range_with_len range (2 ^ b - range)) ≡ true = sym (satisfies-map a (λ u. map opposite (value_lits first range u)) (range_with_len range (2 ^ b - range))) ∙ sat in
+        let here : some_true a (map opposite (value_lits first range v)) ≡ true = each-range (λ u. some_true a (map opposite (value_lits first range u))) (2 ^ b - range) range v each h (omega (arith, less, enough)) in
+        false≢true (sym (ap not same) ∙ (sym (ruled-says a first range v) ∙ here))
+
+    below : IsValue range (bits_at a first b)
+    below = elim (cases_lt v range) [ inl low ↦ (v, low, is) | inr high ↦ absurd (past high) ]
+
+pub number-law : (a : List Bool) (range n : ℕ) → range ≤ 2 ^ bit_count range → length a ≡ n → Extends a (number_part range n).vars (number_part range n).clauses (IsValue range)
+number-law a range n enough size = record {
+  sized = λ d h. (let is = h.2 in omega (arith, length-append a d, size, ap length is, length-bits (bit_count range) h.0));
+  does = λ d h. satisfies-map (a ++ d) (λ v. map opposite (value_lits (n + 1) range v)) (range_with_len range (2 ^ bit_count range - range)) ∙ range-each (λ v. some_true (a ++ d) (map opposite (value_lits (n + 1) range v))) (2 ^ bit_count range - range) range (λ i low high. other d h i low (omega arith));
+  only = λ d long sat. value d (omega (arith, length-append a d, size, long)) sat;
+}
+  where
+    at : (d : List Bool) → length d ≡ bit_count range → bits_at (a ++ d) (n + 1) (bit_count range) ≡ d
+    at d l = ap (λ (k : ℕ). bits_at (a ++ d) (n + 1) k) (sym l) ∙ bits_at-new d a (n + 1) (ap (λ (k : ℕ). k + 1) size)
+
+    other : (d : List Bool) (h : IsValue range d) (i : ℕ) → range ≤ i → i < 2 ^ bit_count range → some_true (a ++ d) (map opposite (value_lits (n + 1) range i)) ≡ true
+    other d h i low high =
+        let b = bit_count range in
+        let less = h.1 in
+        let l : length d ≡ b = ap length h.2 ∙ length-bits b h.0 in
+        let bits : bits_at (a ++ d) (n + 1) b ≡ bits_of b h.0 = at d l ∙ h.2 in
+        let differs : has_value (a ++ d) (n + 1) range i ≡ false = ap (λ (u : List Bool). same_bits u (bits_of b i)) bits ∙ bits-test b h.0 i (omega arith) high ∙ ne_eqb h.0 i (λ k. absurd (omega arith)) in
+        ruled-says (a ++ d) (n + 1) range i ∙ ap not differs
+
+    value : (d : List Bool) → length d ≡ bit_count range → satisfies (a ++ d) (ruled_out (n + 1) range) ≡ true → IsValue range d
+    value d l sat = subst (IsValue range) (at d l) (value-below (a ++ d) (n + 1) range enough sat)
+
+pub ruled_out-in : (n first range : ℕ) → 0 < first → first + bit_count range ≤ n + 1 → clauses_in n (ruled_out first range) ≡ true
+ruled_out-in n first range low high =
+    clauses_in-map n (λ v. map opposite (value_lits first range v)) (range_with_len range (2 ^ bit_count range - range)) (λ v. opposites-in n (value_lits first range v) (value_lits-in n first range v low high))
+
+-- one pattern more
+pub ruled_step : (f g : Formula) (whole : List (List Literal)) (first b v : ℕ) → v < 2 ^ b → g ≡ grown f f.vars (as_clause (map opposite (bit_lits first (bits_of b v)))) → f.clauses ++ as_clauses (map (λ u. map opposite (bit_lits first (bits_of b u))) (range_with_len v (2 ^ b - v))) ≡ whole → g.clauses ++ as_clauses (map (λ u. map opposite (bit_lits first (bits_of b u))) (range_with_len (v + 1) (2 ^ b - (v + 1)))) ≡ whole
+ruled_step f g whole first b v less made h =
+    let more : 2 ^ b - v ≡ suc (2 ^ b - (v + 1)) = omega arith in
+    let rest = as_clauses (map (λ u. map opposite (bit_lits first (bits_of b u))) (range_with_len (v + 1) (2 ^ b - (v + 1)))) in
+    ap (λ (k : Formula). k.clauses ++ rest) made
+    ∙ append_assoc f.clauses (as_clause (map opposite (bit_lits first (bits_of b v)))) rest
+    ∙ ap (λ (k : ℕ). f.clauses ++ as_clauses (map (λ u. map opposite (bit_lits first (bits_of b u))) (range_with_len v k))) (sym more)
+    ∙ h
+
+-- reading a value back, from the highest bit down
+pub value_step : (a : List Bool) (first count k v q : ℕ) → k < count → count ≤ 8 → q ≡ cond (value a (first + (count - 1 - k))) 1 0 → bits_of k v ≡ bits_at a (first + (count - k)) k → v < 2 ^ k → (bits_of (k + 1) (2 * v + q) ≡ bits_at a (first + (count - (k + 1))) (k + 1)) × (2 * v + q < 2 ^ (k + 1)) × (2 * v + q < 256)
+value_step a first count k v q less few is bits small =
+    let f : ℕ = first + (count - 1 - k) in
+    let here : f ≡ first + (count - suc k) = omega arith in
+    let next : first + (count - k) ≡ f + 1 = omega arith in
+    let at : bits_of (suc k) (2 * v + q) ≡ bits_at a (first + (count - suc k)) (suc k) =
+    ap (λ (u : ℕ). bits_of (suc k) (2 * v + u)) is ∙ bits-twice k v (value a f) ∙ ap (λ (u : List Bool). value a f ∷ u) (bits ∙ ap (λ (g : ℕ). bits_at a g k) next)
+    ∙ ap (λ (g : ℕ). bits_at a g (suc k)) here in
+    let one : q ≤ 1 = rw is (at_most_one (value a f)) in
+    let fits : 2 * v + q < 2 ^ suc k = omega (arith, pow-suc k, small, one) in
+    let upto : suc k ≤ 8 = omega (arith, less, few) in
+    let high : 2 ^ suc k ≤ 2 ^ 8 = pow_mono upto in
+    (rw add-one at, rw add-one fits, omega (arith, fits, high))
+  where
+    at_most_one : (b : Bool) → cond b 1 0 ≤ 1
+    at_most_one true = omega arith
+    at_most_one false = omega arith
+
+pub value_read : (a : List Bool) (first range v : ℕ) → range ≤ 2 ^ bit_count range → satisfies a (as_clauses (ruled_out first range)) ≡ true → bits_of (bit_count range) v ≡ bits_at a first (bit_count range) → v < 2 ^ bit_count range → v < range
+value_read a first range v enough sat is small =
+    let b = bit_count range in
+    let h = value-below a first range enough (sym (satisfies-as_clauses a (ruled_out first range)) ∙ sat) in
+    let less = h.1 in
+    let same : v ≡ h.0 = sym (number-bits b v small) ∙ ap number_of (is ∙ h.2) ∙ number-bits b h.0 (omega arith) in
+    omega arith
+
+-- a bit as a number
+pub byte_of : (b : Bool) → bool_byte b ≡ cond b 1 0
+byte_of true = refl
+byte_of false = refl
+
+pub value_end : (a : List Bool) (first b count k v : ℕ) → k ≡ count → count ≡ b → bits_of k v ≡ bits_at a (first + (count - k)) k → v < 2 ^ k → (bits_of b v ≡ bits_at a first b) × (v < 2 ^ b)
+value_end a first b count k v end is bits small =
+    let all : k ≡ b = end ∙ is in
+    let start : first + (count - k) ≡ first = omega arith in
+    (ap (λ (u : ℕ). bits_of u v) (sym all) ∙ bits ∙ ap (λ (f : ℕ). bits_at a f k) start ∙ ap (λ (u : ℕ). bits_at a first u) all, subst (λ (u : ℕ). v < 2 ^ u) all small)

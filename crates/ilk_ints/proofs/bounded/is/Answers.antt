@@ -1,0 +1,21 @@
+use Rattle.std.proofs.Common.{◌+◌, ◌^◌, ◌≤◌, ◌∷◌, [], ℕ, subst}
+use Rattle.ilk_cnf.specs.Extends.{Only}
+use Rattle.ilk_cnf.proofs.Extending.{extends-as_clauses}
+use Rattle.ilk_ints.specs.Bits.{bit_count}
+use Rattle.ilk_ints.specs.Number.{is_part, has_value}
+use Rattle.ilk_ints.proofs.BitsLaw.{is-law, has_value-exact}
+use Rattle.ilk_ints.proofs.bounded.is.Goals as goal
+
+pub returns-clause-law : goal.returns-clause-law
+returns-clause-law c =
+    λ a size.
+    let n = c.args.n in
+    let vars = c.args.cnf.now.vars in
+    extends-as_clauses a (vars + 1) (is_part n.first n.range c.args.value vars).clauses (Only (has_value a n.first n.range c.args.value ∷ [])) (is-law a n.first n.range c.args.value vars size c.requires.from_1 c.requires.within)
+
+pub returns-clause-exact : goal.returns-clause-exact
+returns-clause-exact c =
+    λ a v less is.
+    let range = c.args.n.range in
+    let enough : range ≤ 2 ^ bit_count range = subst (λ (b : ℕ). range ≤ 2 ^ b) c.bits.ensures.count c.bits.ensures.enough in
+    has_value-exact a c.args.n.first range c.args.value v enough c.requires.below less is

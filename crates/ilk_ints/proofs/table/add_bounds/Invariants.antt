@@ -1,0 +1,16 @@
+use Rattle.std.proofs.Common.{◌≡◌, ◌+◌, ◌≤◌, ◌++◌, ◌∷◌, true, drop}
+use Rattle.ilk_cnf.specs.Formula.{clause_in}
+use Rattle.ilk_cnf.specs.Part.{with_part}
+use Rattle.ilk_ints.specs.Bits.{bit_count}
+use Rattle.ilk_ints.specs.Named.{bounds_from}
+use Rattle.ilk_ints.proofs.table.add_bounds.Given as goal
+
+abbrev pub invariant-loop-equal : goal.invariant-loop-equal
+invariant-loop-equal l =
+    record {
+      place : l.k ≡ 1 + l.equal-index;
+      within : l.n.first + bit_count l.n.range ≤ l.cnf.vars + 1;
+      inside : clause_in l.cnf.vars (l.below ∷ drop l.equal-index l.equals) ≡ true;
+      lits : l.lits ++ (bounds_from l.n.first l.n.range l.below l.k (drop l.equal-index l.equals) l.cnf.vars).lits ≡ (bounds_from l.n.first l.n.range l.fn.below 1 l.equals l.fn.cnf.vars).lits;
+      made : with_part l.cnf (bounds_from l.n.first l.n.range l.below l.k (drop l.equal-index l.equals) l.cnf.vars).part ≡ with_part l.fn.cnf (bounds_from l.n.first l.n.range l.fn.below 1 l.equals l.fn.cnf.vars).part;
+    }

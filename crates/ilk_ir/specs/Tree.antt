@@ -1,0 +1,61 @@
+-- A form as a tree with plain lists: what contracts see of it, and when it holds.
+use Rattle.std.specs.Prelude.{ℕ, Bool, true, false, List, [], ◌∷◌, ◌==◌, ◌&&◌, ◌||◌, not, nat_lt, slice_get}
+use Rattle.ilk_base.specs.Option.{is_some_and}
+
+mutual
+  pub data Tree : Type 0 where
+    yes : Tree
+    no : Tree
+    is : ℕ → ℕ → Tree
+    all_of : Trees → Tree
+    any_of : Trees → Tree
+    negation : Tree → Tree
+
+  pub data Trees : Type 0 where
+    none : Trees
+    more : Tree → Trees → Trees
+
+-- the trees of a list
+abbrev pub trees : List Tree → Trees
+trees [] = none
+trees (t ∷ ts) = more t (trees ts)
+
+-- whether variable v has the value c
+abbrev pub has_value : List ℕ → ℕ → ℕ → Bool
+has_value values v c = is_some_and (slice_get values v) (λ x. x == c)
+
+-- whether the tree holds of these values: all of none does, any of none doesn't
+abbrev mutual
+  pub tree_holds : List ℕ → Tree → Bool
+  tree_holds values yes = true
+  tree_holds values no = false
+  tree_holds values (is v c) = has_value values v c
+  tree_holds values (all_of ts) = each_holds values ts
+  tree_holds values (any_of ts) = some_holds values ts
+  tree_holds values (negation t) = not (tree_holds values t)
+
+  pub each_holds : List ℕ → Trees → Bool
+  each_holds values none = true
+  each_holds values (more t ts) = tree_holds values t && each_holds values ts
+
+  pub some_holds : List ℕ → Trees → Bool
+  some_holds values none = false
+  some_holds values (more t ts) = tree_holds values t || some_holds values ts
+
+-- whether variable v has a range, and the value c is below it
+abbrev pub value_valid : List ℕ → ℕ → ℕ → Bool
+value_valid ranges v c = is_some_and (slice_get ranges v) (λ range. nat_lt c range)
+
+-- whether each leaf of the tree names a variable of these ranges and a value of its range
+abbrev mutual
+  pub tree_valid : List ℕ → Tree → Bool
+  tree_valid ranges yes = true
+  tree_valid ranges no = true
+  tree_valid ranges (is v c) = value_valid ranges v c
+  tree_valid ranges (all_of ts) = each_valid ranges ts
+  tree_valid ranges (any_of ts) = each_valid ranges ts
+  tree_valid ranges (negation t) = tree_valid ranges t
+
+  pub each_valid : List ℕ → Trees → Bool
+  each_valid ranges none = true
+  each_valid ranges (more t ts) = tree_valid ranges t && each_valid ranges ts

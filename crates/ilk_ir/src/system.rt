@@ -1,0 +1,64 @@
+ghost use Rattle.std.specs.Prelude.{◌≡◌, ◌<◌, length, is_some, unwrap_or, IsTrue};
+ghost use Rattle.ilk_ir.specs.System.{system_tree, system_valid, in_ranges, fired_at, set_all};
+
+use crate::form::{Form, Values, holds};
+use ilk_base::Row;
+
+/// A variable, and the value that it gets.
+#[derive(Clone, Copy)]
+pub struct Setting {
+    pub var: u32,
+    pub value: u8,
+}
+
+/// A list of settings.
+pub type Sets = Row<Setting>;
+
+/// What is set where the guard holds.
+#[derive(Drop)]
+pub struct Rule {
+    pub guard: Form,
+    pub sets: Sets,
+}
+
+/// A list of rules.
+pub type Rules = Row<Rule>;
+
+/// For each variable, how many values it has: those from 0 on.
+pub type Ranges = Row<u8>;
+
+/// Variables with their ranges, and the rules that change their values.
+#[derive(Drop)]
+pub struct System {
+    pub ranges: Ranges,
+    pub rules: Rules,
+}
+
+// Writes the settings one after another.
+fn write_all(values: &mut Values, sets: &Sets)
+    ensures { values.new ≡ set_all values.old sets.now }
+{
+    for s in sets.as_slice() {
+        if u64::from(s.var) < values.len() {
+            *values.at_mut(u64::from(s.var)) = s.value;
+        }
+    }
+}
+
+/// Fires the rule with this number: where its guard holds, writes its settings and answers true.
+/// Elsewhere the values stay.
+pub fn fire(system: &System, values: &mut Values, rule: u32) -> bool
+    requires { rule < length system.now.rules }
+    ensures fires { result ≡ is_some (fired_at (system_tree system.now) rule values.old) }
+    ensures values { values.new ≡ unwrap_or (fired_at (system_tree system.now) rule values.old) values.old }
+
+    // Of a valid system, values in range stay in range.
+    ensures in_ranges { IsTrue (system_valid (system_tree system.now)) → IsTrue (in_ranges values.old system.now.ranges) → IsTrue (in_ranges values.new system.now.ranges) }
+{
+    let rule = system.rules.at(u64::from(rule));
+    if !holds(&rule.guard, values) {
+        return false;
+    }
+    write_all(values, &rule.sets);
+    true
+}
