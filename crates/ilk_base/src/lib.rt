@@ -13,6 +13,8 @@
 
 mod row;
 mod text;
+mod words;
 
 pub use row::Row;
 pub use text::Text;
+pub use words::{Worded, value_of_word};

@@ -1,31 +1,15 @@
 -- The least hazard, by the bits of the sections that two or more trains have.
-use Rattle.std.proofs.Common.{◌≡◌, ℕ, zero, suc, ◌+◌, ◌<◌, ◌≤◌, Bool, true, false, ◌==◌, ◌||◌, cond, Some, None, option_map, length, find, refl, sym, ap, ◌∙◌, arith}
+use Rattle.std.proofs.Common.{◌≡◌, ℕ, ◌<◌, Bool, true, false, ◌==◌, ◌||◌, cond, Some, None, option_map, length, find, refl, sym, ap, ◌∙◌, arith}
 use Rattle.std.specs.List.{range_with_len}
 use Rattle.std.specs.Int.{bit_at}
-use Rattle.std.proofs.lemmas.Option.{same_Some}
 use Rattle.ilk_plant.specs.Plant.{IsPlant, PlantLists}
 use Rattle.ilk_plant.specs.declared.state.State.{State}
 use Rattle.ilk_model.specs.Hazard.{hazard, is_hazardous, is_two, is_wrong}
-use Rattle.ilk_model.specs.Shared.{is_bad}
+use Rattle.ilk_model.specs.Shared.{is_hazardous_by_bits}
 use Rattle.ilk_model.specs.declared.hazards.HazardAt.{HazardAt}
 use Rattle.ilk_model.specs.declared.hazards.HazardAt.TheVariants.{Two, Wrong}
 use Rattle.ilk_model.proofs.SharedSections.{bit}
-
--- two tests that agree on a range find the same in it
-find-same : (f g : ℕ → Bool) (a n : ℕ) → ((x : ℕ) → a ≤ x → x < a + n → f x ≡ g x) → find f (range_with_len a n) ≡ find g (range_with_len a n)
-find-same f g a zero same = refl
-find-same f g a (suc n) same =
-    (λ i. cond (same a (omega arith) (omega arith) i) (Some a) (find f (range_with_len (a + 1) n)))
-    ∙ ap (cond (g a) (Some a)) (find-same f g (a + 1) n (λ x low high. same x (omega arith) (omega arith)))
-
--- what is found in a range is of it
-find-within : (f : ℕ → Bool) (a n x : ℕ) → find f (range_with_len a n) ≡ Some x → x < a + n
-find-within f a zero x e = cc
-find-within f a (suc n) x e = by_test (f a) e (find-within f (a + 1) n x)
-  where
-    by_test : (b : Bool) → cond b (Some a) (find f (range_with_len (a + 1) n)) ≡ Some x → (find f (range_with_len (a + 1) n) ≡ Some x → x < (a + 1) + n) → x < a + suc n
-    by_test true this later = let same : a ≡ x = same_Some a x this in omega arith
-    by_test false this later = let below = later this in omega arith
+use Rattle.ilk_base.proofs.Ranges.{find-same, find-within}
 
 bit-test : (b : Bool) → (bit b == 1) ≡ b
 bit-test true = refl
@@ -39,15 +23,15 @@ module _ (p : PlantLists) (plant : IsPlant p) (s : State) (shared : ℕ) (exact 
   two-test : (x : ℕ) → x < length p.sections → (bit_at shared x == 1) ≡ is_two s x
   two-test x within = let few = plant.few_sections in ap (λ n. n == 1) (exact x (omega arith)) ∙ bit-test (is_two s x)
 
-  least : find (is_bad p s shared) (range_with_len 0 (length p.sections)) ≡ find (is_hazardous p s) (range_with_len 0 (length p.sections))
-  least = find-same (is_bad p s shared) (is_hazardous p s) 0 (length p.sections) (λ x low high. ap (λ b. b || is_wrong p s x) (two-test x (omega arith)))
+  least : find (is_hazardous_by_bits p s shared) (range_with_len 0 (length p.sections)) ≡ find (is_hazardous p s) (range_with_len 0 (length p.sections))
+  least = find-same (is_hazardous_by_bits p s shared) (is_hazardous p s) 0 (length p.sections) (λ x low high. ap (λ b. b || is_wrong p s x) (two-test x (omega arith)))
 
   -- none is bad
-  pub no_hazard : None ≡ find (is_bad p s shared) (range_with_len 0 (length p.sections)) → None ≡ hazard p s
+  pub no_hazard : None ≡ find (is_hazardous_by_bits p s shared) (range_with_len 0 (length p.sections)) → None ≡ hazard p s
   no_hazard e = ap (option_map (hazard_at s)) (e ∙ least)
 
   -- this is the least
-  pub least_hazard : (x : ℕ) (b : Bool) → Some x ≡ find (is_bad p s shared) (range_with_len 0 (length p.sections)) → b ≡ (bit_at shared x == 1) → Some (cond b (Two x) (Wrong x)) ≡ hazard p s
+  pub least_hazard : (x : ℕ) (b : Bool) → Some x ≡ find (is_hazardous_by_bits p s shared) (range_with_len 0 (length p.sections)) → b ≡ (bit_at shared x == 1) → Some (cond b (Two x) (Wrong x)) ≡ hazard p s
   least_hazard x b e two =
-      let within = find-within (is_bad p s shared) 0 (length p.sections) x (sym e) in
+      let within = find-within (is_hazardous_by_bits p s shared) 0 (length p.sections) x (sym e) in
       ap (λ c. Some (cond c (Two x) (Wrong x))) (two ∙ two-test x (omega arith)) ∙ ap (option_map (hazard_at s)) (e ∙ least)

@@ -1,6 +1,6 @@
 -- Runs: lists of events, each enabled in turn, in which no state but the last is a hazard.
 use Rattle.std.specs.Prelude.{Option, Some, List, [], ◌∷◌, is_none}
-use Rattle.ilk_plant.specs.Option.{◌>>=◌, only_if}
+use Rattle.ilk_base.specs.Option.{◌>>=◌, only_if}
 use Rattle.ilk_plant.specs.Plant.{PlantLists}
 use Rattle.ilk_plant.specs.declared.state.State.{State}
 use Rattle.ilk_model.specs.Event.{next}

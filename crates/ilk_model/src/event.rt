@@ -1,5 +1,5 @@
 ghost use Rattle.std.specs.Prelude.{◌≡◌, IfOk, OnOk, OnErr, is_some, unwrap_or};
-ghost use Rattle.ilk_plant.specs.State.{HasShape};
+ghost use Rattle.ilk_plant.specs.Shape.{HasShape};
 ghost use Rattle.ilk_model.specs.Event.{next};
 
 use ilk_motion::{step_enter, step_head, step_leave, step_tail};

@@ -1,8 +1,8 @@
 ghost use Rattle.std.specs.Prelude.{◌≡◌, find, length};
 ghost use Rattle.std.specs.List.{list_any, range_with_len};
-ghost use Rattle.ilk_plant.specs.State.{HasShape};
+ghost use Rattle.ilk_plant.specs.Shape.{HasShape};
 ghost use Rattle.ilk_model.specs.Hazard.{has_pair, hazard, is_wrong, strays};
-ghost use Rattle.ilk_model.specs.Shared.{is_bad};
+ghost use Rattle.ilk_model.specs.Shared.{is_hazardous_by_bits};
 
 use crate::shared::{has_bit, shared_sections};
 use ilk_plant::{Lie, Plant, Row, Section, State, Train, has_section, lie_of};
@@ -67,14 +67,14 @@ fn is_wrong(plant: &Plant, s: &State, x: u32) -> bool
 
 // Whether two trains share `x`, by these bits, or some train's body is wrong on it.
 fn is_hazardous(plant: &Plant, s: &State, shared: u128, x: u32) -> bool
-    ensures { result ≡ is_bad plant.now s.now shared x }
+    ensures { result ≡ is_hazardous_by_bits plant.now s.now shared x }
 {
     has_bit(shared, x) || is_wrong(plant, s, x)
 }
 
 // The least section that two trains share, by these bits, or on which some train's body is wrong.
 fn first_hazardous(plant: &Plant, s: &State, shared: u128) -> Option<u32>
-    ensures { result ≡ find (is_bad plant.now s.now shared) (range_with_len 0 (length plant.now.sections)) }
+    ensures { result ≡ find (is_hazardous_by_bits plant.now s.now shared) (range_with_len 0 (length plant.now.sections)) }
 {
     (0..plant.sections()).find(|x| is_hazardous(plant, s, shared, *x))
 }

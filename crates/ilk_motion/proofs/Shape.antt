@@ -1,12 +1,12 @@
 -- No event of a train breaks the shape.
-use Rattle.std.proofs.Common.{suc, ◌≡◌, ℕ, ◌<◌, true, Option, Some, None, List, [], ◌∷◌, ◌++◌, All, length, slice_get, remove, take, drop, subst, ◌∙◌, position, IsTrue, length-set, arith}
+use Rattle.std.proofs.Common.{suc, ◌≡◌, ℕ, ◌<◌, true, Option, Some, None, List, [], ◌∷◌, ◌++◌, All, length, slice_get, remove, take, drop, subst, ◌∙◌, position, IsTrue, refl, nat_lt, length-set, arith}
 use Rattle.std.proofs.lemmas.Option.{option_and_then_some, cond_some, same_Some, slice_get_within, get_or_from_slice_get}
 use Rattle.std.proofs.lemmas.List.Elements.{All-push, All-set, All-append, All-take, All-drop, All-get_or}
 use Rattle.std.proofs.lemmas.Bool.Decides.{nat_tests}
-use Rattle.ilk_plant.proofs.Rows.{position-at}
 use Rattle.ilk_plant.specs.Network.{has_section, inward, beside}
 use Rattle.ilk_plant.specs.Plant.{PlantLists, IsPlant, border, next_to, board_of}
-use Rattle.ilk_plant.specs.State.{HasShape, LeadsOn, IsBody, lie_of}
+use Rattle.ilk_plant.specs.State.{lie_of}
+use Rattle.ilk_plant.specs.Shape.{HasShape, is_body, leads_on}
 use Rattle.ilk_plant.specs.declared.network.Dir.{Dir}
 use Rattle.ilk_plant.specs.declared.network.Dir.TheVariants.{Up, Down}
 use Rattle.ilk_plant.specs.declared.network.Section.{Section}
@@ -17,22 +17,37 @@ use Rattle.ilk_plant.specs.declared.state.Lie.TheVariants.{Plus, Minus, Moving}
 use Rattle.ilk_plant.specs.declared.state.State.{State}
 use Rattle.ilk_plant.specs.declared.state.Train.{Train}
 use Rattle.ilk_motion.specs.Ahead.{ahead, leads_to}
-use Rattle.ilk_motion.specs.Body.{begins_at, ends_at, has_head, has_tail, stands_on, with_new_head, without_tail}
+use Rattle.ilk_motion.specs.Body.{train_on, has_head, stands_on, with_new_head, without_tail, is_first_of_several, is_last, has_tail_before_head}
 use Rattle.ilk_motion.specs.Trains.{after_enter, after_head, after_tail, after_leave, with_board_closed}
+use Rattle.ilk_base.proofs.Positions.{position-at}
+use Rattle.ilk_base.proofs.Tested.{All-tested, list_all-from_All, list_all-slice_get}
+use Rattle.std.proofs.lemmas.Bool.{and_from, and_parts}
+
+-- a train has a body
+abbrev HasBody : PlantLists → Train → Type 0
+HasBody p train = is_body p train ≡ true
+
+-- each train of a state with the shape has one
+bodies : (p : PlantLists) (s : State) → HasShape p s → All (HasBody p) s.trains
+bodies p s shape = All-tested (is_body p) (HasBody p) (λ train h. h) s.trains shape.bodies
 
 -- the shape stays where the trains alone change
-with_trains : (p : PlantLists) (s : State) (trains : List Train) → HasShape p s → All (IsBody p) trains → HasShape p (record s { trains = trains })
-with_trains p s trains shape bodies = record { routes = shape.routes; points = shape.points; boards = shape.boards; locks = shape.locks; counts = shape.counts; bodies = bodies }
+with_trains : (p : PlantLists) (s : State) (trains : List Train) → HasShape p s → All (HasBody p) trains → HasShape p (record s { trains = trains })
+with_trains p s trains shape each = record { routes = shape.routes; points = shape.points; boards = shape.boards; locks = shape.locks; counts = shape.counts; bodies = list_all-from_All (is_body p) trains each }
 
 -- a border is a section
 border-known : (p : PlantLists) (x : ℕ) (d : Dir) → border p x ≡ Some d → x < length p.sections
 border-known p x d e = option_and_then_some inward (slice_get p.sections x) d e (λ k at e'. slice_get_within p.sections x k at)
 
+-- a train that stands on one section of the plant has a body
+alone : (p : PlantLists) (x : ℕ) (d : Dir) → x < length p.sections → HasBody p (train_on x d)
+alone p x d within = let known : nat_lt x (length p.sections) ≡ true = grind (arith, nat_tests) in and_from _ _ known refl
+
 pub after_enter-shape : (p : PlantLists) (s t : State) (x : ℕ) → HasShape p s → after_enter p s x ≡ Some t → HasShape p t
 after_enter-shape p s t x shape e =
     option_and_then_some _ (border p x) t e (λ d at e1.
     let r = cond_some _ _ t e1 in
-    subst (HasShape p) r.1 (with_trains p s _ shape (All-push (IsBody p) s.trains _ shape.bodies (border-known p x d at, tt))))
+    subst (HasShape p) r.1 (with_trains p s _ shape (All-push (HasBody p) s.trains _ (bodies p s shape) (alone p x d (border-known p x d at)))))
 
 -- what a section leads to lies beside it
 leads_to-beside : (k : Section) (d : Dir) (lie : Option Lie) (y : ℕ) → leads_to k d lie ≡ Some y → IsTrue (has_section y (beside k d))
@@ -55,23 +70,27 @@ ahead-next_to p s x y d e =
     option_and_then_some (λ k. leads_to k d (lie_of p s x)) (slice_get p.sections x) y e (λ k at e1. rw at (leads_to-beside k d _ y e1))
 
 -- one more section ahead of the last
-leads_on-push : (p : PlantLists) (d : Dir) (z : ℕ) (rest : List ℕ) (x y : ℕ) → LeadsOn p d z rest → ends_at x (z ∷ rest) ≡ true → IsTrue (has_section y (next_to p x d)) → LeadsOn p d z (rest ++ y ∷ [])
+leads_on-push : (p : PlantLists) (d : Dir) (z : ℕ) (rest : List ℕ) (x y : ℕ) → leads_on p d z rest ≡ true → is_last x (z ∷ rest) ≡ true → IsTrue (has_section y (next_to p x d)) → leads_on p d z (rest ++ y ∷ []) ≡ true
 leads_on-push p d z [] x y h e n =
-    let same : z ≡ x = grind (arith, nat_tests) in (rw same n, tt)
-leads_on-push p d z (w ∷ rest) x y h e n = (h.0, leads_on-push p d w rest x y h.1 e n)
+    let same : z ≡ x = grind (arith, nat_tests) in and_from (has_section y (next_to p z d)) true (rw same n) refl
+leads_on-push p d z (w ∷ rest) x y h e n =
+    let parts = and_parts (has_section w (next_to p z d)) (leads_on p d w rest) h in
+    and_from _ _ parts.0 (leads_on-push p d w rest x y parts.1 e n)
 
 -- one more section at the head of a body
-body-push : (p : PlantLists) (train : Train) (x y : ℕ) → IsBody p train → has_head x train ≡ true → IsTrue (has_section y (next_to p x train.dir)) → IsBody p (with_new_head y train)
+body-push : (p : PlantLists) (train : Train) (x y : ℕ) → HasBody p train → has_head x train ≡ true → IsTrue (has_section y (next_to p x train.dir)) → HasBody p (with_new_head y train)
 body-push p train x y h e n = push train.body h e
   where
-    push : (body : List ℕ) → IsBody p (record train { body = body }) → ends_at x body ≡ true → IsBody p (record train { body = body ++ y ∷ [] })
-    push [] h e = absurd h
-    push (z ∷ rest) h e = (h.0, leads_on-push p train.dir z rest x y h.1 e n)
+    push : (body : List ℕ) → HasBody p (record train { body = body }) → is_last x body ≡ true → HasBody p (record train { body = body ++ y ∷ [] })
+    push [] h e = cc
+    push (z ∷ rest) h e =
+        let parts = and_parts (nat_lt z (length p.sections)) (leads_on p train.dir z rest) h in
+        and_from _ _ parts.0 (leads_on-push p train.dir z rest x y parts.1 e n)
 
 -- the body of a train of a state with the shape
-body_at : (p : PlantLists) (s : State) (i : ℕ) (train : Train) → HasShape p s → slice_get s.trains i ≡ Some train → IsBody p train
+body_at : (p : PlantLists) (s : State) (i : ℕ) (train : Train) → HasShape p s → slice_get s.trains i ≡ Some train → HasBody p train
 body_at p s i train shape at =
-    rw (get_or_from_slice_get s.trains i train train at) at (All-get_or (IsBody p) s.trains i train (slice_get_within s.trains i train at) shape.bodies)
+    list_all-slice_get (is_body p) s.trains i train shape.bodies at
 
 -- closing a board keeps the shape
 with_board_closed-shape : (p : PlantLists) (board : Option ℕ) (s : State) → HasShape p s → HasShape p (with_board_closed board s)
@@ -84,26 +103,31 @@ after_head-shape p s t x shape e =
     option_and_then_some _ (position (has_head x) s.trains) t e (λ i first e1.
     option_and_then_some _ (slice_get s.trains i) t e1 (λ train at e2.
     option_and_then_some _ (ahead p s x train.dir) t e2 (λ y led e3.
-    let longer : IsBody p (with_new_head y train) = body-push p train x y (body_at p s i train shape at) (position-at (has_head x) s.trains i train first at) (ahead-next_to p s x y train.dir led) in
-    let kept = with_trains p s _ shape (All-set (IsBody p) s.trains i (with_new_head y train) longer shape.bodies) in
+    let longer : HasBody p (with_new_head y train) = body-push p train x y (body_at p s i train shape at) (position-at (has_head x) s.trains i train first at) (ahead-next_to p s x y train.dir led) in
+    let kept = with_trains p s _ shape (All-set (HasBody p) s.trains i (with_new_head y train) longer (bodies p s shape)) in
     subst (HasShape p) (cond_some _ _ t e3).1 (with_board_closed-shape p (board_of p x train.dir) _ kept))))
 
 -- a body that has lost its tail
-body-rest : (p : PlantLists) (x : ℕ) (train : Train) → IsPlant p → has_tail x train ≡ true → IsBody p train → IsBody p (without_tail train)
+body-rest : (p : PlantLists) (x : ℕ) (train : Train) → IsPlant p → has_tail_before_head x train ≡ true → HasBody p train → HasBody p (without_tail train)
 body-rest p x train plant e h = rest train.body e h
   where
-    rest : (body : List ℕ) → begins_at x body ≡ true → IsBody p (record train { body = body }) → IsBody p (record train { body = remove body 0 })
+    rest : (body : List ℕ) → is_first_of_several x body ≡ true → HasBody p (record train { body = body }) → HasBody p (record train { body = remove body 0 })
     rest [] e h = cc
     rest (y ∷ []) e h = cc
-    rest (y ∷ z ∷ zs) e h = (plant.neighbours y z train.dir h.1.0, h.1.1)
+    rest (y ∷ z ∷ zs) e h =
+        let parts = and_parts (nat_lt y (length p.sections)) (leads_on p train.dir y (z ∷ zs)) h in
+        let goes = and_parts (has_section z (next_to p y train.dir)) (leads_on p train.dir z zs) parts.1 in
+        let within = plant.neighbours y z train.dir goes.0 in
+        let known : nat_lt z (length p.sections) ≡ true = grind (arith, nat_tests) in
+        and_from _ _ known goes.1
 
 pub after_tail-shape : (p : PlantLists) (s t : State) (x : ℕ) → IsPlant p → HasShape p s → after_tail p s x ≡ Some t → HasShape p t
 after_tail-shape p s t x plant shape e =
     option_and_then_some _ (slice_get p.sections x) t e (λ section known e0.
-    option_and_then_some _ (position (has_tail x) s.trains) t e0 (λ i first e1.
+    option_and_then_some _ (position (has_tail_before_head x) s.trains) t e0 (λ i first e1.
     option_and_then_some _ (slice_get s.trains i) t e1 (λ train at e2.
-    let shorter : IsBody p (without_tail train) = body-rest p x train plant (position-at (has_tail x) s.trains i train first at) (body_at p s i train shape at) in
-    let kept = with_trains p s _ shape (All-set (IsBody p) s.trains i (without_tail train) shorter shape.bodies) in
+    let shorter : HasBody p (without_tail train) = body-rest p x train plant (position-at (has_tail_before_head x) s.trains i train first at) (body_at p s i train shape at) in
+    let kept = with_trains p s _ shape (All-set (HasBody p) s.trains i (without_tail train) shorter (bodies p s shape)) in
     subst (HasShape p) (same_Some _ t e2) kept)))
 
 pub after_leave-shape : (p : PlantLists) (s t : State) (x : ℕ) → HasShape p s → after_leave p s x ≡ Some t → HasShape p t
@@ -112,5 +136,5 @@ after_leave-shape p s t x shape e =
     option_and_then_some _ (position (stands_on x) s.trains) t e0 (λ i first e1.
     option_and_then_some _ (slice_get s.trains i) t e1 (λ train at e2.
     let r = cond_some _ _ t e2 in
-    let fewer = All-append (IsBody p) (take i s.trains) (drop (suc i) s.trains) (All-take (IsBody p) i s.trains shape.bodies) (All-drop (IsBody p) (suc i) s.trains shape.bodies) in
+    let fewer = All-append (HasBody p) (take i s.trains) (drop (suc i) s.trains) (All-take (HasBody p) i s.trains (bodies p s shape)) (All-drop (HasBody p) (suc i) s.trains (bodies p s shape)) in
     subst (HasShape p) r.1 (with_trains p s _ shape fewer))))

@@ -1,6 +1,6 @@
 -- Which section lies ahead of a section.
 use Rattle.std.specs.Prelude.{ℕ, Option, Some, None, slice_get, if◌then◌else◌}
-use Rattle.ilk_plant.specs.Option.{◌>>=◌}
+use Rattle.ilk_base.specs.Option.{◌>>=◌}
 use Rattle.ilk_plant.specs.Network.{same_direction}
 use Rattle.ilk_plant.specs.Plant.{PlantLists}
 use Rattle.ilk_plant.specs.State.{lie_of}
@@ -19,7 +19,7 @@ leg_at plus minus Minus = Some minus
 leg_at plus minus Moving = None
 
 -- where a section leads in direction d, given where it lies if it is a point: a linear section to
--- its neighbour, a point that faces d to the leg at which it lies, another point to its stem
+-- its neighbour, a point that faces d to the leg at which it lies, and to none while it moves, another point to its stem
 abbrev pub leads_to : Section → Dir → Option Lie → Option ℕ
 leads_to (Linear down up board_down board_up) Down lie = down
 leads_to (Linear down up board_down board_up) Up lie = up

@@ -4,16 +4,16 @@ use Rattle.ilk_plant.specs.declared.network.Dir.{Dir}
 use Rattle.ilk_plant.specs.declared.state.Train.{Train}
 
 -- whether the last of these sections is x
-abbrev pub ends_at : ℕ → List ℕ → Bool
-ends_at x [] = false
-ends_at x (y ∷ []) = y == x
-ends_at x (y ∷ z ∷ rest) = ends_at x (z ∷ rest)
+abbrev pub is_last : ℕ → List ℕ → Bool
+is_last x [] = false
+is_last x (y ∷ []) = y == x
+is_last x (y ∷ z ∷ rest) = is_last x (z ∷ rest)
 
 -- whether there are two or more sections, of which the first is x
-abbrev pub begins_at : ℕ → List ℕ → Bool
-begins_at x [] = false
-begins_at x (y ∷ []) = false
-begins_at x (y ∷ z ∷ rest) = y == x
+abbrev pub is_first_of_several : ℕ → List ℕ → Bool
+is_first_of_several x [] = false
+is_first_of_several x (y ∷ []) = false
+is_first_of_several x (y ∷ z ∷ rest) = y == x
 
 -- whether x is the only section
 abbrev pub is_only : ℕ → List ℕ → Bool
@@ -23,11 +23,11 @@ is_only x (y ∷ z ∷ rest) = false
 
 -- whether a train has its head at x
 abbrev pub has_head : ℕ → Train → Bool
-has_head x train = ends_at x train.body
+has_head x train = is_last x train.body
 
--- whether a train has two or more sections, and its tail at x
-abbrev pub has_tail : ℕ → Train → Bool
-has_tail x train = begins_at x train.body
+-- whether a train of two or more sections has its tail at x
+abbrev pub has_tail_before_head : ℕ → Train → Bool
+has_tail_before_head x train = is_first_of_several x train.body
 
 -- whether a train stands on x alone
 abbrev pub stands_on : ℕ → Train → Bool

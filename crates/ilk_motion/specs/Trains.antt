@@ -1,12 +1,12 @@
 -- The four events of trains. Each is the state that follows, where the event is enabled, and none
 -- where it isn't. All that it doesn't name stays as it was.
 use Rattle.std.specs.Prelude.{ℕ, Bool, true, false, Option, Some, None, List, [], ◌∷◌, ◌++◌, slice_get, set, remove, position, not}
-use Rattle.ilk_plant.specs.Option.{◌>>=◌, is_some_and, only_if}
+use Rattle.ilk_base.specs.Option.{◌>>=◌, is_some_and, only_if}
 use Rattle.ilk_plant.specs.Network.{beside}
 use Rattle.ilk_plant.specs.Plant.{PlantLists, border, board_of}
 use Rattle.ilk_plant.specs.State.{is_clear}
 use Rattle.ilk_motion.specs.Ahead.{ahead}
-use Rattle.ilk_motion.specs.Body.{has_head, has_tail, stands_on, train_on, with_new_head, without_tail}
+use Rattle.ilk_motion.specs.Body.{has_head, stands_on, train_on, with_new_head, without_tail, has_tail_before_head}
 use Rattle.ilk_plant.specs.declared.network.Dir.{Dir}
 use Rattle.ilk_plant.specs.declared.network.Section.{Section}
 use Rattle.ilk_plant.specs.declared.state.Aspect.{Aspect}
@@ -62,7 +62,7 @@ after_head p s x = do
 abbrev pub after_tail : PlantLists → State → ℕ → Option State
 after_tail p s x = do
   section ← slice_get p.sections x
-  i ← position (has_tail x) s.trains
+  i ← position (has_tail_before_head x) s.trains
   train ← slice_get s.trains i
   Some (with_train i (without_tail train) s)
 

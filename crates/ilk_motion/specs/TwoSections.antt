@@ -1,6 +1,6 @@
 -- A line of two linear sections, a and then b, with no board and no route.
 use Rattle.std.specs.Prelude.{ℕ, Option, Some, None, List, [], ◌∷◌, map}
-use Rattle.ilk_plant.specs.Option.{◌>>=◌}
+use Rattle.ilk_base.specs.Option.{◌>>=◌}
 use Rattle.ilk_plant.specs.Plant.{PlantLists}
 use Rattle.ilk_plant.specs.Start.{start}
 use Rattle.ilk_plant.specs.declared.network.Section.TheVariants.{Linear}

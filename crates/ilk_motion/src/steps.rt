@@ -1,5 +1,5 @@
 ghost use Rattle.std.specs.Prelude.{◌≡◌, ◌<◌, IfOk, IfSome, OnOk, OnErr, is_some, length, unwrap_or};
-ghost use Rattle.ilk_plant.specs.State.{HasShape};
+ghost use Rattle.ilk_plant.specs.Shape.{HasShape};
 ghost use Rattle.ilk_motion.specs.Body.{without_tail};
 ghost use Rattle.ilk_motion.specs.Trains.{after_enter, after_head, after_leave, after_tail, with_board_closed, may_pass};
 
@@ -51,7 +51,7 @@ fn close(s: &mut State, board: Option<u32>)
 }
 
 // The first train with its head at `x` moves on, where that is enabled.
-#[tactic(auto, using(ilk_plant::proofs::Rows::set_same))]
+#[tactic(auto, using(ilk_base::proofs::Lists::set_same))]
 fn move_head(plant: &Plant, s: &mut State, x: u32) -> Result<bool, AllocError>
     requires { HasShape plant.now s.old }
     ensures answer { IfOk result (λ b. b ≡ is_some (after_head plant.now s.old x)) }

@@ -1,11 +1,11 @@
 ghost use Rattle.std.specs.Prelude.{◌≡◌, position};
-ghost use Rattle.ilk_motion.specs.Body.{ends_at, begins_at, is_only, has_head, has_tail, stands_on};
+ghost use Rattle.ilk_motion.specs.Body.{is_only, has_head, stands_on, is_last, is_first_of_several, has_tail_before_head};
 
 use ilk_plant::{Row, Train};
 
 // Whether the last section of the body is `x`.
-fn ends_at(body: &Row<u32>, x: u32) -> bool
-    ensures { result ≡ ends_at x body.now }
+fn is_last(body: &Row<u32>, x: u32) -> bool
+    ensures { result ≡ is_last x body.now }
 {
     match body.as_slice() {
         [.., head] => *head == x,
@@ -14,8 +14,8 @@ fn ends_at(body: &Row<u32>, x: u32) -> bool
 }
 
 // Whether the body has two or more sections, of which the first is `x`.
-fn begins_at(body: &Row<u32>, x: u32) -> bool
-    ensures { result ≡ begins_at x body.now }
+fn is_first_of_several(body: &Row<u32>, x: u32) -> bool
+    ensures { result ≡ is_first_of_several x body.now }
 {
     match body.as_slice() {
         [tail, _, ..] => *tail == x,
@@ -40,18 +40,18 @@ pub fn with_head(trains: &Row<Train>, x: u32) -> Option<usize>
     trains
         .as_slice()
         .iter()
-        .position(|train| ends_at(&train.body, x))
+        .position(|train| is_last(&train.body, x))
 }
 
 /// The place of the first train of two or more sections with its tail at `x`. None where there is
 /// no such train.
 pub fn with_tail(trains: &Row<Train>, x: u32) -> Option<usize>
-    ensures { result ≡ position (has_tail x) trains.now }
+    ensures { result ≡ position (has_tail_before_head x) trains.now }
 {
     trains
         .as_slice()
         .iter()
-        .position(|train| begins_at(&train.body, x))
+        .position(|train| is_first_of_several(&train.body, x))
 }
 
 /// The place of the first train that stands on `x` alone. None where there is no such train.

@@ -1,78 +1,69 @@
 -- The rules over numbers are the rules over names.
-use Rattle.std.proofs.Common.{◌≡◌, ℕ, zero, suc, ◌<◌, ◌+◌, ◌≤◌, Bool, false, not, ◌&&◌, ◌||◌, ◌==◌, cond, Option, List, [], ◌∷◌, ◌++◌, length, map, get_or, count_by, ◌⊎◌, inl, inr, refl, sym, ◌∙◌, ap, arith}
+use Rattle.std.proofs.Common.{◌≡◌, ℕ, zero, suc, ◌<◌, ◌+◌, ◌≤◌, Bool, false, not, ◌&&◌, ◌==◌, Option, List, [], ◌∷◌, ◌++◌, length, map, get_or, count_by, ◌⊎◌, inl, inr, refl, sym, ◌∙◌, ap, arith}
 use Rattle.std.specs.List.{list_any, range_with_len}
 use Rattle.std.proofs.lemmas.List.{get_or_past}
 use Rattle.std.proofs.lemmas.List.FromFn.{length-map-range_with_len}
-use Rattle.std.proofs.lemmas.List.Sums.{sum_by-cons}
 use Rattle.std.proofs.lemmas.Option.{slice_get_past}
 use Rattle.ilk_plant.specs.Broken.{broken_at}
 use Rattle.ilk_plant.specs.Draft.{is_named_before, names_of_boards, names_of_sections}
 use Rattle.ilk_plant.specs.Name.{Name}
 use Rattle.ilk_plant.specs.Network.{same_direction}
-use Rattle.ilk_plant.specs.NetworkRules.{ends_of, has_board_at_end, is_next_up, leads_by, network_rules_broken, opposite, repeats_neighbour, returns, section_named, stands_alone}
-use Rattle.ilk_plant.specs.NetworkRules.{is_not_named_back, names_once as names_once_by_name, names_no_other as names_no_other_by_name}
-use Rattle.ilk_plant.specs.Option.{is_some_and}
+use Rattle.ilk_plant.specs.NetworkRules.{ends_of, has_board_at_end, is_next_up, leads_by, network_rules_broken, opposite, repeats_neighbour, returns, section_named, stands_alone, is_not_named_back, names_once as names_once_by_name, has_wrong_neighbour as names_no_other_by_name}
+use Rattle.ilk_base.specs.Option.{is_some_and}
 use Rattle.ilk_plant.specs.declared.broken.Broken.{Broken}
 use Rattle.ilk_plant.specs.declared.broken.Rule.TheVariants.{N1, N2, N3, N4, N5, N6, N7, N8}
 use Rattle.ilk_plant.specs.declared.draft.NetDraft.{NetDraft}
 use Rattle.ilk_plant.specs.declared.draft.SectionDraft.{SectionDraft}
 use Rattle.ilk_plant.specs.declared.network.Dir.{Dir}
 use Rattle.ilk_net_check.specs.declared.ends.End.{End}
-use Rattle.ilk_net_check.specs.Numbers.{breaks, ends_at, entry, is_next, is_one_way, leads_to, names, names_no_other, names_once, numbered_end, numbered_ends, table}
-use Rattle.ilk_net_check.proofs.Tables.{below_or_past, entry-table}
-
-list_any-map : {X Y : Type 0} (p : Y → Bool) (f : X → Y) (xs : List X) → list_any p (map f xs) ≡ list_any (λ x. p (f x)) xs
-list_any-map p f [] = refl
-list_any-map p f (x ∷ xs) = ap (λ b. p (f x) || b) (list_any-map p f xs)
-
-count_by-map : {X Y : Type 0} (p : Y → Bool) (f : X → Y) (xs : List X) → count_by p (map f xs) ≡ count_by (λ x. p (f x)) xs
-count_by-map p f [] = refl
-count_by-map p f (x ∷ xs) =
-    sum_by-cons (λ y. cond (p y) 1 0) (f x) (map f xs) ∙ ap (λ n. cond (p (f x)) 1 0 + n) (count_by-map p f xs) ∙ sym (sum_by-cons (λ y. cond (p (f y)) 1 0) x xs)
+use Rattle.ilk_net_check.specs.Numbers.{breaks, entry, is_next, names, names_no_other, numbered_end, numbered_ends, table, ends_by_number, is_one_sided, leads_up_to, is_named_once}
+use Rattle.ilk_net_check.proofs.Tables.{entry-table}
+use Rattle.ilk_base.proofs.Ranges.{below_or_past}
+use Rattle.ilk_base.proofs.Tested.{count_by-map, list_any-map}
 
 -- the ends of each section, with numbers for names
 abbrev numbered_all : (Name → Option ℕ) → List SectionDraft → List (List End)
 numbered_all number sections = map (λ section. numbered_ends number section.kind) sections
 
 -- the ends of section x
-ends_at-numbered : (number : Name → Option ℕ) (sections : List SectionDraft) (x : ℕ) → ends_at (numbered_all number sections) x ≡ map (numbered_end number) (ends_of (record { sections = sections }) x)
-ends_at-numbered number [] zero = refl
-ends_at-numbered number [] (suc x) = refl
-ends_at-numbered number (section ∷ rest) zero = refl
-ends_at-numbered number (section ∷ rest) (suc x) = ends_at-numbered number rest x
+ends_by_number-numbered : (number : Name → Option ℕ) (sections : List SectionDraft) (x : ℕ) → ends_by_number (numbered_all number sections) x ≡ map (numbered_end number) (ends_of (record { sections = sections }) x)
+ends_by_number-numbered number [] zero = refl
+ends_by_number-numbered number [] (suc x) = refl
+ends_by_number-numbered number (section ∷ rest) zero = refl
+ends_by_number-numbered number (section ∷ rest) (suc x) = ends_by_number-numbered number rest x
 
 -- no end is past the last section
 ends_of-past : (net : NetDraft) (x : ℕ) → length net.sections ≤ x → ends_of net x ≡ []
 ends_of-past net x past = rw (slice_get_past net.sections x past) refl
 
 module _ (net : NetDraft) (all : List (List End)) (ends_are : all ≡ numbered_all (section_named net) net.sections) where
-  ends_here : (x : ℕ) → ends_at all x ≡ map (numbered_end (section_named net)) (ends_of net x)
-  ends_here x = ap (λ l. ends_at l x) ends_are ∙ ends_at-numbered (section_named net) net.sections x
+  ends_here : (x : ℕ) → ends_by_number all x ≡ map (numbered_end (section_named net)) (ends_of net x)
+  ends_here x = ap (λ l. ends_by_number l x) ends_are ∙ ends_by_number-numbered (section_named net) net.sections x
 
-  any_here : (p : End → Bool) (x : ℕ) → list_any p (ends_at all x) ≡ list_any (λ end. p (numbered_end (section_named net) end)) (ends_of net x)
+  any_here : (p : End → Bool) (x : ℕ) → list_any p (ends_by_number all x) ≡ list_any (λ end. p (numbered_end (section_named net) end)) (ends_of net x)
   any_here p x = ap (list_any p) (ends_here x) ∙ list_any-map p (numbered_end (section_named net)) (ends_of net x)
 
-  count_here : (p : End → Bool) (x : ℕ) → count_by p (ends_at all x) ≡ count_by (λ end. p (numbered_end (section_named net) end)) (ends_of net x)
+  count_here : (p : End → Bool) (x : ℕ) → count_by p (ends_by_number all x) ≡ count_by (λ end. p (numbered_end (section_named net) end)) (ends_of net x)
   count_here p x = ap (count_by p) (ends_here x) ∙ count_by-map p (numbered_end (section_named net)) (ends_of net x)
 
   -- N3
-  other_here : (x : ℕ) → list_any (names_no_other x) (ends_at all x) ≡ names_no_other_by_name net x
+  other_here : (x : ℕ) → list_any (names_no_other x) (ends_by_number all x) ≡ names_no_other_by_name net x
   other_here x = any_here (names_no_other x) x
 
   -- N5
-  once_here : (x y : ℕ) (d : Dir) → names_once x d (ends_at all y) ≡ names_once_by_name net x d (ends_of net y)
+  once_here : (x y : ℕ) (d : Dir) → is_named_once x d (ends_by_number all y) ≡ names_once_by_name net x d (ends_of net y)
   once_here x y d =
       let n = count_here (names x) y in
       let s = any_here (λ end. names x end && same_direction end.side d) y in
       λ i. (n i == 1) && s i
 
-  back_here : (x : ℕ) → list_any (is_one_way all x) (ends_at all x) ≡ is_not_named_back net x
+  back_here : (x : ℕ) → list_any (is_one_sided all x) (ends_by_number all x) ≡ is_not_named_back net x
   back_here x =
-      any_here (is_one_way all x) x ∙ (λ i. list_any (λ end. is_some_and (section_named net end.name) (λ y. not (y == x) && not (once_here x y (opposite end.side) i))) (ends_of net x))
+      any_here (is_one_sided all x) x ∙ (λ i. list_any (λ end. is_some_and (section_named net end.name) (λ y. not (y == x) && not (once_here x y (opposite end.side) i))) (ends_of net x))
 
   -- N7
   next_here : (x y : ℕ) → is_next all x y ≡ is_next_up net x y
-  next_here x y = any_here (leads_to y) x
+  next_here x y = any_here (leads_up_to y) x
 
   no_next : (x y : ℕ) → length net.sections ≤ x → is_next_up net x y ≡ false
   no_next x y past = rw (ends_of-past net x past) refl

@@ -1,14 +1,14 @@
--- A network in numbers: the ends of its sections, and tables of tests over pairs of sections.
+-- Cited by private contracts alone: a network in numbers, with the ends of its sections, and tables of tests over
+-- pairs of sections.
 use Rattle.std.specs.Prelude.{ℕ, Bool, false, not, ◌&&◌, ◌||◌, ◌==◌, Option, List, [], map, count_by, slice_index_or}
 use Rattle.std.specs.List.{list_any, range_with_len}
 use Rattle.ilk_plant.specs.Draft.{is_named_before}
 use Rattle.ilk_plant.specs.Name.{Name}
 use Rattle.ilk_plant.specs.Network.{same_direction}
-use Rattle.ilk_plant.specs.NetworkRules.{ends, has_board_at_end, opposite, repeats_neighbour, stands_alone}
-use Rattle.ilk_plant.specs.Option.{is_some_and}
+use Rattle.ilk_plant.specs.NetworkRules.{ends, has_board_at_end, opposite, repeats_neighbour, stands_alone, End as NamedEnd}
+use Rattle.ilk_base.specs.Option.{is_some_and}
 use Rattle.ilk_plant.specs.declared.broken.Rule.{Rule}
 use Rattle.ilk_plant.specs.declared.broken.Rule.TheVariants.{N1, N2, N3, N4, N5, N6, N7, N8}
-use Rattle.ilk_plant.specs.NetworkRules.{End as NamedEnd}
 use Rattle.ilk_plant.specs.declared.draft.KindDraft.{KindDraft}
 use Rattle.ilk_plant.specs.declared.draft.NetDraft.{NetDraft}
 use Rattle.ilk_plant.specs.declared.network.Dir.{Dir}
@@ -24,16 +24,16 @@ abbrev pub numbered_ends : (Name → Option ℕ) → KindDraft → List End
 numbered_ends number kind = map (numbered_end number) (ends kind)
 
 -- whether an end is on the up side and names section y
-abbrev pub leads_to : ℕ → End → Bool
-leads_to y end = same_direction end.side Up && is_some_and end.section (λ z. z == y)
+abbrev pub leads_up_to : ℕ → End → Bool
+leads_up_to y end = same_direction end.side Up && is_some_and end.section (λ z. z == y)
 
 -- the ends of section x; none where x is no section
-abbrev pub ends_at : List (List End) → ℕ → List End
-ends_at all x = slice_index_or all x []
+abbrev pub ends_by_number : List (List End) → ℕ → List End
+ends_by_number all x = slice_index_or all x []
 
 -- whether section y is next to section x on its up side
 abbrev pub is_next : List (List End) → ℕ → ℕ → Bool
-is_next all x y = list_any (leads_to y) (ends_at all x)
+is_next all x y = list_any (leads_up_to y) (ends_by_number all x)
 
 -- a test of each pair of numbers below n
 abbrev pub table : ℕ → (ℕ → ℕ → Bool) → List (List Bool)
@@ -56,21 +56,21 @@ abbrev pub names_no_other : ℕ → End → Bool
 names_no_other x end = not (is_some_and end.section (λ y. not (y == x)))
 
 -- whether exactly one of these ends names section x, and that end is on side d
-abbrev pub names_once : ℕ → Dir → List End → Bool
-names_once x d ends = count_by (names x) ends == 1 && list_any (λ end. names x end && same_direction end.side d) ends
+abbrev pub is_named_once : ℕ → Dir → List End → Bool
+is_named_once x d ends = count_by (names x) ends == 1 && list_any (λ end. names x end && same_direction end.side d) ends
 
 -- whether an end of section x names a section other than x that doesn't name x back once, on the opposite side
-abbrev pub is_one_way : List (List End) → ℕ → End → Bool
-is_one_way all x end =
-    is_some_and end.section (λ y. not (y == x) && not (names_once x (opposite end.side) (ends_at all y)))
+abbrev pub is_one_sided : List (List End) → ℕ → End → Bool
+is_one_sided all x end =
+    is_some_and end.section (λ y. not (y == x) && not (is_named_once x (opposite end.side) (ends_by_number all y)))
 
 -- whether section or board x breaks a rule of the network, by its draft, by the names of the sections and of the boards, by the ends, and by where walks lead
 abbrev pub breaks : NetDraft → List Name → List Name → List (List End) → List (List Bool) → Rule → ℕ → Bool
 breaks net section_names board_names all leads N1 x = is_named_before section_names x
 breaks net section_names board_names all leads N2 x = is_named_before board_names x
-breaks net section_names board_names all leads N3 x = list_any (names_no_other x) (ends_at all x)
+breaks net section_names board_names all leads N3 x = list_any (names_no_other x) (ends_by_number all x)
 breaks net section_names board_names all leads N4 x = repeats_neighbour net x
-breaks net section_names board_names all leads N5 x = list_any (is_one_way all x) (ends_at all x)
+breaks net section_names board_names all leads N5 x = list_any (is_one_sided all x) (ends_by_number all x)
 breaks net section_names board_names all leads N6 x = stands_alone net x
 breaks net section_names board_names all leads N7 x = entry leads x x
 breaks net section_names board_names all leads N8 x = has_board_at_end net x

@@ -1,8 +1,8 @@
 ghost use Rattle.std.specs.Prelude.{◌≡◌, ◌==◌, ◌++◌, not, IfOk, OnOk, map};
 ghost use Rattle.ilk_plant.specs.NetworkRules.{end_with, opposite as opposite_of};
-ghost use Rattle.ilk_plant.specs.Option.{is_some_and};
+ghost use Rattle.ilk_base.specs.Option.{is_some_and};
 ghost use Rattle.ilk_plant.specs.Plant.{first_named};
-ghost use Rattle.ilk_net_check.specs.Numbers.{ends_at, numbered_end, numbered_ends};
+ghost use Rattle.ilk_net_check.specs.Numbers.{numbered_end, numbered_ends, ends_by_number};
 
 use ilk_plant::{Dir, KindDraft, Names, Row, SectionDraft, Text};
 use std::alloc::{AllocError, Global};
@@ -115,8 +115,8 @@ pub fn all_ends(
 }
 
 /// The ends of section `x`; none where `x` is no section.
-pub fn ends_at(all: &Row<Row<End>>, x: u32) -> &[End]
-    ensures { result.now ≡ ends_at all.now x }
+pub fn ends_by_number(all: &Row<Row<End>>, x: u32) -> &[End]
+    ensures { result.now ≡ ends_by_number all.now x }
 {
     match all.as_slice().get(x as usize) {
         Some(ends) => ends.as_slice(),

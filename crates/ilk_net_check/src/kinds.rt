@@ -1,5 +1,6 @@
 ghost use Rattle.std.specs.Prelude.{◌≡◌, bytes_eq, map, not};
-ghost use Rattle.ilk_plant.specs.NetworkRules.{all_differ, ends, has_board_to_nowhere, has_no_neighbour};
+ghost use Rattle.ilk_plant.specs.NetworkRules.{ends, has_board_to_nowhere, has_no_neighbour};
+ghost use Rattle.ilk_plant.specs.Once.{all_differ};
 
 use ilk_plant::{KindDraft, Text};
 

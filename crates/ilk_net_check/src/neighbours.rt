@@ -1,9 +1,9 @@
 ghost use Rattle.std.specs.Prelude.{◌≡◌, ◌&&◌, count_by};
 ghost use Rattle.std.specs.List.{list_any};
 ghost use Rattle.ilk_plant.specs.Network.{same_direction};
-ghost use Rattle.ilk_net_check.specs.Numbers.{ends_at as ends_there, is_one_way, names, names_no_other, names_once};
+ghost use Rattle.ilk_net_check.specs.Numbers.{names, names_no_other, ends_by_number as ends_there, is_one_sided, is_named_once};
 
-use crate::ends::{End, ends_at, opposite};
+use crate::ends::{End, ends_by_number, opposite};
 use ilk_plant::{Dir, Row};
 
 /// Whether one of the ends of section `x` doesn't name a section other than `x`.
@@ -28,18 +28,18 @@ fn names_from(ends: &[End], x: u32, side: Dir) -> bool
 }
 
 // Whether exactly one of the ends names section `x`, and that end is on side `side`.
-fn names_once(ends: &[End], x: u32, side: Dir) -> bool
-    ensures { result ≡ names_once x side ends.now }
+fn is_named_once(ends: &[End], x: u32, side: Dir) -> bool
+    ensures { result ≡ is_named_once x side ends.now }
 {
     count_naming(ends, x) == 1 && names_from(ends, x, side)
 }
 
 // Whether an end of section `x` names another section that doesn't name `x` back.
-fn is_one_way(all: &Row<Row<End>>, x: u32, end: &End) -> bool
-    ensures { result ≡ is_one_way all.now x end.now }
+fn is_one_sided(all: &Row<Row<End>>, x: u32, end: &End) -> bool
+    ensures { result ≡ is_one_sided all.now x end.now }
 {
     match end.section {
-        Some(y) => y != x && !names_once(ends_at(all, y), x, opposite(end.side)),
+        Some(y) => y != x && !is_named_once(ends_by_number(all, y), x, opposite(end.side)),
         None => false,
     }
 }
@@ -47,7 +47,9 @@ fn is_one_way(all: &Row<Row<End>>, x: u32, end: &End) -> bool
 /// Whether a neighbour of section `x`, other than `x`, doesn't name `x` at exactly one of its ends,
 /// on the opposite side.
 pub fn is_not_named_back(all: &Row<Row<End>>, x: u32) -> bool
-    ensures { result ≡ list_any (is_one_way all.now x) (ends_there all.now x) }
+    ensures { result ≡ list_any (is_one_sided all.now x) (ends_there all.now x) }
 {
-    ends_at(all, x).iter().any(|end| is_one_way(all, x, end))
+    ends_by_number(all, x)
+        .iter()
+        .any(|end| is_one_sided(all, x, end))
 }

@@ -1,9 +1,9 @@
 ghost use Rattle.std.specs.Prelude.{◌≡◌, ◌≤◌, IfOk, false, map, slice_index_or};
 ghost use Rattle.std.specs.List.{list_any, range_with_len};
 ghost use Rattle.ilk_plant.specs.NetworkRules.{leads_by};
-ghost use Rattle.ilk_net_check.specs.Numbers.{entry, is_next, joined, leads_to, table};
+ghost use Rattle.ilk_net_check.specs.Numbers.{entry, is_next, joined, table, leads_up_to};
 
-use crate::ends::{End, ends_at};
+use crate::ends::{End, ends_by_number};
 use ilk_plant::{Dir, Row};
 use std::alloc::{AllocError, Global};
 
@@ -28,19 +28,19 @@ fn flag_at(flags: &Row<bool>, i: u32) -> bool
 }
 
 // Whether one of these ends is on the up side and names section `y`.
-fn leads_to(ends: &[End], y: u32) -> bool
-    ensures { result ≡ list_any (leads_to y) ends.now }
+fn leads_up_to(ends: &[End], y: u32) -> bool
+    ensures { result ≡ list_any (leads_up_to y) ends.now }
 {
     ends.iter().any(|end| end.side == Dir::Up && end.names(y))
 }
 
 // For each section below `count`, whether it is next to section `x` on its up side.
 fn next_of(alloc: Global, ends: &[End], count: u32) -> Result<Row<bool>, AllocError>
-    ensures { IfOk result (λ made. made ≡ map (λ y. list_any (leads_to y) ends.now) (range_with_len 0 count)) }
+    ensures { IfOk result (λ made. made ≡ map (λ y. list_any (leads_up_to y) ends.now) (range_with_len 0 count)) }
 {
     let mut made = Row::new(alloc);
     for y in 0..count {
-        made.push(leads_to(ends, y))?;
+        made.push(leads_up_to(ends, y))?;
     }
     Ok(made)
 }
@@ -51,7 +51,7 @@ fn steps_up(alloc: Global, ends: &Row<Row<End>>, count: u32) -> Result<Row<Row<b
 {
     let mut made = Row::new(alloc);
     for x in 0..count {
-        made.push(next_of(alloc, ends_at(ends, x), count)?)?;
+        made.push(next_of(alloc, ends_by_number(ends, x), count)?)?;
     }
     Ok(made)
 }

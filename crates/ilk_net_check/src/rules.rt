@@ -5,8 +5,9 @@ ghost use Rattle.ilk_plant.specs.Draft.{names_of_boards, names_of_sections};
 ghost use Rattle.ilk_plant.specs.NetworkRules.{has_board_at_end, leads_by, network_rules_broken, repeats_neighbour as repeats_neighbour_of, stands_alone};
 ghost use Rattle.ilk_plant.specs.Plant.{first_named};
 ghost use Rattle.ilk_net_check.specs.Numbers.{breaks, is_next, numbered_ends, table};
+ghost use Rattle.ilk_plant.specs.declared.limits.TheConstants.{MAX_SECTIONS};
 
-use crate::ends::{End, all_ends, ends_at};
+use crate::ends::{End, all_ends, ends_by_number};
 use crate::kinds::{has_board_to_nowhere, has_no_neighbour, repeats_neighbour};
 use crate::neighbours::{is_not_named_back, names_no_other};
 use crate::reach::{entry, walks_up};
@@ -29,7 +30,7 @@ struct Network<'a> {
 impl<'a> Network<'a> {
     // The network of this draft.
     fn of(alloc: Global, net: &'a NetDraft) -> Result<Network<'a>, AllocError>
-        requires { length net.now.sections ≤ 128 }
+        requires { length net.now.sections ≤ MAX_SECTIONS }
         ensures net { IfOk result (λ network. network.net.now ≡ net.now) }
         ensures section_names { IfOk result (λ network. network.section_names ≡ names_of_sections net.now.sections) }
         ensures board_names { IfOk result (λ network. network.board_names ≡ names_of_boards net.now.sections) }
@@ -100,7 +101,7 @@ impl Network<'_> {
         match rule {
             Rule::N1 => self.section_names.is_named_before(x),
             Rule::N2 => self.board_names.is_named_before(x),
-            Rule::N3 => names_no_other(ends_at(&self.ends, x), x),
+            Rule::N3 => names_no_other(ends_by_number(&self.ends, x), x),
             Rule::N4 => self.repeats_neighbour(x),
             Rule::N5 => is_not_named_back(&self.ends, x),
             Rule::N6 => self.stands_alone(x),
@@ -132,13 +133,13 @@ fn push_broken(
     Ok(())
 }
 
-/// Every rule of the network, N1 to N8, that a draft of at most 128 sections breaks, at every place,
+/// Every rule of the network, N1 to N8, that a draft within the limits breaks, at every place,
 /// in the order of the rules and then of the numbers of the places. The place of N2 is the number
 /// of a board, that of the others the number of a section.
 ///
 /// The only refusal is want of memory. The draft stays as it is.
 pub fn check_network(alloc: Global, net: &NetDraft) -> Result<Row<Broken>, AllocError>
-    requires { length net.now.sections ≤ 128 }
+    requires { length net.now.sections ≤ MAX_SECTIONS }
     ensures { IfOk result (λ broken. broken ≡ network_rules_broken net.now) }
 {
     let network = Network::of(alloc, net)?;

@@ -1,20 +1,8 @@
 -- The entries of an array, each of a kind, over a loop: what was read goes before what the rest gives.
-use Rattle.std.proofs.Common.{◌≡◌, List, [], ◌∷◌, ◌++◌, Option, Some, None, refl, ap, sym, append_assoc}
+use Rattle.std.proofs.Common.{◌≡◌, List, [], ◌∷◌, ◌++◌, Option, Some, None}
 use Rattle.serde_json.specs.Data.{Data, Items, item}
-use Rattle.ilk_plant.specs.Option.{◌>>=◌}
 use Rattle.ilk_net_read.specs.Member.{each_as}
-
-abbrev pub after_front : {A : Type 0} → List A → Option (List A) → Option (List A)
-after_front front (Some rest) = Some (front ++ rest)
-after_front front None = None
-
-pub after_front-none : {A : Type 0} (o : Option (List A)) → after_front [] o ≡ o
-after_front-none (Some rest) = refl
-after_front-none None = refl
-
-after_front-step : {A : Type 0} (front : List A) (x : A) (o : Option (List A)) → after_front front (o >>= λ rest. Some (x ∷ rest)) ≡ after_front (front ++ x ∷ []) o
-after_front-step front x (Some rest) = ap Some (sym (append_assoc front (x ∷ []) rest))
-after_front-step front x None = refl
+use Rattle.ilk_base.proofs.Fronts.{after_front, after_front-step}
 
 -- an entry of the kind joins the front
 pub after_front-more : {A : Type 0} (kind : Data → Option A) (front : List A) (d : Data) (ds : Items) (x : A) → kind d ≡ Some x

@@ -5,7 +5,7 @@ use Rattle.serde_json.specs.Data.{Data, Items, item}
 use Rattle.serde_json.specs.View.{view, items_view}
 use Rattle.serde_json.specs.declared.value.Value.{Value}
 use Rattle.ilk_net_read.specs.declared.fault.FormFault.{FormFault}
-use Rattle.ilk_plant.specs.Result.{◌>>=◌}
+use Rattle.ilk_base.specs.Result.{◌>>=◌}
 use Rattle.ilk_net_read.specs.Network.{in_order}
 
 abbrev pub with_front : {A : Type 0} → List A → Result (List A) FormFault → Result (List A) FormFault

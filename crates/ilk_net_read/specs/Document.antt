@@ -1,9 +1,9 @@
 -- The document: its version, and the arrays of its sections and its routes.
-use Rattle.std.specs.Prelude.{ℕ, Bool, Option, ◌&&◌, ◌==◌, codes, nat_le}
+use Rattle.std.specs.Prelude.{ℕ, Bool, Option, ◌==◌, codes}
 use Rattle.serde_json.specs.Data.{Data, Items}
 use Rattle.serde_json.specs.Events.{items_len}
-use Rattle.ilk_plant.specs.Name.{lies_within}
-use Rattle.ilk_plant.specs.Option.{◌>>=◌, only_if}
+use Rattle.ilk_plant.specs.Limits.{counts_are_allowed}
+use Rattle.ilk_base.specs.Option.{◌>>=◌, only_if}
 use Rattle.ilk_net_read.specs.Member.{has_members, whole_number_at, array_at}
 
 pub record Parts : Type 0 where
@@ -24,6 +24,6 @@ as_document d = do
 abbrev pub has_version : Parts → Bool
 has_version document = document.version == 1
 
--- whether there are 1 to 128 sections, and at most 128 routes
-abbrev pub is_within_limits : Parts → Bool
-is_within_limits document = lies_within 1 128 (items_len document.sections) && nat_le (items_len document.routes) 128
+-- whether there may be so many sections, and so many routes
+abbrev pub has_allowed_counts : Parts → Bool
+has_allowed_counts document = counts_are_allowed (items_len document.sections) (items_len document.routes)

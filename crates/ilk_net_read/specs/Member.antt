@@ -4,7 +4,7 @@ use Rattle.serde_json.specs.Data.{Data, null, boolean, number, string, array, ob
 use Rattle.serde_json.specs.Events.{members_len}
 use Rattle.serde_json.specs.Find.{get, as_array, as_number, as_object, as_str, as_u64}
 use Rattle.ilk_plant.specs.Name.{Name}
-use Rattle.ilk_plant.specs.Option.{◌>>=◌}
+use Rattle.ilk_base.specs.Option.{◌>>=◌}
 
 -- whether a value is an object of this many members: with each of as many members found, it has no other
 abbrev pub has_members : ℕ → Data → Bool

@@ -1,17 +1,16 @@
 -- The form of a configuration, as far as its network: the rules in the order in which they are asked.
-use Rattle.std.specs.Prelude.{ℕ, ◌+◌, ◌≤◌, List, [], ◌∷◌, length, None, Result, Ok, IsOk, IsTrue, if◌then◌else◌}
-use Rattle.std.specs.List.{list_all}
+use Rattle.std.specs.Prelude.{ℕ, ◌+◌, List, [], ◌∷◌, None, Result, Ok, IsOk, if◌then◌else◌}
 use Rattle.std.specs.Str.{is_utf8}
 use Rattle.serde_json.specs.Data.{Data, Items, no_items, item}
 use Rattle.serde_json.specs.Read.{read}
 use Rattle.ilk_plant.specs.Limits.{section_has_names}
-use Rattle.ilk_plant.specs.Result.{◌>>=◌}
+use Rattle.ilk_base.specs.Result.{◌>>=◌}
 use Rattle.ilk_plant.specs.declared.draft.NetDraft.{NetDraft}
 use Rattle.ilk_plant.specs.declared.draft.SectionDraft.{SectionDraft}
 use Rattle.ilk_net_read.specs.declared.fault.Form.TheVariants.{F2, F3, F4, F5, F6}
 use Rattle.ilk_net_read.specs.declared.fault.FormFault.{FormFault}
 use Rattle.ilk_net_read.specs.declared.fault.Place.TheVariants.{Document, Section}
-use Rattle.ilk_net_read.specs.Document.{Parts, as_document, has_version, is_within_limits}
+use Rattle.ilk_net_read.specs.Document.{Parts, as_document, has_allowed_counts, has_version}
 use Rattle.ilk_net_read.specs.Fault.{broken, checked, or_fault}
 use Rattle.ilk_net_read.specs.Section.{as_section}
 
@@ -24,7 +23,7 @@ abbrev pub document_of : Data → Result Parts FormFault
 document_of d = do
   found ← or_fault (broken F3 Document) (as_document d)
   document ← checked has_version (broken F4 Document) found
-  checked is_within_limits (broken F6 Document) document
+  checked has_allowed_counts (broken F6 Document) document
 
 -- section i: F3 where the value isn't one, then F5, its names
 abbrev pub section_of : ℕ → Data → Result SectionDraft FormFault
@@ -50,9 +49,3 @@ network_of d = do
 -- the document's part of the form is right
 abbrev pub HasDocument : Data → Type 0
 HasDocument d = IsOk (document_of d)
-
--- there are 1 to 128 sections, and each text in them is a name
-pub record IsWithin (net : NetDraft) : Type 0 where
-  pub some : 1 ≤ length net.sections
-  pub few : length net.sections ≤ 128
-  pub named : IsTrue (list_all section_has_names net.sections)

@@ -1,21 +1,16 @@
 -- A section: its kind, its neighbours and its boards.
-use Rattle.std.specs.Prelude.{Option, Some, None, bytes_eq, codes, if◌then◌else◌}
+use Rattle.std.specs.Prelude.{Option, None, bytes_eq, codes, if◌then◌else◌}
 use Rattle.serde_json.specs.Data.{Data}
-use Rattle.ilk_plant.specs.Name.{Name}
-use Rattle.ilk_plant.specs.Option.{◌>>=◌, only_if}
+use Rattle.ilk_plant.specs.Words.{direction_of_word}
+use Rattle.ilk_base.specs.Option.{◌>>=◌, only_if}
 use Rattle.ilk_plant.specs.declared.draft.KindDraft.TheVariants.{Linear, Point}
 use Rattle.ilk_plant.specs.declared.draft.SectionDraft.{SectionDraft}
 use Rattle.ilk_plant.specs.declared.network.Dir.{Dir}
-use Rattle.ilk_plant.specs.declared.network.Dir.TheVariants.{Up, Down}
 use Rattle.ilk_net_read.specs.Member.{has_members, text_at, optional_text_at}
-
--- the direction that a text names: `up` or `down`
-abbrev pub direction_named : Name → Option Dir
-direction_named text = if bytes_eq text (codes "up") then Some Up else (if bytes_eq text (codes "down") then Some Down else None)
 
 -- the direction in which a point faces
 abbrev pub faces_of : Data → Option Dir
-faces_of d = text_at (codes "faces") d >>= direction_named
+faces_of d = text_at (codes "faces") d >>= direction_of_word
 
 -- a value as a linear section: an object of exactly a name, the kind, the neighbours down and up and
 -- the boards for the directions down and up, each of which may be missing

@@ -1,7 +1,8 @@
--- The members of a document, as their data.
+-- Cited by private contracts alone: the members of a document, as their data.
 use Rattle.std.specs.Prelude.{◌≤◌}
 use Rattle.serde_json.specs.Events.{items_len}
 use Rattle.serde_json.specs.View.{items_view}
+use Rattle.ilk_plant.specs.declared.limits.TheConstants.{MAX_ROUTES, MAX_SECTIONS}
 use Rattle.ilk_net_read.specs.Document.{Parts}
 use Rattle.ilk_net_read.specs.declared.document.Document.{Document}
 
@@ -12,8 +13,8 @@ seen document = record {
   routes = items_view document.routes.now;
 }
 
--- there are 1 to 128 sections, and at most 128 routes
-pub record HasLimits (document : Parts) : Type 0 where
+-- there are some sections, and no more sections and routes than are allowed
+pub record HasAllowedCounts (document : Parts) : Type 0 where
   pub some : 1 ≤ items_len document.sections
-  pub few : items_len document.sections ≤ 128
-  pub routes : items_len document.routes ≤ 128
+  pub few : items_len document.sections ≤ MAX_SECTIONS
+  pub routes : items_len document.routes ≤ MAX_ROUTES

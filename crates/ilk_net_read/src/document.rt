@@ -2,16 +2,17 @@
 
 ghost use Rattle.std.specs.Prelude.{◌≡◌, ◌&&◌, nat_le, option_map, true, IfOk};
 ghost use Rattle.serde_json.specs.View.{view};
-ghost use Rattle.ilk_plant.specs.Name as name;
+ghost use Rattle.ilk_plant.specs.Limits as limits;
 ghost use Rattle.ilk_net_read.specs.Document as parts;
 ghost use Rattle.ilk_net_read.specs.Fault.{GivesBy};
 ghost use Rattle.ilk_net_read.specs.Network as network;
-ghost use Rattle.ilk_net_read.specs.Seen.{seen, HasLimits};
+ghost use Rattle.ilk_net_read.specs.Seen.{seen, HasAllowedCounts};
 
 use crate::fault::broken;
 use crate::member::{array_at, has_members, whole_number_at};
 use crate::name::lies_within;
 use crate::{Form, FormError, Place};
+use ilk_plant::{MAX_ROUTES, MAX_SECTIONS};
 use serde_json::Value;
 
 /// The members of a document.
@@ -38,24 +39,24 @@ fn members(value: &Value) -> Option<Document<'_>>
     })
 }
 
-fn are_within_limits(sections: usize, routes: usize) -> bool
-    ensures { result ≡ (name.lies_within 1 128 sections && nat_le routes 128) }
+fn counts_are_allowed(sections: usize, routes: usize) -> bool
+    ensures { result ≡ limits.counts_are_allowed sections routes }
 {
-    lies_within(1, 128, sections) && routes <= 128
+    lies_within(1, MAX_SECTIONS as usize, sections) && routes <= MAX_ROUTES as usize
 }
 
-fn is_within_limits(document: &Document<'_>) -> bool
-    ensures exact { result ≡ parts.is_within_limits (seen document.now) }
-    ensures limits { result ≡ true → HasLimits (seen document.now) }
+fn has_allowed_counts(document: &Document<'_>) -> bool
+    ensures exact { result ≡ parts.has_allowed_counts (seen document.now) }
+    ensures limits { result ≡ true → HasAllowedCounts (seen document.now) }
 {
-    are_within_limits(document.sections.len(), document.routes.len())
+    counts_are_allowed(document.sections.len(), document.routes.len())
 }
 
 /// The document: rule F3 is broken where the value isn't one, then F4 where its version isn't 1,
-/// and then F6 where it hasn't 1 to 128 sections or has more than 128 routes.
+/// and then F6 where it has no section, or more sections or routes than are allowed.
 pub(crate) fn document_of(value: &Value) -> Result<Document<'_>, FormError>
     ensures exact { GivesBy seen result (network.document_of (view value.now)) }
-    ensures limits { IfOk result (λ document. HasLimits (seen document)) }
+    ensures limits { IfOk result (λ document. HasAllowedCounts (seen document)) }
 {
     let Some(document) = members(value) else {
         return Err(broken(Form::F3, Place::Document));
@@ -63,7 +64,7 @@ pub(crate) fn document_of(value: &Value) -> Result<Document<'_>, FormError>
     if document.version != 1 {
         return Err(broken(Form::F4, Place::Document));
     }
-    if !is_within_limits(&document) {
+    if !has_allowed_counts(&document) {
         return Err(broken(Form::F6, Place::Document));
     }
     Ok(document)

@@ -20,7 +20,7 @@ pub enum Form {
     F3,
     /// The version is 1.
     F4,
-    /// A name is of 1 to 32 of the characters `A-Z a-z 0-9 _ -`.
+    /// A name is of 1 to `MAX_NAME` of the characters `A-Z a-z 0-9 _ -`.
     F5,
     /// A list has no fewer and no more items than its limits allow.
     F6,

@@ -4,7 +4,7 @@ ghost use Rattle.std.specs.Prelude.{◌≡◌};
 ghost use Rattle.std.specs.List.{list_all};
 ghost use Rattle.ilk_plant.specs.Name as name;
 
-use ilk_plant::Text;
+use ilk_plant::{MAX_NAME, Text};
 
 /// Whether a number lies from `low` to `high`, with both.
 pub fn lies_within(low: usize, high: usize, number: usize) -> bool
@@ -20,12 +20,12 @@ fn is_name_character(byte: u8) -> bool
     matches!(byte, b'A'..=b'Z' | b'a'..=b'z' | b'0'..=b'9' | b'_' | b'-')
 }
 
-/// Whether a text is a name: 1 to 32 of the characters `A-Z a-z 0-9 _ -`.
+/// Whether a text is a name: 1 to `MAX_NAME` of the characters `A-Z a-z 0-9 _ -`.
 pub fn is_name(text: &Text) -> bool
     ensures { result ≡ name.is_name text.now }
 {
     let bytes = text.as_str().as_bytes();
-    lies_within(1, 32, bytes.len()) && has_name_characters(bytes)
+    lies_within(1, MAX_NAME as usize, bytes.len()) && has_name_characters(bytes)
 }
 
 fn has_name_characters(bytes: &[u8]) -> bool

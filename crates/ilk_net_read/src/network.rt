@@ -3,19 +3,19 @@
 ghost use Rattle.std.specs.Prelude.{◌≡◌, ◌≤◌, length, true, IfOk};
 ghost use Rattle.std.specs.List.{list_all};
 ghost use Rattle.serde_json.specs.View.{view, items_view};
-ghost use Rattle.ilk_plant.specs.Limits.{section_has_names};
+ghost use Rattle.ilk_plant.specs.Limits.{NetworkHasLimits, section_has_names};
 ghost use Rattle.ilk_net_read.specs.Fault.{Gives};
-ghost use Rattle.ilk_net_read.specs.Network.{network_of, section_of, in_order, HasDocument, IsWithin};
+ghost use Rattle.ilk_net_read.specs.Network.{network_of, section_of, in_order, HasDocument};
 
 use crate::FormError;
 use crate::document::document_of;
 use crate::section::section_of;
-use ilk_plant::{NetDraft, Row, SectionDraft};
+use ilk_plant::{MAX_SECTIONS, NetDraft, Row, SectionDraft};
 use serde_json::Value;
 use std::alloc::Global;
 
 fn sections(alloc: Global, values: &[Value]) -> Result<Row<SectionDraft>, FormError>
-    requires { length values.now ≤ 128 }
+    requires { length values.now ≤ MAX_SECTIONS }
     ensures exact { Gives result (in_order section_of 0 (items_view values.now)) }
     ensures count { IfOk result (λ sections. length sections ≡ length values.now) }
     ensures named { IfOk result (λ sections. list_all section_has_names sections ≡ true) }
@@ -34,8 +34,8 @@ pub fn read_network(alloc: Global, value: &Value) -> Result<NetDraft, FormError>
     ensures exact { Gives result (network_of (view value.now)) }
     // what reading the table of routes asks for
     ensures document { IfOk result (λ net. HasDocument (view value.now)) }
-    // 1 to 128 sections, whose texts are names
-    ensures limits { IfOk result IsWithin }
+    // some sections, no more than are allowed, whose texts are names
+    ensures limits { IfOk result NetworkHasLimits }
 {
     let document = document_of(value)?;
     let sections = sections(alloc, document.sections)?;

@@ -15,17 +15,6 @@ use ilk_plant::{Dir, KindDraft, SectionDraft};
 use serde_json::Value;
 use std::alloc::Global;
 
-/// The direction that a text names: `up` or `down`.
-fn direction_named(text: &str) -> Option<Dir>
-    ensures { result ≡ section.direction_named text.now }
-{
-    match text {
-        "up" => Some(Dir::Up),
-        "down" => Some(Dir::Down),
-        _ => None,
-    }
-}
-
 fn linear(alloc: Global, value: &Value) -> Result<SectionDraft, KindError>
     ensures { Reads result (section.as_linear (view value.now)) }
 {
@@ -49,7 +38,7 @@ fn linear(alloc: Global, value: &Value) -> Result<SectionDraft, KindError>
 fn faces(value: &Value) -> Option<Dir>
     ensures { result ≡ section.faces_of (view value.now) }
 {
-    direction_named(str_at(value, "faces")?)
+    Dir::of_word(str_at(value, "faces")?.as_bytes())
 }
 
 fn point(alloc: Global, value: &Value) -> Result<SectionDraft, KindError>

@@ -3,8 +3,7 @@ use Rattle.std.proofs.Common.{◌≡◌, ℕ, ◌+◌, true, Option, Some, None,
 use Rattle.std.specs.List.{list_all}
 use Rattle.std.proofs.lemmas.List.{map-append}
 use Rattle.std.proofs.lemmas.List.Folds.{list_all-append, list_all-map}
-use Rattle.ilk_plant.proofs.KnownNames.{All-tested, both, list_all-weaken}
-use Rattle.ilk_plant.specs.Draft.{NamedBoard, board_named, boards_from, boards_on, names_of_boards, names_of_routes, names_of_sections}
+use Rattle.ilk_plant.specs.Draft.{NamedBoard, boards_from, boards_on, names_of_boards, names_of_routes, names_of_sections, board_if_named}
 use Rattle.ilk_plant.specs.Limits.{kind_has_names, route_has_names, section_has_names}
 use Rattle.ilk_plant.specs.Name.{IsName, Name, is_name, is_name_if_given}
 use Rattle.ilk_plant.specs.declared.draft.KindDraft.{KindDraft}
@@ -13,6 +12,8 @@ use Rattle.ilk_plant.specs.declared.draft.RouteDraft.{RouteDraft}
 use Rattle.ilk_plant.specs.declared.draft.SectionDraft.{SectionDraft}
 use Rattle.ilk_plant.specs.declared.network.Dir.{Dir}
 use Rattle.ilk_plant.specs.declared.network.Dir.TheVariants.{Up, Down}
+use Rattle.ilk_base.proofs.Tested.{All-tested, list_all-weaken}
+use Rattle.std.proofs.lemmas.Bool.{and_parts}
 
 -- names that all pass the test are names
 each-name : (names : List Name) → list_all is_name names ≡ true → All IsName names
@@ -20,17 +21,17 @@ each-name names h = All-tested is_name IsName (λ name e. e) names h
 
 pub section_names-allowed : (sections : List SectionDraft) → list_all section_has_names sections ≡ true → All IsName (names_of_sections sections)
 section_names-allowed sections h =
-    each-name (names_of_sections sections) (list_all-map is_name (λ section. section.name) sections ∙ list_all-weaken section_has_names (λ section. is_name section.name) (λ section e. (both (is_name section.name) (kind_has_names section.kind) e).0) sections h)
+    each-name (names_of_sections sections) (list_all-map is_name (λ section. section.name) sections ∙ list_all-weaken section_has_names (λ section. is_name section.name) (λ section e. (and_parts (is_name section.name) (kind_has_names section.kind) e).0) sections h)
 
 -- the first of the texts of a route is its name
 route-name : (route : RouteDraft) → route_has_names route ≡ true → is_name route.name ≡ true
 route-name route h =
-    let six = both _ _ h in
-    let five = both _ _ six.0 in
-    let four = both _ _ five.0 in
-    let three = both _ _ four.0 in
-    let two = both _ _ three.0 in
-    (both (is_name route.name) (is_name route.source) two.0).0
+    let six = and_parts _ _ h in
+    let five = and_parts _ _ six.0 in
+    let four = and_parts _ _ five.0 in
+    let three = and_parts _ _ four.0 in
+    let two = and_parts _ _ three.0 in
+    (and_parts (is_name route.name) (is_name route.source) two.0).0
 
 pub route_names-allowed : (routes : List RouteDraft) → list_all route_has_names routes ≡ true → All IsName (names_of_routes routes)
 route_names-allowed routes h =
@@ -40,26 +41,26 @@ route_names-allowed routes h =
 abbrev board_names : List NamedBoard → List Name
 board_names boards = map (λ named. named.name) boards
 
-one-board : (x : ℕ) (d : Dir) (name : Option Name) → is_name_if_given name ≡ true → list_all is_name (board_names (board_named x d name)) ≡ true
+one-board : (x : ℕ) (d : Dir) (name : Option Name) → is_name_if_given name ≡ true → list_all is_name (board_names (board_if_named x d name)) ≡ true
 one-board x d None h = refl
 one-board x d (Some name) h = rw h refl
 
 boards-here : (x : ℕ) (kind : KindDraft) → kind_has_names kind ≡ true → list_all is_name (board_names (boards_on x kind)) ≡ true
 boards-here x (LinearDraft down up board_down board_up) h =
-    let last = both _ (is_name_if_given board_up) h in
-    let before = both _ (is_name_if_given board_down) last.0 in
-    ap (list_all is_name) (map-append (λ named. named.name) (board_named x Down board_down) (board_named x Up board_up))
-    ∙ list_all-append is_name (board_names (board_named x Down board_down)) (board_names (board_named x Up board_up))
+    let last = and_parts _ (is_name_if_given board_up) h in
+    let before = and_parts _ (is_name_if_given board_down) last.0 in
+    ap (list_all is_name) (map-append (λ named. named.name) (board_if_named x Down board_down) (board_if_named x Up board_up))
+    ∙ list_all-append is_name (board_names (board_if_named x Down board_down)) (board_names (board_if_named x Up board_up))
     ∙ rw (one-board x Down board_down before.1) (one-board x Up board_up last.1)
 boards-here x (PointDraft stem plus minus faces) h = refl
 
 boards-tested : (x : ℕ) (sections : List SectionDraft) → list_all section_has_names sections ≡ true → list_all is_name (board_names (boards_from x sections)) ≡ true
 boards-tested x [] h = refl
 boards-tested x (section ∷ rest) h =
-    let parts = both (section_has_names section) (list_all section_has_names rest) h in
+    let parts = and_parts (section_has_names section) (list_all section_has_names rest) h in
     ap (list_all is_name) (map-append (λ named. named.name) (boards_on x section.kind) (boards_from (x + 1) rest))
     ∙ list_all-append is_name (board_names (boards_on x section.kind)) (board_names (boards_from (x + 1) rest))
-    ∙ rw (boards-here x section.kind (both (is_name section.name) (kind_has_names section.kind) parts.0).1) (boards-tested (x + 1) rest parts.1)
+    ∙ rw (boards-here x section.kind (and_parts (is_name section.name) (kind_has_names section.kind) parts.0).1) (boards-tested (x + 1) rest parts.1)
 
 pub board_names-allowed : (sections : List SectionDraft) → list_all section_has_names sections ≡ true → All IsName (names_of_boards sections)
 board_names-allowed sections h = each-name (names_of_boards sections) (boards-tested 0 sections h)

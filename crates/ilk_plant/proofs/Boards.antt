@@ -1,21 +1,20 @@
 -- The boards of a plant: how many there are, and that each section's boards are among them.
-use Rattle.std.proofs.Common.{◌≡◌, ℕ, zero, suc, ◌<◌, ◌≤◌, ◌+◌, ◌*◌, Bool, true, false, ◌&&◌, ◌||◌, not, Option, Some, None, List, [], ◌∷◌, ◌++◌, length, map, slice_get, bytes_eq, option_map, option_to_list, is_none, ◌↔◌, ◌⊎◌, inl, inr, refl, sym, ◌∙◌, subst, arith, length-append, ap}
+use Rattle.std.proofs.Common.{◌≡◌, ℕ, zero, suc, ◌<◌, ◌≤◌, ◌+◌, ◌*◌, Bool, true, false, ◌&&◌, not, Option, Some, None, List, [], ◌∷◌, ◌++◌, length, map, slice_get, bytes_eq, option_map, option_to_list, is_none, ◌↔◌, inl, inr, refl, sym, ◌∙◌, subst, arith, length-append, ap}
 use Rattle.std.specs.List.{list_all}
 use Rattle.std.proofs.lemmas.List.{length-map, map-append}
 use Rattle.std.proofs.lemmas.List.Folds.{list_any-append}
 use Rattle.std.proofs.lemmas.Option.{same_Some, slice_get-map, slice_get_within, option_and_then_some}
 use Rattle.std.proofs.lemmas.Slice.Eq.{bytes_eq-Decides}
 use Rattle.ilk_plant.proofs.NamesDiffer.{number_of-own}
-use Rattle.ilk_plant.proofs.Rows.{at-before, at-past}
 use Rattle.ilk_plant.proofs.Rules.{KeepsNetworkRules}
-use Rattle.ilk_plant.proofs.Tests.{map-at}
-use Rattle.ilk_plant.proofs.KnownNames.{board_on-known, boards_known, both, is_known, list_all-slice_get, list_all-weaken}
-use Rattle.ilk_plant.specs.Draft.{NamedBoard, board_named, boards_from, boards_on, names_of_boards, names_of_sections, number_of, numbered, numbered_section}
+use Rattle.ilk_plant.proofs.KnownNames.{board_on-known, boards_known, is_known}
+use Rattle.ilk_plant.specs.Draft.{NamedBoard, boards_from, boards_on, names_of_boards, names_of_sections, number_of, numbered, numbered_section, board_if_named}
 use Rattle.ilk_plant.specs.Name.{Name}
+use Rattle.ilk_plant.specs.declared.limits.TheConstants.{MAX_BOARDS, MAX_SECTIONS}
 use Rattle.ilk_plant.specs.Network.{beside, board_on}
-use Rattle.ilk_plant.specs.NetworkRules.{has_board_at_end}
-use Rattle.ilk_plant.specs.NetworkRules.{has_no_board_at_end}
-use Rattle.ilk_plant.specs.Plant.{EachOnce, board_of, next_to}
+use Rattle.ilk_plant.specs.NetworkRules.{has_board_at_end, has_neighbour_if_board}
+use Rattle.ilk_plant.specs.Plant.{board_of, next_to}
+use Rattle.ilk_base.proofs.Once.{EachOnce}
 use Rattle.ilk_plant.specs.declared.network.Dir.{Dir}
 use Rattle.ilk_plant.specs.declared.network.Dir.TheVariants.{Up, Down}
 use Rattle.ilk_plant.specs.declared.network.Section.{Section}
@@ -24,10 +23,11 @@ use Rattle.ilk_plant.specs.declared.draft.KindDraft.TheVariants.{Linear as Linea
 use Rattle.ilk_plant.specs.declared.draft.NetDraft.{NetDraft}
 use Rattle.ilk_plant.specs.declared.draft.SectionDraft.{SectionDraft}
 use Rattle.ilk_plant.specs.declared.draft.TableDraft.{TableDraft}
-
-or-true : (b : Bool) → (b || true) ≡ true
-or-true true = refl
-or-true false = refl
+use Rattle.ilk_base.proofs.Lists.{at-before, at-either, at-past, map-at}
+use Rattle.ilk_base.proofs.Options.{mapped-Some}
+use Rattle.ilk_base.proofs.Tested.{list_all-slice_get, list_all-weaken}
+use Rattle.ilk_base.proofs.Truth.{or-true}
+use Rattle.std.proofs.lemmas.Bool.{and_parts}
 
 -- a board that stands in a list of named boards has a known name
 abbrev names_in : List NamedBoard → List Name
@@ -42,24 +42,24 @@ known-before : (names back : List Name) (name : Option Name) → is_known names 
 known-before names back None h = refl
 known-before names back (Some name) h = rw (list_any-append (bytes_eq name) names back, h) refl
 
-board-own : (x : ℕ) (d : Dir) (name : Option Name) → is_known (names_in (board_named x d name)) name ≡ true
+board-own : (x : ℕ) (d : Dir) (name : Option Name) → is_known (names_in (board_if_named x d name)) name ≡ true
 board-own x d None = refl
 board-own x d (Some name) =
     let mine : bytes_eq name name ≡ true = (bytes_eq-Decides name name).1 refl in rw mine refl
 
 boards-own : (x : ℕ) (kind : KindDraft) → boards_known (names_in (boards_on x kind)) kind ≡ true
 boards-own x (LinearDraft down up board_down board_up) =
-    rw (map-append _ (board_named x Down board_down) (board_named x Up board_up), known-before (names_in (board_named x Down board_down)) (names_in (board_named x Up board_up)) board_down (board-own x Down board_down), known-after (names_in (board_named x Down board_down)) (names_in (board_named x Up board_up)) board_up (board-own x Up board_up)) refl
+    rw (map-append _ (board_if_named x Down board_down) (board_if_named x Up board_up), known-before (names_in (board_if_named x Down board_down)) (names_in (board_if_named x Up board_up)) board_down (board-own x Down board_down), known-after (names_in (board_if_named x Down board_down)) (names_in (board_if_named x Up board_up)) board_up (board-own x Up board_up)) refl
 boards-own x (PointDraft stem plus minus faces) = refl
 
 boards-before : (names back : List Name) (kind : KindDraft) → boards_known names kind ≡ true → boards_known (names ++ back) kind ≡ true
 boards-before names back (LinearDraft down up board_down board_up) h =
-    let parts = both _ _ h in rw (known-before names back board_down parts.0, known-before names back board_up parts.1) refl
+    let parts = and_parts _ _ h in rw (known-before names back board_down parts.0, known-before names back board_up parts.1) refl
 boards-before names back (PointDraft stem plus minus faces) h = refl
 
 boards-after : (front names : List Name) (kind : KindDraft) → boards_known names kind ≡ true → boards_known (front ++ names) kind ≡ true
 boards-after front names (LinearDraft down up board_down board_up) h =
-    let parts = both _ _ h in rw (known-after front names board_down parts.0, known-after front names board_up parts.1) refl
+    let parts = and_parts _ _ h in rw (known-after front names board_down parts.0, known-after front names board_up parts.1) refl
 boards-after front names (PointDraft stem plus minus faces) h = refl
 
 -- the boards of all sections have known names
@@ -86,8 +86,8 @@ length-boards_from x [] = omega arith
 length-boards_from x (section ∷ rest) =
     omega (arith, length-append (boards_on x section.kind) (boards_from (x + 1) rest), length-boards_on x section.kind, length-boards_from (x + 1) rest)
 
--- so there are at most 256 boards on 128 sections
-pub few-boards : (sections : List SectionDraft) → length sections ≤ 128 → length (names_of_boards sections) ≤ 256
+-- so there are at most twice as many boards as sections
+pub few-boards : (sections : List SectionDraft) → length sections ≤ MAX_SECTIONS → length (names_of_boards sections) ≤ MAX_BOARDS
 few-boards sections few =
     rw (length-map (boards_from 0 sections) (λ named. named.name)) (omega (arith, length-boards_from 0 sections))
 
@@ -110,13 +110,6 @@ boards-numbered net table x m d e =
     let on_numbered : board_on (numbered_section (names_of_sections net.sections) (names_of_boards net.sections) section.kind) d ≡ Some m = rw same at e1 in
     board_on-known (names_of_sections net.sections) (names_of_boards net.sections) section.kind d m (list_all-slice_get (λ s. boards_known (names_of_boards net.sections) s.kind) net.sections x section (boards_from-known 0 net.sections) there) on_numbered)))
 
--- what stands in two lists together stands in one of them
-at-either : {X : Type 0} (xs ys : List X) (j : ℕ) (x : X) → slice_get (xs ++ ys) j ≡ Some x → ((k : ℕ) × (slice_get xs k ≡ Some x)) ⊎ ((k : ℕ) × (slice_get ys k ≡ Some x))
-at-either [] ys j x e = inr (j, e)
-at-either (y ∷ xs) ys zero x e = inl (zero, e)
-at-either (y ∷ xs) ys (suc j) x e =
-    elim (at-either xs ys j x e) [ inl h ↦ inl (suc h.0, h.1) | inr h ↦ inr h ]
-
 -- the name that a section gives its board for direction d
 abbrev board_drafted : KindDraft → Dir → Option Name
 board_drafted (LinearDraft down up board_down board_up) Down = board_down
@@ -130,21 +123,21 @@ named_on x d name = record { name = name; board = record { section = x; dir = d 
 -- a board that a section names is on it
 named-listed : (x : ℕ) (kind : KindDraft) (d : Dir) (name : Name) → board_drafted kind d ≡ Some name → (k : ℕ) × (slice_get (boards_on x kind) k ≡ Some (named_on x d name))
 named-listed x (LinearDraft down up board_down board_up) Down name e =
-    (zero, at-before (board_named x Down board_down) (board_named x Up board_up) zero (named_on x Down name) (named-at x Down board_down name e))
+    (zero, at-before (board_if_named x Down board_down) (board_if_named x Up board_up) zero (named_on x Down name) (named-at x Down board_down name e))
   where
-    named-at : (x : ℕ) (d : Dir) (o : Option Name) (name : Name) → o ≡ Some name → slice_get (board_named x d o) 0 ≡ Some (named_on x d name)
+    named-at : (x : ℕ) (d : Dir) (o : Option Name) (name : Name) → o ≡ Some name → slice_get (board_if_named x d o) 0 ≡ Some (named_on x d name)
     named-at x d o name e = rw e refl
 named-listed x (LinearDraft down up board_down board_up) Up name e =
-    (length (board_named x Down board_down) + zero, at-past (board_named x Down board_down) (board_named x Up board_up) zero (named_on x Up name) (named-at x Up board_up name e))
+    (length (board_if_named x Down board_down) + zero, at-past (board_if_named x Down board_down) (board_if_named x Up board_up) zero (named_on x Up name) (named-at x Up board_up name e))
   where
-    named-at : (x : ℕ) (d : Dir) (o : Option Name) (name : Name) → o ≡ Some name → slice_get (board_named x d o) 0 ≡ Some (named_on x d name)
+    named-at : (x : ℕ) (d : Dir) (o : Option Name) (name : Name) → o ≡ Some name → slice_get (board_if_named x d o) 0 ≡ Some (named_on x d name)
     named-at x d o name e = rw e refl
 named-listed x (PointDraft stem plus minus faces) d name e = cc
 
 -- a board on a section is one that the section names
 named-drafted : (x : ℕ) (kind : KindDraft) (k : ℕ) (named : NamedBoard) → slice_get (boards_on x kind) k ≡ Some named → (named.board.section ≡ x) × (board_drafted kind named.board.dir ≡ Some named.name)
 named-drafted x (LinearDraft down up board_down board_up) k named e =
-    elim (at-either (board_named x Down board_down) (board_named x Up board_up) k named e) [
+    elim (at-either (board_if_named x Down board_down) (board_if_named x Up board_up) k named e) [
       | inl h ↦ let here = named-of x Down board_down h.0 named h.1 in
           let P : NamedBoard → Type 0 = λ n. (n.board.section ≡ x) × (board_drafted (LinearDraft down up board_down board_up) n.board.dir ≡ Some n.name) in
           subst P here.2 (refl, here.1)
@@ -153,7 +146,7 @@ named-drafted x (LinearDraft down up board_down board_up) k named e =
           subst P here.2 (refl, here.1)
     ]
   where
-    named-of : (x : ℕ) (d : Dir) (o : Option Name) (k : ℕ) (named : NamedBoard) → slice_get (board_named x d o) k ≡ Some named → (name : Name) × (o ≡ Some name) × (named_on x d name ≡ named)
+    named-of : (x : ℕ) (d : Dir) (o : Option Name) (k : ℕ) (named : NamedBoard) → slice_get (board_if_named x d o) k ≡ Some named → (name : Name) × (o ≡ Some name) × (named_on x d name ≡ named)
     named-of x d None k named e = cc
     named-of x d (Some name) zero named e = (name, refl, same_Some _ _ e)
     named-of x d (Some name) (suc k) named e = cc
@@ -189,10 +182,6 @@ board_on-drafted : (names boards : List Name) (kind : KindDraft) (d : Dir) → b
 board_on-drafted names boards (LinearDraft down up board_down board_up) Down = refl
 board_on-drafted names boards (LinearDraft down up board_down board_up) Up = refl
 board_on-drafted names boards (PointDraft stem plus minus faces) d = refl
-
-mapped-Some : {A B : Type 0} (f : A → B) (o : Option A) (y : B) → option_map f o ≡ Some y → (x : A) × (o ≡ Some x) × (f x ≡ y)
-mapped-Some f None y e = cc
-mapped-Some f (Some x) y e = (x, refl, same_Some _ _ e)
 
 -- the section that names the board m of the plant's section x for direction d
 board-drafted : (net : NetDraft) (table : TableDraft) (x m : ℕ) (d : Dir) → board_of (numbered net table) x d ≡ Some m → (section : SectionDraft) × (name : Name) × (slice_get net.sections x ≡ Some section) × (board_drafted section.kind d ≡ Some name) × (number_of (names_of_boards net.sections) name ≡ m)
@@ -241,7 +230,7 @@ boards-lead net table rules x m d e =
     let there : slice_get (numbered net table).sections x ≡ Some (numbered_section (names_of_sections net.sections) (names_of_boards net.sections) drafted.0.kind) = slice_get-map (λ section. numbered_section (names_of_sections net.sections) (names_of_boards net.sections) section.kind) net.sections x ∙ ap (option_map (λ section. numbered_section (names_of_sections net.sections) (names_of_boards net.sections) section.kind)) drafted.2 in
     rw there (by_kind drafted.0 drafted.0.kind d drafted.1 drafted.2 refl kept drafted.3)
   where
-    end-given : (names : List Name) (o board : Option Name) (name : Name) → board ≡ Some name → has_no_board_at_end o board ≡ true → 0 < length (option_to_list (option_map (number_of names) o))
+    end-given : (names : List Name) (o board : Option Name) (name : Name) → board ≡ Some name → has_neighbour_if_board o board ≡ true → 0 < length (option_to_list (option_map (number_of names) o))
     end-given names None board name e h = let bad : is_none (Some name) ≡ true = rw e at h in cc
     end-given names (Some given) board name e h = omega arith
 
@@ -251,9 +240,9 @@ boards-lead net table rules x m d e =
 
     by_kind : (section : SectionDraft) (kind : KindDraft) (d : Dir) (name : Name) → slice_get net.sections x ≡ Some section → section.kind ≡ kind → has_board_at_end net x ≡ false → board_drafted kind d ≡ Some name → 0 < length (beside (numbered_section (names_of_sections net.sections) (names_of_boards net.sections) kind) d)
     by_kind section (LinearDraft down up board_down board_up) Down name at is h given =
-        let kept : not (has_no_board_at_end down board_down && has_no_board_at_end up board_up) ≡ false = rw (at, is) at h in
-        end-given (names_of_sections net.sections) down board_down name given (both _ _ (not-not _ kept)).0
+        let kept : not (has_neighbour_if_board down board_down && has_neighbour_if_board up board_up) ≡ false = rw (at, is) at h in
+        end-given (names_of_sections net.sections) down board_down name given (and_parts _ _ (not-not _ kept)).0
     by_kind section (LinearDraft down up board_down board_up) Up name at is h given =
-        let kept : not (has_no_board_at_end down board_down && has_no_board_at_end up board_up) ≡ false = rw (at, is) at h in
-        end-given (names_of_sections net.sections) up board_up name given (both _ _ (not-not _ kept)).1
+        let kept : not (has_neighbour_if_board down board_down && has_neighbour_if_board up board_up) ≡ false = rw (at, is) at h in
+        end-given (names_of_sections net.sections) up board_up name given (and_parts _ _ (not-not _ kept)).1
     by_kind section (PointDraft stem plus minus faces) d name at is h given = cc

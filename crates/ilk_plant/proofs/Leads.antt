@@ -1,30 +1,19 @@
 -- Steps lead from one section to another exactly where a walk of any length does.
-use Rattle.std.proofs.Common.{◌≡◌, ℕ, zero, suc, ◌<◌, Bool, true, false, ◌&&◌, ◌||◌, ◌==◌, Option, Some, None, List, [], ◌∷◌, ◌++◌, length, bytes_eq, IsTrue, ◌⊎◌, inl, inr, refl, subst, arith}
+use Rattle.std.proofs.Common.{◌≡◌, ℕ, zero, suc, ◌<◌, Bool, true, false, ◌&&◌, ◌==◌, Option, Some, None, List, [], ◌∷◌, ◌++◌, length, bytes_eq, IsTrue, ◌⊎◌, inl, inr, refl, subst, arith}
 use Rattle.std.specs.Prelude.{◌↔◌}
 use Rattle.std.specs.List.{list_any, last_or}
 use Rattle.std.proofs.lemmas.List.{length-map}
 use Rattle.std.proofs.lemmas.List.Quantifiers.{position-Some}
 use Rattle.std.proofs.lemmas.Bool.Decides.{nat_tests}
-use Rattle.ilk_plant.proofs.KnownNames.{both}
 use Rattle.ilk_plant.specs.Draft.{names_of_sections}
 use Rattle.ilk_plant.specs.Name.{Name}
-use Rattle.ilk_plant.specs.Option.{is_some_and}
+use Rattle.ilk_base.specs.Option.{is_some_and}
 use Rattle.ilk_plant.specs.NetworkRules.{End, IsWalkUp, LeadsUp, Returns, ends_of, is_next_up, leads_by, names_section, returns, section_named}
 use Rattle.ilk_plant.specs.Network.{same_direction}
 use Rattle.ilk_plant.specs.declared.draft.NetDraft.{NetDraft}
 use Rattle.ilk_plant.specs.declared.network.Dir.TheVariants.{Up}
-
--- one of two tests passes
-pub either : (a b : Bool) → (a || b) ≡ true → (a ≡ true) ⊎ (b ≡ true)
-either true b h = inl refl
-either false b h = inr h
-
-pub left : (a b : Bool) → a ≡ true → (a || b) ≡ true
-left a b h = rw h refl
-
-pub right : (a b c : Bool) → b ≡ true → c ≡ true → (a || (b && c)) ≡ true
-right true b c h e = refl
-right false b c h e = rw (h, e) refl
+use Rattle.ilk_base.proofs.Truth.{either, left, right}
+use Rattle.std.proofs.lemmas.Bool.{and_parts}
 
 module _ (step : ℕ → ℕ → Bool) where
   -- what leads by fewer numbers leads by more
@@ -34,10 +23,10 @@ module _ (step : ℕ → ℕ → Bool) where
 
   -- to the last number, or from it, leads by way of those below it
   to_last : (n x : ℕ) → leads_by step (suc n) x n ≡ true → leads_by step n x n ≡ true
-  to_last n x h = elim (either _ _ h) [ inl e ↦ e | inr e ↦ (both _ _ e).0 ]
+  to_last n x h = elim (either _ _ h) [ inl e ↦ e | inr e ↦ (and_parts _ _ e).0 ]
 
   from_last : (n y : ℕ) → leads_by step (suc n) n y ≡ true → leads_by step n n y ≡ true
-  from_last n y h = elim (either _ _ h) [ inl e ↦ e | inr e ↦ (both _ _ e).1 ]
+  from_last n y h = elim (either _ _ h) [ inl e ↦ e | inr e ↦ (and_parts _ _ e).1 ]
 
   below_or_last : (n z : ℕ) → z < suc n → (z < n) ⊎ (z ≡ n)
   below_or_last n z h = by_test (z == n) refl
@@ -61,10 +50,10 @@ module _ (step : ℕ → ℕ → Bool) where
       in_between : ((u v w : ℕ) → u < n → leads_by step n v u ≡ true → leads_by step n u w ≡ true → leads_by step n v w ≡ true) → z < n → (leads_by step n x z ≡ true) ⊎ ((leads_by step n x n && leads_by step n n z) ≡ true) → (leads_by step n z y ≡ true) ⊎ ((leads_by step n z n && leads_by step n n y) ≡ true) → leads_by step (suc n) x y ≡ true
       in_between ih below (inl p) (inl q) = left (leads_by step n x y) (leads_by step n x n && leads_by step n n y) (ih z x y below p q)
       in_between ih below (inl p) (inr q) =
-          right (leads_by step n x y) (leads_by step n x n) (leads_by step n n y) (ih z x n below p (both (leads_by step n z n) (leads_by step n n y) q).0) (both (leads_by step n z n) (leads_by step n n y) q).1
+          right (leads_by step n x y) (leads_by step n x n) (leads_by step n n y) (ih z x n below p (and_parts (leads_by step n z n) (leads_by step n n y) q).0) (and_parts (leads_by step n z n) (leads_by step n n y) q).1
       in_between ih below (inr p) (inl q) =
-          right (leads_by step n x y) (leads_by step n x n) (leads_by step n n y) (both (leads_by step n x n) (leads_by step n n z) p).0 (ih z n y below (both (leads_by step n x n) (leads_by step n n z) p).1 q)
-      in_between ih below (inr p) (inr q) = right (leads_by step n x y) (leads_by step n x n) (leads_by step n n y) (both (leads_by step n x n) (leads_by step n n z) p).0 (both (leads_by step n z n) (leads_by step n n y) q).1
+          right (leads_by step n x y) (leads_by step n x n) (leads_by step n n y) (and_parts (leads_by step n x n) (leads_by step n n z) p).0 (ih z n y below (and_parts (leads_by step n x n) (leads_by step n n z) p).1 q)
+      in_between ih below (inr p) (inr q) = right (leads_by step n x y) (leads_by step n x n) (leads_by step n n y) (and_parts (leads_by step n x n) (leads_by step n n z) p).0 (and_parts (leads_by step n z n) (leads_by step n n y) q).1
 
 -- the number for which a name stands is that of a section
 pub section_named-below : (net : NetDraft) (name : Name) (y : ℕ) → section_named net name ≡ Some y → y < length net.sections
@@ -88,7 +77,7 @@ is_next_up-below net x y h = among (ends_of net x) h
     among [] h = cc
     among (end ∷ rest) h =
         elim (either (same_direction end.side Up && names_section net y end) (list_any (λ end. same_direction end.side Up && names_section net y end) rest) h) [
-          | inl e ↦ names_section-below net y end (both (same_direction end.side Up) (names_section net y end) e).1
+          | inl e ↦ names_section-below net y end (and_parts (same_direction end.side Up) (names_section net y end) e).1
           | inr e ↦ among rest e
         ]
 
@@ -118,7 +107,7 @@ module _ (net : NetDraft) where
   walk-from_leads (suc n) x y h =
       elim (either _ _ h) [
         | inl e ↦ walk-from_leads n x y e
-        | inr e ↦ joined (walk-from_leads n x n (both _ _ e).0) (walk-from_leads n n y (both _ _ e).1)
+        | inr e ↦ joined (walk-from_leads n x n (and_parts _ _ e).0) (walk-from_leads n n y (and_parts _ _ e).1)
       ]
     where
       joined : LeadsUp net x n → LeadsUp net n y → LeadsUp net x y

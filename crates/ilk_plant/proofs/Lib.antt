@@ -1,14 +1,11 @@
 pub mod AllowedNames
 pub mod Boards
-pub mod Counts
-pub mod Growth
 pub mod Leads
 pub mod NamesDiffer
 pub mod Neighbours
 pub mod KnownNames
 pub mod NumberedLists
 pub mod Once
-pub mod Options
 pub mod RoutesOf
 pub mod Rows
 pub mod PointNumbers
@@ -18,5 +15,4 @@ pub mod Shapes
 pub mod Sides
 pub mod Sound
 pub mod Steps
-pub mod Tests
 pub mod Walks

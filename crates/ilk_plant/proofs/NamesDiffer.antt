@@ -1,15 +1,17 @@
 -- The numbers for which names stand.
-use Rattle.std.proofs.Common.{◌≡◌, ℕ, zero, suc, ◌<◌, Bool, true, false, Option, Some, None, List, [], ◌∷◌, length, take, slice_get, get_or, nat_lt, bytes_eq, unwrap_or, refl, sym, ◌∙◌, ap, arith}
+use Rattle.std.proofs.Common.{◌≡◌, ℕ, ◌<◌, Bool, true, false, Option, Some, None, List, length, take, slice_get, get_or, nat_lt, bytes_eq, unwrap_or, refl, sym, ◌∙◌, ap, arith}
 use Rattle.std.specs.List.{list_any}
 use Rattle.std.proofs.lemmas.Bool.Decides.{nat_tests}
 use Rattle.std.proofs.lemmas.List.Quantifiers.{position-Some}
 use Rattle.std.proofs.lemmas.Option.{slice_get-get_or, slice_get_within}
 use Rattle.std.proofs.lemmas.Slice.Eq.{bytes_eq-Decides}
 use Rattle.ilk_plant.proofs.KnownNames.{number_of-known}
-use Rattle.ilk_plant.proofs.Tests.{list_any-from, list_any-none}
 use Rattle.ilk_plant.specs.Draft.{is_named_before, number_of}
 use Rattle.ilk_plant.specs.Name.{Name}
-use Rattle.ilk_plant.specs.Plant.{EachOnce, first_named}
+use Rattle.ilk_plant.specs.Plant.{first_named}
+use Rattle.ilk_base.proofs.Once.{EachOnce}
+use Rattle.ilk_base.proofs.Lists.{take-at}
+use Rattle.ilk_base.proofs.Tested.{list_any-from, list_any-none}
 
 -- a name that stands for a number is the name at that number
 pub first_named-at : (names : List Name) (name : Name) (z : ℕ) → first_named names name ≡ Some z → (z < length names) × (slice_get names z ≡ Some name)
@@ -40,13 +42,6 @@ first_named-below names name z e below = by_first (first_named names name) refl
 pub number_of-at : (names : List Name) (name : Name) → list_any (bytes_eq name) names ≡ true → slice_get names (number_of names name) ≡ Some name
 number_of-at names name known =
     (first_named-at names name (number_of names name) (first_named-below names name (number_of names name) refl (number_of-known names name known))).1
-
--- what stands before an index stands in the list up to there
-take-at : {X : Type 0} (xs : List X) (i j : ℕ) (x : X) → i < j → slice_get xs i ≡ Some x → slice_get (take j xs) i ≡ Some x
-take-at [] i j x h e = cc
-take-at (y ∷ xs) i zero x h e = absurd (omega arith)
-take-at (y ∷ xs) zero (suc j) x h e = e
-take-at (y ∷ xs) (suc i) (suc j) x h e = take-at xs i j x (omega arith) e
 
 -- names of which none equals an earlier one stand once each
 names-once : (names : List Name) → ((j : ℕ) (name : Name) → slice_get names j ≡ Some name → list_any (bytes_eq name) (take j names) ≡ false) → EachOnce names

@@ -1,23 +1,20 @@
 -- The sections next to a section of the plant, by the ends of its draft.
 use Rattle.std.proofs.Common.{◌≡◌, ℕ, zero, suc, ◌<◌, Bool, true, false, ◌&&◌, ◌==◌, not, Option, Some, None, List, [], ◌∷◌, ◌++◌, length, map, slice_get, count_by, bytes_eq, option_map, refl, sym, ◌∙◌, ap, arith}
 use Rattle.std.specs.List.{list_any}
-use Rattle.std.proofs.lemmas.Bool.{eqb-true, eq-eqb}
+use Rattle.std.proofs.lemmas.Bool.{eqb-true, eq-eqb, and_parts}
 use Rattle.std.specs.Cmp.Derive.{both_true}
 use Rattle.std.proofs.lemmas.Option.{same_Some, slice_get-map, slice_get_within}
 use Rattle.std.proofs.lemmas.Slice.Eq.{bytes_eq-Decides}
 use Rattle.ilk_plant.proofs.NamesDiffer.{first_named-at, known-at, number_of-at, number_of-first}
-use Rattle.ilk_plant.proofs.KnownNames.{both}
 use Rattle.ilk_plant.proofs.Once.{none_twice-turned}
 use Rattle.ilk_plant.proofs.Rules.{KeepsNetworkRules}
-use Rattle.ilk_plant.proofs.Tests.{list_any-at, list_any-from, list_any-none, map-at, not-true}
 use Rattle.ilk_plant.specs.Draft.{names_of_boards, names_of_sections, number_of, numbered, numbered_section}
 use Rattle.ilk_plant.specs.Name.{Name}
 use Rattle.ilk_plant.specs.Network.{beside, has_section, same_direction}
-use Rattle.ilk_plant.specs.Option.{is_some_and}
+use Rattle.ilk_base.specs.Option.{is_some_and}
 use Rattle.ilk_plant.specs.NetworkRules.{End, ends, ends_of, has_no_neighbour, names_another, names_once, names_section, opposite, section_named, stands_alone}
-use Rattle.ilk_plant.specs.NetworkRules.{all_differ}
+use Rattle.ilk_plant.specs.Once.{all_differ, none_twice}
 use Rattle.ilk_plant.specs.Plant.{first_named, next_to}
-use Rattle.ilk_plant.specs.TableRules.{none_twice}
 use Rattle.ilk_plant.specs.declared.network.Dir.{Dir}
 use Rattle.ilk_plant.specs.declared.network.Dir.TheVariants.{Up, Down}
 use Rattle.ilk_plant.specs.declared.draft.KindDraft.{KindDraft}
@@ -25,13 +22,17 @@ use Rattle.ilk_plant.specs.declared.draft.KindDraft.TheVariants.{Linear as Linea
 use Rattle.ilk_plant.specs.declared.draft.NetDraft.{NetDraft}
 use Rattle.ilk_plant.specs.declared.draft.SectionDraft.{SectionDraft}
 use Rattle.ilk_plant.specs.declared.draft.TableDraft.{TableDraft}
+use Rattle.ilk_base.proofs.Lists.{map-at}
+use Rattle.ilk_base.proofs.Options.{some-and}
+use Rattle.ilk_base.proofs.Tested.{list_any-at, list_any-from, list_any-none}
+use Rattle.ilk_base.proofs.Truth.{not-true}
 
 -- whether an end is on side d, and its name stands for number y
-abbrev pub leads_to : List Name → Dir → ℕ → End → Bool
-leads_to names d y end = same_direction end.side d && (number_of names end.name == y)
+abbrev pub end_leads_to : List Name → Dir → ℕ → End → Bool
+end_leads_to names d y end = same_direction end.side d && (number_of names end.name == y)
 
 -- what is beside a numbered section is what its ends name
-beside-ends : (names boards : List Name) (kind : KindDraft) (d : Dir) (y : ℕ) → has_section y (beside (numbered_section names boards kind) d) ≡ list_any (leads_to names d y) (ends kind)
+beside-ends : (names boards : List Name) (kind : KindDraft) (d : Dir) (y : ℕ) → has_section y (beside (numbered_section names boards kind) d) ≡ list_any (end_leads_to names d y) (ends kind)
 beside-ends names boards (LinearDraft None None board_down board_up) Down y = refl
 beside-ends names boards (LinearDraft None None board_down board_up) Up y = refl
 beside-ends names boards (LinearDraft None (Some up) board_down board_up) Down y = refl
@@ -46,10 +47,10 @@ beside-ends names boards (PointDraft stem plus minus Down) Up y = refl
 beside-ends names boards (PointDraft stem plus minus Down) Down y = refl
 
 -- what is next to a section of the plant is what its ends name
-pub next_to-ends : (net : NetDraft) (table : TableDraft) (x : ℕ) (d : Dir) (y : ℕ) → has_section y (next_to (numbered net table) x d) ≡ list_any (leads_to (names_of_sections net.sections) d y) (ends_of net x)
+pub next_to-ends : (net : NetDraft) (table : TableDraft) (x : ℕ) (d : Dir) (y : ℕ) → has_section y (next_to (numbered net table) x d) ≡ list_any (end_leads_to (names_of_sections net.sections) d y) (ends_of net x)
 next_to-ends net table x d y = by_section (slice_get net.sections x) refl
   where
-    by_section : (o : Option SectionDraft) → slice_get net.sections x ≡ o → has_section y (next_to (numbered net table) x d) ≡ list_any (leads_to (names_of_sections net.sections) d y) (ends_of net x)
+    by_section : (o : Option SectionDraft) → slice_get net.sections x ≡ o → has_section y (next_to (numbered net table) x d) ≡ list_any (end_leads_to (names_of_sections net.sections) d y) (ends_of net x)
     by_section None at =
         let none : slice_get (numbered net table).sections x ≡ None = slice_get-map (λ section. numbered_section (names_of_sections net.sections) (names_of_boards net.sections) section.kind) net.sections x ∙ ap (option_map (λ section. numbered_section (names_of_sections net.sections) (names_of_boards net.sections) section.kind)) at in
         rw (none, at) refl
@@ -65,11 +66,6 @@ ends-within net x k end e = by_section (slice_get net.sections x) refl
     by_section None at = let bad : slice_get {X = End} [] k ≡ Some end = rw at at e in cc
     by_section (Some section) at = slice_get_within net.sections x section at
 
--- a value that is there and passes
-pub some-and : {A : Type 0} (o : Option A) (test : A → Bool) → is_some_and o test ≡ true → (z : A) × (o ≡ Some z) × (test z ≡ true)
-some-and None test h = cc
-some-and (Some z) test h = (z, refl, h)
-
 -- each end of a section names another section
 pub end-names : (net : NetDraft) → KeepsNetworkRules net → (x k : ℕ) (end : End) → slice_get (ends_of net x) k ≡ Some end → names_another net x end ≡ true
 end-names net rules x k end at =
@@ -81,9 +77,9 @@ end-names net rules x k end at =
     not-not false h = cc
 
 -- the end by which a section of the plant is next to another
-pub next-end : (net : NetDraft) (table : TableDraft) (x y : ℕ) (d : Dir) → has_section y (next_to (numbered net table) x d) ≡ true → (k : ℕ) × (end : End) × (slice_get (ends_of net x) k ≡ Some end) × (leads_to (names_of_sections net.sections) d y end ≡ true)
+pub next-end : (net : NetDraft) (table : TableDraft) (x y : ℕ) (d : Dir) → has_section y (next_to (numbered net table) x d) ≡ true → (k : ℕ) × (end : End) × (slice_get (ends_of net x) k ≡ Some end) × (end_leads_to (names_of_sections net.sections) d y end ≡ true)
 next-end net table x y d h =
-    list_any-at (leads_to (names_of_sections net.sections) d y) (ends_of net x) (sym (next_to-ends net table x d y) ∙ h)
+    list_any-at (end_leads_to (names_of_sections net.sections) d y) (ends_of net x) (sym (next_to-ends net table x d y) ∙ h)
 
 -- the number for which the name at an end stands is that of a section, and of another one
 pub end-number : (net : NetDraft) → KeepsNetworkRules net → (x k y : ℕ) (end : End) → slice_get (ends_of net x) k ≡ Some end → number_of (names_of_sections net.sections) end.name ≡ y → (first_named (names_of_sections net.sections) end.name ≡ Some y) × (y < length (names_of_sections net.sections)) × ((y == x) ≡ false)
@@ -100,8 +96,8 @@ end-number net rules x k y end at number =
 -- a section next to another is a section, and not that other one
 pub next-known : (net : NetDraft) (table : TableDraft) → KeepsNetworkRules net → (x y : ℕ) (d : Dir) → has_section y (next_to (numbered net table) x d) ≡ true → (y < length (names_of_sections net.sections)) × ((y == x) ≡ false)
 next-known net table rules x y d h =
-    let found : (k : ℕ) × (end : End) × (slice_get (ends_of net x) k ≡ Some end) × (leads_to (names_of_sections net.sections) d y end ≡ true) = next-end net table x y d h in
-    let leads = both (same_direction found.1.side d) (number_of (names_of_sections net.sections) found.1.name == y) found.3 in
+    let found : (k : ℕ) × (end : End) × (slice_get (ends_of net x) k ≡ Some end) × (end_leads_to (names_of_sections net.sections) d y end ≡ true) = next-end net table x y d h in
+    let leads = and_parts (same_direction found.1.side d) (number_of (names_of_sections net.sections) found.1.name == y) found.3 in
     let facts = end-number net rules x found.0 y found.1 found.2 (eqb-true _ _ leads.1) in
     (facts.1, facts.2)
 
@@ -127,7 +123,7 @@ back-end net rules x k y end at number =
     let kept = list_any-none (λ e. is_some_and (section_named net e.name) (λ z. not (z == x) && not (names_once net x (opposite e.side) (ends_of net z)))) (ends_of net x) k end (rules.named_back x (ends-within net x k end at)) at in
     let at_y : (not (y == x) && not (names_once net x (opposite end.side) (ends_of net y))) ≡ false = rw known.0 at kept in
     let once = by-tests (y == x) (names_once net x (opposite end.side) (ends_of net y)) known.2 at_y in
-    (both (count_by (names_section net x) (ends_of net y) == 1) (list_any (λ other. names_section net x other && same_direction other.side (opposite end.side)) (ends_of net y)) once).1
+    (and_parts (count_by (names_section net x) (ends_of net y) == 1) (list_any (λ other. names_section net x other && same_direction other.side (opposite end.side)) (ends_of net y)) once).1
   where
     by-tests : (a b : Bool) → a ≡ false → (not a && not b) ≡ false → b ≡ true
     by-tests true b e h = cc
@@ -138,15 +134,15 @@ back-end net rules x k y end at number =
 pub next-back : (net : NetDraft) (table : TableDraft) → KeepsNetworkRules net → (x y : ℕ) (d : Dir) → has_section y (next_to (numbered net table) x d) ≡ true → has_section x (next_to (numbered net table) y (opposite d)) ≡ true
 next-back net table rules x y d h =
     let names : List Name = names_of_sections net.sections in
-    let found : (k : ℕ) × (end : End) × (slice_get (ends_of net x) k ≡ Some end) × (leads_to names d y end ≡ true) = next-end net table x y d h in
-    let leads = both (same_direction found.1.side d) (number_of names found.1.name == y) found.3 in
+    let found : (k : ℕ) × (end : End) × (slice_get (ends_of net x) k ≡ Some end) × (end_leads_to names d y end ≡ true) = next-end net table x y d h in
+    let leads = and_parts (same_direction found.1.side d) (number_of names found.1.name == y) found.3 in
     let side : found.1.side ≡ d = same-dir found.1.side d leads.0 in
     let named = back-end net rules x found.0 y found.1 found.2 (eqb-true _ _ leads.1) in
     let back : (k : ℕ) × (end : End) × (slice_get (ends_of net y) k ≡ Some end) × ((names_section net x end && same_direction end.side (opposite found.1.side)) ≡ true) = list_any-at (λ other. names_section net x other && same_direction other.side (opposite found.1.side)) (ends_of net y) named in
-    let parts = both (names_section net x back.1) (same_direction back.1.side (opposite found.1.side)) back.3 in
+    let parts = and_parts (names_section net x back.1) (same_direction back.1.side (opposite found.1.side)) back.3 in
     let number = names-number net x back.1 parts.0 in
     let turned : same_direction back.1.side (opposite d) ≡ true = ap (λ e. same_direction back.1.side (opposite e)) (sym side) ∙ parts.1 in
-    next_to-ends net table y (opposite d) x ∙ list_any-from (leads_to names (opposite d) x) (ends_of net y) back.0 back.1 back.2 (both_true turned (eq-eqb _ _ number))
+    next_to-ends net table y (opposite d) x ∙ list_any-from (end_leads_to names (opposite d) x) (ends_of net y) back.0 back.1 back.2 (both_true turned (eq-eqb _ _ number))
   where
     names-number : (net : NetDraft) (x : ℕ) (end : End) → names_section net x end ≡ true → number_of (names_of_sections net.sections) end.name ≡ x
     names-number net x end h =
@@ -157,7 +153,7 @@ next-back net table rules x y d h =
 numbers-once : (names : List Name) (ends : List End) → ((k : ℕ) (end : End) → slice_get ends k ≡ Some end → list_any (bytes_eq end.name) names ≡ true) → all_differ (map (λ end. end.name) ends) ≡ true → none_twice (map (λ end. number_of names end.name) ends) ≡ true
 numbers-once names [] known h = refl
 numbers-once names (end ∷ rest) known h =
-    let parts = both (not (list_any (bytes_eq end.name) (map (λ end. end.name) rest))) (all_differ (map (λ end. end.name) rest)) h in
+    let parts = and_parts (not (list_any (bytes_eq end.name) (map (λ end. end.name) rest))) (all_differ (map (λ end. end.name) rest)) h in
     let none = not-true (list_any (λ y. y == number_of names end.name) (map (λ end. number_of names end.name) rest)) (λ twice.
     let found : (k : ℕ) × (y : ℕ) × (slice_get (map (λ end. number_of names end.name) rest) k ≡ Some y) × ((y == number_of names end.name) ≡ true) = list_any-at (λ y. y == number_of names end.name) (map (λ end. number_of names end.name) rest) twice in
     let other : (e : End) × (slice_get rest found.0 ≡ Some e) × (number_of names e.name ≡ found.1) = map-at (λ end. number_of names end.name) rest found.0 found.1 found.2 in
@@ -174,7 +170,7 @@ numbers-once names (end ∷ rest) known h =
     not-both true e f = cc
     not-both false e f = cc
 
--- what is beside a section on both sides, in the order of its ends or turned
+-- what is beside a section on and_parts sides, in the order of its ends or turned
 beside-once : (names boards : List Name) (kind : KindDraft) → none_twice (map (λ end. number_of names end.name) (ends kind)) ≡ true → none_twice (beside (numbered_section names boards kind) Down ++ beside (numbered_section names boards kind) Up) ≡ true
 beside-once names boards (LinearDraft None None board_down board_up) h = h
 beside-once names boards (LinearDraft None (Some up) board_down board_up) h = h

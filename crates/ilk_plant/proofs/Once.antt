@@ -1,33 +1,22 @@
--- Lists of numbers in which none stands twice.
-use Rattle.std.proofs.Common.{◌≡◌, ℕ, zero, suc, Bool, true, false, ◌==◌, not, Some, List, [], ◌∷◌, slice_get, refl, sym, ap, arith}
-use Rattle.std.specs.List.{list_any}
+-- Lists of numbers, and of names, in which none stands twice, by their places.
+use Rattle.std.proofs.Common.{◌≡◌, ℕ, true, ◌==◌, List, [], ◌∷◌, refl, arith, bytes_eq}
 use Rattle.std.proofs.lemmas.Bool.{eq-eqb}
 use Rattle.std.proofs.lemmas.Bool.Decides.{nat_tests}
-use Rattle.ilk_plant.proofs.KnownNames.{both}
-use Rattle.ilk_plant.proofs.Tests.{list_any-from}
-use Rattle.ilk_plant.specs.Plant.{EachOnce}
-use Rattle.ilk_plant.specs.TableRules.{none_twice}
+use Rattle.std.proofs.lemmas.Slice.Eq.{bytes_eq-Decides}
+use Rattle.ilk_base.proofs.Once.{EachOnce, each_once-from_places, each_once-places}
+use Rattle.ilk_plant.specs.Name.{Name}
+use Rattle.ilk_plant.specs.Once.{all_differ, none_twice}
 
--- the number at the head of a list stands nowhere after it
-head-once : (x : ℕ) (xs : List ℕ) (j v : ℕ) → none_twice (x ∷ xs) ≡ true → x ≡ v → slice_get xs j ≡ Some v → ⊥
-head-once x xs j v h e at =
-    let parts = both (not (list_any (λ y. y == x) xs)) (none_twice xs) h in
-    let there : list_any (λ y. y == x) xs ≡ true = list_any-from (λ y. y == x) xs j v at (eq-eqb v x (sym e)) in
-    not-both (list_any (λ y. y == x) xs) there parts.0
-  where
-    not-both : (b : Bool) → b ≡ true → not b ≡ true → ⊥
-    not-both true e f = cc
-    not-both false e f = cc
+-- the test says that each number stands at one place alone
+pub none_twice-places : (xs : List ℕ) → none_twice xs ≡ true → EachOnce xs
+none_twice-places xs h = each_once-places (λ x y. y == x) (λ x. eq-eqb x x refl) xs h
 
--- what the test says of each pair of places
-pub none_twice-once : (xs : List ℕ) → none_twice xs ≡ true → EachOnce xs
-none_twice-once [] h i j v at also = cc
-none_twice-once (x ∷ xs) h zero zero v at also = refl
-none_twice-once (x ∷ xs) h zero (suc j) v at also = let same : x ≡ v = cc in absurd (head-once x xs j v h same also)
-none_twice-once (x ∷ xs) h (suc i) zero v at also = let same : x ≡ v = cc in absurd (head-once x xs i v h same at)
-none_twice-once (x ∷ xs) h (suc i) (suc j) v at also =
-    let parts = both (not (list_any (λ y. y == x) xs)) (none_twice xs) h in
-    ap suc (none_twice-once xs parts.1 i j v at also)
+-- the test says that each name stands at one place alone, and passes only then
+pub all_differ-places : (names : List Name) → all_differ names ≡ true → EachOnce names
+all_differ-places names h = each_once-places bytes_eq (λ name. (bytes_eq-Decides name name).1 refl) names h
+
+pub all_differ-from_places : (names : List Name) → EachOnce names → all_differ names ≡ true
+all_differ-from_places names once = each_once-from_places bytes_eq (λ x y same. (bytes_eq-Decides x y).0 same) names once
 
 -- three numbers that differ do so in another order
 pub none_twice-turned : (a b c : ℕ) → none_twice (a ∷ b ∷ c ∷ []) ≡ true → none_twice (b ∷ c ∷ a ∷ []) ≡ true

@@ -4,13 +4,13 @@ use Rattle.std.specs.List.{range_with_len}
 use Rattle.std.proofs.lemmas.List.FromFn.{length-map-range_with_len, map-range_with_len_more}
 use Rattle.std.proofs.lemmas.List.Sums.{count_by_more_no, count_by_more_yes}
 use Rattle.std.proofs.lemmas.Option.{cond_some, option_and_then_some, same_Some, slice_get-get_or, slice_get-map}
-use Rattle.ilk_plant.specs.Option.{◌>>=◌, only_if}
+use Rattle.ilk_base.specs.Option.{◌>>=◌, only_if}
 use Rattle.ilk_plant.specs.Network.{is_point}
 use Rattle.ilk_plant.specs.Plant.{PlantLists, point_count, point_number, point_numbers}
 use Rattle.ilk_plant.specs.declared.network.Section.{Section}
-use Rattle.ilk_plant.proofs.Counts.{count_by-take-lt}
-use Rattle.ilk_plant.proofs.Options.{IfSome-from}
-use Rattle.ilk_plant.proofs.Rules.{range-at}
+use Rattle.ilk_base.proofs.Options.{IfSome-from}
+use Rattle.ilk_base.proofs.Ranges.{range-at}
+use Rattle.ilk_base.proofs.Tested.{count_by-take-lt}
 
 module _ (p : PlantLists) (x : ℕ) (d : Section) (within : x < length p.sections) (numbers new : List (Option ℕ)) (points : ℕ) (so_far : numbers ≡ map (point_number p) (range_with_len 0 x)) (count : points ≡ count_by is_point (take x p.sections)) where
   here : (b : Bool) → is_point (get_or p.sections x d) ≡ b → point_number p x ≡ only_if b (count_by is_point (take x p.sections))

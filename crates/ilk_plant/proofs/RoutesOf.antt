@@ -1,27 +1,27 @@
 -- The routes of the plant, where no rule of the table is broken.
-use Rattle.std.proofs.Common.{◌≡◌, ◌≢◌, ℕ, ◌<◌, ◌≤◌, Bool, true, false, ◌&&◌, not, Option, Some, None, IsSome, IsTrue, All, length, slice_get, nat_lt, refl, sym, ◌∙◌, ap, arith}
+use Rattle.std.proofs.Common.{◌≡◌, ◌≢◌, ℕ, ◌<◌, ◌≤◌, Bool, true, false, ◌&&◌, not, Option, Some, None, IsSome, IsTrue, All, length, nat_le, slice_get, nat_lt, refl, sym, ◌∙◌, ap, arith}
 use Rattle.std.specs.List.{list_all}
 use Rattle.std.proofs.lemmas.Bool.Decides.{nat_tests}
 use Rattle.std.proofs.lemmas.List.{length-map}
-use Rattle.std.proofs.lemmas.List.Elements.{All-get_or}
 use Rattle.std.proofs.lemmas.List.Folds.{list_all-append, list_all-map}
-use Rattle.std.proofs.lemmas.Option.{get_or_from_slice_get, slice_get_within}
-use Rattle.ilk_plant.proofs.KnownNames.{All-tested, both}
-use Rattle.ilk_plant.proofs.Once.{none_twice-once}
+use Rattle.std.proofs.lemmas.Option.{slice_get_within}
 use Rattle.ilk_plant.proofs.Rules.{KeepsTableRules}
-use Rattle.ilk_plant.proofs.Tests.{map-at}
 use Rattle.ilk_plant.specs.Draft.{names_of_boards, names_of_routes, names_of_sections, number_of, numbered, numbered_point, numbered_route}
-use Rattle.ilk_plant.specs.Limits.{RouteHasLimits}
+use Rattle.ilk_plant.specs.Limits.{route_has_limits}
+use Rattle.ilk_plant.specs.declared.limits.TheConstants.{MAX_CONFLICTS, MAX_OVERLAP, MAX_PATH, MAX_POINTS}
 use Rattle.ilk_plant.specs.Network.{has_section, is_point}
-use Rattle.ilk_plant.specs.Option.{is_some_and}
-use Rattle.ilk_plant.specs.Plant.{IsRouteOf, PlantLists, point_number}
-use Rattle.ilk_plant.specs.TableRules.{has_conflicts_once, has_destination_or_none, has_points_once, has_sections_once, has_source, is_board, is_other_route, is_section, none_twice, points_of, route_fails, sections_of}
-use Rattle.ilk_plant.specs.Plant.{is_point_section}
+use Rattle.ilk_base.specs.Option.{is_some_and}
+use Rattle.ilk_plant.specs.Plant.{IsRouteOf, PlantLists, point_number, is_point_section}
+use Rattle.ilk_plant.specs.TableRules.{has_conflicts_once, has_destination_or_none, has_points_once, has_sections_once, has_source, is_board, is_other_route, is_section, points_of, route_fails, sections_of}
+use Rattle.ilk_plant.specs.Once.{none_twice}
 use Rattle.ilk_plant.specs.declared.draft.NetDraft.{NetDraft}
 use Rattle.ilk_plant.specs.declared.draft.RouteDraft.{RouteDraft}
 use Rattle.ilk_plant.specs.declared.draft.TableDraft.{TableDraft}
 use Rattle.ilk_plant.specs.declared.network.Section.{Section}
 use Rattle.ilk_plant.specs.declared.table.Route.{Route}
+use Rattle.ilk_base.proofs.Lists.{map-at}
+use Rattle.ilk_base.proofs.Tested.{All-tested, list_all-slice_get}
+use Rattle.std.proofs.lemmas.Bool.{and_parts, leb-true}
 
 -- a route that doesn't fail a test passes it
 pub route-passes : (p : PlantLists) (test : Route → Bool) (r : ℕ) (route : Route) → route_fails p test r ≡ false → slice_get p.routes r ≡ Some route → test route ≡ true
@@ -61,45 +61,54 @@ point-numbered p x h = by_section (slice_get p.sections x) refl
 other : (p : PlantLists) (r q : ℕ) → is_other_route p r q ≡ true → q ≢ r
 other p r q h = grind (arith, nat_tests)
 
+-- what the limits of a route say of its lists
+limits-kept : (route : RouteDraft) → route_has_limits route ≡ true → (1 ≤ length route.path) × (length route.path ≤ MAX_PATH) × (length route.overlap ≤ MAX_OVERLAP) × (length route.points ≤ MAX_POINTS) × (length route.conflicts ≤ MAX_CONFLICTS)
+limits-kept route h =
+    let three = and_parts _ (nat_le (length route.conflicts) MAX_CONFLICTS) h in
+    let two = and_parts _ (nat_le (length route.points) MAX_POINTS) three.0 in
+    let one = and_parts _ (nat_le (length route.overlap) MAX_OVERLAP) two.0 in
+    let path = and_parts (nat_le 1 (length route.path)) (nat_le (length route.path) MAX_PATH) one.0 in
+    (leb-true _ _ path.0, leb-true _ _ path.1, leb-true _ _ one.1, leb-true _ _ two.1, leb-true _ _ three.1)
+
 -- a route of the plant has the limits of its draft
-route-limits : (net : NetDraft) (table : TableDraft) (r : ℕ) (route : Route) → All RouteHasLimits table.routes → slice_get (numbered net table).routes r ≡ Some route → (1 ≤ length route.path) × (length route.path ≤ 32) × (length route.overlap ≤ 8) × (length route.points ≤ 40) × (length route.conflicts ≤ 128)
+route-limits : (net : NetDraft) (table : TableDraft) (r : ℕ) (route : Route) → list_all route_has_limits table.routes ≡ true → slice_get (numbered net table).routes r ≡ Some route → (1 ≤ length route.path) × (length route.path ≤ MAX_PATH) × (length route.overlap ≤ MAX_OVERLAP) × (length route.points ≤ MAX_POINTS) × (length route.conflicts ≤ MAX_CONFLICTS)
 route-limits net table r route each e =
     let found : (draft : RouteDraft) × (slice_get table.routes r ≡ Some draft) × (numbered_route (names_of_sections net.sections) (names_of_boards net.sections) (names_of_routes table.routes) draft ≡ route) = route-at net table r route e in
-    let limits : RouteHasLimits found.0 = rw (get_or_from_slice_get table.routes r found.0 found.0 found.1) at (All-get_or RouteHasLimits table.routes r found.0 (slice_get_within table.routes r found.0 found.1) each) in
+    let limits = limits-kept found.0 (list_all-slice_get route_has_limits table.routes r found.0 each found.1) in
     let path : length route.path ≡ length found.0.path = ap (λ a. length a.path) (sym found.2) ∙ length-map found.0.path (number_of (names_of_sections net.sections)) in
     let overlap : length route.overlap ≡ length found.0.overlap = ap (λ a. length a.overlap) (sym found.2) ∙ length-map found.0.overlap (number_of (names_of_sections net.sections)) in
     let points : length route.points ≡ length found.0.points = ap (λ a. length a.points) (sym found.2) ∙ length-map found.0.points (numbered_point (names_of_sections net.sections)) in
     let conflicts : length route.conflicts ≡ length found.0.conflicts = ap (λ a. length a.conflicts) (sym found.2) ∙ length-map found.0.conflicts (number_of (names_of_routes table.routes)) in
-    (omega (arith, path, limits.path_begins), omega (arith, path, limits.path), omega (arith, overlap, limits.overlap), omega (arith, points, limits.points), omega (arith, conflicts, limits.conflicts))
+    (omega (arith, path, limits.0), omega (arith, path, limits.1), omega (arith, overlap, limits.2), omega (arith, points, limits.3), omega (arith, conflicts, limits.4))
 
 -- a route of the plant speaks of what there is
-pub route-known : (net : NetDraft) (table : TableDraft) → KeepsTableRules (numbered net table) → All RouteHasLimits table.routes → (r : ℕ) (route : Route) → slice_get (numbered net table).routes r ≡ Some route → IsRouteOf (numbered net table) route
+pub route-known : (net : NetDraft) (table : TableDraft) → KeepsTableRules (numbered net table) → list_all route_has_limits table.routes ≡ true → (r : ℕ) (route : Route) → slice_get (numbered net table).routes r ≡ Some route → IsRouteOf (numbered net table) route
 route-known net table rules each r route e =
     let p : PlantLists = numbered net table in
     let within : r < length p.routes = slice_get_within p.routes r route e in
     let source = route-passes p (has_source p) r route (rules.sources r within) e in
-    let sections = both (list_all (is_section p) (sections_of route)) (none_twice (sections_of route)) (route-passes p (has_sections_once p) r route (rules.sections_once r within) e) in
-    let each_section = both (list_all (is_section p) route.path) (list_all (is_section p) route.overlap) (sym (list_all-append (is_section p) route.path route.overlap) ∙ sections.0) in
-    let points = both (list_all (λ x. is_point_section p x && has_section x (sections_of route)) (points_of route)) (none_twice (points_of route)) (route-passes p (has_points_once p) r route (rules.points_once r within) e) in
+    let sections = and_parts (list_all (is_section p) (sections_of route)) (none_twice (sections_of route)) (route-passes p (has_sections_once p) r route (rules.sections_once r within) e) in
+    let each_section = and_parts (list_all (is_section p) route.path) (list_all (is_section p) route.overlap) (sym (list_all-append (is_section p) route.path route.overlap) ∙ sections.0) in
+    let points = and_parts (list_all (λ x. is_point_section p x && has_section x (sections_of route)) (points_of route)) (none_twice (points_of route)) (route-passes p (has_points_once p) r route (rules.points_once r within) e) in
     let each_point : list_all (λ listed. is_point_section p listed.point && has_section listed.point (sections_of route)) route.points ≡ true = sym (list_all-map (λ x. is_point_section p x && has_section x (sections_of route)) (λ listed. listed.point) route.points) ∙ points.0 in
     let destination = route-passes p (λ a. has_destination_or_none p a.destination) r route (rules.destinations r within) e in
-    let conflicts = both (list_all (is_other_route p r) route.conflicts) (none_twice route.conflicts) (route-passes p (has_conflicts_once p r) r route (rules.conflicts_once r within) e) in
+    let conflicts = and_parts (list_all (is_other_route p r) route.conflicts) (none_twice route.conflicts) (route-passes p (has_conflicts_once p r) r route (rules.conflicts_once r within) e) in
     let lengths = route-limits net table r route each e in
     record {
       destination = λ m is. let known : is_board p m ≡ true = rw is at destination in below m (length p.boards) known;
-      sections_once = none_twice-once (sections_of route) sections.1;
-      points_are_points = All-tested (λ listed. is_point_section p listed.point && has_section listed.point (sections_of route)) (λ listed. IsSome (point_number p listed.point)) (λ listed h. point-numbered p listed.point (both _ _ h).0) route.points each_point;
-      points_passed = All-tested (λ listed. is_point_section p listed.point && has_section listed.point (sections_of route)) (λ listed. IsTrue (has_section listed.point (sections_of route))) (λ listed h. (both _ _ h).1) route.points each_point;
-      points_once = none_twice-once (points_of route) points.1;
-      conflicts_once = none_twice-once route.conflicts conflicts.1;
+      sections_once = sections.1;
+      points_are_points = All-tested (λ listed. is_point_section p listed.point && has_section listed.point (sections_of route)) (λ listed. IsSome (point_number p listed.point)) (λ listed h. point-numbered p listed.point (and_parts _ _ h).0) route.points each_point;
+      points_passed = All-tested (λ listed. is_point_section p listed.point && has_section listed.point (sections_of route)) (λ listed. IsTrue (has_section listed.point (sections_of route))) (λ listed h. (and_parts _ _ h).1) route.points each_point;
+      points_once = points.1;
+      conflicts_once = conflicts.1;
       short_overlap = lengths.2;
       few_points = lengths.3;
       few_conflicts = lengths.4;
       source = below route.source (length p.boards) source;
       path = All-tested (is_section p) (λ x. x < length p.sections) (λ x h. below x (length p.sections) h) route.path each_section.0;
       overlap = All-tested (is_section p) (λ x. x < length p.sections) (λ x h. below x (length p.sections) h) route.overlap each_section.1;
-      points = All-tested (λ listed. is_point_section p listed.point && has_section listed.point (sections_of route)) (λ listed. listed.point < length p.sections) (λ listed h. point-within p listed.point (both _ _ h).0) route.points each_point;
-      conflicts = All-tested (is_other_route p r) (λ q. q < length p.routes) (λ q h. below q (length p.routes) (both _ _ h).0) route.conflicts conflicts.0;
+      points = All-tested (λ listed. is_point_section p listed.point && has_section listed.point (sections_of route)) (λ listed. listed.point < length p.sections) (λ listed h. point-within p listed.point (and_parts _ _ h).0) route.points each_point;
+      conflicts = All-tested (is_other_route p r) (λ q. q < length p.routes) (λ q h. below q (length p.routes) (and_parts _ _ h).0) route.conflicts conflicts.0;
       path_begins = omega (arith, lengths.0);
       path_ends = lengths.1;
     }
@@ -107,5 +116,5 @@ route-known net table rules each r route e =
 -- the conflicts of a route of the plant are other routes
 pub conflicts-other : (p : PlantLists) → KeepsTableRules p → (r : ℕ) (route : Route) → slice_get p.routes r ≡ Some route → All (λ q. q ≢ r) route.conflicts
 conflicts-other p rules r route e =
-    let conflicts = both (list_all (is_other_route p r) route.conflicts) (none_twice route.conflicts) (route-passes p (has_conflicts_once p r) r route (rules.conflicts_once r (slice_get_within p.routes r route e)) e) in
+    let conflicts = and_parts (list_all (is_other_route p r) route.conflicts) (none_twice route.conflicts) (route-passes p (has_conflicts_once p r) r route (rules.conflicts_once r (slice_get_within p.routes r route e)) e) in
     All-tested (is_other_route p r) (λ q. q ≢ r) (λ q h. other p r q h) route.conflicts conflicts.0

@@ -1,22 +1,17 @@
 -- What an empty list of broken rules says: each test of a rule fails at each place.
-use Rattle.std.proofs.Common.{◌≡◌, ℕ, ◌<◌, Bool, false, None, Some, List, [], ◌++◌, length, slice_get, ◌∙◌, arith, ap}
+use Rattle.std.proofs.Common.{◌≡◌, ℕ, ◌<◌, Bool, false, None, List, [], ◌++◌, length}
 use Rattle.std.specs.List.{filter, range_with_len}
-use Rattle.std.proofs.lemmas.List.FromFn.{get_or-range_with_len, length-range_with_len}
-use Rattle.std.proofs.lemmas.Option.{slice_get-get_or}
-use Rattle.ilk_plant.proofs.Tests.{append-none, filter-none, map-none}
 use Rattle.ilk_plant.specs.Broken.{broken_at}
 use Rattle.ilk_plant.specs.Draft.{is_named_before, names_of_boards, names_of_sections}
-use Rattle.ilk_plant.specs.NetworkRules.{has_board_at_end, is_not_named_back, names_no_other, network_rules_broken, repeats_neighbour, returns, stands_alone}
+use Rattle.ilk_plant.specs.NetworkRules.{has_board_at_end, is_not_named_back, network_rules_broken, repeats_neighbour, returns, stands_alone, has_wrong_neighbour}
 use Rattle.ilk_plant.specs.Plant.{PlantLists}
 use Rattle.ilk_plant.specs.TableRules.{has_conflicts_once, has_destination_or_none, has_points_once, has_sections_once, has_source, route_fails, routes_broken}
 use Rattle.ilk_plant.specs.declared.broken.Rule.{Rule}
 use Rattle.ilk_plant.specs.declared.broken.Rule.TheVariants.{N1, N2, N3, N4, N5, N6, N7, N8, R1, R2, R3, R4, R5, R6}
 use Rattle.ilk_plant.specs.declared.draft.NetDraft.{NetDraft}
-
--- the numbers from 0 on, by index
-pub range-at : (n i : ℕ) → i < n → slice_get (range_with_len 0 n) i ≡ Some i
-range-at n i h =
-    slice_get-get_or (range_with_len 0 n) i 0 (rw (length-range_with_len 0 n) h) ∙ ap Some (get_or-range_with_len 0 n i 0 h ∙ omega arith)
+use Rattle.ilk_base.proofs.Lists.{append-none, map-none}
+use Rattle.ilk_base.proofs.Ranges.{range-at}
+use Rattle.ilk_base.proofs.Tested.{filter-none}
 
 -- a rule that is broken at no place
 pub rule-kept : (rule : Rule) (n : ℕ) (test : ℕ → Bool) → broken_at rule n test ≡ [] → (i : ℕ) → i < n → test i ≡ false
@@ -44,7 +39,7 @@ eight-none a b c d e f g h k =
 pub record KeepsNetworkRules (net : NetDraft) : Type 0 where
   pub sections_differ : (i : ℕ) → i < length net.sections → is_named_before (names_of_sections net.sections) i ≡ false
   pub boards_differ : (i : ℕ) → i < length (names_of_boards net.sections) → is_named_before (names_of_boards net.sections) i ≡ false
-  pub neighbours_other : (i : ℕ) → i < length net.sections → names_no_other net i ≡ false
+  pub neighbours_other : (i : ℕ) → i < length net.sections → has_wrong_neighbour net i ≡ false
   pub neighbours_differ : (i : ℕ) → i < length net.sections → repeats_neighbour net i ≡ false
   pub named_back : (i : ℕ) → i < length net.sections → is_not_named_back net i ≡ false
   pub none_alone : (i : ℕ) → i < length net.sections → stands_alone net i ≡ false
@@ -54,11 +49,11 @@ pub record KeepsNetworkRules (net : NetDraft) : Type 0 where
 pub network_rules-kept : (net : NetDraft) → network_rules_broken net ≡ [] → KeepsNetworkRules net
 network_rules-kept net e =
     let n : ℕ = length net.sections in
-    let none = eight-none (broken_at N1 n (is_named_before (names_of_sections net.sections))) (broken_at N2 (length (names_of_boards net.sections)) (is_named_before (names_of_boards net.sections))) (broken_at N3 n (names_no_other net)) (broken_at N4 n (repeats_neighbour net)) (broken_at N5 n (is_not_named_back net)) (broken_at N6 n (stands_alone net)) (broken_at N7 n (returns net)) (broken_at N8 n (has_board_at_end net)) e in
+    let none = eight-none (broken_at N1 n (is_named_before (names_of_sections net.sections))) (broken_at N2 (length (names_of_boards net.sections)) (is_named_before (names_of_boards net.sections))) (broken_at N3 n (has_wrong_neighbour net)) (broken_at N4 n (repeats_neighbour net)) (broken_at N5 n (is_not_named_back net)) (broken_at N6 n (stands_alone net)) (broken_at N7 n (returns net)) (broken_at N8 n (has_board_at_end net)) e in
     record {
       sections_differ = rule-kept N1 n (is_named_before (names_of_sections net.sections)) none.0;
       boards_differ = rule-kept N2 (length (names_of_boards net.sections)) (is_named_before (names_of_boards net.sections)) none.1;
-      neighbours_other = rule-kept N3 n (names_no_other net) none.2;
+      neighbours_other = rule-kept N3 n (has_wrong_neighbour net) none.2;
       neighbours_differ = rule-kept N4 n (repeats_neighbour net) none.3;
       named_back = rule-kept N5 n (is_not_named_back net) none.4;
       none_alone = rule-kept N6 n (stands_alone net) none.5;

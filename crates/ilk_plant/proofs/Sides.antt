@@ -3,23 +3,26 @@ use Rattle.std.proofs.Common.{◌≡◌, ℕ, ◌+◌, true, false, ◌==◌, So
 use Rattle.std.proofs.lemmas.Bool.{eqb-true}
 use Rattle.std.proofs.lemmas.Option.{slice_get_within}
 use Rattle.ilk_plant.proofs.NamesDiffer.{first_named-own}
-use Rattle.ilk_plant.proofs.Rows.{at-before, at-past}
-use Rattle.ilk_plant.proofs.Tests.{list_any-at, not-true}
+use Rattle.ilk_plant.proofs.Once.{all_differ-places, none_twice-places}
+use Rattle.ilk_plant.specs.Once.{none_twice}
 use Rattle.ilk_plant.specs.Name.{Name}
 use Rattle.ilk_plant.specs.Network.{has_section}
 use Rattle.ilk_plant.specs.NetworkRules.{opposite}
-use Rattle.ilk_plant.specs.Plant.{EachOnce, IsPlant, PlantLists, first_named, next_to}
+use Rattle.ilk_plant.specs.Plant.{IsPlant, PlantLists, first_named, next_to}
 use Rattle.ilk_plant.specs.declared.network.Dir.{Dir}
 use Rattle.ilk_plant.specs.declared.network.Dir.TheVariants.{Up, Down}
+use Rattle.ilk_base.proofs.Lists.{at-before, at-past}
+use Rattle.ilk_base.proofs.Tested.{list_any-at}
+use Rattle.ilk_base.proofs.Truth.{not-true}
 
 -- what stands in one of two lists doesn't stand in the other, where nothing stands twice in both together
-pub once-apart : (xs ys : List ℕ) (x : ℕ) → EachOnce (xs ++ ys) → has_section x xs ≡ true → has_section x ys ≡ true → ⊥
+pub once-apart : (xs ys : List ℕ) (x : ℕ) → none_twice (xs ++ ys) ≡ true → has_section x xs ≡ true → has_section x ys ≡ true → ⊥
 once-apart xs ys x once first second =
     let here : (k : ℕ) × (y : ℕ) × (slice_get xs k ≡ Some y) × ((y == x) ≡ true) = list_any-at (λ y. y == x) xs first in
     let there : (k : ℕ) × (y : ℕ) × (slice_get ys k ≡ Some y) × ((y == x) ≡ true) = list_any-at (λ y. y == x) ys second in
     let same : there.1 ≡ here.1 = eqb-true there.1 x there.3 ∙ sym (eqb-true here.1 x here.3) in
     let within = slice_get_within xs here.0 here.1 here.2 in
-    let places = once here.0 (length xs + there.0) here.1 (at-before xs ys here.0 here.1 here.2) (at-past xs ys there.0 there.1 there.2 ∙ ap Some same) in
+    let places = none_twice-places (xs ++ ys) once here.0 (length xs + there.0) here.1 (at-before xs ys here.0 here.1 here.2) (at-past xs ys there.0 there.1 there.2 ∙ ap Some same) in
     absurd (omega (arith, within, places))
 
 -- a section next to another has that one next to it on the opposite side
@@ -41,10 +44,10 @@ not-back p plant x y Down h = one-side p plant y x Up (back-opposite p plant x y
 
 -- the name of section x stands for x, and so for boards and routes
 pub section-own : (p : PlantLists) → IsPlant p → (x : ℕ) (name : Name) → slice_get p.section_names x ≡ Some name → first_named p.section_names name ≡ Some x
-section-own p plant x name at = first_named-own p.section_names name x plant.section_names_differ at
+section-own p plant x name at = first_named-own p.section_names name x (all_differ-places p.section_names plant.section_names_differ) at
 
 pub board-own : (p : PlantLists) → IsPlant p → (m : ℕ) (name : Name) → slice_get p.board_names m ≡ Some name → first_named p.board_names name ≡ Some m
-board-own p plant m name at = first_named-own p.board_names name m plant.board_names_differ at
+board-own p plant m name at = first_named-own p.board_names name m (all_differ-places p.board_names plant.board_names_differ) at
 
 pub route-own : (p : PlantLists) → IsPlant p → (r : ℕ) (name : Name) → slice_get p.route_names r ≡ Some name → first_named p.route_names name ≡ Some r
-route-own p plant r name at = first_named-own p.route_names name r plant.route_names_differ at
+route-own p plant r name at = first_named-own p.route_names name r (all_differ-places p.route_names plant.route_names_differ) at

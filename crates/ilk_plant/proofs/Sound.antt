@@ -5,12 +5,13 @@ use Rattle.ilk_plant.proofs.AllowedNames.{board_names-allowed, route_names-allow
 use Rattle.ilk_plant.proofs.Boards.{boards-agree, boards-lead, boards-numbered, few-boards}
 use Rattle.ilk_plant.proofs.Neighbours.{next-back, next-known, next-once, next-other, next-some}
 use Rattle.ilk_plant.proofs.NamesDiffer.{named-once}
-use Rattle.ilk_plant.proofs.Once.{none_twice-once}
+use Rattle.ilk_plant.proofs.Once.{all_differ-from_places}
 use Rattle.ilk_plant.proofs.RoutesOf.{conflicts-other, route-known}
 use Rattle.ilk_plant.proofs.Rules.{network_rules-kept, table_rules-kept}
 use Rattle.ilk_plant.proofs.Walks.{never-returns}
 use Rattle.ilk_plant.specs.Draft.{boards_from, names_of_boards, names_of_routes, names_of_sections, numbered, numbered_route, numbered_section}
-use Rattle.ilk_plant.specs.Plant.{EachOnce, IsPlant, PlantLists}
+use Rattle.ilk_plant.specs.Plant.{IsPlant, PlantLists}
+use Rattle.ilk_base.proofs.Once.{EachOnce}
 use Rattle.ilk_plant.specs.declared.network.Dir.TheVariants.{Up, Down}
 use Rattle.ilk_plant.specs.Sound.{AreSound, IsOfDrafts, IsSound}
 use Rattle.ilk_plant.specs.TableRules.{routes_broken}
@@ -29,29 +30,29 @@ sound-IsPlant net table sound =
     let board_names : EachOnce (names_of_boards net.sections) = named-once (names_of_boards net.sections) network.boards_differ in
     let count_names : length (names_of_routes table.routes) ≡ length table.routes = length-map table.routes (λ route. route.name) in
     record {
-      some_section = omega (arith, count, sound.limits.some_section);
-      section_names_differ = named-once (names_of_sections net.sections) (λ i h. network.sections_differ i (omega (arith, names)));
-      board_names_differ = board_names;
-      route_names_differ = named-once (names_of_routes table.routes) (λ i h. routes.names_differ i (omega (arith, count_routes, count_names)));
-      section_names_allowed = section_names-allowed net.sections sound.limits.sections_named;
-      board_names_allowed = board_names-allowed net.sections sound.limits.sections_named;
-      route_names_allowed = route_names-allowed table.routes sound.limits.routes_named;
+      some_section = omega (arith, count, sound.limits.of_network.some);
+      section_names_differ = all_differ-from_places _ (named-once (names_of_sections net.sections) (λ i h. network.sections_differ i (omega (arith, names))));
+      board_names_differ = all_differ-from_places _ board_names;
+      route_names_differ = all_differ-from_places _ (named-once (names_of_routes table.routes) (λ i h. routes.names_differ i (omega (arith, count_routes, count_names))));
+      section_names_allowed = section_names-allowed net.sections sound.limits.of_network.named;
+      board_names_allowed = board_names-allowed net.sections sound.limits.of_network.named;
+      route_names_allowed = route_names-allowed table.routes sound.limits.of_table.named;
       neighbours_some = λ x h. next-some net table network x (omega (arith, count));
       neighbours_other = next-other net table network;
-      neighbours_once = λ x. none_twice-once _ (next-once net table network x);
+      neighbours_once = λ x. next-once net table network x;
       neighbours_back = λ x y. (next-back net table network x y Up, next-back net table network y x Down);
       boards_listed = boards-agree net table board_names;
       boards_lead_on = boards-lead net table network;
       conflicts_other = conflicts-other (numbered net table) routes;
-      few_sections = omega (arith, count, sound.limits.few_sections);
-      few_boards = omega (arith, boards, few-boards net.sections sound.limits.few_sections);
-      few_routes = omega (arith, count_routes, sound.limits.few_routes);
+      few_sections = omega (arith, count, sound.limits.of_network.few);
+      few_boards = omega (arith, boards, few-boards net.sections sound.limits.of_network.few);
+      few_routes = omega (arith, count_routes, sound.limits.of_table.few);
       sections_named = names ∙ sym count;
       boards_named = sym boards;
       routes_named = count_names ∙ sym count_routes;
       neighbours = λ x y d h. let known = next-known net table network x y d h in omega (arith, known.0, names, count);
       boards_known = boards-numbered net table;
-      routes_known = route-known net table routes sound.limits.each_route;
+      routes_known = route-known net table routes sound.limits.of_table.each;
     }
 
 -- sound drafts give a sound plant

@@ -2,13 +2,12 @@
 -- source board, and `next_to` is asked in that direction, for the overlap too.
 use Rattle.std.specs.Prelude.{ℕ, Bool, true, false, not, Option, Some, None, List, [], ◌∷◌, ◌++◌, ◌&&◌, ◌||◌, ◌==◌, ◌-◌, nat_lt, is_none, length, take, slice_get}
 use Rattle.std.specs.List.{list_any, list_all}
-use Rattle.ilk_plant.specs.Option.{is_some_and}
+use Rattle.ilk_base.specs.Option.{is_some_and}
 use Rattle.ilk_plant.specs.Broken.{broken_at, broken_at_pairs}
 use Rattle.ilk_plant.specs.Network.{has_section}
-use Rattle.ilk_plant.specs.Plant.{PlantLists, next_to, board_of, border}
+use Rattle.ilk_plant.specs.Plant.{PlantLists, next_to, board_of, border, is_point_section}
 use Rattle.ilk_plant.specs.Shape.{leads_on}
 use Rattle.ilk_plant.specs.TableRules.{points_of, route_fails, sections_of}
-use Rattle.ilk_plant.specs.Plant.{is_point_section}
 use Rattle.ilk_plant.specs.declared.broken.Broken.{Broken}
 use Rattle.ilk_plant.specs.declared.broken.Rule.TheVariants.{C1, C2, C3, C4, C5, C6, C7}
 use Rattle.ilk_plant.specs.declared.network.Board.{Board}
@@ -38,9 +37,9 @@ path_leads_on p route = source_passes p route (λ source. leads_on p source.dir 
 
 -- whether section x, where a path in direction d ends, has the destination as its board; without a destination,
 -- whether it has no neighbour
-abbrev pub ends_at : PlantLists → Dir → Option ℕ → ℕ → Bool
-ends_at p d (Some m) x = is_some_and (board_of p x d) (λ n. n == m)
-ends_at p d None x = length (next_to p x d) == 0
+abbrev pub ends_path : PlantLists → Dir → Option ℕ → ℕ → Bool
+ends_path p d (Some m) x = is_some_and (board_of p x d) (λ n. n == m)
+ends_path p d None x = length (next_to p x d) == 0
 
 -- whether section x has no board for direction d
 abbrev pub has_no_board : PlantLists → Dir → ℕ → Bool
@@ -49,7 +48,7 @@ has_no_board p d x = is_none (board_of p x d)
 -- whether a path in direction d has no board before its last section, and ends at the destination
 abbrev pub is_between_boards : PlantLists → Dir → Option ℕ → List ℕ → Bool
 is_between_boards p d destination path =
-    list_all (has_no_board p d) (all_but_last path) && is_some_and (last_of path) (ends_at p d destination)
+    list_all (has_no_board p d) (all_but_last path) && is_some_and (last_of path) (ends_path p d destination)
 
 -- C2: no path section but the last has a board in the route's direction, and the path ends at the destination
 abbrev pub path_ends_at_board : PlantLists → Route → Bool
@@ -104,8 +103,8 @@ abbrev pub share_unlisted : PlantLists → ℕ → ℕ → Bool
 share_unlisted p i j = nat_lt i j && share_section p i j && not (lists p i j)
 
 -- C7 is broken: section x is a border, without a board in its inward direction
-abbrev pub is_open_border : PlantLists → ℕ → Bool
-is_open_border p x = is_some_and (border p x) (λ inward. has_no_board p inward x)
+abbrev pub is_border_without_board : PlantLists → ℕ → Bool
+is_border_without_board p x = is_some_and (border p x) (λ inward. has_no_board p inward x)
 
 -- the broken rules of the columns, in order
 abbrev pub column_rules_broken : PlantLists → List Broken
@@ -116,4 +115,4 @@ column_rules_broken p =
     ++ broken_at C4 (length p.routes) (route_fails p (overlap_leads_on p))
     ++ broken_at_pairs C5 (length p.routes) (lists_alone p)
     ++ broken_at_pairs C6 (length p.routes) (share_unlisted p)
-    ++ broken_at C7 (length p.sections) (is_open_border p)
+    ++ broken_at C7 (length p.sections) (is_border_without_board p)

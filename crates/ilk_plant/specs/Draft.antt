@@ -1,7 +1,7 @@
 -- Drafts: the names in a configuration, and the plant that comes of numbering them.
 use Rattle.std.specs.Prelude.{ℕ, ◌+◌, Bool, Option, Some, None, List, [], ◌∷◌, ◌++◌, bytes_eq, length, map, option_map, slice_get, take, unwrap_or}
 use Rattle.std.specs.List.{list_any}
-use Rattle.ilk_plant.specs.Option.{is_some_and}
+use Rattle.ilk_base.specs.Option.{is_some_and}
 use Rattle.ilk_plant.specs.Name.{Name}
 use Rattle.ilk_plant.specs.Plant.{PlantLists, first_named}
 use Rattle.ilk_plant.specs.declared.draft.KindDraft.{KindDraft}
@@ -28,13 +28,13 @@ pub record NamedBoard : Type 0 where
   pub board : Board
 
 -- the board that stands on section x for direction d, if one is named
-abbrev pub board_named : ℕ → Dir → Option Name → List NamedBoard
-board_named x d None = []
-board_named x d (Some name) = record { name = name; board = record { section = x; dir = d } } ∷ []
+abbrev pub board_if_named : ℕ → Dir → Option Name → List NamedBoard
+board_if_named x d None = []
+board_if_named x d (Some name) = record { name = name; board = record { section = x; dir = d } } ∷ []
 
 -- the boards on section x, the one for direction down first
 abbrev pub boards_on : ℕ → KindDraft → List NamedBoard
-boards_on x (LinearDraft down up board_down board_up) = board_named x Down board_down ++ board_named x Up board_up
+boards_on x (LinearDraft down up board_down board_up) = board_if_named x Down board_down ++ board_if_named x Up board_up
 boards_on x (PointDraft stem plus minus faces) = []
 
 -- boards are numbered in the order of their sections, of which the first has the number x

@@ -1,7 +1,8 @@
 -- The limits of a configuration: how many sections and routes there are, what a route lists, and what a name is.
-use Rattle.std.specs.Prelude.{◌≤◌, ◌&&◌, All, Bool, IsTrue, length}
+use Rattle.std.specs.Prelude.{ℕ, ◌≤◌, ◌&&◌, Bool, IsTrue, length, nat_le}
 use Rattle.std.specs.List.{list_all}
-use Rattle.ilk_plant.specs.Name.{is_name, is_name_if_given}
+use Rattle.ilk_plant.specs.Name.{is_name, is_name_if_given, lies_within}
+use Rattle.ilk_plant.specs.declared.limits.TheConstants.{MAX_CONFLICTS, MAX_OVERLAP, MAX_PATH, MAX_POINTS, MAX_ROUTES, MAX_SECTIONS}
 use Rattle.ilk_plant.specs.declared.draft.KindDraft.{KindDraft}
 use Rattle.ilk_plant.specs.declared.draft.KindDraft.TheVariants.{Linear, Point}
 use Rattle.ilk_plant.specs.declared.draft.NetDraft.{NetDraft}
@@ -24,19 +25,31 @@ abbrev pub route_has_names : RouteDraft → Bool
 route_has_names route =
     is_name route.name && is_name route.source && is_name_if_given route.destination && list_all is_name route.path && list_all is_name route.overlap && list_all (λ listed. is_name listed.point) route.points && list_all is_name route.conflicts
 
--- a route has 1 to 32 sections in its path, at most 8 in its overlap, and lists at most 40 points and 128 conflicts
-pub record RouteHasLimits (route : RouteDraft) : Type 0 where
-  pub path_begins : 1 ≤ length route.path
-  pub path : length route.path ≤ 32
-  pub overlap : length route.overlap ≤ 8
-  pub points : length route.points ≤ 40
-  pub conflicts : length route.conflicts ≤ 128
+-- whether a route has some sections in its path, and its path, overlap, points and conflicts are within their limits
+abbrev pub route_has_limits : RouteDraft → Bool
+route_has_limits route =
+    lies_within 1 MAX_PATH (length route.path)
+    && nat_le (length route.overlap) MAX_OVERLAP
+    && nat_le (length route.points) MAX_POINTS
+    && nat_le (length route.conflicts) MAX_CONFLICTS
 
--- a network has 1 to 128 sections, and its table at most 128 routes, each within its own limits; each text in both is a name
+-- whether a configuration may have so many sections, at least one of them, and so many routes
+abbrev pub counts_are_allowed : ℕ → ℕ → Bool
+counts_are_allowed sections routes = lies_within 1 MAX_SECTIONS sections && nat_le routes MAX_ROUTES
+
+-- a network has some sections, no more than is allowed, and each text in them is a name
+pub record NetworkHasLimits (net : NetDraft) : Type 0 where
+  pub some : 1 ≤ length net.sections
+  pub few : length net.sections ≤ MAX_SECTIONS
+  pub named : IsTrue (list_all section_has_names net.sections)
+
+-- a table has no more routes than is allowed, each within its own limits, and each text in them is a name
+pub record TableHasLimits (table : TableDraft) : Type 0 where
+  pub few : length table.routes ≤ MAX_ROUTES
+  pub each : IsTrue (list_all route_has_limits table.routes)
+  pub named : IsTrue (list_all route_has_names table.routes)
+
+-- a network and its table are within the limits
 pub record HasLimits (net : NetDraft) (table : TableDraft) : Type 0 where
-  pub some_section : 1 ≤ length net.sections
-  pub few_sections : length net.sections ≤ 128
-  pub few_routes : length table.routes ≤ 128
-  pub each_route : All RouteHasLimits table.routes
-  pub sections_named : IsTrue (list_all section_has_names net.sections)
-  pub routes_named : IsTrue (list_all route_has_names table.routes)
+  pub of_network : NetworkHasLimits net
+  pub of_table : TableHasLimits table

@@ -1,4 +1,4 @@
--- Names with an index: which number the index has for each name.
+-- Cited by private contracts alone: which number the index of names has for each name.
 use Rattle.std.specs.Prelude.{ℕ, ◌≡◌, List, String}
 use Rattle.indexmap.specs.IndexMap.{IndexMap, get_by_text}
 use Rattle.ilk_plant.specs.Name.{Name}

@@ -1,11 +1,12 @@
 -- The rules of the network, N1 to N8: the list of those that a draft breaks.
-use Rattle.std.specs.Prelude.{ℕ, zero, suc, ◌≡◌, Bool, true, false, not, ◌&&◌, ◌||◌, ◌==◌, Option, Some, None, is_none, List, [], ◌∷◌, ◌++◌, length, map, slice_get, count_by, bytes_eq, IsTrue}
+use Rattle.std.specs.Prelude.{ℕ, zero, suc, ◌≡◌, Bool, true, false, not, ◌&&◌, ◌||◌, ◌==◌, Option, Some, None, is_none, List, [], ◌∷◌, ◌++◌, length, map, slice_get, count_by, IsTrue}
 use Rattle.std.specs.List.{list_any, last_or}
 use Rattle.ilk_plant.specs.Broken.{broken_at}
-use Rattle.ilk_plant.specs.Option.{is_some_and}
+use Rattle.ilk_base.specs.Option.{is_some_and}
 use Rattle.ilk_plant.specs.Draft.{is_named_before, names_of_boards, names_of_sections}
 use Rattle.ilk_plant.specs.Name.{Name}
 use Rattle.ilk_plant.specs.Network.{same_direction}
+use Rattle.ilk_plant.specs.Once.{all_differ}
 use Rattle.ilk_plant.specs.Plant.{first_named}
 use Rattle.ilk_plant.specs.declared.broken.Broken.{Broken}
 use Rattle.ilk_plant.specs.declared.broken.Rule.TheVariants.{N1, N2, N3, N4, N5, N6, N7, N8}
@@ -16,15 +17,10 @@ use Rattle.ilk_plant.specs.declared.draft.SectionDraft.{SectionDraft}
 use Rattle.ilk_plant.specs.declared.network.Dir.{Dir}
 use Rattle.ilk_plant.specs.declared.network.Dir.TheVariants.{Up, Down}
 
--- whether no name stands twice
-abbrev pub all_differ : List Name → Bool
-all_differ [] = true
-all_differ (name ∷ rest) = not (list_any (bytes_eq name) rest) && all_differ rest
-
--- whether a board is missing where its neighbour is
-abbrev pub has_no_board_at_end : Option Name → Option Name → Bool
-has_no_board_at_end None board = is_none board
-has_no_board_at_end (Some neighbour) board = true
+-- whether, on one side of a section, there is a neighbour where there is a board
+abbrev pub has_neighbour_if_board : Option Name → Option Name → Bool
+has_neighbour_if_board None board = is_none board
+has_neighbour_if_board (Some neighbour) board = true
 
 abbrev pub opposite : Dir → Dir
 opposite Up = Down
@@ -67,8 +63,8 @@ abbrev pub names_another : NetDraft → ℕ → End → Bool
 names_another net x end = is_some_and (section_named net end.name) (λ y. not (y == x))
 
 -- N3: a neighbour of section x isn't the name of a section other than x
-abbrev pub names_no_other : NetDraft → ℕ → Bool
-names_no_other net x = list_any (λ end. not (names_another net x end)) (ends_of net x)
+abbrev pub has_wrong_neighbour : NetDraft → ℕ → Bool
+has_wrong_neighbour net x = list_any (λ end. not (names_another net x end)) (ends_of net x)
 
 -- N4: two neighbours of section x have the same name
 abbrev pub repeats_neighbour : NetDraft → ℕ → Bool
@@ -126,7 +122,7 @@ returns net x = leads_by (is_next_up net) (length net.sections) x x
 -- whether a section is linear and has a board in a direction in which it has no neighbour
 abbrev pub has_board_to_nowhere : KindDraft → Bool
 has_board_to_nowhere (LinearDraft down up board_down board_up) =
-    not (has_no_board_at_end down board_down && has_no_board_at_end up board_up)
+    not (has_neighbour_if_board down board_down && has_neighbour_if_board up board_up)
 has_board_to_nowhere (PointDraft stem plus minus faces) = false
 
 -- N8: section x is linear, and has a board in a direction in which it has no neighbour
@@ -138,7 +134,7 @@ abbrev pub network_rules_broken : NetDraft → List Broken
 network_rules_broken net =
     broken_at N1 (length net.sections) (is_named_before (names_of_sections net.sections))
     ++ broken_at N2 (length (names_of_boards net.sections)) (is_named_before (names_of_boards net.sections))
-    ++ broken_at N3 (length net.sections) (names_no_other net)
+    ++ broken_at N3 (length net.sections) (has_wrong_neighbour net)
     ++ broken_at N4 (length net.sections) (repeats_neighbour net)
     ++ broken_at N5 (length net.sections) (is_not_named_back net)
     ++ broken_at N6 (length net.sections) (stands_alone net)

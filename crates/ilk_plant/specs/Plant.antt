@@ -1,9 +1,11 @@
 -- The plant: its numbered sections, boards and routes, with their names.
 use Rattle.std.specs.Prelude.{ℕ, ◌<◌, ◌≤◌, ◌≡◌, ◌≢◌, ◌↔◌, Bool, false, Option, Some, None, IsSome, List, [], ◌++◌, length, map, take, slice_get, count_by, position, bytes_eq, IsTrue, All}
 use Rattle.std.specs.List.{range_with_len}
-use Rattle.ilk_plant.specs.Option.{◌>>=◌, is_some_and, only_if}
+use Rattle.ilk_base.specs.Option.{◌>>=◌, is_some_and, only_if}
 use Rattle.ilk_plant.specs.Name.{IsName}
+use Rattle.ilk_plant.specs.Once.{all_differ, none_twice}
 use Rattle.ilk_plant.specs.Network.{beside, board_on, has_section, inward, is_point}
+use Rattle.ilk_plant.specs.declared.limits.TheConstants.{MAX_BOARDS, MAX_CONFLICTS, MAX_OVERLAP, MAX_PATH, MAX_POINTS, MAX_ROUTES, MAX_SECTIONS}
 use Rattle.ilk_plant.specs.declared.network.Dir.{Dir}
 use Rattle.ilk_plant.specs.declared.network.Dir.TheVariants.{Up, Down}
 use Rattle.ilk_plant.specs.declared.network.Section.{Section}
@@ -60,43 +62,39 @@ border p x = do
 abbrev pub first_named : List (List ℕ) → List ℕ → Option ℕ
 first_named names name = position (bytes_eq name) names
 
--- no item stands twice in a list
-abbrev pub EachOnce : {A : Type 0} → List A → Type 0
-EachOnce {A} xs = (i j : ℕ) (x : A) → slice_get xs i ≡ Some x → slice_get xs j ≡ Some x → i ≡ j
-
 -- a route speaks of sections, boards and routes of the plant, within the limits, and of each once
 pub record IsRouteOf (p : PlantLists) (route : Route) : Type 0 where
   pub source : route.source < length p.boards
   pub destination : (m : ℕ) → route.destination ≡ Some m → m < length p.boards
   pub path : All (λ x. x < length p.sections) route.path
   pub overlap : All (λ x. x < length p.sections) route.overlap
-  pub sections_once : EachOnce (route.path ++ route.overlap)
+  pub sections_once : IsTrue (none_twice (route.path ++ route.overlap))
   pub points : All (λ listed. listed.point < length p.sections) route.points
   pub points_are_points : All (λ listed. IsSome (point_number p listed.point)) route.points
   pub points_passed : All (λ listed. IsTrue (has_section listed.point (route.path ++ route.overlap))) route.points
-  pub points_once : EachOnce (map (λ listed. listed.point) route.points)
+  pub points_once : IsTrue (none_twice (map (λ listed. listed.point) route.points))
   pub conflicts : All (λ r. r < length p.routes) route.conflicts
-  pub conflicts_once : EachOnce route.conflicts
+  pub conflicts_once : IsTrue (none_twice route.conflicts)
   pub path_begins : 0 < length route.path
-  pub path_ends : length route.path ≤ 32
-  pub short_overlap : length route.overlap ≤ 8
-  pub few_points : length route.points ≤ 40
-  pub few_conflicts : length route.conflicts ≤ 128
+  pub path_ends : length route.path ≤ MAX_PATH
+  pub short_overlap : length route.overlap ≤ MAX_OVERLAP
+  pub few_points : length route.points ≤ MAX_POINTS
+  pub few_conflicts : length route.conflicts ≤ MAX_CONFLICTS
 
 -- what every plant has
 pub record IsPlant (p : PlantLists) : Type 0 where
   -- the limits
   pub some_section : 0 < length p.sections
-  pub few_sections : length p.sections ≤ 128
-  pub few_boards : length p.boards ≤ 256
-  pub few_routes : length p.routes ≤ 128
-  -- each section, board and route has a name of its own, of 1 to 32 of the allowed characters
+  pub few_sections : length p.sections ≤ MAX_SECTIONS
+  pub few_boards : length p.boards ≤ MAX_BOARDS
+  pub few_routes : length p.routes ≤ MAX_ROUTES
+  -- each section, board and route has a name of its own, of the allowed characters
   pub sections_named : length p.section_names ≡ length p.sections
   pub boards_named : length p.board_names ≡ length p.boards
   pub routes_named : length p.route_names ≡ length p.routes
-  pub section_names_differ : EachOnce p.section_names
-  pub board_names_differ : EachOnce p.board_names
-  pub route_names_differ : EachOnce p.route_names
+  pub section_names_differ : IsTrue (all_differ p.section_names)
+  pub board_names_differ : IsTrue (all_differ p.board_names)
+  pub route_names_differ : IsTrue (all_differ p.route_names)
   pub section_names_allowed : All IsName p.section_names
   pub board_names_allowed : All IsName p.board_names
   pub route_names_allowed : All IsName p.route_names
@@ -104,7 +102,7 @@ pub record IsPlant (p : PlantLists) : Type 0 where
   pub neighbours_some : (x : ℕ) → x < length p.sections → 0 < length (next_to p x Down ++ next_to p x Up)
   pub neighbours : (x y : ℕ) (d : Dir) → IsTrue (has_section y (next_to p x d)) → y < length p.sections
   pub neighbours_other : (x : ℕ) (d : Dir) → has_section x (next_to p x d) ≡ false
-  pub neighbours_once : (x : ℕ) → EachOnce (next_to p x Down ++ next_to p x Up)
+  pub neighbours_once : (x : ℕ) → IsTrue (none_twice (next_to p x Down ++ next_to p x Up))
   -- y is next to x on the up side exactly where x is next to y on the down side
   pub neighbours_back : (x y : ℕ) → IsTrue (has_section y (next_to p x Up)) ↔ IsTrue (has_section x (next_to p y Down))
   -- the boards of the sections are those listed, each where trains run on to a neighbour

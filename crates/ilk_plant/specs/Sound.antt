@@ -1,10 +1,11 @@
 -- Which plants there are: those of drafts within the limits that break no rule.
-use Rattle.std.specs.Prelude.{ℕ, ◌≡◌, Option, List, [], ◌∷◌}
+use Rattle.std.specs.Prelude.{ℕ, IsTrue, ◌≡◌, Option, List, [], ◌∷◌}
 use Rattle.ilk_plant.specs.Draft.{numbered}
 use Rattle.ilk_plant.specs.Limits.{HasLimits}
 use Rattle.ilk_plant.specs.NetworkRules.{network_rules_broken}
-use Rattle.ilk_plant.specs.Plant.{EachOnce, IsPlant, PlantLists, point_numbers}
-use Rattle.ilk_plant.specs.State.{LeadsOn}
+use Rattle.ilk_plant.specs.Plant.{IsPlant, PlantLists, point_numbers}
+use Rattle.ilk_plant.specs.Once.{none_twice}
+use Rattle.ilk_plant.specs.Shape.{leads_on}
 use Rattle.ilk_plant.specs.TableRules.{table_rules_broken}
 use Rattle.ilk_plant.specs.declared.draft.NetDraft.{NetDraft}
 use Rattle.ilk_plant.specs.declared.draft.TableDraft.{TableDraft}
@@ -25,7 +26,7 @@ pub record IsOfDrafts (p : PlantLists) : Type 0 where
 
 -- no walk in one direction comes to a section twice
 abbrev pub NeverReturns : PlantLists → Type 0
-NeverReturns p = (d : Dir) (x : ℕ) (walk : List ℕ) → LeadsOn p d x walk → EachOnce (x ∷ walk)
+NeverReturns p = (d : Dir) (x : ℕ) (walk : List ℕ) → IsTrue (leads_on p d x walk) → IsTrue (none_twice (x ∷ walk))
 
 -- what holds of every plant: the facts of its numbers, that no walk returns, and that it comes of sound drafts
 pub record IsSound (p : PlantLists) : Type 0 where

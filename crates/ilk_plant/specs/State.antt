@@ -1,17 +1,13 @@
--- What a state says of trains and points, and which states have the plant's shape.
-use Rattle.std.specs.Prelude.{ℕ, ◌≡◌, ◌<◌, ◌≤◌, ◌&&◌, Bool, true, false, not, Option, Some, List, [], ◌∷◌, IsTrue, All, length, slice_get}
+-- What a state says of sections and points: which are occupied, locked and clear, and where points lie.
+use Rattle.std.specs.Prelude.{ℕ, ◌&&◌, Bool, true, false, not, Option, Some, slice_get}
 use Rattle.std.specs.List.{list_any}
-use Rattle.ilk_plant.specs.Option.{◌>>=◌, is_some_and}
+use Rattle.ilk_base.specs.Option.{◌>>=◌, is_some_and}
 use Rattle.ilk_plant.specs.Network.{has_section}
-use Rattle.ilk_plant.specs.Plant.{PlantLists, next_to, point_count, point_number}
-use Rattle.ilk_plant.specs.declared.network.Dir.{Dir}
+use Rattle.ilk_plant.specs.Plant.{PlantLists, point_number}
 use Rattle.ilk_plant.specs.declared.state.Hold.{Hold}
 use Rattle.ilk_plant.specs.declared.state.Hold.TheVariants.{Free, Locked, Used}
 use Rattle.ilk_plant.specs.declared.state.Lie.{Lie}
-use Rattle.ilk_plant.specs.declared.state.RouteState.{RouteState}
 use Rattle.ilk_plant.specs.declared.state.State.{State}
-use Rattle.ilk_plant.specs.declared.state.Train.{Train}
-use Rattle.ilk_plant.specs.declared.table.Route.{Route}
 
 -- whether some train's body has section x
 abbrev pub is_occupied : State → ℕ → Bool
@@ -38,29 +34,3 @@ lie_of p s x = do
   n ← point_number p x
   point ← slice_get s.points n
   Some point.at
-
--- each section of the rest is next to the one before, in direction d
-abbrev pub LeadsOn : PlantLists → Dir → ℕ → List ℕ → Type 0
-LeadsOn p d x [] = Unit {0}
-LeadsOn p d x (y ∷ rest) = IsTrue (has_section y (next_to p x d)) × LeadsOn p d y rest
-
--- a body isn't empty, begins at a section of the plant, and leads on in the train's direction
-abbrev pub IsBody : PlantLists → Train → Type 0
-IsBody p train = is_body train.body
-  where
-    is_body : List ℕ → Type 0
-    is_body [] = ⊥
-    is_body (x ∷ rest) = (x < length p.sections) × LeadsOn p train.dir x rest
-
--- no more path sections are seen, or given back, than the route has
-abbrev pub IsWithin : Route → RouteState → Type 0
-IsWithin route now = (now.seen ≤ length route.path) × (now.rel ≤ length route.path)
-
--- the state's lists have the plant's lengths, its counts are within the paths, and each train has a body
-pub record HasShape (p : PlantLists) (s : State) : Type 0 where
-  pub routes : length s.routes ≡ length p.routes
-  pub points : length s.points ≡ point_count p
-  pub boards : length s.boards ≡ length p.boards
-  pub locks : length s.locks ≡ length p.sections
-  pub counts : (r : ℕ) (route : Route) (now : RouteState) → slice_get p.routes r ≡ Some route → slice_get s.routes r ≡ Some now → IsWithin route now
-  pub bodies : All (IsBody p) s.trains

@@ -1,11 +1,12 @@
 -- The rules of the table of routes, R1 to R6. A name stands for the first section, board or route that has it:
 -- the rules are over the numbered drafts, where a name that nothing has is the count, and so no number of one.
-use Rattle.std.specs.Prelude.{ℕ, Bool, true, not, Option, Some, None, List, [], ◌∷◌, ◌++◌, ◌&&◌, ◌==◌, nat_lt, length, map, slice_get}
-use Rattle.std.specs.List.{list_any, list_all}
+use Rattle.std.specs.Prelude.{ℕ, Bool, true, not, Option, Some, None, List, ◌++◌, ◌&&◌, ◌==◌, nat_lt, length, map, slice_get}
+use Rattle.std.specs.List.{list_all}
 use Rattle.ilk_plant.specs.Broken.{broken_at}
-use Rattle.ilk_plant.specs.Option.{is_some_and}
+use Rattle.ilk_base.specs.Option.{is_some_and}
 use Rattle.ilk_plant.specs.Draft.{is_named_before, numbered}
 use Rattle.ilk_plant.specs.Network.{has_section}
+use Rattle.ilk_plant.specs.Once.{none_twice}
 use Rattle.ilk_plant.specs.Plant.{PlantLists, is_point_section}
 use Rattle.ilk_plant.specs.declared.broken.Broken.{Broken}
 use Rattle.ilk_plant.specs.declared.broken.Rule.TheVariants.{R1, R2, R3, R4, R5, R6}
@@ -24,11 +25,6 @@ is_section p x = nat_lt x (length p.sections)
 -- whether r is the number of a route other than route i
 abbrev pub is_other_route : PlantLists → ℕ → ℕ → Bool
 is_other_route p i r = nat_lt r (length p.routes) && not (r == i)
-
--- whether no number stands twice
-abbrev pub none_twice : List ℕ → Bool
-none_twice [] = true
-none_twice (x ∷ rest) = not (list_any (λ y. y == x) rest) && none_twice rest
 
 -- the sections of a route's path and of its overlap
 abbrev pub sections_of : Route → List ℕ

@@ -7,6 +7,7 @@
 
 mod broken;
 mod draft;
+mod limits;
 mod locks;
 mod make;
 mod names;
@@ -16,15 +17,19 @@ mod numbering;
 mod occupancy;
 mod plant;
 mod points;
-mod row;
 mod shape;
 mod start;
 mod state;
 mod table;
-mod text;
+mod words;
 
 pub use broken::{Broken, Rule, push_if};
 pub use draft::{KindDraft, ListedDraft, NetDraft, RouteDraft, SectionDraft, TableDraft};
+pub use ilk_base::{Row, Text};
+pub use limits::{
+    MAX_BOARDS, MAX_CONFLICTS, MAX_NAME, MAX_OVERLAP, MAX_PATH, MAX_POINTS, MAX_ROUTES,
+    MAX_SECTIONS,
+};
 pub use locks::{has_lock, is_clear};
 pub use names::Names;
 pub use network::{Board, Dir, Position, Section};
@@ -33,8 +38,6 @@ pub use numbering::{board_names, section_names};
 pub use occupancy::{has_section, occupied};
 pub use plant::Plant;
 pub use points::{lie_of, point_on};
-pub use row::Row;
 pub use start::start_state;
 pub use state::{Aspect, Hold, Lie, Mode, PointState, RouteState, State, Train};
 pub use table::{Listed, Route};
-pub use text::Text;

@@ -2,13 +2,14 @@ ghost use Rattle.std.specs.Prelude.{◌≡◌, ◌<◌, ◌≤◌, IfOk, IfSome,
 ghost use Rattle.ilk_plant.specs.Draft.{is_named_before, number_of};
 ghost use Rattle.ilk_plant.specs.Plant.{first_named};
 ghost use Rattle.ilk_plant.specs.Names.{IsIndexOf};
+ghost use Rattle.ilk_plant.specs.declared.limits.TheConstants.{MAX_BOARDS};
 
 use crate::{Row, Text};
 use indexmap::IndexMap;
 use std::alloc::{AllocError, Global};
 use std::marker::Model;
 
-/// Names, at most 256, which contracts see as their list. An index keeps the first number of each.
+/// Names, at most as many as the most boards, which contracts see as their list. An index keeps the first number of each.
 #[derive(Drop)]
 pub struct Names {
     names: Row<Text>,
@@ -18,17 +19,18 @@ pub struct Names {
 impl Model for Names {
     ghost use Rattle.std.specs.Prelude.{ℕ, List, ◌≤◌, length};
     ghost use Rattle.ilk_plant.specs.Names.{IsIndexOf};
+    ghost use Rattle.ilk_plant.specs.declared.limits.TheConstants.{MAX_BOARDS};
 
     ghost Value = { List (List ℕ) };
 
     ghost view = { λ n. n.names };
 
-    ghost invariant = { λ n. (length n.names ≤ 256) × IsIndexOf n.names n.numbers };
+    ghost invariant = { λ n. (length n.names ≤ MAX_BOARDS) × IsIndexOf n.names n.numbers };
 }
 
 // The first number of each name.
 fn first_numbers(alloc: Global, names: &Row<Text>) -> Result<IndexMap<String, u32>, AllocError>
-    requires { length names.now ≤ 256 }
+    requires { length names.now ≤ MAX_BOARDS }
     ensures { IfOk result (λ numbers. IsIndexOf names.now numbers) }
 {
     let mut numbers = IndexMap::new(alloc);
@@ -44,7 +46,7 @@ fn first_numbers(alloc: Global, names: &Row<Text>) -> Result<IndexMap<String, u3
 impl Names {
     /// These names. The only refusal is want of memory.
     pub fn of(alloc: Global, names: Row<Text>) -> Result<Names, AllocError>
-        requires { length names ≤ 256 }
+        requires { length names ≤ MAX_BOARDS }
         ensures { IfOk result (λ made. made ≡ names) }
     {
         let numbers = first_numbers(alloc, &names)?;
@@ -54,7 +56,7 @@ impl Names {
     /// How many names there are.
     pub fn len(&self) -> u32
         ensures count { result ≡ length self.now }
-        ensures few { result ≤ 256 }
+        ensures few { result ≤ MAX_BOARDS }
     {
         self.names.len() as u32
     }

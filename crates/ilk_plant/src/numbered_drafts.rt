@@ -2,6 +2,7 @@ ghost use Rattle.std.specs.Prelude.{◌≡◌, ◌≤◌, ◌<◌, IfOk, Some, l
 ghost use Rattle.ilk_plant.specs.Draft.{is_named_before, numbered};
 ghost use Rattle.ilk_plant.specs.TableRules.{is_board, is_other_route, is_section};
 ghost use Rattle.ilk_plant.specs.Plant.{is_point_section, point_numbers};
+ghost use Rattle.ilk_plant.specs.declared.limits.TheConstants.{MAX_SECTIONS, MAX_ROUTES};
 
 use crate::names::Names;
 use crate::numbering::{
@@ -26,6 +27,7 @@ pub struct Numbered {
 impl Model for Numbered {
     ghost use Rattle.std.specs.Prelude.{◌≡◌, ◌≤◌, length};
     ghost use Rattle.ilk_plant.specs.Plant.{PlantLists};
+    ghost use Rattle.ilk_plant.specs.declared.limits.TheConstants.{MAX_BOARDS, MAX_ROUTES, MAX_SECTIONS};
 
     ghost Value = { PlantLists };
 
@@ -38,14 +40,14 @@ impl Model for Numbered {
       route_names = p.route_names;
     } };
 
-    ghost invariant = { λ p. (length p.sections ≤ 128) × (length p.boards ≤ 256) × (length p.routes ≤ 128) × (length p.route_names ≡ length p.routes) };
+    ghost invariant = { λ p. (length p.sections ≤ MAX_SECTIONS) × (length p.boards ≤ MAX_BOARDS) × (length p.routes ≤ MAX_ROUTES) × (length p.route_names ≡ length p.routes) };
 }
 
 impl Numbered {
     /// The numbered network and table. The only refusal is want of memory.
     pub fn of(alloc: Global, net: &NetDraft, table: &TableDraft) -> Result<Numbered, AllocError>
-        requires few_sections { length net.now.sections ≤ 128 }
-        requires few_routes { length table.now.routes ≤ 128 }
+        requires few_sections { length net.now.sections ≤ MAX_SECTIONS }
+        requires few_routes { length table.now.routes ≤ MAX_ROUTES }
         ensures { IfOk result (λ made. made ≡ numbered net.now table.now) }
     {
         let named = named_boards(alloc, &net.sections)?;
@@ -88,7 +90,7 @@ impl Numbered {
         Ok(numbers)
     }
 
-    /// The number of routes, at most 128.
+    /// The number of routes, at most `MAX_ROUTES`.
     pub fn routes(&self) -> u32
         ensures { result ≡ length self.now.routes }
     {

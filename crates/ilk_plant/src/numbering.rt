@@ -1,5 +1,6 @@
 ghost use Rattle.std.specs.Prelude.{◌≡◌, ◌≤◌, ◌<◌, ◌++◌, IfOk, OnOk, length, map};
-ghost use Rattle.ilk_plant.specs.Draft.{board_named, boards_from, boards_on, names_of_boards, names_of_routes, names_of_sections, number_of, numbered_point, numbered_route, numbered_section};
+ghost use Rattle.ilk_plant.specs.Draft.{boards_from, boards_on, names_of_boards, names_of_routes, names_of_sections, number_of, numbered_point, numbered_route, numbered_section, board_if_named};
+ghost use Rattle.ilk_plant.specs.declared.limits.TheConstants.{MAX_BOARDS, MAX_SECTIONS, MAX_ROUTES};
 
 use crate::names::Names;
 use crate::{
@@ -9,7 +10,7 @@ use std::alloc::{AllocError, Global};
 
 /// The names of the sections, in order.
 pub fn section_names(alloc: Global, sections: &Row<SectionDraft>) -> Result<Names, AllocError>
-    requires { length sections.now ≤ 128 }
+    requires { length sections.now ≤ MAX_SECTIONS }
     ensures { IfOk result (λ names. names ≡ names_of_sections sections.now) }
 {
     let mut names = Row::new(alloc);
@@ -21,7 +22,7 @@ pub fn section_names(alloc: Global, sections: &Row<SectionDraft>) -> Result<Name
 
 /// The names of the routes, in order.
 pub fn route_names(alloc: Global, routes: &Row<RouteDraft>) -> Result<Names, AllocError>
-    requires { length routes.now ≤ 128 }
+    requires { length routes.now ≤ MAX_ROUTES }
     ensures { IfOk result (λ names. names ≡ names_of_routes routes.now) }
 {
     let mut names = Row::new(alloc);
@@ -47,9 +48,9 @@ fn push_board(
     name: &Option<Text>,
 ) -> Result<(), AllocError>
     ensures names { OnOk result
-        (made.new.names ≡ made.old.names ++ map (λ named. named.name) (board_named x dir name.now)) }
+        (made.new.names ≡ made.old.names ++ map (λ named. named.name) (board_if_named x dir name.now)) }
     ensures boards { OnOk result
-        (made.new.boards ≡ made.old.boards ++ map (λ named. named.board) (board_named x dir name.now)) }
+        (made.new.boards ≡ made.old.boards ++ map (λ named. named.board) (board_if_named x dir name.now)) }
 {
     if let Some(name) = name {
         made.names.push(name.copy(alloc)?)?;
@@ -84,10 +85,10 @@ fn push_boards(
 
 /// The boards of the sections with their names.
 pub fn named_boards(alloc: Global, sections: &Row<SectionDraft>) -> Result<NamedBoards, AllocError>
-    requires { length sections.now ≤ 128 }
+    requires { length sections.now ≤ MAX_SECTIONS }
     ensures names { IfOk result (λ made. made.names ≡ names_of_boards sections.now) }
     ensures boards { IfOk result (λ made. made.boards ≡ map (λ named. named.board) (boards_from 0 sections.now)) }
-    ensures few { IfOk result (λ made. length made.names ≤ 256) }
+    ensures few { IfOk result (λ made. length made.names ≤ MAX_BOARDS) }
 {
     let mut made = NamedBoards {
         names: Row::new(alloc),
@@ -101,7 +102,7 @@ pub fn named_boards(alloc: Global, sections: &Row<SectionDraft>) -> Result<Named
 
 /// The names of the boards, in the order of their numbers.
 pub fn board_names(alloc: Global, sections: &Row<SectionDraft>) -> Result<Names, AllocError>
-    requires { length sections.now ≤ 128 }
+    requires { length sections.now ≤ MAX_SECTIONS }
     ensures { IfOk result (λ names. names ≡ names_of_boards sections.now) }
 {
     Names::of(alloc, named_boards(alloc, sections)?.names)

@@ -10,9 +10,9 @@ use std::marker::Model;
 ///
 /// Sections and routes are numbered as the configuration lists them. Boards are numbered in the
 /// order of their sections, on one section the board for direction down first, and points in the
-/// order of their sections. A plant has 1 to 128 sections and at most 128 routes, each name is of 1
-/// to 32 of the characters `A-Z a-z 0-9 _ -`, and it breaks no rule of the network or of the table
-/// of routes.
+/// order of their sections. A plant is within the limits on how many sections and routes there
+/// are, on what a route lists, and on names, and it breaks no rule of the network or of the table of
+/// routes.
 #[derive(Drop)]
 pub struct Plant {
     sections: Row<Section>,
@@ -92,28 +92,28 @@ impl Plant {
         let _ = &self.sections;
     }
 
-    /// The number of sections, 1 to 128.
+    /// The number of sections, 1 to `MAX_SECTIONS`.
     pub fn sections(&self) -> u32
         ensures { result ≡ length self.now.sections }
     {
         self.sections.len() as u32
     }
 
-    /// The number of boards, at most 256.
+    /// The number of boards, at most `MAX_BOARDS`.
     pub fn boards(&self) -> u32
         ensures { result ≡ length self.now.boards }
     {
         self.boards.len() as u32
     }
 
-    /// The number of routes, at most 128.
+    /// The number of routes, at most `MAX_ROUTES`.
     pub fn routes(&self) -> u32
         ensures { result ≡ length self.now.routes }
     {
         self.routes.len() as u32
     }
 
-    /// The number of points, at most 128.
+    /// The number of points, at most as many as sections.
     pub fn points(&self) -> u32
         ensures { result ≡ point_count self.now }
     {

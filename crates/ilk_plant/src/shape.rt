@@ -2,14 +2,14 @@ ghost use Rattle.std.specs.Prelude.{◌≡◌, ◌↔◌, IsTrue, length, zip};
 ghost use Rattle.std.specs.List.{list_all};
 ghost use Rattle.ilk_plant.specs.Network.{has_section};
 ghost use Rattle.ilk_plant.specs.Plant.{next_to};
-ghost use Rattle.ilk_plant.specs.Shape.{HasLengths, is_body, is_within, leads_on};
-ghost use Rattle.ilk_plant.specs.State.{HasShape};
+ghost use Rattle.ilk_plant.specs.Shape.{is_body, leads_on, fits_path, HasShape};
+ghost use Rattle.ilk_plant.specs.Lengths.{HasLengths};
 
 use crate::{Dir, Plant, Route, RouteState, State, Train};
 
 // Whether no more path sections are seen, or given back, than the route has.
-fn is_within(route: &Route, now: &RouteState) -> bool
-    ensures { result ≡ is_within route.now now.now }
+fn fits_path(route: &Route, now: &RouteState) -> bool
+    ensures { result ≡ fits_path route.now now.now }
 {
     let path = route.path.len();
     now.seen as u64 <= path && now.rel as u64 <= path
@@ -55,12 +55,12 @@ impl Plant {
 
     // Whether the counts of each route are within its path.
     fn counts_fit(&self, s: &State) -> bool
-        ensures { result ≡ list_all (λ pair. is_within pair.0 pair.1) (zip self.now.routes s.now.routes) }
+        ensures { result ≡ list_all (λ pair. fits_path pair.0 pair.1) (zip self.now.routes s.now.routes) }
     {
         self.routes_as_slice()
             .iter()
             .zip(s.routes.as_slice())
-            .all(|(route, now)| is_within(route, now))
+            .all(|(route, now)| fits_path(route, now))
     }
 
     // Whether each train has a body.

@@ -1,5 +1,5 @@
 ghost use Rattle.std.specs.Prelude.{◌≡◌, IfOk, replicate};
-ghost use Rattle.ilk_plant.specs.State.{HasShape};
+ghost use Rattle.ilk_plant.specs.Shape.{HasShape};
 ghost use Rattle.ilk_plant.specs.Start.{start, free_route, plus_point};
 
 use crate::{Aspect, Hold, Lie, Mode, Plant, PointState, Position, RouteState, Row, State};

@@ -4,7 +4,8 @@ use Rattle.std.specs.Prelude.{◌↔◌, nat_lt}
 use Rattle.std.specs.Str.{bytes_eq}
 use Rattle.std.proofs.lemmas.Bool.Decides.{nat_tests}
 use Rattle.ilk_plant.specs.Plant.{IsPlant, PlantLists}
-use Rattle.ilk_plant.specs.Result.{◌>>=◌}
+use Rattle.ilk_base.specs.Result.{◌>>=◌}
+use Rattle.ilk_plant.proofs.Shapes.{fits_path-from_counts}
 use Rattle.ilk_plant.specs.Start.{free_route, plus_point, start}
 use Rattle.ilk_plant.specs.declared.state.Aspect.{Aspect}
 use Rattle.ilk_plant.specs.declared.state.Aspect.TheVariants.{Closed}
@@ -16,32 +17,31 @@ use Rattle.ilk_plant.specs.declared.state.State.{State}
 use Rattle.ilk_model.specs.declared.event.Event.{Event}
 use Rattle.ilk_replay.specs.EventLine.{event_of}
 use Rattle.ilk_replay.specs.FirstBad.{BeginsSome, IsFirstBad}
-use Rattle.ilk_replay.specs.Lines.{Bytes, after_lines, lines_of}
+use Rattle.ilk_lines.specs.Lines.{Bytes, after_lines, lines_of}
+use Rattle.ilk_lines.specs.Reading.{Part, after_line, at_the_end, each_told, leading_part, numbers_of}
+use Rattle.ilk_lines.proofs.ByLine.{FailsAt, Fills, HasLine, IsByLine, Reader, after_by_line, each_by_line, each_then, fails_first, fails_next, leading_by_line, leading_then}
+use Rattle.ilk_base.proofs.Results.{bind-assoc, err_is, ok_no_err}
+use Rattle.ilk_lines.proofs.General.{item_at, range_within}
 use Rattle.ilk_replay.specs.RunText.{board_line, point_line, route_line, run_lines, run_text, section_line}
 use Rattle.ilk_replay.specs.StateLine.{board_told, lock_told, point_told, route_told, train_told}
-use Rattle.ilk_replay.specs.StateTold.{Beginning, Part, after_line, each_told, leading_part, numbers_of, point_sections, state_told}
-use Rattle.ilk_replay.specs.Told.{at_the_end, beginning_told, events_told, tale_of, told}
+use Rattle.ilk_replay.specs.StateTold.{Beginning, point_sections, state_told}
+use Rattle.ilk_replay.specs.Told.{beginning_told, events_told, tale_of, told}
 use Rattle.ilk_replay.specs.Writable.{IsOfPlant, IsSomeText}
 use Rattle.ilk_replay.specs.declared.told.Tale.{Tale}
 use Rattle.ilk_replay.specs.declared.told.Tale.TheVariants.{Told as IsTold, Bad}
 use Rattle.ilk_replay.specs.declared.told.Told.{Told}
-use Rattle.ilk_replay.proofs.ByLine.{FailsAt, Fills, HasLine, IsByLine, Reader, after_by_line, each_by_line, each_then, err_is, fails_first, fails_next, leading_by_line, leading_then, ok_no_err}
 use Rattle.ilk_replay.proofs.OfPlant.{told-of_plant, told_exactly, written-told}
 use Rattle.ilk_replay.proofs.StateBack.{board_back, lock_back, point_back, route_back}
-use Rattle.ilk_replay.proofs.WholeBack.{item_at, point_within, range_within}
+use Rattle.ilk_replay.proofs.WholeBack.{point_within}
 use Rattle.ilk_replay.proofs.WrittenRun.{answered, made, told-lines}
-
-bind-assoc : {A B C : Type 0} (r : Result A ℕ) (f : A → Result B ℕ) (g : B → Result C ℕ) → ((r >>= f) >>= g) ≡ (r >>= (λ x. f x >>= g))
-bind-assoc (Ok x) f g = refl
-bind-assoc (Err n) f g = refl
 
 -- the run that begins so, with these events
 abbrev run_of : State → Bool → List Event → Result Told ℕ
 run_of first from_start events = Ok (record { first = first; from_start = from_start; events = events })
 
 -- the end of a text
-abbrev end_read : State → Bool → List Event → ℕ → Reader
-end_read first from_start events n lines bytes = at_the_end events n lines bytes >>= run_of first from_start
+abbrev end_read : State → Bool → List Event → ℕ → Reader Told
+end_read first from_start events n lines bytes = at_the_end n lines bytes >>= (λ none. run_of first from_start events)
 
 end_by_line : (first : State) (from_start : Bool) (events : List Event) (n : ℕ) → IsByLine n (end_read first from_start events n)
 end_by_line first from_start events n = record { fills = fills; fails = fails }
@@ -55,16 +55,17 @@ end_by_line first from_start events n = record { fills = fills; fails = fails }
     fails (line ∷ lines) bytes m e = fails_first n m (end_read first from_start events n) (line ∷ lines) (sym (err_is e)) (λ some more others. ap (λ k. Err k) (err_is e)) fills
 
 -- the events, and the end
-abbrev events_read : PlantLists → State → Bool → ℕ → Reader
+abbrev events_read : PlantLists → State → Bool → ℕ → Reader Told
 events_read p first from_start n lines bytes = events_told p n lines bytes >>= run_of first from_start
 
 events_by_line : (p : PlantLists) (first : State) (from_start : Bool) (n : ℕ) → IsByLine n (events_read p first from_start n)
 events_by_line p first from_start n =
-    let next : List Event → ℕ → Reader = end_read first from_start in
-    let read : Reader = leading_then (event_of p) (codes "end") n next in
+    let next : List Event → ℕ → Reader Told = end_read first from_start in
+    let read : Reader Told = leading_then (event_of p) (codes "end") n next in
     let same : (lines : List Bytes) (bytes : Bytes) → read lines bytes ≡ events_read p first from_start n lines bytes =
     λ lines bytes. (let events = leading_part (event_of p) n lines in
-    sym (bind-assoc (after_line (codes "end") events.number events.lines) (λ more. at_the_end events.values (events.number + 1) more bytes) (run_of first from_start))) in
+    sym (bind-assoc (after_line (codes "end") events.number events.lines) (λ more. at_the_end (events.number + 1) more bytes >>= (λ none. Ok events.values)) (run_of first from_start)
+    ∙ (λ i. after_line (codes "end") events.number events.lines >>= (λ more. bind-assoc (at_the_end (events.number + 1) more bytes) (λ none. Ok events.values) (run_of first from_start) i)))) in
     subst (IsByLine n) (λ i lines bytes. same lines bytes i) (leading_by_line (event_of p) (codes "end") n next refl (end_by_line first from_start))
 
 -- the events after a beginning
@@ -85,7 +86,7 @@ boards_read p routes points bytes = each_then (board_told p) (numbers_of p.board
 abbrev points_read : PlantLists → Part RouteState → Bytes → Result Told ℕ
 points_read p routes bytes = each_then (point_told p) (point_sections p) routes.number (boards_read p routes.values) routes.lines bytes
 
-abbrev state_read : PlantLists → Reader
+abbrev state_read : PlantLists → Reader Told
 state_read p = each_then (route_told p) (numbers_of p.routes) 3 (points_read p)
 
 -- reading part by part is reading the state and then the events
@@ -137,7 +138,7 @@ route_has_line : (p : PlantLists) → IsPlant p → (i x : ℕ) → slice_get (n
 route_has_line p plant i x at =
     let place = range_within (length p.routes) i x at in
     let route = item_at p.routes x place.1 in
-    (route_line p x free_route, free_route, route_back p plant x route.0 free_route route.1 place.1 (omega arith, omega arith))
+    (route_line p x free_route, free_route, route_back p plant x route.0 free_route route.1 place.1 (fits_path-from_counts route.0 free_route (omega arith) (omega arith)))
 
 point_has_line : (p : PlantLists) → IsPlant p → (i x : ℕ) → slice_get (point_sections p) i ≡ Some x → HasLine (point_told p) x
 point_has_line p plant i x at = (point_line p x plus_point, plus_point, point_back p plant x plus_point (point_within p i x at))
@@ -158,7 +159,7 @@ state_by_line p plant =
     events_by_line p (record { routes = routes; points = points; boards = boards; locks = locks; trains = trains }) false n)))))
 
 -- how a run begins, its events, and the end
-abbrev begin_read : PlantLists → Reader
+abbrev begin_read : PlantLists → Reader Told
 begin_read p lines bytes = beginning_told p lines >>= with_events p bytes
 
 -- the second line is `start`, or `state`, or bad

@@ -1,11 +1,6 @@
 pub mod Bodies
-pub mod ByLine
-pub mod Each
 pub mod FirstBad
-pub mod Leading
-pub mod Numbers
 pub mod OfPlant
-pub mod Parts
 pub mod PlainNames
 pub mod ReadBack
 pub mod Runs
@@ -15,3 +10,6 @@ pub mod Written
 pub mod WrittenRun
 pub mod StateBack
 pub mod WholeBack
+pub mod WordTables
+pub mod StateWords
+pub mod Items

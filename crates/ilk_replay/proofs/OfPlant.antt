@@ -1,5 +1,5 @@
 -- What a text tells is a run of the plant, and the text is the one that is written for it.
-use Rattle.std.proofs.Common.{◌≡◌, ℕ, ◌+◌, ◌<◌, Bool, true, false, All, Option, Some, None, Result, Ok, Err, List, [], ◌∷◌, codes, drop, length, slice_get, cond, refl, sym, ap, ◌∙◌, arith, subst}
+use Rattle.std.proofs.Common.{◌≡◌, ℕ, ◌+◌, ◌<◌, Bool, true, false, All, Option, Some, Result, Ok, Err, List, [], ◌∷◌, codes, drop, length, slice_get, cond, refl, sym, ap, ◌∙◌, arith, subst}
 use Rattle.std.specs.Prelude.{◌↔◌}
 use Rattle.std.specs.Option.{option_or}
 use Rattle.std.specs.Str.{bytes_eq}
@@ -7,75 +7,68 @@ use Rattle.std.proofs.lemmas.List.Quantifiers.{position-Some}
 use Rattle.std.proofs.lemmas.Option.{cond_some}
 use Rattle.ilk_plant.proofs.Shapes.{start-shape}
 use Rattle.ilk_plant.specs.Network.{is_point}
-use Rattle.ilk_plant.specs.Option.{is_some_and}
+use Rattle.ilk_base.specs.Option.{is_some_and}
 use Rattle.ilk_plant.specs.Plant.{IsPlant, PlantLists, first_named}
 use Rattle.ilk_plant.specs.Start.{start}
-use Rattle.ilk_plant.specs.State.{HasShape}
+use Rattle.ilk_plant.specs.Shape.{HasShape}
 use Rattle.ilk_plant.specs.declared.network.Section.{Section}
 use Rattle.ilk_model.specs.declared.event.Event.{Event}
-use Rattle.ilk_model.specs.declared.event.Event.TheVariants.{Mark, Allocate, Lock, Sense, Release, Finish, Throw, Settle, Enter, Head, Tail, Leave}
-use Rattle.ilk_replay.specs.Lines.{Bytes, after_lines, first_word, leading, lines_of}
-use Rattle.ilk_replay.specs.EventLine.{event_of, point_event, point_named, route_event, section_event}
+use Rattle.ilk_lines.specs.Lines.{Bytes, after_lines, lines_of}
+use Rattle.ilk_lines.specs.Reading.{after_line, at_the_end, each_told, leading, numbers_of}
+use Rattle.ilk_lines.specs.Words.{first_word}
+use Rattle.ilk_base.proofs.Results.{bind_ok, ok_is}
+use Rattle.ilk_lines.proofs.General.{bind_some}
+use Rattle.ilk_lines.proofs.Leading.{leading_all}
+use Rattle.ilk_replay.specs.EventLine.{event_of, point_named}
+use Rattle.ilk_replay.specs.EventWords.{event_with}
 use Rattle.ilk_replay.specs.RunText.{run_text}
 use Rattle.ilk_replay.specs.StateLine.{board_told, lock_told, point_told, route_told, train_told}
-use Rattle.ilk_replay.specs.StateTold.{Beginning, after_line, each_told, numbers_of, point_sections, state_told}
+use Rattle.ilk_replay.specs.StateTold.{Beginning, point_sections, state_told}
 use Rattle.ilk_plant.specs.Plant.{is_point_section}
 use Rattle.ilk_replay.specs.Told.{beginning_told, events_told, tale_of, told}
-use Rattle.ilk_replay.specs.Writable.{HasNoBadLine, IsAbout, IsOfPlant, IsSomeText, IsTextOf}
+use Rattle.ilk_replay.specs.Writable.{HasNoBadLine, HasSubject, IsAbout, IsOfPlant, IsSomeText, IsTextOf}
+use Rattle.ilk_replay.specs.declared.event_line.Subject.{Subject}
+use Rattle.ilk_replay.specs.declared.event_line.Subject.TheVariants.{Route, Point, Section as AtSection}
 use Rattle.ilk_replay.specs.declared.told.Tale.{Tale}
 use Rattle.ilk_replay.specs.declared.told.Tale.TheVariants.{Told as IsTold, Bad}
 use Rattle.ilk_replay.specs.declared.told.Told.{Told}
 use Rattle.ilk_replay.proofs.PlainNames.{plain_names}
-use Rattle.ilk_replay.proofs.Shape.{bind_some, leading_all, shaped}
+use Rattle.ilk_replay.proofs.Shape.{shaped}
 use Rattle.ilk_replay.proofs.StartedBack.{started, started_back}
 use Rattle.ilk_replay.proofs.WholeBack.{resumed, resumed_back}
-use Rattle.ilk_replay.proofs.Written.{of_point, of_route, of_section, or_cases, word_case}
-use Rattle.ilk_replay.proofs.WrittenRun.{answered, at_the_end-ends, bind_ok, made, ok_is, text_written}
+use Rattle.ilk_replay.proofs.Written.{event_with-about, of_point, of_route, of_section, or_cases}
+use Rattle.ilk_replay.proofs.WrittenRun.{answered, made, text_written}
 
 -- a name that is known has a number below the count of the names
 named-within : (names : List Bytes) (name : Bytes) (i : ℕ) → first_named names name ≡ Some i → i < length names
 named-within names name i e = (position-Some (bytes_eq name) names i [] e).0
 
-route_event-about : (p : PlantLists) (word : Bytes) (r : ℕ) (event : Event) → r < length p.routes → route_event word r ≡ Some event → IsAbout p event
-route_event-about p word r event within e =
-    let P : Bytes → Event → Type 0 = λ w x. IsAbout p x in
-    word_case P word (codes "mark") (Mark r) event _ within (λ e1. word_case P word (codes "allocate") (Allocate r) event _ within (λ e2. word_case P word (codes "lock") (Lock r) event _ within
-    (λ e3. word_case P word (codes "sense") (Sense r) event _ within (λ e4. word_case P word (codes "release") (Release r) event _ within
-    (λ e5. word_case P word (codes "finish") (Finish r) event None within (λ e6. cc) e5) e4) e3) e2) e1) e
-
-point_event-about : (p : PlantLists) (word : Bytes) (x : ℕ) (event : Event) → is_point_section p x ≡ true → point_event word x ≡ Some event → IsAbout p event
-point_event-about p word x event at e =
-    let P : Bytes → Event → Type 0 = λ w y. IsAbout p y in
-    word_case P word (codes "throw") (Throw x) event _ at (λ e1. word_case P word (codes "settle") (Settle x) event None at (λ e2. cc) e1) e
-
-section_event-about : (p : PlantLists) (word : Bytes) (x : ℕ) (event : Event) → x < length p.sections → section_event word x ≡ Some event → IsAbout p event
-section_event-about p word x event within e =
-    let P : Bytes → Event → Type 0 = λ w y. IsAbout p y in
-    word_case P word (codes "enter") (Enter x) event _ within (λ e1. word_case P word (codes "head") (Head x) event _ within (λ e2. word_case P word (codes "tail") (Tail x) event _ within
-    (λ e3. word_case P word (codes "leave") (Leave x) event None within (λ e4. cc) e3) e2) e1) e
+-- an event that a word tells of something that is there is about what is there
+event_with-has : (p : PlantLists) (word : Bytes) (about : Subject) (event : Event) → HasSubject p about → event_with word about ≡ Some event → IsAbout p event
+event_with-has p word about event has e = subst (HasSubject p) (sym (event_with-about word about event e)) has
 
 of_route-about : (p : PlantLists) → IsPlant p → (word name : Bytes) (event : Event) → of_route p word name ≡ Some event → IsAbout p event
 of_route-about p plant word name event e =
     let named = plant.routes_named in
-    let b = bind_some (first_named p.route_names name) (route_event word) event e in
+    let b = bind_some (first_named p.route_names name) (λ r. event_with word (Route r)) event e in
     let below = named-within p.route_names name b.0 b.1 in
-    route_event-about p word b.0 event (omega arith) b.2
+    event_with-has p word (Route b.0) event (omega arith) b.2
 
 of_section-about : (p : PlantLists) → IsPlant p → (word name : Bytes) (event : Event) → of_section p word name ≡ Some event → IsAbout p event
 of_section-about p plant word name event e =
     let named = plant.sections_named in
-    let b = bind_some (first_named p.section_names name) (section_event word) event e in
+    let b = bind_some (first_named p.section_names name) (λ x. event_with word (AtSection x)) event e in
     let below = named-within p.section_names name b.0 b.1 in
-    section_event-about p word b.0 event (omega arith) b.2
+    event_with-has p word (AtSection b.0) event (omega arith) b.2
 
 of_point-about : (p : PlantLists) (word name : Bytes) (event : Event) → of_point p word name ≡ Some event → IsAbout p event
 of_point-about p word name event e =
-    let b = bind_some (point_named p name) (point_event word) event e in
+    let b = bind_some (point_named p name) (λ x. event_with word (Point x)) event e in
     let c = bind_some (first_named p.section_names name) _ b.0 b.1 in
     let d = bind_some (slice_get p.sections c.0) _ b.0 c.2 in
     let point = cond_some (is_point d.0) c.0 b.0 d.2 in
     let at : is_point_section p c.0 ≡ true = ap (λ (o : Option Section). is_some_and o is_point) d.1 ∙ point.0 in
-    point_event-about p word b.0 event (ap (is_point_section p) (sym point.1) ∙ at) b.2
+    event_with-has p word (Point b.0) event (ap (is_point_section p) (sym point.1) ∙ at) b.2
 
 -- an event that a line tells is about what there is
 event_of-about : (p : PlantLists) → IsPlant p → (line : Bytes) (event : Event) → event_of p line ≡ Some event → IsAbout p event
@@ -90,8 +83,8 @@ events_told-about : (p : PlantLists) → IsPlant p → (n : ℕ) (lines : List B
 events_told-about p plant n lines bytes events e =
     let found : List Event = leading (event_of p) lines in
     let v = bind_ok (after_line (codes "end") (n + length found) (drop (length found) lines)) _ events e in
-    let last = at_the_end-ends found events (n + length found + 1) v.0 bytes v.2 in
-    subst (All (IsAbout p)) last.0 (leading_all (event_of p) (IsAbout p) (event_of-about p plant) lines)
+    let end = bind_ok (at_the_end (n + length found + 1) v.0 bytes) _ events v.2 in
+    subst (All (IsAbout p)) (ok_is end.2) (leading_all (event_of p) (IsAbout p) (event_of-about p plant) lines)
 
 -- how a run of the plant begins
 abbrev BeginsWell : PlantLists → Beginning → Type 0

@@ -1,19 +1,17 @@
 -- The names of a plant have no space and no line feed, and are UTF-8.
-use Rattle.std.proofs.Common.{◌≡◌, ℕ, zero, suc, ◌<◌, Bool, true, false, ◌==◌, ◌||◌, All, Option, Some, None, List, [], ◌∷◌, get_or, length, ap, refl, arith, subst, sym, ◌∙◌}
-use Rattle.std.specs.List.{list_all, list_any}
+use Rattle.std.proofs.Common.{◌≡◌, ℕ, zero, suc, ◌<◌, true, false, All, Option, Some, None, List, [], ◌∷◌, get_or, length, refl, arith, subst, sym}
+use Rattle.std.specs.List.{list_all}
 use Rattle.std.specs.Str.{IsAscii, IsUtf8, bytes_eq}
-use Rattle.std.proofs.lemmas.Bool.Decides.{Decides-eqb, nat_tests}
+use Rattle.std.proofs.lemmas.Bool.Decides.{nat_tests}
 use Rattle.std.proofs.lemmas.List.Quantifiers.{position-Some}
 use Rattle.std.proofs.lemmas.Slice.Eq.{bytes_eq-Decides}
 use Rattle.std.proofs.lemmas.Str.{IsUtf8-from_ascii}
-use Rattle.ilk_plant.proofs.KnownNames.{both}
+use Rattle.std.proofs.lemmas.Bool.{and_parts}
 use Rattle.ilk_plant.specs.Name.{IsName, is_name_character, lies_within}
 use Rattle.ilk_plant.specs.Plant.{IsPlant, PlantLists, first_named}
-use Rattle.ilk_replay.specs.Lines.{Bytes}
-
--- no byte of the text is c
-abbrev pub Lacks : ℕ → Bytes → Type 0
-Lacks c text = list_any (λ b. b == c) text ≡ false
+use Rattle.ilk_lines.specs.Lines.{Bytes}
+use Rattle.ilk_lines.specs.Written.{Lacks}
+use Rattle.ilk_lines.proofs.Lacking.{lacks_failing}
 
 -- no name has a line feed or a space
 pub record HasPlainNames (p : PlantLists) : Type 0 where
@@ -22,19 +20,8 @@ pub record HasPlainNames (p : PlantLists) : Type 0 where
   pub sections : All (Lacks 10) p.section_names
   pub section_words : All (Lacks 32) p.section_names
 
-lacks_more : (test : ℕ → Bool) (b : Bool) (c d : ℕ) (rest : Bool) → (d == c) ≡ b → test c ≡ false → test d ≡ true → rest ≡ false → (b || rest) ≡ false
-lacks_more test true c d rest same other passes lacks = let equal : d ≡ c = (Decides-eqb d c).0 same in let wrong : test d ≡ false = ap test equal ∙ other in cc
-lacks_more test false c d rest same other passes lacks = lacks
-
--- a text whose bytes all pass a test that c fails has no c
-pub lacks_failing : (test : ℕ → Bool) (c : ℕ) (text : Bytes) → test c ≡ false → list_all test text ≡ true → Lacks c text
-lacks_failing test c [] other passes = refl
-lacks_failing test c (d ∷ text) other passes =
-    let parts = both (test d) (list_all test text) passes in
-    lacks_more test (d == c) c d (list_any (λ e. e == c) text) refl other parts.0 (lacks_failing test c text other parts.1)
-
 name-lacks : (c : ℕ) → is_name_character c ≡ false → (name : Bytes) → IsName name → Lacks c name
-name-lacks c other name is = lacks_failing is_name_character c name other (both (lies_within 1 32 (length name)) (list_all is_name_character name) is).1
+name-lacks c other name is = lacks_failing is_name_character c name other (and_parts (lies_within 1 32 (length name)) (list_all is_name_character name) is).1
 
 each-lacks : (c : ℕ) → is_name_character c ≡ false → (names : List Bytes) → All IsName names → All (Lacks c) names
 each-lacks c other names is k d within = name-lacks c other (get_or names k d) (is k d within)
@@ -53,11 +40,11 @@ character-ascii c h = grind (arith, nat_tests)
 
 ascii : (name : Bytes) → list_all is_name_character name ≡ true → IsAscii name
 ascii [] h i = omega arith
-ascii (c ∷ name) h zero = character-ascii c (both (is_name_character c) (list_all is_name_character name) h).0
-ascii (c ∷ name) h (suc i) = ascii name (both (is_name_character c) (list_all is_name_character name) h).1 i
+ascii (c ∷ name) h zero = character-ascii c (and_parts (is_name_character c) (list_all is_name_character name) h).0
+ascii (c ∷ name) h (suc i) = ascii name (and_parts (is_name_character c) (list_all is_name_character name) h).1 i
 
 name-utf8 : (name : Bytes) → IsName name → IsUtf8 name
-name-utf8 name is = IsUtf8-from_ascii name (ascii name (both (lies_within 1 32 (length name)) (list_all is_name_character name) is).1)
+name-utf8 name is = IsUtf8-from_ascii name (ascii name (and_parts (lies_within 1 32 (length name)) (list_all is_name_character name) is).1)
 
 -- what isn't UTF-8 is none of these names
 pub no_utf8-unnamed : (names : List Bytes) (name : Bytes) → All IsName names → (IsUtf8 name → ⊥) → None ≡ first_named names name

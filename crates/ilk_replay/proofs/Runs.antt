@@ -3,14 +3,13 @@ use Rattle.std.proofs.Common.{◌≡◌, ℕ, ◌+◌, ◌<◌, ◌≤◌, Bool,
 use Rattle.std.specs.List.{range_with_len}
 use Rattle.std.proofs.Math.Nat.{eq-or-lt_of_le}
 use Rattle.std.proofs.lemmas.List.{take_all}
-use Rattle.std.proofs.lemmas.Option.{slice_get_within, slice_get-get_or}
-use Rattle.ilk_plant.specs.Option.{◌>>=◌}
+use Rattle.std.proofs.lemmas.Option.{same_Some, slice_get_within, slice_get-get_or}
+use Rattle.ilk_base.specs.Option.{◌>>=◌}
 use Rattle.ilk_plant.specs.Plant.{PlantLists}
 use Rattle.ilk_plant.specs.declared.state.State.{State}
 use Rattle.ilk_model.specs.Run.{run, step}
 use Rattle.ilk_model.specs.declared.event.Event.{Event}
 use Rattle.ilk_replay.specs.Seen.{seen_of}
-use Rattle.ilk_replay.proofs.Each.{some_is}
 use Rattle.ilk_replay.specs.declared.seen.Seen.TheVariants.{NotARun}
 
 -- the least number of a range that passes the test is found
@@ -36,7 +35,7 @@ pub run-refused : (p : PlantLists) (s t : State) (events : List Event) (event : 
 run-refused p s t [] event i n ends here refused more = cc
 run-refused p s t (first ∷ rest) event i zero ends here refused more = absurd (omega arith)
 run-refused p s t (first ∷ rest) event zero (suc n) ends here refused more =
-    let none : step p s first ≡ None = subst (λ (e : Event). step p s e ≡ None) (sym (some_is here)) (subst (λ (u : State). step p u event ≡ None) (sym (some_is ends)) refused) in
+    let none : step p s first ≡ None = subst (λ (e : Event). step p s e ≡ None) (sym (same_Some _ _ here)) (subst (λ (u : State). step p u event ≡ None) (sym (same_Some _ _ ends)) refused) in
     ap (λ (o : Option State). o >>= (λ u. run p u (take n rest))) none
 run-refused p s t (first ∷ rest) event (suc i) (suc n) ends here refused more =
     refused-after p t (step p s first) (take i rest) (take n rest) (λ u e. run-refused p u t rest event i n e here refused (omega arith)) ends
@@ -64,8 +63,8 @@ run-more p s t [] event i ends here = cc
 run-more p s t (first ∷ rest) event zero ends here = once (step p s first) refl
   where
     once : (o : Option State) → step p s first ≡ o → (o >>= (λ u. run p u [])) ≡ step p t event
-    once None e = sym (subst (λ (v : Event). step p t v ≡ None) (some_is here) (subst (λ (u : State). step p u first ≡ None) (some_is ends) e))
-    once (Some u) e = sym (subst (λ (v : Event). step p t v ≡ Some u) (some_is here) (subst (λ (w : State). step p w first ≡ Some u) (some_is ends) e))
+    once None e = sym (subst (λ (v : Event). step p t v ≡ None) (same_Some _ _ here) (subst (λ (u : State). step p u first ≡ None) (same_Some _ _ ends) e))
+    once (Some u) e = sym (subst (λ (v : Event). step p t v ≡ Some u) (same_Some _ _ here) (subst (λ (w : State). step p w first ≡ Some u) (same_Some _ _ ends) e))
 run-more p s t (first ∷ rest) event (suc i) ends here =
     more-after p t (step p s first) (take i rest) (take (suc i) rest) (step p t event) (λ u e. run-more p u t rest event i e here) ends
 

@@ -1,24 +1,32 @@
 -- The text of a run from the start tells that run.
-use Rattle.std.proofs.Common.{◌≡◌, ℕ, ◌+◌, true, All, Option, Some, None, Result, Ok, List, [], ◌∷◌, ◌++◌, codes, drop, length, map, slice_get, unwrap_or, refl, ap, ◌∙◌, arith, subst, suc, zero}
+use Rattle.std.proofs.Common.{◌≡◌, ℕ, ◌+◌, true, All, Option, Some, None, Result, Ok, List, [], ◌∷◌, ◌++◌, codes, drop, get_or, length, map, slice_get, unwrap_or, refl, ap, ◌∙◌, subst}
 use Rattle.std.proofs.lemmas.Option.{slice_get_within, get_or_from_slice_get}
 use Rattle.std.proofs.lemmas.List.Elements.{All-nil}
 use Rattle.std.proofs.lemmas.List.Elements.{All-cons}
-use Rattle.ilk_plant.specs.Result.{◌>>=◌}
+use Rattle.ilk_base.specs.Result.{◌>>=◌}
 use Rattle.ilk_plant.specs.Plant.{IsPlant, PlantLists}
 use Rattle.ilk_plant.specs.Start.{start}
 use Rattle.ilk_model.specs.declared.event.Event.{Event}
 use Rattle.ilk_model.specs.declared.event.Event.TheVariants.{Mark, Allocate, Lock, Sense, Release, Finish, Throw, Settle, Enter, Head, Tail, Leave}
-use Rattle.ilk_replay.specs.Lines.{Bytes, after_lines, leading, onto}
+use Rattle.ilk_lines.specs.Lines.{Bytes, after_lines}
+use Rattle.ilk_lines.specs.Reading.{after_line, at_the_end}
+use Rattle.ilk_lines.specs.Written.{Lacks}
+use Rattle.ilk_lines.proofs.Lacking.{lacks_spaced}
+use Rattle.ilk_lines.proofs.Leading.{leading_back, past_lines}
+use Rattle.ilk_lines.proofs.TextLines.{lines_back}
+use Rattle.ilk_replay.proofs.WordTables.{word_lacks, words_lack}
+use Rattle.ilk_replay.specs.EventWords.{event_with, event_word, events_about, subject}
+use Rattle.ilk_replay.specs.declared.event_line.Subject.{Subject}
+use Rattle.ilk_replay.specs.declared.event_line.Subject.TheVariants.{Route, Point, Section}
 use Rattle.ilk_replay.specs.EventLine.{event_of}
-use Rattle.ilk_replay.specs.StateTold.{after_line}
-use Rattle.ilk_replay.specs.Told.{at_the_end, events_told, tale_of, told}
-use Rattle.ilk_replay.specs.RunText.{event_line, name_of, run_text}
+use Rattle.ilk_replay.specs.Told.{events_told, tale_of, told}
+use Rattle.ilk_replay.specs.RunText.{event_line, name_of, run_text, subject_name}
 use Rattle.ilk_replay.specs.Writable.{IsAbout}
 use Rattle.ilk_replay.specs.declared.told.Told.{Told}
-use Rattle.ilk_replay.proofs.PlainNames.{HasPlainNames, Lacks}
+use Rattle.ilk_replay.proofs.PlainNames.{HasPlainNames}
 use Rattle.ilk_replay.specs.declared.told.Tale.TheVariants.{Told as IsTold}
 use Rattle.ilk_replay.proofs.WrittenRun.{answered}
-use Rattle.ilk_replay.proofs.ReadBack.{event_back, lines_back}
+use Rattle.ilk_replay.proofs.ReadBack.{event_back}
 
 pub name_lacks : (c : ℕ) (names : List Bytes) (i : ℕ) → All (Lacks c) names → Lacks c (name_of names i)
 name_lacks c names i plain = by_place (slice_get names i) refl
@@ -27,39 +35,45 @@ name_lacks c names i plain = by_place (slice_get names i) refl
     by_place None this = refl
     by_place (Some name) this = subst (Lacks c) (get_or_from_slice_get names i name [] this) (plain i [] (slice_get_within names i name this))
 
+-- each event is read by its word
+event_back-word : (event : Event) → event_with (event_word event) (subject event) ≡ Some event
+event_back-word (Mark r) = refl
+event_back-word (Allocate r) = refl
+event_back-word (Lock r) = refl
+event_back-word (Sense r) = refl
+event_back-word (Release r) = refl
+event_back-word (Finish r) = refl
+event_back-word (Throw x) = refl
+event_back-word (Settle x) = refl
+event_back-word (Enter x) = refl
+event_back-word (Head x) = refl
+event_back-word (Tail x) = refl
+event_back-word (Leave x) = refl
+
+words-plain : (about : Subject) → words_lack 10 event_word (events_about about) ≡ true
+words-plain (Route r) = refl
+words-plain (Point x) = refl
+words-plain (Section x) = refl
+
+subject-plain : (p : PlantLists) → HasPlainNames p → (about : Subject) → Lacks 10 (subject_name p about)
+subject-plain p plain (Route r) = name_lacks 10 p.route_names r plain.routes
+subject-plain p plain (Point x) = name_lacks 10 p.section_names x plain.sections
+subject-plain p plain (Section x) = name_lacks 10 p.section_names x plain.sections
+
 event_line-plain : (p : PlantLists) → HasPlainNames p → (event : Event) → Lacks 10 (event_line p event)
-event_line-plain p plain (Mark r) = name_lacks 10 p.route_names r plain.routes
-event_line-plain p plain (Allocate r) = name_lacks 10 p.route_names r plain.routes
-event_line-plain p plain (Lock r) = name_lacks 10 p.route_names r plain.routes
-event_line-plain p plain (Sense r) = name_lacks 10 p.route_names r plain.routes
-event_line-plain p plain (Release r) = name_lacks 10 p.route_names r plain.routes
-event_line-plain p plain (Finish r) = name_lacks 10 p.route_names r plain.routes
-event_line-plain p plain (Throw x) = name_lacks 10 p.section_names x plain.sections
-event_line-plain p plain (Settle x) = name_lacks 10 p.section_names x plain.sections
-event_line-plain p plain (Enter x) = name_lacks 10 p.section_names x plain.sections
-event_line-plain p plain (Head x) = name_lacks 10 p.section_names x plain.sections
-event_line-plain p plain (Tail x) = name_lacks 10 p.section_names x plain.sections
-event_line-plain p plain (Leave x) = name_lacks 10 p.section_names x plain.sections
+event_line-plain p plain event =
+    lacks_spaced (event_word event) (subject_name p (subject event)) (word_lacks 10 event_word (events_about (subject event)) event (event_back-word event) (words-plain (subject event))) (subject-plain p plain (subject event))
 
 pub event_lines-plain : (p : PlantLists) → HasPlainNames p → (events : List Event) → All (Lacks 10) (map (event_line p) events ++ codes "end" ∷ [])
 event_lines-plain p plain [] = All-cons (Lacks 10) (codes "end") [] refl (All-nil (Lacks 10))
 event_lines-plain p plain (event ∷ events) = All-cons (Lacks 10) (event_line p event) (map (event_line p) events ++ codes "end" ∷ []) (event_line-plain p plain event) (event_lines-plain p plain events)
 
-leading_back : (p : PlantLists) → IsPlant p → (events : List Event) → All (IsAbout p) events → leading (event_of p) (map (event_line p) events ++ codes "end" ∷ []) ≡ events
-leading_back p plant [] about = refl
-leading_back p plant (event ∷ events) about =
-    let rest = leading_back p plant events (λ k d within. about (suc k) d (omega arith)) in
-    ap (λ o. onto o (leading (event_of p) (map (event_line p) events ++ codes "end" ∷ []))) (event_back p plant event (about zero event (omega arith))) ∙ ap (λ es. event ∷ es) rest
-
-drop_back : (p : PlantLists) (events : List Event) → drop (length events) (map (event_line p) events ++ codes "end" ∷ []) ≡ codes "end" ∷ []
-drop_back p [] = refl
-drop_back p (event ∷ events) = drop_back p events
-
 pub events_back : (p : PlantLists) → IsPlant p → (n : ℕ) (events : List Event) → All (IsAbout p) events → events_told p n (map (event_line p) events ++ codes "end" ∷ []) [] ≡ Ok events
 events_back p plant n events about =
     let lines : List Bytes = map (event_line p) events ++ codes "end" ∷ [] in
-    ap (λ (es : List Event). after_line (codes "end") (n + length es) (drop (length es) lines) >>= (λ more. at_the_end es (n + length es + 1) more [])) (leading_back p plant events about)
-    ∙ ap (λ (ls : List Bytes). after_line (codes "end") (n + length events) ls >>= (λ more. at_the_end events (n + length events + 1) more [])) (drop_back p events)
+    let told : All (λ event. event_of p (event_line p event) ≡ Some event) events = λ k d within. event_back p plant (get_or events k d) (about k d within) in
+    ap (λ (es : List Event). after_line (codes "end") (n + length es) (drop (length es) lines) >>= (λ more. at_the_end (n + length es + 1) more [] >>= (λ none. Ok es))) (leading_back (event_of p) (event_line p) events (codes "end") [] told refl)
+    ∙ ap (λ (ls : List Bytes). after_line (codes "end") (n + length events) ls >>= (λ more. at_the_end (n + length events + 1) more [] >>= (λ none. Ok events))) (past_lines (event_line p) events (codes "end" ∷ []))
 
 -- the run of these events from the start
 abbrev pub started : PlantLists → List Event → Told

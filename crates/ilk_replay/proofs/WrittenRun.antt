@@ -1,11 +1,22 @@
 -- A text that tells a run is the text that is written for it.
-use Rattle.std.proofs.Common.{◌≡◌, ℕ, ◌+◌, ◌<◌, ◌^◌, Bool, true, false, ◌==◌, Option, Some, None, Result, Ok, Err, List, [], ◌∷◌, ◌++◌, codes, drop, flat_map, length, map, slice_get, unwrap_or, cond, refl, sym, ap, ◌∙◌, arith, subst, append_assoc, suc, append-nil}
+use Rattle.std.proofs.Common.{◌≡◌, ℕ, ◌+◌, ◌<◌, ◌^◌, Bool, true, false, Option, Some, Result, Ok, Err, List, [], ◌∷◌, ◌++◌, codes, drop, flat_map, length, map, slice_get, unwrap_or, cond, refl, sym, ap, ◌∙◌, arith, subst, append_assoc, append-nil}
+use Rattle.std.proofs.lemmas.Option.{cond_some, same_Some}
+use Rattle.ilk_lines.specs.Decimal.{decimal_up_to}
+use Rattle.ilk_lines.specs.Lines.{Bytes, after_lines, lines_of}
+use Rattle.ilk_lines.specs.Reading.{Part, after_line, at_the_end, each_told, leading, numbers_of}
+use Rattle.ilk_lines.specs.Words.{after_word, first_word, words_of}
+use Rattle.ilk_lines.specs.Written.{each_line, spaced, text_of}
+use Rattle.ilk_lines.proofs.Decimals.{decimal-written}
+use Rattle.ilk_lines.proofs.EachTold.{after_line-joins, at_the_end-ends, told_lines}
+use Rattle.ilk_base.proofs.Results.{bind_ok, ok_is}
+use Rattle.ilk_lines.proofs.General.{bind_some}
+use Rattle.ilk_lines.proofs.Leading.{leading_lines}
+use Rattle.ilk_lines.proofs.LineWords.{after_word-joins, first_word-joins, parts-joined}
+use Rattle.ilk_lines.proofs.TextLines.{text-lines}
+use Rattle.ilk_replay.proofs.StateWords.{aspect_read, direction_read, hold_read, lie_read, mode_read, position_read}
 use Rattle.std.specs.Fmt.{decimal}
-use Rattle.std.specs.List.{onto_first}
 use Rattle.std.specs.Str.{bytes_eq}
-use Rattle.std.proofs.lemmas.Bool.Decides.{Decides-eqb}
 use Rattle.std.proofs.lemmas.Slice.Eq.{bytes_eq-Decides}
-use Rattle.std.proofs.lemmas.Option.{cond_some}
 use Rattle.ilk_plant.specs.Plant.{IsPlant, PlantLists, first_named}
 use Rattle.ilk_plant.specs.Shape.{is_body}
 use Rattle.ilk_plant.specs.Start.{start}
@@ -16,20 +27,17 @@ use Rattle.ilk_plant.specs.declared.state.PointState.{PointState}
 use Rattle.ilk_plant.specs.declared.state.RouteState.{RouteState}
 use Rattle.ilk_plant.specs.declared.state.Train.{Train}
 use Rattle.ilk_model.specs.declared.event.Event.{Event}
-use Rattle.ilk_plant.specs.Result.{◌>>=◌}
-use Rattle.ilk_replay.specs.Lines.{Bytes, after_lines, after_word, but_last, first_word, last_of, leading, lines_of, onto, parts_at, words_of}
+use Rattle.ilk_base.specs.Result.{◌>>=◌}
 use Rattle.ilk_replay.specs.EventLine.{event_of}
-use Rattle.ilk_replay.specs.StateLine.{board_told, direction_of, lie_of_word, lock_told, mode_of, number_to, point_said, point_told, position_of_word, route_said, route_told, said_of, sections_named, train_said, train_told}
-use Rattle.ilk_replay.specs.StateTold.{Beginning, Part, after_line, each_told, numbers_of, point_sections, state_told}
-use Rattle.ilk_replay.specs.Told.{at_the_end, beginning_told, events_told, told, tale_of}
-use Rattle.ilk_replay.specs.RunText.{beginning_lines, board_line, direction_word, each_line, event_line, lie_word, mode_word, name_of, point_line, position_word, route_line, run_lines, run_text, section_line, spaced, state_lines, train_line}
 use Rattle.ilk_replay.specs.declared.told.Tale.{Tale}
 use Rattle.ilk_replay.specs.declared.told.Tale.TheVariants.{Told as IsTold, Bad}
 use Rattle.ilk_replay.specs.declared.told.Told.{Told}
-use Rattle.ilk_replay.proofs.Each.{some_is, values_left}
-use Rattle.ilk_replay.proofs.Parts.{parts_follow}
-use Rattle.ilk_replay.proofs.Shape.{bind_some, each_ok}
-use Rattle.ilk_replay.proofs.Written.{after_word-joins, aspect_of-word, direction_of-word, event_of-line, first_word-joins, hold_of-word, lie_of-word, mode_of-word, named-name, number-written, position_of-word, said_of-joins}
+use Rattle.ilk_replay.specs.StateLine.{board_told, lock_told, point_said, point_told, route_said, route_told, said_of, sections_named, train_said, train_told}
+use Rattle.ilk_replay.specs.StateTold.{Beginning, point_sections, state_told}
+use Rattle.ilk_plant.specs.Words.{direction_of_word, direction_word, lie_of_word, lie_word, mode_of_word, mode_word, position_of_word, position_word}
+use Rattle.ilk_replay.specs.Told.{beginning_told, events_told, told, tale_of}
+use Rattle.ilk_replay.specs.RunText.{beginning_lines, board_line, event_line, name_of, point_line, route_line, run_lines, run_text, section_line, state_lines, train_line}
+use Rattle.ilk_replay.proofs.Written.{event_of-line, named-name, said_of-joins}
 
 name_at : (names : List Bytes) (i : ℕ) (name : Bytes) → slice_get names i ≡ Some name → name ≡ name_of names i
 name_at names i name e = sym (ap (λ (o : Option Bytes). unwrap_or o []) e)
@@ -38,13 +46,13 @@ route_said-text : (limit : ℕ) (text : Bytes) (now : RouteState) → limit < 2 
 route_said-text limit text now small e =
     let a = bind_some (first_word text) _ now e in
     let b = bind_some (first_word a.0.1) _ now a.2 in
-    let c = bind_some (mode_of a.0.0) _ now b.2 in
-    let d = bind_some (number_to limit b.0.0) _ now c.2 in
-    let f = bind_some (number_to limit b.0.1) _ now d.2 in
-    let same : record { mode = c.0; seen = d.0; rel = f.0 } ≡ now = some_is f.2 in
+    let c = bind_some (mode_of_word a.0.0) _ now b.2 in
+    let d = bind_some (decimal_up_to limit b.0.0) _ now c.2 in
+    let f = bind_some (decimal_up_to limit b.0.1) _ now d.2 in
+    let same : record { mode = c.0; seen = d.0; rel = f.0 } ≡ now = same_Some _ _ f.2 in
     let written : text ≡ spaced (mode_word c.0) (spaced (decimal d.0) (decimal f.0)) =
-    first_word-joins text a.0.0 a.0.1 a.1 ∙ ap (λ w. spaced w a.0.1) (mode_of-word a.0.0 c.0 c.1) ∙ ap (spaced (mode_word c.0)) (first_word-joins a.0.1 b.0.0 b.0.1 b.1
-    ∙ ap (λ w. spaced w b.0.1) (number-written limit b.0.0 d.0 small d.1) ∙ ap (spaced (decimal d.0)) (number-written limit b.0.1 f.0 small f.1)) in
+    (first_word-joins text a.0.0 a.0.1 a.1).0 ∙ ap (λ w. spaced w a.0.1) (mode_read a.0.0 c.0 c.1) ∙ ap (spaced (mode_word c.0)) ((first_word-joins a.0.1 b.0.0 b.0.1 b.1).0
+    ∙ ap (λ w. spaced w b.0.1) ((decimal-written limit b.0.0 d.0 (omega arith) d.1).0) ∙ ap (spaced (decimal d.0)) ((decimal-written limit b.0.1 f.0 (omega arith) f.1).0)) in
     subst (λ (q : RouteState). text ≡ spaced (mode_word q.mode) (spaced (decimal q.seen) (decimal q.rel))) same written
 
 route_told-line : (p : PlantLists) → IsPlant p → (r : ℕ) (line : Bytes) (now : RouteState) → route_told p r line ≡ Some now → line ≡ route_line p r now
@@ -62,9 +70,9 @@ point_said-text text now e =
     let a = bind_some (first_word text) _ now e in
     let b = bind_some (lie_of_word a.0.0) _ now a.2 in
     let c = bind_some (position_of_word a.0.1) _ now b.2 in
-    let same : record { at = b.0; to = c.0 } ≡ now = some_is c.2 in
+    let same : record { at = b.0; to = c.0 } ≡ now = same_Some _ _ c.2 in
     let written : text ≡ spaced (lie_word b.0) (position_word c.0) =
-    first_word-joins text a.0.0 a.0.1 a.1 ∙ ap (λ w. spaced w a.0.1) (lie_of-word a.0.0 b.0 b.1) ∙ ap (spaced (lie_word b.0)) (position_of-word a.0.1 c.0 c.1) in
+    (first_word-joins text a.0.0 a.0.1 a.1).0 ∙ ap (λ w. spaced w a.0.1) (lie_read a.0.0 b.0 b.1) ∙ ap (spaced (lie_word b.0)) (position_read a.0.1 c.0 c.1) in
     subst (λ (q : PointState). text ≡ spaced (lie_word q.at) (position_word q.to)) same written
 
 point_told-line : (p : PlantLists) (x : ℕ) (line : Bytes) (now : PointState) → point_told p x line ≡ Some now → line ≡ point_line p x now
@@ -79,33 +87,21 @@ board_told-line p m line aspect e =
     let a = bind_some (slice_get p.board_names m) _ aspect e in
     let b = bind_some (said_of (codes "board") a.0 line) _ aspect a.2 in
     said_of-joins (codes "board") a.0 line b.0 b.1 ∙ ap (λ n. spaced (codes "board") (spaced n b.0)) (name_at p.board_names m a.0 a.1)
-    ∙ ap (λ t. spaced (codes "board") (spaced (name_of p.board_names m) t)) (aspect_of-word b.0 aspect b.2)
+    ∙ ap (λ t. spaced (codes "board") (spaced (name_of p.board_names m) t)) (aspect_read b.0 aspect b.2)
 
 lock_told-line : (p : PlantLists) (x : ℕ) (line : Bytes) (lock : Hold) → lock_told p x line ≡ Some lock → line ≡ section_line p x lock
 lock_told-line p x line lock e =
     let a = bind_some (slice_get p.section_names x) _ lock e in
     let b = bind_some (said_of (codes "section") a.0 line) _ lock a.2 in
     said_of-joins (codes "section") a.0 line b.0 b.1 ∙ ap (λ n. spaced (codes "section") (spaced n b.0)) (name_at p.section_names x a.0 a.1)
-    ∙ ap (λ t. spaced (codes "section") (spaced (name_of p.section_names x) t)) (hold_of-word b.0 lock b.2)
-
--- the parts of a text, each after its byte, are the text after one such byte
-parts-joined : (c : ℕ) (xs : Bytes) → c ∷ xs ≡ flat_map (λ part. c ∷ part) (parts_at c xs)
-parts-joined c [] = refl
-parts-joined c (x ∷ xs) = join (x == c) refl (parts_follow c xs) (parts-joined c xs)
-  where
-    join : (b : Bool) → (x == c) ≡ b → ((part : Bytes) × (parts : List Bytes) × (parts_at c xs ≡ part ∷ parts)) → c ∷ xs ≡ flat_map (λ part. c ∷ part) (parts_at c xs) → c ∷ x ∷ xs ≡ flat_map (λ part. c ∷ part) (cond b ([] ∷ parts_at c xs) (onto_first x (parts_at c xs)))
-    join true same follows rest = ap (λ y. c ∷ y ∷ xs) ((Decides-eqb x c).0 same) ∙ ap (λ ys. c ∷ ys) rest
-    join false differs (part, parts, follows) rest =
-        let whole : c ∷ xs ≡ c ∷ (part ++ flat_map (λ q. c ∷ q) parts) = rest ∙ ap (flat_map (λ q. c ∷ q)) follows in
-        let tail : xs ≡ part ++ flat_map (λ q. c ∷ q) parts = ap (drop 1) whole in
-        ap (λ ys. c ∷ x ∷ ys) tail ∙ sym (ap (λ ps. flat_map (λ q. c ∷ q) (onto_first x ps)) follows)
+    ∙ ap (λ t. spaced (codes "section") (spaced (name_of p.section_names x) t)) (hold_read b.0 lock b.2)
 
 names-joined : (p : PlantLists) (words : List Bytes) (body : List ℕ) → sections_named p words ≡ Some body → flat_map (λ word. 32 ∷ word) words ≡ flat_map (λ x. 32 ∷ name_of p.section_names x) body
-names-joined p [] body e = ap (flat_map (λ x. 32 ∷ name_of p.section_names x)) (some_is e)
+names-joined p [] body e = ap (flat_map (λ x. 32 ∷ name_of p.section_names x)) (same_Some _ _ e)
 names-joined p (word ∷ words) body e =
     let a = bind_some (first_named p.section_names word) _ body e in
     let b = bind_some (sections_named p words) _ body a.2 in
-    let same : a.0 ∷ b.0 ≡ body = some_is b.2 in
+    let same : a.0 ∷ b.0 ≡ body = same_Some _ _ b.2 in
     ap (λ n. (32 ∷ n) ++ flat_map (λ w. 32 ∷ w) words) (named-name p.section_names word a.0 a.1)
     ∙ ap (λ t. (32 ∷ name_of p.section_names a.0) ++ t) (names-joined p words b.0 b.1) ∙ ap (flat_map (λ x. 32 ∷ name_of p.section_names x)) same
 
@@ -113,10 +109,10 @@ train_said-line : (line : Bytes) (said : Dir × Bytes) → train_said line ≡ S
 train_said-line line said e =
     let c = bind_some (after_word (codes "train") line) _ said e in
     let d = bind_some (first_word c.0) _ said c.2 in
-    let f = bind_some (direction_of d.0.0) _ said d.2 in
-    let pair : ◌≡◌ {A = Dir × Bytes} (f.0, d.0.1) said = some_is f.2 in
+    let f = bind_some (direction_of_word d.0.0) _ said d.2 in
+    let pair : ◌≡◌ {A = Dir × Bytes} (f.0, d.0.1) said = same_Some _ _ f.2 in
     let written : line ≡ spaced (codes "train") (spaced (direction_word f.0) d.0.1) =
-    after_word-joins (codes "train") line c.0 c.1 ∙ ap (spaced (codes "train")) (first_word-joins c.0 d.0.0 d.0.1 d.1 ∙ ap (λ w. spaced w d.0.1) (direction_of-word d.0.0 f.0 f.1)) in
+    after_word-joins (codes "train") line c.0 c.1 ∙ ap (spaced (codes "train")) ((first_word-joins c.0 d.0.0 d.0.1 d.1).0 ∙ ap (λ w. spaced w d.0.1) (direction_read d.0.0 f.0 f.1)) in
     subst (λ (q : Dir × Bytes). line ≡ spaced (codes "train") (spaced (direction_word q.0) q.1)) pair written
 
 train_told-line : (p : PlantLists) (line : Bytes) (train : Train) → train_told p line ≡ Some train → line ≡ train_line p train
@@ -126,60 +122,6 @@ train_told-line p line train e =
     let same : record { dir = a.0.0; body = b.0 } ≡ train = (cond_some (is_body p (record { dir = a.0.0; body = b.0 })) (record { dir = a.0.0; body = b.0 }) train b.2).1 in
     let names : 32 ∷ a.0.1 ≡ flat_map (λ x. 32 ∷ name_of p.section_names x) b.0 = parts-joined 32 a.0.1 ∙ names-joined p (words_of a.0.1) b.0 b.1 in
     train_said-line line a.0 a.1 ∙ ap (λ t. spaced (codes "train") (direction_word a.0.0 ++ t)) names ∙ ap (train_line p) same
-
--- the lines of values that are told in order
-each_lines : {A : Type 0} (value : ℕ → Bytes → Option A) (line_of : ℕ → A → Bytes) → ((x : ℕ) (line : Bytes) (v : A) → value x line ≡ Some v → line ≡ line_of x v) → (items : List ℕ) (lines : List Bytes) → length (values_left value items lines) ≡ length items → lines ≡ each_line line_of items (values_left value items lines) ++ drop (length items) lines
-each_lines value line_of holds [] lines all = refl
-each_lines value line_of holds (x ∷ items) [] all = cc
-each_lines {A = A} value line_of holds (x ∷ items) (line ∷ lines) all = by_value (value x line) refl all (λ fits. each_lines value line_of holds items lines fits)
-  where
-    by_value : (o : Option A) → value x line ≡ o → length (onto o (values_left value items lines)) ≡ suc (length items)
-        → (length (values_left value items lines) ≡ length items → lines ≡ each_line line_of items (values_left value items lines) ++ drop (length items) lines)
-        → line ∷ lines ≡ each_line line_of (x ∷ items) (onto o (values_left value items lines)) ++ drop (length items) lines
-    by_value None this fits rest = cc
-    by_value (Some v) this fits rest =
-        let fewer : length (values_left value items lines) ≡ length items = omega arith in
-        ap (λ l. l ∷ lines) (holds x line v this) ∙ ap (λ ls. line_of x v ∷ ls) (rest fewer)
-
-pub ok_is : {A : Type 0} {x y : A} → ◌≡◌ {A = Result A ℕ} (Ok x) (Ok y) → x ≡ y
-ok_is e = cc
-
-pub bind_ok : {A B : Type 0} (r : Result A ℕ) (f : A → Result B ℕ) (y : B) → (r >>= f) ≡ Ok y → (x : A) × (r ≡ Ok x) × (f x ≡ Ok y)
-bind_ok (Ok x) f y e = (x, refl, e)
-bind_ok (Err n) f y e = cc
-
-each_rest : {A : Type 0} (value : ℕ → Bytes → Option A) (items : List ℕ) (n : ℕ) (lines : List Bytes) (part : Part A) → each_told value items n lines ≡ Ok part → part.lines ≡ drop (length items) lines
-each_rest {A = A} value items n lines part e = by_count (length (values_left value items lines) == length items) e
-  where
-    whole : Part A
-    whole = record { values = values_left value items lines; number = n + length items; lines = drop (length items) lines }
-
-    by_count : (b : Bool) → cond {A = Result (Part A) ℕ} b (Ok whole) (Err (n + length (values_left value items lines))) ≡ Ok part → part.lines ≡ drop (length items) lines
-    by_count true here = ap (λ (q : Part A). q.lines) (sym (ok_is here))
-    by_count false here = cc
-
-told_lines : {A : Type 0} (value : ℕ → Bytes → Option A) (line_of : ℕ → A → Bytes) → ((x : ℕ) (line : Bytes) (v : A) → value x line ≡ Some v → line ≡ line_of x v) → (items : List ℕ) (n : ℕ) (lines : List Bytes) (part : Part A) → each_told value items n lines ≡ Ok part → lines ≡ each_line line_of items part.values ++ part.lines
-told_lines value line_of holds items n lines part e =
-    let ok = each_ok value items n lines part e in
-    each_lines value line_of holds items lines (ap length (sym ok.0) ∙ ok.1)
-    ∙ ap (λ vs. each_line line_of items vs ++ drop (length items) lines) (sym ok.0) ∙ ap (λ ls. each_line line_of items part.values ++ ls) (sym (each_rest value items n lines part e))
-
-leading_lines : {A : Type 0} (value : Bytes → Option A) (line_of : A → Bytes) → ((line : Bytes) (v : A) → value line ≡ Some v → line ≡ line_of v) → (lines : List Bytes) → lines ≡ map line_of (leading value lines) ++ drop (length (leading value lines)) lines
-leading_lines value line_of holds [] = refl
-leading_lines {A = A} value line_of holds (line ∷ lines) = by_value (value line) refl (leading_lines value line_of holds lines)
-  where
-    by_value : (o : Option A) → value line ≡ o → lines ≡ map line_of (leading value lines) ++ drop (length (leading value lines)) lines
-        → line ∷ lines ≡ map line_of (onto o (leading value lines)) ++ drop (length (onto o (leading value lines))) (line ∷ lines)
-    by_value None this rest = refl
-    by_value (Some v) this rest = ap (λ l. l ∷ lines) (holds line v this) ∙ ap (λ ls. line_of v ∷ ls) rest
-
-after_line-joins : (wanted : Bytes) (n : ℕ) (lines more : List Bytes) → after_line wanted n lines ≡ Ok more → lines ≡ wanted ∷ more
-after_line-joins wanted n [] more e = cc
-after_line-joins wanted n (line ∷ lines) more e = by_test (bytes_eq line wanted) refl e
-  where
-    by_test : (b : Bool) → bytes_eq line wanted ≡ b → cond {A = Result (List Bytes) ℕ} b (Ok lines) (Err n) ≡ Ok more → line ∷ lines ≡ wanted ∷ more
-    by_test true same that = ap (λ l. l ∷ lines) ((bytes_eq-Decides line wanted).0 same) ∙ ap (λ ls. wanted ∷ ls) (ok_is that)
-    by_test false differs that = cc
 
 pub regroup : (a b c d e f : List Bytes) → a ++ (b ++ (c ++ (d ++ (e ++ f)))) ≡ ((((a ++ b) ++ c) ++ d) ++ e) ++ f
 regroup a b c d e f = sym (simp append_assoc)
@@ -250,20 +192,16 @@ beginning_told-lines p plant (line ∷ more) b e = by_start (bytes_eq line (code
     by_start true same that = subst (λ (z : Beginning). begins p (line ∷ more) z) (ok_is that) (ap (λ l. l ∷ more) ((bytes_eq-Decides line (codes "start")).0 same))
     by_start false differs that = by_state (bytes_eq line (codes "state")) refl that
 
-pub at_the_end-ends : {A : Type 0} (x y : A) (n : ℕ) (more : List Bytes) (bytes : Bytes) → at_the_end x n more bytes ≡ Ok y → (x ≡ y) × (more ≡ []) × (bytes ≡ [])
-at_the_end-ends x y n [] [] e = (ok_is e, refl, refl)
-at_the_end-ends x y n [] (b ∷ bytes) e = cc
-at_the_end-ends x y n (line ∷ more) bytes e = cc
-
 events_told-lines : (p : PlantLists) (n : ℕ) (lines : List Bytes) (bytes : Bytes) (events : List Event) → events_told p n lines bytes ≡ Ok events → (lines ≡ map (event_line p) events ++ codes "end" ∷ []) × (bytes ≡ [])
 events_told-lines p n lines bytes events e =
     let found : List Event = leading (event_of p) lines in
     let v = bind_ok (after_line (codes "end") (n + length found) (drop (length found) lines)) _ events e in
-    let last = at_the_end-ends found events (n + length found + 1) v.0 bytes v.2 in (
+    let end = bind_ok (at_the_end (n + length found + 1) v.0 bytes) _ events v.2 in
+    let last = at_the_end-ends (n + length found + 1) v.0 bytes end.1 in (
       leading_lines (event_of p) (event_line p) (event_of-line p) lines
           ∙ ap (λ ls. map (event_line p) found ++ ls) (after_line-joins (codes "end") (n + length found) (drop (length found) lines) v.0 v.1)
-          ∙ ap (λ ls. map (event_line p) found ++ codes "end" ∷ ls) last.1 ∙ ap (λ es. map (event_line p) es ++ codes "end" ∷ []) last.0,
-      last.2,
+          ∙ ap (λ ls. map (event_line p) found ++ codes "end" ∷ ls) last.0 ∙ ap (λ es. map (event_line p) es ++ codes "end" ∷ []) (ok_is end.2),
+      last.1,
     )
 
 pub told-lines : (p : PlantLists) → IsPlant p → (lines : List Bytes) (bytes : Bytes) (t : Told) → told p lines bytes ≡ Ok t → (lines ≡ run_lines p t) × (bytes ≡ [])
@@ -279,19 +217,6 @@ told-lines p plant lines bytes t e =
       last.1,
     )
 
--- a text is its lines, each with its line feed, and what stands after them
-text-lines : (text : Bytes) → text ≡ flat_map (λ line. line ++ 10 ∷ []) (lines_of text) ++ after_lines text
-text-lines [] = refl
-text-lines (x ∷ text) = join (x == 10) refl (parts_follow 10 text) (text-lines text)
-  where
-    whole : List Bytes → Bytes
-    whole parts = flat_map (λ line. line ++ 10 ∷ []) (but_last parts) ++ last_of parts
-
-    join : (b : Bool) → (x == 10) ≡ b → ((part : Bytes) × (parts : List Bytes) × (parts_at 10 text ≡ part ∷ parts)) → text ≡ whole (parts_at 10 text) → x ∷ text ≡ whole (cond b ([] ∷ parts_at 10 text) (onto_first x (parts_at 10 text)))
-    join true same (part, parts, follows) rest = ap (λ y. y ∷ text) ((Decides-eqb x 10).0 same) ∙ ap (λ ys. 10 ∷ ys) (rest ∙ ap whole follows) ∙ sym (ap (λ ps. whole ([] ∷ ps)) follows)
-    join false differs (part, [], follows) rest = ap (λ ys. x ∷ ys) (rest ∙ ap whole follows) ∙ sym (ap (λ ps. whole (onto_first x ps)) follows)
-    join false differs (part, next ∷ parts, follows) rest = ap (λ ys. x ∷ ys) (rest ∙ ap whole follows) ∙ sym (ap (λ ps. whole (onto_first x ps)) follows)
-
 abbrev pub answered : Result Told ℕ → Tale
 answered (Ok x) = IsTold x
 answered (Err n) = Bad n
@@ -304,5 +229,5 @@ text_written p plant text t e = by_answer (told p (lines_of text) (after_lines t
     by_answer (Ok u) this that =
         let same : u ≡ t = cc in
         let all = told-lines p plant (lines_of text) (after_lines text) u this in
-        text-lines text ∙ ap (λ ls. flat_map (λ line. line ++ 10 ∷ []) ls ++ after_lines text) all.0 ∙ ap (λ bs. run_text p u ++ bs) all.1 ∙ append-nil (run_text p u) ∙ ap (run_text p) same
+        text-lines text ∙ ap (λ ls. text_of ls ++ after_lines text) all.0 ∙ ap (λ bs. run_text p u ++ bs) all.1 ∙ append-nil (run_text p u) ∙ ap (run_text p) same
     by_answer (Err n) this that = cc

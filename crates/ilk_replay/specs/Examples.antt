@@ -1,4 +1,4 @@
--- A state on the line of two sections.
+-- Only private contracts cite this: a state on the line of two sections, of which the worked texts speak.
 use Rattle.std.specs.Prelude.{[], ◌∷◌}
 use Rattle.ilk_plant.specs.declared.network.Dir.TheVariants.{Up}
 use Rattle.ilk_plant.specs.declared.state.Hold.TheVariants.{Free, Used}

@@ -1,7 +1,7 @@
 -- The first bad line of a text, by the texts of runs alone.
 use Rattle.std.specs.Prelude.{ℕ, ◌≡◌, ◌≤◌, ◌+◌, ◌-◌, List, ◌++◌, length, take}
 use Rattle.ilk_plant.specs.Plant.{PlantLists}
-use Rattle.ilk_replay.specs.Lines.{Bytes, lines_of}
+use Rattle.ilk_lines.specs.Lines.{Bytes, lines_of}
 use Rattle.ilk_replay.specs.RunText.{run_lines}
 use Rattle.ilk_replay.specs.Writable.{IsOfPlant, IsSomeText}
 use Rattle.ilk_replay.specs.declared.told.Told.{Told}

@@ -1,8 +1,9 @@
-pub mod Lines
+pub mod EventWords
 pub mod EventLine
 pub mod StateLine
 pub mod StateTold
 pub mod Told
+pub mod Shaped
 pub mod Reading
 pub mod Seen
 pub mod RunText

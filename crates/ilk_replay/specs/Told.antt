@@ -4,19 +4,14 @@ use Rattle.std.specs.Prelude.{ℕ, ◌+◌, true, Result, Ok, Err, List, [], ◌
 use Rattle.ilk_plant.specs.Plant.{PlantLists}
 use Rattle.ilk_plant.specs.Start.{start}
 use Rattle.ilk_model.specs.declared.event.Event.{Event}
-use Rattle.ilk_plant.specs.Result.{◌>>=◌}
-use Rattle.ilk_replay.specs.Lines.{Bytes, after_lines, lines_of}
+use Rattle.ilk_base.specs.Result.{◌>>=◌}
+use Rattle.ilk_lines.specs.Lines.{Bytes, after_lines, lines_of}
+use Rattle.ilk_lines.specs.Reading.{after_line, at_the_end, leading_part}
 use Rattle.ilk_replay.specs.EventLine.{event_of}
-use Rattle.ilk_replay.specs.StateTold.{Beginning, after_line, leading_part, state_told}
+use Rattle.ilk_replay.specs.StateTold.{Beginning, state_told}
 use Rattle.ilk_replay.specs.declared.told.Tale.{Tale}
 use Rattle.ilk_replay.specs.declared.told.Tale.TheVariants.{Told as IsTold, Bad}
 use Rattle.ilk_replay.specs.declared.told.Told.{Told}
-
--- x, where no lines and no bytes are left; else line n is bad
-abbrev pub at_the_end : {A : Type 0} → A → ℕ → List Bytes → Bytes → Result A ℕ
-at_the_end x n [] [] = Ok x
-at_the_end x n [] (b ∷ bytes) = Err n
-at_the_end x n (line ∷ more) bytes = Err n
 
 -- the events of these lines, of which the first has the number n: a line for each event, then the
 -- line `end`, and nothing after it
@@ -24,7 +19,8 @@ abbrev pub events_told : PlantLists → ℕ → List Bytes → Bytes → Result 
 events_told p n lines bytes = do
   events ← Ok (leading_part (event_of p) n lines)
   more ← after_line (codes "end") events.number events.lines
-  at_the_end events.values (events.number + 1) more bytes
+  none ← at_the_end (events.number + 1) more bytes
+  Ok events.values
 
 -- from line 2 on: the line `start`, or the line `state` and the state
 abbrev pub beginning_told : PlantLists → List Bytes → Result Beginning ℕ

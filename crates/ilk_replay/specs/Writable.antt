@@ -1,31 +1,28 @@
 -- Which runs have a text that tells them.
-use Rattle.std.specs.Prelude.{ℕ, ◌≡◌, ◌≢◌, ◌<◌, true, All, length}
+use Rattle.std.specs.Prelude.{ℕ, ◌≡◌, ◌≢◌, ◌<◌, true, All, IsTrue, length}
 use Rattle.ilk_plant.specs.Plant.{PlantLists}
 use Rattle.ilk_plant.specs.Start.{start}
-use Rattle.ilk_plant.specs.State.{HasShape}
+use Rattle.ilk_plant.specs.Shape.{HasShape}
 use Rattle.ilk_model.specs.declared.event.Event.{Event}
-use Rattle.ilk_model.specs.declared.event.Event.TheVariants.{Mark, Allocate, Lock, Sense, Release, Finish, Throw, Settle, Enter, Head, Tail, Leave}
-use Rattle.ilk_replay.specs.Lines.{Bytes}
+use Rattle.ilk_lines.specs.Lines.{Bytes}
+use Rattle.ilk_replay.specs.EventWords.{subject}
 use Rattle.ilk_replay.specs.RunText.{run_text}
 use Rattle.ilk_plant.specs.Plant.{is_point_section}
 use Rattle.ilk_replay.specs.Told.{tale_of}
+use Rattle.ilk_replay.specs.declared.event_line.Subject.{Subject}
+use Rattle.ilk_replay.specs.declared.event_line.Subject.TheVariants.{Route, Point, Section}
 use Rattle.ilk_replay.specs.declared.told.Tale.TheVariants.{Bad}
 use Rattle.ilk_replay.specs.declared.told.Told.{Told}
 
+-- the plant has what an event is about
+abbrev pub HasSubject : PlantLists → Subject → Type 0
+HasSubject p (Route r) = r < length p.routes
+HasSubject p (Point x) = IsTrue (is_point_section p x)
+HasSubject p (Section x) = x < length p.sections
+
 -- an event is about a route, a point or a section of the plant
 abbrev pub IsAbout : PlantLists → Event → Type 0
-IsAbout p (Mark r) = r < length p.routes
-IsAbout p (Allocate r) = r < length p.routes
-IsAbout p (Lock r) = r < length p.routes
-IsAbout p (Sense r) = r < length p.routes
-IsAbout p (Release r) = r < length p.routes
-IsAbout p (Finish r) = r < length p.routes
-IsAbout p (Throw x) = is_point_section p x ≡ true
-IsAbout p (Settle x) = is_point_section p x ≡ true
-IsAbout p (Enter x) = x < length p.sections
-IsAbout p (Head x) = x < length p.sections
-IsAbout p (Tail x) = x < length p.sections
-IsAbout p (Leave x) = x < length p.sections
+IsAbout p event = HasSubject p (subject event)
 
 -- a run of the plant, as a text may tell it: it begins in a state with the plant's shape, which is the
 -- start where the text says so, and its events are about what there is

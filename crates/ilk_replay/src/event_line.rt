@@ -1,59 +1,77 @@
 ghost use Rattle.std.specs.Prelude.{◌≡◌};
-ghost use Rattle.ilk_replay.specs.EventLine.{event_of, event_told, point_event, route_event, section_event};
+ghost use Rattle.ilk_base.specs.Words.{value_of_word};
+ghost use Rattle.ilk_replay.specs.EventLine.{event_of, event_told};
+ghost use Rattle.ilk_replay.specs.EventWords.{event_with, event_word};
 
-use crate::lines::first_word;
 use crate::names::{point_named, route_named, section_named};
+use ilk_lines::first_word;
 use ilk_model::Event;
 use ilk_plant::Plant;
 
-// The event of route `r` that has this word.
-fn route_event(word: &[u8], r: u32) -> Option<Event>
-    ensures { result ≡ route_event word.now r }
+/// What an event is about: a route, the point on a section, or the trains at a section.
+#[derive(Clone, Copy)]
+pub(crate) enum Subject {
+    Route(u32),
+    Point(u32),
+    Section(u32),
+}
+
+// The word of an event.
+fn event_word(event: Event) -> &'static [u8]
+    ensures { result.now ≡ event_word event }
 {
-    if word == b"mark".as_slice() {
-        Some(Event::Mark(r))
-    } else if word == b"allocate".as_slice() {
-        Some(Event::Allocate(r))
-    } else if word == b"lock".as_slice() {
-        Some(Event::Lock(r))
-    } else if word == b"sense".as_slice() {
-        Some(Event::Sense(r))
-    } else if word == b"release".as_slice() {
-        Some(Event::Release(r))
-    } else if word == b"finish".as_slice() {
-        Some(Event::Finish(r))
-    } else {
-        None
+    match event {
+        Event::Mark(_) => b"mark",
+        Event::Allocate(_) => b"allocate",
+        Event::Lock(_) => b"lock",
+        Event::Sense(_) => b"sense",
+        Event::Release(_) => b"release",
+        Event::Finish(_) => b"finish",
+        Event::Throw(_) => b"throw",
+        Event::Settle(_) => b"settle",
+        Event::Enter(_) => b"enter",
+        Event::Head(_) => b"head",
+        Event::Tail(_) => b"tail",
+        Event::Leave(_) => b"leave",
     }
 }
 
-// The event of the point on section `x` that has this word.
-fn point_event(word: &[u8], x: u32) -> Option<Event>
-    ensures { result ≡ point_event word.now x }
+// The first of these events that has this word.
+fn among(events: &[Event], word: &[u8]) -> Option<Event>
+    ensures { result ≡ value_of_word event_word events.now word.now }
 {
-    if word == b"throw".as_slice() {
-        Some(Event::Throw(x))
-    } else if word == b"settle".as_slice() {
-        Some(Event::Settle(x))
-    } else {
-        None
-    }
+    events
+        .iter()
+        .copied()
+        .find(|event| word == event_word(*event))
 }
 
-// The event of trains at section `x` that has this word.
-fn section_event(word: &[u8], x: u32) -> Option<Event>
-    ensures { result ≡ section_event word.now x }
+// The event about this that has this word.
+fn event_with(word: &[u8], about: Subject) -> Option<Event>
+    ensures { result ≡ event_with word.now about }
 {
-    if word == b"enter".as_slice() {
-        Some(Event::Enter(x))
-    } else if word == b"head".as_slice() {
-        Some(Event::Head(x))
-    } else if word == b"tail".as_slice() {
-        Some(Event::Tail(x))
-    } else if word == b"leave".as_slice() {
-        Some(Event::Leave(x))
-    } else {
-        None
+    match about {
+        Subject::Route(r) => among(
+            &[
+                Event::Mark(r),
+                Event::Allocate(r),
+                Event::Lock(r),
+                Event::Sense(r),
+                Event::Release(r),
+                Event::Finish(r),
+            ],
+            word,
+        ),
+        Subject::Point(x) => among(&[Event::Throw(x), Event::Settle(x)], word),
+        Subject::Section(x) => among(
+            &[
+                Event::Enter(x),
+                Event::Head(x),
+                Event::Tail(x),
+                Event::Leave(x),
+            ],
+            word,
+        ),
     }
 }
 
@@ -62,16 +80,16 @@ fn event_told(plant: &Plant, word: &[u8], name: &[u8]) -> Option<Event>
     ensures { result ≡ event_told plant.now word.now name.now }
 {
     if let Some(r) = route_named(plant, name) {
-        if let Some(event) = route_event(word, r) {
+        if let Some(event) = event_with(word, Subject::Route(r)) {
             return Some(event);
         }
     }
     if let Some(x) = point_named(plant, name) {
-        if let Some(event) = point_event(word, x) {
+        if let Some(event) = event_with(word, Subject::Point(x)) {
             return Some(event);
         }
     }
-    section_event(word, section_named(plant, name)?)
+    event_with(word, Subject::Section(section_named(plant, name)?))
 }
 
 /// The event that a line tells. None where it is no event's line.

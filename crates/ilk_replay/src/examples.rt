@@ -1,4 +1,4 @@
-ghost use Rattle.std.specs.Prelude.{◌≡◌, [], ◌∷◌, Some, None, codes, false, true};
+ghost use Rattle.std.specs.Prelude.{◌≡◌, [], ◌∷◌, codes, false, true};
 ghost use Rattle.ilk_plant.specs.Start.{start};
 ghost use Rattle.ilk_motion.specs.TwoSections.{two_sections};
 ghost use Rattle.ilk_model.specs.declared.event.Event.TheVariants.{Enter, Head, Tail};
@@ -6,7 +6,6 @@ ghost use Rattle.ilk_model.specs.declared.hazards.HazardAt.TheVariants.{Two};
 ghost use Rattle.ilk_replay.specs.declared.seen.Seen.TheVariants.{NotARun, NoHazard, Hazard};
 ghost use Rattle.ilk_replay.specs.declared.told.Tale.TheVariants.{Told as IsTold, Bad};
 ghost use Rattle.ilk_replay.specs.Seen.{seen_of};
-ghost use Rattle.ilk_replay.specs.StateLine.{number_to};
 ghost use Rattle.ilk_replay.specs.Told.{tale_of};
 ghost use Rattle.ilk_replay.specs.Examples.{one_train_on_both};
 
@@ -42,14 +41,4 @@ fn states_on_two_sections()
     ensures doubled { tale_of two_sections (codes "run 1\nstate\nsection a free\nsection a free\nevents\nend\n") ≡ Bad 4 }
     ensures apart { tale_of two_sections (codes "run 1\nstate\nsection a free\nsection b free\ntrain up b a\nevents\nend\n") ≡ Bad 5 }
     ensures eventless { tale_of two_sections (codes "run 1\nstate\nsection a free\nsection b free\ntrain up a\nend\n") ≡ Bad 6 }
-{}
-
-// Numbers in decimal up to ten.
-fn numbers_to_ten()
-    ensures none { number_to 10 (codes "0") ≡ Some 0 }
-    ensures most { number_to 10 (codes "10") ≡ Some 10 }
-    ensures more { number_to 10 (codes "11") ≡ None }
-    ensures led { number_to 10 (codes "01") ≡ None }
-    ensures signed { number_to 10 (codes "+1") ≡ None }
-    ensures empty { number_to 10 [] ≡ None }
 {}

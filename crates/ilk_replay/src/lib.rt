@@ -1,17 +1,25 @@
-//! Run texts, and what is seen where a run is replayed.
+//! Run texts, and the replay of a run: what a text tells, and what is seen where a list of events is
+//! done from a state.
+//!
+//! A run text has a line for each thing that it says, so its definition is put together from the
+//! parts of `ilk_lines`. `specs/EventWords` and `specs/StateWords` have the words: one table for each
+//! kind of value, by which it is written and read, so that a new event or mode is a line there.
+//! `specs/RunText` says how the text of a run is written, `specs/Told` what a text tells, and
+//! `specs/Writable` and `specs/FirstBad` join the two: the law `texts_are_those_written` says that a
+//! text tells a run exactly where it is the one that is written for it, and that the bad line that is
+//! named is the first. `specs/Seen` says what a replay shows.
+//!
+//! `read_run` reads a text over a plant, and `replay` does the run that it tells.
 #![tactic(auto)]
 
-mod cursor;
 mod event_line;
 mod examples;
 mod laws;
-mod lines;
 mod names;
 mod reading;
 mod seen;
 mod state_line;
 mod state_reading;
-mod state_words;
 mod told;
 
 pub use laws::texts_are_those_written;

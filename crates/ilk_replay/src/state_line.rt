@@ -1,13 +1,12 @@
-ghost use Rattle.std.specs.Prelude.{◌≡◌, ◌<◌, ◌≤◌, ◌^◌, IfOk, IfSome, length, option_map};
+ghost use Rattle.std.specs.Prelude.{◌≡◌, IfOk, option_map};
 ghost use Rattle.ilk_replay.specs.StateLine.{board_told, lock_told, point_said, point_told, route_said, route_told, said_of, sections_named, train_said, train_told, train_with};
-ghost use Rattle.ilk_replay.specs.Lines.{words_of};
+ghost use Rattle.ilk_lines.specs.Words.{words_of};
 
-use crate::lines::{after_word, cut, first_word};
 use crate::names::section_named;
-use crate::state_words::{
-    aspect_of, direction_of, hold_of, lie_of_word, mode_of, number_to, position_of_word,
+use ilk_lines::{after_word, decimal_up_to, first_word, next_word};
+use ilk_plant::{
+    Aspect, Dir, Hold, Lie, Mode, Plant, PointState, Position, RouteState, Row, Train,
 };
-use ilk_plant::{Aspect, Dir, Hold, Plant, PointState, RouteState, Row, Train};
 use std::alloc::{AllocError, Global};
 
 // What a line says of what has this name: what stands after the kind's word and the name.
@@ -19,22 +18,23 @@ fn said_of<'a>(kind: &[u8], name: &[u8], line: &'a [u8]) -> Option<&'a [u8]>
 
 // A route's mode, seen and rel, each at most the limit.
 fn route_said(limit: u32, text: &[u8]) -> Option<RouteState>
-    requires { limit ≤ 2 ^ 16 }
     ensures { result ≡ route_said limit text.now }
 {
     let (mode, counts) = first_word(text)?;
     let (seen, rel) = first_word(counts)?;
-    let mode = mode_of(mode)?;
-    let seen = number_to(seen, limit)?;
-    let rel = number_to(rel, limit)?;
+    let mode = Mode::of_word(mode)?;
+    let seen = decimal_up_to(seen, limit as u64)? as u32;
+    let rel = decimal_up_to(rel, limit as u64)? as u32;
     Some(RouteState { mode, seen, rel })
 }
 
 /// The state of route `r` that a line tells.
 pub(crate) fn route_told(plant: &Plant, r: u32, line: &[u8]) -> Option<RouteState>
-    requires { r < length plant.now.routes }
     ensures { result ≡ route_told plant.now r line.now }
 {
+    if r >= plant.routes() {
+        return None;
+    }
     let limit = plant.route(r).path.len() as u32;
     let text = said_of(b"route", plant.route_name(r).as_bytes(), line)?;
     route_said(limit, text)
@@ -45,36 +45,45 @@ fn point_said(text: &[u8]) -> Option<PointState>
     ensures { result ≡ point_said text.now }
 {
     let (at, to) = first_word(text)?;
-    let at = lie_of_word(at)?;
-    let to = position_of_word(to)?;
+    let at = Lie::of_word(at)?;
+    let to = Position::of_word(to)?;
     Some(PointState { at, to })
 }
 
 /// The state of the point on section `x` that a line tells.
 pub(crate) fn point_told(plant: &Plant, x: u32, line: &[u8]) -> Option<PointState>
-    requires { x < length plant.now.sections }
     ensures { result ≡ point_told plant.now x line.now }
 {
+    plant.is_sound();
+    if x >= plant.sections() {
+        return None;
+    }
     let text = said_of(b"point", plant.section_name(x).as_bytes(), line)?;
     point_said(text)
 }
 
 /// The aspect of board `m` that a line tells.
 pub(crate) fn board_told(plant: &Plant, m: u32, line: &[u8]) -> Option<Aspect>
-    requires { m < length plant.now.boards }
     ensures { result ≡ board_told plant.now m line.now }
 {
+    plant.is_sound();
+    if m >= plant.boards() {
+        return None;
+    }
     let text = said_of(b"board", plant.board_name(m).as_bytes(), line)?;
-    aspect_of(text)
+    Aspect::of_word(text)
 }
 
 /// The lock of section `x` that a line tells.
 pub(crate) fn lock_told(plant: &Plant, x: u32, line: &[u8]) -> Option<Hold>
-    requires { x < length plant.now.sections }
     ensures { result ≡ lock_told plant.now x line.now }
 {
+    plant.is_sound();
+    if x >= plant.sections() {
+        return None;
+    }
     let text = said_of(b"section", plant.section_name(x).as_bytes(), line)?;
-    hold_of(text)
+    Hold::of_word(text)
 }
 
 #[tactic(auto, using(crate::proofs::Bodies::taken_name, crate::proofs::Bodies::unknown_name))]
@@ -89,7 +98,7 @@ fn sections_named(
     let mut body = Row::new(alloc);
     let mut rest = Some(names);
     while let Some(text) = rest {
-        let (name, more) = cut(text, b' ');
+        let (name, more) = next_word(text);
         let Some(x) = section_named(plant, name) else {
             return Ok(None);
         };
@@ -105,7 +114,7 @@ fn train_said(line: &[u8]) -> Option<(Dir, &[u8])>
 {
     let rest = after_word(line, b"train")?;
     let (dir, names) = first_word(rest)?;
-    Some((direction_of(dir)?, names))
+    Some((Dir::of_word(dir)?, names))
 }
 
 // A train with this body. None where the body doesn't lead on in its direction.

@@ -2,7 +2,7 @@
 use Rattle.std.proofs.Common.{◌≡◌, ℕ, true, false, Option, Some, None, List, [], ◌∷◌, length, slice_get, set, unwrap_or, refl, ap, arith}
 use Rattle.std.proofs.lemmas.Grind.{common_steps}
 use Rattle.std.specs.Option.{option_or}
-use Rattle.ilk_plant.specs.Option.{only_if}
+use Rattle.ilk_base.specs.Option.{only_if}
 use Rattle.ilk_plant.specs.Plant.{PlantLists, point_number}
 use Rattle.ilk_plant.specs.declared.network.Position.{Position}
 use Rattle.ilk_plant.specs.declared.state.PointState.{PointState}

@@ -1,6 +1,6 @@
 -- The events of routes and points, worked through at a junction: a train takes the route to its minus leg.
 use Rattle.std.proofs.Common.{◌≡◌, refl, ℕ, Option, Some, None, List, [], ◌∷◌}
-use Rattle.ilk_plant.specs.Option.{◌>>=◌}
+use Rattle.ilk_base.specs.Option.{◌>>=◌}
 use Rattle.ilk_plant.specs.Plant.{PlantLists}
 use Rattle.ilk_plant.specs.Start.{free_route, start}
 use Rattle.ilk_plant.specs.declared.network.Dir.TheVariants.{Up, Down}

@@ -1,37 +1,12 @@
 -- Lists whose items are made anew by number.
-use Rattle.std.proofs.Common.{◌≡◌, ℕ, ◌+◌, ◌<◌, ◌==◌, Bool, true, false, Option, Some, None, List, [], ◌∷◌, map, option_map, drop, drop-cons, get_or, length, slice_get, set, refl, ◌∙◌, sym, zero, suc, ap, arith}
+use Rattle.std.proofs.Common.{◌≡◌, ℕ, ◌+◌, ◌==◌, Bool, true, false, Option, Some, None, List, [], ◌∷◌, map, option_map, length, slice_get, set, refl, ◌∙◌, sym, zero, suc, ap, arith}
 use Rattle.std.proofs.lemmas.Grind.{common_steps}
 use Rattle.std.proofs.lemmas.List.FromFn.{length-enumerate_from}
 use Rattle.std.proofs.lemmas.List.{length-map}
-use Rattle.std.proofs.lemmas.Option.{same_Some, slice_get_within}
+use Rattle.std.proofs.lemmas.Option.{slice_get_within}
 use Rattle.std.specs.List.{enumerate_from}
 use Rattle.ilk_routes.specs.Numbered.{map_numbered}
-
-pub slice_get-set_same : {X : Type 0} (xs : List X) (i : ℕ) (y : X) → i < length xs → slice_get (set xs i y) i ≡ Some y
-slice_get-set_same [] i y h = absurd (omega (arith, h))
-slice_get-set_same (x ∷ xs) zero y h = refl
-slice_get-set_same (x ∷ xs) (suc i) y h = slice_get-set_same xs i y (omega (arith, h))
-
-pub slice_get-set_other : {X : Type 0} (xs : List X) (i j : ℕ) (y : X) → (i ≡ j → ⊥) → slice_get (set xs i y) j ≡ slice_get xs j
-slice_get-set_other [] i j y apart = refl
-slice_get-set_other (x ∷ xs) zero zero y apart = absurd (apart refl)
-slice_get-set_other (x ∷ xs) zero (suc j) y apart = refl
-slice_get-set_other (x ∷ xs) (suc i) zero y apart = refl
-slice_get-set_other (x ∷ xs) (suc i) (suc j) y apart = slice_get-set_other xs i j y (λ e. apart (ap suc e))
-
--- what is left of a list begins with the item at its number
-pub drop-next : {X : Type 0} (xs : List X) (i : ℕ) (d : X) → i < length xs → drop i xs ≡ get_or xs i d ∷ drop (i + 1) xs
-drop-next xs i d h = let e : suc i ≡ i + 1 = omega arith in rw (← e) (drop-cons xs i d h)
-
--- two lists are one if they have the same at each number
-pub same_by_slice_get : {X : Type 0} (xs ys : List X) → ((i : ℕ) → slice_get xs i ≡ slice_get ys i) → xs ≡ ys
-same_by_slice_get [] [] same = refl
-same_by_slice_get [] (y ∷ ys) same = let none = same 0 in cc
-same_by_slice_get (x ∷ xs) [] same = let none = same 0 in cc
-same_by_slice_get (x ∷ xs) (y ∷ ys) same =
-    let first : x ≡ y = same_Some x y (same 0) in
-    let rest : xs ≡ ys = same_by_slice_get xs ys (λ i. same (suc i)) in
-    cc
+use Rattle.ilk_base.proofs.Lists.{same_by_slice_get, slice_get-set_other, slice_get-set_same}
 
 slice_get-map_from : {X : Type 0} (f : ℕ → X → X) (n : ℕ) (xs : List X) (i : ℕ) → slice_get (map (λ numbered. f numbered.0 numbered.1) (enumerate_from n xs)) i ≡ option_map (f (n + i)) (slice_get xs i)
 slice_get-map_from f n [] i = refl

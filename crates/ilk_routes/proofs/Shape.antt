@@ -1,13 +1,14 @@
 -- No event of a route or a point breaks the shape.
-use Rattle.std.proofs.Common.{◌≡◌, ℕ, Bool, true, false, Some, None, List, length, slice_get, set, subst, sym, ◌∙◌, ap, refl, inl, inr, if◌then◌else◌, length-set, arith}
+use Rattle.std.proofs.Common.{◌≡◌, ◌+◌, ℕ, Bool, true, false, Some, None, List, length, slice_get, set, subst, sym, ◌∙◌, ap, refl, inl, inr, if◌then◌else◌, length-set, arith}
 use Rattle.std.proofs.lemmas.Option.{option_and_then_some, cond_some, same_Some, slice_get_within}
 use Rattle.std.specs.List.{last_or}
-use Rattle.ilk_plant.proofs.Rows.{slice_get_set}
 use Rattle.ilk_plant.specs.Plant.{PlantLists, point_number}
-use Rattle.ilk_plant.specs.State.{HasShape, IsWithin}
+use Rattle.ilk_plant.specs.Shape.{HasShape, fits_path}
+use Rattle.ilk_plant.proofs.Shapes.{fits_path-counts, fits_path-from_counts}
 use Rattle.ilk_plant.specs.declared.state.Aspect.{Aspect}
 use Rattle.ilk_plant.specs.declared.state.Aspect.TheVariants.{Closed}
 use Rattle.ilk_plant.specs.declared.state.Hold.{Hold}
+use Rattle.ilk_plant.specs.declared.state.Mode.TheVariants.{Free, Occupied}
 use Rattle.ilk_plant.specs.declared.state.PointState.{PointState}
 use Rattle.ilk_plant.specs.declared.state.RouteState.{RouteState}
 use Rattle.ilk_plant.specs.declared.state.State.{State}
@@ -16,13 +17,14 @@ use Rattle.ilk_routes.proofs.Commands.{length-with_commands}
 use Rattle.ilk_routes.proofs.Locks.{length-with_locks}
 use Rattle.ilk_routes.specs.Points.{after_settle, after_throw}
 use Rattle.ilk_routes.specs.Routes.{after_allocate, after_finish, after_lock, after_mark, after_release, after_sense}
+use Rattle.ilk_base.proofs.Lists.{slice_get_set}
 
 length-close_if : (b : Bool) (boards : List Aspect) (m : ℕ) → length (if b then set boards m Closed else boards) ≡ length boards
 length-close_if true boards m = length-set boards m Closed
 length-close_if false boards m = refl
 
 -- the shape of a state in which route r is at `now`, and boards, points and locks are as many as before
-reshaped : (p : PlantLists) (s : State) (r : ℕ) (mine : Route) (now : RouteState) (boards : List Aspect) (points : List PointState) (locks : List Hold) → HasShape p s → slice_get p.routes r ≡ Some mine → IsWithin mine now → length boards ≡ length s.boards → length points ≡ length s.points → length locks ≡ length s.locks → HasShape p (record s { routes = set s.routes r now; boards = boards; points = points; locks = locks })
+reshaped : (p : PlantLists) (s : State) (r : ℕ) (mine : Route) (now : RouteState) (boards : List Aspect) (points : List PointState) (locks : List Hold) → HasShape p s → slice_get p.routes r ≡ Some mine → fits_path mine now ≡ true → length boards ≡ length s.boards → length points ≡ length s.points → length locks ≡ length s.locks → HasShape p (record s { routes = set s.routes r now; boards = boards; points = points; locks = locks })
 reshaped p s r mine now boards points locks shape known within b n l = record {
   routes = length-set s.routes r now ∙ shape.routes;
   points = n ∙ shape.points;
@@ -64,7 +66,7 @@ after_sense-shape p s t r shape e =
     option_and_then_some _ (slice_get route.path now.seen) t e2 (λ x there e3.
     let done = cond_some _ _ t e3 in
     let below = slice_get_within route.path now.seen x there in
-    subst (HasShape p) done.1 (reshaped p s r route _ _ s.points _ shape known (omega (arith, below), (shape.counts r route now known here).1) (length-close_if _ s.boards route.source) refl (length-set s.locks x _)))))
+    subst (HasShape p) done.1 (reshaped p s r route _ _ s.points _ shape known (fits_path-from_counts route (record now { mode = Occupied; seen = now.seen + 1 }) (omega (arith, below)) (fits_path-counts route now (shape.counts r route now known here)).1) (length-close_if _ s.boards route.source) refl (length-set s.locks x _)))))
 
 pub after_release-shape : (p : PlantLists) (s t : State) (r : ℕ) → HasShape p s → after_release p s r ≡ Some t → HasShape p t
 after_release-shape p s t r shape e =
@@ -73,7 +75,7 @@ after_release-shape p s t r shape e =
     option_and_then_some _ (slice_get route.path now.rel) t e2 (λ x there e3.
     let done = cond_some _ _ t e3 in
     let below = slice_get_within route.path now.rel x there in
-    subst (HasShape p) done.1 (reshaped p s r route _ s.boards s.points _ shape known ((shape.counts r route now known here).0, omega (arith, below)) refl refl (length-set s.locks x _)))))
+    subst (HasShape p) done.1 (reshaped p s r route _ s.boards s.points _ shape known (fits_path-from_counts route (record now { rel = now.rel + 1 }) (fits_path-counts route now (shape.counts r route now known here)).0 (omega (arith, below))) refl refl (length-set s.locks x _)))))
 
 pub after_finish-shape : (p : PlantLists) (s t : State) (r : ℕ) → HasShape p s → after_finish p s r ≡ Some t → HasShape p t
 after_finish-shape p s t r shape e =
@@ -81,7 +83,7 @@ after_finish-shape p s t r shape e =
     option_and_then_some _ (slice_get s.routes r) t e1 (λ now here e2.
     option_and_then_some _ (last_or None route.path) t e2 (λ x there e3.
     let done = cond_some _ _ t e3 in
-    subst (HasShape p) done.1 (reshaped p s r route _ s.boards s.points _ shape known (omega arith, omega arith) refl refl (length-with_locks _ route.overlap _ ∙ length-set s.locks x _)))))
+    subst (HasShape p) done.1 (reshaped p s r route _ s.boards s.points _ shape known (fits_path-from_counts route (record { mode = Free; seen = 0; rel = 0 }) (omega arith) (omega arith)) refl refl (length-with_locks _ route.overlap _ ∙ length-set s.locks x _)))))
 
 -- the shape of a state in which one point changes
 repointed : (p : PlantLists) (s : State) (n : ℕ) (point : PointState) → HasShape p s → HasShape p (record s { points = set s.points n point })

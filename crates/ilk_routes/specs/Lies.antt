@@ -1,7 +1,7 @@
 -- Where points lie, and where they are commanded.
 use Rattle.std.specs.Prelude.{ℕ, Bool, true, false, Option, None, List, [], ◌∷◌, ◌==◌, unwrap_or}
 use Rattle.std.specs.Option.{option_or}
-use Rattle.ilk_plant.specs.Option.{is_some_and, only_if}
+use Rattle.ilk_base.specs.Option.{is_some_and, only_if}
 use Rattle.ilk_plant.specs.Plant.{PlantLists, point_number}
 use Rattle.ilk_plant.specs.State.{lie_of}
 use Rattle.ilk_plant.specs.declared.network.Position.{Position}

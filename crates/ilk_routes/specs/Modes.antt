@@ -1,6 +1,6 @@
 -- The modes of routes.
 use Rattle.std.specs.Prelude.{ℕ, Bool, true, false, ◌||◌, slice_get}
-use Rattle.ilk_plant.specs.Option.{is_some_and}
+use Rattle.ilk_base.specs.Option.{is_some_and}
 use Rattle.ilk_plant.specs.declared.state.Mode.{Mode}
 use Rattle.ilk_plant.specs.declared.state.Mode.TheVariants.{Free, Marked, Allocating, Locked, Occupied}
 use Rattle.ilk_plant.specs.declared.state.State.{State}
@@ -18,6 +18,6 @@ same_mode a b = false
 abbrev pub has_mode : State → ℕ → Mode → Bool
 has_mode s r mode = is_some_and (slice_get s.routes r) (λ now. same_mode now.mode mode)
 
--- whether route r is Allocating or Locked: it has sections locked for a train that it has not seen yet
+-- whether route r is Allocating or Locked
 abbrev pub is_claimed : State → ℕ → Bool
 is_claimed s r = has_mode s r Allocating || has_mode s r Locked

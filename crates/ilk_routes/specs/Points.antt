@@ -1,6 +1,6 @@
 -- The two events of points. Each is the state that follows, where the event is enabled. A point is named by its section.
 use Rattle.std.specs.Prelude.{ℕ, Option, ◌&&◌, slice_get, set, not}
-use Rattle.ilk_plant.specs.Option.{◌>>=◌, only_if}
+use Rattle.ilk_base.specs.Option.{◌>>=◌, only_if}
 use Rattle.ilk_plant.specs.Plant.{PlantLists, point_number}
 use Rattle.ilk_plant.specs.declared.state.Lie.TheVariants.{Moving}
 use Rattle.ilk_plant.specs.declared.state.State.{State}

@@ -1,7 +1,7 @@
 -- The six events of routes. Each is the state that follows, where the event is enabled.
 use Rattle.std.specs.Prelude.{ℕ, ◌+◌, Bool, Option, None, ◌==◌, ◌&&◌, ◌||◌, if◌then◌else◌, length, nat_le, slice_get, set, not}
 use Rattle.std.specs.List.{list_any, list_all, last_or}
-use Rattle.ilk_plant.specs.Option.{◌>>=◌, only_if}
+use Rattle.ilk_base.specs.Option.{◌>>=◌, only_if}
 use Rattle.ilk_plant.specs.Plant.{PlantLists}
 use Rattle.ilk_plant.specs.State.{has_lock, is_clear, is_occupied}
 use Rattle.ilk_plant.specs.declared.state.Aspect.TheVariants.{Open, Closed}
@@ -66,7 +66,7 @@ after_sense p s r = do
         boards = (if now.seen == 0 then set s.boards route.source Closed else s.boards);
       })
 
--- release r: r is Occupied, two more are seen than released, and the path section after the released ones is vacant
+-- release r: r is Occupied, at least two more are seen than released, and the path section after the released ones is vacant
 -- and has lock Used; that lock is Free, and one more is released
 abbrev pub after_release : PlantLists → State → ℕ → Option State
 after_release p s r = do

@@ -1,11 +1,15 @@
-ghost use Rattle.std.specs.Prelude.{◌≡◌, ◌<◌, ◌-◌, IfSome, None, Some, length, slice_get};
+ghost use Rattle.std.specs.Prelude.{◌≡◌, ◌≤◌, ◌<◌, ◌-◌, IfSome, None, Some, length, slice_get};
+ghost use Rattle.ilk_plant.specs.Plant.{IsRouteOf};
+ghost use Rattle.ilk_plant.specs.Shape.{HasShape};
 ghost use Rattle.std.specs.List.{last_or, list_any, list_all};
 ghost use Rattle.ilk_plant.specs.State.{is_clear};
 ghost use Rattle.ilk_routes.specs.Lies.{is_moving, lie_in, lies_as_listed, lies_at};
 ghost use Rattle.ilk_routes.specs.Modes.{has_mode, is_claimed};
 ghost use Rattle.ilk_routes.specs.Routes.{can_claim};
 
-use ilk_plant::{Lie, Listed, Mode, Plant, Position, Route, Row, State, is_clear, lie_of};
+use ilk_plant::{
+    Lie, Listed, Mode, Plant, Position, Route, RouteState, Row, State, is_clear, lie_of,
+};
 
 /// Whether route `r` has the mode.
 pub fn has_mode(s: &State, r: u32, mode: Mode) -> bool
@@ -97,4 +101,17 @@ pub fn all_lie_as_listed(plant: &Plant, s: &State, points: &Row<Listed>) -> bool
         .as_slice()
         .iter()
         .all(|listed| lies_as_listed(plant, s, listed))
+}
+
+/// Route `r` with its state, whose counts are at most the length of its path.
+pub fn route_now<'a>(plant: &'a Plant, s: &State, r: u32) -> (&'a Route, RouteState)
+    requires shape { HasShape plant.now s.now }
+    requires known { r < length plant.now.routes }
+    ensures route { slice_get plant.now.routes r ≡ Some result.0.now }
+    ensures of { IsRouteOf plant.now result.0.now }
+    ensures state { slice_get s.now.routes r ≡ Some result.1 }
+    ensures seen { result.1.seen ≤ length result.0.now.path }
+    ensures rel { result.1.rel ≤ length result.0.now.path }
+{
+    (plant.route(r), *s.routes.at(r as u64))
 }

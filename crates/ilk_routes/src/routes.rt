@@ -1,9 +1,9 @@
 ghost use Rattle.std.specs.Prelude.{◌≡◌, is_some, unwrap_or};
-ghost use Rattle.ilk_plant.specs.State.{HasShape};
+ghost use Rattle.ilk_plant.specs.Shape.{HasShape};
 ghost use Rattle.ilk_routes.specs.Routes.{after_allocate, after_finish, after_lock, after_mark, after_release, after_sense};
 
 use crate::changes::{command, give_locks};
-use crate::conditions::{all_lie_as_listed, can_claim, last_of};
+use crate::conditions::{all_lie_as_listed, can_claim, last_of, route_now};
 use ilk_plant::{Aspect, Hold, Mode, Plant, RouteState, State, has_lock, occupied};
 
 // Marks route `r`, where that is enabled.
@@ -67,8 +67,7 @@ fn sense(plant: &Plant, s: &mut State, r: u32) -> bool
     if r >= plant.routes() {
         return false;
     }
-    let route = plant.route(r);
-    let now = *s.routes.at(r as u64);
+    let (route, now) = route_now(plant, s, r);
     let seen = now.seen as u64;
     if seen >= route.path.len() || (now.mode != Mode::Locked && now.mode != Mode::Occupied) {
         return false;
@@ -96,8 +95,7 @@ fn release(plant: &Plant, s: &mut State, r: u32) -> bool
     if r >= plant.routes() {
         return false;
     }
-    let route = plant.route(r);
-    let now = *s.routes.at(r as u64);
+    let (route, now) = route_now(plant, s, r);
     let rel = now.rel as u64;
     if now.mode != Mode::Occupied || rel >= route.path.len() || rel + 2 > now.seen as u64 {
         return false;
@@ -120,8 +118,7 @@ fn finish(plant: &Plant, s: &mut State, r: u32) -> bool
     if r >= plant.routes() {
         return false;
     }
-    let route = plant.route(r);
-    let now = *s.routes.at(r as u64);
+    let (route, now) = route_now(plant, s, r);
     let length = route.path.len();
     if now.mode != Mode::Occupied || now.seen as u64 != length || now.rel as u64 + 1 != length {
         return false;

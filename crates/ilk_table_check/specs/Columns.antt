@@ -1,7 +1,7 @@
--- The rules of the columns by their names.
+-- Cited by private contracts alone: the rules of the columns by their names.
 use Rattle.std.specs.Prelude.{ℕ, Bool, false, List, Some, map, filter, length}
 use Rattle.std.specs.List.{range_with_len}
-use Rattle.ilk_plant.specs.ColumnRules.{is_open_border, lists_alone, overlap_leads_on, path_ends_at_board, path_leads_on, points_are_set, share_unlisted}
+use Rattle.ilk_plant.specs.ColumnRules.{lists_alone, overlap_leads_on, path_ends_at_board, path_leads_on, points_are_set, share_unlisted, is_border_without_board}
 use Rattle.ilk_plant.specs.Plant.{PlantLists}
 use Rattle.ilk_plant.specs.TableRules.{route_fails}
 use Rattle.ilk_plant.specs.declared.broken.Broken.{Broken}
@@ -19,7 +19,7 @@ breaks_alone p C1 = route_fails p (path_leads_on p)
 breaks_alone p C2 = route_fails p (path_ends_at_board p)
 breaks_alone p C3 = route_fails p (points_are_set p)
 breaks_alone p C4 = route_fails p (overlap_leads_on p)
-breaks_alone p C7 = is_open_border p
+breaks_alone p C7 = is_border_without_board p
 breaks_alone p _ = λ i. false
 
 -- whether a rule of two places is broken there

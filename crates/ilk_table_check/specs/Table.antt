@@ -1,4 +1,4 @@
--- The rules of the table by their names.
+-- Cited by private contracts alone: the rules of the table by their names.
 use Rattle.std.specs.Prelude.{ℕ, Bool, false}
 use Rattle.ilk_plant.specs.Draft.{is_named_before}
 use Rattle.ilk_plant.specs.Plant.{PlantLists}

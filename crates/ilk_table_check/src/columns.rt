@@ -3,7 +3,7 @@ ghost use Rattle.std.specs.List.{list_any};
 ghost use Rattle.ilk_plant.specs.Broken.{broken_at, broken_at_pairs};
 ghost use Rattle.ilk_plant.specs.Network.{has_section};
 ghost use Rattle.ilk_plant.specs.TableRules.{sections_of};
-ghost use Rattle.ilk_plant.specs.ColumnRules.{column_rules_broken, is_open_border, lists, share_section};
+ghost use Rattle.ilk_plant.specs.ColumnRules.{column_rules_broken, lists, share_section, is_border_without_board};
 ghost use Rattle.ilk_table_check.specs.Columns.{breaks_alone, breaks_together, pairs_of, places};
 
 use crate::ways::{overlap_leads_on, path_ends_at_board, path_leads_on, points_are_set};
@@ -51,9 +51,9 @@ fn share_section(plant: &Plant, i: u32, j: u32) -> bool
 }
 
 // Whether section `x` is a border without a board in its inward direction.
-fn is_open_border(plant: &Plant, x: u32) -> bool
+fn is_border_without_board(plant: &Plant, x: u32) -> bool
     requires { x < length plant.now.sections }
-    ensures { result ≡ is_open_border plant.now x }
+    ensures { result ≡ is_border_without_board plant.now x }
 {
     match plant.border(x) {
         Some(inward) => plant.board_of(x, inward).is_none(),
@@ -81,7 +81,7 @@ fn breaks_alone(plant: &Plant, rule: Rule, i: u32) -> bool
         Rule::C2 => !path_ends_at_board(plant, plant.route(i)),
         Rule::C3 => !points_are_set(plant, plant.route(i)),
         Rule::C4 => !overlap_leads_on(plant, plant.route(i)),
-        Rule::C7 => is_open_border(plant, i),
+        Rule::C7 => is_border_without_board(plant, i),
         _ => false,
     }
 }

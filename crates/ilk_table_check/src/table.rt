@@ -4,7 +4,8 @@ ghost use Rattle.ilk_plant.specs.Broken.{broken_at};
 ghost use Rattle.ilk_plant.specs.Network.{has_section};
 ghost use Rattle.ilk_plant.specs.Limits.{HasLimits};
 ghost use Rattle.ilk_plant.specs.Plant.{is_point_section};
-ghost use Rattle.ilk_plant.specs.TableRules.{has_conflicts_once, has_destination_or_none, has_points_once, has_sections_once, is_other_route, is_section, none_twice, points_of, routes_broken, sections_of, table_rules_broken};
+ghost use Rattle.ilk_plant.specs.TableRules.{has_conflicts_once, has_destination_or_none, has_points_once, has_sections_once, is_other_route, is_section, points_of, routes_broken, sections_of, table_rules_broken};
+ghost use Rattle.ilk_plant.specs.Once.{none_twice};
 ghost use Rattle.ilk_table_check.specs.Table.{breaks_table};
 
 use crate::listed::is_listed;

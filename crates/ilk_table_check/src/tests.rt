@@ -1,7 +1,7 @@
 //! What no clause says: that the check of a table succeeds where memory is there.
 ghost use Rattle.std.specs.Prelude.{◌≡◌, ◌∷◌, [], IfOk, length, true};
 ghost use Rattle.std.specs.List.{list_all};
-ghost use Rattle.ilk_plant.specs.Limits.{RouteHasLimits, route_has_names, section_has_names};
+ghost use Rattle.ilk_plant.specs.Limits.{route_has_limits, route_has_names, section_has_names};
 ghost use Rattle.ilk_plant.specs.Name.{is_name, is_name_if_given};
 
 use crate::check_table;
@@ -61,7 +61,7 @@ fn route(
     requires source { is_name source.now ≡ true }
     requires section { is_name section.now ≡ true }
     requires conflict { is_name conflict.now ≡ true }
-    ensures limits { IfOk result RouteHasLimits }
+    ensures limits { IfOk result (λ route. route_has_limits route ≡ true) }
     ensures named { IfOk result (λ route. route_has_names route ≡ true) }
 {
     Ok(RouteDraft {

@@ -2,10 +2,10 @@ ghost use Rattle.std.specs.Prelude.{◌≡◌, ◌==◌, slice_get, take, ◌∷
 ghost use Rattle.std.specs.List.{list_all, list_any};
 ghost use Rattle.std.specs.Option.{option_copied};
 ghost use Rattle.ilk_plant.specs.Network.{has_section};
-ghost use Rattle.ilk_plant.specs.Option.{is_some_and};
+ghost use Rattle.ilk_base.specs.Option.{is_some_and};
 ghost use Rattle.ilk_plant.specs.TableRules.{points_of};
 ghost use Rattle.ilk_plant.specs.Plant.{is_point_section};
-ghost use Rattle.ilk_plant.specs.ColumnRules.{ends_at, has_no_board, is_between_boards, is_leg, is_listed_towards, overlap_leads_on, path_ends_at_board, path_leads_on, points_are_set, points_lead_along};
+ghost use Rattle.ilk_plant.specs.ColumnRules.{has_no_board, is_between_boards, is_leg, is_listed_towards, overlap_leads_on, path_ends_at_board, path_leads_on, points_are_set, points_lead_along, ends_path};
 
 use crate::listed::is_listed;
 use ilk_plant::{Board, Dir, Listed, Plant, Position, Route, Row, Section};
@@ -53,8 +53,8 @@ fn has_no_board(plant: &Plant, d: Dir, x: u32) -> bool
 }
 
 // Whether a path in direction `d` that ends at section `x` has this destination.
-fn ends_at(plant: &Plant, d: Dir, destination: Option<u32>, x: u32) -> bool
-    ensures { result ≡ ends_at plant.now d destination x }
+fn ends_path(plant: &Plant, d: Dir, destination: Option<u32>, x: u32) -> bool
+    ensures { result ≡ ends_path plant.now d destination x }
 {
     match (destination, section_at(plant, x)) {
         (Some(m), Some(section)) => section.board_on(d) == Some(m),
@@ -77,7 +77,7 @@ fn is_between_boards(plant: &Plant, d: Dir, destination: Option<u32>, path: &Row
 {
     match path.as_slice() {
         [before @ .., last] => {
-            have_no_board(plant, d, before) && ends_at(plant, d, destination, *last)
+            have_no_board(plant, d, before) && ends_path(plant, d, destination, *last)
         }
         [] => false,
     }

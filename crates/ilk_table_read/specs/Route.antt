@@ -1,21 +1,17 @@
 -- A route: its boards, its sections, and what it lists.
-use Rattle.std.specs.Prelude.{Bool, Option, Some, None, List, ◌&&◌, bytes_eq, codes, length, nat_le, if◌then◌else◌}
+use Rattle.std.specs.Prelude.{Option, List, codes}
 use Rattle.serde_json.specs.Data.{Data}
-use Rattle.ilk_plant.specs.Name.{Name, lies_within}
-use Rattle.ilk_plant.specs.Option.{◌>>=◌, only_if}
+use Rattle.ilk_base.specs.Option.{◌>>=◌, only_if}
+use Rattle.ilk_plant.specs.Name.{Name}
+use Rattle.ilk_plant.specs.Words.{position_of_word}
 use Rattle.ilk_plant.specs.declared.draft.ListedDraft.{ListedDraft}
 use Rattle.ilk_plant.specs.declared.draft.RouteDraft.{RouteDraft}
 use Rattle.ilk_plant.specs.declared.network.Position.{Position}
-use Rattle.ilk_plant.specs.declared.network.Position.TheVariants.{Plus, Minus}
 use Rattle.ilk_net_read.specs.Member.{has_members, text_at, optional_text_at, array_at, texts_at, each_as}
-
--- the position that a text names: `plus` or `minus`
-abbrev pub position_named : Name → Option Position
-position_named text = if bytes_eq text (codes "plus") then Some Plus else (if bytes_eq text (codes "minus") then Some Minus else None)
 
 -- the position in which a point is wanted
 abbrev pub position_of : Data → Option Position
-position_of d = text_at (codes "position") d >>= position_named
+position_of d = text_at (codes "position") d >>= position_of_word
 
 -- a value as a point with the position in which a route wants it: an object of exactly these two
 abbrev pub as_listed : Data → Option ListedDraft
@@ -25,8 +21,8 @@ as_listed d = do
   only_if (has_members 2 d) (record { point = point; at = position })
 
 -- the member `points`, where it is an array of points with positions
-abbrev pub points_of : Data → Option (List ListedDraft)
-points_of d = array_at (codes "points") d >>= each_as as_listed
+abbrev pub points_at : Data → Option (List ListedDraft)
+points_at d = array_at (codes "points") d >>= each_as as_listed
 
 -- a value as a route: an object of exactly a name, a source, a destination, which may be missing, and
 -- the lists of its path, its overlap, its points and its conflicts
@@ -37,12 +33,6 @@ as_route d = do
   destination ← optional_text_at (codes "destination") d
   path ← texts_at (codes "path") d
   overlap ← texts_at (codes "overlap") d
-  points ← points_of d
+  points ← points_at d
   conflicts ← texts_at (codes "conflicts") d
   only_if (has_members 7 d) (record { name = name; source = source; destination = destination; path = path; overlap = overlap; points = points; conflicts = conflicts })
-
--- whether a route has 1 to 32 sections in its path, at most 8 in its overlap, and lists at most 40
--- points and at most 128 conflicts
-abbrev pub is_within_limits : RouteDraft → Bool
-is_within_limits route =
-    lies_within 1 32 (length route.path) && nat_le (length route.overlap) 8 && nat_le (length route.points) 40 && nat_le (length route.conflicts) 128

@@ -1,9 +1,8 @@
 -- The form of a configuration, whole: the rules in the order in which they are asked.
-use Rattle.std.specs.Prelude.{ℕ, ◌≤◌, List, length, Result, Ok, IsTrue}
-use Rattle.std.specs.List.{All, list_all}
+use Rattle.std.specs.Prelude.{ℕ, List, Result, Ok}
 use Rattle.serde_json.specs.Data.{Data}
-use Rattle.ilk_plant.specs.Limits.{RouteHasLimits, route_has_names}
-use Rattle.ilk_plant.specs.Result.{◌>>=◌}
+use Rattle.ilk_plant.specs.Limits.{route_has_limits, route_has_names}
+use Rattle.ilk_base.specs.Result.{◌>>=◌}
 use Rattle.ilk_plant.specs.declared.draft.NetDraft.{NetDraft}
 use Rattle.ilk_plant.specs.declared.draft.RouteDraft.{RouteDraft}
 use Rattle.ilk_plant.specs.declared.draft.TableDraft.{TableDraft}
@@ -12,14 +11,14 @@ use Rattle.ilk_net_read.specs.declared.fault.FormFault.{FormFault}
 use Rattle.ilk_net_read.specs.declared.fault.Place.TheVariants.{Route}
 use Rattle.ilk_net_read.specs.Fault.{broken, checked, or_fault}
 use Rattle.ilk_net_read.specs.Network.{document_of, in_order, network_of, value_of}
-use Rattle.ilk_table_read.specs.Route.{as_route, is_within_limits}
+use Rattle.ilk_table_read.specs.Route.{as_route}
 
 -- route i: F3 where the value isn't one, then F5, its names, then F6, its lists
 abbrev pub route_of : ℕ → Data → Result RouteDraft FormFault
 route_of i d = do
   found ← or_fault (broken F3 (Route i)) (as_route d)
   route ← checked route_has_names (broken F5 (Route i)) found
-  checked is_within_limits (broken F6 (Route i)) route
+  checked route_has_limits (broken F6 (Route i)) route
 
 -- the table: the document, then the routes in order
 abbrev pub table_of : Data → Result TableDraft FormFault
@@ -36,9 +35,3 @@ drafts_of bytes = do
   net ← network_of d
   table ← table_of d
   Ok (net, table)
-
--- there are at most 128 routes, each with lists within their limits, and each text in them is a name
-pub record IsWithin (table : TableDraft) : Type 0 where
-  pub few : length table.routes ≤ 128
-  pub each : All RouteHasLimits table.routes
-  pub named : IsTrue (list_all route_has_names table.routes)

@@ -11,21 +11,10 @@ use ilk_plant::{ListedDraft, Position, Row};
 use serde_json::Value;
 use std::alloc::Global;
 
-/// The position that a text names: `plus` or `minus`.
-fn position_named(text: &str) -> Option<Position>
-    ensures { result ≡ route.position_named text.now }
-{
-    match text {
-        "plus" => Some(Position::Plus),
-        "minus" => Some(Position::Minus),
-        _ => None,
-    }
-}
-
 fn position(value: &Value) -> Option<Position>
     ensures { result ≡ route.position_of (view value.now) }
 {
-    position_named(str_at(value, "position")?)
+    Position::of_word(str_at(value, "position")?.as_bytes())
 }
 
 fn listed(alloc: Global, value: &Value) -> Result<ListedDraft, KindError>
@@ -53,8 +42,8 @@ fn all_listed(alloc: Global, values: &[Value]) -> Result<Row<ListedDraft>, KindE
 }
 
 /// The member `points`, which must be an array of points with positions.
-pub(crate) fn points_of(alloc: Global, value: &Value) -> Result<Row<ListedDraft>, KindError>
-    ensures { Reads result (route.points_of (view value.now)) }
+pub(crate) fn points_at(alloc: Global, value: &Value) -> Result<Row<ListedDraft>, KindError>
+    ensures { Reads result (route.points_at (view value.now)) }
 {
     match array_at(value, "points") {
         Some(values) => all_listed(alloc, values),

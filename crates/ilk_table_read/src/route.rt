@@ -3,18 +3,18 @@
 ghost use Rattle.std.specs.Prelude.{◌≡◌, ◌&&◌, nat_le, true, IfOk};
 ghost use Rattle.std.specs.List.{list_all};
 ghost use Rattle.serde_json.specs.View.{view};
-ghost use Rattle.ilk_plant.specs.Limits.{RouteHasLimits, route_has_names};
+ghost use Rattle.ilk_plant.specs.Limits.{route_has_limits, route_has_names};
 ghost use Rattle.ilk_plant.specs.Name as name;
 ghost use Rattle.ilk_net_read.specs.Fault.{Gives, Reads};
 ghost use Rattle.ilk_table_read.specs.Route as spec;
 ghost use Rattle.ilk_table_read.specs.Table as table;
 
-use crate::listed::points_of;
+use crate::listed::points_at;
 use ilk_net_read::{
     Form, FormError, KindError, Place, broken, has_members, is_name, is_name_if_given, lies_within,
     optional_text_at, text_at, texts_at,
 };
-use ilk_plant::{ListedDraft, RouteDraft, Text};
+use ilk_plant::{ListedDraft, MAX_CONFLICTS, MAX_OVERLAP, MAX_PATH, MAX_POINTS, RouteDraft, Text};
 use serde_json::Value;
 use std::alloc::Global;
 
@@ -26,7 +26,7 @@ fn route(alloc: Global, value: &Value) -> Result<RouteDraft, KindError>
     let destination = optional_text_at(alloc, value, "destination")?;
     let path = texts_at(alloc, value, "path")?;
     let overlap = texts_at(alloc, value, "overlap")?;
-    let points = points_of(alloc, value)?;
+    let points = points_at(alloc, value)?;
     let conflicts = texts_at(alloc, value, "conflicts")?;
     if !has_members(value, 7) {
         return Err(KindError::WrongKind);
@@ -66,20 +66,19 @@ fn has_names(route: &RouteDraft) -> bool
         && are_names(route.conflicts.as_slice())
 }
 
-fn is_within_limits(route: &RouteDraft) -> bool
-    ensures exact { result ≡ spec.is_within_limits route.now }
-    ensures limits { result ≡ true → RouteHasLimits route.now }
+fn has_limits(route: &RouteDraft) -> bool
+    ensures { result ≡ route_has_limits route.now }
 {
-    lies_within(1, 32, route.path.len() as usize)
-        && route.overlap.len() <= 8
-        && route.points.len() <= 40
-        && route.conflicts.len() <= 128
+    lies_within(1, MAX_PATH as usize, route.path.len() as usize)
+        && route.overlap.len() <= MAX_OVERLAP
+        && route.points.len() <= MAX_POINTS
+        && route.conflicts.len() <= MAX_CONFLICTS
 }
 
 /// The route of this number, from its value.
 pub(crate) fn route_of(alloc: Global, number: u32, value: &Value) -> Result<RouteDraft, FormError>
     ensures exact { Gives result (table.route_of number (view value.now)) }
-    ensures limits { IfOk result RouteHasLimits }
+    ensures limits { IfOk result (λ draft. route_has_limits draft ≡ true) }
     ensures named { IfOk result (λ draft. route_has_names draft ≡ true) }
 {
     let place = Place::Route(number);
@@ -90,7 +89,7 @@ pub(crate) fn route_of(alloc: Global, number: u32, value: &Value) -> Result<Rout
     if !has_names(&draft) {
         return Err(broken(Form::F5, place));
     }
-    if !is_within_limits(&draft) {
+    if !has_limits(&draft) {
         return Err(broken(Form::F6, place));
     }
     Ok(draft)

@@ -11,7 +11,7 @@ use Rattle.clap.specs.Walk.{is_empty}
 use Rattle.clap.proofs.WalkLemmas.{both, first_value-rows}
 use Rattle.clap.specs.Faults.{is_free_app}
 use Rattle.clap.specs.Simple.{built}
-use Rattle.ilk_plant.specs.Option.{◌>>=◌, only_if}
+use Rattle.ilk_base.specs.Option.{◌>>=◌, only_if}
 use Rattle.ilk_words.specs.Line.{app}
 use Rattle.ilk_words.specs.Places.{moved_app}
 use Rattle.ilk_words.proofs.Places.{faults_like_ours, rows_like_ours}

@@ -5,7 +5,7 @@ use Rattle.std.specs.Option.{option_or}
 use Rattle.std.specs.Str.{bytes_eq}
 use Rattle.clap.specs.Words.{Text, fault_of, first_of, matches_of}
 use Rattle.clap.specs.Walk.{is_empty}
-use Rattle.ilk_plant.specs.Option.{◌>>=◌, only_if}
+use Rattle.ilk_base.specs.Option.{◌>>=◌, only_if}
 use Rattle.ilk_words.specs.Line.{LineOption, app, columns_option, options, run_option}
 use Rattle.ilk_words.specs.declared.command.Columns.{Columns}
 use Rattle.ilk_words.specs.declared.command.Columns.TheVariants.{Strict, Free}

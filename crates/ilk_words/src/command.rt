@@ -1,4 +1,4 @@
-use ilk_plant::Text;
+use ilk_base::Text;
 
 /// How strict the checks are: with the rules C1 to C7, or without them.
 #[derive(Clone, Copy, PartialEq, Eq, Debug)]

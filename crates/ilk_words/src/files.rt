@@ -2,7 +2,7 @@ ghost use Rattle.std.specs.Prelude.{◌≡◌, IfOk, map, string_bytes};
 ghost use Rattle.ilk_words.specs.Files.{files_named, files_of};
 
 use crate::{Command, read_words};
-use ilk_plant::Text;
+use ilk_base::Text;
 use std::alloc::{AllocError, Global};
 
 /// The files that a command line names besides the configuration.

@@ -6,7 +6,7 @@ use crate::line::line_command;
 use crate::{Columns, Command};
 use clap::ArgMatches;
 use clap::error::ErrorKind;
-use ilk_plant::Text;
+use ilk_base::Text;
 use std::alloc::{AllocError, Global};
 
 /// What the words of the command line ask for, the program's name first. `None` where `clap`

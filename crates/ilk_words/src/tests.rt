@@ -1,6 +1,6 @@
 //! What no clause says: that the calls succeed where memory is there.
 use crate::{Command, names_of, read_words};
-use ilk_plant::Text;
+use ilk_base::Text;
 use std::alloc::{AllocError, Global};
 use std::test::Fail;
 

@@ -1,4 +1,4 @@
-use Rattle.ilk_plant.specs.State.{HasShape}
+use Rattle.ilk_plant.specs.Shape.{HasShape}
 use Rattle.ilk_motion.proofs.Shape.{after_enter-shape}
 use Rattle.ilk_plant.proofs.Steps.{after_step}
 use Rattle.ilk_motion.proofs.steps.step_enter.Goals as goal

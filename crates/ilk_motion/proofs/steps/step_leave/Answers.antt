@@ -1,4 +1,4 @@
-use Rattle.ilk_plant.specs.State.{HasShape}
+use Rattle.ilk_plant.specs.Shape.{HasShape}
 use Rattle.ilk_motion.proofs.Shape.{after_leave-shape}
 use Rattle.ilk_plant.proofs.Steps.{after_turn}
 use Rattle.ilk_motion.proofs.steps.step_leave.Goals as goal

@@ -1,8 +1,8 @@
 use Rattle.std.proofs.Common.{map}
 use Rattle.std.specs.List.{range_with_len}
 use Rattle.ilk_net_check.specs.Numbers.{joined}
-use Rattle.ilk_net_check.proofs.Tables.{pushed}
 use Rattle.ilk_net_check.proofs.reach.by_way_of.Goals as goal
+use Rattle.ilk_base.proofs.Ranges.{pushed}
 
 pub loop-x-preserved : goal.loop-x-preserved
 loop-x-preserved c =

@@ -1,6 +1,6 @@
 use Rattle.ilk_net_check.specs.Numbers.{joined}
-use Rattle.ilk_net_check.proofs.Tables.{pushed}
 use Rattle.ilk_net_check.proofs.reach.row_by_way_of.Goals as goal
+use Rattle.ilk_base.proofs.Ranges.{pushed}
 
 pub loop-y-preserved : goal.loop-y-preserved
 loop-y-preserved c =

@@ -1,7 +1,7 @@
 use Rattle.std.proofs.Common.{None}
-use Rattle.ilk_plant.proofs.Growth.{grows_if}
 use Rattle.ilk_net_check.specs.Numbers.{breaks}
 use Rattle.ilk_net_check.proofs.rules.push_broken.Goals as goal
+use Rattle.ilk_base.proofs.Ranges.{grows_if}
 
 pub loop-x-preserved : goal.loop-x-preserved
 loop-x-preserved c =

@@ -2,9 +2,9 @@ use Rattle.std.proofs.Common.{◌∙◌, sym, ap, length, arith}
 use Rattle.std.proofs.lemmas.List.{length-append}
 use Rattle.ilk_net_read.specs.Network.{section_of}
 use Rattle.ilk_plant.specs.Limits.{section_has_names}
-use Rattle.ilk_net_read.proofs.Limits.{list_all-more}
 use Rattle.ilk_net_read.proofs.InOrder.{in_order-more}
 use Rattle.ilk_net_read.proofs.network.sections.Goals as goal
+use Rattle.ilk_base.proofs.Tested.{list_all-more}
 
 pub loop-i-preserved : goal.loop-i-preserved
 loop-i-preserved c = record {

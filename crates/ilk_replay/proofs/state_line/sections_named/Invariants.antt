@@ -1,6 +1,6 @@
 use Rattle.std.proofs.Common.{◌≡◌, ◌+◌, [], length}
 use Rattle.std.specs.Option.{option_map_or}
-use Rattle.ilk_replay.specs.Lines.{words_of}
+use Rattle.ilk_lines.specs.Words.{words_of}
 use Rattle.ilk_replay.specs.StateLine.{sections_named}
 use Rattle.ilk_replay.proofs.Bodies.{before}
 use Rattle.ilk_replay.proofs.state_line.sections_named.Given as goal

@@ -1,12 +1,11 @@
-use Rattle.std.proofs.Common.{length, arith, rules}
-use Rattle.ilk_replay.specs.Lines.{lines_of}
+use Rattle.std.proofs.Common.{◌∙◌, ap, rules}
+use Rattle.std.specs.List.{range_with_len}
+use Rattle.ilk_lines.specs.Reading.{numbers_of}
 use Rattle.ilk_replay.specs.StateLine.{lock_told}
-use Rattle.ilk_replay.proofs.Each.{range_more}
+use Rattle.ilk_replay.proofs.Items.{same_items}
 use Rattle.ilk_replay.proofs.state_reading.read_locks.Goals as goal
 
-pub loop-x-preserved : goal.loop-x-preserved
-loop-x-preserved c = record {
-  at = range_more (lock_told c.args.plant.now) _ _ _ c.loop-x.locks c.push.new.self c.loop-x.x (length c.args.plant.now.sections) _ _ (lines_of c.loop-x.lines.rest.now) _ c.in_ok-read_lock.field-0
-      c.loop-x.invariant.at (omega arith) c.in_ok-read_lock.ensures.one c.in_ok-push.ensures.ok c.in_ok-read_lock.ensures.number;
-  after = search rules;
-}
+pub returns-clause-told : goal.returns-clause-told
+returns-clause-told c =
+    same_items (lock_told c.args.plant.now) c.as_slice.result.now (numbers_of c.args.plant.now.sections) _ _ c.read_each.new.lines c.read_each.result (c.as_slice.ensures ∙ c.in_ok-sections.ensures ∙ ap (range_with_len 0) c.sections.ensures)
+    (c.read_each.ensures.told (lock_told c.args.plant.now) (λ x line v e. search rules))

@@ -1,12 +1,11 @@
-use Rattle.std.proofs.Common.{length, arith, rules}
-use Rattle.ilk_replay.specs.Lines.{lines_of}
+use Rattle.std.proofs.Common.{◌∙◌, ap, rules}
+use Rattle.std.specs.List.{range_with_len}
+use Rattle.ilk_lines.specs.Reading.{numbers_of}
 use Rattle.ilk_replay.specs.StateLine.{route_told}
-use Rattle.ilk_replay.proofs.Each.{range_more}
+use Rattle.ilk_replay.proofs.Items.{same_items}
 use Rattle.ilk_replay.proofs.state_reading.read_routes.Goals as goal
 
-pub loop-r-preserved : goal.loop-r-preserved
-loop-r-preserved c = record {
-  at = range_more (route_told c.args.plant.now) _ _ _ c.loop-r.states c.push.new.self c.loop-r.r (length c.args.plant.now.routes) _ _ (lines_of c.loop-r.lines.rest.now) _ c.in_ok-read_route.field-0
-      c.loop-r.invariant.at (omega arith) c.in_ok-read_route.ensures.one c.in_ok-push.ensures.ok c.in_ok-read_route.ensures.number;
-  after = search rules;
-}
+pub returns-clause-told : goal.returns-clause-told
+returns-clause-told c =
+    same_items (route_told c.args.plant.now) c.as_slice.result.now (numbers_of c.args.plant.now.routes) _ _ c.read_each.new.lines c.read_each.result (c.as_slice.ensures ∙ c.in_ok-routes.ensures ∙ ap (range_with_len 0) c.routes.ensures)
+    (c.read_each.ensures.told (route_told c.args.plant.now) (λ x line v e. search rules))

@@ -3,8 +3,8 @@ use Rattle.std.proofs.lemmas.Grind.{common_steps}
 use Rattle.std.proofs.lemmas.List.{drop_all}
 use Rattle.ilk_routes.specs.Lies.{with_commands}
 use Rattle.ilk_routes.proofs.Commands.{with_commands-after, with_commands-none}
-use Rattle.ilk_routes.proofs.Numbered.{drop-next}
 use Rattle.ilk_routes.proofs.changes.command.Goals as goal
+use Rattle.ilk_base.proofs.Lists.{drop-next}
 
 pub loop-listed-preserved : goal.loop-listed-preserved
 loop-listed-preserved c =

@@ -3,8 +3,8 @@ use Rattle.std.proofs.lemmas.Grind.{common_steps}
 use Rattle.std.proofs.lemmas.List.{drop_all}
 use Rattle.ilk_routes.specs.Locks.{with_locks}
 use Rattle.ilk_routes.proofs.Locks.{with_locks-first, with_locks-none}
-use Rattle.ilk_routes.proofs.Numbered.{drop-next}
 use Rattle.ilk_routes.proofs.changes.give_locks.Goals as goal
+use Rattle.ilk_base.proofs.Lists.{drop-next}
 
 pub loop-x-preserved : goal.loop-x-preserved
 loop-x-preserved c =

@@ -1,7 +1,7 @@
 use Rattle.std.proofs.Common.{None, ◌-◌, length, arith}
 use Rattle.std.proofs.lemmas.Grind.{common_steps}
-use Rattle.ilk_routes.proofs.Lasts.{last_or-at}
 use Rattle.ilk_routes.proofs.conditions.last_of.Goals as goal
+use Rattle.ilk_base.proofs.Lists.{last_or-at}
 
 pub returns-clause-last : goal.returns-clause-last
 returns-clause-last c =

@@ -1,4 +1,4 @@
-use Rattle.ilk_plant.specs.State.{HasShape}
+use Rattle.ilk_plant.specs.Shape.{HasShape}
 use Rattle.ilk_plant.proofs.Steps.{after_turn}
 use Rattle.ilk_routes.proofs.Shape.{after_lock-shape}
 use Rattle.ilk_routes.proofs.routes.step_lock.Goals as goal

@@ -1,7 +1,7 @@
 use Rattle.std.proofs.Common.{length}
 use Rattle.ilk_table_check.specs.Columns.{breaks_together, pairs_of}
-use Rattle.ilk_plant.proofs.Growth.{grows_all}
 use Rattle.ilk_table_check.proofs.columns.push_pairs.Goals as goal
+use Rattle.ilk_base.proofs.Ranges.{grows_all}
 
 pub loop-i-preserved : goal.loop-i-preserved
 loop-i-preserved c =

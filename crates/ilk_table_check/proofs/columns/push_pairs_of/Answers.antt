@@ -1,7 +1,7 @@
 use Rattle.std.proofs.Common.{Some}
 use Rattle.ilk_table_check.specs.Columns.{breaks_together}
-use Rattle.ilk_plant.proofs.Growth.{grows_if}
 use Rattle.ilk_table_check.proofs.columns.push_pairs_of.Goals as goal
+use Rattle.ilk_base.proofs.Ranges.{grows_if}
 
 pub loop-j-preserved : goal.loop-j-preserved
 loop-j-preserved c =

@@ -1,7 +1,7 @@
 use Rattle.std.proofs.Common.{None}
 use Rattle.ilk_table_check.specs.Columns.{breaks_alone}
-use Rattle.ilk_plant.proofs.Growth.{grows_if}
 use Rattle.ilk_table_check.proofs.columns.push_places.Goals as goal
+use Rattle.ilk_base.proofs.Ranges.{grows_if}
 
 pub loop-i-preserved : goal.loop-i-preserved
 loop-i-preserved c =

@@ -1,5 +1,5 @@
 use Rattle.std.proofs.Common.{◌≡◌, ◌++◌, drop}
-use Rattle.ilk_plant.specs.TableRules.{none_twice}
+use Rattle.ilk_plant.specs.Once.{none_twice}
 use Rattle.ilk_table_check.proofs.table.none_twice_in_both.Given as goal
 
 abbrev pub invariant-loop-i : goal.invariant-loop-i

@@ -1,7 +1,7 @@
 use Rattle.std.proofs.Common.{None}
 use Rattle.ilk_table_check.specs.Table.{breaks_table}
-use Rattle.ilk_plant.proofs.Growth.{grows_if}
 use Rattle.ilk_table_check.proofs.table.push_routes.Goals as goal
+use Rattle.ilk_base.proofs.Ranges.{grows_if}
 
 pub loop-i-preserved : goal.loop-i-preserved
 loop-i-preserved c =

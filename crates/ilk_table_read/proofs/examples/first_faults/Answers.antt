@@ -2,8 +2,8 @@ use Rattle.std.proofs.Common.{ℕ, refl, codes}
 use Rattle.serde_json.proofs.OnLiterals.{serde_json_on_literals}
 use Rattle.serde_json.specs.Data.{Data, number, unsigned, array, object, no_items, no_members, member}
 use Rattle.ilk_net_read.proofs.Values.{value_of-read, value_of-refused}
-use Rattle.ilk_table_read.proofs.Texts.{ascii}
 use Rattle.ilk_table_read.proofs.examples.first_faults.Goals as goal
+use Rattle.ilk_base.proofs.Ascii.{ascii}
 
 -- a document of this version with no section and no route
 bare : ℕ → Data

@@ -1,16 +1,15 @@
-use Rattle.std.proofs.Common.{◌∙◌, sym, ap, length, arith, [], ◌∷◌}
+use Rattle.std.proofs.Common.{◌∙◌, sym, ap, length, arith}
 use Rattle.std.proofs.lemmas.List.{length-append}
-use Rattle.std.proofs.lemmas.List.Elements.{All-append, All-from_recursion}
 use Rattle.ilk_net_read.proofs.InOrder.{in_order-more}
-use Rattle.ilk_net_read.proofs.Limits.{list_all-more}
-use Rattle.ilk_plant.specs.Limits.{RouteHasLimits, route_has_names}
+use Rattle.ilk_plant.specs.Limits.{route_has_limits, route_has_names}
 use Rattle.ilk_table_read.specs.Table.{route_of}
 use Rattle.ilk_table_read.proofs.table.routes.Goals as goal
+use Rattle.ilk_base.proofs.Tested.{list_all-more}
 
 pub loop-i-preserved : goal.loop-i-preserved
 loop-i-preserved c = record {
   rest = rw c.in_ok-push.ensures.ok (sym (in_order-more route_of c.loop-i.routes c.args.values.now c.loop-i.i c.index-values-i.result c.in_ok-route.route c.loop-i-test.true c.index-values-i.is c.in_ok-route.ensures.exact) ∙ c.loop-i.invariant.rest);
   count = omega (arith, simp length-append at (ap length c.in_ok-push.ensures.ok));
   named = rw c.in_ok-push.ensures.ok (list_all-more route_has_names c.loop-i.routes c.in_ok-route.route c.loop-i.invariant.named c.in_ok-route.ensures.named);
-  limits = rw c.in_ok-push.ensures.ok (All-append RouteHasLimits c.loop-i.routes _ c.loop-i.invariant.limits (All-from_recursion RouteHasLimits (c.in_ok-route.route ∷ []) (c.in_ok-route.ensures.limits, tt)));
+  limits = rw c.in_ok-push.ensures.ok (list_all-more route_has_limits c.loop-i.routes c.in_ok-route.route c.loop-i.invariant.limits c.in_ok-route.ensures.limits);
 }

@@ -1,0 +1,10 @@
+pub mod Truth
+pub mod Options
+pub mod Lists
+pub mod Tested
+pub mod Positions
+pub mod Ranges
+pub mod Fronts
+pub mod Ascii
+pub mod Once
+pub mod Results

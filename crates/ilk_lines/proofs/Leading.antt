@@ -1,0 +1,45 @@
+-- The values of the first lines, as far as each has one.
+use Rattle.std.proofs.Common.{◌≡◌, All, Option, Some, None, List, [], ◌∷◌, ◌++◌, length, drop, map, refl, sym, ap, ◌∙◌, append_assoc, arith, suc, zero}
+use Rattle.std.proofs.lemmas.List.{drop-drop, length_push}
+use Rattle.std.proofs.lemmas.List.Elements.{All-nil, All-cons}
+use Rattle.ilk_lines.specs.Lines.{Bytes}
+use Rattle.ilk_lines.specs.Reading.{leading, onto}
+
+-- a value moves from what is left to what was taken
+pub taken_one : {A : Type 0} (whole taken left rest new : List A) (x : A) → whole ≡ taken ++ left → left ≡ x ∷ rest → new ≡ taken ++ x ∷ [] → whole ≡ new ++ rest
+taken_one whole taken left rest new x e f g = e ∙ ap (λ xs. taken ++ xs) f ∙ sym (append_assoc taken (x ∷ []) rest) ∙ ap (λ xs. xs ++ rest) (sym g)
+
+-- and a line is dropped with it
+pub dropped_one : {A B : Type 0} (lines left rest : List B) (taken new : List A) (x : A) → left ≡ drop (length taken) lines → rest ≡ drop 1 left → new ≡ taken ++ x ∷ [] → rest ≡ drop (length new) lines
+dropped_one lines left rest taken new x e f g = f ∙ ap (drop 1) e ∙ drop-drop 1 (length taken) lines ∙ ap (λ n. drop n lines) (sym (length_push taken x)) ∙ ap (λ xs. drop (length xs) lines) (sym g)
+
+onto_all : {A : Type 0} (value : Bytes → Option A) (P : A → Type 0) (line : Bytes) (o : Option A) → value line ≡ o → (rest : List A) → ((l : Bytes) (v : A) → value l ≡ Some v → P v) → All P rest → All P (onto o rest)
+onto_all value P line None this rest holds later = All-nil P
+onto_all value P line (Some v) this rest holds later = All-cons P v rest (holds line v this) later
+
+-- what holds of each value that a line tells holds of all of these
+pub leading_all : {A : Type 0} (value : Bytes → Option A) (P : A → Type 0) → ((line : Bytes) (v : A) → value line ≡ Some v → P v) → (lines : List Bytes) → All P (leading value lines)
+leading_all value P holds [] = All-nil P
+leading_all value P holds (line ∷ lines) = onto_all value P line (value line) refl (leading value lines) holds (leading_all value P holds lines)
+
+-- where each value's line is the one that is written for it, the lines are those that are written for the values
+pub leading_lines : {A : Type 0} (value : Bytes → Option A) (line_of : A → Bytes) → ((line : Bytes) (v : A) → value line ≡ Some v → line ≡ line_of v) → (lines : List Bytes) → lines ≡ map line_of (leading value lines) ++ drop (length (leading value lines)) lines
+leading_lines value line_of holds [] = refl
+leading_lines {A = A} value line_of holds (line ∷ lines) = by_value (value line) refl (leading_lines value line_of holds lines)
+  where
+    by_value : (o : Option A) → value line ≡ o → lines ≡ map line_of (leading value lines) ++ drop (length (leading value lines)) lines
+        → line ∷ lines ≡ map line_of (onto o (leading value lines)) ++ drop (length (onto o (leading value lines))) (line ∷ lines)
+    by_value None this rest = refl
+    by_value (Some v) this rest = ap (λ l. l ∷ lines) (holds line v this) ∙ ap (λ ls. line_of v ∷ ls) rest
+
+-- the lines that are written for values tell these, up to a line that tells none
+pub leading_back : {A : Type 0} (value : Bytes → Option A) (line_of : A → Bytes) (values : List A) (last : Bytes) (rest : List Bytes) → All (λ v. value (line_of v) ≡ Some v) values → value last ≡ None → leading value (map line_of values ++ last ∷ rest) ≡ values
+leading_back value line_of [] last rest told none = ap (λ o. onto o (leading value rest)) none
+leading_back value line_of (v ∷ values) last rest told none =
+    ap (λ o. onto o (leading value (map line_of values ++ last ∷ rest))) (told zero v (omega arith))
+    ∙ ap (λ vs. v ∷ vs) (leading_back value line_of values last rest (λ k d within. told (suc k) d (omega arith)) none)
+
+-- and what is left after them is left
+pub past_lines : {A : Type 0} (line_of : A → Bytes) (values : List A) (rest : List Bytes) → drop (length values) (map line_of values ++ rest) ≡ rest
+past_lines line_of [] rest = refl
+past_lines line_of (v ∷ values) rest = past_lines line_of values rest

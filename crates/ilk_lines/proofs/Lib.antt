@@ -1,0 +1,11 @@
+pub mod General
+pub mod Cuts
+pub mod Lacking
+pub mod Numbers
+pub mod TextLines
+pub mod LineWords
+pub mod Decimals
+pub mod InOrder
+pub mod Leading
+pub mod EachTold
+pub mod ByLine

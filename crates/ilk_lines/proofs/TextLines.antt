@@ -1,0 +1,38 @@
+-- A text is its lines, and lines that are written are read again.
+use Rattle.std.proofs.Common.{◌≡◌, Bool, true, false, ◌==◌, All, List, [], ◌∷◌, ◌++◌, cond, refl, sym, ap, ◌∙◌, arith, append_assoc, append-nil, suc, zero}
+use Rattle.std.specs.List.{onto_first}
+use Rattle.std.proofs.lemmas.Bool.Decides.{Decides-eqb}
+use Rattle.ilk_lines.specs.Lines.{Bytes, after_lines, last_part, lines_of, parts_at, parts_but_last}
+use Rattle.ilk_lines.specs.Written.{Lacks, text_of}
+use Rattle.ilk_lines.proofs.Cuts.{lines_cut, parts_follow}
+use Rattle.ilk_lines.proofs.Lacking.{part_alone, part_first}
+
+-- lines that lack line feeds are the lines of their text, with what stands after them
+pub lines_then : (ls : List Bytes) (after : Bytes) → All (Lacks 10) ls → Lacks 10 after → (lines_of (text_of ls ++ after) ≡ ls) × (after_lines (text_of ls ++ after) ≡ after)
+lines_then [] after plain rest = (ap parts_but_last (part_alone 10 after rest), ap last_part (part_alone 10 after rest))
+lines_then (line ∷ ls) after plain lacks =
+    let rest : Bytes = text_of ls ++ after in
+    let tail = lines_then ls after (λ k d within. plain (suc k) d (omega arith)) lacks in
+    let text : text_of (line ∷ ls) ++ after ≡ line ++ 10 ∷ rest = append_assoc (line ++ 10 ∷ []) (text_of ls) after ∙ append_assoc line (10 ∷ []) rest in
+    let cut = lines_cut (line ++ 10 ∷ rest) line rest (part_first 10 line rest (plain zero [] (omega arith))) in
+    (ap lines_of text ∙ cut.0 ∙ ap (λ more. line ∷ more) tail.0, ap after_lines text ∙ cut.1 ∙ tail.1)
+
+-- lines that lack line feeds are the lines of their text
+pub lines_back : (ls : List Bytes) → All (Lacks 10) ls → (lines_of (text_of ls) ≡ ls) × (after_lines (text_of ls) ≡ [])
+lines_back ls plain =
+    let whole : text_of ls ++ [] ≡ text_of ls = append-nil (text_of ls) in
+    let back = lines_then ls [] plain refl in
+    (ap lines_of (sym whole) ∙ back.0, ap after_lines (sym whole) ∙ back.1)
+
+-- a text is its lines, each with its line feed, and what stands after them
+pub text-lines : (text : Bytes) → text ≡ text_of (lines_of text) ++ after_lines text
+text-lines [] = refl
+text-lines (x ∷ text) = join (x == 10) refl (parts_follow 10 text) (text-lines text)
+  where
+    whole : List Bytes → Bytes
+    whole parts = text_of (parts_but_last parts) ++ last_part parts
+
+    join : (b : Bool) → (x == 10) ≡ b → ((part : Bytes) × (parts : List Bytes) × (parts_at 10 text ≡ part ∷ parts)) → text ≡ whole (parts_at 10 text) → x ∷ text ≡ whole (cond b ([] ∷ parts_at 10 text) (onto_first x (parts_at 10 text)))
+    join true same (part, parts, follows) rest = ap (λ y. y ∷ text) ((Decides-eqb x 10).0 same) ∙ ap (λ ys. 10 ∷ ys) (rest ∙ ap whole follows) ∙ sym (ap (λ ps. whole ([] ∷ ps)) follows)
+    join false differs (part, [], follows) rest = ap (λ ys. x ∷ ys) (rest ∙ ap whole follows) ∙ sym (ap (λ ps. whole (onto_first x ps)) follows)
+    join false differs (part, next ∷ parts, follows) rest = ap (λ ys. x ∷ ys) (rest ∙ ap whole follows) ∙ sym (ap (λ ps. whole (onto_first x ps)) follows)

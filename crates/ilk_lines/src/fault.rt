@@ -1,0 +1,25 @@
+ghost use Rattle.std.specs.Prelude.{◌≡◌};
+ghost use Rattle.ilk_lines.specs.declared.fault.LineFault.TheVariants.{OutOfMemory};
+
+use std::alloc::AllocError;
+use thiserror::Error;
+
+/// Why lines weren't read.
+#[derive(Clone, Copy, PartialEq, Eq, Debug, Error)]
+pub enum LineFault {
+    /// The line with this number, from 1, is bad: it isn't one that may stand there, or it is
+    /// missing, or no line feed ends it.
+    #[error("line {0} is bad")]
+    BadLine(u64),
+    /// There was no memory for what the lines tell.
+    #[error("out of memory")]
+    OutOfMemory,
+}
+
+impl From<AllocError> for LineFault {
+    ghost from_gives = { λ _ fault. fault ≡ OutOfMemory };
+
+    fn from(_error: AllocError) -> LineFault {
+        LineFault::OutOfMemory
+    }
+}

@@ -1,0 +1,37 @@
+ghost use Rattle.std.specs.Prelude.{◌≡◌, ◌<◌, ◌==◌, ◌+◌, [], ◌∷◌, length, IfSome, position};
+ghost use Rattle.std.specs.Option.{option_map_or};
+ghost use Rattle.ilk_lines.specs.Lines.{after_lines, lines_of, parts_at};
+
+/// The place of the first byte `at`.
+pub(crate) fn place_of(text: &[u8], at: u8) -> Option<usize>
+    ensures { result ≡ position (λ b. b == at) text.now }
+{
+    text.iter().position(|b| *b == at)
+}
+
+/// What stands before the first byte `at`, and what stands after it, if there is one.
+pub(crate) fn cut(text: &[u8], at: u8) -> (&[u8], Option<&[u8]>)
+    ensures parts { parts_at at text.now
+        ≡ result.0.now ∷ option_map_or (λ rest. parts_at at rest.now) result.1 [] }
+    ensures shorter { IfSome result.1 (λ rest. length rest.now < length text.now) }
+{
+    match place_of(text, at) {
+        Some(i) => (&text[..i], Some(&text[i + 1..])),
+        None => (text, None),
+    }
+}
+
+#[tactic(auto, using(crate::proofs::Cuts::lines_cut, crate::proofs::Cuts::lines_none))]
+/// The first line of a text, and what stands after it. None where no line feed ends a line.
+pub(crate) fn first_line(text: &[u8]) -> Option<(&[u8], &[u8])>
+    ensures lines { lines_of text.now
+        ≡ option_map_or (λ cut. cut.0.now ∷ lines_of cut.1.now) result [] }
+    ensures after { IfSome result (λ cut. after_lines text.now ≡ after_lines cut.1.now) }
+    ensures shorter { IfSome result (λ cut. length cut.1.now < length text.now) }
+{
+    let (line, rest) = cut(text, b'\n');
+    match rest {
+        Some(rest) => Some((line, rest)),
+        None => None,
+    }
+}

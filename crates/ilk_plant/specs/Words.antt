@@ -1,0 +1,65 @@
+-- The words by which texts name directions, positions, lies, aspects, locks and modes: one table each, by which
+-- they are written and read.
+use Rattle.std.specs.Prelude.{Option, [], ◌∷◌, codes}
+use Rattle.ilk_base.specs.Words.{value_of_word}
+use Rattle.ilk_plant.specs.Name.{Name}
+use Rattle.ilk_plant.specs.declared.network.Dir.{Dir}
+use Rattle.ilk_plant.specs.declared.network.Dir.TheVariants.{Up, Down}
+use Rattle.ilk_plant.specs.declared.network.Position.{Position}
+use Rattle.ilk_plant.specs.declared.network.Position.TheVariants.{Plus, Minus}
+use Rattle.ilk_plant.specs.declared.state.Aspect.{Aspect}
+use Rattle.ilk_plant.specs.declared.state.Aspect.TheVariants.{Open, Closed}
+use Rattle.ilk_plant.specs.declared.state.Hold.{Hold}
+use Rattle.ilk_plant.specs.declared.state.Hold.TheVariants.{Free as FreeLock, Locked as LockedLock, Used}
+use Rattle.ilk_plant.specs.declared.state.Lie.{Lie}
+use Rattle.ilk_plant.specs.declared.state.Lie.TheVariants.{Plus as LiesPlus, Minus as LiesMinus, Moving}
+use Rattle.ilk_plant.specs.declared.state.Mode.{Mode}
+use Rattle.ilk_plant.specs.declared.state.Mode.TheVariants.{Free, Marked, Allocating, Locked, Occupied}
+
+abbrev pub direction_word : Dir → Name
+direction_word Up = codes "up"
+direction_word Down = codes "down"
+
+abbrev pub position_word : Position → Name
+position_word Plus = codes "plus"
+position_word Minus = codes "minus"
+
+abbrev pub lie_word : Lie → Name
+lie_word LiesPlus = codes "plus"
+lie_word LiesMinus = codes "minus"
+lie_word Moving = codes "moving"
+
+abbrev pub aspect_word : Aspect → Name
+aspect_word Open = codes "open"
+aspect_word Closed = codes "closed"
+
+abbrev pub hold_word : Hold → Name
+hold_word FreeLock = codes "free"
+hold_word LockedLock = codes "locked"
+hold_word Used = codes "used"
+
+abbrev pub mode_word : Mode → Name
+mode_word Free = codes "free"
+mode_word Marked = codes "marked"
+mode_word Allocating = codes "allocating"
+mode_word Locked = codes "locked"
+mode_word Occupied = codes "occupied"
+
+-- the value that has a word; none where no value has it
+abbrev pub direction_of_word : Name → Option Dir
+direction_of_word = value_of_word direction_word (Up ∷ Down ∷ [])
+
+abbrev pub position_of_word : Name → Option Position
+position_of_word = value_of_word position_word (Plus ∷ Minus ∷ [])
+
+abbrev pub lie_of_word : Name → Option Lie
+lie_of_word = value_of_word lie_word (LiesPlus ∷ LiesMinus ∷ Moving ∷ [])
+
+abbrev pub aspect_of_word : Name → Option Aspect
+aspect_of_word = value_of_word aspect_word (Open ∷ Closed ∷ [])
+
+abbrev pub hold_of_word : Name → Option Hold
+hold_of_word = value_of_word hold_word (FreeLock ∷ LockedLock ∷ Used ∷ [])
+
+abbrev pub mode_of_word : Name → Option Mode
+mode_of_word = value_of_word mode_word (Free ∷ Marked ∷ Allocating ∷ Locked ∷ Occupied ∷ [])

@@ -1,0 +1,154 @@
+//! The words by which texts name directions, positions, lies, aspects, locks and modes. Each type
+//! has one table, `word`; `of_word` reads by it.
+
+ghost use Rattle.std.specs.Prelude.{◌≡◌};
+ghost use Rattle.ilk_plant.specs.Words as words;
+
+use crate::{Aspect, Dir, Hold, Lie, Mode, Position};
+use ilk_base::{Worded, value_of_word};
+
+impl Worded for Dir {
+    ghost use Rattle.ilk_plant.specs.Words.{direction_word};
+
+    ghost word_of = { direction_word };
+
+    fn word(self) -> &'static str {
+        match self {
+            Dir::Up => "up",
+            Dir::Down => "down",
+        }
+    }
+}
+
+impl Dir {
+    /// The direction that has this word. None where it is the word of none.
+    pub fn of_word(word: &[u8]) -> Option<Dir>
+        ensures { result ≡ words.direction_of_word word.now }
+    {
+        value_of_word(&[Dir::Up, Dir::Down], word)
+    }
+}
+
+impl Worded for Position {
+    ghost use Rattle.ilk_plant.specs.Words.{position_word};
+
+    ghost word_of = { position_word };
+
+    fn word(self) -> &'static str {
+        match self {
+            Position::Plus => "plus",
+            Position::Minus => "minus",
+        }
+    }
+}
+
+impl Position {
+    /// The position that has this word. None where it is the word of none.
+    pub fn of_word(word: &[u8]) -> Option<Position>
+        ensures { result ≡ words.position_of_word word.now }
+    {
+        value_of_word(&[Position::Plus, Position::Minus], word)
+    }
+}
+
+impl Worded for Lie {
+    ghost use Rattle.ilk_plant.specs.Words.{lie_word};
+
+    ghost word_of = { lie_word };
+
+    fn word(self) -> &'static str {
+        match self {
+            Lie::Plus => "plus",
+            Lie::Minus => "minus",
+            Lie::Moving => "moving",
+        }
+    }
+}
+
+impl Lie {
+    /// The lie of a point that has this word. None where it is the word of none.
+    pub fn of_word(word: &[u8]) -> Option<Lie>
+        ensures { result ≡ words.lie_of_word word.now }
+    {
+        value_of_word(&[Lie::Plus, Lie::Minus, Lie::Moving], word)
+    }
+}
+
+impl Worded for Aspect {
+    ghost use Rattle.ilk_plant.specs.Words.{aspect_word};
+
+    ghost word_of = { aspect_word };
+
+    fn word(self) -> &'static str {
+        match self {
+            Aspect::Open => "open",
+            Aspect::Closed => "closed",
+        }
+    }
+}
+
+impl Aspect {
+    /// The aspect that has this word. None where it is the word of none.
+    pub fn of_word(word: &[u8]) -> Option<Aspect>
+        ensures { result ≡ words.aspect_of_word word.now }
+    {
+        value_of_word(&[Aspect::Open, Aspect::Closed], word)
+    }
+}
+
+impl Worded for Hold {
+    ghost use Rattle.ilk_plant.specs.Words.{hold_word};
+
+    ghost word_of = { hold_word };
+
+    fn word(self) -> &'static str {
+        match self {
+            Hold::Free => "free",
+            Hold::Locked => "locked",
+            Hold::Used => "used",
+        }
+    }
+}
+
+impl Hold {
+    /// The lock that has this word. None where it is the word of none.
+    pub fn of_word(word: &[u8]) -> Option<Hold>
+        ensures { result ≡ words.hold_of_word word.now }
+    {
+        value_of_word(&[Hold::Free, Hold::Locked, Hold::Used], word)
+    }
+}
+
+impl Worded for Mode {
+    ghost use Rattle.ilk_plant.specs.Words.{mode_word};
+
+    ghost word_of = { mode_word };
+
+    fn word(self) -> &'static str {
+        match self {
+            Mode::Free => "free",
+            Mode::Marked => "marked",
+            Mode::Allocating => "allocating",
+            Mode::Locked => "locked",
+            Mode::Occupied => "occupied",
+        }
+    }
+}
+
+impl Mode {
+    /// The mode that has this word. None where it is the word of none.
+    pub fn of_word(word: &[u8]) -> Option<Mode>
+        ensures { result ≡ words.mode_of_word word.now }
+    {
+        value_of_word(
+            &[
+                Mode::Free,
+                Mode::Marked,
+                Mode::Allocating,
+                Mode::Locked,
+                Mode::Occupied,
+            ],
+            word,
+        )
+    }
+}
