@@ -1,0 +1,296 @@
+use Rattle.std.proofs.Common.{◌≡◌, ◌≢◌, ℕ, ◌+◌, ◌<◌, ◌≤◌, ◌⊎◌, inl, inr, true, false, eqb, List, [], ◌∷◌, ◌++◌, length, get_or, set, drop, refl, sym, ◌∙◌, subst, arith, length-append}
+use Rattle.std.proofs.lemmas.List.{get_or-set_same, get_or-set_other, get_or_append_left, get_or-append-add, drop-append-le, take-append-le}
+use Rattle.std.proofs.Math.Seq.{drop-append-add}
+use Rattle.std.proofs.Math.ListN.{length-set}
+use Rattle.std.proofs.lemmas.Bool.Decides.{nat_tests, eqb_tells}
+use Rattle.std.proofs.lemmas.Grind.{common_steps}
+use Rattle.ilk_arena.specs.Words.{slot, next, Path, Each, Stands, Watches, left, right, Distinct, Chains, Headers, upd}
+use Rattle.ilk_arena.specs.Linked.{places_at, chain_at, Linked}
+use Rattle.ilk_arena.proofs.Paths.{frame}
+use Rattle.ilk_arena.proofs.HeaderWrites.{slot-in}
+use Rattle.ilk_arena.proofs.ChainMoves.{each-map, by-pick}
+use Rattle.ilk_arena.proofs.LinkedChains.{headers-of, chain_at-is, same-chains}
+
+slot-append : (ws xs : List ℕ) (l c : ℕ) → c + 7 ≤ length ws → slot (ws ++ xs) l c ≡ slot ws l c
+unfolding slot
+slot-append ws xs l c h = (let e = get_or_append_left ws xs 0 (c + 1) (omega arith) in rw e refl)
+
+next-append : (ws xs : List ℕ) (l c : ℕ) → c + 7 ≤ length ws → next (ws ++ xs) l c ≡ next ws l c
+next-append ws xs l c h =
+    let e = slot-append ws xs l c h in
+    let f = get_or_append_left ws xs 0 (slot ws l c) (grind (arith, slot-in ws l c)) in
+    rw e f
+
+watch-append : (ws xs : List ℕ) (c l : ℕ) → c + 7 ≤ length ws → Watches ws c l → Watches (ws ++ xs) c l
+watch-append ws xs c l h (left p) = left (get_or_append_left ws xs 0 (c + 1) (omega arith) ∙ p)
+watch-append ws xs c l h (right p) = right (get_or_append_left ws xs 0 (c + 3) (omega arith) ∙ p)
+
+watch-shrink : (ws xs : List ℕ) (c l : ℕ) → c + 7 ≤ length ws → Watches (ws ++ xs) c l → Watches ws c l
+watch-shrink ws xs c l h (left p) = left (sym (get_or_append_left ws xs 0 (c + 1) (omega arith)) ∙ p)
+watch-shrink ws xs c l h (right p) = right (sym (get_or_append_left ws xs 0 (c + 3) (omega arith)) ∙ p)
+
+-- a longer block and more clauses leave the chains
+pub grown : (ws xs hs : List ℕ) (R S : ℕ → Type 0) (cs : ℕ → List ℕ) → Headers ws R → ((c : ℕ) → R c → S c) → Chains ws hs R cs → Chains (ws ++ xs) hs S cs
+grown ws xs hs R S cs hd f k = record {
+  path = λ l h. frame ws (ws ++ xs) l (get_or hs l 0) (cs l) (each-map (λ c. R c × Watches ws c l) (λ c. next (ws ++ xs) l c ≡ next ws l c) (cs l) (λ c r. next-append ws xs l c (hd.room c r.0).1) (k.held l h)) (k.path l h);
+  held = λ l h. each-map (λ c. R c × Watches ws c l) (λ c. S c × Watches (ws ++ xs) c l) (cs l) (λ c r. (f c r.0, watch-append ws xs c l (hd.room c r.0).1 r.1)) (k.held l h);
+  once = k.once;
+}
+
+-- c, whose link leads to the old head, becomes the head
+pub push-head : (ws hs : List ℕ) (R : ℕ → Type 0) (cs : ℕ → List ℕ) (t c : ℕ) → t < length hs → R c → 0 < c → Watches ws c t → next ws t c ≡ get_or hs t 0 → Each (λ d. d ≢ c) (cs t) → Chains ws hs R cs → Chains ws (set hs t c) R (upd cs t (c ∷ cs t))
+push-head ws hs R cs t c h rc pos w e gone k =
+    let n : length (set hs t c) ≡ length hs = simp length-set in
+    let at : get_or (set hs t c) t 0 ≡ c = get_or-set_same hs t c 0 h in
+    let P : ℕ → Type 0 = λ j. Path ws t j (cs t) in
+    record {
+      path = λ l i. by-pick cs t (c ∷ cs t) (length hs) (λ l ys. Path ws l (get_or (set hs t c) l 0) ys) (at, pos, subst P (sym e) (k.path t h)) (λ l m j. rw (get_or-set_other hs t l c 0 m) (k.path l j)) l (omega (arith, n));
+      held = λ l i. by-pick cs t (c ∷ cs t) (length hs) (λ l ys. Each (λ d. R d × Watches ws d l) ys) ((rc, w), k.held t h) (λ l m j. k.held l j) l (omega (arith, n));
+      once = λ l i. by-pick cs t (c ∷ cs t) (length hs) (λ l ys. Distinct ys) (gone, k.once t h) (λ l m j. k.once l j) l (omega (arith, n));
+    }
+
+pub stands-push : (refs : List ℕ) (c d : ℕ) → Stands (refs ++ (c ∷ [])) d → Stands refs d ⊎ (c ≡ d)
+stands-push [] c d s = elim s [ inl e ↦ inr e | inr r ↦ absurd r ]
+stands-push (x ∷ xs) c d s = elim s [ inl e ↦ inl (inl e) | inr r ↦ elim (stands-push xs c d r) [ inl q ↦ inl (inr q) | inr q ↦ inr q ] ]
+
+pub stands-more : (refs : List ℕ) (c d : ℕ) → Stands refs d → Stands (refs ++ (c ∷ [])) d
+stands-more [] c d s = absurd s
+stands-more (x ∷ xs) c d s = elim s [ inl e ↦ inl e | inr r ↦ inr (stands-more xs c d r) ]
+
+pub stands-last : (refs : List ℕ) (c : ℕ) → Stands (refs ++ (c ∷ [])) c
+stands-last [] c = inl refl
+stands-last (x ∷ xs) c = inr (stands-last xs c)
+
+-- the words of a clause: its header, and the places of its literals
+abbrev pub block : ℕ → ℕ → ℕ → ℕ → ℕ → ℕ → List ℕ → List ℕ
+block n a x b y k ps = n ∷ (a ∷ (x ∷ (b ∷ (y ∷ (k ∷ (0 ∷ ps))))))
+
+pub places-append : (ws xs : List ℕ) (c : ℕ) → c + 7 + get_or ws c 0 ≤ length ws → places_at (ws ++ xs) c ≡ places_at ws c
+unfolding places_at
+places-append ws xs c h =
+    let e = get_or_append_left ws xs 0 c (omega arith) in
+    let d = drop-append-le (c + 7) ws xs (omega arith) in
+    let q : get_or ws c 0 ≤ length (drop (c + 7) ws) = grind (arith, common_steps) in
+    rw (e, d) (take-append-le (get_or ws c 0) (drop (c + 7) ws) xs q)
+
+pub places-new : (ws ps : List ℕ) (a x b y k : ℕ) → places_at (ws ++ block (length ps) a x b y k ps) (length ws) ≡ ps
+unfolding places_at
+places-new ws ps a x b y k =
+    let n = length ws in
+    let blk = block (length ps) a x b y k ps in
+    let z : n + 0 ≡ n = omega arith in
+    let e : get_or (ws ++ blk) n 0 ≡ length ps = (let P : ℕ → Type 0 = λ j. get_or (ws ++ blk) j 0 ≡ length ps in subst P z (get_or-append-add ws blk 0 0)) in
+    rw (e, drop-append-add ws blk 7) (grind (arith, common_steps))
+
+stands-one : (cs : ℕ → List ℕ) (t c d l : ℕ) → Stands (cs l) d ⊎ ((c ≡ d) × (l ≡ t)) → Stands (upd cs t (c ∷ cs t) l) d
+stands-one cs t c d l s =
+    elim (eqb_tells l t) [
+      | inl e ↦ rw e.0 (elim s [ inl q ↦ inr (let P : ℕ → Type 0 = λ j. Stands (cs j) d in subst P e.1 q) | inr q ↦ inl q.0 ])
+      | inr e ↦ rw e.0 (elim s [ inl q ↦ q | inr q ↦ absurd (e.1 q.1) ])
+    ]
+
+which : (us : List ℕ) (c a b l : ℕ) → get_or us (c + 1) 0 ≡ a → get_or us (c + 3) 0 ≡ b → Watches us c l → (l ≡ a) ⊎ (l ≡ b)
+which us c a b l p q (left e) = inl (sym e ∙ p)
+which us c a b l p q (right e) = inr (sym e ∙ q)
+
+-- the words with one more clause at their end
+pub record Appended (ws hs refs ps : List ℕ) (a x b y k : ℕ) : Type 0 where
+  pub size : length (ws ++ block (length ps) a x b y k ps) ≡ length ws + 7 + length ps
+  pub new_len : get_or (ws ++ block (length ps) a x b y k ps) (length ws) 0 ≡ length ps
+  pub new_left : get_or (ws ++ block (length ps) a x b y k ps) (length ws + 1) 0 ≡ a
+  pub new_left_link : get_or (ws ++ block (length ps) a x b y k ps) (length ws + 2) 0 ≡ x
+  pub new_right : get_or (ws ++ block (length ps) a x b y k ps) (length ws + 3) 0 ≡ b
+  pub new_right_link : get_or (ws ++ block (length ps) a x b y k ps) (length ws + 4) 0 ≡ y
+  pub new_number : get_or (ws ++ block (length ps) a x b y k ps) (length ws + 5) 0 ≡ k
+  pub new_cursor : get_or (ws ++ block (length ps) a x b y k ps) (length ws + 6) 0 ≡ 0
+  pub old : (d : ℕ) → Stands refs d → d < length ws
+  pub kept : (d i : ℕ) → Stands refs d → i < 7 → get_or (ws ++ block (length ps) a x b y k ps) (d + i) 0 ≡ get_or ws (d + i) 0
+  pub kept_len : (d : ℕ) → Stands refs d → get_or (ws ++ block (length ps) a x b y k ps) d 0 ≡ get_or ws d 0
+  pub kept_places : (d : ℕ) → Stands refs d → places_at (ws ++ block (length ps) a x b y k ps) d ≡ places_at ws d
+  pub headers : Headers (ws ++ block (length ps) a x b y k ps) (Stands (refs ++ (length ws ∷ [])))
+  pub chains : Chains (ws ++ block (length ps) a x b y k ps) hs (Stands (refs ++ (length ws ∷ []))) (chain_at ws hs)
+  pub absent : (l : ℕ) → l < length hs → Each (λ d. d ≢ length ws) (chain_at ws hs l)
+
+pub appended : (ws hs refs ps : List ℕ) (a x b y k : ℕ) → Linked ws hs refs → Appended ws hs refs ps a x b y k
+appended ws hs refs ps a x b y k li =
+    let c = length ws in
+    let blk = block (length ps) a x b y k ps in
+    let us = ws ++ blk in
+    let all = refs ++ (c ∷ []) in
+    let size : length us ≡ c + 7 + length ps = length-append ws blk ∙ omega arith in
+    let z : c + 0 ≡ c = omega arith in
+    let hd = headers-of ws hs refs li in
+    let old : (d : ℕ) → Stands refs d → d < c = λ d s. omega (arith, hd.room d s) in
+    let hd2 : Headers us (Stands all) = record {
+      room = λ d s. elim (stands-push refs c d s) [
+        | inl q ↦ (li.positive d q, omega (arith, size, li.whole d q))
+        | inr q ↦ (omega (arith, q, li.started), omega (arith, size, q))
+      ];
+      apart = λ d e s t n. elim (stands-push refs c d s) [
+        | inl q ↦ elim (stands-push refs c e t) [
+          | inl r ↦ hd.apart d e q r n
+          | inr r ↦ inl (omega (arith, r, li.whole d q))
+        ]
+        | inr q ↦ elim (stands-push refs c e t) [
+          | inl r ↦ inr (omega (arith, q, li.whole e r))
+          | inr r ↦ absurd (n (sym q ∙ r))
+        ]
+      ];
+    } in
+    record {
+      size = size;
+      new_len = (let P : ℕ → Type 0 = λ j. get_or us j 0 ≡ length ps in subst P z (get_or-append-add ws blk 0 0));
+      new_left = get_or-append-add ws blk 1 0;
+      new_left_link = get_or-append-add ws blk 2 0;
+      new_right = get_or-append-add ws blk 3 0;
+      new_right_link = get_or-append-add ws blk 4 0;
+      new_number = get_or-append-add ws blk 5 0;
+      new_cursor = get_or-append-add ws blk 6 0;
+      old = old;
+      kept = λ d i s h. get_or_append_left ws blk 0 (d + i) (omega (arith, li.whole d s));
+      kept_len = λ d s. get_or_append_left ws blk 0 d (old d s);
+      kept_places = λ d s. places-append ws blk d (li.whole d s);
+      headers = hd2;
+      chains = grown ws blk hs (Stands refs) (Stands all) (chain_at ws hs) hd (λ d s. stands-more refs c d s) li.chains;
+      absent = λ l h. each-map (λ d. Stands refs d × Watches ws d l) (λ d. d ≢ c) (chain_at ws hs l) (λ d r e. omega (arith, e, old d r.0)) (li.chains.held l h);
+    }
+
+-- what the new clause and the new chains must meet
+pub record Joins (ws hs refs ps ks : List ℕ) (a x b y k : ℕ) (cs : ℕ → List ℕ) : Type 0 where
+  pub heads : length ks ≡ length hs
+  pub chains : Chains (ws ++ block (length ps) a x b y k ps) ks (Stands (refs ++ (length ws ∷ []))) cs
+  pub differ : a ≢ b
+  pub least : (p : ℕ) → Stands ps p → 2 ≤ p
+  pub small : (p : ℕ) → Stands ps p → p < length hs
+  pub own : 2 ≤ length ps → Stands ps a × Stands ps b
+  pub none : length ps < 2 → (a < 2) × (b < 2)
+  pub empty : (l : ℕ) → l < 2 → cs l ≡ []
+  pub kept : (l d : ℕ) → Stands (chain_at ws hs l) d → Stands (cs l) d
+  pub joined : (l : ℕ) → 2 ≤ l → (l ≡ a) ⊎ (l ≡ b) → Stands (cs l) (length ws)
+
+pub linked-push : (ws hs refs ps ks : List ℕ) (a x b y k : ℕ) (cs : ℕ → List ℕ) → Linked ws hs refs → Joins ws hs refs ps ks a x b y k cs → Linked (ws ++ block (length ps) a x b y k ps) ks (refs ++ (length ws ∷ [])) × ((l : ℕ) → l < length hs → chain_at (ws ++ block (length ps) a x b y k ps) ks l ≡ cs l)
+linked-push ws hs refs ps ks a x b y k cs li j =
+    let c = length ws in
+    let us = ws ++ block (length ps) a x b y k ps in
+    let all = refs ++ (c ∷ []) in
+    let ap = appended ws hs refs ps a x b y k li in
+    let hd = headers-of ws hs refs li in
+    let nk = j.heads in
+    let fam : (l : ℕ) → l < length hs → chain_at us ks l ≡ cs l = λ l h. chain_at-is us ks (Stands all) cs ap.headers j.chains l (omega (arith, nk)) in
+    let W : ℕ → Type 0 = λ d. Stands (places_at us d) (get_or us (d + 1) 0) × Stands (places_at us d) (get_or us (d + 3) 0) in
+    let places : places_at us c ≡ ps = places-new ws ps a x b y k in
+    let owns : (d : ℕ) → Stands all d → 2 ≤ get_or us d 0 → W d = λ d s h. elim (stands-push refs c d s) [
+      | inl q ↦ (let lg : 2 ≤ get_or ws d 0 = omega (arith, ap.kept_len d q, h) in
+          rw (ap.kept_places d q, ap.kept d 1 q (omega arith), ap.kept d 3 q (omega arith)) (li.left_own d q lg, li.right_own d q lg))
+      | inr q ↦ (let L : ℕ → Type 0 = λ i. 2 ≤ get_or us i 0 in
+          let lg : 2 ≤ length ps = omega (arith, subst L (sym q) h, ap.new_len) in
+          subst W q (rw (places, ap.new_left, ap.new_right) (j.own lg)))
+    ] in
+    let N : ℕ → Type 0 = λ d. (get_or us (d + 1) 0 < 2) × (get_or us (d + 3) 0 < 2) in
+    let nones : (d : ℕ) → Stands all d → get_or us d 0 < 2 → N d = λ d s h. elim (stands-push refs c d s) [
+      | inl q ↦ (let sh : get_or ws d 0 < 2 = omega (arith, ap.kept_len d q, h) in
+          rw (ap.kept d 1 q (omega arith), ap.kept d 3 q (omega arith)) (li.left_none d q sh, li.right_none d q sh))
+      | inr q ↦ (let L : ℕ → Type 0 = λ i. get_or us i 0 < 2 in
+          let sh : length ps < 2 = omega (arith, subst L (sym q) h, ap.new_len) in
+          subst N q (rw (ap.new_left, ap.new_right) (j.none sh)))
+    ] in (
+      record {
+        started = omega (arith, ap.size, li.started);
+        wide = omega (arith, nk, li.wide);
+        positive = λ d s. (ap.headers.room d s).0;
+        whole = λ d s. elim (stands-push refs c d s) [
+          | inl q ↦ omega (arith, ap.kept_len d q, ap.size, li.whole d q)
+          | inr q ↦ (let P : ℕ → Type 0 = λ i. i + 7 + get_or us i 0 ≤ length us in subst P q (omega (arith, ap.size, ap.new_len)))
+        ];
+        clear = λ d e s t h. elim (stands-push refs c d s) [
+          | inl q ↦ elim (stands-push refs c e t) [
+            | inl r ↦ omega (arith, ap.kept_len d q, li.clear d e q r h)
+            | inr r ↦ omega (arith, ap.kept_len d q, r, li.whole d q)
+          ]
+          | inr q ↦ elim (stands-push refs c e t) [ inl r ↦ absurd (omega (arith, q, ap.old e r)) | inr r ↦ absurd (omega (arith, q, r)) ]
+        ];
+        differ = λ d s. elim (stands-push refs c d s) [
+          | inl q ↦ (let e = ap.kept d 1 q (omega arith) in let f = ap.kept d 3 q (omega arith) in λ g. li.differ d q (sym e ∙ g ∙ f))
+          | inr q ↦ (let P : ℕ → Type 0 = λ i. get_or us (i + 1) 0 ≢ get_or us (i + 3) 0 in subst P q (λ g. j.differ (sym ap.new_left ∙ g ∙ ap.new_right)))
+        ];
+        least = λ d p s h. elim (stands-push refs c d s) [
+          | inl q ↦ (let P : List ℕ → Type 0 = λ ys. Stands ys p in li.least d p q (subst P (ap.kept_places d q) h))
+          | inr q ↦ (let P : List ℕ → Type 0 = λ ys. Stands ys p in let Q : ℕ → Type 0 = λ i. Stands (places_at us i) p in j.least p (subst P places (subst Q (sym q) h)))
+        ];
+        small = λ d p s h. elim (stands-push refs c d s) [
+          | inl q ↦ (let P : List ℕ → Type 0 = λ ys. Stands ys p in omega (arith, nk, li.small d p q (subst P (ap.kept_places d q) h)))
+          | inr q ↦ (let P : List ℕ → Type 0 = λ ys. Stands ys p in let Q : ℕ → Type 0 = λ i. Stands (places_at us i) p in omega (arith, nk, j.small p (subst P places (subst Q (sym q) h))))
+        ];
+        left_own = λ d s h. (owns d s h).0;
+        right_own = λ d s h. (owns d s h).1;
+        left_none = λ d s h. (nones d s h).0;
+        right_none = λ d s h. (nones d s h).1;
+        chains = same-chains us ks (Stands all) cs (chain_at us ks) (λ l h. fam l (omega (arith, nk))) j.chains;
+        empty = λ l h. fam l (omega (arith, li.wide)) ∙ j.empty l h;
+        standing = λ d l s l2 h w. (let hl : l < length hs = omega (arith, nk) in
+            let P : List ℕ → Type 0 = λ ys. Stands ys d in
+            subst P (sym (fam l hl)) (elim (stands-push refs c d s) [
+              | inl q ↦ j.kept l d (li.standing d l q l2 hl (watch-shrink ws (block (length ps) a x b y k ps) d l (hd.room d q).1 w))
+              | inr q ↦ (let W : ℕ → Type 0 = λ i. Watches us i l in
+                  let S : ℕ → Type 0 = λ i. Stands (cs l) i in
+                  subst S q (j.joined l l2 (which us c a b l ap.new_left ap.new_right (subst W (sym q) w))))
+            ]));
+      },
+      fam,
+    )
+
+-- a clause of two or more literals, which watches a and b
+pub added-long : (ws hs refs ps : List ℕ) (a b k : ℕ) → Linked ws hs refs → a ≢ b → 2 ≤ length ps → Stands ps a → Stands ps b → ((p : ℕ) → Stands ps p → 2 ≤ p) → ((p : ℕ) → Stands ps p → p < length hs) → Joins ws hs refs ps (set (set hs a (length ws)) b (length ws)) a (get_or hs a 0) b (get_or hs b 0) k (upd (upd (chain_at ws hs) a (length ws ∷ chain_at ws hs a)) b (length ws ∷ upd (chain_at ws hs) a (length ws ∷ chain_at ws hs a) b))
+unfolding slot
+added-long ws hs refs ps a b k li ne long oa ob least small =
+    let c = length ws in
+    let x = get_or hs a 0 in
+    let y = get_or hs b 0 in
+    let us = ws ++ block (length ps) a x b y k ps in
+    let gs = set hs a c in
+    let all = refs ++ (c ∷ []) in
+    let ap = appended ws hs refs ps a x b y k li in
+    let ha : a < length hs = small a oa in
+    let hb : b < length hs = small b ob in
+    let na : next us a c ≡ x = (let e : eqb (get_or us (c + 1) 0) a ≡ true = grind (arith, nat_tests, ap.new_left) in rw e ap.new_left_link) in
+    let nb : next us b c ≡ y = (let e : eqb (get_or us (c + 1) 0) b ≡ false = grind (arith, nat_tests, ap.new_left) in rw e ap.new_right_link) in
+    let one = upd (chain_at ws hs) a (c ∷ chain_at ws hs a) in
+    let step1 : Chains us gs (Stands all) one = push-head us hs (Stands all) (chain_at ws hs) a c ha (stands-last refs c) li.started (left ap.new_left) na (ap.absent a ha) ap.chains in
+    let ng : length gs ≡ length hs = simp length-set in
+    let ba : eqb b a ≡ false = grind (arith, nat_tests) in
+    let hbg : get_or gs b 0 ≡ y = get_or-set_other hs a b c 0 (λ e. ne (sym e)) in
+    let la : 2 ≤ a = least a oa in
+    let lb : 2 ≤ b = least b ob in
+    record {
+      heads = simp length-set;
+      chains = push-head us gs (Stands all) one b c (omega (arith, ng)) (stands-last refs c) li.started (right ap.new_right) (nb ∙ sym hbg) (rw ba (ap.absent b hb)) step1;
+      differ = ne;
+      least = least;
+      small = small;
+      own = λ h. (oa, ob);
+      none = λ h. absurd (omega arith);
+      empty = λ l h. (
+          let e1 : eqb l b ≡ false = grind (arith, nat_tests) in
+          let e2 : eqb l a ≡ false = grind (arith, nat_tests) in
+          rw (e1, e2) (li.empty l h));
+      kept = λ l d s. stands-one one b c d l (inl (stands-one (chain_at ws hs) a c d l (inl s)));
+      joined = λ l h w. elim w [
+        | inl e ↦ stands-one one b c c l (inl (stands-one (chain_at ws hs) a c c l (inr (refl, e))))
+        | inr e ↦ stands-one one b c c l (inr (refl, e))
+      ];
+    }
+
+-- a shorter clause, which watches nothing
+pub added-short : (ws hs refs ps : List ℕ) (k : ℕ) → Linked ws hs refs → length ps < 2 → ((p : ℕ) → Stands ps p → 2 ≤ p) → ((p : ℕ) → Stands ps p → p < length hs) → Joins ws hs refs ps hs 0 0 1 0 k (chain_at ws hs)
+added-short ws hs refs ps k li short least small = record {
+  heads = refl;
+  chains = (appended ws hs refs ps 0 0 1 0 k li).chains;
+  differ = λ e. absurd (omega (arith, e));
+  least = least;
+  small = small;
+  own = λ h. absurd (omega arith);
+  none = λ h. (omega arith, omega arith);
+  empty = li.empty;
+  kept = λ l d s. s;
+  joined = λ l h w. absurd (elim w [ inl e ↦ omega (arith, e) | inr e ↦ omega (arith, e) ]);
+}

@@ -1,0 +1,17 @@
+pub mod Paths
+pub mod HeaderWrites
+pub mod ChainMoves
+pub mod LinkedChains
+pub mod Unlinking
+pub mod Relinking
+pub mod Adding
+pub mod General
+pub mod Blocks
+pub mod Seen
+pub mod Law
+pub mod Updates
+pub mod Rewatching
+pub mod AddedClauses
+pub mod Cursors
+pub mod Readings
+pub mod Examples

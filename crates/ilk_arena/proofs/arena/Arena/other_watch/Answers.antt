@@ -1,0 +1,32 @@
+use Rattle.std.proofs.Common.{ℕ, Some, arith, ap, sym, ◌∙◌}
+use Rattle.ilk_cnf.specs.Literal.{Literal}
+use Rattle.ilk_arena.specs.Linked.{lit_at}
+use Rattle.ilk_arena.proofs.Readings.{within, watching, other-seen}
+use Rattle.ilk_arena.proofs.arena.Arena.other_watch.Goals as goal
+
+pub place-requires : goal.place-requires
+place-requires c = let s = c.self.inside in let w = within s.vars _ s.count s.words.items s.heads.items c.args.self.now c.args.l c.self.invariant c.self.view_is c.requires.within in w.few
+
+pub other_of-requires : goal.other_of-requires
+other_of-requires c = let s = c.self.inside in let w = within s.vars _ s.count s.words.items s.heads.items c.args.self.now c.args.l c.self.invariant c.self.view_is c.requires.within in let i = watching s.vars _ s.words.items s.heads.items c.args.self.now c.args.l c.args.c c.self.invariant.linked c.self.view_is c.requires.stands in rw c.deref.ensures.value (omega (arith, c.self.invariant.linked.whole c.args.c i.known))
+
+pub lit_at-requires-clause-low : goal.lit_at-requires-clause-low
+lit_at-requires-clause-low c =
+    let s = c.self.inside in
+    let o = other-seen s.vars _ s.count s.words.items s.heads.items c.args.self.now c.args.l c.args.c c.self.invariant c.self.view_is c.requires.stands in
+    let n = rw (c.deref.ensures.value, c.place.ensures) at c.other_of.ensures in
+    omega (arith, n, o.low)
+
+pub lit_at-requires-clause-high : goal.lit_at-requires-clause-high
+lit_at-requires-clause-high c =
+    let s = c.self.inside in
+    let o = other-seen s.vars _ s.count s.words.items s.heads.items c.args.self.now c.args.l c.args.c c.self.invariant c.self.view_is c.requires.stands in
+    let n = rw (c.deref.ensures.value, c.place.ensures) at c.other_of.ensures in
+    omega (arith, n, o.high)
+
+pub returns : goal.returns
+returns c =
+    let s = c.self.inside in
+    let o = other-seen s.vars _ s.count s.words.items s.heads.items c.args.self.now c.args.l c.args.c c.self.invariant c.self.view_is c.requires.stands in
+    let n = rw (c.deref.ensures.value, c.place.ensures) at c.other_of.ensures in
+    o.is ∙ sym (ap (λ (m : Literal). Some m) c.lit_at.ensures ∙ ap (λ (p : ℕ). Some (lit_at p)) n)

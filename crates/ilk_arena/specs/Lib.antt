@@ -1,0 +1,4 @@
+pub mod Arena
+pub mod Chains
+pub mod Words
+pub mod Linked

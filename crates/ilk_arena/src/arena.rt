@@ -1,0 +1,242 @@
+ghost use Rattle.std.specs.Prelude.{◌≡◌, ◌≤◌, ◌<◌, ◌+◌, ◌*◌, ◌^◌, ℕ, Bool, true, false, Some, [], List, ◌∷◌, ◌++◌, length, slice_get, replicate, IfOk, IfSome, OnOk, OnErr, IsTrue};
+ghost use Rattle.ilk_cnf.specs.Formula.{clause_in, lit_in};
+ghost use Rattle.ilk_cnf.specs.Literal.{vars_differ};
+ghost use Rattle.ilk_arena.specs.Arena.{added, after, chain_of, cursor_of, first_of, follows, literals_of, number_of, other_watch_of, rewatched, set_beside, stands_in};
+ghost use Rattle.ilk_arena.specs.Words.{reference_of};
+ghost use Rattle.ilk_arena.specs.Chains.{IsArena};
+
+use crate::block::append;
+use crate::links::{lead, move_watch, next_of, other_of};
+use crate::place::{lit_at, place};
+use ilk_cnf::Lit;
+use std::alloc::{AllocError, Global};
+use std::marker::Model;
+
+// The words of a header, and where it has the number and the cursor.
+const HEADER: usize = 7;
+
+const NUMBER: usize = 5;
+
+const CURSOR: usize = 6;
+
+/// All clauses, each with its watches.
+#[derive(Drop)]
+pub struct Arena {
+    // the clauses, after one word that no clause takes, so that no reference is 0
+    words: Vec<u64>,
+    // by place: the first clause of its chain, or 0
+    heads: Vec<u64>,
+    vars: u64,
+    count: u64,
+}
+
+impl Model for Arena {
+    ghost use Rattle.std.specs.Prelude.{◌-◌, vec_len, vec_capacity};
+    ghost use Rattle.ilk_arena.specs.Arena.{ArenaLists};
+    ghost use Rattle.ilk_arena.specs.Linked.{lists_of, references_in, Holds};
+
+    ghost Value = { ArenaLists };
+
+    ghost view = { λ a. lists_of a.vars (vec_capacity a.words - vec_len a.words) a.words.items a.heads.items (references_in a.words.items) };
+
+    ghost invariant = { λ a. Holds a.words.items a.heads.items a.vars a.count };
+}
+
+// A link as a reference.
+#[inline(always)]
+fn reference(link: u64) -> Option<u64>
+    ensures { result ≡ reference_of link }
+{
+    if link == 0 { None } else { Some(link) }
+}
+
+impl Arena {
+    /// An arena over the variables 1 to `vars`, without clauses.
+    pub fn new(alloc: Global, vars: u64) -> Result<Arena, AllocError>
+        requires { vars ≤ 2 ^ 62 }
+        ensures empty { IfOk result (λ a. a ≡ record { vars = vars; spare = a.spare; references = []; clauses = []; cursors = []; chains = replicate (2 * vars + 2) [] }) }
+        ensures arena { IfOk result (λ a. IsArena a) }
+    {
+        Ok(Arena {
+            words: vec![in alloc; 0]?,
+            heads: vec![in alloc; 0; 2 * vars as usize + 2]?,
+            vars,
+            count: 0,
+        })
+    }
+
+    /// Makes room for clauses of so many words: their literals, and 8 more for each clause.
+    pub fn reserve(&mut self, words: u64) -> Result<(), AllocError>
+        ensures room { OnOk result (words ≤ self.new.spare) }
+        ensures same { self.new ≡ record self.old { spare = self.new.spare } }
+        ensures err { OnErr result (self.new ≡ self.old) }
+    {
+        self.words.reserve(words as usize)?;
+        Ok(())
+    }
+
+    /// Adds a clause and answers its reference. It watches its first two literals, if it has two,
+    /// and stands first in their chains.
+    pub fn add(&mut self, clause: &[Lit]) -> u64
+        requires room { length clause.now + 8 ≤ self.old.spare }
+        requires within { IsTrue (clause_in self.old.vars clause.now) }
+        requires differ { IsTrue (vars_differ clause.now) }
+        ensures added { self.new ≡ added self.old clause.now result self.new.spare }
+        ensures fresh { stands_in result self.old.references ≡ false }
+        ensures room { self.old.spare ≤ self.new.spare + length clause.now + 8 }
+        ensures arena { IsArena self.new }
+    {
+        if clause.len() < 2 {
+            self.add_short(clause)
+        } else {
+            self.add_long(clause)
+        }
+    }
+
+    // Adds a clause that watches nothing.
+    fn add_short(&mut self, clause: &[Lit]) -> u64
+        requires room { length clause.now + 8 ≤ self.old.spare }
+        requires within { IsTrue (clause_in self.old.vars clause.now) }
+        requires differ { IsTrue (vars_differ clause.now) }
+        requires short { length clause.now < 2 }
+        ensures added { self.new ≡ added self.old clause.now result self.new.spare }
+        ensures fresh { stands_in result self.old.references ≡ false }
+        ensures room { self.old.spare ≤ self.new.spare + length clause.now + 8 }
+        ensures arena { IsArena self.new }
+    {
+        let reference = self.words.len() as u64;
+        self.count += 1;
+        append(
+            &mut self.words,
+            [clause.len() as u64, 0, 0, 1, 0, self.count, 0],
+            clause,
+        );
+        reference
+    }
+
+    // Adds a clause that watches its first two literals.
+    fn add_long(&mut self, clause: &[Lit]) -> u64
+        requires room { length clause.now + 8 ≤ self.old.spare }
+        requires within { IsTrue (clause_in self.old.vars clause.now) }
+        requires differ { IsTrue (vars_differ clause.now) }
+        requires long { 2 ≤ length clause.now }
+        ensures added { self.new ≡ added self.old clause.now result self.new.spare }
+        ensures fresh { stands_in result self.old.references ≡ false }
+        ensures room { self.old.spare ≤ self.new.spare + length clause.now + 8 }
+        ensures arena { IsArena self.new }
+    {
+        let reference = self.words.len() as u64;
+        let left = place(clause[0]);
+        let right = place(clause[1]);
+        let left_link = self.heads[left as usize];
+        let right_link = self.heads[right as usize];
+        self.count += 1;
+        append(
+            &mut self.words,
+            [
+                clause.len() as u64,
+                left,
+                left_link,
+                right,
+                right_link,
+                self.count,
+                0,
+            ],
+            clause,
+        );
+        lead(&mut self.heads, left, right, reference);
+        reference
+    }
+
+    /// How many literals clause `c` has.
+    pub fn length(&self, c: u64) -> u64
+        requires { IsTrue (stands_in c self.now.references) }
+        ensures { result ≡ length (literals_of self.now c) }
+    {
+        self.words[c as usize]
+    }
+
+    /// Literal `i` of clause `c`.
+    pub fn literal(&self, c: u64, i: u64) -> Lit
+        requires known { IsTrue (stands_in c self.now.references) }
+        requires below { i < length (literals_of self.now c) }
+        ensures { slice_get (literals_of self.now c) i ≡ Some result }
+    {
+        lit_at(self.words[c as usize + HEADER + i as usize])
+    }
+
+    /// The number of clause `c`: clauses are numbered from 1, in the order in which they were added.
+    pub fn number(&self, c: u64) -> u64
+        requires { IsTrue (stands_in c self.now.references) }
+        ensures { result ≡ number_of self.now c }
+    {
+        self.words[c as usize + NUMBER]
+    }
+
+    /// The cursor of clause `c`, which is 0 at first.
+    pub fn cursor(&self, c: u64) -> u64
+        requires { IsTrue (stands_in c self.now.references) }
+        ensures cursor { result ≡ cursor_of self.now c }
+        ensures within { result ≤ length (literals_of self.now c) }
+    {
+        self.words[c as usize + CURSOR]
+    }
+
+    /// Sets the cursor of clause `c`.
+    pub fn set_cursor(&mut self, c: u64, i: u64)
+        requires known { IsTrue (stands_in c self.old.references) }
+        requires within { i ≤ length (literals_of self.old c) }
+        ensures { self.new ≡ record self.old { cursors = set_beside c self.old.references self.old.cursors i } }
+    {
+        self.words[c as usize + CURSOR] = i;
+    }
+
+    /// The first clause in the chain of `l`.
+    pub fn first_watch(&self, l: Lit) -> Option<u64>
+        requires { IsTrue (lit_in self.now.vars l) }
+        ensures first { result ≡ first_of (chain_of self.now l) }
+        ensures arena { IsArena self.now }
+    {
+        reference(self.heads[place(l) as usize])
+    }
+
+    /// The clause after clause `c` in the chain of `l`.
+    pub fn next_watch(&self, c: u64, l: Lit) -> Option<u64>
+        requires within { IsTrue (lit_in self.now.vars l) }
+        requires stands { IsTrue (stands_in c (chain_of self.now l)) }
+        ensures { result ≡ after c (chain_of self.now l) }
+    {
+        reference(next_of(&self.words, place(l), c))
+    }
+
+    /// The watch of clause `c` besides `l`.
+    pub fn other_watch(&self, c: u64, l: Lit) -> Lit
+        requires within { IsTrue (lit_in self.now.vars l) }
+        requires stands { IsTrue (stands_in c (chain_of self.now l)) }
+        ensures { other_watch_of self.now c l ≡ Some result }
+    {
+        lit_at(other_of(&self.words, place(l), c))
+    }
+
+    /// Moves the watch of clause `c` from `from` to its literal `to`, which it doesn't watch. In the
+    /// chain of `from` it stands right after `before`, or first; in that of the literal it comes to
+    /// stand first.
+    pub fn rewatch(&mut self, before: Option<u64>, c: u64, from: Lit, to: u64)
+        requires within { IsTrue (lit_in self.old.vars from) }
+        requires follows { IsTrue (follows before c (chain_of self.old from)) }
+        requires to_in { to < length (literals_of self.old c) }
+        requires unwatched { IfSome (slice_get (literals_of self.old c) to) (λ l. stands_in c (chain_of self.old l) ≡ false) }
+        ensures moved { IfSome (slice_get (literals_of self.old c) to) (λ l. self.new ≡ rewatched self.old c from l) }
+        ensures arena { IsArena self.new }
+    {
+        let watch = self.words[c as usize + HEADER + to as usize];
+        move_watch(
+            &mut self.words,
+            &mut self.heads,
+            before,
+            c,
+            place(from),
+            watch,
+        );
+    }
+}

@@ -1,0 +1,29 @@
+ghost use Rattle.std.specs.Prelude.{◌≡◌, ◌+◌, ◌≤◌, ◌^◌, ◌++◌, length, map, vec_len, vec_capacity, IsTrue};
+ghost use Rattle.ilk_cnf.specs.Formula.{clause_in};
+ghost use Rattle.ilk_arena.specs.Arena.{place};
+
+use crate::place::place;
+use ilk_cnf::Lit;
+
+// Adds the places of the literals, within the capacity.
+fn append_places(words: &mut Vec<u64>, clause: &[Lit])
+    requires room { vec_len words.old + length clause.now ≤ vec_capacity words.old }
+    requires within { IsTrue (clause_in (2 ^ 62) clause.now) }
+    ensures items { words.new.items ≡ words.old.items ++ map place clause.now }
+    ensures capacity { vec_capacity words.old ≤ vec_capacity words.new }
+{
+    for l in clause {
+        words.push(place(*l)).unwrap();
+    }
+}
+
+/// Adds a header and the places of the literals, within the capacity.
+pub fn append(words: &mut Vec<u64>, header: [u64; 7], clause: &[Lit])
+    requires room { vec_len words.old + length clause.now + 7 ≤ vec_capacity words.old }
+    requires within { IsTrue (clause_in (2 ^ 62) clause.now) }
+    ensures items { words.new.items ≡ words.old.items ++ (header ++ map place clause.now) }
+    ensures capacity { vec_capacity words.old ≤ vec_capacity words.new }
+{
+    words.extend_from_slice(&header).unwrap();
+    append_places(words, clause);
+}

@@ -1,0 +1,43 @@
+-- What is written for a step is its line.
+use Rattle.std.proofs.Common.{◌≡◌, ℕ, List, [], ◌∷◌, ◌++◌, map, flat_map, refl, sym, ap, ◌∙◌, append_assoc}
+use Rattle.std.specs.Prelude.{codes}
+use Rattle.std.specs.Fmt.{decimal}
+use Rattle.std.proofs.lemmas.List.{append-nil}
+use Rattle.ilk_cnf.specs.Literal.{Literal}
+use Rattle.ilk_lines.specs.Lines.{Bytes}
+use Rattle.ilk_lines.specs.Written.{line_of}
+use Rattle.ilk_log.specs.declared.step.Step.{Step}
+use Rattle.ilk_log.specs.StepText.{lit_word, step_words, step_text}
+
+-- a space before each word
+abbrev led : List Bytes → Bytes
+led words = flat_map (λ w. 32 ∷ w) words
+
+line-led : (word : Bytes) (words : List Bytes) → line_of (word ∷ words) ≡ word ++ led words
+line-led word [] = sym (append-nil word)
+line-led word (next ∷ more) = ap (λ (x : Bytes). word ++ (32 ∷ x)) (line-led next more)
+
+led-append : (xs ys : List Bytes) → led (xs ++ ys) ≡ led xs ++ led ys
+led-append [] ys = refl
+led-append (x ∷ xs) ys = ap (λ (t : Bytes). (32 ∷ x) ++ t) (led-append xs ys) ∙ sym (append_assoc (32 ∷ x) (led xs) (led ys))
+
+led-map : {A : Type 0} (f : A → Bytes) (xs : List A) → led (map f xs) ≡ flat_map (λ x. 32 ∷ f x) xs
+led-map f [] = refl
+led-map f (x ∷ xs) = ap (λ (t : Bytes). (32 ∷ f x) ++ t) (led-map f xs)
+
+-- the text that is put together is the line
+pub text_is : (s : Step) → (((codes "step" ++ flat_map (λ (l : Literal). 32 ∷ lit_word l) s.clause) ++ codes " 0") ++ flat_map (λ (n : ℕ). 32 ∷ decimal n) s.hints) ++ codes " 0" ≡ step_text s
+text_is s =
+    let c : Bytes = flat_map (λ (l : Literal). 32 ∷ lit_word l) s.clause in
+    let h : Bytes = flat_map (λ (n : ℕ). 32 ∷ decimal n) s.hints in
+    let w : Bytes = codes "step" in
+    let z : Bytes = codes " 0" in
+    let whole = line-led w (map lit_word s.clause ++ (codes "0" ∷ (map decimal s.hints ++ codes "0" ∷ []))) in
+    let lits = led-append (map lit_word s.clause) (codes "0" ∷ (map decimal s.hints ++ codes "0" ∷ [])) in
+    let hints = led-append (map decimal s.hints) (codes "0" ∷ []) in
+    let right : line_of (step_words s) ≡ w ++ (c ++ (z ++ (h ++ z))) =
+    whole ∙ ap (λ (t : Bytes). w ++ t) (lits ∙ ap (λ (t : Bytes). t ++ led (codes "0" ∷ (map decimal s.hints ++ codes "0" ∷ []))) (led-map lit_word s.clause) ∙ ap (λ (t : Bytes). c ++ (z ++ t)) (hints ∙ ap (λ (t : Bytes). t ++ z) (led-map decimal s.hints))) in
+    regroup w c z h z ∙ sym right
+  where
+    regroup : (a b c d e : List ℕ) → (((a ++ b) ++ c) ++ d) ++ e ≡ a ++ (b ++ (c ++ (d ++ e)))
+    regroup a b c d e = simp append_assoc

@@ -1,0 +1,5 @@
+pub mod Propagation
+pub mod Derived
+pub mod Fresh
+pub mod StepText
+pub mod StepReading

@@ -1,0 +1,50 @@
+-- Only private contracts and proofs need this file: how the words of a line are read, one by one.
+use Rattle.std.specs.Prelude.{ℕ, Bool, true, false, ◌==◌, ◌-◌, ◌^◌, List, [], ◌∷◌, Option, Some, None, bytes_eq, codes, nat_lt, option_map, if◌then◌else◌}
+use Rattle.ilk_base.specs.Option.{◌>>=◌, only_if}
+use Rattle.ilk_cnf.specs.Literal.{Literal}
+use Rattle.ilk_lines.specs.Lines.{Bytes}
+use Rattle.ilk_lines.specs.Decimal.{decimal_up_to}
+use Rattle.ilk_log.specs.declared.step.Step.{Step}
+
+-- a number from 1 to the limit
+abbrev pub count_of : ℕ → Bytes → Option ℕ
+count_of limit word = do
+  n ← decimal_up_to limit word
+  only_if (nat_lt 0 n) n
+
+-- a literal
+abbrev pub lit_of : Bytes → Option Literal
+lit_of [] = None
+lit_of (b ∷ word) = if b == 45 then option_map (λ v. record { var = v; positive = false }) (count_of (2 ^ 62) word) else option_map (λ v. record { var = v; positive = true }) (count_of (2 ^ 62) (b ∷ word))
+
+-- the literals before the word 0, and the words after it
+abbrev pub lits_of : List Bytes → Option (List Literal × List Bytes)
+lits_of [] = None
+lits_of (word ∷ words) =
+    if bytes_eq word (codes "0") then Some ([], words) else (do
+      l ← lit_of word
+      rest ← lits_of words
+      Some (l ∷ rest.0, rest.1))
+
+-- whether there are no words
+abbrev pub no_words : List Bytes → Bool
+no_words [] = true
+no_words (word ∷ words) = false
+
+-- the hints before the word 0, after which no word may stand
+abbrev pub hints_of : List Bytes → Option (List ℕ)
+hints_of [] = None
+hints_of (word ∷ words) =
+    if bytes_eq word (codes "0") then only_if (no_words words) [] else (do
+      h ← count_of (2 ^ 64 - 1) word
+      rest ← hints_of words
+      Some (h ∷ rest))
+
+-- the step that the words tell
+abbrev pub step_of : List Bytes → Option Step
+step_of [] = None
+step_of (word ∷ words) =
+    if bytes_eq word (codes "step") then (do
+      lits ← lits_of words
+      hints ← hints_of lits.1
+      Some (record { clause = lits.0; hints = hints })) else None

@@ -1,0 +1,22 @@
+//! The log of a search: its steps, what makes them follow from a formula, and the lines that they are
+//! written in.
+//!
+//! A step is a clause with hints, the numbers of earlier clauses in the order in which propagation
+//! uses them, so that a checker needs no search: it takes the hints one after another (`Propagation`
+//! and `Derived` in `specs/`). `Fresh` says which clauses propagation alone doesn't give. These
+//! definitions speak of lists of clauses and of numbers alone.
+//!
+//! `write_step` gives the one line of a step, and `read_step` takes exactly these lines.
+//! `refutations_refute` is the law that carries the rest: no assignment satisfies a formula that a log
+//! refutes.
+#![tactic(auto)]
+
+mod laws;
+mod read;
+mod step;
+mod write;
+
+pub use laws::refutations_refute;
+pub use read::read_step;
+pub use step::{Hints, Log, Step};
+pub use write::write_step;

@@ -1,0 +1,115 @@
+ghost use Rattle.std.specs.Prelude.{◌≡◌, ◌↔◌, IfOk, Some, [], option_map, IsTrue};
+ghost use Rattle.std.specs.Option.{option_map_or};
+ghost use Rattle.ilk_lines.specs.Words.{words_of};
+ghost use Rattle.ilk_log.specs.StepReading.{count_of, hints_of, lit_of, lits_of, step_of};
+ghost use Rattle.ilk_log.specs.StepText.{has_numbers, step_text};
+ghost use Rattle.ilk_log.specs.declared.step.Step.{Step as StepValue};
+
+use crate::step::{Hints, Step};
+use ilk_base::Row;
+use ilk_cnf::{Lit, Lits};
+use ilk_lines::{decimal_up_to, next_word};
+use std::alloc::{AllocError, Global};
+
+// A number from 1 to the limit.
+fn count_of(word: &[u8], limit: u64) -> Option<u64>
+    ensures { result ≡ count_of limit word.now }
+{
+    let n = decimal_up_to(word, limit)?;
+    if n > 0 { Some(n) } else { None }
+}
+
+// The greatest variable.
+const MAX_VAR: u64 = 1 << 62;
+
+// The literal that a word writes.
+fn lit_of(word: &[u8]) -> Option<Lit>
+    ensures { result ≡ lit_of word.now }
+{
+    match word {
+        [b'-', var @ ..] => Some(Lit::new(count_of(var, MAX_VAR)?, false)),
+        _ => Some(Lit::new(count_of(word, MAX_VAR)?, true)),
+    }
+}
+
+// The literals before the word 0, and what has the words after it.
+fn read_lits<'a>(
+    alloc: Global,
+    line: &'a [u8],
+) -> Result<Option<(Lits, Option<&'a [u8]>)>, AllocError>
+    ensures { IfOk result (λ told. option_map (λ pair. (pair.0, option_map_or (λ rest. words_of rest.now) pair.1 [])) told ≡ lits_of (words_of line.now)) }
+{
+    let mut lits = Row::new(alloc);
+    let mut left = line;
+    'words: loop {
+        let (word, rest) = next_word(left);
+        if word == b"0".as_slice() {
+            return Ok(Some((lits, rest)));
+        }
+        let Some(l) = lit_of(word) else {
+            return Ok(None);
+        };
+        let Some(rest) = rest else {
+            return Ok(None);
+        };
+        lits.push(l)?;
+        left = rest;
+    }
+}
+
+#[tactic(auto, using(crate::proofs::Words::hints_more))]
+// The hints before the word 0, with which the line must end.
+fn read_hints(alloc: Global, line: &[u8]) -> Result<Option<Hints>, AllocError>
+    ensures { IfOk result (λ told. told ≡ hints_of (words_of line.now)) }
+{
+    let mut hints = Row::new(alloc);
+    let mut left = line;
+    'words: loop {
+        let (word, rest) = next_word(left);
+        if word == b"0".as_slice() {
+            return match rest {
+                Some(_) => Ok(None),
+                None => Ok(Some(hints)),
+            };
+        }
+        let Some(h) = count_of(word, u64::MAX) else {
+            return Ok(None);
+        };
+        let Some(rest) = rest else {
+            return Ok(None);
+        };
+        hints.push(h)?;
+        left = rest;
+    }
+}
+
+// The step that the words of a line tell.
+fn read_words(alloc: Global, line: &[u8]) -> Result<Option<Step>, AllocError>
+    ensures { IfOk result (λ told. told ≡ step_of (words_of line.now)) }
+{
+    let (word, rest) = next_word(line);
+    if word != b"step".as_slice() {
+        return Ok(None);
+    }
+    let Some(rest) = rest else {
+        return Ok(None);
+    };
+    let Some((clause, rest)) = read_lits(alloc, rest)? else {
+        return Ok(None);
+    };
+    let Some(rest) = rest else {
+        return Ok(None);
+    };
+    let Some(hints) = read_hints(alloc, rest)? else {
+        return Ok(None);
+    };
+    Ok(Some(Step { clause, hints }))
+}
+
+/// The step whose line this is. None exactly where it is the line of no step whose variables are
+/// from 1 to 2^62, and whose hints are from 1 to the greatest `u64`.
+pub fn read_step(alloc: Global, line: &[u8]) -> Result<Option<Step>, AllocError>
+    ensures { IfOk result (λ told. (s : StepValue) → (told ≡ Some s) ↔ ((line.now ≡ step_text s) × IsTrue (has_numbers s))) }
+{
+    read_words(alloc, line)
+}

@@ -1,0 +1,52 @@
+ghost use Rattle.std.specs.Prelude.{◌≡◌, ◌<◌, ◌++◌, ◌∷◌, IfOk, OnOk, flat_map, map, string_bytes, IsTrue, nat_lt};
+ghost use Rattle.std.specs.Fmt.{decimal};
+ghost use Rattle.std.specs.List.{list_all};
+ghost use Rattle.ilk_log.specs.StepText.{lit_word, step_text};
+
+use crate::step::Step;
+use ilk_cnf::Lit;
+use ilk_lines::push_decimal;
+use std::alloc::{AllocError, Global};
+
+// Writes a space and a literal at the end of a text.
+fn push_lit(text: &mut String, l: Lit) -> Result<(), AllocError>
+    ensures { OnOk result (string_bytes text.new ≡ string_bytes text.old ++ 32 ∷ lit_word l) }
+{
+    text.push_str(if l.positive() { " " } else { " -" })?;
+    push_decimal(text, l.var())
+}
+
+// Writes each literal after a space.
+fn push_lits(text: &mut String, lits: &[Lit]) -> Result<(), AllocError>
+    ensures { OnOk result (string_bytes text.new ≡ string_bytes text.old ++ flat_map (λ l. 32 ∷ lit_word l) lits.now) }
+{
+    for lit in lits {
+        push_lit(text, *lit)?;
+    }
+    Ok(())
+}
+
+// Writes each number after a space.
+fn push_numbers(text: &mut String, numbers: &[u64]) -> Result<(), AllocError>
+    ensures { OnOk result (string_bytes text.new ≡ string_bytes text.old ++ flat_map (λ n. 32 ∷ decimal n) numbers.now) }
+{
+    for number in numbers {
+        text.push_str(" ")?;
+        push_decimal(text, *number)?;
+    }
+    Ok(())
+}
+
+#[tactic(auto, using(crate::proofs::Texts::text_is))]
+/// The line of a step, without its line feed.
+pub fn write_step(alloc: Global, step: &Step) -> Result<Vec<u8>, AllocError>
+    requires { IsTrue (list_all (λ h. nat_lt 0 h) step.now.hints) }
+    ensures { IfOk result (λ line. line.items ≡ step_text step.now) }
+{
+    let mut text = String::from_str(alloc, "step")?;
+    push_lits(&mut text, step.clause.as_slice())?;
+    text.push_str(" 0")?;
+    push_numbers(&mut text, step.hints.as_slice())?;
+    text.push_str(" 0")?;
+    Ok(text.into_bytes())
+}

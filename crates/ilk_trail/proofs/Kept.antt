@@ -1,0 +1,103 @@
+-- How the fields follow the list of entries.
+use Rattle.std.proofs.Common.{◌≡◌, ◌≢◌, ℕ, ◌+◌, ◌^◌, ◌<◌, ◌≤◌, inl, inr, Bool, true, false, List, [], ◌∷◌, ◌++◌, length, get_or, set, sym, ap, subst, ◌∙◌, arith, Option, Some, None, length-append}
+use Rattle.std.specs.List.{slice_get}
+use Rattle.std.specs.Option.{option_map}
+use Rattle.std.proofs.lemmas.Bool.{cases_eq}
+use Rattle.std.proofs.lemmas.Option.{slice_get_within}
+use Rattle.std.proofs.lemmas.List.{length-map}
+use Rattle.std.proofs.lemmas.List.{get_or-set_same, get_or-set_other}
+use Rattle.std.proofs.Math.ListN.{length-set}
+use Rattle.ilk_cnf.specs.Literal.{Literal}
+use Rattle.ilk_cnf.specs.Formula.{lit_in}
+use Rattle.ilk_cnf.proofs.Literals.{vars_differ-push}
+use Rattle.ilk_trail.specs.declared.entry.Entry.{Entry}
+use Rattle.ilk_trail.specs.Trail.{TrailList, entry_of, last_level, level_of}
+use Rattle.ilk_trail.specs.Laws.{IsTrail, is_next, is_set, lits_of}
+use Rattle.ilk_trail.specs.Stored.{Stored}
+use Rattle.ilk_trail.proofs.General.{slice_get-push_cases, slice_get-append_left}
+use Rattle.ilk_trail.proofs.Entries.{lits_of-push, entry_of-unset, entry_of-other, entry_of-new, found, set-at}
+use Rattle.ilk_trail.proofs.Literals.{lit_in-parts, vars_differ-front, clause_in-push, clause_in-front, count_of_vars}
+use Rattle.ilk_trail.proofs.Levels.{climbs-push, climbs-front, level-small}
+
+abbrev sign : Entry → Bool
+sign e = e.lit.positive
+
+-- the trail with one more entry
+pub trail-add : (n : ℕ) (es : List Entry) (e : Entry) → IsTrail (record { vars = n; entries = es }) → lit_in n e.lit ≡ true → is_set es e.lit.var ≡ false → is_next (last_level 0 es) e ≡ true → IsTrail (record { vars = n; entries = es ++ e ∷ [] })
+trail-add n es e t h u k = record {
+  few = t.few;
+  within = rw (lits_of-push es e) (clause_in-push n (lits_of es) e.lit t.within h);
+  once = rw (lits_of-push es e) (vars_differ-push (lits_of es) e.lit t.once u);
+  climbing = climbs-push 0 es e t.climbing k;
+}
+
+-- the trail without its last entry
+pub trail-take : (n : ℕ) (es : List Entry) (e : Entry) → IsTrail (record { vars = n; entries = es ++ e ∷ [] }) → IsTrail (record { vars = n; entries = es }) × (lit_in n e.lit ≡ true) × (is_set es e.lit.var ≡ false)
+trail-take n es e t =
+    let w = clause_in-front n (lits_of es) e.lit (rw (lits_of-push es e) at t.within) in
+    let d = vars_differ-front (lits_of es) e.lit (rw (lits_of-push es e) at t.once) in
+    (record { few = t.few; within = w.0; once = d.0; climbing = (climbs-front 0 es e t.climbing).0 }, w.1, d.1)
+
+-- there is room for the entry of an unset variable
+pub room-for : (n : ℕ) (es : List Entry) (l : Literal) → IsTrail (record { vars = n; entries = es }) → lit_in n l ≡ true → is_set es l.var ≡ false → length es < n + 1
+room-for n es l t h u =
+    let c = count_of_vars n (lits_of es ++ l ∷ []) (clause_in-push n (lits_of es) l t.within h) (vars_differ-push (lits_of es) l t.once u) in
+    let m : length (lits_of es ++ l ∷ []) ≡ length es + 1 = simp (length-append, length-map) in
+    omega (arith, c, m)
+
+-- the fields after an entry was added
+pub stored-add : (values : List (Option Bool)) (places : List ℕ) (n : ℕ) (es : List Entry) (e : Entry) (size more : ℕ) → Stored values places (record { vars = n; entries = es }) size → size ≤ more → lit_in n e.lit ≡ true → is_set es e.lit.var ≡ false → is_next (last_level 0 es) e ≡ true → Stored (set values e.lit.var (Some e.lit.positive)) (set places e.lit.var (length es)) (record { vars = n; entries = es ++ e ∷ [] }) more
+stored-add values places n es e size more k le h u c = let w : e.lit.var ≤ n = (lit_in-parts n e.lit h).1 in record {
+  values_long = simp length-set k.values_long;
+  places_long = simp length-set k.places_long;
+  roomy = omega (arith, k.roomy);
+  value = λ v b. elim (cases_eq v e.lit.var) [
+    | inl p ↦ (let P : ℕ → Type 0 = λ j. get_or (set values e.lit.var (Some e.lit.positive)) j None ≡ option_map sign (entry_of (es ++ e ∷ []) j) in
+        subst P (sym p) (get_or-set_same values e.lit.var (Some e.lit.positive) None (omega (arith, k.values_long, w)) ∙ sym (ap (option_map sign) (entry_of-new es e u))))
+    | inr p ↦ get_or-set_other values e.lit.var v (Some e.lit.positive) None p ∙ k.value v b ∙ sym (ap (option_map sign) (entry_of-other es e v p))
+  ];
+  place = λ i x s. elim (slice_get-push_cases es e x i s) [
+    | inl p ↦ (let differs : x.lit.var ≢ e.lit.var = λ q. (let P : ℕ → Type 0 = λ j. is_set es j ≡ true in let y : is_set es e.lit.var ≡ true = subst P q (set-at es i x p) in cc) in
+        get_or-set_other places e.lit.var x.lit.var (length es) 0 differs ∙ k.place i x p)
+    | inr p ↦ (let P : Entry → Type 0 = λ y. get_or (set places e.lit.var (length es)) y.lit.var 0 ≡ i in
+        subst P p.1 (get_or-set_same places e.lit.var (length es) 0 (omega (arith, k.places_long, w)) ∙ sym p.0))
+  ];
+  is_trail = trail-add n es e k.is_trail h u c;
+}
+
+-- the fields after the last entry was taken off
+pub stored-take : (values : List (Option Bool)) (places : List ℕ) (n : ℕ) (es : List Entry) (e : Entry) (size more : ℕ) → Stored values places (record { vars = n; entries = es ++ e ∷ [] }) size → size ≤ more → Stored (set values e.lit.var None) places (record { vars = n; entries = es }) more
+stored-take values places n es e size more k le =
+    let t = trail-take n es e k.is_trail in
+    let w : e.lit.var ≤ n = (lit_in-parts n e.lit t.1).1 in
+    let u : is_set es e.lit.var ≡ false = t.2 in
+    record {
+      values_long = simp length-set k.values_long;
+      places_long = k.places_long;
+      roomy = omega (arith, k.roomy);
+      value = λ v b. elim (cases_eq v e.lit.var) [
+        | inl p ↦ (let P : ℕ → Type 0 = λ j. get_or (set values e.lit.var None) j None ≡ option_map sign (entry_of es j) in
+            subst P (sym p) (get_or-set_same values e.lit.var None None (omega (arith, k.values_long, w)) ∙ sym (ap (option_map sign) (entry_of-unset es e.lit.var u))))
+        | inr p ↦ get_or-set_other values e.lit.var v None None p ∙ k.value v b ∙ ap (option_map sign) (entry_of-other es e v p)
+      ];
+      place = λ i x s. k.place i x (slice_get-append_left es (e ∷ []) x i s);
+      is_trail = t.0;
+    }
+
+-- the entry of a set variable stands at its place
+pub stands-at-place : (values : List (Option Bool)) (places : List ℕ) (t : TrailList) (size v : ℕ) → Stored values places t size → is_set t.entries v ≡ true → (slice_get t.entries (get_or places v 0) ≡ entry_of t.entries v) × (get_or places v 0 < length t.entries)
+stands-at-place values places t size v k s =
+    let f = found t.entries v s in
+    let q : get_or places v 0 ≡ f.place = (let P : ℕ → Type 0 = λ j. get_or places j 0 ≡ f.place in subst P f.named (k.place f.place f.entry f.stands)) in
+    (rw q (f.stands ∙ sym f.first), rw q (slice_get_within t.entries f.place f.entry f.stands))
+
+-- a level is far below the greatest number
+pub level-fits : (t : TrailList) → IsTrail t → level_of t.entries ≤ 2 ^ 62 + 1
+level-fits t k =
+    let c = count_of_vars t.vars (lits_of t.entries) k.within k.once in
+    let e : length (lits_of t.entries) ≡ length t.entries = length-map t.entries (λ (x : Entry). x.lit) in
+    omega (arith, level-small 0 t.entries k.climbing, c, e, k.few)
+
+-- the places reach each variable
+pub within : (values : List (Option Bool)) (places : List ℕ) (t : TrailList) (size : ℕ) (l : Literal) → Stored values places t size → lit_in t.vars l ≡ true → l.var < length places
+within values places t size l k h = (let w = lit_in-parts t.vars l h in omega (arith, k.places_long, w.1))

@@ -1,0 +1,5 @@
+pub mod General
+pub mod Literals
+pub mod Entries
+pub mod Levels
+pub mod Kept

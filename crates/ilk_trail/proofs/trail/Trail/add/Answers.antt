@@ -1,0 +1,34 @@
+use Rattle.std.proofs.Common.{◌≡◌, ◌<◌, ◌+◌, ◌-◌, ◌++◌, ◌∷◌, [], true, Some, length, set, arith, ap, ◌∙◌, refl}
+use Rattle.std.specs.Result.{is_ok}
+use Rattle.std.proofs.Math.ListN.{length-set}
+use Rattle.ilk_trail.specs.Trail.{TrailList, level_of}
+use Rattle.ilk_cnf.specs.Formula.{lit_in}
+use Rattle.ilk_trail.specs.Laws.{is_next, is_set}
+use Rattle.ilk_trail.proofs.Kept.{room-for, stored-add}
+use Rattle.ilk_trail.proofs.trail.Trail.add.Goals as goal
+
+pub unwrap-requires : goal.unwrap-requires
+unwrap-requires c =
+    let s = c.self.inside in
+    let n = length s.values.items - 1 in
+    let k = c.self.invariant in
+    let fits : length s.entries.items < n + 1 = room-for n s.entries.items c.args.entry.lit k.is_trail
+    (ap (λ (t : TrailList). lit_in t.vars c.args.entry.lit) c.self.view_is ∙ c.requires.within)
+    (ap (λ (t : TrailList). is_set t.entries c.args.entry.lit.var) c.self.view_is ∙ c.requires.unset) in
+    c.push.ensures.succeeds (omega (arith, fits, k.roomy, s.entries.ok.0))
+
+pub invariant_of-self : goal.invariant_of-self
+invariant_of-self c =
+    let s = c.self.inside in
+    let n = length s.values.items - 1 in
+    let k = c.self.invariant in
+    let e = c.args.entry in
+    let m : c.len.result ≡ length s.entries.items = omega (arith, c.len.ensures, s.entries.ok.0) in
+    let ok : is_ok c.push.result ≡ true = rw c.unwrap.ensures refl in
+    let items : c.push.new.self.items ≡ s.entries.items ++ e ∷ [] = rw ok at c.push.ensures.items in
+    let size : length (set s.values.items e.lit.var (Some e.lit.positive)) - 1 ≡ n = simp length-set in
+    rw (c.var-var.ensures, c.positive.ensures, m, items, size)
+    (stored-add s.values.items s.places.items n s.entries.items e _ _ k c.push.ensures.capacity
+    (ap (λ (t : TrailList). lit_in t.vars e.lit) c.self.view_is ∙ c.requires.within)
+    (ap (λ (t : TrailList). is_set t.entries e.lit.var) c.self.view_is ∙ c.requires.unset)
+    (ap (λ (t : TrailList). is_next (level_of t.entries) e) c.self.view_is ∙ c.requires.level))

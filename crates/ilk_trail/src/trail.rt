@@ -1,0 +1,169 @@
+ghost use Rattle.std.specs.Prelude.{◌≡◌, ◌≤◌, ◌<◌, ◌+◌, ◌^◌, ℕ, Bool, true, false, Some, [], ◌∷◌, ◌++◌, length, slice_get, option_map, IfOk, IsTrue};
+ghost use Rattle.ilk_cnf.specs.Formula.{lit_in};
+ghost use Rattle.ilk_trail.specs.Trail.{assigned, decided, entry_of, level_of, up_to, value_of};
+ghost use Rattle.ilk_trail.specs.Laws.{IsTrail, is_next, is_set};
+
+use crate::entry::Entry;
+use ilk_cnf::Lit;
+use std::alloc::{AllocError, Global};
+use std::marker::Model;
+
+/// The literals that are set, in the order in which they were set.
+#[derive(Drop)]
+pub struct Trail {
+    // by variable: its value, where it is set
+    values: Vec<Option<bool>>,
+    // by variable: where its entry stands, where it is set
+    places: Vec<u64>,
+    entries: Vec<Entry>,
+}
+
+impl Model for Trail {
+    ghost use Rattle.std.specs.Prelude.{◌-◌, length, vec_capacity};
+    ghost use Rattle.ilk_trail.specs.Trail.{TrailList};
+    ghost use Rattle.ilk_trail.specs.Stored.{Stored};
+
+    ghost Value = { TrailList };
+
+    ghost view = { λ t. record { vars = length t.values.items - 1; entries = t.entries.items } };
+
+    ghost invariant = { λ t. Stored t.values.items t.places.items (record { vars = length t.values.items - 1; entries = t.entries.items }) (vec_capacity t.entries) };
+}
+
+impl Trail {
+    /// A trail over the variables 1 to `vars`, without entries.
+    pub fn new(alloc: Global, vars: u64) -> Result<Trail, AllocError>
+        requires { vars ≤ 2 ^ 62 }
+        ensures { IfOk result (λ t. t ≡ record { vars = vars; entries = [] }) }
+    {
+        let size = vars as usize + 1;
+        Ok(Trail {
+            values: vec![in alloc; None; size]?,
+            places: vec![in alloc; 0; size]?,
+            entries: Vec::with_capacity(alloc, size)?,
+        })
+    }
+
+    /// Whether `l` is true, or `None` where its variable is unset.
+    pub fn value(&self, l: Lit) -> Option<bool>
+        requires { IsTrue (lit_in self.now.vars l) }
+        ensures { result ≡ value_of self.now.entries l }
+    {
+        self.values[l.var() as usize].map(|positive| positive == l.positive())
+    }
+
+    /// The current level.
+    pub fn level(&self) -> u64
+        ensures level { result ≡ level_of self.now.entries }
+        ensures is_trail { IsTrail self.now }
+    {
+        match self.entries.last() {
+            Some(entry) => entry.level,
+            None => 0,
+        }
+    }
+
+    /// The level of the entry with the variable of `l`.
+    pub fn level_of(&self, l: Lit) -> u64
+        requires within { IsTrue (lit_in self.now.vars l) }
+        requires set { IsTrue (is_set self.now.entries l.var) }
+        ensures { option_map (λ e. e.level) (entry_of self.now.entries l.var) ≡ Some result }
+    {
+        self.entry_of(l).level
+    }
+
+    /// The reason of the entry with the variable of `l`, or `None` where it was decided.
+    pub fn reason(&self, l: Lit) -> Option<u64>
+        requires within { IsTrue (lit_in self.now.vars l) }
+        requires set { IsTrue (is_set self.now.entries l.var) }
+        ensures { option_map (λ e. e.reason) (entry_of self.now.entries l.var) ≡ Some result }
+    {
+        self.entry_of(l).reason
+    }
+
+    // The entry with the variable of `l`.
+    fn entry_of(&self, l: Lit) -> Entry
+        requires within { IsTrue (lit_in self.now.vars l) }
+        requires set { IsTrue (is_set self.now.entries l.var) }
+        ensures { entry_of self.now.entries l.var ≡ Some result }
+    {
+        let place = self.places[l.var() as usize];
+        self.entries[place as usize]
+    }
+
+    /// How many entries there are.
+    pub fn count(&self) -> u64
+        ensures count { result ≡ length self.now.entries }
+        ensures is_trail { IsTrail self.now }
+    {
+        self.entries.len() as u64
+    }
+
+    /// The literal of entry `i`.
+    pub fn at(&self, i: u64) -> Lit
+        requires { i < length self.now.entries }
+        ensures { option_map (λ e. e.lit) (slice_get self.now.entries i) ≡ Some result }
+    {
+        self.entries[i as usize].lit
+    }
+
+    /// Opens the next level, and adds `l` to it without a reason.
+    pub fn decide(&mut self, l: Lit)
+        requires within { IsTrue (lit_in self.old.vars l) }
+        requires unset { is_set self.old.entries l.var ≡ false }
+        ensures { self.new ≡ record self.old { entries = decided self.old.entries l } }
+    {
+        self.add(Entry {
+            lit: l,
+            level: self.level() + 1,
+            reason: None,
+        });
+    }
+
+    /// Adds `l` at the current level, forced by the clause `reason`.
+    pub fn assign(&mut self, l: Lit, reason: u64)
+        requires within { IsTrue (lit_in self.old.vars l) }
+        requires unset { is_set self.old.entries l.var ≡ false }
+        ensures { self.new ≡ record self.old { entries = assigned self.old.entries l reason } }
+    {
+        self.add(Entry {
+            lit: l,
+            level: self.level(),
+            reason: Some(reason),
+        });
+    }
+
+    /// Takes off the levels above `level`.
+    pub fn back_to(&mut self, level: u64)
+        requires { level ≤ level_of self.old.entries }
+        ensures entries { self.new ≡ record self.old { entries = up_to level self.old.entries } }
+        ensures level { level_of self.new.entries ≡ level }
+    {
+        while self.level() > level {
+            self.take_last();
+        }
+    }
+
+    // Adds an entry.
+    fn add(&mut self, entry: Entry)
+        requires within { IsTrue (lit_in self.old.vars entry.lit) }
+        requires unset { is_set self.old.entries entry.lit.var ≡ false }
+        requires level { IsTrue (is_next (level_of self.old.entries) entry) }
+        ensures { self.new ≡ record self.old { entries = self.old.entries ++ entry ∷ [] } }
+    {
+        let var = entry.lit.var() as usize;
+        self.values[var] = Some(entry.lit.positive());
+        self.places[var] = self.entries.len() as u64;
+        self.entries.push(entry).unwrap();
+    }
+
+    // Takes off the last entry.
+    fn take_last(&mut self) -> Entry
+        requires { 0 < length self.old.entries }
+        ensures { self.old ≡ record self.new { entries = self.new.entries ++ result ∷ [] } }
+    {
+        let entry = self.entries.pop().unwrap();
+        self.values[entry.lit.var() as usize] = None;
+        entry
+    }
+}
