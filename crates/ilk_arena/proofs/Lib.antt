@@ -5,7 +5,6 @@ pub mod LinkedChains
 pub mod Unlinking
 pub mod Relinking
 pub mod Adding
-pub mod General
 pub mod Blocks
 pub mod Seen
 pub mod Law

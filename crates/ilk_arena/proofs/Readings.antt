@@ -8,7 +8,7 @@ use Rattle.ilk_cnf.specs.Formula.{lit_in}
 use Rattle.ilk_arena.specs.Arena.{ArenaLists, place, chain_of, stands_in, literals_of, cursor_of, number_of, first_of, after, other_watch_of}
 use Rattle.ilk_arena.specs.Words.{Stands, Watches, left, right, next, other, reference_of}
 use Rattle.ilk_arena.specs.Linked.{lit_at, places_at, chain_at, references_in, lists_of, Linked, Holds}
-use Rattle.ilk_arena.proofs.General.{find-only}
+use Rattle.ilk_base.proofs.Lists.{find-only}
 use Rattle.ilk_arena.proofs.Blocks.{few-clauses}
 use Rattle.ilk_arena.proofs.Seen.{stands-from, lit-at-place, place-within, chain-seen, clause-seen, cursor-seen, references-seen, vars-seen, first-is, after-is}
 use Rattle.std.proofs.lemmas.Grind.{common_steps}

@@ -6,7 +6,7 @@ use Rattle.ilk_cnf.specs.Literal.{Literal, vars_differ}
 use Rattle.ilk_arena.specs.Arena.{ArenaLists}
 use Rattle.ilk_arena.specs.Words.{Stands, upd}
 use Rattle.ilk_arena.specs.Linked.{lit_at, clause_at, cursor_at, chain_at, references_in, lists_of, Linked, Laid, Holds}
-use Rattle.ilk_arena.proofs.General.{list-ext}
+use Rattle.ilk_base.proofs.Lists.{list-ext}
 use Rattle.ilk_arena.proofs.Blocks.{references-are, blocks-same, stands-at}
 use Rattle.ilk_arena.proofs.Seen.{chain-seen, chains-count}
 use Rattle.ilk_arena.proofs.Unlinking.{Alike}

@@ -1,8 +1,9 @@
 -- Items of lists: at an index, after a write, and of lists joined.
-use Rattle.std.proofs.Common.{◌≡◌, ℕ, List, [], ◌∷◌, ◌++◌, ◌+◌, length, arith, slice_get, set, Some, refl, ap, zero, suc, inl, inr, ◌⊎◌, sym, ◌∙◌, map, ◌<◌, Option, take, get_or, replicate, drop, drop-cons}
+use Rattle.std.proofs.Common.{Bool, true, add-one, ◌≡◌, ℕ, List, [], ◌∷◌, ◌++◌, ◌+◌, length, arith, slice_get, set, Some, refl, ap, zero, suc, inl, inr, ◌⊎◌, sym, ◌∙◌, map, ◌<◌, Option, take, get_or, replicate, drop, drop-cons}
 use Rattle.std.proofs.lemmas.List.{get_or-replicate, length-replicate, set-get_or}
 use Rattle.std.proofs.lemmas.Option.{get_or_from_slice_get, slice_get_within, same_Some}
-use Rattle.std.specs.List.{last_or}
+use Rattle.std.specs.List.{last_or, find}
+use Rattle.std.proofs.lemmas.Bool.{cases_Bool}
 
 -- writing what is there already changes nothing
 pub set_same : {X : Type 0} (xs : List X) (i : ℕ) (x : X) → slice_get xs i ≡ Some x → set xs i x ≡ xs
@@ -121,3 +122,39 @@ pub item_at : {X : Type 0} (xs : List X) (i : ℕ) → i < length xs → (x : X)
 item_at [] i within = absurd (omega arith)
 item_at (x ∷ xs) zero within = (x, refl)
 item_at (x ∷ xs) (suc i) within = item_at xs i (omega arith)
+
+-- lists of one length that agree at each place are equal
+pub list-ext : {A : Type 0} (d : A) (xs ys : List A) → length xs ≡ length ys → ((i : ℕ) → i < length xs → get_or xs i d ≡ get_or ys i d) → xs ≡ ys
+list-ext d [] [] n e = refl
+list-ext d [] (y ∷ ys) n e = absurd (omega (arith, n))
+list-ext d (x ∷ xs) [] n e = absurd (omega (arith, n))
+list-ext d (x ∷ xs) (y ∷ ys) n e =
+    let h : x ≡ y = e 0 (omega arith) in
+    let t : xs ≡ ys = list-ext d xs ys (omega (arith, n)) (λ i l. e (suc i) (omega arith)) in
+    ap (λ z. z ∷ xs) h ∙ ap (λ zs. y ∷ zs) t
+
+-- an item that passes, where every item that passes is it, is the first that passes
+pub find-only : {A : Type 0} (p : A → Bool) (xs : List A) (x : A) (i : ℕ) → slice_get xs i ≡ Some x → p x ≡ true → ((y : A) → p y ≡ true → y ≡ x) → find p xs ≡ Some x
+find-only p [] x i s h u = absurd (cc)
+find-only p (y ∷ ys) x zero s h u =
+    let e : y ≡ x = cc in
+    let q : p y ≡ true = ap p e ∙ h in
+    rw q (ap Some e)
+find-only p (y ∷ ys) x (suc i) s h u =
+    elim (cases_Bool (p y)) [
+      | inl q ↦ rw q (ap Some (u y q))
+      | inr q ↦ rw q (find-only p ys x i s h u)
+    ]
+
+-- the rest of a list at an index begins with the item there
+pub drop_at : {X : Type 0} (xs : List X) (i : ℕ) (x : X) → i < length xs → x ≡ get_or xs i x → drop i xs ≡ x ∷ drop (i + 1) xs
+drop_at {X} xs i x h e =
+    drop-cons xs i x h ∙ ap (λ (y : X). y ∷ drop (suc i) xs) (sym e) ∙ ap (λ (n : ℕ). x ∷ drop n xs) (sym (add-one i))
+
+-- an item of a list with one more at its end
+pub slice_get-push_cases : {A : Type 0} (xs : List A) (y x : A) (i : ℕ) → slice_get (xs ++ y ∷ []) i ≡ Some x → (slice_get xs i ≡ Some x) ⊎ ((i ≡ length xs) × (y ≡ x))
+slice_get-push_cases [] y x zero h = inr (refl, cc)
+slice_get-push_cases [] y x (suc i) h = absurd (cc)
+slice_get-push_cases (a ∷ xs) y x zero h = inl h
+slice_get-push_cases (a ∷ xs) y x (suc i) h =
+    elim (slice_get-push_cases xs y x i h) [ inl p ↦ inl p | inr p ↦ inr (ap suc p.0, p.1) ]

@@ -32,3 +32,7 @@ none-of (Some x) e = cc
 pub or_cases : {A : Type 0} (P : Type 0) (a b : Option A) (x : A) → option_or a b ≡ Some x → (a ≡ Some x → P) → (b ≡ Some x → P) → P
 or_cases P None b x e left right = right e
 or_cases P (Some y) b x e left right = left e
+
+pub option_or-none : {A : Type 0} (o : Option A) → option_or o None ≡ o
+option_or-none None = refl
+option_or-none (Some x) = refl

@@ -4,7 +4,7 @@ use Rattle.std.specs.List.{list_all}
 use Rattle.std.proofs.lemmas.List.{append-nil}
 use Rattle.std.proofs.lemmas.List.Folds.{list_all-append}
 use Rattle.std.proofs.lemmas.Bool.{and_parts, and_from, or_parts, or_from, or_left, cond_both, true≢false, eq-eqb, eqb-false, ne_eqb, not-true, not_from_false}
-use Rattle.ilk_cnf.proofs.General.{drop_at}
+use Rattle.ilk_base.proofs.Lists.{drop_at}
 use Rattle.ilk_cnf.specs.Literal.{Literal, has_lit, has_var, opposite}
 use Rattle.ilk_cnf.specs.Formula.{distinct, is_tautology, as_clause, clause_in, clauses_in}
 

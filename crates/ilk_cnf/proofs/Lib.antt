@@ -1,4 +1,3 @@
-pub mod General
 pub mod Literals
 pub mod Distinct
 pub mod Parts

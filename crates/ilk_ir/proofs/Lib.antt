@@ -1,3 +1,2 @@
-pub mod General
 pub mod Ranges
 pub mod Trees

@@ -8,7 +8,7 @@ use Rattle.ilk_ir.specs.System.{rule_tree, system_tree, rule_valid, system_valid
 use Rattle.ilk_ir.specs.declared.system.Setting.{Setting}
 use Rattle.ilk_ir.specs.declared.system.Rule.{Rule}
 use Rattle.ilk_ir.specs.declared.system.System.{System}
-use Rattle.ilk_ir.proofs.General.{list_all-get}
+use Rattle.ilk_base.proofs.Tested.{list_all-slice_get}
 
 -- a value below its range, at its place
 pub in_ranges-set : (values ranges : List ℕ) (v c : ℕ) → in_ranges values ranges ≡ true → value_valid ranges v c ≡ true → in_ranges (set values v c) ranges ≡ true
@@ -30,7 +30,7 @@ in_ranges-set_all (s ∷ sets) values ranges h k =
 pub system_valid-rule : (s : System) (n : ℕ) (r : Rule) → system_valid (system_tree s) ≡ true → slice_get s.rules n ≡ Some r → rule_valid s.ranges (rule_tree r) ≡ true
 system_valid-rule s n r valid at =
     let each = (and_parts _ _ valid).1 in
-    list_all-get (λ (q : Rule). rule_valid s.ranges (rule_tree q)) s.rules n r (sym (list_all-map (rule_valid s.ranges) rule_tree s.rules) ∙ each) at
+    list_all-slice_get (λ (q : Rule). rule_valid s.ranges (rule_tree q)) s.rules n r (sym (list_all-map (rule_valid s.ranges) rule_tree s.rules) ∙ each) at
 
 pub fire-in_ranges : (s : System) (n : ℕ) (r : Rule) (values : List ℕ) → slice_get s.rules n ≡ Some r → system_valid (system_tree s) ≡ true → in_ranges values s.ranges ≡ true → in_ranges (set_all values r.sets) s.ranges ≡ true
 fire-in_ranges s n r values at valid h =

@@ -5,8 +5,7 @@ use Rattle.std.proofs.lemmas.Bool.{and_parts, and_from, or_cases, or_parts, or_f
 use Rattle.std.proofs.lemmas.Option.{cond_some, same_Some}
 use Rattle.ilk_base.specs.Option.{◌>>=◌}
 use Rattle.ilk_base.proofs.Tested.{list_any-at, list_all-slice_get, list_all-more}
-use Rattle.ilk_base.proofs.Options.{some-and}
-use Rattle.ilk_lines.proofs.General.{bind_some}
+use Rattle.ilk_base.proofs.Options.{some-and, bind_some}
 use Rattle.ilk_cnf.specs.Literal.{Literal, opposite, same_lit, has_lit, vars_differ}
 use Rattle.ilk_cnf.specs.Formula.{Formula, clause_in}
 use Rattle.ilk_cnf.specs.Truth.{value, is_true, some_true, satisfies}

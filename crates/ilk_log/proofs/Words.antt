@@ -1,14 +1,11 @@
 -- The words of a line tell a step exactly where they are that step's words.
-use Rattle.std.proofs.Common.{◌≡◌, ℕ, ◌-◌, ◌^◌, ◌<◌, ◌≤◌, inl, inr, Bool, true, false, ◌&&◌, ◌==◌, List, [], ◌∷◌, ◌++◌, map, refl, sym, ap, ◌∙◌, subst, arith, append_assoc, Option, Some, None}
+use Rattle.std.proofs.Common.{◌≡◌, ℕ, ◌-◌, ◌^◌, ◌<◌, ◌≤◌, inl, inr, Bool, true, false, ◌&&◌, ◌==◌, List, [], ◌∷◌, ◌++◌, map, refl, sym, ap, ◌∙◌, subst, arith, append_assoc, Option, Some, None, lit<}
 use Rattle.std.proofs.lemmas.List.{append-nil}
-use Rattle.std.specs.Prelude.{Result, Ok, Err, IfOk}
-use Rattle.std.specs.Prelude.{codes, bytes_eq, nat_lt, All, ◌↔◌}
+use Rattle.std.specs.Prelude.{Result, Ok, Err, IfOk, codes, bytes_eq, nat_lt, All, ◌↔◌, option_map, nat_le}
 use Rattle.std.specs.Fmt.{decimal}
 use Rattle.std.specs.List.{list_all, list_any}
 use Rattle.std.proofs.lemmas.Bool.{and_parts, and_from, cases_Bool, or_parts, ltb-true, lt-ltb, leb-true, le-leb, eqb-true}
-use Rattle.std.specs.Prelude.{option_map, nat_le}
-use Rattle.std.proofs.Common.{lit<}
-use Rattle.ilk_base.proofs.Options.{mapped-Some}
+use Rattle.ilk_base.proofs.Options.{mapped-Some, bind_some}
 use Rattle.std.proofs.lemmas.Slice.Eq.{bytes_eq-Decides}
 use Rattle.std.proofs.lemmas.List.Elements.{All-nil, All-cons, All-append}
 use Rattle.std.proofs.lemmas.Option.{cond_some, some_pair_parts, same_Some}
@@ -21,7 +18,6 @@ use Rattle.ilk_lines.specs.Written.{line_of, Lacks}
 use Rattle.ilk_lines.specs.Decimal.{decimal_up_to}
 use Rattle.ilk_lines.proofs.Decimals.{decimal-written, decimal_back, decimal_lacks}
 use Rattle.ilk_lines.proofs.Cuts.{parts_follow}
-use Rattle.ilk_lines.proofs.General.{bind_some}
 use Rattle.ilk_lines.proofs.LineWords.{line-words, words_back}
 use Rattle.ilk_log.specs.declared.step.Step.{Step}
 use Rattle.ilk_log.specs.StepText.{lit_word, step_words, step_text, has_numbers}

@@ -7,7 +7,7 @@ use Rattle.std.proofs.lemmas.List.Folds.{find-append}
 use Rattle.ilk_trail.specs.declared.entry.Entry.{Entry}
 use Rattle.ilk_trail.specs.Trail.{entry_of}
 use Rattle.ilk_trail.specs.Laws.{lits_of, is_set}
-use Rattle.ilk_trail.proofs.General.{option_or-none}
+use Rattle.ilk_base.proofs.Options.{option_or-none}
 
 pub lits_of-push : (es : List Entry) (e : Entry) → lits_of (es ++ e ∷ []) ≡ lits_of es ++ e.lit ∷ []
 lits_of-push [] e = refl

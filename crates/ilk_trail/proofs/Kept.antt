@@ -4,8 +4,7 @@ use Rattle.std.specs.List.{slice_get}
 use Rattle.std.specs.Option.{option_map}
 use Rattle.std.proofs.lemmas.Bool.{cases_eq}
 use Rattle.std.proofs.lemmas.Option.{slice_get_within}
-use Rattle.std.proofs.lemmas.List.{length-map}
-use Rattle.std.proofs.lemmas.List.{get_or-set_same, get_or-set_other}
+use Rattle.std.proofs.lemmas.List.{length-map, get_or-set_same, get_or-set_other}
 use Rattle.std.proofs.Math.ListN.{length-set}
 use Rattle.ilk_cnf.specs.Literal.{Literal}
 use Rattle.ilk_cnf.specs.Formula.{lit_in}
@@ -14,7 +13,7 @@ use Rattle.ilk_trail.specs.declared.entry.Entry.{Entry}
 use Rattle.ilk_trail.specs.Trail.{TrailList, entry_of, last_level, level_of}
 use Rattle.ilk_trail.specs.Laws.{IsTrail, is_next, is_set, lits_of}
 use Rattle.ilk_trail.specs.Stored.{Stored}
-use Rattle.ilk_trail.proofs.General.{slice_get-push_cases, slice_get-append_left}
+use Rattle.ilk_base.proofs.Lists.{slice_get-push_cases, at-before}
 use Rattle.ilk_trail.proofs.Entries.{lits_of-push, entry_of-unset, entry_of-other, entry_of-new, found, set-at}
 use Rattle.ilk_trail.proofs.Literals.{lit_in-parts, vars_differ-front, clause_in-push, clause_in-front, count_of_vars}
 use Rattle.ilk_trail.proofs.Levels.{climbs-push, climbs-front, level-small}
@@ -80,7 +79,7 @@ stored-take values places n es e size more k le =
             subst P (sym p) (get_or-set_same values e.lit.var None None (omega (arith, k.values_long, w)) ∙ sym (ap (option_map sign) (entry_of-unset es e.lit.var u))))
         | inr p ↦ get_or-set_other values e.lit.var v None None p ∙ k.value v b ∙ ap (option_map sign) (entry_of-other es e v p)
       ];
-      place = λ i x s. k.place i x (slice_get-append_left es (e ∷ []) x i s);
+      place = λ i x s. k.place i x (at-before es (e ∷ []) i x s);
       is_trail = t.0;
     }
 

@@ -1,10 +1,9 @@
-use Rattle.std.proofs.Common.{◌∷◌, []}
+use Rattle.std.proofs.Common.{◌∷◌, [], ◌+◌, arith}
 use Rattle.std.specs.List.{list_all}
 use Rattle.ilk_cnf.specs.Truth.{is_true}
 use Rattle.ilk_cnf.specs.Extends.{Only}
 use Rattle.ilk_cnf.specs.Part.{all_of_part}
 use Rattle.ilk_cnf.proofs.Extending.{extends-as_clauses, all_of-law}
-use Rattle.std.proofs.Common.{◌+◌, arith}
 use Rattle.ilk_cnf.proofs.Literals.{clause_in-more}
 use Rattle.ilk_cnf.proofs.gate.all_of.Goals as goal
 

@@ -1,9 +1,8 @@
-use Rattle.std.proofs.Common.{◌∷◌, []}
+use Rattle.std.proofs.Common.{◌∷◌, [], ◌+◌, ◌∙◌, map, arith}
 use Rattle.ilk_cnf.specs.Truth.{some_true}
 use Rattle.ilk_cnf.specs.Extends.{Only}
 use Rattle.ilk_cnf.specs.Part.{any_of_part}
 use Rattle.ilk_cnf.proofs.Extending.{extends-as_clauses, any_of-law}
-use Rattle.std.proofs.Common.{◌+◌, ◌∙◌, map, arith}
 use Rattle.ilk_cnf.specs.Literal.{opposite}
 use Rattle.ilk_cnf.proofs.Literals.{clause_in-more}
 use Rattle.ilk_cnf.proofs.Gates.{opposites-in}

@@ -1,7 +1,7 @@
 use Rattle.std.proofs.Common.{◌+◌, ◌∷◌, ◌∙◌, List, drop, sym, ap}
 use Rattle.ilk_cnf.specs.Literal.{Literal}
 use Rattle.ilk_cnf.specs.Formula.{clause_in}
-use Rattle.ilk_cnf.proofs.General.{drop_at}
+use Rattle.ilk_base.proofs.Lists.{drop_at}
 use Rattle.ilk_ints.proofs.OneOfLaw.{first-two, one_of_step}
 use Rattle.ilk_ints.proofs.selection.one_of_rest.Goals as goal
 

@@ -1,7 +1,7 @@
 use Rattle.std.proofs.Common.{◌+◌, ◌≤◌, ◌^◌, ◌∙◌, ◌++◌, ◌∷◌, List, ℕ, drop, ap, sym, arith, subst}
 use Rattle.ilk_cnf.specs.Literal.{Literal}
 use Rattle.ilk_cnf.specs.Formula.{clause_in}
-use Rattle.ilk_cnf.proofs.General.{drop_at}
+use Rattle.ilk_base.proofs.Lists.{drop_at}
 use Rattle.ilk_ints.specs.Bits.{bit_count}
 use Rattle.ilk_ints.specs.Named.{bounds_from}
 use Rattle.ilk_ints.proofs.AtMostLaw.{bits_some}

@@ -9,9 +9,8 @@ use Rattle.ilk_arena.specs.Linked.{lists_of, references_in, Holds}
 use Rattle.ilk_arena.proofs.Law.{arena-law}
 use Rattle.ilk_arena.proofs.Adding.{block}
 use Rattle.ilk_arena.proofs.Readings.{vars-are, spare-is, spare-are, count-fits, written}
-use Rattle.ilk_arena.proofs.AddedClauses.{new-reference}
+use Rattle.ilk_arena.proofs.AddedClauses.{new-reference, long-law, words_long, heads_long, lit-fits}
 use Rattle.ilk_arena.proofs.arena.Arena.add_long.Goals as goal
-use Rattle.ilk_arena.proofs.AddedClauses.{long-law, words_long, heads_long, lit-fits, new-reference}
 
 pub place-left-requires : goal.place-left-requires
 place-left-requires c =
