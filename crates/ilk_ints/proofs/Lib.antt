@@ -4,3 +4,4 @@ pub mod NumberLaw
 pub mod AtMostLaw
 pub mod ValuesLaw
 pub mod BoundsLaw
+pub mod TableParts

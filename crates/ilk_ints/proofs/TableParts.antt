@@ -1,0 +1,82 @@
+-- Where the parts of values and bounds end, and what they speak of.
+use Rattle.std.proofs.Common.{◌≡◌, ◌==◌, ℕ, ◌+◌, ◌-◌, ◌^◌, ◌<◌, ◌≤◌, zero, suc, Bool, true, false, ◌&&◌, List, [], ◌∷◌, Option, Some, None, unwrap_or, length, take, cond, refl, inl, inr, sym, ap, ◌∙◌, subst, arith, leb}
+use Rattle.std.specs.List.{find, range_with_len}
+use Rattle.std.proofs.lemmas.Bool.{and_parts, and_from, eqb-true, lt-ltb, le-leb, leb-true, cases_lt}
+use Rattle.ilk_cnf.specs.Literal.{Literal, plus}
+use Rattle.ilk_cnf.specs.Formula.{lit_in, clause_in, clauses_in}
+use Rattle.ilk_cnf.specs.Part.{Part, nothing_at}
+use Rattle.ilk_ints.specs.Bits.{bit_count}
+use Rattle.ilk_ints.specs.Named.{Named, values_from, values_part, bound_count, bounds_from, bounds_part}
+use Rattle.ilk_ints.proofs.AtMostLaw.{bits_some}
+use Rattle.ilk_ints.proofs.ValuesLaw.{values-low, values-in, values-lits_in}
+use Rattle.ilk_ints.proofs.BoundsLaw.{bounds-low, bounds-in, some-inside}
+
+-- a range up to 256 has enough bits
+
+find-passes : (p : ℕ → Bool) (xs : List ℕ) (k : ℕ) → find p xs ≡ Some k → p k ≡ true
+find-passes p [] k h = cc
+find-passes p (x ∷ xs) k h = by_case (p x) refl h (find-passes p xs k)
+  where
+    by_case : (b : Bool) → p x ≡ b → cond b (Some x) (find p xs) ≡ Some k → (find p xs ≡ Some k → p k ≡ true) → p k ≡ true
+    by_case true here e rest = (let same : x ≡ k = cc in ap p (sym same) ∙ here)
+    by_case false here e rest = rest e
+
+pub bit_count-enough : (range : ℕ) → range ≤ 256 → range ≤ 2 ^ bit_count range
+bit_count-enough range high = by_case (find (λ b. leb range (2 ^ b)) (range_with_len 0 8)) refl
+  where
+    by_case : (o : Option ℕ) → find (λ b. leb range (2 ^ b)) (range_with_len 0 8) ≡ o → range ≤ 2 ^ unwrap_or o 8
+    by_case None h = high
+    by_case (Some b) h = leb-true range (2 ^ b) (find-passes (λ b. leb range (2 ^ b)) (range_with_len 0 8) b h)
+
+-- the literals of values
+
+abbrev two : ℕ → ℕ → Named
+two first n =
+    record {
+      part = nothing_at n;
+      lits = (record { var = first; positive = (0 == 1) }) ∷ (record { var = first; positive = (1 == 1) }) ∷ [];
+    }
+
+pub values_part-in : (first range n : ℕ) → 0 < first → first + bit_count range ≤ n + 1 → clauses_in (values_part first range n).part.vars (values_part first range n).part.clauses ≡ true
+values_part-in first range n low high = by_case (range == 2)
+  where
+    by_case : (h : Bool) → clauses_in (cond h (two first n) (values_from first range 0 range n)).part.vars (cond h (two first n) (values_from first range 0 range n)).part.clauses ≡ true
+    by_case true = refl
+    by_case false = values-in range first range 0 n low high
+
+pub values_part-lits_in : (first range n : ℕ) → 0 < first → first + bit_count range ≤ n + 1 → clause_in (values_part first range n).part.vars (values_part first range n).lits ≡ true
+values_part-lits_in first range n low high = by_case (range == 2) refl
+  where
+    by_case : (h : Bool) → (range == 2) ≡ h → clause_in (cond h (two first n) (values_from first range 0 range n)).part.vars (cond h (two first n) (values_from first range 0 range n)).lits ≡ true
+    by_case true h =
+        let one : bit_count range ≡ 1 = ap bit_count (eqb-true range 2 h) in
+        let var_in : lit_in n (plus first) ≡ true = and_from _ _ (lt-ltb 0 first low) (le-leb first n (omega (arith, high, one))) in
+        and_from _ _ var_in (and_from _ _ var_in refl)
+    by_case false h = values-lits_in range first range 0 n (values_from first range 0 range n).part.vars (omega (arith, values-low range first range 0 n))
+
+length-values_from : (j first range v n : ℕ) → length (values_from first range v j n).lits ≡ j
+length-values_from zero first range v n = refl
+length-values_from (suc j) first range v n = ap suc (length-values_from j first range (v + 1) (n + 1))
+
+pub length-values_part : (first range n : ℕ) → length (values_part first range n).lits ≡ range
+length-values_part first range n = by_case (range == 2) refl
+  where
+    by_case : (h : Bool) → (range == 2) ≡ h → length (cond h (two first n) (values_from first range 0 range n)).lits ≡ range
+    by_case true h = sym (eqb-true range 2 h)
+    by_case false h = length-values_from range first range 0 n
+
+-- the literals of bounds
+
+pub bounds_part-low : (values : List Literal) (first range n : ℕ) → n ≤ (bounds_part first range values n).part.vars
+bounds_part-low [] first range n = omega arith
+bounds_part-low (e ∷ es) first range n = bounds-low (take (bound_count range) es) first range 1 n e
+
+pub bounds_part-in : (values : List Literal) (first range n : ℕ) → 0 < first → first + bit_count range ≤ n + 1 → range ≤ 2 ^ bit_count range → clause_in n values ≡ true → clauses_in (bounds_part first range values n).part.vars (bounds_part first range values n).part.clauses ≡ true
+bounds_part-in [] first range n low high enough h = refl
+bounds_part-in (e ∷ es) first range n low high enough h =
+    elim (cases_lt 1 range) [
+      inl more ↦ bounds-in (take (bound_count range) es) first range 1 n e low (bits_some range (bit_count range) more enough) high (some-inside n (bound_count range) e es h)
+    | inr one ↦
+        (let none : 0 ≡ bound_count range = omega arith in
+        subst (λ (j : ℕ). clauses_in (bounds_from first range e 1 (take j es) n).part.vars (bounds_from first range e 1 (take j es) n).part.clauses ≡ true) none refl)
+    ]
