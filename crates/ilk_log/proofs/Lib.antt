@@ -2,3 +2,4 @@ pub mod Texts
 pub mod Words
 pub mod Examples
 pub mod Sound
+pub mod Count

@@ -13,7 +13,7 @@ use Rattle.ilk_log.specs.declared.step.Step.{Step}
 use Rattle.ilk_log.specs.Propagation.{is_false, is_falsified, lone_unset, unit_of, numbered, after_hint}
 use Rattle.ilk_log.specs.Derived.{opposites, ends_false, is_derived, each_derived, is_derived_log, is_empty, ends_empty, is_refutation}
 
-lit-is : (l m : Literal) → same_lit l m ≡ true → l ≡ m
+pub lit-is : (l m : Literal) → same_lit l m ≡ true → l ≡ m
 lit-is l m h = (let p = and_parts (eqb l.var m.var) _ h in go l.var m.var l.positive m.positive (eqb-true l.var m.var p.0) p.1)
   where
     go : (v w : ℕ) (a b : Bool) → v ≡ w → cond a b (not b) ≡ true → ◌≡◌ {A = Literal} (record { var = v; positive = a }) (record { var = w; positive = b })

@@ -22,7 +22,8 @@ IsFresh clauses c = (l : Literal) × IsTrue (has_lit l c) × StaysOpen clauses c
 
 -- each step with a literal is fresh over the clauses and the steps before it
 abbrev pub EachFresh : List (List Literal) → List Step → Type 0
-EachFresh clauses steps = (before after : List Step) (s : Step) → before ++ s ∷ after ≡ steps → is_empty s.clause ≡ false → IsFresh (clauses ++ step_clauses before) s.clause
+EachFresh clauses [] = Unit {0}
+EachFresh clauses (s ∷ steps) = (is_empty s.clause ≡ false → IsFresh clauses s.clause) × EachFresh (clauses ++ s.clause ∷ []) steps
 
 -- no list of hints derives the empty clause, and some clause that has a literal could be added by a
 -- derived and fresh step

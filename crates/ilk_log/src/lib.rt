@@ -7,8 +7,9 @@
 //! definitions speak of lists of clauses and of numbers alone.
 //!
 //! `write_step` gives the one line of a step, and `read_step` takes exactly these lines.
-//! `refutations_refute` is the law that carries the rest: no assignment satisfies a formula that a log
-//! refutes.
+//! Two laws carry the rest: no assignment satisfies a formula that a log refutes
+//! (`refutations_refute`), and over n variables fewer than 3^n derived steps with a literal are fresh
+//! (`fresh_steps_are_few`).
 #![tactic(auto)]
 
 mod laws;
@@ -16,7 +17,7 @@ mod read;
 mod step;
 mod write;
 
-pub use laws::refutations_refute;
+pub use laws::{fresh_steps_are_few, refutations_refute};
 pub use read::read_step;
 pub use step::{Hints, Log, Step};
 pub use write::write_step;
