@@ -7,6 +7,7 @@ use Rattle.std.proofs.lemmas.List.Quantifiers.{position-Some}
 use Rattle.std.proofs.lemmas.Slice.Eq.{bytes_eq-Decides}
 use Rattle.std.proofs.lemmas.Str.{IsUtf8-from_ascii}
 use Rattle.std.proofs.lemmas.Bool.{and_parts}
+use Rattle.ilk_plant.specs.declared.limits.TheConstants.{MAX_NAME}
 use Rattle.ilk_plant.specs.Name.{IsName, is_name_character, lies_within}
 use Rattle.ilk_plant.specs.Plant.{IsPlant, PlantLists, first_named}
 use Rattle.ilk_lines.specs.Lines.{Bytes}
@@ -21,7 +22,7 @@ pub record HasPlainNames (p : PlantLists) : Type 0 where
   pub section_words : All (Lacks 32) p.section_names
 
 name-lacks : (c : ℕ) → is_name_character c ≡ false → (name : Bytes) → IsName name → Lacks c name
-name-lacks c other name is = lacks_failing is_name_character c name other (and_parts (lies_within 1 32 (length name)) (list_all is_name_character name) is).1
+name-lacks c other name is = lacks_failing is_name_character c name other (and_parts (lies_within 1 MAX_NAME (length name)) (list_all is_name_character name) is).1
 
 each-lacks : (c : ℕ) → is_name_character c ≡ false → (names : List Bytes) → All IsName names → All (Lacks c) names
 each-lacks c other names is k d within = name-lacks c other (get_or names k d) (is k d within)
@@ -44,7 +45,7 @@ ascii (c ∷ name) h zero = character-ascii c (and_parts (is_name_character c) (
 ascii (c ∷ name) h (suc i) = ascii name (and_parts (is_name_character c) (list_all is_name_character name) h).1 i
 
 name-utf8 : (name : Bytes) → IsName name → IsUtf8 name
-name-utf8 name is = IsUtf8-from_ascii name (ascii name (and_parts (lies_within 1 32 (length name)) (list_all is_name_character name) is).1)
+name-utf8 name is = IsUtf8-from_ascii name (ascii name (and_parts (lies_within 1 MAX_NAME (length name)) (list_all is_name_character name) is).1)
 
 -- what isn't UTF-8 is none of these names
 pub no_utf8-unnamed : (names : List Bytes) (name : Bytes) → All IsName names → (IsUtf8 name → ⊥) → None ≡ first_named names name
