@@ -1,5 +1,5 @@
 -- How the clause of some literals is made in one walk over them.
-use Rattle.std.proofs.Common.{◌≡◌, ◌<◌, ◌+◌, suc, add-one, length, get_or, drop, drop-cons, subst, Option, Some, option_to_list, Bool, true, false, not, ◌&&◌, List, [], ◌∷◌, ◌++◌, refl, eqb, ℕ, sym, ap, ◌∙◌, append_assoc, cond}
+use Rattle.std.proofs.Common.{◌≡◌, ◌<◌, ◌+◌, length, get_or, drop, subst, Option, Some, option_to_list, Bool, true, false, not, ◌&&◌, List, [], ◌∷◌, ◌++◌, refl, eqb, ℕ, sym, ap, ◌∙◌, append_assoc, cond}
 use Rattle.std.specs.List.{list_all}
 use Rattle.std.proofs.lemmas.List.{append-nil}
 use Rattle.std.proofs.lemmas.List.Folds.{list_all-append}

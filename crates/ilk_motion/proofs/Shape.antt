@@ -1,7 +1,7 @@
 -- No event of a train breaks the shape.
 use Rattle.std.proofs.Common.{suc, ◌≡◌, ℕ, ◌<◌, true, Option, Some, None, List, [], ◌∷◌, ◌++◌, All, length, slice_get, remove, take, drop, subst, ◌∙◌, position, IsTrue, refl, nat_lt, length-set, arith}
-use Rattle.std.proofs.lemmas.Option.{option_and_then_some, cond_some, same_Some, slice_get_within, get_or_from_slice_get}
-use Rattle.std.proofs.lemmas.List.Elements.{All-push, All-set, All-append, All-take, All-drop, All-get_or}
+use Rattle.std.proofs.lemmas.Option.{option_and_then_some, cond_some, same_Some, slice_get_within}
+use Rattle.std.proofs.lemmas.List.Elements.{All-push, All-set, All-append, All-take, All-drop}
 use Rattle.std.proofs.lemmas.Bool.Decides.{nat_tests}
 use Rattle.ilk_plant.specs.Network.{has_section, inward, beside}
 use Rattle.ilk_plant.specs.Plant.{PlantLists, IsPlant, border, next_to, board_of}

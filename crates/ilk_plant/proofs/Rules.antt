@@ -1,5 +1,5 @@
 -- What an empty list of broken rules says: each test of a rule fails at each place.
-use Rattle.std.proofs.Common.{◌≡◌, ℕ, ◌<◌, Bool, false, None, List, [], ◌++◌, length}
+use Rattle.std.proofs.Common.{◌≡◌, ℕ, ◌<◌, Bool, false, None, [], length}
 use Rattle.std.specs.List.{filter, range_with_len}
 use Rattle.ilk_plant.specs.Broken.{broken_at}
 use Rattle.ilk_plant.specs.Draft.{is_named_before, names_of_boards, names_of_sections}
@@ -9,7 +9,7 @@ use Rattle.ilk_plant.specs.TableRules.{has_conflicts_once, has_destination_or_no
 use Rattle.ilk_plant.specs.declared.broken.Rule.{Rule}
 use Rattle.ilk_plant.specs.declared.broken.Rule.TheVariants.{N1, N2, N3, N4, N5, N6, N7, N8, R1, R2, R3, R4, R5, R6}
 use Rattle.ilk_plant.specs.declared.draft.NetDraft.{NetDraft}
-use Rattle.ilk_base.proofs.Lists.{append-none, map-none, eight-none, six-none}
+use Rattle.ilk_base.proofs.Lists.{map-none, eight-none, six-none}
 use Rattle.ilk_base.proofs.Ranges.{range-at}
 use Rattle.ilk_base.proofs.Tested.{filter-none}
 

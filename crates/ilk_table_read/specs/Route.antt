@@ -2,7 +2,6 @@
 use Rattle.std.specs.Prelude.{Option, List, codes}
 use Rattle.serde_json.specs.Data.{Data}
 use Rattle.ilk_base.specs.Option.{◌>>=◌, only_if}
-use Rattle.ilk_plant.specs.Name.{Name}
 use Rattle.ilk_plant.specs.Words.{position_of_word}
 use Rattle.ilk_plant.specs.declared.draft.ListedDraft.{ListedDraft}
 use Rattle.ilk_plant.specs.declared.draft.RouteDraft.{RouteDraft}
