@@ -1,4 +1,5 @@
--- A line of two linear sections, a and then b, with no board and no route.
+-- A worked plant, cited by private contracts alone: a line of two linear sections, a and then b, with no board and
+-- no route.
 use Rattle.std.specs.Prelude.{ℕ, Option, Some, None, List, [], ◌∷◌, map}
 use Rattle.ilk_base.specs.Option.{◌>>=◌}
 use Rattle.ilk_plant.specs.Plant.{PlantLists}

@@ -1,4 +1,5 @@
--- Small networks: a plain line of two sections, the same with a neighbour left out, rings, and lines that divide in two.
+-- Worked networks, cited by private contracts alone: a plain line of two sections, the same with a neighbour left out,
+-- rings, and lines that divide in two.
 use Rattle.std.specs.Prelude.{ℕ, Option, Some, None, [], ◌∷◌}
 use Rattle.ilk_plant.specs.Name.{Name}
 use Rattle.ilk_plant.specs.declared.broken.Broken.{Broken}

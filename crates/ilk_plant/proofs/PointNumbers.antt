@@ -6,7 +6,8 @@ use Rattle.std.proofs.lemmas.List.Sums.{count_by_more_no, count_by_more_yes}
 use Rattle.std.proofs.lemmas.Option.{cond_some, option_and_then_some, same_Some, slice_get-get_or, slice_get-map}
 use Rattle.ilk_base.specs.Option.{◌>>=◌, only_if}
 use Rattle.ilk_plant.specs.Network.{is_point}
-use Rattle.ilk_plant.specs.Plant.{PlantLists, point_count, point_number, point_numbers}
+use Rattle.ilk_plant.specs.Plant.{PlantLists, point_count, point_number}
+use Rattle.ilk_plant.specs.Kept.{point_numbers}
 use Rattle.ilk_plant.specs.declared.network.Section.{Section}
 use Rattle.ilk_base.proofs.Options.{IfSome-from}
 use Rattle.ilk_base.proofs.Ranges.{range-at}

@@ -13,7 +13,8 @@ use Rattle.ilk_plant.specs.Draft.{boards_from, names_of_boards, names_of_routes,
 use Rattle.ilk_plant.specs.Plant.{IsPlant, PlantLists}
 use Rattle.ilk_base.proofs.Once.{EachOnce}
 use Rattle.ilk_plant.specs.declared.network.Dir.TheVariants.{Up, Down}
-use Rattle.ilk_plant.specs.Sound.{AreSound, IsOfDrafts, IsSound}
+use Rattle.ilk_plant.specs.Sound.{AreSound, IsOfDrafts}
+use Rattle.ilk_plant.specs.Kept.{IsSound}
 use Rattle.ilk_plant.specs.TableRules.{routes_broken}
 use Rattle.ilk_plant.specs.declared.draft.NetDraft.{NetDraft}
 use Rattle.ilk_plant.specs.declared.draft.TableDraft.{TableDraft}

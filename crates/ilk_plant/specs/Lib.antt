@@ -15,3 +15,4 @@ pub mod Words
 pub mod NetworkRules
 pub mod Limits
 pub mod Sound
+pub mod Kept

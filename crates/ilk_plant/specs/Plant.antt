@@ -1,6 +1,5 @@
 -- The plant: its numbered sections, boards and routes, with their names.
 use Rattle.std.specs.Prelude.{ℕ, ◌<◌, ◌≤◌, ◌≡◌, ◌≢◌, ◌↔◌, Bool, false, Option, Some, None, IsSome, List, [], ◌++◌, length, map, take, slice_get, count_by, position, bytes_eq, IsTrue, All}
-use Rattle.std.specs.List.{range_with_len}
 use Rattle.ilk_base.specs.Option.{◌>>=◌, is_some_and, only_if}
 use Rattle.ilk_plant.specs.Name.{IsName}
 use Rattle.ilk_plant.specs.Once.{all_differ, none_twice}
@@ -44,10 +43,6 @@ abbrev pub point_number : PlantLists → ℕ → Option ℕ
 point_number p x = do
   section ← slice_get p.sections x
   only_if (is_point section) (count_by is_point (take x p.sections))
-
--- for each section its number among the points, if it is one
-abbrev pub point_numbers : PlantLists → List (Option ℕ)
-point_numbers p = map (point_number p) (range_with_len 0 (length p.sections))
 
 abbrev pub point_count : PlantLists → ℕ
 point_count p = count_by is_point p.sections

@@ -1,9 +1,9 @@
 -- Which plants there are: those of drafts within the limits that break no rule.
-use Rattle.std.specs.Prelude.{ℕ, IsTrue, ◌≡◌, Option, List, [], ◌∷◌}
+use Rattle.std.specs.Prelude.{ℕ, IsTrue, ◌≡◌, List, [], ◌∷◌}
 use Rattle.ilk_plant.specs.Draft.{numbered}
 use Rattle.ilk_plant.specs.Limits.{HasLimits}
 use Rattle.ilk_plant.specs.NetworkRules.{network_rules_broken}
-use Rattle.ilk_plant.specs.Plant.{IsPlant, PlantLists, point_numbers}
+use Rattle.ilk_plant.specs.Plant.{PlantLists}
 use Rattle.ilk_plant.specs.Once.{none_twice}
 use Rattle.ilk_plant.specs.Shape.{leads_on}
 use Rattle.ilk_plant.specs.TableRules.{table_rules_broken}
@@ -27,14 +27,3 @@ pub record IsOfDrafts (p : PlantLists) : Type 0 where
 -- no walk in one direction comes to a section twice
 abbrev pub NeverReturns : PlantLists → Type 0
 NeverReturns p = (d : Dir) (x : ℕ) (walk : List ℕ) → IsTrue (leads_on p d x walk) → IsTrue (none_twice (x ∷ walk))
-
--- what holds of every plant: the facts of its numbers, that no walk returns, and that it comes of sound drafts
-pub record IsSound (p : PlantLists) : Type 0 where
-  pub plant : IsPlant p
-  pub walks : NeverReturns p
-  pub drafts : IsOfDrafts p
-
--- a sound plant with the numbers of its points
-pub record IsIndexed (p : PlantLists) (numbers : List (Option ℕ)) : Type 0 where
-  pub sound : IsSound p
-  pub points : numbers ≡ point_numbers p

@@ -1,7 +1,8 @@
 ghost use Rattle.std.specs.Prelude.{◌≡◌, ◌≤◌, ◌<◌, IfOk, Some, length, slice_get};
 ghost use Rattle.ilk_plant.specs.Draft.{is_named_before, numbered};
 ghost use Rattle.ilk_plant.specs.TableRules.{is_board, is_other_route, is_section};
-ghost use Rattle.ilk_plant.specs.Plant.{is_point_section, point_numbers};
+ghost use Rattle.ilk_plant.specs.Plant.{is_point_section};
+ghost use Rattle.ilk_plant.specs.Kept.{point_numbers};
 ghost use Rattle.ilk_plant.specs.declared.limits.TheConstants.{MAX_SECTIONS, MAX_ROUTES};
 
 use crate::names::Names;

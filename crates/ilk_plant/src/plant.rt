@@ -1,5 +1,6 @@
 ghost use Rattle.std.specs.Prelude.{◌≡◌, ◌<◌, ◌≤◌, length, slice_get, Some, IfOk, IfSome};
-ghost use Rattle.ilk_plant.specs.Sound.{IsOfDrafts, IsSound, NeverReturns};
+ghost use Rattle.ilk_plant.specs.Sound.{IsOfDrafts, NeverReturns};
+ghost use Rattle.ilk_plant.specs.Kept.{IsSound};
 ghost use Rattle.ilk_plant.specs.Plant.{IsPlant, IsRouteOf, board_of, border, first_named, next_to, point_count, point_number};
 
 use crate::{Board, Dir, Names, Numbered, Route, Row, Section};
@@ -27,7 +28,7 @@ pub struct Plant {
 
 impl Model for Plant {
     ghost use Rattle.ilk_plant.specs.Plant.{PlantLists};
-    ghost use Rattle.ilk_plant.specs.Sound.{IsIndexed};
+    ghost use Rattle.ilk_plant.specs.Kept.{IsIndexed};
 
     ghost Value = { PlantLists };
 

@@ -1,4 +1,5 @@
--- Short lines of two sections, a and b from down to up: their values in a configuration, and their drafts.
+-- Worked configurations, cited by private contracts alone: short lines of two sections, a and b from down to up, their
+-- values and their drafts.
 use Rattle.std.specs.Prelude.{ℕ, List, [], ◌∷◌, Option, Some, None, codes}
 use Rattle.serde_json.specs.Data.{Data, null, number, unsigned, string, array, object, Items, no_items, item, no_members, member}
 use Rattle.ilk_plant.specs.Name.{Name}

@@ -1,4 +1,4 @@
--- A command line but for where the texts of its possible values lie in memory.
+-- Cited by private contracts alone: a command line but for where the texts of its possible values lie in memory.
 use Rattle.std.specs.Prelude.{List, map, option_map}
 use Rattle.std.specs.Borrow.{Bor}
 use Rattle.clap.specs.Words.{App, Rule, Shape, Text}

@@ -1,6 +1,6 @@
 use Rattle.std.proofs.Common.{subst, sym}
 use Rattle.ilk_plant.proofs.Sound.{numbered-IsSound}
-use Rattle.ilk_plant.specs.Sound.{IsSound}
+use Rattle.ilk_plant.specs.Kept.{IsSound}
 use Rattle.ilk_plant.proofs.plant.Plant.make.Goals as goal
 
 pub of_numbered-requires : goal.of_numbered-requires

@@ -1,5 +1,6 @@
 use Rattle.std.proofs.Common.{ap, arith, length, sym, subst, ◌<◌, ◌≡◌, ◌∙◌, IfSome, ℕ, Option}
-use Rattle.ilk_plant.specs.Plant.{point_count, point_number, point_numbers}
+use Rattle.ilk_plant.specs.Plant.{point_count, point_number}
+use Rattle.ilk_plant.specs.Kept.{point_numbers}
 use Rattle.ilk_plant.proofs.PointNumbers.{indexed-number, length-point_numbers, point_number-below}
 use Rattle.ilk_plant.proofs.plant.Plant.point_number.Goals as goal
 
