@@ -64,14 +64,14 @@ code-positive (suc n) v c d p h =
     ]
 
 -- literals
-same-lit : (l : Literal) → same_lit l l ≡ true
+pub same-lit : (l : Literal) → same_lit l l ≡ true
 same-lit l = go l.var l.positive
   where
     go : (v : ℕ) (b : Bool) → same_lit (record { var = v; positive = b }) (record { var = v; positive = b }) ≡ true
     go v true = and_from (eqb v v) true (eq-eqb v v refl) refl
     go v false = and_from (eqb v v) true (eq-eqb v v refl) refl
 
-has-var : (l : Literal) (ls : List Literal) → has_lit l ls ≡ true → has_var l.var ls ≡ true
+pub has-var : (l : Literal) (ls : List Literal) → has_lit l ls ≡ true → has_var l.var ls ≡ true
 has-var l [] h = absurd (cc)
 has-var l (m ∷ ls) h =
     elim (or_cases (same_lit l m) (has_lit l ls) h) [

@@ -3,3 +3,4 @@ pub mod Words
 pub mod Examples
 pub mod Sound
 pub mod Count
+pub mod Closed

@@ -1,6 +1,6 @@
 -- Propagation over a list of clauses, by a list of hints: each names a clause that has all its
 -- literals false but one, which is then true.
-use Rattle.std.specs.Prelude.{ℕ, zero, suc, Bool, List, [], ◌∷◌, Option, Some, None, not, slice_get}
+use Rattle.std.specs.Prelude.{ℕ, zero, suc, Bool, List, [], ◌∷◌, ◌&&◌, Option, Some, None, is_none, not, slice_get}
 use Rattle.std.specs.List.{filter, list_all}
 use Rattle.ilk_base.specs.Option.{◌>>=◌, only_if}
 use Rattle.ilk_cnf.specs.Literal.{Literal, opposite, has_lit}
@@ -42,3 +42,8 @@ after_hints clauses set [] = Some set
 after_hints clauses set (h ∷ hints) = do
   next ← after_hint clauses set h
   after_hints clauses next hints
+
+-- whether propagation is at its end: no clause has all its literals false, and none has one literal
+-- unset and all others false
+abbrev pub is_closed : List (List Literal) → List Literal → Bool
+is_closed clauses set = list_all (λ c. not (is_falsified set c) && is_none (unit_of set c)) clauses
