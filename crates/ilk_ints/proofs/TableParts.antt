@@ -1,10 +1,10 @@
 -- Where the parts of values and bounds end, and what they speak of.
-use Rattle.std.proofs.Common.{◌≡◌, ◌==◌, ℕ, ◌+◌, ◌-◌, ◌^◌, ◌<◌, ◌≤◌, zero, suc, Bool, true, false, ◌&&◌, List, [], ◌∷◌, Option, Some, None, unwrap_or, length, take, cond, refl, inl, inr, sym, ap, ◌∙◌, subst, arith, leb}
+use Rattle.std.proofs.Common.{◌≡◌, ◌==◌, ℕ, ◌+◌, ◌^◌, ◌<◌, ◌≤◌, zero, suc, Bool, true, false, List, [], ◌∷◌, Option, Some, None, unwrap_or, length, take, cond, refl, inl, inr, sym, ap, ◌∙◌, subst, arith, leb}
 use Rattle.std.specs.List.{find, range_with_len}
-use Rattle.std.proofs.lemmas.Bool.{and_parts, and_from, eqb-true, lt-ltb, le-leb, leb-true, cases_lt}
+use Rattle.std.proofs.lemmas.Bool.{and_from, eqb-true, lt-ltb, le-leb, leb-true, cases_lt}
 use Rattle.ilk_cnf.specs.Literal.{Literal, plus}
 use Rattle.ilk_cnf.specs.Formula.{lit_in, clause_in, clauses_in}
-use Rattle.ilk_cnf.specs.Part.{Part, nothing_at}
+use Rattle.ilk_cnf.specs.Part.{nothing_at}
 use Rattle.ilk_ints.specs.Bits.{bit_count}
 use Rattle.ilk_ints.specs.Named.{Named, values_from, values_part, bound_count, bounds_from, bounds_part}
 use Rattle.ilk_ints.proofs.AtMostLaw.{bits_some}
@@ -75,8 +75,8 @@ pub bounds_part-in : (values : List Literal) (first range n : ℕ) → 0 < first
 bounds_part-in [] first range n low high enough h = refl
 bounds_part-in (e ∷ es) first range n low high enough h =
     elim (cases_lt 1 range) [
-      inl more ↦ bounds-in (take (bound_count range) es) first range 1 n e low (bits_some range (bit_count range) more enough) high (some-inside n (bound_count range) e es h)
-    | inr one ↦
-        (let none : 0 ≡ bound_count range = omega arith in
-        subst (λ (j : ℕ). clauses_in (bounds_from first range e 1 (take j es) n).part.vars (bounds_from first range e 1 (take j es) n).part.clauses ≡ true) none refl)
+      | inl more ↦ bounds-in (take (bound_count range) es) first range 1 n e low (bits_some range (bit_count range) more enough) high (some-inside n (bound_count range) e es h)
+      | inr one ↦
+          (let none : 0 ≡ bound_count range = omega arith in
+          subst (λ (j : ℕ). clauses_in (bounds_from first range e 1 (take j es) n).part.vars (bounds_from first range e 1 (take j es) n).part.clauses ≡ true) none refl)
     ]
