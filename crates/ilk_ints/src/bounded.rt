@@ -19,8 +19,8 @@ pub struct Bounded {
     pub range: u8,
 }
 
-// How many bits the values below `range` need.
-pub(crate) fn bits(range: u8) -> u64
+/// How many bits the values below `range` need.
+pub fn bits(range: u8) -> u64
     ensures count { result ≡ bit_count range }
     ensures enough { range ≤ 2 ^ result }
     ensures few { result ≤ 8 }

@@ -23,7 +23,7 @@ mod limit;
 mod selection;
 mod table;
 
-pub use bounded::{Bounded, bit_is, is, number, value_of};
+pub use bounded::{Bounded, bit_is, bits, is, number, value_of};
 pub use limit::at_most;
 pub use selection::one_of;
 pub use table::{bounds, values};

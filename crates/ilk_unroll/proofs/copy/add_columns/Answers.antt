@@ -1,0 +1,25 @@
+use Rattle.std.proofs.Common.{◌∙◌, ◌+◌, ◌++◌, List, drop, get_or, ap, arith}
+use Rattle.ilk_unroll.specs.declared.copy.Column.{Column}
+use Rattle.ilk_unroll.specs.Copy.{columns_part}
+use Rattle.ilk_unroll.proofs.CopyLaw.{next_range, columns_step_counted, first_fits}
+use Rattle.ilk_unroll.proofs.copy.add_columns.Goals as goal
+
+pub add_column-requires-clause-within : goal.add_column-requires-clause-within
+add_column-requires-clause-within c =
+    let all = c.args.ranges.now in
+    let i = c.loop-range.range-index in
+    first_fits c.loop-range.first (get_or all i 0) (c.loop-range.cnf.vars + 1) (drop i all) (drop (i + 1) all) (next_range all i c.loop-range-test.true) c.loop-range.invariant.within
+
+pub loop-range-preserved : goal.loop-range-preserved
+loop-range-preserved c =
+    let all = c.args.ranges.now in
+    let i = c.loop-range.range-index in
+    let rest = drop (i + 1) all in
+    let before = c.loop-range.invariant in
+    let next = columns_step_counted c.loop-range.cnf c.add_column.new.cnf c.loop-range.table (columns_part all c.args.first c.args.cnf.now.vars).columns c.in_ok-add_column.field-0 c.loop-range.first (get_or all i 0) c.bits.result (drop i all) rest c.bits.ensures.count (next_range all i c.loop-range-test.true) before.within c.in_ok-add_column.ensures.column c.in_ok-add_column.ensures.made before.table in
+    record {
+      from_1 = omega (arith, before.from_1);
+      within = next.0;
+      table = ap (λ (t : List Column). t ++ (columns_part rest (c.loop-range.first + c.bits.result) c.add_column.new.cnf.vars).columns) c.in_ok-push.ensures.ok ∙ next.1;
+      made = next.2 ∙ before.made;
+    }

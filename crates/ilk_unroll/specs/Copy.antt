@@ -1,0 +1,71 @@
+-- One copy of a system's values in a formula: an integer for each variable, and the literals that speak of it.
+use Rattle.std.specs.Prelude.{ℕ, ◌+◌, Bool, true, List, [], ◌∷◌, ◌++◌, ◌≡◌}
+use Rattle.ilk_cnf.specs.Part.{Part, nothing_at, and_then}
+use Rattle.ilk_ints.specs.Bits.{bit_count, bits_of}
+use Rattle.ilk_ints.specs.Number.{number_part}
+use Rattle.ilk_ints.specs.Named.{values_part, bounds_part, values_bits, bounds_bits, bound_count}
+use Rattle.ilk_ir.specs.System.{in_ranges}
+use Rattle.ilk_unroll.specs.declared.copy.Column.{Column}
+
+-- the bits of an integer for each range, after n variables
+abbrev pub numbers_part : List ℕ → ℕ → Part
+numbers_part [] n = nothing_at n
+numbers_part (range ∷ ranges) n = and_then (number_part range n) (numbers_part ranges)
+
+-- a part, and the literals of each variable that it answers
+pub record Columns : Type 0 where
+  pub part : Part
+  pub columns : List Column
+
+-- how many bits there are
+abbrev pub total_bits : List ℕ → ℕ
+total_bits [] = 0
+total_bits (range ∷ ranges) = bit_count range + total_bits ranges
+
+-- the literals of one variable, whose bits stand from `first` on
+pub record ColumnPart : Type 0 where
+  pub part : Part
+  pub column : Column
+
+abbrev pub column_part : ℕ → ℕ → ℕ → ColumnPart
+column_part first range n =
+    record {
+      part = and_then (values_part first range n).part (λ m. (bounds_part first range (values_part first range n).lits m).part);
+      column = record { values = (values_part first range n).lits; bounds = (bounds_part first range (values_part first range n).lits (values_part first range n).part.vars).lits };
+    }
+
+-- those of the variables of these ranges, the first of which has its bits from `first` on
+abbrev pub columns_part : List ℕ → ℕ → ℕ → Columns
+columns_part [] first n = record { part = nothing_at n; columns = [] }
+columns_part (range ∷ ranges) first n =
+    record {
+      part = and_then (column_part first range n).part (λ m. (columns_part ranges (first + bit_count range) m).part);
+      columns = (column_part first range n).column ∷ (columns_part ranges (first + bit_count range) (column_part first range n).part.vars).columns;
+    }
+
+-- the bits of every variable, then the literals of every variable
+abbrev pub copy_part : List ℕ → ℕ → Columns
+copy_part ranges n =
+    record {
+      part = and_then (numbers_part ranges n) (λ m. (columns_part ranges (n + 1) m).part);
+      columns = (columns_part ranges (n + 1) (numbers_part ranges n).vars).columns;
+    }
+
+-- the values of the variables of a copy, where the system's variables have these values
+abbrev pub numbers_bits : List ℕ → List ℕ → List Bool
+numbers_bits [] ws = []
+numbers_bits (range ∷ ranges) [] = []
+numbers_bits (range ∷ ranges) (w ∷ ws) = bits_of (bit_count range) w ++ numbers_bits ranges ws
+
+abbrev pub columns_bits : List ℕ → List ℕ → List Bool
+columns_bits [] ws = []
+columns_bits (range ∷ ranges) [] = []
+columns_bits (range ∷ ranges) (w ∷ ws) =
+    values_bits range w ++ (bounds_bits range w 1 (bound_count range) ++ columns_bits ranges ws)
+
+abbrev pub copy_bits : List ℕ → List ℕ → List Bool
+copy_bits ranges ws = numbers_bits ranges ws ++ columns_bits ranges ws
+
+-- those of some values in range
+abbrev pub IsCopy : List ℕ → List Bool → Type 0
+IsCopy ranges b = (ws : List ℕ) × (in_ranges ws ranges ≡ true) × (b ≡ copy_bits ranges ws)
