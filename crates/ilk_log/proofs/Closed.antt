@@ -7,7 +7,7 @@ use Rattle.std.proofs.lemmas.Option.{same_Some}
 use Rattle.ilk_base.specs.Option.{◌>>=◌, is_some_and}
 use Rattle.ilk_base.proofs.Options.{some-and}
 use Rattle.ilk_base.proofs.Tested.{list_any-at, list_any-from, list_all-slice_get}
-use Rattle.ilk_lines.proofs.General.{bind_some}
+use Rattle.ilk_base.proofs.Options.{bind_some}
 use Rattle.ilk_cnf.specs.Literal.{Literal, opposite, same_lit, has_lit, has_var}
 use Rattle.ilk_log.specs.Propagation.{is_closed, is_false, is_falsified, lone_unset, unit_of, after_hint, after_hints}
 use Rattle.ilk_log.specs.Derived.{opposites, ends_false}
