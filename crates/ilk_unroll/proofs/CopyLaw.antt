@@ -80,14 +80,14 @@ HaveBits a first (range ∷ ranges) [] = ⊥
 HaveBits a first (range ∷ ranges) (w ∷ ws) =
     (bits_at a first (bit_count range) ≡ bits_of (bit_count range) w) × HaveBits a (first + bit_count range) ranges ws
 
-HaveBits-left : (ranges ws : List ℕ) (a c : List Bool) (first : ℕ) → first + total_bits ranges ≤ length a + 1 → HaveBits a first ranges ws → HaveBits (a ++ c) first ranges ws
+pub HaveBits-left : (ranges ws : List ℕ) (a c : List Bool) (first : ℕ) → first + total_bits ranges ≤ length a + 1 → HaveBits a first ranges ws → HaveBits (a ++ c) first ranges ws
 HaveBits-left [] ws a c first fits h = tt
 HaveBits-left (range ∷ ranges) [] a c first fits h = absurd h
 HaveBits-left (range ∷ ranges) (w ∷ ws) a c first fits h =
     (bits_at-left (bit_count range) a c first (omega arith) ∙ h.0, HaveBits-left ranges ws a c (first + bit_count range) (omega arith) h.1)
 
 -- new variables have the bits that they got
-HaveBits-new : (ranges ws : List ℕ) (a c : List Bool) (first : ℕ) → length a + 1 ≡ first → in_ranges ws ranges ≡ true → HaveBits (a ++ (numbers_bits ranges ws ++ c)) first ranges ws
+pub HaveBits-new : (ranges ws : List ℕ) (a c : List Bool) (first : ℕ) → length a + 1 ≡ first → in_ranges ws ranges ≡ true → HaveBits (a ++ (numbers_bits ranges ws ++ c)) first ranges ws
 HaveBits-new [] ws a c first size h = tt
 HaveBits-new (range ∷ ranges) [] a c first size h = absurd (false≢true h)
 HaveBits-new (range ∷ ranges) (w ∷ ws) a c first size h =
@@ -105,7 +105,7 @@ HaveBits-new (range ∷ ranges) (w ∷ ws) a c first size h =
     )
 
 -- the literals of one variable, made after n variables
-column-law : (a : List Bool) (first range w n : ℕ) → length a ≡ n → 0 < first → first + bit_count range ≤ n + 1 → range ≤ 2 ^ bit_count range → w < range → bits_at a first (bit_count range) ≡ bits_of (bit_count range) w → Extends a (bounds_part first range (values_part first range n).lits (values_part first range n).part.vars).part.vars ((values_part first range n).part.clauses ++ (bounds_part first range (values_part first range n).lits (values_part first range n).part.vars).part.clauses) (Only (values_bits range w ++ bounds_bits range w 1 (bound_count range)))
+pub column-law : (a : List Bool) (first range w n : ℕ) → length a ≡ n → 0 < first → first + bit_count range ≤ n + 1 → range ≤ 2 ^ bit_count range → w < range → bits_at a first (bit_count range) ≡ bits_of (bit_count range) w → Extends a (bounds_part first range (values_part first range n).lits (values_part first range n).part.vars).part.vars ((values_part first range n).part.clauses ++ (bounds_part first range (values_part first range n).lits (values_part first range n).part.vars).part.clauses) (Only (values_bits range w ++ bounds_bits range w 1 (bound_count range)))
 column-law a first range w n size low high enough less is =
     let v = values_part first range n in
     let m = v.part.vars in
@@ -131,7 +131,7 @@ column-in first range n low high enough =
     ∙ and_from _ _ (clauses_in-more m b.part.vars v.part.clauses (bounds_part-low v.lits first range m) (values_part-in first range n low high)) (bounds_part-in v.lits first range m low (omega (arith, high, grows)) enough (values_part-lits_in first range n low high))
 
 -- after a variable's literals there are no fewer variables
-column-low : (first range n : ℕ) → n ≤ (bounds_part first range (values_part first range n).lits (values_part first range n).part.vars).part.vars
+pub column-low : (first range n : ℕ) → n ≤ (bounds_part first range (values_part first range n).lits (values_part first range n).part.vars).part.vars
 column-low first range n =
     let one = values_part-low first range n in
     let two = bounds_part-low (values_part first range n).lits first range (values_part first range n).part.vars in

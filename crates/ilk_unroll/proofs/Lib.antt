@@ -1,1 +1,2 @@
 pub mod CopyLaw
+pub mod CopySays

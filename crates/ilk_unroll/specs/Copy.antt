@@ -1,9 +1,10 @@
 -- One copy of a system's values in a formula: an integer for each variable, and the literals that speak of it.
-use Rattle.std.specs.Prelude.{ℕ, ◌+◌, Bool, true, List, [], ◌∷◌, ◌++◌, ◌≡◌}
+use Rattle.std.specs.Prelude.{ℕ, ◌+◌, Bool, true, List, [], ◌∷◌, ◌++◌, ◌≡◌, map}
+use Rattle.ilk_cnf.specs.Truth.{is_true}
 use Rattle.ilk_cnf.specs.Part.{Part, nothing_at, and_then}
 use Rattle.ilk_ints.specs.Bits.{bit_count, bits_of}
 use Rattle.ilk_ints.specs.Number.{number_part}
-use Rattle.ilk_ints.specs.Named.{values_part, bounds_part, values_bits, bounds_bits, bound_count}
+use Rattle.ilk_ints.specs.Named.{values_part, bounds_part, values_bits, bounds_bits, bound_count, value_bits, bound_bits}
 use Rattle.ilk_ir.specs.System.{in_ranges}
 use Rattle.ilk_unroll.specs.declared.copy.Column.{Column}
 
@@ -69,3 +70,13 @@ copy_bits ranges ws = numbers_bits ranges ws ++ columns_bits ranges ws
 -- those of some values in range
 abbrev pub IsCopy : List ℕ → List Bool → Type 0
 IsCopy ranges b = (ws : List ℕ) × (in_ranges ws ranges ≡ true) × (b ≡ copy_bits ranges ws)
+
+-- each variable's literals say its value, and its bounds
+abbrev pub LiteralsSay : List Bool → List Column → List ℕ → List ℕ → Type 0
+LiteralsSay a [] ranges ws = Unit {0}
+LiteralsSay a (column ∷ columns) [] ws = ⊥
+LiteralsSay a (column ∷ columns) (range ∷ ranges) [] = ⊥
+LiteralsSay a (column ∷ columns) (range ∷ ranges) (w ∷ ws) =
+    (map (is_true a) column.values ≡ value_bits w 0 range)
+    × (map (is_true a) column.bounds ≡ bound_bits w 1 (bound_count range))
+    × LiteralsSay a columns ranges ws

@@ -1,3 +1,4 @@
+use Rattle.ilk_unroll.proofs.CopySays.{copy-say}
 use Rattle.std.proofs.Common.{◌∙◌, ℕ, List, ap}
 use Rattle.ilk_cnf.specs.Formula.{Formula}
 use Rattle.ilk_cnf.proofs.Extending.{extends-as_clauses}
@@ -21,3 +22,6 @@ returns-clause-law c =
     let ranges = c.args.ranges.now in
     let part = (copy_part ranges c.args.cnf.now.vars).part in
     extends-as_clauses a part.vars part.clauses (IsCopy ranges) (copy-law ranges a c.args.cnf.now.vars size (ranges_fit-small ranges small))
+
+pub returns-clause-exact : goal.returns-clause-exact
+returns-clause-exact c = λ a d ws size small inside. copy-say c.args.ranges.now ws a d c.args.cnf.now.vars size (ranges_fit-small c.args.ranges.now small) inside
