@@ -1,4 +1,4 @@
-ghost use Rattle.std.specs.Prelude.{◌≡◌, ◌≤◌, ◌<◌, ◌+◌, ◌*◌, ◌^◌, ℕ, Bool, true, false, Some, [], List, ◌∷◌, ◌++◌, length, slice_get, replicate, IfOk, IfSome, OnOk, OnErr, IsTrue};
+ghost use Rattle.std.specs.Prelude.{◌≡◌, ◌≤◌, ◌<◌, ◌+◌, ◌*◌, ◌^◌, false, Some, [], length, slice_get, replicate, IfOk, IfSome, OnOk, OnErr, IsTrue};
 ghost use Rattle.ilk_cnf.specs.Formula.{clause_in, lit_in};
 ghost use Rattle.ilk_cnf.specs.Literal.{vars_differ};
 ghost use Rattle.ilk_arena.specs.Arena.{added, after, chain_of, cursor_of, first_of, follows, literals_of, number_of, other_watch_of, rewatched, set_beside, stands_in};

@@ -1,5 +1,4 @@
-ghost use Rattle.std.specs.Prelude.{◌≡◌, ◌<◌, ◌≤◌, ◌+◌, ◌*◌, ◌^◌, IsTrue};
-ghost use Rattle.ilk_cnf.specs.Formula.{lit_in};
+ghost use Rattle.std.specs.Prelude.{◌≡◌, ◌<◌, ◌≤◌, ◌+◌, ◌^◌};
 ghost use Rattle.ilk_arena.specs.Arena.{place};
 ghost use Rattle.ilk_arena.specs.Linked.{lit_at};
 
