@@ -1,6 +1,6 @@
 use ilk_base::Text;
 
-/// How strict the checks are: with the rules C1 to C7, or without them.
+/// How strict the checks are: with the rules of the columns of routes, or without them.
 #[derive(Clone, Copy, PartialEq, Eq, Debug)]
 pub enum Columns {
     Strict,
