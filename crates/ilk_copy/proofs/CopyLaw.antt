@@ -11,7 +11,7 @@ use Rattle.ilk_cnf.specs.Part.{Part, with_part}
 use Rattle.ilk_cnf.proofs.Literals.{clauses_in-more}
 use Rattle.ilk_cnf.proofs.Parts.{in_turn, in_words, one_by_one}
 use Rattle.ilk_cnf.proofs.Gates.{with_part-and_then}
-use Rattle.ilk_unroll.specs.declared.copy.Column.{Column}
+use Rattle.ilk_copy.specs.declared.copy.Column.{Column}
 use Rattle.ilk_cnf.proofs.Extending.{no_more_if, only_from_if}
 use Rattle.ilk_ints.specs.Bits.{bit_count, bits_of, bits_at}
 use Rattle.ilk_ints.specs.Number.{number_part, IsValue}
@@ -22,7 +22,7 @@ use Rattle.ilk_ints.specs.Named.{values_part, bounds_part, values_bits, bounds_b
 use Rattle.ilk_ints.proofs.ValuesLaw.{values_part-low, values_part-law, values_part-say, bits_at-left}
 use Rattle.ilk_ints.proofs.BoundsLaw.{bounds_part-law}
 use Rattle.ilk_ints.proofs.TableParts.{bit_count-enough, values_part-in, values_part-lits_in, length-values_part, bounds_part-low, bounds_part-in}
-use Rattle.ilk_unroll.specs.Copy.{numbers_part, columns_part, copy_part, numbers_bits, columns_bits, total_bits, column_part, IsCopy}
+use Rattle.ilk_copy.specs.Copy.{numbers_part, columns_part, copy_part, numbers_bits, columns_bits, total_bits, column_part, IsCopy}
 
 -- each range is at most what its bits can say
 abbrev pub ranges_fit : List ℕ → Bool

@@ -6,7 +6,7 @@ use Rattle.ilk_cnf.proofs.Gates.{with_part-and_then}
 use Rattle.ilk_ints.specs.Named.{values_part, bounds_part}
 use Rattle.ilk_ints.proofs.ValuesLaw.{values_part-low}
 use Rattle.ilk_ints.proofs.TableParts.{values_part-lits_in, length-values_part}
-use Rattle.ilk_unroll.proofs.copy.add_column.Goals as goal
+use Rattle.ilk_copy.proofs.copy.add_column.Goals as goal
 
 pub bounds-requires-clause-within : goal.bounds-requires-clause-within
 bounds-requires-clause-within c =

@@ -1,4 +1,4 @@
-//! Formulas over copies of a finite system's values. So far this is one part of them: a copy.
+//! A system's values at one moment of a run, as integers of a formula.
 //!
 //! A copy has an integer for each variable of the system: first the bits of all of them in order,
 //! then, variable by variable, the literals of its values and of its bounds (`specs/Copy`). Forms

@@ -6,7 +6,7 @@ use Rattle.ilk_ints.specs.Bits.{bit_count, bits_of}
 use Rattle.ilk_ints.specs.Number.{number_part}
 use Rattle.ilk_ints.specs.Named.{values_part, bounds_part, values_bits, bounds_bits, bound_count, value_bits, bound_bits}
 use Rattle.ilk_ir.specs.System.{in_ranges}
-use Rattle.ilk_unroll.specs.declared.copy.Column.{Column}
+use Rattle.ilk_copy.specs.declared.copy.Column.{Column}
 
 -- the bits of an integer for each range, after n variables
 abbrev pub numbers_part : List ℕ → ℕ → Part

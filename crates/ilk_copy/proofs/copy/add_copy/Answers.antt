@@ -1,10 +1,10 @@
-use Rattle.ilk_unroll.proofs.CopySays.{copy-say}
+use Rattle.ilk_copy.proofs.CopySays.{copy-say}
 use Rattle.std.proofs.Common.{◌∙◌, ℕ, List, ap}
 use Rattle.ilk_cnf.specs.Formula.{Formula}
 use Rattle.ilk_cnf.proofs.Extending.{extends-as_clauses}
-use Rattle.ilk_unroll.specs.Copy.{numbers_part, copy_part, IsCopy}
-use Rattle.ilk_unroll.proofs.CopyLaw.{columns_fit, copy_made, copy-law, ranges_fit-small}
-use Rattle.ilk_unroll.proofs.copy.add_copy.Goals as goal
+use Rattle.ilk_copy.specs.Copy.{numbers_part, copy_part, IsCopy}
+use Rattle.ilk_copy.proofs.CopyLaw.{columns_fit, copy_made, copy-law, ranges_fit-small}
+use Rattle.ilk_copy.proofs.copy.add_copy.Goals as goal
 
 pub add_columns-requires-clause-within : goal.add_columns-requires-clause-within
 add_columns-requires-clause-within c =

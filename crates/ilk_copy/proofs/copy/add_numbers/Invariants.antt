@@ -1,8 +1,8 @@
 use Rattle.std.proofs.Common.{◌≡◌, true, drop, nat_lt}
 use Rattle.std.specs.List.{list_all}
 use Rattle.ilk_cnf.specs.Part.{with_part}
-use Rattle.ilk_unroll.specs.Copy.{numbers_part}
-use Rattle.ilk_unroll.proofs.copy.add_numbers.Given as goal
+use Rattle.ilk_copy.specs.Copy.{numbers_part}
+use Rattle.ilk_copy.proofs.copy.add_numbers.Given as goal
 
 abbrev pub invariant-loop-range : goal.invariant-loop-range
 invariant-loop-range l =

@@ -1,8 +1,8 @@
 use Rattle.std.proofs.Common.{◌∙◌, ◌+◌, ℕ, List, drop, get_or, nat_lt, ap, sym}
 use Rattle.std.specs.List.{list_all}
 use Rattle.std.proofs.lemmas.Bool.{and_parts}
-use Rattle.ilk_unroll.proofs.CopyLaw.{next_range, numbers_step}
-use Rattle.ilk_unroll.proofs.copy.add_numbers.Goals as goal
+use Rattle.ilk_copy.proofs.CopyLaw.{next_range, numbers_step}
+use Rattle.ilk_copy.proofs.copy.add_numbers.Goals as goal
 
 pub loop-range-preserved : goal.loop-range-preserved
 loop-range-preserved c =

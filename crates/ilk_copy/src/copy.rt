@@ -4,7 +4,7 @@ ghost use Rattle.ilk_cnf.specs.Extends.{PartExtends};
 ghost use Rattle.ilk_cnf.specs.Part.{with_part};
 ghost use Rattle.ilk_ints.specs.Bits.{bit_count};
 ghost use Rattle.ilk_ir.specs.System.{in_ranges};
-ghost use Rattle.ilk_unroll.specs.Copy.{numbers_part, columns_part, column_part, copy_part, total_bits, copy_bits, IsCopy, LiteralsSay};
+ghost use Rattle.ilk_copy.specs.Copy.{numbers_part, columns_part, column_part, copy_part, total_bits, copy_bits, IsCopy, LiteralsSay};
 
 use ilk_base::Row;
 use ilk_cnf::{Cnf, Lits};

@@ -1,8 +1,8 @@
 use Rattle.std.proofs.Common.{◌∙◌, ◌+◌, ◌++◌, List, drop, get_or, ap, arith}
-use Rattle.ilk_unroll.specs.declared.copy.Column.{Column}
-use Rattle.ilk_unroll.specs.Copy.{columns_part}
-use Rattle.ilk_unroll.proofs.CopyLaw.{next_range, columns_step_counted, first_fits}
-use Rattle.ilk_unroll.proofs.copy.add_columns.Goals as goal
+use Rattle.ilk_copy.specs.declared.copy.Column.{Column}
+use Rattle.ilk_copy.specs.Copy.{columns_part}
+use Rattle.ilk_copy.proofs.CopyLaw.{next_range, columns_step_counted, first_fits}
+use Rattle.ilk_copy.proofs.copy.add_columns.Goals as goal
 
 pub add_column-requires-clause-within : goal.add_column-requires-clause-within
 add_column-requires-clause-within c =

@@ -1,7 +1,7 @@
 use Rattle.std.proofs.Common.{◌≡◌, ◌+◌, ◌<◌, ◌≤◌, ◌++◌, drop}
 use Rattle.ilk_cnf.specs.Part.{with_part}
-use Rattle.ilk_unroll.specs.Copy.{columns_part, total_bits}
-use Rattle.ilk_unroll.proofs.copy.add_columns.Given as goal
+use Rattle.ilk_copy.specs.Copy.{columns_part, total_bits}
+use Rattle.ilk_copy.proofs.copy.add_columns.Given as goal
 
 abbrev pub invariant-loop-range : goal.invariant-loop-range
 invariant-loop-range l =
