@@ -1,0 +1,32 @@
+ghost use Rattle.std.specs.Prelude.{◌≡◌, ℕ, ◌+◌, List, Bool, length, OnOk, IfOk};
+ghost use Rattle.ilk_cnf.specs.Extends.{PartExtends};
+ghost use Rattle.ilk_cnf.specs.Part.{with_part};
+ghost use Rattle.ilk_step.specs.Choice.{chosen_lits, new_variables, choice_part, IsChoice};
+
+use ilk_cnf::{Clause, Cnf, Lit};
+use ilk_ints::one_of;
+use std::alloc::{AllocError, Global};
+
+// Adds a variable for each of so many rules, and answers the literals that say that a rule is
+// chosen.
+fn add_variables(alloc: Global, cnf: &mut Cnf, rules: u64) -> Result<Clause, AllocError>
+    ensures lits { IfOk result (λ lits. lits ≡ chosen_lits (cnf.old.vars + 1) rules) }
+    ensures made { OnOk result (cnf.new ≡ with_part cnf.old (new_variables rules cnf.old.vars)) }
+{
+    let mut chosen = Clause::new(alloc);
+    for _ in 0..rules {
+        chosen.push(Lit::new(cnf.fresh()?, false))?;
+    }
+    Ok(chosen)
+}
+
+/// Adds a variable for each of so many rules, true where the rule is not chosen, and demands that
+/// exactly one rule is chosen.
+pub fn add_choice(alloc: Global, cnf: &mut Cnf, rules: u64) -> Result<(), AllocError>
+    ensures made { OnOk result (cnf.new ≡ with_part cnf.old (choice_part rules cnf.old.vars)) }
+    ensures law { OnOk result ((a : List Bool) → length a ≡ cnf.old.vars → PartExtends a (choice_part rules cnf.old.vars) (IsChoice rules)) }
+{
+    let chosen = add_variables(alloc, cnf, rules)?;
+    one_of(cnf, &chosen)?;
+    Ok(())
+}
