@@ -1,1 +1,3 @@
 pub mod ChoiceLaw
+pub mod Firing
+pub mod FrameLaw

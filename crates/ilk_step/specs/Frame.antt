@@ -1,25 +1,13 @@
--- What a chosen rule sets in the next copy, and what is carried over where none that is chosen sets it.
-use Rattle.std.specs.Prelude.{ℕ, ◌+◌, ◌==◌, Bool, List, [], ◌∷◌, ◌++◌, map, length, take, Option, slice_get, option_and_then, option_to_list, if◌then◌else◌}
+-- What is carried over to the next copy where no rule that sets it is chosen.
+use Rattle.std.specs.Prelude.{ℕ, ◌+◌, ◌==◌, Bool, List, [], ◌∷◌, ◌++◌, length, take, if◌then◌else◌}
 use Rattle.std.specs.List.{list_any}
-use Rattle.ilk_cnf.specs.Literal.{Literal, plus, minus, opposite}
+use Rattle.ilk_cnf.specs.Literal.{Literal, minus, opposite}
+use Rattle.ilk_cnf.specs.Part.{Part}
 use Rattle.ilk_ir.specs.System.{RuleTree}
 use Rattle.ilk_ir.specs.declared.system.Setting.{Setting}
 use Rattle.ilk_copy.specs.declared.copy.Column.{Column}
 
--- the literal of a copy that says that variable v has the value c
-abbrev pub value_lit : List Column → ℕ → ℕ → Option Literal
-value_lit columns v c = option_and_then (λ column. slice_get column.values c) (slice_get columns v)
-
--- for each setting of the rule whose variable is k: the rule isn't chosen, or the next copy has it
-abbrev pub settings : List Column → ℕ → List Setting → List (List Literal)
-settings next k sets = map (λ s. plus k ∷ option_to_list (value_lit next s.var s.value)) sets
-
--- the same of each rule, whose variables stand from k on
-abbrev pub all_settings : List Column → ℕ → List RuleTree → List (List Literal)
-all_settings next k [] = []
-all_settings next k (r ∷ rs) = settings next k r.sets ++ all_settings next (k + 1) rs
-
--- whether a setting of the list sets variable v
+-- whether one of the settings sets the variable
 abbrev pub sets_variable : ℕ → List Setting → Bool
 sets_variable v sets = list_any (λ s. s.var == v) sets
 
@@ -32,7 +20,7 @@ setters v k (r ∷ rs) = if sets_variable v r.sets then minus k ∷ setters v (k
 abbrev pub carried : Column → List Literal
 carried column = if length column.values == 2 then take 1 column.values else column.values ++ column.bounds
 
--- one of `first` is true, or the literals of the one list are true exactly where those of the other are
+-- one of the first literals is true, or each of the next list is true exactly where that of the other list is
 abbrev pub carry_over : List Literal → List Literal → List Literal → List (List Literal)
 carry_over first [] ms = []
 carry_over first (l ∷ ls) [] = []
@@ -44,3 +32,7 @@ abbrev pub frames : List RuleTree → ℕ → ℕ → List Column → List Colum
 frames rs k v [] next = []
 frames rs k v (c ∷ now) [] = []
 frames rs k v (c ∷ now) (d ∷ next) = carry_over (setters v k rs) (carried c) (carried d) ++ frames rs k (v + 1) now next
+
+-- the same of all variables, after n variables of the formula
+abbrev pub frames_part : List RuleTree → ℕ → List Column → List Column → ℕ → Part
+frames_part rs k now next n = record { vars = n; clauses = frames rs k 0 now next }
