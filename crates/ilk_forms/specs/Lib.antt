@@ -1,0 +1,4 @@
+pub mod Leaf
+pub mod Gathered
+pub mod Demand
+pub mod Truths
