@@ -2,7 +2,7 @@
 use Rattle.std.proofs.Common.{◌≡◌, ℕ, ◌+◌, ◌<◌, ◌≤◌, zero, suc, Bool, true, false, not, List, [], ◌∷◌, ◌++◌, length, map, refl, inl, inr, sym, ap, ◌∙◌, subst, arith, eqb, length-append, append_assoc}
 use Rattle.std.specs.List.{range_with_len}
 use Rattle.std.proofs.lemmas.List.{append-nil, map-append}
-use Rattle.std.proofs.lemmas.Bool.{and_from, or_from, le-leb, lt-ltb, eq-eqb, ne_eqb, cases_eq, false≢true}
+use Rattle.std.proofs.lemmas.Bool.{and_from, or_from, le-leb, lt-ltb, eq-eqb, eqb-true, ne_eqb, cases_eq, false≢true}
 use Rattle.ilk_base.proofs.Ranges.{range-suc}
 use Rattle.ilk_cnf.specs.Literal.{Literal, minus, has_var}
 use Rattle.ilk_cnf.specs.Formula.{clause_in, clauses_in}
@@ -13,7 +13,7 @@ use Rattle.ilk_ints.specs.Named.{value_bits}
 use Rattle.ilk_ints.specs.OneOf.{one_of_part, one_of_bits, one_true, none_true}
 use Rattle.ilk_ints.proofs.OneOfLaw.{one_of-law, part-in, rest-low}
 use Rattle.ilk_ints.proofs.ValuesLaw.{length-value_bits}
-use Rattle.ilk_step.specs.Choice.{chosen_lits, choice_part, IsChoice}
+use Rattle.ilk_step.specs.Choice.{chosen_lits, choice_part, choice_bits, IsChoice, Chooses}
 
 -- the literals
 
@@ -135,3 +135,47 @@ choice-law a m n size =
         let less = h.1 in
         let same : qs ≡ map not (map not qs) = sym (not_not qs) in
         (map not qs, one_of_bits qs, h.2, length-not qs ∙ length-value_bits h.0 0 m, (ap one_true (sym same) ∙ value_bits-one m h.0 0 (omega arith) (omega arith), ap one_of_bits same))
+
+-- the variables of a choice say it, whatever follows
+pub choice-says : (a c : List Bool) (m r n : ℕ) → length a ≡ n → map (is_true (a ++ (choice_bits m r ++ c))) (chosen_lits (n + 1) m) ≡ value_bits r 0 m
+choice-says a c m r n size =
+    let qs = value_bits r 0 m in
+    let d = one_of_bits qs in
+    let long : length (map not qs) ≡ m = length-not qs ∙ length-value_bits r 0 m in
+    let whole : a ++ (map not qs ++ (d ++ c)) ≡ a ++ ((map not qs ++ d) ++ c) = ap (λ (u : List Bool). a ++ u) (sym (append_assoc (map not qs) d c)) in
+    let say = chosen_lits-say (map not qs) a (d ++ c) (n + 1) (ap (λ (k : ℕ). k + 1) size) in
+    subst (λ (u : List Bool). map (is_true u) (chosen_lits (n + 1) m) ≡ qs) whole (subst (λ (k : ℕ). map (is_true (a ++ (map not qs ++ (d ++ c)))) (chosen_lits (n + 1) k) ≡ qs) long (say ∙ not_not qs))
+
+-- each variable of a choice is false exactly at the chosen rule
+pub chosen-at : (m : ℕ) (a : List Bool) (first r u i : ℕ) → map (is_true a) (chosen_lits first m) ≡ value_bits r u m → i < m → value a (first + i) ≡ not (eqb r (u + i))
+chosen-at zero a first r u i h less = absurd (omega arith)
+chosen-at (suc m) a first r u zero h less =
+    let here : not (value a first) ≡ eqb r u = cc in
+    let one : first + 0 ≡ first = omega arith in
+    let two : u ≡ u + 0 = omega arith in
+    ap (value a) one ∙ turned (value a first) (eqb r u) here ∙ ap (λ (k : ℕ). not (eqb r k)) two
+  where
+    turned : (v b : Bool) → not v ≡ b → v ≡ not b
+    turned true true k = absurd cc
+    turned true false k = refl
+    turned false true k = refl
+    turned false false k = absurd cc
+chosen-at (suc m) a first r u (suc i) h less =
+    let others : map (is_true a) (chosen_lits (first + 1) m) ≡ value_bits r (u + 1) m = cc in
+    let one : first + suc i ≡ first + 1 + i = omega arith in
+    let two : u + 1 + i ≡ u + suc i = omega arith in
+    ap (value a) one ∙ chosen-at m a (first + 1) r (u + 1) i others (omega arith) ∙ ap (λ (k : ℕ). not (eqb r k)) two
+
+-- a variable that is false is the chosen rule's, so only one rule is chosen
+pub chosen-only : (a : List Bool) (first m r i : ℕ) → Chooses a first m r → i < m → value a (first + i) ≡ false → r ≡ i
+chosen-only a first m r i h less is = by_case (eqb r (0 + i)) refl (sym (chosen-at m a first r 0 i h.1 less) ∙ is)
+  where
+    by_case : (b : Bool) → eqb r (0 + i) ≡ b → not b ≡ false → r ≡ i
+    by_case true e k = let same = eqb-true r (0 + i) e in omega arith
+    by_case false e k = absurd cc
+
+pub chosen-false : (a : List Bool) (first m r : ℕ) → Chooses a first m r → value a (first + r) ≡ false
+chosen-false a first m r h = chosen-at m a first r 0 r h.1 h.0 ∙ ap not (eq-eqb r (0 + r) (omega arith))
+
+pub chooses-one : (a : List Bool) (first m r s : ℕ) → Chooses a first m r → Chooses a first m s → r ≡ s
+chooses-one a first m r s h k = chosen-only a first m r s h k.0 (chosen-false a first m s k)

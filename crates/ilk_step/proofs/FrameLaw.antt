@@ -15,7 +15,7 @@ use Rattle.ilk_ir.specs.System.{RuleTree, in_ranges}
 use Rattle.ilk_copy.specs.declared.copy.Column.{Column}
 use Rattle.ilk_copy.specs.Copy.{LiteralsSay}
 use Rattle.ilk_step.specs.Choice.{chosen_lits}
-use Rattle.ilk_step.specs.Frame.{sets_variable, setters, carried, carry_over, frames}
+use Rattle.ilk_step.specs.Frame.{sets_variable, setters, carried, carry_over, frame, frames}
 use Rattle.ilk_step.proofs.Firing.{kept}
 
 -- one of the first literals is true, or two lists say the same
@@ -47,41 +47,35 @@ and_false : (b : Bool) → (b && false) ≡ false
 and_false true = refl
 and_false false = refl
 
-values-differ : (j w x v : ℕ) (ps qs : List Bool) → v ≤ w → w < v + j → (w ≡ x → ⊥) → same_bits (value_bits w v j ++ ps) (value_bits x v j ++ qs) ≡ false
-values-differ zero w x v ps qs low high ne = absurd (omega arith)
-values-differ (suc j) w x v ps qs low high ne =
+values-differ : (j w x v : ℕ) → v ≤ w → w < v + j → (w ≡ x → ⊥) → same_bits (value_bits w v j) (value_bits x v j) ≡ false
+values-differ zero w x v low high ne = absurd (omega arith)
+values-differ (suc j) w x v low high ne =
     elim (cases_eq w v) [
       | inl same ↦ (
         let here : eqb w v ≡ true = eq-eqb w v same in
         let there : eqb x v ≡ false = ne_eqb x v (λ e. ne (same ∙ sym e)) in
         rw (here, there) refl
       )
-      | inr other ↦ (let rest = values-differ j w x (v + 1) ps qs (omega arith) (omega arith) ne in rw rest (and_false (cond (eqb x v) (eqb w v) (not (eqb w v)))))
+      | inr other ↦ (let rest = values-differ j w x (v + 1) (omega arith) (omega arith) ne in rw rest (and_false (cond (eqb x v) (eqb w v) (not (eqb w v)))))
     ]
 
--- what the carried literals of a column of this range say
+-- what the carried literals of a range's values say
 abbrev pub carried_bits : Bool → ℕ → ℕ → List Bool
-carried_bits two range w = cond two (take 1 (value_bits w 0 range)) (value_bits w 0 range ++ bound_bits w 1 (bound_count range))
+carried_bits two range w = cond two (take 1 (value_bits w 0 range)) (value_bits w 0 range)
 
-carried-say : (a : List Bool) (c : Column) (range w : ℕ) → map (is_true a) c.values ≡ value_bits w 0 range → map (is_true a) c.bounds ≡ bound_bits w 1 (bound_count range) → map (is_true a) (carried c) ≡ carried_bits (eqb range 2) range w
-carried-say a c range w values bounds =
-    let long : length c.values ≡ range = sym (length-map c.values (is_true a)) ∙ ap length values ∙ length-value_bits w 0 range in
-    ap (λ (n : ℕ). map (is_true a) (cond (eqb n 2) (take 1 c.values) (c.values ++ c.bounds))) long ∙ by_case (eqb range 2)
+carried-say : (a : List Bool) (ls : List Literal) (range w : ℕ) → map (is_true a) ls ≡ value_bits w 0 range → map (is_true a) (carried ls) ≡ carried_bits (eqb range 2) range w
+carried-say a ls range w values =
+    let long : length ls ≡ range = sym (length-map ls (is_true a)) ∙ ap length values ∙ length-value_bits w 0 range in
+    ap (λ (n : ℕ). map (is_true a) (cond (eqb n 2) (take 1 ls) ls)) long ∙ by_case (eqb range 2)
   where
-    by_case : (b : Bool) → map (is_true a) (cond b (take 1 c.values) (c.values ++ c.bounds)) ≡ carried_bits b range w
-    by_case true = sym (take-map (is_true a) 1 c.values) ∙ ap (take 1) values
-    by_case false = map-append (is_true a) c.values c.bounds ∙ rw (values, bounds) refl
-
-length-bound_bits : (j w k : ℕ) → length (bound_bits w k j) ≡ j
-length-bound_bits zero w k = refl
-length-bound_bits (suc j) w k = ap suc (length-bound_bits j w (k + 1))
+    by_case : (b : Bool) → map (is_true a) (cond b (take 1 ls) ls) ≡ carried_bits b range w
+    by_case true = sym (take-map (is_true a) 1 ls) ∙ ap (take 1) values
+    by_case false = values
 
 length-carried_bits : (b : Bool) (range w x : ℕ) → length (carried_bits b range w) ≡ length (carried_bits b range x)
 length-carried_bits true zero w x = refl
 length-carried_bits true (suc range) w x = refl
-length-carried_bits false range w x =
-    let n = bound_count range in
-    omega (arith, length-append (value_bits w 0 range) (bound_bits w 1 n), length-append (value_bits x 0 range) (bound_bits x 1 n), length-value_bits w 0 range, length-value_bits x 0 range, length-bound_bits n w 1, length-bound_bits n x 1)
+length-carried_bits false range w x = length-value_bits w 0 range ∙ sym (length-value_bits x 0 range)
 
 carried-same : (range w x : ℕ) → w < range → x < range → same_bits (carried_bits (eqb range 2) range w) (carried_bits (eqb range 2) range x) ≡ eqb w x
 carried-same range w x hw hx =
@@ -102,15 +96,38 @@ carried-same range w x hw hx =
 
     apart : (b : Bool) → eqb range 2 ≡ b → (w ≡ x → ⊥) → same_bits (carried_bits b range w) (carried_bits b range x) ≡ false
     apart true is other = two_apart (eqb-true range 2 is) other
-    apart false is other = values-differ range w x 0 (bound_bits w 1 (bound_count range)) (bound_bits x 1 (bound_count range)) (omega arith) (omega arith) other
+    apart false is other = values-differ range w x 0 (omega arith) (omega arith) other
+
+-- where the values are equal, so are the bounds
+bounds-same : (range w x : ℕ) → (eqb w x && same_bits (bound_bits w 1 (bound_count range)) (bound_bits x 1 (bound_count range))) ≡ eqb w x
+bounds-same range w x = by_case (eqb w x) refl
+  where
+    by_case : (b : Bool) → eqb w x ≡ b → (b && same_bits (bound_bits w 1 (bound_count range)) (bound_bits x 1 (bound_count range))) ≡ b
+    by_case true same = ap (λ (u : ℕ). same_bits (bound_bits w 1 (bound_count range)) (bound_bits u 1 (bound_count range))) (sym (eqb-true w x same)) ∙ same_bits-self (bound_bits w 1 (bound_count range))
+    by_case false same = refl
+
+length-bound_bits : (j w k : ℕ) → length (bound_bits w k j) ≡ j
+length-bound_bits zero w k = refl
+length-bound_bits (suc j) w k = ap suc (length-bound_bits j w (k + 1))
+
+same_length : (a : List Bool) (ls ms : List Literal) (ps qs : List Bool) → map (is_true a) ls ≡ ps → map (is_true a) ms ≡ qs → length ps ≡ length qs → length ls ≡ length ms
+same_length a ls ms ps qs one two long = sym (length-map ls (is_true a)) ∙ ap length one ∙ long ∙ sym (ap length two) ∙ length-map ms (is_true a)
+
+share : (x p q : Bool) → ((x || p) && (x || q)) ≡ (x || (p && q))
+share true p q = refl
+share false p q = refl
 
 -- one variable is set by a chosen rule, or has one value in both copies
-frame-say : (a : List Bool) (first : List Literal) (c d : Column) (range w x : ℕ) → w < range → x < range → map (is_true a) c.values ≡ value_bits w 0 range → map (is_true a) c.bounds ≡ bound_bits w 1 (bound_count range) → map (is_true a) d.values ≡ value_bits x 0 range → map (is_true a) d.bounds ≡ bound_bits x 1 (bound_count range) → satisfies a (carry_over first (carried c) (carried d)) ≡ (some_true a first || w == x)
+frame-say : (a : List Bool) (first : List Literal) (c d : Column) (range w x : ℕ) → w < range → x < range → map (is_true a) c.values ≡ value_bits w 0 range → map (is_true a) c.bounds ≡ bound_bits w 1 (bound_count range) → map (is_true a) d.values ≡ value_bits x 0 range → map (is_true a) d.bounds ≡ bound_bits x 1 (bound_count range) → satisfies a (frame first c d) ≡ (some_true a first || w == x)
 frame-say a first c d range w x hw hx cv cb dv db =
-    let one = carried-say a c range w cv cb in
-    let two = carried-say a d range x dv db in
-    let long : length (carried c) ≡ length (carried d) = sym (length-map (carried c) (is_true a)) ∙ ap length one ∙ length-carried_bits (eqb range 2) range w x ∙ sym (ap length two) ∙ length-map (carried d) (is_true a) in
-    carry_over-say a first (carried c) (carried d) long ∙ ap (λ (b : Bool). some_true a first || b) (rw (one, two) (carried-same range w x hw hx))
+    let one = carried-say a c.values range w cv in
+    let two = carried-say a d.values range x dv in
+    let n = bound_count range in
+    let values : satisfies a (carry_over first (carried c.values) (carried d.values)) ≡ (some_true a first || eqb w x) =
+      carry_over-say a first (carried c.values) (carried d.values) (same_length a (carried c.values) (carried d.values) _ _ one two (length-carried_bits (eqb range 2) range w x)) ∙ ap (λ (b : Bool). some_true a first || b) (rw (one, two) (carried-same range w x hw hx)) in
+    let bounds : satisfies a (carry_over first c.bounds d.bounds) ≡ (some_true a first || same_bits (bound_bits w 1 n) (bound_bits x 1 n)) =
+      carry_over-say a first c.bounds d.bounds (same_length a c.bounds d.bounds _ _ cb db (length-bound_bits n w 1 ∙ sym (length-bound_bits n x 1))) ∙ rw (cb, db) refl in
+    list_all-append (some_true a) (carry_over first (carried c.values) (carried d.values)) (carry_over first c.bounds d.bounds) ∙ rw (values, bounds) (share (some_true a first) (eqb w x) (same_bits (bound_bits w 1 n) (bound_bits x 1 n)) ∙ ap (λ (b : Bool). some_true a first || b) (bounds-same range w x))
 
 -- every variable is
 pub frames-say : (now next : List Column) (ranges ws xs : List ℕ) (a : List Bool) (rs : List RuleTree) (k v : ℕ) → length now ≡ length ranges → length next ≡ length ranges → in_ranges ws ranges ≡ true → in_ranges xs ranges ≡ true → LiteralsSay a now ranges ws → LiteralsSay a next ranges xs → satisfies a (frames rs k v now next) ≡ kept (λ u. some_true a (setters u k rs)) v ws xs
@@ -129,7 +146,7 @@ frames-say (c ∷ now) (d ∷ next) (r ∷ ranges) (w ∷ ws) (x ∷ xs) a rs k 
     let less_too : x < r = ltb-true x r others.0 in
     let here = frame-say a (setters v k rs) c d r w x less less_too sw.0 sw.1 sx.0 sx.1 in
     let rest = frames-say now next ranges ws xs a rs k (v + 1) (omega arith) (omega arith) parts.1 others.1 sw.2 sx.2 in
-    list_all-append (some_true a) (carry_over (setters v k rs) (carried c) (carried d)) (frames rs k (v + 1) now next) ∙ rw (here, rest) refl
+    list_all-append (some_true a) (frame (setters v k rs) c d) (frames rs k (v + 1) now next) ∙ rw (here, rest) refl
 
 -- where one rule is chosen, the setters of a variable are true exactly where that rule sets it
 

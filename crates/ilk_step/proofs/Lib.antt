@@ -1,3 +1,6 @@
 pub mod ChoiceLaw
 pub mod Firing
 pub mod FrameLaw
+pub mod FrameSteps
+pub mod RulesLaw
+pub mod StepLaw

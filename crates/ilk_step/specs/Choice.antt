@@ -3,6 +3,7 @@ use Rattle.std.specs.Prelude.{ℕ, ◌+◌, ◌<◌, ◌≡◌, Bool, List, [], 
 use Rattle.std.specs.List.{range_with_len}
 use Rattle.ilk_cnf.specs.Literal.{Literal, minus}
 use Rattle.ilk_cnf.specs.Part.{Part, and_then}
+use Rattle.ilk_cnf.specs.Truth.{is_true}
 use Rattle.ilk_ints.specs.Named.{value_bits}
 use Rattle.ilk_ints.specs.OneOf.{one_of_part, one_of_bits}
 
@@ -25,3 +26,7 @@ choice_bits m r = map not (value_bits r 0 m) ++ one_of_bits (value_bits r 0 m)
 -- those of some choice
 abbrev pub IsChoice : ℕ → List Bool → Type 0
 IsChoice m b = (r : ℕ) × (r < m) × (b ≡ choice_bits m r)
+
+-- of m rules, whose variables stand from `first` on, rule r is chosen and no other
+abbrev pub Chooses : List Bool → ℕ → ℕ → ℕ → Type 0
+Chooses a first m r = (r < m) × (map (is_true a) (chosen_lits first m) ≡ value_bits r 0 m)

@@ -16,23 +16,28 @@ abbrev pub setters : ℕ → ℕ → List RuleTree → List Literal
 setters v k [] = []
 setters v k (r ∷ rs) = if sets_variable v r.sets then minus k ∷ setters v (k + 1) rs else setters v (k + 1) rs
 
--- the literals of a variable that are carried over: of two values the first one's says all
-abbrev pub carried : Column → List Literal
-carried column = if length column.values == 2 then take 1 column.values else column.values ++ column.bounds
-
--- one of the first literals is true, or each of the next list is true exactly where that of the other list is
+-- one of the first literals is true, or each of the one list is true exactly where that of the other is
 abbrev pub carry_over : List Literal → List Literal → List Literal → List (List Literal)
 carry_over first [] ms = []
 carry_over first (l ∷ ls) [] = []
 carry_over first (l ∷ ls) (m ∷ ms) =
     (first ++ opposite l ∷ m ∷ []) ∷ (first ++ l ∷ opposite m ∷ []) ∷ carry_over first ls ms
 
--- each variable, from v on, is set by a chosen rule or carried over
+-- of the literals of two values the first one's says all
+abbrev pub carried : List Literal → List Literal
+carried values = if length values == 2 then take 1 values else values
+
+-- a variable is set by a chosen rule, or its values and bounds are carried over
+abbrev pub frame : List Literal → Column → Column → List (List Literal)
+frame first now next =
+    carry_over first (carried now.values) (carried next.values) ++ carry_over first now.bounds next.bounds
+
+-- the same of each variable from v on
 abbrev pub frames : List RuleTree → ℕ → ℕ → List Column → List Column → List (List Literal)
 frames rs k v [] next = []
 frames rs k v (c ∷ now) [] = []
-frames rs k v (c ∷ now) (d ∷ next) = carry_over (setters v k rs) (carried c) (carried d) ++ frames rs k (v + 1) now next
+frames rs k v (c ∷ now) (d ∷ next) = frame (setters v k rs) c d ++ frames rs k (v + 1) now next
 
--- the same of all variables, after n variables of the formula
+-- of all variables, after n variables of the formula
 abbrev pub frames_part : List RuleTree → ℕ → List Column → List Column → ℕ → Part
 frames_part rs k now next n = record { vars = n; clauses = frames rs k 0 now next }

@@ -1,2 +1,4 @@
 pub mod Choice
+pub mod Rules
 pub mod Frame
+pub mod Step

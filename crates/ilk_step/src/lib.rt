@@ -2,5 +2,7 @@
 #![tactic(auto)]
 
 mod choice;
+mod frame;
 
-pub use choice::add_choice;
+pub use choice::{Choice, add_choice, chosen_rule};
+pub use frame::add_frames;
