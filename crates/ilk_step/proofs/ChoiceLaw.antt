@@ -179,3 +179,12 @@ chosen-false a first m r h = chosen-at m a first r 0 r h.1 h.0 ∙ ap not (eq-eq
 
 pub chooses-one : (a : List Bool) (first m r s : ℕ) → Chooses a first m r → Chooses a first m s → r ≡ s
 chooses-one a first m r s h k = chosen-only a first m r s h k.0 (chosen-false a first m s k)
+
+pub chosen-here : (a : List Bool) (first m i : ℕ) → (r : ℕ) × Chooses a first m r → i < m → value a (first + i) ≡ false → Chooses a first m i
+chosen-here a first m i one less is = subst (λ (r : ℕ). Chooses a first m r) (chosen-only a first m one.0 i one.1 less is) one.1
+
+-- a choice isn't past its rules
+pub chosen-past : (a : List Bool) (first m i : ℕ) → (r : ℕ) × Chooses a first m r → m ≤ i → ((j : ℕ) → j < i → value a (first + j) ≡ true) → ⊥
+chosen-past a first m i one past others =
+    let less = one.1.0 in
+    false≢true (sym (chosen-false a first m one.0 one.1) ∙ others one.0 (omega arith))
