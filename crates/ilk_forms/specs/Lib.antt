@@ -2,3 +2,4 @@ pub mod Leaf
 pub mod Gathered
 pub mod Demand
 pub mod Truths
+pub mod Size

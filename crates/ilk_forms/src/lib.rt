@@ -8,3 +8,9 @@
 //! exactly one way, by the values of `specs/Truths`. `literal_of` answers a literal for a whole
 //! form.
 #![tactic(auto)]
+
+mod clauses;
+mod literals;
+
+pub use clauses::demand;
+pub use literals::literal_of;
