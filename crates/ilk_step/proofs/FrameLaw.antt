@@ -52,10 +52,10 @@ values-differ zero w x v low high ne = absurd (omega arith)
 values-differ (suc j) w x v low high ne =
     elim (cases_eq w v) [
       | inl same ↦ (
-        let here : eqb w v ≡ true = eq-eqb w v same in
-        let there : eqb x v ≡ false = ne_eqb x v (λ e. ne (same ∙ sym e)) in
-        rw (here, there) refl
-      )
+          let here : eqb w v ≡ true = eq-eqb w v same in
+          let there : eqb x v ≡ false = ne_eqb x v (λ e. ne (same ∙ sym e)) in
+          rw (here, there) refl
+          )
       | inr other ↦ (let rest = values-differ j w x (v + 1) (omega arith) (omega arith) ne in rw rest (and_false (cond (eqb x v) (eqb w v) (not (eqb w v)))))
     ]
 
@@ -124,9 +124,9 @@ frame-say a first c d range w x hw hx cv cb dv db =
     let two = carried-say a d.values range x dv in
     let n = bound_count range in
     let values : satisfies a (carry_over first (carried c.values) (carried d.values)) ≡ (some_true a first || eqb w x) =
-      carry_over-say a first (carried c.values) (carried d.values) (same_length a (carried c.values) (carried d.values) _ _ one two (length-carried_bits (eqb range 2) range w x)) ∙ ap (λ (b : Bool). some_true a first || b) (rw (one, two) (carried-same range w x hw hx)) in
+    carry_over-say a first (carried c.values) (carried d.values) (same_length a (carried c.values) (carried d.values) _ _ one two (length-carried_bits (eqb range 2) range w x)) ∙ ap (λ (b : Bool). some_true a first || b) (rw (one, two) (carried-same range w x hw hx)) in
     let bounds : satisfies a (carry_over first c.bounds d.bounds) ≡ (some_true a first || same_bits (bound_bits w 1 n) (bound_bits x 1 n)) =
-      carry_over-say a first c.bounds d.bounds (same_length a c.bounds d.bounds _ _ cb db (length-bound_bits n w 1 ∙ sym (length-bound_bits n x 1))) ∙ rw (cb, db) refl in
+    carry_over-say a first c.bounds d.bounds (same_length a c.bounds d.bounds _ _ cb db (length-bound_bits n w 1 ∙ sym (length-bound_bits n x 1))) ∙ rw (cb, db) refl in
     list_all-append (some_true a) (carry_over first (carried c.values) (carried d.values)) (carry_over first c.bounds d.bounds) ∙ rw (values, bounds) (share (some_true a first) (eqb w x) (same_bits (bound_bits w 1 n) (bound_bits x 1 n)) ∙ ap (λ (b : Bool). some_true a first || b) (bounds-same range w x))
 
 -- every variable is

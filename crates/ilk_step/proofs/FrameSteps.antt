@@ -91,7 +91,7 @@ pub frames_step : (f g : Formula) (rs : List RuleTree) (k v : ℕ) (now next lat
 frames_step f g rs k v now next later after c d ls whole one two three made h =
     let first : frame (setters v k rs) c d ≡ frame ls c d = ap (λ (ks : List Literal). frame ks c d) (sym three) in
     let split : frames rs k v now next ≡ frame ls c d ++ frames rs k (v + 1) later after =
-      ap (λ (u : List Column). frames rs k v u next) one ∙ ap (frames rs k v (c ∷ later)) two ∙ ap (λ (cs : List (List Literal)). cs ++ frames rs k (v + 1) later after) first in
+    ap (λ (u : List Column). frames rs k v u next) one ∙ ap (frames rs k v (c ∷ later)) two ∙ ap (λ (cs : List (List Literal)). cs ++ frames rs k (v + 1) later after) first in
     rest_of f.clauses g.clauses (frame ls c d) (frames rs k (v + 1) later after) (frames rs k v now next) whole split (ap (λ (u : Formula). u.clauses) made) h
 
 -- an item of a list, and what follows it

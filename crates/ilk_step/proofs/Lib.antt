@@ -3,4 +3,5 @@ pub mod Firing
 pub mod FrameLaw
 pub mod FrameSteps
 pub mod RulesLaw
+pub mod RulesSteps
 pub mod StepLaw

@@ -125,7 +125,7 @@ rule-law r now next ws xs skip a n size rn rx hn hx same_ranges f k =
     let skip_var : skip.var ≤ length a = rw size (leb-true _ _ (and_parts _ _ (and_parts _ _ f).0).1) in
     let old : is_true (a ++ e) skip ≡ x = is_true-left a e skip skip_var in
     let second : length (a ++ e) ≡ m → Extends (a ++ e) rest.vars rest.clauses (OnlyIf (x || met) []) = λ long.
-      subst (λ (b : Bool). Extends (a ++ e) rest.vars rest.clauses (OnlyIf (b || met) [])) old (settings-law r.sets next xs skip (a ++ e) m long (reads-more a e next xs (longer a e) rx) next_in skip_in sets) in
+    subst (λ (b : Bool). Extends (a ++ e) rest.vars rest.clauses (OnlyIf (b || met) [])) old (settings-law r.sets next xs skip (a ++ e) m long (reads-more a e next xs (longer a e) rx) next_in skip_in sets) in
     let both = then-law a e [] ((x || false) || rule_guard) (x || met) n p (settings_part next skip r.sets) size one (settings-fits r.sets next skip m next_in skip_in sets) (demand_of-law r.guard now ws (skip ∷ []) true a n size rn f guard_valid) second in
     let said = subst (λ (b : Bool). Extends a rest.vars (p.clauses ++ rest.clauses) (OnlyIf b (e ++ []))) (also x rule_guard met) both in
     subst (λ (d : List Bool). Extends a rest.vars (p.clauses ++ rest.clauses) (OnlyIf (x || rule_met ws xs r) d)) (append-nil e) said
@@ -162,7 +162,7 @@ rules-law (r ∷ rs) now next ws xs k a n size rn rx hn hx same_ranges low high 
     let more : 0 < k + 1 = omega arith in
     let old : all_met (a ++ e) (k + 1) ws xs rs ≡ all_met a (k + 1) ws xs rs = all_met-left rs a e (k + 1) ws xs (rw size (omega arith)) in
     let second : length (a ++ e) ≡ m → Extends (a ++ e) rest.vars rest.clauses (OnlyIf (all_met a (k + 1) ws xs rs) (rules_bits ws rs)) = λ long.
-      subst (λ (b : Bool). Extends (a ++ e) rest.vars rest.clauses (OnlyIf b (rules_bits ws rs))) old (rules-law rs now next ws xs (k + 1) (a ++ e) m long (reads-more a e now ws (longer a e) rn) (reads-more a e next xs (longer a e) rx) now_in next_in same_ranges more fits parts.1) in
+    subst (λ (b : Bool). Extends (a ++ e) rest.vars rest.clauses (OnlyIf b (rules_bits ws rs))) old (rules-law rs now next ws xs (k + 1) (a ++ e) m long (reads-more a e now ws (longer a e) rn) (reads-more a e next xs (longer a e) rx) now_in next_in same_ranges more fits parts.1) in
     then-law a e (rules_bits ws rs) (value a k || rule_met ws xs r) (all_met a (k + 1) ws xs rs) n p (rules_part now next (k + 1) rs) size one (rules-fits rs now next (k + 1) m now_in next_in same_ranges more fits parts.1) (rule-law r now next ws xs (plus k) a n size rn rx hn hx same_ranges skip_in parts.0) second
 
 -- where one rule is chosen, only that rule has to be met

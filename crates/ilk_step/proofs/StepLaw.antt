@@ -101,14 +101,14 @@ after-law rs now next ws xs a k m r rule c low high valid hw hx chosen at =
     let here : map (is_true a) (chosen_lits k (length rs)) ≡ value_bits (0 + r) 0 (length rs) = chosen ∙ ap (λ (i : ℕ). value_bits i 0 (length rs)) place in
     let first : Extends a p.vars p.clauses (OnlyIf met e) = subst (λ (b : Bool). Extends a p.vars p.clauses (OnlyIf b e)) (one_met rs a k r 0 rule ws xs here at) (rules-law rs now next ws xs k a m c.size rn rx c.now_in c.next_in c.same low high valid) in
     let second : length (a ++ e) ≡ p.vars → Extends (a ++ e) p.vars (frames rs k 0 now next) (OnlyIf keeps []) = λ long.
-      let d = copies-left a e m p.vars now next ws xs grows long c in
-      let inside : clause_in m (chosen_lits k (length rs)) ≡ true = chosen_lits-in (length rs) k m low high in
-      let size = c.size in
-      let still : map (is_true (a ++ e)) (chosen_lits k (length rs)) ≡ value_bits (0 + r) 0 (length rs) = map-left a e (chosen_lits k (length rs)) (rw size inside) ∙ here in
-      let now_long : length now ≡ length (ranges_of now) = sym (length-map now (λ (column : Column). length column.values)) in
-      let next_long : length next ≡ length (ranges_of now) = sym (length-map next (λ (column : Column). length column.values)) ∙ ap length c.same in
-      let says : satisfies (a ++ e) (frames rs k 0 now next) ≡ keeps = frames-say now next (ranges_of now) ws xs (a ++ e) rs k 0 now_long next_long hw hx d.now_say d.next_say ∙ kept-congr (λ u. some_true (a ++ e) (setters u k rs)) (λ u. sets_variable u rule.sets) 0 ws xs (λ u. setters-say rs (a ++ e) u k r 0 rule still at) in
-      no_more_if (a ++ e) p.vars (frames rs k 0 now next) keeps long says in
+    let d = copies-left a e m p.vars now next ws xs grows long c in
+    let inside : clause_in m (chosen_lits k (length rs)) ≡ true = chosen_lits-in (length rs) k m low high in
+    let size = c.size in
+    let still : map (is_true (a ++ e)) (chosen_lits k (length rs)) ≡ value_bits (0 + r) 0 (length rs) = map-left a e (chosen_lits k (length rs)) (rw size inside) ∙ here in
+    let now_long : length now ≡ length (ranges_of now) = sym (length-map now (λ (column : Column). length column.values)) in
+    let next_long : length next ≡ length (ranges_of now) = sym (length-map next (λ (column : Column). length column.values)) ∙ ap length c.same in
+    let says : satisfies (a ++ e) (frames rs k 0 now next) ≡ keeps = frames-say now next (ranges_of now) ws xs (a ++ e) rs k 0 now_long next_long hw hx d.now_say d.next_say ∙ kept-congr (λ u. some_true (a ++ e) (setters u k rs)) (λ u. sets_variable u rule.sets) 0 ws xs (λ u. setters-say rs (a ++ e) u k r 0 rule still at) in
+    no_more_if (a ++ e) p.vars (frames rs k 0 now next) keeps long says in
     let both = then-law a e [] met keeps m p (frames_part rs k now next) c.size one (frames-fits rs now next k p.vars low fits (columns_in-more m p.vars now grows c.now_in) (columns_in-more m p.vars next grows c.next_in)) first second in
     subst (λ (d : List Bool). Extends a p.vars (p.clauses ++ frames rs k 0 now next) (OnlyIf (met && keeps) d)) (append-nil e) both
 
@@ -178,3 +178,10 @@ pub step-says : (rules : List RuleTree) (ws : List ℕ) (a c : List Bool) (n r :
 step-says rules ws a c n r size =
     let whole : a ++ (choice_bits (length rules) r ++ (rules_bits ws rules ++ c)) ≡ a ++ (step_bits rules ws r ++ c) = ap (λ (u : List Bool). a ++ u) (sym (append_assoc (choice_bits (length rules) r) (rules_bits ws rules) c)) in
     subst (λ (u : List Bool). map (is_true u) (chosen_lits (n + 1) (length rules)) ≡ value_bits r 0 (length rules)) whole (choice-says a (rules_bits ws rules ++ c) (length rules) r n size)
+
+pub step-below : (rules : List RuleTree) (ws xs : List ℕ) (r : ℕ) → step_values rules ws r ≡ Some xs → r < length rules
+step-below rules ws xs r h = by_case (slice_get rules r) refl h
+  where
+    by_case : (o : Option RuleTree) → slice_get rules r ≡ o → option_and_then (λ rule. fired rule ws) o ≡ Some xs → r < length rules
+    by_case None is fires = absurd cc
+    by_case (Some rule) is fires = slice_get_within rules r rule is

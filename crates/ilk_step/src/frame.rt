@@ -59,7 +59,13 @@ fn add_same(alloc: Global, cnf: &mut Cnf, first: &Lits, l: Lit, m: Lit) -> Resul
 
 // Demands that one of the first literals is true, or each of the one list is true exactly where
 // that of the other is.
-fn carry_over(alloc: Global, cnf: &mut Cnf, first: &Lits, now: &[Lit], next: &[Lit]) -> Result<(), AllocError>
+fn carry_over(
+    alloc: Global,
+    cnf: &mut Cnf,
+    first: &Lits,
+    now: &[Lit],
+    next: &[Lit],
+) -> Result<(), AllocError>
     requires first { IsTrue (clause_in cnf.old.vars first.now) }
     requires now { IsTrue (clause_in cnf.old.vars now.now) }
     requires next { IsTrue (clause_in cnf.old.vars next.now) }
@@ -83,19 +89,44 @@ fn carried(values: &[Lit]) -> &[Lit]
 }
 
 // Demands that one of the first literals is true, or the variable keeps its value.
-fn add_frame(alloc: Global, cnf: &mut Cnf, first: &Lits, now: &Column, next: &Column) -> Result<(), AllocError>
+fn add_frame(
+    alloc: Global,
+    cnf: &mut Cnf,
+    first: &Lits,
+    now: &Column,
+    next: &Column,
+) -> Result<(), AllocError>
     requires first { IsTrue (clause_in cnf.old.vars first.now) }
     requires columns { IsTrue (columns_in cnf.old.vars (now.now ∷ next.now ∷ [])) }
     ensures { OnOk result (cnf.new ≡ grown cnf.old cnf.old.vars (as_clauses (frame first.now now.now next.now))) }
 {
-    carry_over(alloc, cnf, first, carried(now.values.as_slice()), carried(next.values.as_slice()))?;
-    carry_over(alloc, cnf, first, now.bounds.as_slice(), next.bounds.as_slice())?;
+    carry_over(
+        alloc,
+        cnf,
+        first,
+        carried(now.values.as_slice()),
+        carried(next.values.as_slice()),
+    )?;
+    carry_over(
+        alloc,
+        cnf,
+        first,
+        now.bounds.as_slice(),
+        next.bounds.as_slice(),
+    )?;
     Ok(())
 }
 
 // Demands of each variable that a rule is chosen that sets it, or it keeps its value. The
 // variables of the rules stand from `first` on.
-pub fn add_frames(alloc: Global, cnf: &mut Cnf, now: &Table, next: &Table, rules: &[Rule], first: u64) -> Result<(), AllocError>
+pub fn add_frames(
+    alloc: Global,
+    cnf: &mut Cnf,
+    now: &Table,
+    next: &Table,
+    rules: &[Rule],
+    first: u64,
+) -> Result<(), AllocError>
     requires now { IsTrue (columns_in cnf.old.vars now.now) }
     requires next { IsTrue (columns_in cnf.old.vars next.now) }
     requires same { ranges_of next.now ≡ ranges_of now.now }

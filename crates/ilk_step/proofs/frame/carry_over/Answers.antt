@@ -9,8 +9,8 @@ returns c =
     let ls = c.args.now.now in
     let ms = c.args.next.now in
     let past : (length ls ≤ i) ⊎ (length ms ≤ i) =
-      elim (cases_lt i (length ls)) [
-        | inl low ↦ inr (omega arith)
-        | inr high ↦ inl high
-      ] in
+    elim (cases_lt i (length ls)) [
+      | inl low ↦ inr (omega arith)
+      | inr high ↦ inl high
+    ] in
     carried_all c.args.cnf.now c.loop-i.cnf i c.args.first.now ls ms past c.loop-i.invariant.vars c.loop-i.invariant.rest
