@@ -106,7 +106,7 @@ leaf-law a first l truth n size h =
     or_last true = refl
     or_last false = refl
 
-some-law : (a : List Bool) (first : List Literal) (g : Named) (t : Truths) (truth : Bool) (n : ℕ) → length a ≡ n → clause_in n first ≡ true → Fits n g → Says a g t → gate_truth false t.lits ≡ truth → Extends a (some_part first g).vars (some_part first g).clauses (OnlyIf (some_true a first || truth) t.bits)
+pub some-law : (a : List Bool) (first : List Literal) (g : Named) (t : Truths) (truth : Bool) (n : ℕ) → length a ≡ n → clause_in n first ≡ true → Fits n g → Says a g t → gate_truth false t.lits ≡ truth → Extends a (some_part first g).vars (some_part first g).clauses (OnlyIf (some_true a first || truth) t.bits)
 some-law a first g t truth n size f fits says means =
     let m = g.part.vars in
     let e = t.bits in

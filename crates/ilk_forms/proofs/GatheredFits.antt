@@ -26,10 +26,10 @@ pub record SingleFits (n : ℕ) (s : Single) : Type 0 where
 same : (n : ℕ) → n ≤ n
 same n = omega arith
 
-no_literals-fits : (n : ℕ) → Fits n (no_literals n)
+pub no_literals-fits : (n : ℕ) → Fits n (no_literals n)
 no_literals-fits n = record { low = same n; inside = refl; lits = refl }
 
-then-fits : (n : ℕ) (g : Named) (h : ℕ → Named) → Fits n g → Fits g.part.vars (h g.part.vars) → Fits n (then_named g h)
+pub then-fits : (n : ℕ) (g : Named) (h : ℕ → Named) → Fits n g → Fits g.part.vars (h g.part.vars) → Fits n (then_named g h)
 then-fits n g h one two =
     let m = g.part.vars in
     let k = (h m).part.vars in

@@ -34,10 +34,10 @@ pub record SingleSays (a : List Bool) (s : Single) (bits : List Bool) (truth : B
 nothing : (a : List Bool) (n : ℕ) → length a ≡ n → Extends a n [] (Only [])
 nothing a n size = only_from_if a n [] [] (no_more_if a n [] true size refl)
 
-no_literals-says : (a : List Bool) (n : ℕ) → length a ≡ n → Says a (no_literals n) no_truths
+pub no_literals-says : (a : List Bool) (n : ℕ) → length a ≡ n → Says a (no_literals n) no_truths
 no_literals-says a n size = record { part = nothing a n size; means = refl }
 
-then-says : (a : List Bool) (n : ℕ) (g : Named) (h : ℕ → Named) (s t : Truths) → length a ≡ n → Fits n g → Fits g.part.vars (h g.part.vars) → Says a g s → Says (a ++ s.bits) (h g.part.vars) t → Says a (then_named g h) (then_truths s t)
+pub then-says : (a : List Bool) (n : ℕ) (g : Named) (h : ℕ → Named) (s t : Truths) → length a ≡ n → Fits n g → Fits g.part.vars (h g.part.vars) → Says a g s → Says (a ++ s.bits) (h g.part.vars) t → Says a (then_named g h) (then_truths s t)
 then-says a n g h s t size fits next_fits one two =
     let m = g.part.vars in
     let k = (h m).part.vars in

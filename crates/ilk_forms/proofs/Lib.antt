@@ -5,3 +5,5 @@ pub mod TruthsMean
 pub mod DemandLaw
 pub mod Steps
 pub mod LiteralLaw
+pub mod ViolatedLaw
+pub mod Few

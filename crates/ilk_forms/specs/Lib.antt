@@ -3,3 +3,4 @@ pub mod Gathered
 pub mod Demand
 pub mod Truths
 pub mod Size
+pub mod Violated

@@ -1,4 +1,4 @@
-ghost use Rattle.std.specs.Prelude.{◌≡◌, ℕ, ◌++◌, List, Bool, false, length, ◌||◌, OnOk, IsTrue};
+ghost use Rattle.std.specs.Prelude.{◌≡◌, ℕ, ◌+◌, ◌*◌, ◌≤◌, ◌++◌, List, Bool, false, length, ◌||◌, OnOk, IsTrue};
 ghost use Rattle.ilk_cnf.specs.Extends.{PartExtends, OnlyIf};
 ghost use Rattle.ilk_cnf.specs.Formula.{clause_in};
 ghost use Rattle.ilk_cnf.specs.Part.{with_part};
@@ -9,6 +9,7 @@ ghost use Rattle.ilk_copy.specs.Copy.{LiteralsSay};
 ghost use Rattle.ilk_forms.specs.Leaf.{columns_in, ranges_of};
 ghost use Rattle.ilk_forms.specs.Gathered.{gathered_each};
 ghost use Rattle.ilk_forms.specs.Demand.{one_clause, some_part, demand_of, demand_each, demand_part};
+ghost use Rattle.ilk_forms.specs.Size.{tree_size};
 ghost use Rattle.ilk_forms.specs.Truths.{demand_bits};
 
 use crate::literals::{gather_each, leaf, push_all, signed};
@@ -18,7 +19,12 @@ use ilk_ir::Form;
 use std::alloc::{AllocError, Global};
 
 // Demands that one of the first literals or of the others is true.
-fn add_some(alloc: Global, cnf: &mut Cnf, first: &[Lit], others: &[Lit]) -> Result<(), AllocError>
+pub fn add_some(
+    alloc: Global,
+    cnf: &mut Cnf,
+    first: &[Lit],
+    others: &[Lit],
+) -> Result<(), AllocError>
     requires first { IsTrue (clause_in cnf.old.vars first.now) }
     requires others { IsTrue (clause_in cnf.old.vars others.now) }
     ensures { OnOk result (cnf.new ≡ with_part cnf.old (one_clause (first.now ++ others.now) cnf.old.vars)) }
@@ -122,6 +128,8 @@ pub fn demand(
     // is true or the form holds of ws extend over the part, and the new variables have one value
     // each.
     ensures law { OnOk result ((a : List Bool) (ranges ws : List ℕ) → length a ≡ cnf.old.vars → LiteralsSay a table.now ranges ws → PartExtends a (demand_part table.now first.now (tree_of form.now) cnf.old.vars) (OnlyIf (some_true a first.now || tree_holds ws (tree_of form.now)) (demand_bits ws (tree_of form.now)))) }
+    ensures vars { OnOk result (cnf.new.vars ≤ cnf.old.vars + tree_size (tree_of form.now)) }
+    ensures clauses { OnOk result (length cnf.new.clauses ≤ length cnf.old.clauses + 2 * tree_size (tree_of form.now)) }
 {
     demand_of(alloc, cnf, table, first, true, form)?;
     Ok(())

@@ -7,10 +7,15 @@
 //! the part holds (`specs/Gathered`), so that every assignment of what stood before extends in
 //! exactly one way, by the values of `specs/Truths`. `literal_of` answers a literal for a whole
 //! form.
+//!
+//! Where one of many instances is to be violated, each instance gets its literal by `literal_of`,
+//! and `first_violated` demands that some instance is the first that isn't kept (`specs/Violated`).
 #![tactic(auto)]
 
 mod clauses;
 mod literals;
+mod violated;
 
 pub use clauses::demand;
 pub use literals::literal_of;
+pub use violated::first_violated;

@@ -1,4 +1,4 @@
-ghost use Rattle.std.specs.Prelude.{◌≡◌, ℕ, ◌+◌, ◌∷◌, ◌++◌, [], List, Bool, length, OnOk, IfOk, IsTrue};
+ghost use Rattle.std.specs.Prelude.{◌≡◌, ℕ, ◌+◌, ◌*◌, ◌≤◌, ◌∷◌, ◌++◌, [], List, Bool, length, OnOk, IfOk, IsTrue};
 ghost use Rattle.ilk_cnf.specs.Extends.{PartExtends, Only};
 ghost use Rattle.ilk_cnf.specs.Formula.{lit_in, clause_in};
 ghost use Rattle.ilk_cnf.specs.Literal.{plus};
@@ -9,6 +9,7 @@ ghost use Rattle.ilk_ir.specs.Tree.{tree_holds, tree_valid, each_valid, value_va
 ghost use Rattle.ilk_copy.specs.Copy.{LiteralsSay};
 ghost use Rattle.ilk_forms.specs.Leaf.{leaf, columns_in, ranges_of};
 ghost use Rattle.ilk_forms.specs.Gathered.{signed, gate_part, single_of, taken_in, gathered, gathered_each, literal_part};
+ghost use Rattle.ilk_forms.specs.Size.{tree_size};
 ghost use Rattle.ilk_forms.specs.Truths.{literal_bits};
 
 use ilk_cnf::{Cnf, Lit, Lits, all_of, any_of};
@@ -180,6 +181,8 @@ pub fn literal_of(
     ensures made { OnOk result (cnf.new ≡ with_part cnf.old (literal_part table.now (tree_of form.now) cnf.old.vars).part) }
     ensures law { OnOk result ((a : List Bool) (ranges ws : List ℕ) → length a ≡ cnf.old.vars → LiteralsSay a table.now ranges ws → PartExtends a (literal_part table.now (tree_of form.now) cnf.old.vars).part (Only (literal_bits ws (tree_of form.now)))) }
     ensures exact { OnOk result ((a c : List Bool) (ranges ws : List ℕ) → length a ≡ cnf.old.vars → LiteralsSay a table.now ranges ws → is_true (a ++ (literal_bits ws (tree_of form.now) ++ c)) (literal_part table.now (tree_of form.now) cnf.old.vars).lit ≡ tree_holds ws (tree_of form.now)) }
+    ensures vars { OnOk result (cnf.new.vars ≤ cnf.old.vars + tree_size (tree_of form.now) + 1) }
+    ensures clauses { OnOk result (length cnf.new.clauses ≤ length cnf.old.clauses + 2 * tree_size (tree_of form.now) + 1) }
 {
     let lits = gather(alloc, cnf, table, true, true, form)?;
     let lit = single(alloc, cnf, true, lits.as_slice())?;
