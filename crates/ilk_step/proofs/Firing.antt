@@ -1,7 +1,7 @@
 -- What a rule does to values, variable by variable.
-use Rattle.std.proofs.Common.{◌≡◌, ◌==◌, ℕ, ◌+◌, ◌<◌, ◌≤◌, zero, suc, Bool, true, false, not, ◌&&◌, ◌||◌, List, [], ◌∷◌, length, set, slice_get, Option, Some, None, cond, refl, inl, inr, ◌⊎◌, sym, ap, ◌∙◌, subst, arith, eqb, ltb, length-set}
-use Rattle.std.specs.List.{list_any, list_all}
-use Rattle.std.proofs.lemmas.Bool.{and_parts, and_from, or_parts, or_from, or_cases, eqb-true, eqb-false, eq-eqb, ne_eqb, cases_eq, cases_lt, false≢true, not-true}
+use Rattle.std.proofs.Common.{◌≡◌, ◌==◌, ℕ, ◌+◌, ◌<◌, zero, suc, Bool, true, false, ◌&&◌, ◌||◌, List, [], ◌∷◌, length, set, slice_get, Option, Some, None, refl, inl, inr, ◌⊎◌, sym, ap, ◌∙◌, subst, arith, eqb, ltb, length-set}
+use Rattle.std.specs.List.{list_all}
+use Rattle.std.proofs.lemmas.Bool.{and_parts, and_from, or_parts, or_from, or_cases, eqb-true, eqb-false, eq-eqb, ne_eqb, cases_eq, false≢true, not-true}
 use Rattle.std.proofs.lemmas.Option.{slice_get_within}
 use Rattle.ilk_base.specs.Option.{is_some_and, only_if}
 use Rattle.ilk_base.proofs.Lists.{slice_get-set_same, slice_get-set_other, same_by_slice_get}

@@ -1,9 +1,8 @@
 -- The clauses of the frames say that each variable is set by a chosen rule or keeps its value.
-use Rattle.std.proofs.Common.{◌≡◌, ◌==◌, ℕ, ◌+◌, ◌<◌, ◌≤◌, zero, suc, Bool, true, false, not, ◌&&◌, ◌||◌, List, [], ◌∷◌, ◌++◌, length, map, take, slice_get, Some, cond, refl, inl, inr, sym, ap, ◌∙◌, subst, arith, eqb, length-append, ltb}
-use Rattle.std.specs.List.{list_any, list_all, range_with_len}
-use Rattle.std.proofs.lemmas.List.{map-append, take-map, length-map}
+use Rattle.std.proofs.Common.{◌≡◌, ◌==◌, ℕ, ◌+◌, ◌<◌, ◌≤◌, zero, suc, Bool, true, false, not, ◌&&◌, ◌||◌, List, [], ◌∷◌, ◌++◌, length, map, take, slice_get, Some, cond, refl, inl, inr, sym, ap, ◌∙◌, subst, arith, eqb, ltb}
+use Rattle.std.proofs.lemmas.List.{take-map, length-map}
 use Rattle.std.proofs.lemmas.List.Folds.{list_any-append, list_all-append}
-use Rattle.std.proofs.lemmas.Bool.{and_parts, and_from, cases_eq, eq-eqb, ne_eqb, eqb-true, ltb-true, false≢true}
+use Rattle.std.proofs.lemmas.Bool.{and_parts, cases_eq, eq-eqb, ne_eqb, eqb-true, ltb-true, false≢true}
 use Rattle.ilk_cnf.specs.Literal.{Literal, minus, opposite}
 use Rattle.ilk_cnf.specs.Truth.{is_true, some_true, satisfies}
 use Rattle.ilk_cnf.proofs.Gates.{is_true-opposite}

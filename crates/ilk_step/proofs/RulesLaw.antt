@@ -1,11 +1,11 @@
 -- Where a rule is chosen, its guard holds in the one copy and its settings are in the next.
-use Rattle.std.proofs.Common.{◌≡◌, ℕ, ◌+◌, ◌<◌, ◌≤◌, zero, suc, Bool, true, false, not, ◌&&◌, ◌||◌, List, [], ◌∷◌, ◌++◌, length, map, slice_get, Some, cond, refl, sym, ap, ◌∙◌, subst, arith, eqb, length-append}
+use Rattle.std.proofs.Common.{◌≡◌, ℕ, ◌+◌, ◌<◌, ◌≤◌, zero, suc, Bool, true, false, not, ◌&&◌, ◌||◌, List, [], ◌∷◌, ◌++◌, length, map, slice_get, Some, refl, sym, ap, ◌∙◌, subst, arith, eqb, length-append}
 use Rattle.std.specs.List.{list_all}
 use Rattle.std.proofs.lemmas.List.{append-nil}
 use Rattle.std.proofs.lemmas.List.Folds.{list_all-append}
 use Rattle.std.proofs.lemmas.Bool.{and_parts, and_from, lt-ltb, le-leb, leb-true, eq-eqb, ne_eqb}
-use Rattle.ilk_cnf.specs.Literal.{Literal, plus, minus}
-use Rattle.ilk_cnf.specs.Formula.{clause_in, clauses_in}
+use Rattle.ilk_cnf.specs.Literal.{Literal, plus}
+use Rattle.ilk_cnf.specs.Formula.{clause_in}
 use Rattle.ilk_cnf.specs.Truth.{value, is_true}
 use Rattle.ilk_cnf.specs.Extends.{Extends, OnlyIf}
 use Rattle.ilk_cnf.specs.Part.{Part, and_then}

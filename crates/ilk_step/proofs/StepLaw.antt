@@ -19,7 +19,7 @@ use Rattle.ilk_ir.specs.System.{RuleTree, rule_valid, fired, in_ranges}
 use Rattle.ilk_copy.specs.declared.copy.Column.{Column}
 use Rattle.ilk_copy.specs.Copy.{LiteralsSay}
 use Rattle.ilk_forms.specs.Leaf.{columns_in, ranges_of}
-use Rattle.ilk_forms.proofs.Reading.{Reads, reads, reads-more, columns_in-more}
+use Rattle.ilk_forms.proofs.Reading.{Reads, reads, columns_in-more}
 use Rattle.ilk_forms.proofs.DemandLaw.{PartFits}
 use Rattle.ilk_step.specs.Choice.{chosen_lits, choice_part, choice_bits, IsChoice}
 use Rattle.ilk_step.specs.Rules.{rules_part, rules_bits}

@@ -1,4 +1,4 @@
-use Rattle.std.proofs.Common.{◌≡◌, ◌+◌, ◌≤◌, ◌<◌, false, arith}
+use Rattle.std.proofs.Common.{◌≡◌, ◌+◌, ◌≤◌, false, arith}
 use Rattle.ilk_cnf.specs.Truth.{value}
 use Rattle.ilk_step.proofs.ChoiceLaw.{chosen-here, chosen-only, chosen-past}
 use Rattle.ilk_step.proofs.choice.chosen_rule.Goals as goal

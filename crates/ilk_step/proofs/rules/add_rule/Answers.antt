@@ -5,7 +5,7 @@ use Rattle.ilk_ir.specs.System.{rule_tree}
 use Rattle.ilk_forms.specs.Leaf.{columns_in}
 use Rattle.ilk_forms.specs.Demand.{demand_part}
 use Rattle.ilk_forms.proofs.Reading.{columns_in-more}
-use Rattle.ilk_forms.proofs.DemandLaw.{PartFits, demand_of-fits}
+use Rattle.ilk_forms.proofs.DemandLaw.{demand_of-fits}
 use Rattle.ilk_step.specs.Rules.{settings_part}
 use Rattle.ilk_step.proofs.RulesLaw.{rule_valid-guard, rule_valid-settings, settings_valid}
 use Rattle.ilk_step.proofs.RulesSteps.{next_part}

@@ -1,4 +1,4 @@
-use Rattle.std.proofs.Common.{◌≡◌, [], ◌∷◌, ◌+◌, ◌∙◌, true, List, drop, get_or, sym, ap}
+use Rattle.std.proofs.Common.{◌≡◌, [], ◌∷◌, ◌+◌, ◌∙◌, true, drop, get_or, sym, ap}
 use Rattle.std.proofs.lemmas.Bool.{and_parts}
 use Rattle.ilk_base.proofs.Lists.{drop-next}
 use Rattle.ilk_cnf.specs.Formula.{Formula}

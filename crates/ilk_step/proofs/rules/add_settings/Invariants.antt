@@ -1,9 +1,8 @@
-use Rattle.std.proofs.Common.{◌≡◌, ◌∷◌, [], true, drop}
+use Rattle.std.proofs.Common.{◌≡◌, true, drop}
 use Rattle.std.specs.List.{list_all}
-use Rattle.ilk_cnf.specs.Formula.{clause_in}
 use Rattle.ilk_cnf.specs.Part.{with_part}
 use Rattle.ilk_ir.specs.Tree.{value_valid}
-use Rattle.ilk_forms.specs.Leaf.{columns_in, ranges_of}
+use Rattle.ilk_forms.specs.Leaf.{ranges_of}
 use Rattle.ilk_step.specs.Rules.{settings_part}
 use Rattle.ilk_step.proofs.rules.add_settings.Given as goal
 

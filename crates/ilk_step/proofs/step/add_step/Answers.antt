@@ -1,13 +1,9 @@
-use Rattle.std.proofs.Common.{◌≡◌, ◌+◌, ◌≤◌, ◌++◌, ◌∙◌, ℕ, List, Bool, length, map, sym, ap, subst, arith}
+use Rattle.std.proofs.Common.{◌+◌, ◌++◌, ℕ, length, map, ap, subst, arith}
 use Rattle.std.proofs.lemmas.List.{length-map}
-use Rattle.ilk_cnf.specs.Formula.{Formula}
-use Rattle.ilk_cnf.specs.Part.{with_part}
 use Rattle.ilk_cnf.proofs.Extending.{extends-as_clauses}
-use Rattle.ilk_ir.specs.System.{RuleTree, rule_tree}
-use Rattle.ilk_forms.specs.Leaf.{columns_in}
+use Rattle.ilk_ir.specs.System.{rule_tree}
 use Rattle.ilk_forms.proofs.Reading.{columns_in-more}
-use Rattle.ilk_step.specs.Choice.{choice_part, Chooses}
-use Rattle.ilk_step.specs.Rules.{rules_part}
+use Rattle.ilk_step.specs.Choice.{Chooses}
 use Rattle.ilk_step.specs.Step.{step_part, step_bits, IsStep}
 use Rattle.ilk_step.proofs.RulesSteps.{step_made, choice_made, rules_made, frames_made, choice_room, rules_room}
 use Rattle.ilk_step.proofs.StepLaw.{step-law, step-says, step-below}
