@@ -5,3 +5,4 @@ pub mod FrameSteps
 pub mod RulesLaw
 pub mod RulesSteps
 pub mod StepLaw
+pub mod Few

@@ -2,3 +2,4 @@ pub mod Choice
 pub mod Rules
 pub mod Frame
 pub mod Step
+pub mod Size

@@ -1,4 +1,4 @@
-ghost use Rattle.std.specs.Prelude.{◌≡◌, ◌+◌, ◌≤◌, ◌<◌, ◌^◌, ◌++◌, ℕ, List, Bool, Some, length, map, OnOk, IfOk, IsTrue};
+ghost use Rattle.std.specs.Prelude.{◌≡◌, ◌+◌, ◌*◌, ◌≤◌, ◌<◌, ◌^◌, ◌++◌, ℕ, List, Bool, Some, length, map, OnOk, IfOk, IsTrue};
 ghost use Rattle.std.specs.List.{list_all};
 ghost use Rattle.ilk_cnf.specs.Extends.{PartExtends};
 ghost use Rattle.ilk_cnf.specs.Part.{with_part};
@@ -6,6 +6,7 @@ ghost use Rattle.ilk_ir.specs.System.{rule_tree, rule_valid, in_ranges};
 ghost use Rattle.ilk_copy.specs.Copy.{LiteralsSay};
 ghost use Rattle.ilk_forms.specs.Leaf.{columns_in, ranges_of};
 ghost use Rattle.ilk_step.specs.Choice.{Chooses};
+ghost use Rattle.ilk_step.specs.Size.{guards_size, settings_count, literals_count};
 ghost use Rattle.ilk_step.specs.Step.{step_part, step_bits, step_values, IsStep};
 
 use crate::choice::{Choice, add_choice};
@@ -41,6 +42,12 @@ pub fn add_step(
 
     // There the variables of the choice say that it is that rule, whatever follows the step.
     ensures exact { OnOk result ((a c : List Bool) (ws xs : List ℕ) (r : ℕ) → length a ≡ cnf.old.vars → step_values (map rule_tree rules.now) ws r ≡ Some xs → Chooses (a ++ (step_bits (map rule_tree rules.now) ws r ++ c)) (cnf.old.vars + 1) (length rules.now) r) }
+
+    // At most two variables and four clauses for each rule and one clause more, a variable and two
+    // clauses for each constructor of a guard, a clause for each setting, two for each literal of a
+    // copy.
+    ensures vars { OnOk result (cnf.new.vars ≤ cnf.old.vars + 2 * length rules.now + guards_size (map rule_tree rules.now)) }
+    ensures clauses { OnOk result (length cnf.new.clauses ≤ length cnf.old.clauses + (4 * length rules.now + 1 + 2 * guards_size (map rule_tree rules.now) + settings_count (map rule_tree rules.now) + 2 * literals_count now.now)) }
 {
     let first = cnf.vars() + 1;
     add_choice(alloc, cnf, rules.len())?;

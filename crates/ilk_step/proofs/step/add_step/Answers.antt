@@ -1,9 +1,14 @@
-use Rattle.std.proofs.Common.{◌+◌, ◌++◌, ℕ, length, map, ap, subst, arith}
+use Rattle.std.proofs.Common.{◌+◌, ◌++◌, ℕ, length, map, ap, subst, arith, ◌≡◌, ◌*◌, ◌≤◌}
 use Rattle.std.proofs.lemmas.List.{length-map}
+use Rattle.ilk_cnf.specs.Formula.{Formula}
+use Rattle.ilk_cnf.specs.Part.{with_part}
 use Rattle.ilk_cnf.proofs.Extending.{extends-as_clauses}
 use Rattle.ilk_ir.specs.System.{rule_tree}
 use Rattle.ilk_forms.proofs.Reading.{columns_in-more}
 use Rattle.ilk_step.specs.Choice.{Chooses}
+use Rattle.ilk_forms.proofs.Few.{with_part-few}
+use Rattle.ilk_step.specs.Size.{guards_size, settings_count, literals_count}
+use Rattle.ilk_step.proofs.Few.{step-few}
 use Rattle.ilk_step.specs.Step.{step_part, step_bits, IsStep}
 use Rattle.ilk_step.proofs.RulesSteps.{step_made, choice_made, rules_made, frames_made, choice_room, rules_room}
 use Rattle.ilk_step.proofs.StepLaw.{step-law, step-says, step-below}
@@ -101,3 +106,27 @@ returns-clause-exact c =
     let rs = map rule_tree c.args.rules.now in
     let whole : Chooses (a ++ (step_bits rs ws r ++ b)) (n + 1) (length rs) r = (step-below rs ws xs r is, step-says rs ws a b n r size) in
     subst (λ (m : ℕ). Chooses (a ++ (step_bits rs ws r ++ b)) (n + 1) m r) (length-map c.args.rules.now rule_tree) whole
+
+pub returns-clause-vars : goal.returns-clause-vars
+returns-clause-vars c =
+    let f = c.args.cnf.now in
+    let rs = map rule_tree c.args.rules.now in
+    let made : c.add_frames.new.cnf ≡ with_part f (step_part rs c.args.now.now c.args.next.now f.vars) = returns-clause-made c in
+    let few = step-few rs c.args.now.now c.args.next.now f.vars in
+    let vars = ap (λ (u : Formula). u.vars) made in
+    let bound = few.0 in
+    let long = length-map c.args.rules.now rule_tree in
+    omega (arith, vars, bound, long)
+
+pub returns-clause-clauses : goal.returns-clause-clauses
+returns-clause-clauses c =
+    let f = c.args.cnf.now in
+    let rs = map rule_tree c.args.rules.now in
+    let p = step_part rs c.args.now.now c.args.next.now f.vars in
+    let made : c.add_frames.new.cnf ≡ with_part f p = returns-clause-made c in
+    let few = step-few rs c.args.now.now c.args.next.now f.vars in
+    let k = 4 * length rs + 1 + 2 * guards_size rs + settings_count rs + 2 * literals_count c.args.now.now in
+    let bound : length (with_part f p).clauses ≤ length f.clauses + k = with_part-few f p k few.1 in
+    let all = ap (λ (u : Formula). length u.clauses) made in
+    let long = length-map c.args.rules.now rule_tree in
+    omega (arith, all, bound, long)
