@@ -130,7 +130,7 @@ one_of-few (l ∷ ls) n = let h = rest-few ls l n in omega arith
 as_clause-few : (ls : List Literal) → length (as_clause ls) ≤ 1
 as_clause-few ls = cond_both (is_tautology ls) [] (distinct ls ∷ []) (λ cs. length cs ≤ 1) (λ _. omega arith) (λ _. omega arith)
 
-as_clauses-few : (lss : List (List Literal)) → length (as_clauses lss) ≤ length lss
+pub as_clauses-few : (lss : List (List Literal)) → length (as_clauses lss) ≤ length lss
 as_clauses-few [] = omega arith
 as_clauses-few (ls ∷ lss) = omega (arith, length-append (as_clause ls) (as_clauses lss), as_clause-few ls, as_clauses-few lss)
 

@@ -1,0 +1,9 @@
+pub mod Reading
+pub mod GatheredFits
+pub mod GatheredLaw
+pub mod TruthsMean
+pub mod DemandLaw
+pub mod Steps
+pub mod LiteralLaw
+pub mod ViolatedLaw
+pub mod Few

@@ -1,0 +1,84 @@
+-- The truths of gathered literals are all true, or some, exactly where the form is what it is to be.
+use Rattle.std.proofs.Common.{◌≡◌, ℕ, Bool, true, false, not, ◌&&◌, ◌||◌, List, [], ◌∷◌, ◌++◌, cond, refl, ap, ◌∙◌}
+use Rattle.std.proofs.lemmas.List.Folds.{list_all-append, list_any-append}
+use Rattle.ilk_ir.specs.Tree.{Tree, yes, no, is, all_of, any_of, negation, Trees, none, more, tree_holds, each_holds, some_holds}
+use Rattle.ilk_forms.specs.Gathered.{same_truth}
+use Rattle.ilk_forms.specs.Truths.{Truths, no_truths, gate_truth, truths_taken_in, truths, truths_each}
+
+-- both, or one of the two
+abbrev pub both_or_one : Bool → Bool → Bool → Bool
+both_or_one all p q = cond all (p && q) (p || q)
+
+-- whether all forms are what they are to be, or some
+abbrev pub forms_are : List ℕ → Bool → Bool → Trees → Bool
+forms_are ws all positive none = all
+forms_are ws all positive (more t ts) = both_or_one all (same_truth positive (tree_holds ws t)) (forms_are ws all positive ts)
+
+pub alone : (all q : Bool) → gate_truth all (q ∷ []) ≡ q
+alone true true = refl
+alone true false = refl
+alone false true = refl
+alone false false = refl
+
+gate_truth-append : (all : Bool) (ps qs : List Bool) → gate_truth all (ps ++ qs) ≡ both_or_one all (gate_truth all ps) (gate_truth all qs)
+gate_truth-append true ps qs = list_all-append (λ (q : Bool). q) ps qs
+gate_truth-append false ps qs = list_any-append (λ (q : Bool). q) ps qs
+
+taken_in-means : (outer inner : Bool) (t : Truths) → gate_truth outer (truths_taken_in outer inner t).lits ≡ gate_truth inner t.lits
+taken_in-means true true t = refl
+taken_in-means true false t = alone true (gate_truth false t.lits)
+taken_in-means false true t = alone false (gate_truth true t.lits)
+taken_in-means false false t = refl
+
+none_means : (positive : Bool) → gate_truth positive [] ≡ positive
+none_means true = refl
+none_means false = refl
+
+pub all-are : (ws : List ℕ) (positive : Bool) (ts : Trees) → forms_are ws positive positive ts ≡ same_truth positive (each_holds ws ts)
+all-are ws true none = refl
+all-are ws false none = refl
+all-are ws true (more t ts) = ap (λ (b : Bool). tree_holds ws t && b) (all-are ws true ts)
+all-are ws false (more t ts) = ap (λ (b : Bool). not (tree_holds ws t) || b) (all-are ws false ts) ∙ apart (tree_holds ws t) (each_holds ws ts)
+  where
+    apart : (p q : Bool) → (not p || not q) ≡ not (p && q)
+    apart true q = refl
+    apart false q = refl
+
+pub some-are : (ws : List ℕ) (positive : Bool) (ts : Trees) → forms_are ws (not positive) positive ts ≡ same_truth positive (some_holds ws ts)
+some-are ws true none = refl
+some-are ws false none = refl
+some-are ws true (more t ts) = ap (λ (b : Bool). tree_holds ws t || b) (some-are ws true ts)
+some-are ws false (more t ts) = ap (λ (b : Bool). not (tree_holds ws t) && b) (some-are ws false ts) ∙ apart (tree_holds ws t) (some_holds ws ts)
+  where
+    apart : (p q : Bool) → (not p && not q) ≡ not (p || q)
+    apart true q = refl
+    apart false q = refl
+
+constant : (positive : Bool) → positive ≡ same_truth positive true
+constant true = refl
+constant false = refl
+
+other_constant : (positive : Bool) → not positive ≡ same_truth positive false
+other_constant true = refl
+other_constant false = refl
+
+pub turned : (positive b : Bool) → same_truth (not positive) b ≡ same_truth positive (not b)
+turned true b = refl
+turned false true = refl
+turned false false = refl
+
+mutual
+  pub truths-mean : (t : Tree) (ws : List ℕ) (all positive : Bool) → gate_truth all (truths ws all positive t).lits ≡ same_truth positive (tree_holds ws t)
+  truths-mean yes ws all positive = taken_in-means all positive no_truths ∙ none_means positive ∙ constant positive
+  truths-mean no ws all positive = taken_in-means all (not positive) no_truths ∙ none_means (not positive) ∙ other_constant positive
+  truths-mean (is v c) ws all positive = alone all (same_truth positive (tree_holds ws (is v c)))
+  truths-mean (all_of ts) ws all positive = taken_in-means all positive (truths_each ws positive positive ts) ∙ truths_each-mean ts ws positive positive ∙ all-are ws positive ts
+  truths-mean (any_of ts) ws all positive = taken_in-means all (not positive) (truths_each ws (not positive) positive ts) ∙ truths_each-mean ts ws (not positive) positive ∙ some-are ws positive ts
+  truths-mean (negation t) ws all positive = truths-mean t ws all (not positive) ∙ turned positive (tree_holds ws t)
+
+  pub truths_each-mean : (ts : Trees) (ws : List ℕ) (all positive : Bool) → gate_truth all (truths_each ws all positive ts).lits ≡ forms_are ws all positive ts
+  truths_each-mean none ws all positive = none_means all
+  truths_each-mean (more t ts) ws all positive =
+      let one = truths-mean t ws all positive in
+      let rest = truths_each-mean ts ws all positive in
+      gate_truth-append all (truths ws all positive t).lits (truths_each ws all positive ts).lits ∙ rw (one, rest) refl

@@ -1,0 +1,6 @@
+pub mod Leaf
+pub mod Gathered
+pub mod Demand
+pub mod Truths
+pub mod Size
+pub mod Violated

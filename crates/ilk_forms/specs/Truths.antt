@@ -1,0 +1,66 @@
+-- The values of the variables that stand for parts of a form, where the copy's variables have some values.
+use Rattle.std.specs.Prelude.{ℕ, Bool, true, false, not, List, [], ◌∷◌, ◌++◌, if◌then◌else◌}
+use Rattle.std.specs.List.{list_any, list_all}
+use Rattle.ilk_ir.specs.Tree.{Tree, yes, no, is, all_of, any_of, negation, Trees, none, more, has_value}
+use Rattle.ilk_forms.specs.Gathered.{same_truth}
+
+-- the values of new variables, and of the literals that stand for a form
+pub record Truths : Type 0 where
+  pub bits : List Bool
+  pub lits : List Bool
+
+abbrev pub no_truths : Truths
+no_truths = record { bits = []; lits = [] }
+
+abbrev pub then_truths : Truths → Truths → Truths
+then_truths g h = record { bits = g.bits ++ h.bits; lits = g.lits ++ h.lits }
+
+-- whether all are true, or some
+abbrev pub gate_truth : Bool → List Bool → Bool
+gate_truth all qs = if all then list_all (λ q. q) qs else list_any (λ q. q) qs
+
+-- the value of the new variable, where there is one: one truth alone stands for itself
+abbrev pub gate_bits : Bool → List Bool → List Bool
+gate_bits all [] = gate_truth all [] ∷ []
+gate_bits all (q ∷ []) = []
+gate_bits all (q ∷ r ∷ qs) = gate_truth all (q ∷ r ∷ qs) ∷ []
+
+abbrev pub truths_taken_in : Bool → Bool → Truths → Truths
+truths_taken_in outer inner g =
+    if same_truth outer inner then g else record { bits = g.bits ++ gate_bits inner g.lits; lits = gate_truth inner g.lits ∷ [] }
+
+abbrev mutual
+  pub truths : List ℕ → Bool → Bool → Tree → Truths
+  truths ws all positive yes = truths_taken_in all positive no_truths
+  truths ws all positive no = truths_taken_in all (not positive) no_truths
+  truths ws all positive (is v c) = record { bits = []; lits = same_truth positive (has_value ws v c) ∷ [] }
+  truths ws all positive (all_of ts) = truths_taken_in all positive (truths_each ws positive positive ts)
+  truths ws all positive (any_of ts) = truths_taken_in all (not positive) (truths_each ws (not positive) positive ts)
+  truths ws all positive (negation t) = truths ws all (not positive) t
+
+  pub truths_each : List ℕ → Bool → Bool → Trees → Truths
+  truths_each ws all positive none = no_truths
+  truths_each ws all positive (more t ts) = then_truths (truths ws all positive t) (truths_each ws all positive ts)
+
+-- those of a form's literal
+abbrev pub literal_bits : List ℕ → Tree → List Bool
+literal_bits ws t = (truths ws true true t).bits ++ gate_bits true (truths ws true true t).lits
+
+-- those of the demand that a form holds
+abbrev mutual
+  pub demand_of_bits : List ℕ → Bool → Tree → List Bool
+  demand_of_bits ws positive yes = []
+  demand_of_bits ws positive no = []
+  demand_of_bits ws positive (is v c) = []
+  demand_of_bits ws true (all_of ts) = demand_each_bits ws true ts
+  demand_of_bits ws false (all_of ts) = (truths_each ws false false ts).bits
+  demand_of_bits ws true (any_of ts) = (truths_each ws false true ts).bits
+  demand_of_bits ws false (any_of ts) = demand_each_bits ws false ts
+  demand_of_bits ws positive (negation t) = demand_of_bits ws (not positive) t
+
+  pub demand_each_bits : List ℕ → Bool → Trees → List Bool
+  demand_each_bits ws positive none = []
+  demand_each_bits ws positive (more t ts) = demand_of_bits ws positive t ++ demand_each_bits ws positive ts
+
+abbrev pub demand_bits : List ℕ → Tree → List Bool
+demand_bits ws t = demand_of_bits ws true t

@@ -1,0 +1,38 @@
+-- The demand that some of several instances is violated, by the first one that is.
+use Rattle.std.specs.Prelude.{ℕ, ◌+◌, Bool, not, List, [], ◌∷◌, ◌&&◌}
+use Rattle.ilk_cnf.specs.Literal.{Literal, plus, minus, opposite}
+use Rattle.ilk_cnf.specs.Part.{Part, and_then, all_of_part, any_of_part}
+use Rattle.ilk_ints.specs.Named.{Named}
+use Rattle.ilk_forms.specs.Gathered.{no_literals, then_named}
+use Rattle.ilk_forms.specs.Demand.{one_clause, some_part}
+use Rattle.ilk_forms.specs.Truths.{Truths, no_truths, then_truths}
+
+-- after n variables, where `before` says that each instance before is kept and `kept` that this one is: a variable that is false exactly where this is the first that isn't, and one that is true where each is kept so far
+abbrev pub next_violated : Literal → Literal → ℕ → Named
+next_violated before kept n =
+    record {
+      part = and_then (any_of_part (opposite before ∷ kept ∷ []) n) (all_of_part (before ∷ kept ∷ []));
+      lits = minus (n + 1) ∷ [];
+    }
+
+-- for each of the further instances, the literal that it is the first that isn't kept
+abbrev pub violated_after : Literal → List Literal → ℕ → Named
+violated_after before [] n = no_literals n
+violated_after before (kept ∷ others) n = then_named (next_violated before kept n) (violated_after (plus (n + 1 + 1)) others)
+
+-- after n variables: one of the instances is the first that isn't kept; of none, none is
+abbrev pub first_violated_part : List Literal → ℕ → Part
+first_violated_part [] n = one_clause [] n
+first_violated_part (kept ∷ others) n = some_part (opposite kept ∷ []) (violated_after kept others n)
+
+-- the values of the new variables, and of the literals, where it is known of each instance whether it is kept
+abbrev pub next_truths : Bool → Bool → Truths
+next_truths before kept = record { bits = not (before && not kept) ∷ (before && kept) ∷ []; lits = (before && not kept) ∷ [] }
+
+abbrev pub truths_after : Bool → List Bool → Truths
+truths_after before [] = no_truths
+truths_after before (kept ∷ others) = then_truths (next_truths before kept) (truths_after (before && kept) others)
+
+abbrev pub first_violated_bits : List Bool → List Bool
+first_violated_bits [] = []
+first_violated_bits (kept ∷ others) = (truths_after kept others).bits

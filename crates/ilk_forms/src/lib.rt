@@ -1,0 +1,21 @@
+//! Forms as clauses over a copy of a system's values.
+//!
+//! A form speaks of a copy by the literals of the copy's table (`specs/Leaf`). `demand` adds the
+//! clauses that say that one of some literals is true or the form holds: And at the top becomes
+//! several demands, Or one clause with Or within Or taken in, and Not is pushed inward
+//! (`specs/Demand`). A part that is no literal gets one new variable, which is true exactly where
+//! the part holds (`specs/Gathered`), so that every assignment of what stood before extends in
+//! exactly one way, by the values of `specs/Truths`. `literal_of` answers a literal for a whole
+//! form.
+//!
+//! Where one of many instances is to be violated, each instance gets its literal by `literal_of`,
+//! and `first_violated` demands that some instance is the first that isn't kept (`specs/Violated`).
+#![tactic(auto)]
+
+mod clauses;
+mod literals;
+mod violated;
+
+pub use clauses::demand;
+pub use literals::literal_of;
+pub use violated::first_violated;

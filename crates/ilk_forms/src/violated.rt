@@ -1,0 +1,95 @@
+ghost use Rattle.std.specs.Prelude.{◌≡◌, ◌+◌, ◌*◌, ◌≤◌, ◌∷◌, [], List, Bool, not, length, map, OnOk, IfOk, IsTrue};
+ghost use Rattle.std.specs.List.{list_all};
+ghost use Rattle.ilk_cnf.specs.Extends.{PartExtends, OnlyIf};
+ghost use Rattle.ilk_cnf.specs.Formula.{clause_in};
+ghost use Rattle.ilk_cnf.specs.Literal.{plus, minus, opposite};
+ghost use Rattle.ilk_cnf.specs.Part.{with_part};
+ghost use Rattle.ilk_cnf.specs.Truth.{is_true};
+ghost use Rattle.ilk_forms.specs.Demand.{some_part};
+ghost use Rattle.ilk_forms.specs.Violated.{next_violated, violated_after, first_violated_part, first_violated_bits};
+
+use crate::clauses::add_some;
+use ilk_cnf::{Cnf, Lit, Lits, all_of, any_of};
+use std::alloc::{AllocError, Global};
+
+// Two literals of the next instance.
+#[derive(Clone, Copy)]
+struct Next {
+    // true exactly where this instance is the first that isn't kept
+    first: Lit,
+    // true exactly where each instance so far is kept
+    before: Lit,
+}
+
+// Adds the variables of the next instance, where `before` says that each before it is kept.
+fn add_next(alloc: Global, cnf: &mut Cnf, before: Lit, kept: Lit) -> Result<Next, AllocError>
+    requires { IsTrue (clause_in cnf.old.vars (before ∷ kept ∷ [])) }
+    ensures first { IfOk result (λ next. next.first ≡ minus (cnf.old.vars + 1)) }
+    ensures before { IfOk result (λ next. next.before ≡ plus (cnf.old.vars + 1 + 1)) }
+    ensures made { OnOk result (cnf.new ≡ with_part cnf.old (next_violated before kept cnf.old.vars).part) }
+{
+    let other = any_of(alloc, cnf, &[before.negated(), kept])?;
+    let before = all_of(alloc, cnf, &[before, kept])?;
+    Ok(Next {
+        first: other.negated(),
+        before,
+    })
+}
+
+// For each of the instances, the literal that it is the first that isn't kept.
+fn violated_after(
+    alloc: Global,
+    cnf: &mut Cnf,
+    before: Lit,
+    others: &[Lit],
+) -> Result<Lits, AllocError>
+    requires { IsTrue (clause_in cnf.old.vars (before ∷ others.now)) }
+    ensures lits { IfOk result (λ lits. lits ≡ (violated_after before others.now cnf.old.vars).lits) }
+    ensures made { OnOk result (cnf.new ≡ with_part cnf.old (violated_after before others.now cnf.old.vars).part) }
+{
+    let mut before = before;
+    let mut lits = Lits::new(alloc);
+    for kept in others {
+        let next = add_next(alloc, cnf, before, *kept)?;
+        lits.push(next.first)?;
+        before = next.before;
+    }
+    Ok(lits)
+}
+
+// Demands that one of the instances isn't kept, of which this is the first.
+fn some_violated(alloc: Global, cnf: &mut Cnf, kept: Lit, others: &[Lit]) -> Result<(), AllocError>
+    requires { IsTrue (clause_in cnf.old.vars (kept ∷ others.now)) }
+    ensures { OnOk result (cnf.new ≡ with_part cnf.old (some_part (opposite kept ∷ []) (violated_after kept others.now cnf.old.vars))) }
+{
+    let lits = violated_after(alloc, cnf, kept, others)?;
+    add_some(alloc, cnf, &[kept.negated()], lits.as_slice())?;
+    Ok(())
+}
+
+// Demands that one of the instances isn't kept.
+fn add_first_violated(alloc: Global, cnf: &mut Cnf, kept: &[Lit]) -> Result<(), AllocError>
+    requires { IsTrue (clause_in cnf.old.vars kept.now) }
+    ensures { OnOk result (cnf.new ≡ with_part cnf.old (first_violated_part kept.now cnf.old.vars)) }
+{
+    match kept {
+        [] => cnf.add_lits(&[])?,
+        [first, rest @ ..] => some_violated(alloc, cnf, *first, rest)?,
+    }
+    Ok(())
+}
+
+/// Demands that one of the instances isn't kept, where each literal says that its instance is. A
+/// new variable for each but the first is false exactly where the instance is the first that isn't
+/// kept, another is true where each so far is kept, and one clause says that some instance is the
+/// first that isn't.
+pub fn first_violated(alloc: Global, cnf: &mut Cnf, kept: &[Lit]) -> Result<(), AllocError>
+    requires { IsTrue (clause_in cnf.old.vars kept.now) }
+    ensures made { OnOk result (cnf.new ≡ with_part cnf.old (first_violated_part kept.now cnf.old.vars)) }
+    ensures law { OnOk result ((a : List Bool) → length a ≡ cnf.old.vars → PartExtends a (first_violated_part kept.now cnf.old.vars) (OnlyIf (not (list_all (is_true a) kept.now)) (first_violated_bits (map (is_true a) kept.now)))) }
+    ensures vars { OnOk result (cnf.new.vars ≤ cnf.old.vars + 2 * length kept.now) }
+    ensures clauses { OnOk result (length cnf.new.clauses ≤ length cnf.old.clauses + 6 * length kept.now + 1) }
+{
+    add_first_violated(alloc, cnf, kept)?;
+    Ok(())
+}

@@ -1,0 +1,109 @@
+-- How many variables and clauses the parts of a step have.
+use Rattle.std.proofs.Common.{◌≡◌, ◌==◌, ℕ, suc, ◌+◌, ◌*◌, ◌≤◌, Bool, true, false, List, [], ◌∷◌, ◌++◌, length, map, take, cond, refl, sym, ap, ◌∙◌, arith, length-append}
+use Rattle.std.specs.List.{range_with_len}
+use Rattle.std.proofs.lemmas.List.{length-map}
+use Rattle.std.proofs.lemmas.List.FromFn.{length-map-range_with_len}
+use Rattle.ilk_cnf.specs.Literal.{Literal, plus, minus}
+use Rattle.ilk_cnf.specs.Formula.{Formula}
+use Rattle.ilk_cnf.specs.Part.{with_part}
+use Rattle.ilk_ints.specs.OneOf.{one_of_rest, one_of_part}
+use Rattle.ilk_ints.proofs.OneOfLaw.{one_of-few}
+use Rattle.ilk_ir.specs.System.{RuleTree}
+use Rattle.ilk_ir.specs.declared.system.Setting.{Setting}
+use Rattle.ilk_copy.specs.declared.copy.Column.{Column}
+use Rattle.ilk_forms.specs.Size.{tree_size}
+use Rattle.ilk_forms.specs.Demand.{demand_part}
+use Rattle.ilk_forms.proofs.Few.{PartFew, demand_of-few, with_part-few}
+use Rattle.ilk_step.specs.Choice.{chosen_lits, choice_part}
+use Rattle.ilk_step.specs.Rules.{settings_part, rule_part, rules_part}
+use Rattle.ilk_step.specs.Frame.{setters, carried, carry_over, frame, frames, frames_part}
+use Rattle.ilk_step.specs.Step.{step_part}
+use Rattle.ilk_step.specs.Size.{guards_size, settings_count, literals_count}
+
+one_of_rest-vars : (ls : List Literal) (s : Literal) (n : ℕ) → (one_of_rest s ls n).vars ≡ n + length ls
+one_of_rest-vars [] s n = omega arith
+one_of_rest-vars (l ∷ ls) s n = let rest = one_of_rest-vars ls (plus (n + 1)) (n + 1) in omega arith
+
+one_of-vars : (ls : List Literal) (n : ℕ) → (one_of_part ls n).vars ≤ n + length ls
+one_of-vars [] n = omega arith
+one_of-vars (l ∷ ls) n = let rest = one_of_rest-vars ls l n in omega arith
+
+choice-few : (m n : ℕ) → ((choice_part m n).vars ≤ n + 2 * m) × (length (choice_part m n).clauses ≤ 4 * m + 1)
+choice-few m n =
+    let ls = chosen_lits (n + 1) m in
+    let long : length ls ≡ m = length-map-range_with_len minus (n + 1) m in
+    let vars = one_of-vars ls (n + m) in
+    let clauses = one_of-few ls (n + m) in
+    (omega arith, omega arith)
+
+settings-few : (sets : List Setting) (next : List Column) (skip : Literal) (n : ℕ) → ((settings_part next skip sets n).vars ≡ n) × (length (settings_part next skip sets n).clauses ≡ length sets)
+settings-few [] next skip n = (refl, refl)
+settings-few (s ∷ sets) next skip n = let rest = settings-few sets next skip n in (rest.0, ap (λ (k : ℕ). suc k) rest.1)
+
+rules-few : (rs : List RuleTree) (now next : List Column) (k n : ℕ) → ((rules_part now next k rs n).vars ≤ n + guards_size rs) × (length (rules_part now next k rs n).clauses ≤ 2 * guards_size rs + settings_count rs)
+rules-few [] now next k n = (omega arith, omega arith)
+rules-few (r ∷ rs) now next k n =
+    let skip = plus k in
+    let p = demand_part now (skip ∷ []) r.guard n in
+    let q = settings_part next skip r.sets p.vars in
+    let rest = rules_part now next (k + 1) rs q.vars in
+    let one = demand_of-few r.guard now (skip ∷ []) true n in
+    let guard_vars : p.vars ≤ n + tree_size r.guard = one.vars in
+    let guard_clauses : length p.clauses ≤ 2 * tree_size r.guard = one.clauses in
+    let two = settings-few r.sets next skip p.vars in
+    let set_vars : q.vars ≡ p.vars = two.0 in
+    let set_clauses : length q.clauses ≡ length r.sets = two.1 in
+    let three = rules-few rs now next (k + 1) q.vars in
+    let rest_vars : rest.vars ≤ q.vars + guards_size rs = three.0 in
+    let rest_clauses : length rest.clauses ≤ 2 * guards_size rs + settings_count rs = three.1 in
+    let first : length (p.clauses ++ q.clauses) ≡ length p.clauses + length q.clauses = length-append p.clauses q.clauses in
+    let all : length ((p.clauses ++ q.clauses) ++ rest.clauses) ≡ length (p.clauses ++ q.clauses) + length rest.clauses = length-append (p.clauses ++ q.clauses) rest.clauses in
+    (omega arith, omega arith)
+
+carry_over-few : (ls ms first : List Literal) → length (carry_over first ls ms) ≤ 2 * length ls
+carry_over-few [] ms first = omega arith
+carry_over-few (l ∷ ls) [] first = omega arith
+carry_over-few (l ∷ ls) (m ∷ ms) first = let rest = carry_over-few ls ms first in omega arith
+
+carried-few : (ls : List Literal) → length (carried ls) ≤ length ls
+carried-few ls = by_case (length ls == 2)
+  where
+    first_few : (ls : List Literal) → length (take 1 ls) ≤ length ls
+    first_few [] = omega arith
+    first_few (l ∷ ls) = omega arith
+
+    by_case : (b : Bool) → length (cond b (take 1 ls) ls) ≤ length ls
+    by_case true = first_few ls
+    by_case false = omega arith
+
+frames-few : (now next : List Column) (rs : List RuleTree) (k v : ℕ) → length (frames rs k v now next) ≤ 2 * literals_count now
+frames-few [] next rs k v = omega arith
+frames-few (c ∷ now) [] rs k v = omega arith
+frames-few (c ∷ now) (d ∷ next) rs k v =
+    let first = setters v k rs in
+    let values = carry_over first (carried c.values) (carried d.values) in
+    let bounds = carry_over first c.bounds d.bounds in
+    let rest = frames rs k (v + 1) now next in
+    let one : length values ≤ 2 * length (carried c.values) = carry_over-few (carried c.values) (carried d.values) first in
+    let few : length (carried c.values) ≤ length c.values = carried-few c.values in
+    let two : length bounds ≤ 2 * length c.bounds = carry_over-few c.bounds d.bounds first in
+    let three : length rest ≤ 2 * literals_count now = frames-few now next rs k (v + 1) in
+    let here : length (values ++ bounds) ≡ length values + length bounds = length-append values bounds in
+    let all : length ((values ++ bounds) ++ rest) ≡ length (values ++ bounds) + length rest = length-append (values ++ bounds) rest in
+    omega arith
+
+pub step-few : (rs : List RuleTree) (now next : List Column) (n : ℕ) → ((step_part rs now next n).vars ≤ n + 2 * length rs + guards_size rs) × (length (step_part rs now next n).clauses ≤ 4 * length rs + 1 + 2 * guards_size rs + settings_count rs + 2 * literals_count now)
+step-few rs now next n =
+    let p = choice_part (length rs) n in
+    let q = rules_part now next (n + 1) rs p.vars in
+    let last = frames rs (n + 1) 0 now next in
+    let one = choice-few (length rs) n in
+    let choice_vars : p.vars ≤ n + 2 * length rs = one.0 in
+    let choice_clauses : length p.clauses ≤ 4 * length rs + 1 = one.1 in
+    let two = rules-few rs now next (n + 1) p.vars in
+    let rules_vars : q.vars ≤ p.vars + guards_size rs = two.0 in
+    let rules_clauses : length q.clauses ≤ 2 * guards_size rs + settings_count rs = two.1 in
+    let three : length last ≤ 2 * literals_count now = frames-few now next rs (n + 1) 0 in
+    let here : length (q.clauses ++ last) ≡ length q.clauses + length last = length-append q.clauses last in
+    let all : length (p.clauses ++ (q.clauses ++ last)) ≡ length p.clauses + length (q.clauses ++ last) = length-append p.clauses (q.clauses ++ last) in
+    (omega arith, omega arith)

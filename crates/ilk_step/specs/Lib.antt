@@ -1,0 +1,5 @@
+pub mod Choice
+pub mod Rules
+pub mod Frame
+pub mod Step
+pub mod Size

@@ -1,0 +1,55 @@
+ghost use Rattle.std.specs.Prelude.{◌≡◌, ℕ, ◌+◌, ◌≤◌, ◌^◌, List, Bool, length, OnOk, IfOk};
+ghost use Rattle.ilk_cnf.specs.Extends.{PartExtends};
+ghost use Rattle.ilk_cnf.specs.Part.{with_part};
+ghost use Rattle.ilk_step.specs.Choice.{chosen_lits, new_variables, choice_part, IsChoice, Chooses};
+
+use ilk_cnf::{Assignment, Clause, Cnf, Lit};
+use ilk_ints::one_of;
+use std::alloc::{AllocError, Global};
+
+/// The variables of a step that say which rule is chosen: one for each of `rules` rules, from
+/// `first` on, true where its rule is not chosen.
+#[derive(Clone, Copy)]
+pub struct Choice {
+    pub first: u64,
+    pub rules: u32,
+}
+
+// Adds a variable for each of so many rules, and answers the literals that say that a rule is
+// chosen.
+fn add_variables(alloc: Global, cnf: &mut Cnf, rules: u64) -> Result<Clause, AllocError>
+    ensures lits { IfOk result (λ lits. lits ≡ chosen_lits (cnf.old.vars + 1) rules) }
+    ensures made { OnOk result (cnf.new ≡ with_part cnf.old (new_variables rules cnf.old.vars)) }
+{
+    let mut chosen = Clause::new(alloc);
+    for _ in 0..rules {
+        chosen.push(Lit::new(cnf.fresh()?, false))?;
+    }
+    Ok(chosen)
+}
+
+// Adds a variable for each of so many rules, true where the rule is not chosen, and demands that
+// exactly one rule is chosen.
+pub fn add_choice(alloc: Global, cnf: &mut Cnf, rules: u64) -> Result<(), AllocError>
+    ensures made { OnOk result (cnf.new ≡ with_part cnf.old (choice_part rules cnf.old.vars)) }
+    ensures law { OnOk result ((a : List Bool) → length a ≡ cnf.old.vars → PartExtends a (choice_part rules cnf.old.vars) (IsChoice rules)) }
+{
+    let chosen = add_variables(alloc, cnf, rules)?;
+    one_of(cnf, &chosen)?;
+    Ok(())
+}
+
+/// The number of the chosen rule. One is chosen and no other, as wherever the assignment satisfies
+/// the clauses of the step.
+pub fn chosen_rule(a: &Assignment, choice: Choice) -> u32
+    requires numbered { choice.first ≤ 2 ^ 62 + 1 }
+    requires one { (r : ℕ) × Chooses a.now choice.first choice.rules r }
+    ensures chosen { Chooses a.now choice.first choice.rules result }
+    ensures only { (r : ℕ) → Chooses a.now choice.first choice.rules r → r ≡ result }
+{
+    let mut rule = 0;
+    while rule < choice.rules && a.value(choice.first + u64::from(rule)) {
+        rule += 1;
+    }
+    rule
+}

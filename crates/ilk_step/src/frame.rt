@@ -1,0 +1,143 @@
+ghost use Rattle.std.specs.Prelude.{◌≡◌, ◌+◌, ◌≤◌, ◌<◌, ◌^◌, ◌++◌, ◌∷◌, [], length, map, OnOk, IfOk, IsTrue};
+ghost use Rattle.ilk_cnf.specs.Formula.{grown, as_clause, clause_in};
+ghost use Rattle.ilk_cnf.specs.Part.{with_part, as_clauses};
+ghost use Rattle.ilk_ir.specs.System.{rule_tree};
+ghost use Rattle.ilk_forms.specs.Leaf.{columns_in, ranges_of};
+ghost use Rattle.ilk_step.specs.Frame.{sets_variable, setters, carry_over, carried, frame, frames_part};
+
+use ilk_cnf::{Cnf, Lit, Lits};
+use ilk_copy::{Column, Table};
+use ilk_ir::{Rule, Setting};
+use std::alloc::{AllocError, Global};
+
+// Whether one of the settings sets the variable.
+fn sets_variable(v: u64, sets: &[Setting]) -> bool
+    ensures { result ≡ sets_variable v sets.now }
+{
+    sets.iter().any(|s| u64::from(s.var) == v)
+}
+
+// The literals that say that a rule is chosen that sets the variable `v`. The variables of the
+// rules stand from `first` on.
+fn setters(alloc: Global, v: u64, first: u64, rules: &[Rule]) -> Result<Lits, AllocError>
+    requires from_1 { 0 < first }
+    requires numbered { first + length rules.now ≤ 2 ^ 62 + 1 }
+    ensures { IfOk result (λ lits. lits ≡ setters v first (map rule_tree rules.now)) }
+{
+    let mut lits = Lits::new(alloc);
+    for (i, rule) in rules.iter().enumerate() {
+        if sets_variable(v, rule.sets.as_slice()) {
+            lits.push(Lit::new(first + i as u64, false))?;
+        }
+    }
+    Ok(lits)
+}
+
+// Demands that one of the first literals or of the two is true.
+fn add_pair(alloc: Global, cnf: &mut Cnf, first: &Lits, l: Lit, m: Lit) -> Result<(), AllocError>
+    requires first { IsTrue (clause_in cnf.old.vars first.now) }
+    requires pair { IsTrue (clause_in cnf.old.vars (l ∷ m ∷ [])) }
+    ensures { OnOk result (cnf.new ≡ grown cnf.old cnf.old.vars (as_clause (first.now ++ l ∷ m ∷ []))) }
+{
+    let mut lits = first.copy(alloc)?;
+    lits.push(l)?;
+    lits.push(m)?;
+    cnf.add_lits(lits.as_slice())?;
+    Ok(())
+}
+
+// Demands that one of the first literals is true, or the two are true in the same case.
+fn add_same(alloc: Global, cnf: &mut Cnf, first: &Lits, l: Lit, m: Lit) -> Result<(), AllocError>
+    requires first { IsTrue (clause_in cnf.old.vars first.now) }
+    requires pair { IsTrue (clause_in cnf.old.vars (l ∷ m ∷ [])) }
+    ensures { OnOk result (cnf.new ≡ grown cnf.old cnf.old.vars (as_clauses (carry_over first.now (l ∷ []) (m ∷ [])))) }
+{
+    add_pair(alloc, cnf, first, l.negated(), m)?;
+    add_pair(alloc, cnf, first, l, m.negated())?;
+    Ok(())
+}
+
+// Demands that one of the first literals is true, or each of the one list is true exactly where
+// that of the other is.
+fn carry_over(
+    alloc: Global,
+    cnf: &mut Cnf,
+    first: &Lits,
+    now: &[Lit],
+    next: &[Lit],
+) -> Result<(), AllocError>
+    requires first { IsTrue (clause_in cnf.old.vars first.now) }
+    requires now { IsTrue (clause_in cnf.old.vars now.now) }
+    requires next { IsTrue (clause_in cnf.old.vars next.now) }
+    ensures { OnOk result (cnf.new ≡ grown cnf.old cnf.old.vars (as_clauses (carry_over first.now now.now next.now))) }
+{
+    for i in 0..now.len().min(next.len()) {
+        add_same(alloc, cnf, first, now[i], next[i])?;
+    }
+    Ok(())
+}
+
+// The literals of a variable's values that are carried over.
+fn carried(values: &[Lit]) -> &[Lit]
+    ensures { result.now ≡ carried values.now }
+{
+    if values.len() == 2 {
+        &values[..1]
+    } else {
+        values
+    }
+}
+
+// Demands that one of the first literals is true, or the variable keeps its value.
+fn add_frame(
+    alloc: Global,
+    cnf: &mut Cnf,
+    first: &Lits,
+    now: &Column,
+    next: &Column,
+) -> Result<(), AllocError>
+    requires first { IsTrue (clause_in cnf.old.vars first.now) }
+    requires columns { IsTrue (columns_in cnf.old.vars (now.now ∷ next.now ∷ [])) }
+    ensures { OnOk result (cnf.new ≡ grown cnf.old cnf.old.vars (as_clauses (frame first.now now.now next.now))) }
+{
+    carry_over(
+        alloc,
+        cnf,
+        first,
+        carried(now.values.as_slice()),
+        carried(next.values.as_slice()),
+    )?;
+    carry_over(
+        alloc,
+        cnf,
+        first,
+        now.bounds.as_slice(),
+        next.bounds.as_slice(),
+    )?;
+    Ok(())
+}
+
+// Demands of each variable that a rule is chosen that sets it, or it keeps its value. The
+// variables of the rules stand from `first` on.
+pub fn add_frames(
+    alloc: Global,
+    cnf: &mut Cnf,
+    now: &Table,
+    next: &Table,
+    rules: &[Rule],
+    first: u64,
+) -> Result<(), AllocError>
+    requires now { IsTrue (columns_in cnf.old.vars now.now) }
+    requires next { IsTrue (columns_in cnf.old.vars next.now) }
+    requires same { ranges_of next.now ≡ ranges_of now.now }
+    requires from_1 { 0 < first }
+    requires numbered { first + length rules.now ≤ cnf.old.vars + 1 }
+    ensures { OnOk result (cnf.new ≡ with_part cnf.old (frames_part (map rule_tree rules.now) first now.now next.now cnf.old.vars)) }
+{
+    for (v, column) in now.as_slice().iter().enumerate() {
+        let _ = cnf.vars();
+        let setters = setters(alloc, v as u64, first, rules)?;
+        add_frame(alloc, cnf, &setters, column, next.at(v as u64))?;
+    }
+    Ok(())
+}

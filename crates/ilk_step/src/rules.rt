@@ -1,0 +1,90 @@
+ghost use Rattle.std.specs.Prelude.{◌≡◌, ◌+◌, ◌≤◌, ◌<◌, ◌∷◌, [], length, map, OnOk, IsTrue};
+ghost use Rattle.std.specs.List.{list_all};
+ghost use Rattle.ilk_cnf.specs.Formula.{clause_in};
+ghost use Rattle.ilk_cnf.specs.Part.{with_part};
+ghost use Rattle.ilk_ir.specs.System.{rule_tree, rule_valid};
+ghost use Rattle.ilk_ir.specs.Form.{tree_of};
+ghost use Rattle.ilk_ir.specs.Tree.{is, value_valid};
+ghost use Rattle.ilk_forms.specs.Leaf.{columns_in, ranges_of};
+ghost use Rattle.ilk_step.specs.Rules.{settings_part, rule_part, rules_part};
+
+use ilk_cnf::{Cnf, Lit};
+use ilk_copy::Table;
+use ilk_forms::demand;
+use ilk_ir::{Form, Rule, Setting};
+use std::alloc::{AllocError, Global};
+
+// The form that says that the variable has the value that is set.
+fn set_form(s: Setting) -> Form
+    ensures { tree_of result ≡ is s.var s.value }
+{
+    Form::Is(s.var, s.value)
+}
+
+// Demands of each setting that `skip` is true or the next copy has it.
+fn add_settings(
+    alloc: Global,
+    cnf: &mut Cnf,
+    next: &Table,
+    skip: Lit,
+    sets: &[Setting],
+) -> Result<(), AllocError>
+    requires next { IsTrue (columns_in cnf.old.vars next.now) }
+    requires skip { IsTrue (clause_in cnf.old.vars (skip ∷ [])) }
+    requires valid { IsTrue (list_all (λ s. value_valid (ranges_of next.now) s.var s.value) sets.now) }
+    ensures { OnOk result (cnf.new ≡ with_part cnf.old (settings_part next.now skip sets.now cnf.old.vars)) }
+{
+    for s in sets {
+        demand(alloc, cnf, next, &[skip], &set_form(*s))?;
+    }
+    Ok(())
+}
+
+// Demands that `skip` is true, or the rule's guard holds in the one copy and its settings are in
+// the next.
+fn add_rule(
+    alloc: Global,
+    cnf: &mut Cnf,
+    now: &Table,
+    next: &Table,
+    skip: Lit,
+    rule: &Rule,
+) -> Result<(), AllocError>
+    requires now { IsTrue (columns_in cnf.old.vars now.now) }
+    requires next { IsTrue (columns_in cnf.old.vars next.now) }
+    requires same { ranges_of next.now ≡ ranges_of now.now }
+    requires skip { IsTrue (clause_in cnf.old.vars (skip ∷ [])) }
+    requires valid { IsTrue (rule_valid (ranges_of now.now) (rule_tree rule.now)) }
+    ensures { OnOk result (cnf.new ≡ with_part cnf.old (rule_part now.now next.now skip (rule_tree rule.now) cnf.old.vars)) }
+{
+    demand(alloc, cnf, now, &[skip], &rule.guard)?;
+    add_settings(alloc, cnf, next, skip, rule.sets.as_slice())?;
+    Ok(())
+}
+
+// The same of each rule, whose variables stand from `first` on: each is true where its rule isn't
+// chosen.
+pub fn add_rules(
+    alloc: Global,
+    cnf: &mut Cnf,
+    now: &Table,
+    next: &Table,
+    first: u64,
+    rules: &[Rule],
+) -> Result<(), AllocError>
+    requires now { IsTrue (columns_in cnf.old.vars now.now) }
+    requires next { IsTrue (columns_in cnf.old.vars next.now) }
+    requires same { ranges_of next.now ≡ ranges_of now.now }
+    requires from_1 { 0 < first }
+    requires numbered { first + length rules.now ≤ cnf.old.vars + 1 }
+    requires valid { IsTrue (list_all (rule_valid (ranges_of now.now)) (map rule_tree rules.now)) }
+    ensures { OnOk result (cnf.new ≡ with_part cnf.old (rules_part now.now next.now first (map rule_tree rules.now) cnf.old.vars)) }
+{
+    let mut k = first;
+    for rule in rules {
+        let _ = cnf.vars();
+        add_rule(alloc, cnf, now, next, Lit::new(k, true), rule)?;
+        k += 1;
+    }
+    Ok(())
+}

@@ -1,0 +1,60 @@
+ghost use Rattle.std.specs.Prelude.{◌≡◌, ◌+◌, ◌*◌, ◌≤◌, ◌<◌, ◌^◌, ◌++◌, ℕ, List, Bool, Some, length, map, OnOk, IfOk, IsTrue};
+ghost use Rattle.std.specs.List.{list_all};
+ghost use Rattle.ilk_cnf.specs.Extends.{PartExtends};
+ghost use Rattle.ilk_cnf.specs.Part.{with_part};
+ghost use Rattle.ilk_ir.specs.System.{rule_tree, rule_valid, in_ranges};
+ghost use Rattle.ilk_copy.specs.Copy.{LiteralsSay};
+ghost use Rattle.ilk_forms.specs.Leaf.{columns_in, ranges_of};
+ghost use Rattle.ilk_step.specs.Choice.{Chooses};
+ghost use Rattle.ilk_step.specs.Size.{guards_size, settings_count, literals_count};
+ghost use Rattle.ilk_step.specs.Step.{step_part, step_bits, step_values, IsStep};
+
+use crate::choice::{Choice, add_choice};
+use crate::frame::add_frames;
+use crate::rules::add_rules;
+use ilk_cnf::Cnf;
+use ilk_copy::Table;
+use ilk_ir::Rules;
+use std::alloc::{AllocError, Global};
+
+/// Adds one step from the copy with the literals `now` to the copy with the literals `next`, by
+/// exactly one of the rules: the rule's guard holds in the one copy, the next has what it sets, and
+/// all else keeps its value. The copies are of the same ranges, and the rules are valid over them.
+/// It answers the variables that say which rule is chosen.
+pub fn add_step(
+    alloc: Global,
+    cnf: &mut Cnf,
+    now: &Table,
+    next: &Table,
+    rules: &Rules,
+) -> Result<Choice, AllocError>
+    requires now { IsTrue (columns_in cnf.old.vars now.now) }
+    requires next { IsTrue (columns_in cnf.old.vars next.now) }
+    requires same { ranges_of next.now ≡ ranges_of now.now }
+    requires few { length rules.now < 2 ^ 32 }
+    requires valid { IsTrue (list_all (rule_valid (ranges_of now.now)) (map rule_tree rules.now)) }
+    ensures choice { IfOk result (λ choice. choice ≡ record { first = cnf.old.vars + 1; rules = length rules.now }) }
+    ensures made { OnOk result (cnf.new ≡ with_part cnf.old (step_part (map rule_tree rules.now) now.now next.now cnf.old.vars)) }
+
+    // Where the one copy has the values ws and the next the values xs, in exactly one way for each
+    // rule that leads from ws to xs.
+    ensures law { OnOk result ((a : List Bool) (ws xs : List ℕ) → length a ≡ cnf.old.vars → LiteralsSay a now.now (ranges_of now.now) ws → LiteralsSay a next.now (ranges_of now.now) xs → IsTrue (in_ranges ws (ranges_of now.now)) → IsTrue (in_ranges xs (ranges_of now.now)) → PartExtends a (step_part (map rule_tree rules.now) now.now next.now cnf.old.vars) (IsStep (map rule_tree rules.now) ws xs)) }
+
+    // There the variables of the choice say that it is that rule, whatever follows the step.
+    ensures exact { OnOk result ((a c : List Bool) (ws xs : List ℕ) (r : ℕ) → length a ≡ cnf.old.vars → step_values (map rule_tree rules.now) ws r ≡ Some xs → Chooses (a ++ (step_bits (map rule_tree rules.now) ws r ++ c)) (cnf.old.vars + 1) (length rules.now) r) }
+
+    // At most two variables and four clauses for each rule and one clause more, a variable and two
+    // clauses for each constructor of a guard, a clause for each setting, two for each literal of a
+    // copy.
+    ensures vars { OnOk result (cnf.new.vars ≤ cnf.old.vars + 2 * length rules.now + guards_size (map rule_tree rules.now)) }
+    ensures clauses { OnOk result (length cnf.new.clauses ≤ length cnf.old.clauses + (4 * length rules.now + 1 + 2 * guards_size (map rule_tree rules.now) + settings_count (map rule_tree rules.now) + 2 * literals_count now.now)) }
+{
+    let first = cnf.vars() + 1;
+    add_choice(alloc, cnf, rules.len())?;
+    add_rules(alloc, cnf, now, next, first, rules.as_slice())?;
+    add_frames(alloc, cnf, now, next, rules.as_slice(), first)?;
+    Ok(Choice {
+        first,
+        rules: rules.len() as u32,
+    })
+}
