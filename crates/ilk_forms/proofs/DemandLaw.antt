@@ -36,7 +36,7 @@ clause-fits ls n h = record { low = same n; inside = and_from _ _ h refl }
 pub joined-in : (first ls : List Literal) (n : ℕ) → clause_in n first ≡ true → clause_in n ls ≡ true → clause_in n (first ++ ls) ≡ true
 joined-in first ls n h k = list_all-append (lit_in n) first ls ∙ and_from _ _ h k
 
-some-fits : (first : List Literal) (n : ℕ) (g : Named) → clause_in n first ≡ true → Fits n g → PartFits n (some_part first g)
+pub some-fits : (first : List Literal) (n : ℕ) (g : Named) → clause_in n first ≡ true → Fits n g → PartFits n (some_part first g)
 some-fits first n g h fits =
     let m = g.part.vars in
     let ls = first ++ g.lits in

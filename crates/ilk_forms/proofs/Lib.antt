@@ -7,3 +7,4 @@ pub mod Steps
 pub mod LiteralLaw
 pub mod ViolatedLaw
 pub mod Few
+pub mod CopyTable

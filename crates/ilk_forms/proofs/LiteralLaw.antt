@@ -6,7 +6,7 @@ use Rattle.ilk_cnf.specs.Extends.{Extends, Only}
 use Rattle.ilk_cnf.proofs.Parts.{is_true-left}
 use Rattle.ilk_ir.specs.Tree.{Tree, tree_holds, tree_valid}
 use Rattle.ilk_copy.specs.declared.copy.Column.{Column}
-use Rattle.ilk_forms.specs.Leaf.{ranges_of}
+use Rattle.ilk_forms.specs.Leaf.{columns_in, ranges_of}
 use Rattle.ilk_forms.specs.Gathered.{gathered, literal_part}
 use Rattle.ilk_forms.specs.Truths.{truths, gate_truth, literal_bits}
 use Rattle.ilk_forms.proofs.Reading.{Reads}
@@ -14,8 +14,8 @@ use Rattle.ilk_forms.proofs.GatheredFits.{SingleFits, single-fits, gathered-fits
 use Rattle.ilk_forms.proofs.GatheredLaw.{SingleSays, single-says, gathered-says, here}
 use Rattle.ilk_forms.proofs.TruthsMean.{truths-mean}
 
-literal-fits : (t : Tree) (columns : List Column) (ws : List ℕ) (a : List Bool) (n : ℕ) → length a ≡ n → Reads a columns ws → tree_valid (ranges_of columns) t ≡ true → SingleFits n (literal_part columns t n)
-literal-fits t columns ws a n size r k = single-fits true n (gathered columns true true t n) (gathered-fits t columns true true n (here columns ws a n size r) k)
+pub literal-fits : (t : Tree) (columns : List Column) (n : ℕ) → columns_in n columns ≡ true → tree_valid (ranges_of columns) t ≡ true → SingleFits n (literal_part columns t n)
+literal-fits t columns n h k = single-fits true n (gathered columns true true t n) (gathered-fits t columns true true n h k)
 
 literal-says : (t : Tree) (columns : List Column) (ws : List ℕ) (a : List Bool) (n : ℕ) → length a ≡ n → Reads a columns ws → tree_valid (ranges_of columns) t ≡ true → SingleSays a (literal_part columns t n) (literal_bits ws t) (gate_truth true (truths ws true true t).lits)
 literal-says t columns ws a n size r k =
@@ -29,7 +29,7 @@ literal-exact t columns ws a d n size r k =
     let s = literal_part columns t n in
     let e = literal_bits ws t in
     let says = literal-says t columns ws a n size r k in
-    let fits = literal-fits t columns ws a n size r k in
+    let fits = literal-fits t columns n (here columns ws a n size r) k in
     let long : length (a ++ e) ≡ s.part.vars = says.part.sized e refl in
     let within = leb-true _ _ (and_parts _ _ fits.lit).1 in
     ap (λ (u : List Bool). is_true u s.lit) (sym (append_assoc a e d)) ∙ is_true-left (a ++ e) d s.lit (rw long within) ∙ says.means ∙ truths-mean t ws true true

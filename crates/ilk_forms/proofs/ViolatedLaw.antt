@@ -18,7 +18,7 @@ use Rattle.ilk_forms.specs.Demand.{some_part}
 use Rattle.ilk_forms.specs.Violated.{next_violated, violated_after, first_violated_part, next_truths, truths_after, first_violated_bits}
 use Rattle.ilk_forms.proofs.GatheredFits.{Fits, no_literals-fits, then-fits}
 use Rattle.ilk_forms.proofs.GatheredLaw.{Says, no_literals-says, then-says}
-use Rattle.ilk_forms.proofs.DemandLaw.{some-law}
+use Rattle.ilk_forms.proofs.DemandLaw.{PartFits, some-fits, some-law}
 
 -- two literals of the formula
 pub two-in : (n : ℕ) (l m : Literal) → lit_in n l ≡ true → lit_in n m ≡ true → clause_in n (l ∷ m ∷ []) ≡ true
@@ -42,6 +42,12 @@ after-fits [] before n h k = no_literals-fits n
 after-fits (kept ∷ others) before n h k =
     let parts = and_parts _ _ k in
     then-fits n (next_violated before kept n) (violated_after (plus (n + 1 + 1)) others) (next-fits before kept n h parts.0) (after-fits others (plus (n + 1 + 1)) (n + 1 + 1) (new-in (n + 1) true) (clause_in-more n (n + 1 + 1) others (omega arith) parts.1))
+
+pub first_violated-fits : (ls : List Literal) (n : ℕ) → clause_in n ls ≡ true → PartFits n (first_violated_part ls n)
+first_violated-fits [] n h = record { low = omega arith; inside = refl }
+first_violated-fits (kept ∷ others) n h =
+    let parts = and_parts _ _ h in
+    some-fits (opposite kept ∷ []) n (violated_after kept others n) (and_from _ _ parts.0 refl) (after-fits others kept n parts.0 parts.1)
 
 -- whether some instance is the first that isn't kept
 some-violated : (p : Bool) (qs : List Bool) → gate_truth false (truths_after p qs).lits ≡ (p && not (list_all (λ q. q) qs))

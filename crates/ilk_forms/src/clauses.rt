@@ -128,6 +128,7 @@ pub fn demand(
     // is true or the form holds of ws extend over the part, and the new variables have one value
     // each.
     ensures law { OnOk result ((a : List Bool) (ranges ws : List ℕ) → length a ≡ cnf.old.vars → LiteralsSay a table.now ranges ws → PartExtends a (demand_part table.now first.now (tree_of form.now) cnf.old.vars) (OnlyIf (some_true a first.now || tree_holds ws (tree_of form.now)) (demand_bits ws (tree_of form.now)))) }
+    ensures more { OnOk result (cnf.old.vars ≤ cnf.new.vars) }
     ensures vars { OnOk result (cnf.new.vars ≤ cnf.old.vars + tree_size (tree_of form.now)) }
     ensures clauses { OnOk result (length cnf.new.clauses ≤ length cnf.old.clauses + 2 * tree_size (tree_of form.now)) }
 {

@@ -181,6 +181,8 @@ pub fn literal_of(
     ensures made { OnOk result (cnf.new ≡ with_part cnf.old (literal_part table.now (tree_of form.now) cnf.old.vars).part) }
     ensures law { OnOk result ((a : List Bool) (ranges ws : List ℕ) → length a ≡ cnf.old.vars → LiteralsSay a table.now ranges ws → PartExtends a (literal_part table.now (tree_of form.now) cnf.old.vars).part (Only (literal_bits ws (tree_of form.now)))) }
     ensures exact { OnOk result ((a c : List Bool) (ranges ws : List ℕ) → length a ≡ cnf.old.vars → LiteralsSay a table.now ranges ws → is_true (a ++ (literal_bits ws (tree_of form.now) ++ c)) (literal_part table.now (tree_of form.now) cnf.old.vars).lit ≡ tree_holds ws (tree_of form.now)) }
+    ensures within { IfOk result (λ l. IsTrue (lit_in cnf.new.vars l)) }
+    ensures more { OnOk result (cnf.old.vars ≤ cnf.new.vars) }
     ensures vars { OnOk result (cnf.new.vars ≤ cnf.old.vars + tree_size (tree_of form.now) + 1) }
     ensures clauses { OnOk result (length cnf.new.clauses ≤ length cnf.old.clauses + 2 * tree_size (tree_of form.now) + 1) }
 {

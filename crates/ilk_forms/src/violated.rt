@@ -87,6 +87,7 @@ pub fn first_violated(alloc: Global, cnf: &mut Cnf, kept: &[Lit]) -> Result<(), 
     requires { IsTrue (clause_in cnf.old.vars kept.now) }
     ensures made { OnOk result (cnf.new ≡ with_part cnf.old (first_violated_part kept.now cnf.old.vars)) }
     ensures law { OnOk result ((a : List Bool) → length a ≡ cnf.old.vars → PartExtends a (first_violated_part kept.now cnf.old.vars) (OnlyIf (not (list_all (is_true a) kept.now)) (first_violated_bits (map (is_true a) kept.now)))) }
+    ensures more { OnOk result (cnf.old.vars ≤ cnf.new.vars) }
     ensures vars { OnOk result (cnf.new.vars ≤ cnf.old.vars + 2 * length kept.now) }
     ensures clauses { OnOk result (length cnf.new.clauses ≤ length cnf.old.clauses + 6 * length kept.now + 1) }
 {

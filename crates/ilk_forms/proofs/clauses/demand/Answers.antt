@@ -9,7 +9,7 @@ use Rattle.ilk_forms.specs.Truths.{demand_bits}
 use Rattle.ilk_forms.specs.Size.{tree_size}
 use Rattle.ilk_forms.proofs.Few.{demand_of-few, with_part-few}
 use Rattle.ilk_forms.proofs.Reading.{reads}
-use Rattle.ilk_forms.proofs.DemandLaw.{demand_of-law}
+use Rattle.ilk_forms.proofs.DemandLaw.{demand_of-fits, demand_of-law}
 use Rattle.ilk_forms.proofs.clauses.demand.Goals as goal
 
 pub returns-clause-law : goal.returns-clause-law
@@ -33,3 +33,8 @@ returns-clause-clauses c =
     let t = tree_of c.args.form.now in
     let part = demand_part c.args.table.now c.args.first.now t c.args.cnf.now.vars in
     rw made (with_part-few c.args.cnf.now part (2 * tree_size t) (demand_of-few t c.args.table.now c.args.first.now true c.args.cnf.now.vars).clauses)
+
+pub returns-clause-more : goal.returns-clause-more
+returns-clause-more c =
+    let made = c.in_ok-demand_of.ensures in
+    rw made (demand_of-fits (tree_of c.args.form.now) c.args.table.now c.args.first.now true c.args.cnf.now.vars c.requires.within c.requires.first c.requires.valid).low

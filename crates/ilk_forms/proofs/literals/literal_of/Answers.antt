@@ -8,8 +8,8 @@ use Rattle.ilk_forms.specs.Size.{tree_size}
 use Rattle.ilk_forms.proofs.Few.{literal-few, with_part-few}
 use Rattle.ilk_forms.proofs.Reading.{reads}
 use Rattle.ilk_forms.proofs.GatheredFits.{gathered-fits}
-use Rattle.ilk_forms.proofs.LiteralLaw.{literal-law, literal-exact}
-use Rattle.ilk_forms.proofs.Steps.{lits-in, single-made}
+use Rattle.ilk_forms.proofs.LiteralLaw.{literal-fits, literal-law, literal-exact}
+use Rattle.ilk_forms.proofs.Steps.{lits-in, single-lit, single-made}
 use Rattle.ilk_forms.proofs.literals.literal_of.Goals as goal
 
 pub single-requires : goal.single-requires
@@ -57,3 +57,20 @@ returns-clause-clauses c =
     let made = single-made true c.args.cnf.now c.gather.new.cnf c.single.new.cnf g c.as_slice.result.now c.in_ok-lits.ensures.made (c.as_slice.ensures ∙ c.in_ok-lits.ensures.lits) c.in_ok-lit.ensures.made in
     let few = with_part-few c.args.cnf.now (literal_part c.args.table.now t n).part (2 * tree_size t + 1) (literal-few t c.args.table.now n).1 in
     rw made (omega (arith, few))
+
+pub returns-clause-within : goal.returns-clause-within
+returns-clause-within c =
+    let n = c.args.cnf.now.vars in
+    let t = tree_of c.args.form.now in
+    let g = gathered c.args.table.now true true t n in
+    let made = single-made true c.args.cnf.now c.gather.new.cnf c.single.new.cnf g c.as_slice.result.now c.in_ok-lits.ensures.made (c.as_slice.ensures ∙ c.in_ok-lits.ensures.lits) c.in_ok-lit.ensures.made in
+    let is = single-lit true c.args.cnf.now c.gather.new.cnf g c.as_slice.result.now c.in_ok-lit.lit c.in_ok-lits.ensures.made (c.as_slice.ensures ∙ c.in_ok-lits.ensures.lits) c.in_ok-lit.ensures.lit in
+    rw (made, is) (literal-fits t c.args.table.now n c.requires.within c.requires.valid).lit
+
+pub returns-clause-more : goal.returns-clause-more
+returns-clause-more c =
+    let n = c.args.cnf.now.vars in
+    let t = tree_of c.args.form.now in
+    let g = gathered c.args.table.now true true t n in
+    let made = single-made true c.args.cnf.now c.gather.new.cnf c.single.new.cnf g c.as_slice.result.now c.in_ok-lits.ensures.made (c.as_slice.ensures ∙ c.in_ok-lits.ensures.lits) c.in_ok-lit.ensures.made in
+    rw made (literal-fits t c.args.table.now n c.requires.within c.requires.valid).low

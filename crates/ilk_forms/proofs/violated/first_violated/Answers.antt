@@ -5,7 +5,7 @@ use Rattle.ilk_cnf.specs.Extends.{OnlyIf}
 use Rattle.ilk_cnf.proofs.Extending.{extends-as_clauses}
 use Rattle.ilk_forms.specs.Violated.{first_violated_part, first_violated_bits}
 use Rattle.ilk_forms.proofs.Few.{with_part-few}
-use Rattle.ilk_forms.proofs.ViolatedLaw.{first_violated-law, first_violated-few}
+use Rattle.ilk_forms.proofs.ViolatedLaw.{first_violated-fits, first_violated-law, first_violated-few}
 use Rattle.ilk_forms.proofs.violated.first_violated.Goals as goal
 
 pub returns-clause-law : goal.returns-clause-law
@@ -26,3 +26,8 @@ returns-clause-clauses c =
     let ls = c.args.kept.now in
     let few = with_part-few c.args.cnf.now (first_violated_part ls c.args.cnf.now.vars) (6 * length ls + 1) (first_violated-few ls c.args.cnf.now.vars).1 in
     rw made (omega (arith, few))
+
+pub returns-clause-more : goal.returns-clause-more
+returns-clause-more c =
+    let made = c.in_ok-add_first_violated.ensures in
+    rw made (first_violated-fits c.args.kept.now c.args.cnf.now.vars c.requires).low
