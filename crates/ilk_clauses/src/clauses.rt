@@ -1,5 +1,5 @@
 ghost use Rattle.std.specs.Prelude.{◌≡◌, ◌≤◌, ◌<◌, ◌^◌, ◌++◌, ◌∷◌, [], length, slice_get, Some, IfOk, OnOk, OnErr, IsTrue};
-ghost use Rattle.ilk_cnf.specs.Formula.{clause_in, grown, IsFormula};
+ghost use Rattle.ilk_cnf.specs.Formula.{clause_in, grown, lit_in, IsFormula};
 ghost use Rattle.ilk_cnf.specs.Literal.{vars_differ};
 ghost use Rattle.ilk_clauses.specs.Reasons.{clause_at};
 
@@ -76,7 +76,8 @@ impl Clauses {
     pub fn literal(&self, c: u64, i: u64) -> Lit
         requires clause { c < length self.now.clauses }
         requires literal { i < length (clause_at self.now.clauses c) }
-        ensures { slice_get (clause_at self.now.clauses c) i ≡ Some result }
+        ensures literal { slice_get (clause_at self.now.clauses c) i ≡ Some result }
+        ensures within { IsTrue (lit_in self.now.vars result) }
     {
         *self.lists[c as usize].at(i)
     }
