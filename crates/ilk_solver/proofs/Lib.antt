@@ -1,0 +1,4 @@
+pub mod Scan
+pub mod Finding
+pub mod Rounds
+pub mod Unset
