@@ -8,9 +8,11 @@
 mod picker;
 mod propagation;
 mod restart;
+mod search;
+mod solver;
 mod view;
 
 pub use picker::Picker;
-pub use propagation::propagate;
 pub use restart::Restart;
+pub use solver::Solver;
 pub use view::View;

@@ -73,9 +73,9 @@ fn find(clauses: &Clauses, view: &View) -> Found
     Found::Closed
 }
 
-/// Sets what the clauses force until nothing is left to set, or answers a clause that is false. It
-/// takes no memory.
-pub fn propagate(clauses: &Clauses, view: &mut View) -> Option<u64>
+// Sets what the clauses force until nothing is left to set, or answers a clause that is false. It
+// takes no memory.
+pub(crate) fn propagate(clauses: &Clauses, view: &mut View) -> Option<u64>
     requires { view.old.trail.vars ≡ clauses.now.vars }
     ensures conflict { IfSome result (λ c. IsTrue (is_conflict clauses.now.clauses (lits_of view.new.trail.entries) c)) }
     ensures closed { IfNone result (IsTrue (is_closed clauses.now.clauses (lits_of view.new.trail.entries))) }

@@ -107,4 +107,27 @@ impl View {
         self.trail.back_to(level);
         let _ = self.trail.level();
     }
+
+    // Counts a clause: the weight of each of its variables is 1 more.
+    pub(crate) fn count(&mut self, clause: &[Lit])
+        requires within { IsTrue (clause_in self.old.trail.vars clause.now) }
+        requires differ { IsTrue (vars_differ clause.now) }
+        requires room { (i : ℕ) → slice_index self.old.weights i + 1 < 2 ^ 64 }
+        ensures trail { self.new.trail ≡ self.old.trail }
+        ensures weights { (v : ℕ) → 0 < v → weight_of self.new v ≡ weight_of self.old v + (if has_var v clause.now then 1 else 0) }
+    {
+        count_in(self.weights.as_mut_slice(), clause);
+    }
+}
+
+// Counts a clause: entry v - 1, that of variable v, is 1 more for each of its variables.
+fn count_in(weights: &mut [u64], clause: &[Lit])
+    requires within { IsTrue (clause_in (length weights.old) clause.now) }
+    requires differ { IsTrue (vars_differ clause.now) }
+    requires room { (i : ℕ) → slice_index weights.old i + 1 < 2 ^ 64 }
+    ensures { (v : ℕ) → 0 < v → slice_index weights.new (v - 1) ≡ slice_index weights.old (v - 1) + (if has_var v clause.now then 1 else 0) }
+{
+    for lit in clause {
+        weights[lit.var() as usize - 1] += 1;
+    }
 }
