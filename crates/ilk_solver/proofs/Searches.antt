@@ -1,0 +1,81 @@
+-- A search whose trail changes.
+use Rattle.std.proofs.Common.{◌≡◌, ◌+◌, ◌-◌, zero, suc, ◌<◌, ◌≤◌, ℕ, true, List, [], ◌∷◌, ◌++◌, length, take, replicate, get_or, Some, refl, sym, ap, ◌∙◌, subst, arith}
+use Rattle.std.proofs.lemmas.List.{append-nil, take_more}
+use Rattle.std.proofs.Math.Seq.{take-length}
+use Rattle.std.proofs.lemmas.Option.{get_or_from_slice_get}
+use Rattle.std.specs.List.{slice_get}
+use Rattle.ilk_cnf.specs.Literal.{Literal}
+use Rattle.ilk_cnf.specs.Formula.{Formula}
+use Rattle.ilk_log.specs.declared.step.Step.{Step}
+use Rattle.ilk_log.specs.Propagation.{is_closed}
+use Rattle.ilk_trail.specs.declared.entry.Entry.{Entry}
+use Rattle.ilk_trail.specs.Trail.{decided, level_of, up_to}
+use Rattle.ilk_trail.specs.Laws.{climbs, lits_of}
+use Rattle.ilk_clauses.specs.Reasons.{HasReasons}
+use Rattle.ilk_clauses.proofs.Forced.{reasons-none}
+use Rattle.ilk_solver.specs.Propagated.{IsPropagated}
+use Rattle.ilk_solver.specs.Levels.{LevelsClosed}
+use Rattle.ilk_solver.specs.View.{ViewLists, with_entries}
+use Rattle.ilk_solver.specs.Search.{all_clauses}
+use Rattle.ilk_solver.specs.Held.{search_of, Holds}
+use Rattle.ilk_solver.proofs.ClosedLevels.{closed-back, closed-decided, closed-propagated, reasons-back, reasons-decided, reasons-propagated}
+
+-- other entries, which have their reasons and leave the lower levels closed
+held-entries : (cs : Formula) (given : ℕ) (log : List Step) (view : ViewLists) (es : List Entry) → Holds cs given log view → HasReasons cs.clauses es → LevelsClosed cs.clauses es → Holds cs given log (with_entries view es)
+held-entries cs given log view es h r c =
+    let all = all_clauses (search_of cs given log view) in
+    let R : List (List Literal) → Type 0 = λ xs. HasReasons xs es in
+    let C : List (List Literal) → Type 0 = λ xs. LevelsClosed xs es in
+    record {
+      first = h.first;
+      laid = h.laid;
+      search = record {
+        vars = h.search.vars;
+        reasons = subst R h.laid r;
+        closed = subst C h.laid c;
+        weighed = h.search.weighed;
+      };
+    }
+
+pub known-reasons : (cs : Formula) (given : ℕ) (log : List Step) (view : ViewLists) → Holds cs given log view → HasReasons cs.clauses view.trail.entries
+known-reasons cs given log view h = (let R : List (List Literal) → Type 0 = λ xs. HasReasons xs view.trail.entries in subst R (sym h.laid) h.search.reasons)
+
+pub known-closed : (cs : Formula) (given : ℕ) (log : List Step) (view : ViewLists) → Holds cs given log view → LevelsClosed cs.clauses view.trail.entries
+known-closed cs given log view h = (let C : List (List Literal) → Type 0 = λ xs. LevelsClosed xs view.trail.entries in subst C (sym h.laid) h.search.closed)
+
+pub held-propagated : (cs : Formula) (given : ℕ) (log : List Step) (view : ViewLists) (es : List Entry) → Holds cs given log view → IsPropagated cs.clauses view.trail.entries es → Holds cs given log (with_entries view es)
+held-propagated cs given log view es h p =
+    held-entries cs given log view es h (reasons-propagated cs.clauses view.trail.entries es p (known-reasons cs given log view h)) (closed-propagated cs.clauses view.trail.entries es p (known-closed cs given log view h))
+
+pub held-decided : (cs : Formula) (given : ℕ) (log : List Step) (view : ViewLists) (l : Literal) → Holds cs given log view → climbs 0 view.trail.entries ≡ true → is_closed cs.clauses (lits_of view.trail.entries) ≡ true → Holds cs given log (with_entries view (decided view.trail.entries l))
+held-decided cs given log view l h c k =
+    held-entries cs given log view (decided view.trail.entries l) h (reasons-decided cs.clauses view.trail.entries l (known-reasons cs given log view h)) (closed-decided cs.clauses view.trail.entries l c (known-closed cs given log view h) k)
+
+pub held-back : (cs : Formula) (given : ℕ) (log : List Step) (view : ViewLists) (m : ℕ) → Holds cs given log view → climbs 0 view.trail.entries ≡ true → m ≤ level_of view.trail.entries → level_of (up_to m view.trail.entries) ≡ m → Holds cs given log (with_entries view (up_to m view.trail.entries))
+held-back cs given log view m h c le top =
+    held-entries cs given log view (up_to m view.trail.entries) h (reasons-back cs.clauses view.trail.entries m c (known-reasons cs given log view h)) (closed-back cs.clauses view.trail.entries m le top (known-closed cs given log view h))
+
+-- nothing set and no step
+pub held-start : (cs : Formula) → Holds cs (length cs.clauses) [] (record { trail = record { vars = cs.vars; entries = [] }; weights = replicate cs.vars 0 })
+held-start cs = record {
+  first = omega arith;
+  laid = sym (take-length cs.clauses) ∙ sym (append-nil (take (length cs.clauses) cs.clauses));
+  search = record {
+    vars = refl;
+    reasons = reasons-none (take (length cs.clauses) cs.clauses ++ []);
+    closed = λ k b. absurd (omega (arith, b));
+    weighed = λ v w. none cs.vars v;
+  };
+}
+  where
+    zeros : (n i : ℕ) → ◌≡◌ {A = ℕ} (get_or (replicate n 0) i 0) 0
+    zeros zero i = refl
+    zeros (suc n) zero = refl
+    zeros (suc n) (suc i) = zeros n i
+
+    none : (n v : ℕ) → ◌≡◌ {A = ℕ} (get_or (replicate n 0) (v - 1) 0) 0
+    none n v = zeros n (v - 1)
+
+-- one clause more of a formula is copied
+pub copied-more : (f : Formula) (c : ℕ) (x : List Literal) → c < length f.clauses → slice_get f.clauses c ≡ Some x → take c f.clauses ++ x ∷ [] ≡ take (c + 1) f.clauses
+copied-more f c x h e = sym (take_more f.clauses c x h ∙ ap (λ y. take c f.clauses ++ y ∷ []) (get_or_from_slice_get f.clauses c x x e))

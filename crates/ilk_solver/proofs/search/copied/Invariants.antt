@@ -1,0 +1,5 @@
+use Rattle.std.proofs.Common.{◌≡◌, take}
+use Rattle.ilk_solver.proofs.search.copied.Given as goal
+
+abbrev pub invariant-loop-c : goal.invariant-loop-c
+invariant-loop-c l = l.clauses ≡ record { vars = l.cnf.vars; clauses = take l.c l.cnf.clauses }

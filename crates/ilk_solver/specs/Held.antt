@@ -1,0 +1,15 @@
+-- Only private contracts and proofs need this file: how the fields of a search hold it.
+use Rattle.std.specs.Prelude.{ℕ, ◌≡◌, ◌≤◌, List, length, take}
+use Rattle.ilk_cnf.specs.Formula.{Formula}
+use Rattle.ilk_log.specs.declared.step.Step.{Step}
+use Rattle.ilk_solver.specs.View.{ViewLists}
+use Rattle.ilk_solver.specs.Search.{SearchLists, IsSearch, all_clauses}
+
+-- the search whose clauses are these, of which so many are the formula's
+abbrev pub search_of : Formula → ℕ → List Step → ViewLists → SearchLists
+search_of clauses given log view = record { formula = record { vars = clauses.vars; clauses = take given clauses.clauses }; log = log; view = view }
+
+pub record Holds (clauses : Formula) (given : ℕ) (log : List Step) (view : ViewLists) : Type 0 where
+  pub first : given ≤ length clauses.clauses
+  pub laid : clauses.clauses ≡ all_clauses (search_of clauses given log view)
+  pub search : IsSearch (search_of clauses given log view)

@@ -1,0 +1,133 @@
+ghost use Rattle.std.specs.Prelude.{◌≡◌, ◌≤◌, [], ◌∷◌, false, IfNone, IfOk, IfSome, IsTrue};
+ghost use Rattle.ilk_clauses.specs.Reasons.{is_conflict};
+ghost use Rattle.ilk_cnf.specs.Formula.{clause_in, lit_in};
+ghost use Rattle.ilk_cnf.specs.Literal.{vars_differ};
+ghost use Rattle.ilk_log.specs.Propagation.{is_closed};
+ghost use Rattle.ilk_trail.specs.Trail.{decided, level_of, up_to};
+ghost use Rattle.ilk_trail.specs.Laws.{is_set, lits_of};
+ghost use Rattle.ilk_solver.specs.Propagated.{IsPropagated};
+ghost use Rattle.ilk_solver.specs.Search.{IsAdded, IsSearch, all_clauses, new_search, with_trail};
+ghost use Rattle.ilk_solver.specs.Levels.{LevelsClosed};
+
+use crate::propagation::propagate;
+use crate::view::View;
+use ilk_clauses::Clauses;
+use ilk_cnf::{Cnf, Lit};
+use ilk_log::{Log, Step};
+use std::alloc::{AllocError, Global};
+use std::marker::Model;
+
+// A search without what chooses for it: the clauses of the formula and of the steps, how many are the
+// formula's, the steps, and the view.
+#[derive(Drop)]
+pub struct Search {
+    clauses: Clauses,
+    given: u64,
+    log: Log,
+    view: View,
+}
+
+impl Model for Search {
+    ghost use Rattle.ilk_solver.specs.Search.{SearchLists};
+    ghost use Rattle.ilk_solver.specs.Held.{search_of, Holds};
+
+    ghost Value = { SearchLists };
+
+    ghost view = { λ s. search_of s.clauses s.given s.log s.view };
+
+    ghost invariant = { λ s. Holds s.clauses s.given s.log s.view };
+}
+
+impl Search {
+    // The search at its start.
+    pub fn new(alloc: Global, cnf: &Cnf) -> Result<Search, AllocError>
+        ensures { IfOk result (λ s. s ≡ new_search cnf.now) }
+    {
+        let view = View::new(alloc, cnf.vars())?;
+        let clauses = copied(alloc, cnf)?;
+        let given = clauses.count();
+        Ok(Search {
+            clauses,
+            given,
+            log: Log::new(alloc),
+            view,
+        })
+    }
+
+    // The view.
+    pub fn view(&self) -> &View
+        ensures view { result.now ≡ self.now.view }
+        ensures search { IsSearch self.now }
+    {
+        &self.view
+    }
+
+    // Sets what the clauses force until nothing is left to set, or answers a clause that is false. It
+    // takes no memory.
+    pub fn propagate(&mut self) -> Option<u64>
+        ensures conflict { IfSome result (λ c. IsTrue (is_conflict (all_clauses self.old) (lits_of self.new.view.trail.entries) c)) }
+        ensures closed { IfNone result (IsTrue (is_closed (all_clauses self.old) (lits_of self.new.view.trail.entries))) }
+        ensures same { self.new ≡ with_trail self.old self.new.view.trail.entries }
+        ensures propagated { IsPropagated (all_clauses self.old) self.old.view.trail.entries self.new.view.trail.entries }
+    {
+        propagate(&self.clauses, &mut self.view)
+    }
+
+    // Opens the next level with `l`, where propagation is at its end.
+    pub fn decide(&mut self, l: Lit)
+        requires within { IsTrue (lit_in self.old.formula.vars l) }
+        requires unset { is_set self.old.view.trail.entries l.var ≡ false }
+        requires closed { IsTrue (is_closed (all_clauses self.old) (lits_of self.old.view.trail.entries)) }
+        ensures { self.new ≡ with_trail self.old (decided self.old.view.trail.entries l) }
+    {
+        let _ = self.view.vars();
+        self.view.decide(l);
+    }
+
+    // Takes off the levels above `level`.
+    pub fn back_to(&mut self, level: u64)
+        requires { level ≤ level_of self.old.view.trail.entries }
+        ensures entries { self.new ≡ with_trail self.old (up_to level self.old.view.trail.entries) }
+        ensures level { level_of self.new.view.trail.entries ≡ level }
+    {
+        let _ = self.view.vars();
+        self.view.back_to(level);
+    }
+
+    // Adds a step, whose clause is neither false nor a unit at any level below the current one.
+    pub fn add(self, step: Step) -> Result<Search, AllocError>
+        requires within { IsTrue (clause_in self.formula.vars step.clause) }
+        requires differ { IsTrue (vars_differ step.clause) }
+        requires closed { LevelsClosed (step.clause ∷ []) self.view.trail.entries }
+        ensures { IfOk result (λ s. IsAdded self step s) }
+    {
+        let Search {
+            mut clauses,
+            given,
+            mut log,
+            mut view,
+        } = self;
+        let _ = view.vars();
+        clauses.add(step.clause.as_slice())?;
+        let _ = clauses.count();
+        view.count(step.clause.as_slice());
+        log.push(step)?;
+        Ok(Search {
+            clauses,
+            given,
+            log,
+            view,
+        })
+    }
+}
+
+// The clauses of a formula.
+fn copied(alloc: Global, cnf: &Cnf) -> Result<Clauses, AllocError>
+    ensures { IfOk result (λ clauses. clauses ≡ cnf.now) }
+{
+    let mut clauses = Clauses::new(alloc, cnf.vars());
+    for c in 0..cnf.clauses() {
+        clauses.add(cnf.clause(c + 1).as_slice())?;
+    }
+    Ok(clauses)
+}

@@ -1,0 +1,133 @@
+ghost use Rattle.std.specs.Prelude.{◌≡◌, ◌≤◌, ◌<◌, ◌+◌, ◌^◌, ◌-◌, ℕ, [], false, length, not, replicate, slice_index, if◌then◌else◌, IfOk, IsTrue};
+ghost use Rattle.ilk_cnf.specs.Formula.{clause_in, lit_in};
+ghost use Rattle.ilk_cnf.specs.Literal.{has_var, vars_differ};
+ghost use Rattle.ilk_trail.specs.Trail.{assigned, decided, level_of, up_to, value_of};
+ghost use Rattle.ilk_trail.specs.Laws.{is_set};
+ghost use Rattle.ilk_solver.specs.View.{IsView, weight_of, with_entries};
+
+use ilk_cnf::Lit;
+use ilk_trail::Trail;
+use std::alloc::{AllocError, Global};
+use std::marker::Model;
+
+/// What a picker sees of a search: which variables are unset, and in how many of the steps so far
+/// each one stands.
+#[derive(Drop)]
+pub struct View {
+    trail: Trail,
+    weights: Vec<u64>,
+}
+
+impl Model for View {
+    ghost use Rattle.ilk_solver.specs.View.{IsView, ViewLists};
+
+    ghost Value = { ViewLists };
+
+    ghost view = { λ v. record { trail = v.trail; weights = v.weights.items } };
+
+    ghost invariant = { λ v. IsView (record { trail = v.trail; weights = v.weights.items }) };
+}
+
+impl View {
+    // No entries, and no weights, over the variables 1 to `vars`.
+    pub(crate) fn new(alloc: Global, vars: u64) -> Result<View, AllocError>
+        requires { vars ≤ 2 ^ 62 }
+        ensures { IfOk result (λ view. view ≡ record { trail = record { vars = vars; entries = [] }; weights = replicate vars 0 }) }
+    {
+        let trail = Trail::new(alloc, vars)?;
+        let _ = trail.level();
+        Ok(View {
+            trail,
+            weights: vec![in alloc; 0; vars as usize]?,
+        })
+    }
+
+    /// How many variables there are: they are 1 to this number.
+    pub fn vars(&self) -> u64
+        ensures count { result ≡ self.now.trail.vars }
+        ensures numbered { result ≤ 2 ^ 62 }
+        ensures view { IsView self.now }
+    {
+        self.weights.len() as u64
+    }
+
+    /// Whether variable `v` has no value.
+    pub fn unset(&self, v: u64) -> bool
+        requires from_1 { 0 < v }
+        requires within { v ≤ self.now.trail.vars }
+        ensures { result ≡ not (is_set self.now.trail.entries v) }
+    {
+        let _ = self.vars();
+        self.trail.value(Lit::new(v, true)).is_none()
+    }
+
+    /// In how many of the steps so far variable `v` stands.
+    pub fn weight(&self, v: u64) -> u64
+        requires from_1 { 0 < v }
+        requires within { v ≤ self.now.trail.vars }
+        ensures { result ≡ weight_of self.now v }
+    {
+        let _ = self.vars();
+        self.weights[v as usize - 1]
+    }
+
+    // The trail.
+    pub(crate) fn trail(&self) -> &Trail
+        ensures { result.now ≡ self.now.trail }
+    {
+        &self.trail
+    }
+
+    // Adds `l` at the current level, forced by clause `reason`.
+    pub(crate) fn assign(&mut self, l: Lit, reason: u64)
+        requires within { IsTrue (lit_in self.old.trail.vars l) }
+        requires unset { is_set self.old.trail.entries l.var ≡ false }
+        ensures { self.new ≡ with_entries self.old (assigned self.old.trail.entries l reason) }
+    {
+        self.trail.assign(l, reason);
+        let _ = self.trail.level();
+    }
+
+    // Opens the next level with `l`.
+    pub(crate) fn decide(&mut self, l: Lit)
+        requires within { IsTrue (lit_in self.old.trail.vars l) }
+        requires unset { is_set self.old.trail.entries l.var ≡ false }
+        ensures { self.new ≡ with_entries self.old (decided self.old.trail.entries l) }
+    {
+        self.trail.decide(l);
+        let _ = self.trail.level();
+    }
+
+    // Takes off the levels above `level`.
+    pub(crate) fn back_to(&mut self, level: u64)
+        requires { level ≤ level_of self.old.trail.entries }
+        ensures entries { self.new ≡ with_entries self.old (up_to level self.old.trail.entries) }
+        ensures level { level_of self.new.trail.entries ≡ level }
+    {
+        self.trail.back_to(level);
+        let _ = self.trail.level();
+    }
+
+    // Counts a clause: the weight of each of its variables is 1 more.
+    pub(crate) fn count(&mut self, clause: &[Lit])
+        requires within { IsTrue (clause_in self.old.trail.vars clause.now) }
+        requires differ { IsTrue (vars_differ clause.now) }
+        requires room { (i : ℕ) → slice_index self.old.weights i + 1 < 2 ^ 64 }
+        ensures trail { self.new.trail ≡ self.old.trail }
+        ensures weights { (v : ℕ) → 0 < v → weight_of self.new v ≡ weight_of self.old v + (if has_var v clause.now then 1 else 0) }
+    {
+        count_in(self.weights.as_mut_slice(), clause);
+    }
+}
+
+// Counts a clause: entry v - 1, that of variable v, is 1 more for each of its variables.
+fn count_in(weights: &mut [u64], clause: &[Lit])
+    requires within { IsTrue (clause_in (length weights.old) clause.now) }
+    requires differ { IsTrue (vars_differ clause.now) }
+    requires room { (i : ℕ) → slice_index weights.old i + 1 < 2 ^ 64 }
+    ensures { (v : ℕ) → 0 < v → slice_index weights.new (v - 1) ≡ slice_index weights.old (v - 1) + (if has_var v clause.now then 1 else 0) }
+{
+    for lit in clause {
+        weights[lit.var() as usize - 1] += 1;
+    }
+}
