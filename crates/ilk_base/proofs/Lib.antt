@@ -4,6 +4,7 @@ pub mod Lists
 pub mod Tested
 pub mod Positions
 pub mod Ranges
+pub mod FlatMaps
 pub mod Fronts
 pub mod Ascii
 pub mod Once

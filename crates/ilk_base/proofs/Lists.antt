@@ -100,23 +100,6 @@ copied n i x y at =
     let long = length-replicate n x in
     sym (get_or-replicate n i x y (omega arith)) ∙ get_or_from_slice_get (replicate n x) i y y at
 
--- six lists that are empty together, and eight
-pub six-none : {X : Type 0} (a b c d e f : List X) → a ++ b ++ c ++ d ++ e ++ f ≡ [] → (a ≡ []) × (b ≡ []) × (c ≡ []) × (d ≡ []) × (e ≡ []) × (f ≡ [])
-six-none a b c d e f h =
-    let one = append-none (a ++ b ++ c ++ d ++ e) f h in
-    let two = append-none (a ++ b ++ c ++ d) e one.0 in
-    let three = append-none (a ++ b ++ c) d two.0 in
-    let four = append-none (a ++ b) c three.0 in
-    let five = append-none a b four.0 in
-    (five.0, five.1, four.1, three.1, two.1, one.1)
-
-pub eight-none : {X : Type 0} (a b c d e f g h : List X) → a ++ b ++ c ++ d ++ e ++ f ++ g ++ h ≡ [] → (a ≡ []) × (b ≡ []) × (c ≡ []) × (d ≡ []) × (e ≡ []) × (f ≡ []) × (g ≡ []) × (h ≡ [])
-eight-none a b c d e f g h k =
-    let one = append-none (a ++ b ++ c ++ d ++ e ++ f ++ g) h k in
-    let two = append-none (a ++ b ++ c ++ d ++ e ++ f) g one.0 in
-    let rest = six-none a b c d e f two.0 in
-    (rest.0, rest.1, rest.2, rest.3, rest.4, rest.5, two.1, one.1)
-
 -- a list has an item at each number below its length
 pub item_at : {X : Type 0} (xs : List X) (i : ℕ) → i < length xs → (x : X) × (slice_get xs i ≡ Some x)
 item_at [] i within = absurd (omega arith)

@@ -1,19 +1,17 @@
 -- Cited by private contracts alone: a network in numbers, with the ends of its sections, and tables of tests over
 -- pairs of sections.
-use Rattle.std.specs.Prelude.{ℕ, Bool, false, not, ◌&&◌, ◌||◌, ◌==◌, Option, List, [], map, count_by, slice_index_or}
+use Rattle.std.specs.Prelude.{ℕ, Bool, false, not, ◌&&◌, ◌||◌, ◌==◌, Option, List, [], length, map, count_by, slice_index_or, ◌≡◌}
 use Rattle.std.specs.List.{list_any, range_with_len}
-use Rattle.ilk_plant.specs.Draft.{is_named_before}
+use Rattle.ilk_plant.specs.Draft.{names_of_boards, names_of_sections}
 use Rattle.ilk_plant.specs.Name.{Name}
 use Rattle.ilk_plant.specs.Network.{same_direction}
-use Rattle.ilk_plant.specs.NetworkRules.{ends, has_board_at_end, opposite, repeats_neighbour, stands_alone, End as NamedEnd}
+use Rattle.ilk_plant.specs.NetworkRules.{ends, leads_by, opposite, section_named, End as NamedEnd}
 use Rattle.ilk_base.specs.Option.{is_some_and}
-use Rattle.ilk_plant.specs.declared.broken.Rule.{Rule}
-use Rattle.ilk_plant.specs.declared.broken.Rule.TheVariants.{N1, N2, N3, N4, N5, N6, N7, N8}
 use Rattle.ilk_plant.specs.declared.draft.KindDraft.{KindDraft}
-use Rattle.ilk_plant.specs.declared.draft.NetDraft.{NetDraft}
 use Rattle.ilk_plant.specs.declared.network.Dir.{Dir}
 use Rattle.ilk_plant.specs.declared.network.Dir.TheVariants.{Up}
 use Rattle.ilk_net_check.specs.declared.ends.End.{End}
+use Rattle.ilk_net_check.specs.declared.rules.Network.{Network}
 
 -- an end with a number for its name
 abbrev pub numbered_end : (Name → Option ℕ) → NamedEnd → End
@@ -64,14 +62,9 @@ abbrev pub is_one_sided : List (List End) → ℕ → End → Bool
 is_one_sided all x end =
     is_some_and end.section (λ y. not (y == x) && not (is_named_once x (opposite end.side) (ends_by_number all y)))
 
--- whether section or board x breaks a rule of the network, by its draft, by the names of the sections and of the boards, by the ends, and by where walks lead
-abbrev pub breaks : NetDraft → List Name → List Name → List (List End) → List (List Bool) → Rule → ℕ → Bool
-breaks net section_names board_names all leads N1 x = is_named_before section_names x
-breaks net section_names board_names all leads N2 x = is_named_before board_names x
-breaks net section_names board_names all leads N3 x = list_any (names_no_other x) (ends_by_number all x)
-breaks net section_names board_names all leads N4 x = repeats_neighbour net x
-breaks net section_names board_names all leads N5 x = list_any (is_one_sided all x) (ends_by_number all x)
-breaks net section_names board_names all leads N6 x = stands_alone net x
-breaks net section_names board_names all leads N7 x = entry leads x x
-breaks net section_names board_names all leads N8 x = has_board_at_end net x
-breaks net section_names board_names all leads rule x = false
+-- a network in numbers has what its draft says
+pub record IsNumbered (network : Network) : Type 0 where
+  pub section_names : network.section_names ≡ names_of_sections network.net.now.sections
+  pub board_names : network.board_names ≡ names_of_boards network.net.now.sections
+  pub ends : network.ends ≡ map (λ section. numbered_ends (section_named network.net.now) section.kind) network.net.now.sections
+  pub leads : network.leads ≡ table (length network.net.now.sections) (leads_by (is_next network.ends) (length network.net.now.sections))

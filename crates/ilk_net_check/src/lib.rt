@@ -1,4 +1,4 @@
-//! The rules of the network, N1 to N8, asked of its draft: `check_network` gives the whole list of
+//! The rules of the network (N), asked of its draft: `check_network` gives the whole list of
 //! those that are broken, each at every place, in order.
 //!
 //! The definitions speak of names and of walks of any length. The checks number the names once, and

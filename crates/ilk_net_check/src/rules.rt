@@ -1,10 +1,10 @@
-ghost use Rattle.std.specs.Prelude.{◌≡◌, ◌≤◌, ◌++◌, IfOk, OnOk, length, map, option_map, slice_get};
+ghost use Rattle.std.specs.Prelude.{◌≡◌, ◌≤◌, ◌++◌, ◌↔◌, IfOk, None, OnOk, ℕ, length, option_map, slice_get};
+ghost use Rattle.std.specs.List.{Contains};
 ghost use Rattle.std.specs.Option.{option_copied};
-ghost use Rattle.ilk_plant.specs.Broken.{broken_at};
-ghost use Rattle.ilk_plant.specs.Draft.{names_of_boards, names_of_sections};
-ghost use Rattle.ilk_plant.specs.NetworkRules.{has_board_at_end, leads_by, network_rules_broken, repeats_neighbour as repeats_neighbour_of, stands_alone};
-ghost use Rattle.ilk_plant.specs.Plant.{first_named};
-ghost use Rattle.ilk_net_check.specs.Numbers.{breaks, is_next, numbered_ends, table};
+ghost use Rattle.ilk_plant.specs.Broken.{broken_at, places_of};
+ghost use Rattle.ilk_plant.specs.NetworkRules.{Returns, breaks_network, count_in_network, has_board_at_end, has_wrong_neighbour, is_not_named_back as is_not_named_back_of, network_rules_broken, repeats_neighbour as repeats_neighbour_of, returns, stands_alone};
+ghost use Rattle.ilk_net_check.specs.Numbers.{IsNumbered};
+ghost use Rattle.ilk_plant.specs.declared.broken.Rule.TheVariants.{N7};
 ghost use Rattle.ilk_plant.specs.declared.limits.TheConstants.{MAX_SECTIONS};
 
 use crate::ends::{End, all_ends, ends_by_number};
@@ -12,9 +12,21 @@ use crate::kinds::{has_board_to_nowhere, has_no_neighbour, repeats_neighbour};
 use crate::neighbours::{is_not_named_back, names_no_other};
 use crate::reach::{entry, walks_up};
 use ilk_plant::{
-    Broken, KindDraft, Names, NetDraft, Row, Rule, board_names, push_if, section_names,
+    Broken, KindDraft, Names, NetDraft, Places, Row, Rule, board_names, push_if, section_names,
 };
 use std::alloc::{AllocError, Global};
+
+// The rules of the network, in order.
+const NETWORK_RULES: [Rule; 8] = [
+    Rule::N1,
+    Rule::N2,
+    Rule::N3,
+    Rule::N4,
+    Rule::N5,
+    Rule::N6,
+    Rule::N7,
+    Rule::N8,
+];
 
 // A network with numbers for names: its draft, the names of its sections and of its boards, the
 // ends of each section, and from which section walks up lead to which.
@@ -32,12 +44,7 @@ impl<'a> Network<'a> {
     fn of(alloc: Global, net: &'a NetDraft) -> Result<Network<'a>, AllocError>
         requires { length net.now.sections ≤ MAX_SECTIONS }
         ensures net { IfOk result (λ network. network.net.now ≡ net.now) }
-        ensures section_names { IfOk result (λ network. network.section_names ≡ names_of_sections net.now.sections) }
-        ensures board_names { IfOk result (λ network. network.board_names ≡ names_of_boards net.now.sections) }
-        ensures ends { IfOk result (λ network.
-            network.ends ≡ map (λ section. numbered_ends (first_named (names_of_sections net.now.sections)) section.kind) net.now.sections) }
-        ensures leads { IfOk result (λ network.
-            network.leads ≡ table (length net.now.sections) (leads_by (is_next network.ends) (length net.now.sections))) }
+        ensures numbered { IfOk result IsNumbered }
     {
         let section_names = section_names(alloc, &net.sections)?;
         let board_names = board_names(alloc, &net.sections)?;
@@ -94,35 +101,71 @@ impl Network<'_> {
         }
     }
 
-    // Whether section `x`, or for N2 board `x`, breaks a rule of the network.
+    // Whether a neighbour of section `x` isn't the name of another section.
+    fn has_wrong_neighbour(&self, x: u32) -> bool
+        requires { IsNumbered self.now }
+        ensures { result ≡ has_wrong_neighbour self.now.net.now x }
+    {
+        names_no_other(ends_by_number(&self.ends, x), x)
+    }
+
+    // Whether a neighbour of section `x`, other than `x`, doesn't name `x` at exactly one of its
+    // ends, on the opposite side.
+    fn is_not_named_back(&self, x: u32) -> bool
+        requires { IsNumbered self.now }
+        ensures { result ≡ is_not_named_back_of self.now.net.now x }
+    {
+        is_not_named_back(&self.ends, x)
+    }
+
+    // Whether a walk up returns to section `x`.
+    fn returns(&self, x: u32) -> bool
+        requires { IsNumbered self.now }
+        ensures { result ≡ returns self.now.net.now x }
+    {
+        entry(&self.leads, x, x)
+    }
+
+    // How many places of a kind the network has.
+    fn count(&self, places: Places) -> u32
+        requires few { length self.now.net.now.sections ≤ MAX_SECTIONS }
+        requires numbered { IsNumbered self.now }
+        ensures { result ≡ count_in_network self.now.net.now places }
+    {
+        match places {
+            Places::Sections => self.net.sections.len() as u32,
+            Places::Boards => self.board_names.len(),
+            Places::Routes | Places::RoutePairs => 0,
+        }
+    }
+
+    // Whether the network breaks a rule at its place `x`.
     fn breaks(&self, rule: Rule, x: u32) -> bool
-        ensures { result ≡ breaks self.now.net.now self.now.section_names self.now.board_names self.now.ends self.now.leads rule x }
+        requires { IsNumbered self.now }
+        ensures { result ≡ breaks_network self.now.net.now rule x }
     {
         match rule {
             Rule::N1 => self.section_names.is_named_before(x),
             Rule::N2 => self.board_names.is_named_before(x),
-            Rule::N3 => names_no_other(ends_by_number(&self.ends, x), x),
+            Rule::N3 => self.has_wrong_neighbour(x),
             Rule::N4 => self.repeats_neighbour(x),
-            Rule::N5 => is_not_named_back(&self.ends, x),
+            Rule::N5 => self.is_not_named_back(x),
             Rule::N6 => self.stands_alone(x),
-            Rule::N7 => entry(&self.leads, x, x),
+            Rule::N7 => self.returns(x),
             Rule::N8 => self.has_board_at_end(x),
             _ => false,
         }
     }
 }
 
-// Adds the rule for each place below `count` at which the network breaks it.
-fn push_broken(
-    broken: &mut Row<Broken>,
-    network: &Network,
-    rule: Rule,
-    count: u32,
-) -> Result<(), AllocError>
-    ensures { OnOk result
-        (broken.new ≡ broken.old ++ broken_at rule count (breaks network.now.net.now network.now.section_names network.now.board_names network.now.ends network.now.leads rule)) }
+// Adds the rule for each of its places at which the network breaks it.
+fn push_broken(broken: &mut Row<Broken>, network: &Network, rule: Rule) -> Result<(), AllocError>
+    requires few { length network.now.net.now.sections ≤ MAX_SECTIONS }
+    requires numbered { IsNumbered network.now }
+    ensures { OnOk result (broken.new ≡ broken.old
+        ++ broken_at rule (count_in_network network.now.net.now (places_of rule)) (breaks_network network.now.net.now rule)) }
 {
-    for x in 0..count {
+    for x in 0..network.count(rule.places()) {
         let entry = Broken {
             rule,
             first: x,
@@ -140,19 +183,15 @@ fn push_broken(
 /// The only refusal is want of memory. The draft stays as it is.
 pub fn check_network(alloc: Global, net: &NetDraft) -> Result<Row<Broken>, AllocError>
     requires { length net.now.sections ≤ MAX_SECTIONS }
-    ensures { IfOk result (λ broken. broken ≡ network_rules_broken net.now) }
+    ensures rules { IfOk result (λ broken. broken ≡ network_rules_broken net.now) }
+    // N7 is there at section x exactly where a walk up of one or more steps, of any length, returns to x
+    ensures walks { IfOk result (λ broken. (x : ℕ) →
+        Contains broken (record { rule = N7; first = x; second = None }) ↔ Returns net.now x) }
 {
     let network = Network::of(alloc, net)?;
-    let sections = net.sections.len() as u32;
-    let boards = network.board_names.len();
     let mut broken = Row::new(alloc);
-    push_broken(&mut broken, &network, Rule::N1, sections)?;
-    push_broken(&mut broken, &network, Rule::N2, boards)?;
-    push_broken(&mut broken, &network, Rule::N3, sections)?;
-    push_broken(&mut broken, &network, Rule::N4, sections)?;
-    push_broken(&mut broken, &network, Rule::N5, sections)?;
-    push_broken(&mut broken, &network, Rule::N6, sections)?;
-    push_broken(&mut broken, &network, Rule::N7, sections)?;
-    push_broken(&mut broken, &network, Rule::N8, sections)?;
+    for rule in &NETWORK_RULES {
+        push_broken(&mut broken, &network, *rule)?;
+    }
     Ok(broken)
 }

@@ -10,6 +10,7 @@ use Rattle.ilk_plant.proofs.Rules.{KeepsNetworkRules}
 use Rattle.ilk_plant.proofs.KnownNames.{board_on-known, boards_known, is_known}
 use Rattle.ilk_plant.specs.Draft.{NamedBoard, boards_from, boards_on, names_of_boards, names_of_sections, number_of, numbered, numbered_section, board_if_named}
 use Rattle.ilk_plant.specs.Name.{Name}
+use Rattle.ilk_plant.specs.declared.broken.Rule.TheVariants.{N8}
 use Rattle.ilk_plant.specs.declared.limits.TheConstants.{MAX_BOARDS, MAX_SECTIONS}
 use Rattle.ilk_plant.specs.Network.{beside, board_on}
 use Rattle.ilk_plant.specs.NetworkRules.{has_board_at_end, has_neighbour_if_board}
@@ -226,7 +227,7 @@ boards-agree net table once x m d = (board-listed net table once x m d, listed-b
 pub boards-lead : (net : NetDraft) (table : TableDraft) → KeepsNetworkRules net → (x m : ℕ) (d : Dir) → board_of (numbered net table) x d ≡ Some m → 0 < length (next_to (numbered net table) x d)
 boards-lead net table rules x m d e =
     let drafted = board-drafted net table x m d e in
-    let kept = rules.boards_lead_on x (slice_get_within net.sections x drafted.0 drafted.2) in
+    let kept = rules 7 N8 refl x (slice_get_within net.sections x drafted.0 drafted.2) in
     let there : slice_get (numbered net table).sections x ≡ Some (numbered_section (names_of_sections net.sections) (names_of_boards net.sections) drafted.0.kind) = slice_get-map (λ section. numbered_section (names_of_sections net.sections) (names_of_boards net.sections) section.kind) net.sections x ∙ ap (option_map (λ section. numbered_section (names_of_sections net.sections) (names_of_boards net.sections) section.kind)) drafted.2 in
     rw there (by_kind drafted.0 drafted.0.kind d drafted.1 drafted.2 refl kept drafted.3)
   where

@@ -15,6 +15,7 @@ use Rattle.ilk_base.specs.Option.{is_some_and}
 use Rattle.ilk_plant.specs.NetworkRules.{End, ends, ends_of, has_no_neighbour, names_another, names_once, names_section, opposite, section_named, stands_alone}
 use Rattle.ilk_plant.specs.Once.{all_differ, none_twice}
 use Rattle.ilk_plant.specs.Plant.{first_named, next_to}
+use Rattle.ilk_plant.specs.declared.broken.Rule.TheVariants.{N3, N4, N5, N6}
 use Rattle.ilk_plant.specs.declared.network.Dir.{Dir}
 use Rattle.ilk_plant.specs.declared.network.Dir.TheVariants.{Up, Down}
 use Rattle.ilk_plant.specs.declared.draft.KindDraft.{KindDraft}
@@ -69,7 +70,7 @@ ends-within net x k end e = by_section (slice_get net.sections x) refl
 -- each end of a section names another section
 pub end-names : (net : NetDraft) → KeepsNetworkRules net → (x k : ℕ) (end : End) → slice_get (ends_of net x) k ≡ Some end → names_another net x end ≡ true
 end-names net rules x k end at =
-    let kept = list_any-none (λ e. not (names_another net x e)) (ends_of net x) k end (rules.neighbours_other x (ends-within net x k end at)) at in
+    let kept = list_any-none (λ e. not (names_another net x e)) (ends_of net x) k end (rules 2 N3 refl x (ends-within net x k end at)) at in
     not-not (names_another net x end) kept
   where
     not-not : (b : Bool) → not b ≡ false → b ≡ true
@@ -120,7 +121,7 @@ next-other net table rules x d =
 back-end : (net : NetDraft) → KeepsNetworkRules net → (x k y : ℕ) (end : End) → slice_get (ends_of net x) k ≡ Some end → number_of (names_of_sections net.sections) end.name ≡ y → list_any (λ other. names_section net x other && same_direction other.side (opposite end.side)) (ends_of net y) ≡ true
 back-end net rules x k y end at number =
     let known = end-number net rules x k y end at number in
-    let kept = list_any-none (λ e. is_some_and (section_named net e.name) (λ z. not (z == x) && not (names_once net x (opposite e.side) (ends_of net z)))) (ends_of net x) k end (rules.named_back x (ends-within net x k end at)) at in
+    let kept = list_any-none (λ e. is_some_and (section_named net e.name) (λ z. not (z == x) && not (names_once net x (opposite e.side) (ends_of net z)))) (ends_of net x) k end (rules 4 N5 refl x (ends-within net x k end at)) at in
     let at_y : (not (y == x) && not (names_once net x (opposite end.side) (ends_of net y))) ≡ false = rw known.0 at kept in
     let once = by-tests (y == x) (names_once net x (opposite end.side) (ends_of net y)) known.2 at_y in
     (and_parts (count_by (names_section net x) (ends_of net y) == 1) (list_any (λ other. names_section net x other && same_direction other.side (opposite end.side)) (ends_of net y)) once).1
@@ -194,7 +195,7 @@ next-once net table rules x = by_section (slice_get net.sections x) refl
         rw none refl
     by_section (Some section) at =
         let there : slice_get (numbered net table).sections x ≡ Some (numbered_section (names_of_sections net.sections) (names_of_boards net.sections) section.kind) = slice_get-map (λ section. numbered_section (names_of_sections net.sections) (names_of_boards net.sections) section.kind) net.sections x ∙ ap (option_map (λ section. numbered_section (names_of_sections net.sections) (names_of_boards net.sections) section.kind)) at in
-        let kept : not (all_differ (map (λ end. end.name) (ends section.kind))) ≡ false = rw at at (rules.neighbours_differ x (slice_get_within net.sections x section at)) in
+        let kept : not (all_differ (map (λ end. end.name) (ends section.kind))) ≡ false = rw at at (rules 3 N4 refl x (slice_get_within net.sections x section at)) in
         let known : (k : ℕ) (end : End) → slice_get (ends section.kind) k ≡ Some end → list_any (bytes_eq end.name) (names_of_sections net.sections) ≡ true = λ k end e. end-known k end (rw at e) in
         rw there (beside-once (names_of_sections net.sections) (names_of_boards net.sections) section.kind (numbers-once (names_of_sections net.sections) (ends section.kind) known (not-not _ kept)))
       where
@@ -225,4 +226,4 @@ next-some net table rules x within = by_section (slice_get net.sections x) refl
         at-within (section ∷ rest) (suc x) h = at-within rest x (omega arith)
     by_section (Some section) at =
         let there : slice_get (numbered net table).sections x ≡ Some (numbered_section (names_of_sections net.sections) (names_of_boards net.sections) section.kind) = slice_get-map (λ section. numbered_section (names_of_sections net.sections) (names_of_boards net.sections) section.kind) net.sections x ∙ ap (option_map (λ section. numbered_section (names_of_sections net.sections) (names_of_boards net.sections) section.kind)) at in
-        rw there (by_kind section section.kind at refl (rules.none_alone x within))
+        rw there (by_kind section section.kind at refl (rules 5 N6 refl x within))

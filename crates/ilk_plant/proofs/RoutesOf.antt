@@ -8,6 +8,7 @@ use Rattle.std.proofs.lemmas.Option.{slice_get_within}
 use Rattle.ilk_plant.proofs.Rules.{KeepsTableRules}
 use Rattle.ilk_plant.specs.Draft.{names_of_boards, names_of_routes, names_of_sections, number_of, numbered, numbered_point, numbered_route}
 use Rattle.ilk_plant.specs.Limits.{route_has_limits}
+use Rattle.ilk_plant.specs.declared.broken.Rule.TheVariants.{R2, R3, R4, R5, R6}
 use Rattle.ilk_plant.specs.declared.limits.TheConstants.{MAX_CONFLICTS, MAX_OVERLAP, MAX_PATH, MAX_POINTS}
 use Rattle.ilk_plant.specs.Network.{has_section, is_point}
 use Rattle.ilk_base.specs.Option.{is_some_and}
@@ -86,13 +87,13 @@ pub route-known : (net : NetDraft) (table : TableDraft) → KeepsTableRules (num
 route-known net table rules each r route e =
     let p : PlantLists = numbered net table in
     let within : r < length p.routes = slice_get_within p.routes r route e in
-    let source = route-passes p (has_source p) r route (rules.sources r within) e in
-    let sections = and_parts (list_all (is_section p) (sections_of route)) (none_twice (sections_of route)) (route-passes p (has_sections_once p) r route (rules.sections_once r within) e) in
+    let source = route-passes p (has_source p) r route (rules 1 R2 refl r within) e in
+    let sections = and_parts (list_all (is_section p) (sections_of route)) (none_twice (sections_of route)) (route-passes p (has_sections_once p) r route (rules 2 R3 refl r within) e) in
     let each_section = and_parts (list_all (is_section p) route.path) (list_all (is_section p) route.overlap) (sym (list_all-append (is_section p) route.path route.overlap) ∙ sections.0) in
-    let points = and_parts (list_all (λ x. is_point_section p x && has_section x (sections_of route)) (points_of route)) (none_twice (points_of route)) (route-passes p (has_points_once p) r route (rules.points_once r within) e) in
+    let points = and_parts (list_all (λ x. is_point_section p x && has_section x (sections_of route)) (points_of route)) (none_twice (points_of route)) (route-passes p (has_points_once p) r route (rules 3 R4 refl r within) e) in
     let each_point : list_all (λ listed. is_point_section p listed.point && has_section listed.point (sections_of route)) route.points ≡ true = sym (list_all-map (λ x. is_point_section p x && has_section x (sections_of route)) (λ listed. listed.point) route.points) ∙ points.0 in
-    let destination = route-passes p (λ a. has_destination_or_none p a.destination) r route (rules.destinations r within) e in
-    let conflicts = and_parts (list_all (is_other_route p r) route.conflicts) (none_twice route.conflicts) (route-passes p (has_conflicts_once p r) r route (rules.conflicts_once r within) e) in
+    let destination = route-passes p (λ a. has_destination_or_none p a.destination) r route (rules 4 R5 refl r within) e in
+    let conflicts = and_parts (list_all (is_other_route p r) route.conflicts) (none_twice route.conflicts) (route-passes p (has_conflicts_once p r) r route (rules 5 R6 refl r within) e) in
     let lengths = route-limits net table r route each e in
     record {
       destination = λ m is. let known : is_board p m ≡ true = rw is at destination in below m (length p.boards) known;
@@ -116,5 +117,5 @@ route-known net table rules each r route e =
 -- the conflicts of a route of the plant are other routes
 pub conflicts-other : (p : PlantLists) → KeepsTableRules p → (r : ℕ) (route : Route) → slice_get p.routes r ≡ Some route → All (λ q. q ≢ r) route.conflicts
 conflicts-other p rules r route e =
-    let conflicts = and_parts (list_all (is_other_route p r) route.conflicts) (none_twice route.conflicts) (route-passes p (has_conflicts_once p r) r route (rules.conflicts_once r (slice_get_within p.routes r route e)) e) in
+    let conflicts = and_parts (list_all (is_other_route p r) route.conflicts) (none_twice route.conflicts) (route-passes p (has_conflicts_once p r) r route (rules 5 R6 refl r (slice_get_within p.routes r route e)) e) in
     All-tested (is_other_route p r) (λ q. q ≢ r) (λ q h. other p r q h) route.conflicts conflicts.0

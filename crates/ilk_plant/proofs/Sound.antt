@@ -12,6 +12,7 @@ use Rattle.ilk_plant.proofs.Walks.{never-returns}
 use Rattle.ilk_plant.specs.Draft.{boards_from, names_of_boards, names_of_routes, names_of_sections, numbered, numbered_route, numbered_section}
 use Rattle.ilk_plant.specs.Plant.{IsPlant, PlantLists}
 use Rattle.ilk_base.proofs.Once.{EachOnce}
+use Rattle.ilk_plant.specs.declared.broken.Rule.TheVariants.{N1, N2, R1}
 use Rattle.ilk_plant.specs.declared.network.Dir.TheVariants.{Up, Down}
 use Rattle.ilk_plant.specs.Sound.{AreSound, IsOfDrafts}
 use Rattle.ilk_plant.specs.Kept.{IsSound}
@@ -28,13 +29,13 @@ sound-IsPlant net table sound =
     let names : length (names_of_sections net.sections) ≡ length net.sections = length-map net.sections (λ section. section.name) in
     let boards : length (numbered net table).boards ≡ length (names_of_boards net.sections) = length-map (boards_from 0 net.sections) (λ named. named.board) ∙ sym (length-map (boards_from 0 net.sections) (λ named. named.name)) in
     let count_routes : length (numbered net table).routes ≡ length table.routes = length-map table.routes (numbered_route (names_of_sections net.sections) (names_of_boards net.sections) (names_of_routes table.routes)) in
-    let board_names : EachOnce (names_of_boards net.sections) = named-once (names_of_boards net.sections) network.boards_differ in
+    let board_names : EachOnce (names_of_boards net.sections) = named-once (names_of_boards net.sections) (network 1 N2 refl) in
     let count_names : length (names_of_routes table.routes) ≡ length table.routes = length-map table.routes (λ route. route.name) in
     record {
       some_section = omega (arith, count, sound.limits.of_network.some);
-      section_names_differ = all_differ-from_places _ (named-once (names_of_sections net.sections) (λ i h. network.sections_differ i (omega (arith, names))));
+      section_names_differ = all_differ-from_places _ (named-once (names_of_sections net.sections) (λ i h. network 0 N1 refl i (omega (arith, names))));
       board_names_differ = all_differ-from_places _ board_names;
-      route_names_differ = all_differ-from_places _ (named-once (names_of_routes table.routes) (λ i h. routes.names_differ i (omega (arith, count_routes, count_names))));
+      route_names_differ = all_differ-from_places _ (named-once (names_of_routes table.routes) (λ i h. routes 0 R1 refl i (omega (arith, count_routes, count_names))));
       section_names_allowed = section_names-allowed net.sections sound.limits.of_network.named;
       board_names_allowed = board_names-allowed net.sections sound.limits.of_network.named;
       route_names_allowed = route_names-allowed table.routes sound.limits.of_table.named;

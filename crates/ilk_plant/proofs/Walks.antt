@@ -14,6 +14,7 @@ use Rattle.ilk_plant.specs.Plant.{next_to}
 use Rattle.ilk_plant.specs.Sound.{NeverReturns}
 use Rattle.ilk_plant.specs.Shape.{leads_on}
 use Rattle.ilk_plant.specs.Once.{none_twice}
+use Rattle.ilk_plant.specs.declared.broken.Rule.TheVariants.{N7}
 use Rattle.ilk_plant.specs.declared.draft.NetDraft.{NetDraft}
 use Rattle.ilk_plant.specs.declared.draft.TableDraft.{TableDraft}
 use Rattle.ilk_plant.specs.declared.network.Dir.{Dir}
@@ -64,7 +65,7 @@ walk-leads-down net table rules x y (z ∷ rest) on h =
 
 -- a section to which steps up lead from itself can't be
 none-returns : (net : NetDraft) → KeepsNetworkRules net → (x : ℕ) → x < length net.sections → leads_up net x x ≡ true → ⊥
-none-returns net rules x within h = let kept : returns net x ≡ false = rules.none_returns x within in cc
+none-returns net rules x within h = let kept : returns net x ≡ false = rules 6 N7 refl x within in cc
 
 -- where a walk returns to where it began, that is a section
 begins-within : (net : NetDraft) (table : TableDraft) → KeepsNetworkRules net → (d : Dir) (v x : ℕ) (walk : List ℕ) → leads_on (numbered net table) d v walk ≡ true → has_section x walk ≡ true → x < length net.sections

@@ -1,13 +1,59 @@
--- Lists of broken rules: in the order of the places at which one is broken.
-use Rattle.std.specs.Prelude.{ℕ, Bool, Some, None, List, map, filter, flat_map}
+-- The rules: their names and what their places are; and lists of broken rules, in the order of the places.
+use Rattle.std.specs.Prelude.{ℕ, Bool, Some, None, List, codes, map, filter, flat_map}
 use Rattle.std.specs.List.{range_with_len}
+use Rattle.ilk_plant.specs.Name.{Name}
 use Rattle.ilk_plant.specs.declared.broken.Broken.{Broken}
+use Rattle.ilk_plant.specs.declared.broken.Places.{Places}
+use Rattle.ilk_plant.specs.declared.broken.Places.TheVariants.{Sections, Boards, Routes, RoutePairs}
 use Rattle.ilk_plant.specs.declared.broken.Rule.{Rule}
+use Rattle.ilk_plant.specs.declared.broken.Rule.TheVariants.{N1, N2, N3, N4, N5, N6, N7, N8, R1, R2, R3, R4, R5, R6, C1, C2, C3, C4, C5, C6, C7}
+
+-- the name of a rule, and what the places are at which it is asked
+abbrev pub name_and_places : Rule → Name × Places
+name_and_places N1 = (codes "N1", Sections)
+name_and_places N2 = (codes "N2", Boards)
+name_and_places N3 = (codes "N3", Sections)
+name_and_places N4 = (codes "N4", Sections)
+name_and_places N5 = (codes "N5", Sections)
+name_and_places N6 = (codes "N6", Sections)
+name_and_places N7 = (codes "N7", Sections)
+name_and_places N8 = (codes "N8", Sections)
+name_and_places R1 = (codes "R1", Routes)
+name_and_places R2 = (codes "R2", Routes)
+name_and_places R3 = (codes "R3", Routes)
+name_and_places R4 = (codes "R4", Routes)
+name_and_places R5 = (codes "R5", Routes)
+name_and_places R6 = (codes "R6", Routes)
+name_and_places C1 = (codes "C1", Routes)
+name_and_places C2 = (codes "C2", Routes)
+name_and_places C3 = (codes "C3", Routes)
+name_and_places C4 = (codes "C4", Routes)
+name_and_places C5 = (codes "C5", RoutePairs)
+name_and_places C6 = (codes "C6", RoutePairs)
+name_and_places C7 = (codes "C7", Sections)
+
+abbrev pub rule_word : Rule → Name
+rule_word rule = (name_and_places rule).0
+
+abbrev pub places_of : Rule → Places
+places_of rule = (name_and_places rule).1
+
+-- the word for places; both of a pair of routes are routes
+abbrev pub places_word : Places → Name
+places_word Sections = codes "sections"
+places_word Boards = codes "boards"
+places_word Routes = codes "routes"
+places_word RoutePairs = codes "routes"
 
 -- the rule, at each number below n at which it is broken
 abbrev pub broken_at : Rule → ℕ → (ℕ → Bool) → List Broken
 broken_at rule n is_broken =
     map (λ i. record { rule = rule; first = i; second = None }) (filter is_broken (range_with_len 0 n))
+
+-- each of these rules, at each of its places at which it is broken, where there are so many places of each kind
+abbrev pub each_broken_at : List Rule → (Places → ℕ) → (Rule → ℕ → Bool) → List Broken
+each_broken_at rules count breaks =
+    flat_map (λ rule. broken_at rule (count (places_of rule)) (breaks rule)) rules
 
 -- the rule, at each pair of numbers below n at which it is broken, in the order of the first and then of the second
 abbrev pub broken_at_pairs : Rule → ℕ → (ℕ → ℕ → Bool) → List Broken

@@ -1,14 +1,17 @@
 -- The rules of the columns of the table of routes, C1 to C7, over the plant. A route has the direction of its
 -- source board, and `next_to` is asked in that direction, for the overlap too.
-use Rattle.std.specs.Prelude.{ℕ, Bool, true, false, not, Option, Some, None, List, [], ◌∷◌, ◌++◌, ◌&&◌, ◌||◌, ◌==◌, ◌-◌, nat_lt, is_none, length, take, slice_get}
+use Rattle.std.specs.Prelude.{ℕ, Bool, true, false, not, Option, Some, None, List, [], ◌∷◌, ◌++◌, ◌&&◌, ◌||◌, ◌==◌, ◌-◌, nat_lt, is_none, length, take, slice_get, flat_map}
 use Rattle.std.specs.List.{list_any, list_all}
 use Rattle.ilk_base.specs.Option.{is_some_and}
-use Rattle.ilk_plant.specs.Broken.{broken_at, broken_at_pairs}
+use Rattle.ilk_plant.specs.Broken.{broken_at, broken_at_pairs, places_of}
 use Rattle.ilk_plant.specs.Network.{has_section}
 use Rattle.ilk_plant.specs.Plant.{PlantLists, next_to, board_of, border, is_point_section}
 use Rattle.ilk_plant.specs.Shape.{leads_on}
-use Rattle.ilk_plant.specs.TableRules.{points_of, route_fails, sections_of}
+use Rattle.ilk_plant.specs.TableRules.{count_in_plant, points_of, route_fails, sections_of}
 use Rattle.ilk_plant.specs.declared.broken.Broken.{Broken}
+use Rattle.ilk_plant.specs.declared.broken.Places.{Places}
+use Rattle.ilk_plant.specs.declared.broken.Places.TheVariants.{RoutePairs}
+use Rattle.ilk_plant.specs.declared.broken.Rule.{Rule}
 use Rattle.ilk_plant.specs.declared.broken.Rule.TheVariants.{C1, C2, C3, C4, C5, C6, C7}
 use Rattle.ilk_plant.specs.declared.network.Board.{Board}
 use Rattle.ilk_plant.specs.declared.network.Dir.{Dir}
@@ -106,13 +109,32 @@ share_unlisted p i j = nat_lt i j && share_section p i j && not (lists p i j)
 abbrev pub is_border_without_board : PlantLists → ℕ → Bool
 is_border_without_board p x = is_some_and (border p x) (λ inward. has_no_board p inward x)
 
+abbrev pub column_rules : List Rule
+column_rules = C1 ∷ C2 ∷ C3 ∷ C4 ∷ C5 ∷ C6 ∷ C7 ∷ []
+
+-- whether a rule of the columns is broken at its place i
+abbrev pub breaks_columns : PlantLists → Rule → ℕ → Bool
+breaks_columns p C1 = route_fails p (path_leads_on p)
+breaks_columns p C2 = route_fails p (path_ends_at_board p)
+breaks_columns p C3 = route_fails p (points_are_set p)
+breaks_columns p C4 = route_fails p (overlap_leads_on p)
+breaks_columns p C7 = is_border_without_board p
+breaks_columns p _ = λ i. false
+
+-- whether a rule of the columns is broken at the pair of routes i and j
+abbrev pub breaks_columns_at_pair : PlantLists → Rule → ℕ → ℕ → Bool
+breaks_columns_at_pair p C5 = lists_alone p
+breaks_columns_at_pair p C6 = share_unlisted p
+breaks_columns_at_pair p _ = λ i j. false
+
+-- a rule of the columns, at each of its places at which it is broken
+abbrev pub column_rule_broken : PlantLists → Rule → List Broken
+column_rule_broken p rule = at_places (places_of rule)
+  where
+    at_places : Places → List Broken
+    at_places RoutePairs = broken_at_pairs rule (count_in_plant p RoutePairs) (breaks_columns_at_pair p rule)
+    at_places places = broken_at rule (count_in_plant p places) (breaks_columns p rule)
+
 -- the broken rules of the columns, in order
 abbrev pub column_rules_broken : PlantLists → List Broken
-column_rules_broken p =
-    broken_at C1 (length p.routes) (route_fails p (path_leads_on p))
-    ++ broken_at C2 (length p.routes) (route_fails p (path_ends_at_board p))
-    ++ broken_at C3 (length p.routes) (route_fails p (points_are_set p))
-    ++ broken_at C4 (length p.routes) (route_fails p (overlap_leads_on p))
-    ++ broken_at_pairs C5 (length p.routes) (lists_alone p)
-    ++ broken_at_pairs C6 (length p.routes) (share_unlisted p)
-    ++ broken_at C7 (length p.sections) (is_border_without_board p)
+column_rules_broken p = flat_map (column_rule_broken p) column_rules

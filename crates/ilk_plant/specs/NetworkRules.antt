@@ -1,7 +1,7 @@
 -- The rules of the network, N1 to N8: the list of those that a draft breaks.
 use Rattle.std.specs.Prelude.{ℕ, zero, suc, ◌≡◌, Bool, true, false, not, ◌&&◌, ◌||◌, ◌==◌, Option, Some, None, is_none, List, [], ◌∷◌, ◌++◌, length, map, slice_get, count_by, IsTrue}
 use Rattle.std.specs.List.{list_any, last_or}
-use Rattle.ilk_plant.specs.Broken.{broken_at}
+use Rattle.ilk_plant.specs.Broken.{each_broken_at}
 use Rattle.ilk_base.specs.Option.{is_some_and}
 use Rattle.ilk_plant.specs.Draft.{is_named_before, names_of_boards, names_of_sections}
 use Rattle.ilk_plant.specs.Name.{Name}
@@ -9,6 +9,9 @@ use Rattle.ilk_plant.specs.Network.{same_direction}
 use Rattle.ilk_plant.specs.Once.{all_differ}
 use Rattle.ilk_plant.specs.Plant.{first_named}
 use Rattle.ilk_plant.specs.declared.broken.Broken.{Broken}
+use Rattle.ilk_plant.specs.declared.broken.Places.{Places}
+use Rattle.ilk_plant.specs.declared.broken.Places.TheVariants.{Sections, Boards, Routes, RoutePairs}
+use Rattle.ilk_plant.specs.declared.broken.Rule.{Rule}
 use Rattle.ilk_plant.specs.declared.broken.Rule.TheVariants.{N1, N2, N3, N4, N5, N6, N7, N8}
 use Rattle.ilk_plant.specs.declared.draft.KindDraft.{KindDraft}
 use Rattle.ilk_plant.specs.declared.draft.KindDraft.TheVariants.{Linear as LinearDraft, Point as PointDraft}
@@ -129,14 +132,28 @@ has_board_to_nowhere (PointDraft stem plus minus faces) = false
 abbrev pub has_board_at_end : NetDraft → ℕ → Bool
 has_board_at_end net x = is_some_and (slice_get net.sections x) (λ section. has_board_to_nowhere section.kind)
 
+-- how many places of a kind a network has
+abbrev pub count_in_network : NetDraft → Places → ℕ
+count_in_network net Sections = length net.sections
+count_in_network net Boards = length (names_of_boards net.sections)
+count_in_network net Routes = 0
+count_in_network net RoutePairs = 0
+
+abbrev pub network_rules : List Rule
+network_rules = N1 ∷ N2 ∷ N3 ∷ N4 ∷ N5 ∷ N6 ∷ N7 ∷ N8 ∷ []
+
+-- whether a rule of the network is broken at its place x
+abbrev pub breaks_network : NetDraft → Rule → ℕ → Bool
+breaks_network net N1 = is_named_before (names_of_sections net.sections)
+breaks_network net N2 = is_named_before (names_of_boards net.sections)
+breaks_network net N3 = has_wrong_neighbour net
+breaks_network net N4 = repeats_neighbour net
+breaks_network net N5 = is_not_named_back net
+breaks_network net N6 = stands_alone net
+breaks_network net N7 = returns net
+breaks_network net N8 = has_board_at_end net
+breaks_network net _ = λ x. false
+
 -- the rules of the network that a draft breaks, each at every place
 abbrev pub network_rules_broken : NetDraft → List Broken
-network_rules_broken net =
-    broken_at N1 (length net.sections) (is_named_before (names_of_sections net.sections))
-    ++ broken_at N2 (length (names_of_boards net.sections)) (is_named_before (names_of_boards net.sections))
-    ++ broken_at N3 (length net.sections) (has_wrong_neighbour net)
-    ++ broken_at N4 (length net.sections) (repeats_neighbour net)
-    ++ broken_at N5 (length net.sections) (is_not_named_back net)
-    ++ broken_at N6 (length net.sections) (stands_alone net)
-    ++ broken_at N7 (length net.sections) (returns net)
-    ++ broken_at N8 (length net.sections) (has_board_at_end net)
+network_rules_broken net = each_broken_at network_rules (count_in_network net) (breaks_network net)

@@ -1,14 +1,17 @@
 -- The rules of the table of routes, R1 to R6. A name stands for the first section, board or route that has it:
 -- the rules are over the numbered drafts, where a name that nothing has is the count, and so no number of one.
-use Rattle.std.specs.Prelude.{ℕ, Bool, true, not, Option, Some, None, List, ◌++◌, ◌&&◌, ◌==◌, nat_lt, length, map, slice_get}
+use Rattle.std.specs.Prelude.{ℕ, Bool, true, false, not, Option, Some, None, List, [], ◌∷◌, ◌++◌, ◌&&◌, ◌==◌, nat_lt, length, map, slice_get}
 use Rattle.std.specs.List.{list_all}
-use Rattle.ilk_plant.specs.Broken.{broken_at}
+use Rattle.ilk_plant.specs.Broken.{each_broken_at}
 use Rattle.ilk_base.specs.Option.{is_some_and}
 use Rattle.ilk_plant.specs.Draft.{is_named_before, numbered}
 use Rattle.ilk_plant.specs.Network.{has_section}
 use Rattle.ilk_plant.specs.Once.{none_twice}
 use Rattle.ilk_plant.specs.Plant.{PlantLists, is_point_section}
 use Rattle.ilk_plant.specs.declared.broken.Broken.{Broken}
+use Rattle.ilk_plant.specs.declared.broken.Places.{Places}
+use Rattle.ilk_plant.specs.declared.broken.Places.TheVariants.{Sections, Boards, Routes, RoutePairs}
+use Rattle.ilk_plant.specs.declared.broken.Rule.{Rule}
 use Rattle.ilk_plant.specs.declared.broken.Rule.TheVariants.{R1, R2, R3, R4, R5, R6}
 use Rattle.ilk_plant.specs.declared.draft.NetDraft.{NetDraft}
 use Rattle.ilk_plant.specs.declared.draft.TableDraft.{TableDraft}
@@ -59,15 +62,29 @@ has_conflicts_once p i route = list_all (is_other_route p i) route.conflicts && 
 abbrev pub route_fails : PlantLists → (Route → Bool) → ℕ → Bool
 route_fails p test i = is_some_and (slice_get p.routes i) (λ route. not (test route))
 
+-- how many places of a kind a plant has; the numbers of a pair are below this too
+abbrev pub count_in_plant : PlantLists → Places → ℕ
+count_in_plant p Sections = length p.sections
+count_in_plant p Boards = length p.boards
+count_in_plant p Routes = length p.routes
+count_in_plant p RoutePairs = length p.routes
+
+abbrev pub table_rules : List Rule
+table_rules = R1 ∷ R2 ∷ R3 ∷ R4 ∷ R5 ∷ R6 ∷ []
+
+-- whether a rule of the table is broken at its place i
+abbrev pub breaks_table : PlantLists → Rule → ℕ → Bool
+breaks_table p R1 = is_named_before p.route_names
+breaks_table p R2 = route_fails p (has_source p)
+breaks_table p R3 = route_fails p (has_sections_once p)
+breaks_table p R4 = route_fails p (has_points_once p)
+breaks_table p R5 = route_fails p (λ route. has_destination_or_none p route.destination)
+breaks_table p R6 = λ i. route_fails p (has_conflicts_once p i) i
+breaks_table p _ = λ i. false
+
 -- the broken rules of the table, in order
 abbrev pub routes_broken : PlantLists → List Broken
-routes_broken p =
-    broken_at R1 (length p.routes) (is_named_before p.route_names)
-    ++ broken_at R2 (length p.routes) (route_fails p (has_source p))
-    ++ broken_at R3 (length p.routes) (route_fails p (has_sections_once p))
-    ++ broken_at R4 (length p.routes) (route_fails p (has_points_once p))
-    ++ broken_at R5 (length p.routes) (route_fails p (λ route. has_destination_or_none p route.destination))
-    ++ broken_at R6 (length p.routes) (λ i. route_fails p (has_conflicts_once p i) i)
+routes_broken p = each_broken_at table_rules (count_in_plant p) (breaks_table p)
 
 -- the broken rules of a network's table, in order
 abbrev pub table_rules_broken : NetDraft → TableDraft → List Broken

@@ -30,9 +30,9 @@ mod state;
 mod table;
 mod words;
 
-pub use broken::{Broken, Rule, push_if};
+pub use broken::{Broken, Places, Rule, push_if};
 pub use draft::{KindDraft, ListedDraft, NetDraft, RouteDraft, SectionDraft, TableDraft};
-pub use ilk_base::{Row, Text};
+pub use ilk_base::{Row, Text, Worded};
 pub use limits::{
     MAX_BOARDS, MAX_CONFLICTS, MAX_NAME, MAX_OVERLAP, MAX_PATH, MAX_POINTS, MAX_ROUTES,
     MAX_SECTIONS,

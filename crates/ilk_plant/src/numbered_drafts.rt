@@ -1,6 +1,6 @@
 ghost use Rattle.std.specs.Prelude.{◌≡◌, ◌≤◌, ◌<◌, IfOk, Some, length, slice_get};
 ghost use Rattle.ilk_plant.specs.Draft.{is_named_before, numbered};
-ghost use Rattle.ilk_plant.specs.TableRules.{is_board, is_other_route, is_section};
+ghost use Rattle.ilk_plant.specs.TableRules.{count_in_plant, is_board, is_other_route, is_section};
 ghost use Rattle.ilk_plant.specs.Plant.{is_point_section};
 ghost use Rattle.ilk_plant.specs.Kept.{point_numbers};
 ghost use Rattle.ilk_plant.specs.declared.limits.TheConstants.{MAX_SECTIONS, MAX_ROUTES};
@@ -9,7 +9,7 @@ use crate::names::Names;
 use crate::numbering::{
     named_boards, numbered_routes, numbered_sections, route_names, section_names,
 };
-use crate::{Board, NetDraft, Route, Row, Section, TableDraft};
+use crate::{Board, NetDraft, Places, Route, Row, Section, TableDraft};
 use std::alloc::{AllocError, Global};
 use std::marker::Model;
 
@@ -96,6 +96,17 @@ impl Numbered {
         ensures { result ≡ length self.now.routes }
     {
         self.routes.len() as u32
+    }
+
+    /// How many places of a kind there are; the numbers of a pair are below this too.
+    pub fn count(&self, places: Places) -> u32
+        ensures { result ≡ count_in_plant self.now places }
+    {
+        match places {
+            Places::Sections => self.sections.len() as u32,
+            Places::Boards => self.boards.len() as u32,
+            Places::Routes | Places::RoutePairs => self.routes(),
+        }
     }
 
     /// Route `i`.

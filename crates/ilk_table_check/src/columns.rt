@@ -1,14 +1,25 @@
 ghost use Rattle.std.specs.Prelude.{◌≡◌, ◌==◌, ◌<◌, IfOk, OnOk, ◌++◌, length};
 ghost use Rattle.std.specs.List.{list_any};
-ghost use Rattle.ilk_plant.specs.Broken.{broken_at, broken_at_pairs};
+ghost use Rattle.ilk_plant.specs.Broken.{broken_at, broken_at_pairs, places_of};
 ghost use Rattle.ilk_plant.specs.Network.{has_section};
-ghost use Rattle.ilk_plant.specs.TableRules.{sections_of};
-ghost use Rattle.ilk_plant.specs.ColumnRules.{column_rules_broken, lists, share_section, is_border_without_board};
-ghost use Rattle.ilk_table_check.specs.Columns.{breaks_alone, breaks_together, pairs_of, places};
+ghost use Rattle.ilk_plant.specs.TableRules.{count_in_plant, sections_of};
+ghost use Rattle.ilk_plant.specs.ColumnRules.{breaks_columns, breaks_columns_at_pair, column_rule_broken, column_rules_broken, lists, share_section, is_border_without_board};
+ghost use Rattle.ilk_table_check.specs.Columns.{pairs_of};
 
 use crate::ways::{overlap_leads_on, path_ends_at_board, path_leads_on, points_are_set};
-use ilk_plant::{Broken, Plant, Route, Row, Rule, has_section, push_if};
+use ilk_plant::{Broken, Places, Plant, Route, Row, Rule, has_section, push_if};
 use std::alloc::{AllocError, Global};
+
+// The rules of the columns, in order.
+const COLUMN_RULES: [Rule; 7] = [
+    Rule::C1,
+    Rule::C2,
+    Rule::C3,
+    Rule::C4,
+    Rule::C5,
+    Rule::C6,
+    Rule::C7,
+];
 
 // Whether a route lists route `j` as a conflict.
 fn route_lists(route: &Route, j: u32) -> bool
@@ -61,20 +72,21 @@ fn is_border_without_board(plant: &Plant, x: u32) -> bool
     }
 }
 
-// How many places a rule of one place is asked at: C7 at the sections, the others at the routes.
-fn places(plant: &Plant, rule: Rule) -> u32
-    ensures { result ≡ places plant.now rule }
+// How many places of a kind the plant has; the numbers of a pair are below this too.
+fn count(plant: &Plant, places: Places) -> u32
+    ensures { result ≡ count_in_plant plant.now places }
 {
-    match rule {
-        Rule::C7 => plant.sections(),
-        _ => plant.routes(),
+    match places {
+        Places::Sections => plant.sections(),
+        Places::Boards => plant.boards(),
+        Places::Routes | Places::RoutePairs => plant.routes(),
     }
 }
 
-// Whether a rule of one place is broken at `i`: at section `i` for C7, at route `i` for the others.
-fn breaks_alone(plant: &Plant, rule: Rule, i: u32) -> bool
-    requires { i < places plant.now rule }
-    ensures { result ≡ breaks_alone plant.now rule i }
+// Whether a rule is broken at its place `i`.
+fn breaks(plant: &Plant, rule: Rule, i: u32) -> bool
+    requires { i < count_in_plant plant.now (places_of rule) }
+    ensures { result ≡ breaks_columns plant.now rule i }
 {
     match rule {
         Rule::C1 => !path_leads_on(plant, plant.route(i)),
@@ -86,11 +98,11 @@ fn breaks_alone(plant: &Plant, rule: Rule, i: u32) -> bool
     }
 }
 
-// Whether a rule of two places is broken at routes `i` and `j`.
-fn breaks_together(plant: &Plant, rule: Rule, i: u32, j: u32) -> bool
+// Whether a rule is broken at the pair of routes `i` and `j`.
+fn breaks_at_pair(plant: &Plant, rule: Rule, i: u32, j: u32) -> bool
     requires first { i < length plant.now.routes }
     requires second { j < length plant.now.routes }
-    ensures { result ≡ breaks_together plant.now rule i j }
+    ensures { result ≡ breaks_columns_at_pair plant.now rule i j }
 {
     match rule {
         Rule::C5 => lists(plant, i, j) && !lists(plant, j, i),
@@ -101,15 +113,16 @@ fn breaks_together(plant: &Plant, rule: Rule, i: u32, j: u32) -> bool
 
 // Adds the places at which a rule of one place is broken.
 fn push_places(found: &mut Row<Broken>, plant: &Plant, rule: Rule) -> Result<(), AllocError>
-    ensures { OnOk result (found.new ≡ found.old ++ broken_at rule (places plant.now rule) (breaks_alone plant.now rule)) }
+    ensures { OnOk result (found.new ≡ found.old
+        ++ broken_at rule (count_in_plant plant.now (places_of rule)) (breaks_columns plant.now rule)) }
 {
-    for i in 0..places(plant, rule) {
+    for i in 0..count(plant, rule.places()) {
         let entry = Broken {
             rule,
             first: i,
             second: None,
         };
-        push_if(found, breaks_alone(plant, rule, i), entry)?;
+        push_if(found, breaks(plant, rule, i), entry)?;
     }
     Ok(())
 }
@@ -122,7 +135,7 @@ fn push_pairs_of(
     i: u32,
 ) -> Result<(), AllocError>
     requires { i < length plant.now.routes }
-    ensures { OnOk result (found.new ≡ found.old ++ pairs_of rule (length plant.now.routes) i (breaks_together plant.now rule i)) }
+    ensures { OnOk result (found.new ≡ found.old ++ pairs_of rule (length plant.now.routes) i (breaks_columns_at_pair plant.now rule i)) }
 {
     for j in 0..plant.routes() {
         let entry = Broken {
@@ -130,19 +143,29 @@ fn push_pairs_of(
             first: i,
             second: Some(j),
         };
-        push_if(found, breaks_together(plant, rule, i, j), entry)?;
+        push_if(found, breaks_at_pair(plant, rule, i, j), entry)?;
     }
     Ok(())
 }
 
 // Adds the pairs of routes at which a rule of two places is broken.
 fn push_pairs(found: &mut Row<Broken>, plant: &Plant, rule: Rule) -> Result<(), AllocError>
-    ensures { OnOk result (found.new ≡ found.old ++ broken_at_pairs rule (length plant.now.routes) (breaks_together plant.now rule)) }
+    ensures { OnOk result (found.new ≡ found.old ++ broken_at_pairs rule (length plant.now.routes) (breaks_columns_at_pair plant.now rule)) }
 {
     for i in 0..plant.routes() {
         push_pairs_of(found, plant, rule, i)?;
     }
     Ok(())
+}
+
+// Adds a rule at each of its places at which it is broken.
+fn push_rule(found: &mut Row<Broken>, plant: &Plant, rule: Rule) -> Result<(), AllocError>
+    ensures { OnOk result (found.new ≡ found.old ++ column_rule_broken plant.now rule) }
+{
+    match rule.places() {
+        Places::RoutePairs => push_pairs(found, plant, rule),
+        _ => push_places(found, plant, rule),
+    }
 }
 
 /// All broken rules of the columns of a plant's table of routes, C1 to C7, in the order of the
@@ -151,12 +174,8 @@ pub fn check_columns(alloc: Global, plant: &Plant) -> Result<Row<Broken>, AllocE
     ensures { IfOk result (λ found. found ≡ column_rules_broken plant.now) }
 {
     let mut found = Row::new(alloc);
-    push_places(&mut found, plant, Rule::C1)?;
-    push_places(&mut found, plant, Rule::C2)?;
-    push_places(&mut found, plant, Rule::C3)?;
-    push_places(&mut found, plant, Rule::C4)?;
-    push_pairs(&mut found, plant, Rule::C5)?;
-    push_pairs(&mut found, plant, Rule::C6)?;
-    push_places(&mut found, plant, Rule::C7)?;
+    for rule in &COLUMN_RULES {
+        push_rule(&mut found, plant, *rule)?;
+    }
     Ok(found)
 }

@@ -1,5 +1,5 @@
-//! The static checks of a table of routes: its rules R1 to R6 over the drafts (`check_table`), and
-//! the rules C1 to C7 of its columns over the plant (`check_columns`), which is made between the
+//! The static checks of a table of routes: its rules (R) over the drafts (`check_table`), and
+//! the rules of its columns (C) over the plant (`check_columns`), which is made between the
 //! two. Each gives the whole list of the rules that are broken, each at every place, in order.
 #![tactic(auto)]
 

@@ -1,16 +1,18 @@
 ghost use Rattle.std.specs.Prelude.{◌≡◌, ◌==◌, ◌&&◌, ◌<◌, ◌++◌, IfOk, OnOk, length, map};
 ghost use Rattle.std.specs.List.{list_all, list_any};
-ghost use Rattle.ilk_plant.specs.Broken.{broken_at};
+ghost use Rattle.ilk_plant.specs.Broken.{broken_at, places_of};
 ghost use Rattle.ilk_plant.specs.Network.{has_section};
 ghost use Rattle.ilk_plant.specs.Limits.{HasLimits};
 ghost use Rattle.ilk_plant.specs.Plant.{is_point_section};
-ghost use Rattle.ilk_plant.specs.TableRules.{has_conflicts_once, has_destination_or_none, has_points_once, has_sections_once, is_other_route, is_section, points_of, routes_broken, sections_of, table_rules_broken};
+ghost use Rattle.ilk_plant.specs.TableRules.{breaks_table, count_in_plant, has_conflicts_once, has_destination_or_none, has_points_once, has_sections_once, is_other_route, is_section, points_of, routes_broken, sections_of, table_rules_broken};
 ghost use Rattle.ilk_plant.specs.Once.{none_twice};
-ghost use Rattle.ilk_table_check.specs.Table.{breaks_table};
 
 use crate::listed::is_listed;
 use ilk_plant::{Broken, Listed, NetDraft, Numbered, Route, Row, Rule, TableDraft, push_if};
 use std::alloc::{AllocError, Global};
+
+// The rules of the table, in order.
+const TABLE_RULES: [Rule; 6] = [Rule::R1, Rule::R2, Rule::R3, Rule::R4, Rule::R5, Rule::R6];
 
 // Whether the numbers have this one.
 fn is_among(x: u32, numbers: &[u32]) -> bool
@@ -137,28 +139,28 @@ fn has_conflicts_once(plant: &Numbered, i: u32, route: &Route) -> bool
     are_other_routes(plant, i, &route.conflicts) && none_twice(route.conflicts.as_slice())
 }
 
-// Whether a rule of the table is broken at route `i`.
+// Whether a rule of the table is broken at its place `i`.
 fn breaks_table(plant: &Numbered, rule: Rule, i: u32) -> bool
-    requires { i < length plant.now.routes }
+    requires { i < count_in_plant plant.now (places_of rule) }
     ensures { result ≡ breaks_table plant.now rule i }
 {
-    let route = plant.route(i);
     match rule {
         Rule::R1 => plant.is_named_before(i),
-        Rule::R2 => !plant.is_board(route.source),
-        Rule::R3 => !has_sections_once(plant, route),
-        Rule::R4 => !has_points_once(plant, route),
-        Rule::R5 => !has_destination_or_none(plant, route.destination),
-        Rule::R6 => !has_conflicts_once(plant, i, route),
+        Rule::R2 => !plant.is_board(plant.route(i).source),
+        Rule::R3 => !has_sections_once(plant, plant.route(i)),
+        Rule::R4 => !has_points_once(plant, plant.route(i)),
+        Rule::R5 => !has_destination_or_none(plant, plant.route(i).destination),
+        Rule::R6 => !has_conflicts_once(plant, i, plant.route(i)),
         _ => false,
     }
 }
 
-// Adds the routes at which a rule of the table is broken.
-fn push_routes(found: &mut Row<Broken>, plant: &Numbered, rule: Rule) -> Result<(), AllocError>
-    ensures { OnOk result (found.new ≡ found.old ++ broken_at rule (length plant.now.routes) (breaks_table plant.now rule)) }
+// Adds a rule of the table at each of its places at which it is broken.
+fn push_rule(found: &mut Row<Broken>, plant: &Numbered, rule: Rule) -> Result<(), AllocError>
+    ensures { OnOk result (found.new ≡ found.old
+        ++ broken_at rule (count_in_plant plant.now (places_of rule)) (breaks_table plant.now rule)) }
 {
-    for i in 0..plant.routes() {
+    for i in 0..plant.count(rule.places()) {
         let entry = Broken {
             rule,
             first: i,
@@ -174,12 +176,9 @@ fn broken_routes(alloc: Global, plant: &Numbered) -> Result<Row<Broken>, AllocEr
     ensures { IfOk result (λ found. found ≡ routes_broken plant.now) }
 {
     let mut found = Row::new(alloc);
-    push_routes(&mut found, plant, Rule::R1)?;
-    push_routes(&mut found, plant, Rule::R2)?;
-    push_routes(&mut found, plant, Rule::R3)?;
-    push_routes(&mut found, plant, Rule::R4)?;
-    push_routes(&mut found, plant, Rule::R5)?;
-    push_routes(&mut found, plant, Rule::R6)?;
+    for rule in &TABLE_RULES {
+        push_rule(&mut found, plant, *rule)?;
+    }
     Ok(found)
 }
 

@@ -1,8 +1,8 @@
 ghost use Rattle.std.specs.Prelude.{◌≡◌, ◌++◌, IfOk, codes, string_bytes};
-ghost use Rattle.ilk_top.specs.Refusal.{form_name, place_text, places_text, broken_places, entry_text, refusal_line, rule_name};
+ghost use Rattle.ilk_top.specs.Refusal.{form_name, place_text, broken_places, entry_text, refusal_line};
 
 use ilk_net_read::{Form, FormFault, Place};
-use ilk_plant::{Broken, Rule};
+use ilk_plant::{Broken, Worded};
 use std::alloc::{AllocError, Global};
 
 /// Why a configuration is refused.
@@ -25,58 +25,6 @@ fn form_name(form: Form) -> &'static str
         Form::F4 => "F4",
         Form::F5 => "F5",
         Form::F6 => "F6",
-    }
-}
-
-// The name of a rule of the network or of the table.
-fn rule_name(rule: Rule) -> &'static str
-    ensures { result.now ≡ rule_name rule }
-{
-    match rule {
-        Rule::N1 => "N1",
-        Rule::N2 => "N2",
-        Rule::N3 => "N3",
-        Rule::N4 => "N4",
-        Rule::N5 => "N5",
-        Rule::N6 => "N6",
-        Rule::N7 => "N7",
-        Rule::N8 => "N8",
-        Rule::R1 => "R1",
-        Rule::R2 => "R2",
-        Rule::R3 => "R3",
-        Rule::R4 => "R4",
-        Rule::R5 => "R5",
-        Rule::R6 => "R6",
-        Rule::C1 => "C1",
-        Rule::C2 => "C2",
-        Rule::C3 => "C3",
-        Rule::C4 => "C4",
-        Rule::C5 => "C5",
-        Rule::C6 => "C6",
-        Rule::C7 => "C7",
-    }
-}
-
-// What the places of a rule are.
-fn places_of(rule: Rule) -> &'static str
-    ensures { result.now ≡ places_text rule }
-{
-    match rule {
-        Rule::N2 => "boards",
-        Rule::N1 | Rule::N3 | Rule::N4 | Rule::N5 | Rule::N6 | Rule::N7 | Rule::N8 | Rule::C7 =>
-            "sections",
-        Rule::R1
-        | Rule::R2
-        | Rule::R3
-        | Rule::R4
-        | Rule::R5
-        | Rule::R6
-        | Rule::C1
-        | Rule::C2
-        | Rule::C3
-        | Rule::C4
-        | Rule::C5
-        | Rule::C6 => "routes",
     }
 }
 
@@ -103,7 +51,7 @@ fn entry_text(alloc: Global, places: &str, i: u32) -> Result<String, AllocError>
 fn broken_text(alloc: Global, broken: Broken) -> Result<String, AllocError>
     ensures { IfOk result (λ text. string_bytes text ≡ broken_places broken) }
 {
-    let places = places_of(broken.rule);
+    let places = broken.rule.places().word();
     let first = entry_text(alloc, places, broken.first)?;
     match broken.second {
         None => Ok(first),
@@ -127,7 +75,7 @@ pub fn refusal_line(alloc: Global, refusal: Refusal) -> Result<String, AllocErro
 {
     let (rule, place) = match refusal {
         Refusal::Form(fault) => (form_name(fault.rule), place_text(alloc, fault.place)?),
-        Refusal::Rule(broken) => (rule_name(broken.rule), broken_text(alloc, broken)?),
+        Refusal::Rule(broken) => (broken.rule.word(), broken_text(alloc, broken)?),
     };
     let place = place.as_str();
     format!(in alloc; "refused {rule} {place}\n")

@@ -1,8 +1,17 @@
-use Rattle.ilk_net_check.proofs.Numbered.{rules-joined}
+use Rattle.std.proofs.Common.{◌≡◌, ◌∙◌, ap, arith}
+use Rattle.std.proofs.lemmas.List.{take_all}
+use Rattle.ilk_base.proofs.FlatMaps.{flat_map-grows}
+use Rattle.ilk_net_check.proofs.Returning.{listed-walks}
+use Rattle.ilk_plant.specs.Broken.{broken_at, each_broken_at, places_of}
+use Rattle.ilk_plant.specs.NetworkRules.{breaks_network, count_in_network, network_rules, network_rules_broken}
 use Rattle.ilk_net_check.proofs.rules.check_network.Goals as goal
 
-pub returns : goal.returns
-returns c =
-    let network = c.in_ok-network.network in
-    let of = c.in_ok-network.ensures in
-    rules-joined c.args.net.now network.net.now network.section_names network.board_names network.ends network.leads of.net of.section_names of.board_names of.ends of.leads c.push_broken.new.broken c.push_broken-2.new.broken c.push_broken-3.new.broken c.push_broken-4.new.broken c.push_broken-5.new.broken c.push_broken-6.new.broken c.push_broken-7.new.broken c.push_broken-8.new.broken c.len-sections.result c.len-boards.result c.len-sections.ensures c.len-boards.ensures.count (rw c.new-broken.ensures at c.in_ok-push_broken.ensures) c.in_ok-push_broken-2.ensures c.in_ok-push_broken-3.ensures c.in_ok-push_broken-4.ensures c.in_ok-push_broken-5.ensures c.in_ok-push_broken-6.ensures c.in_ok-push_broken-7.ensures c.in_ok-push_broken-8.ensures
+pub loop-rule-preserved : goal.loop-rule-preserved
+loop-rule-preserved c =
+    flat_map-grows (λ rule. broken_at rule (count_in_network c.args.net.now (places_of rule)) (breaks_network c.args.net.now rule)) network_rules c.loop-rule.rule-index _ c.loop-rule.broken c.push_broken.new.broken c.loop-rule-test.true c.loop-rule.invariant (rw c.in_ok-network.ensures.net at c.in_ok-push_broken.ensures)
+
+pub returns-clause-walks : goal.returns-clause-walks
+returns-clause-walks c x =
+    let whole : c.loop-rule.broken ≡ network_rules_broken c.args.net.now =
+    c.loop-rule.invariant ∙ ap (λ asked. each_broken_at asked (count_in_network c.args.net.now) (breaks_network c.args.net.now)) (take_all c.loop-rule.rule-index network_rules (omega (arith, c.loop-rule-test.false))) in
+    listed-walks c.args.net.now x c.loop-rule.broken whole
