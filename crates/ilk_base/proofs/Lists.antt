@@ -79,10 +79,6 @@ slice_get-set_other (x ∷ xs) zero (suc j) y apart = refl
 slice_get-set_other (x ∷ xs) (suc i) zero y apart = refl
 slice_get-set_other (x ∷ xs) (suc i) (suc j) y apart = slice_get-set_other xs i j y (λ e. apart (ap suc e))
 
--- what is left of a list begins with the item at its number
-pub drop-next : {X : Type 0} (xs : List X) (i : ℕ) (d : X) → i < length xs → drop i xs ≡ get_or xs i d ∷ drop (i + 1) xs
-drop-next xs i d h = let e : suc i ≡ i + 1 = omega arith in rw (← e) (drop-cons xs i d h)
-
 -- two lists are one if they have the same at each number
 pub same_by_slice_get : {X : Type 0} (xs ys : List X) → ((i : ℕ) → slice_get xs i ≡ slice_get ys i) → xs ≡ ys
 same_by_slice_get [] [] same = refl
@@ -141,3 +137,8 @@ slice_get-push_cases [] y x (suc i) h = absurd (cc)
 slice_get-push_cases (a ∷ xs) y x zero h = inl h
 slice_get-push_cases (a ∷ xs) y x (suc i) h =
     elim (slice_get-push_cases xs y x i h) [ inl p ↦ inl p | inr p ↦ inr (ap suc p.0, p.1) ]
+
+-- what is left past the images of a list is what stands after them
+pub drop-mapped : {A B : Type 0} (f : A → B) (xs : List A) (rest : List B) → drop (length xs) (map f xs ++ rest) ≡ rest
+drop-mapped f [] rest = refl
+drop-mapped f (x ∷ xs) rest = drop-mapped f xs rest

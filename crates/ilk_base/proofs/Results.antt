@@ -1,5 +1,5 @@
 -- What is known of a result, and of steps one after another.
-use Rattle.std.proofs.Common.{◌≡◌, Result, Ok, Err, refl}
+use Rattle.std.proofs.Common.{◌≡◌, List, [], ◌∷◌, ◌++◌, Result, Ok, Err, refl, ap, sym, append_assoc}
 use Rattle.ilk_base.specs.Result.{◌>>=◌}
 
 pub ok_is : {A E : Type 0} {x y : A} → ◌≡◌ {A = Result A E} (Ok x) (Ok y) → x ≡ y
@@ -20,3 +20,12 @@ bind_ok (Err fault) f y e = cc
 pub bind-assoc : {A B C E : Type 0} (r : Result A E) (f : A → Result B E) (g : B → Result C E) → ((r >>= f) >>= g) ≡ (r >>= (λ x. f x >>= g))
 bind-assoc (Ok x) f g = refl
 bind-assoc (Err fault) f g = refl
+
+-- a list that a fault may stand for, with items before it
+abbrev pub with_front : {A E : Type 0} → List A → Result (List A) E → Result (List A) E
+with_front front (Ok rest) = Ok (front ++ rest)
+with_front front (Err fault) = Err fault
+
+pub with_front-step : {A E : Type 0} (front : List A) (x : A) (r : Result (List A) E) → with_front front (r >>= λ rest. Ok (x ∷ rest)) ≡ with_front (front ++ x ∷ []) r
+with_front-step front x (Ok rest) = ap Ok (sym (append_assoc front (x ∷ []) rest))
+with_front-step front x (Err fault) = refl

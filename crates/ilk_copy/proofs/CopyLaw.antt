@@ -194,10 +194,6 @@ columns_step f g table whole column first range all rest split high is made h =
           ∙ ap (λ (rs : List ℕ). with_part f (columns_part rs first f.vars).part) (sym split),
     )
 
--- the next range of a list of numbers
-pub next_range : (xs : List ℕ) (i : ℕ) → i < length xs → drop i xs ≡ get_or xs i 0 ∷ drop (i + 1) xs
-next_range xs i h = drop-cons xs i 0 h ∙ ap (λ (n : ℕ). get_or xs i 0 ∷ drop n xs) (sym (add-one i))
-
 -- the same step, where the number of bits was counted
 pub columns_step_counted : (f g : Formula) (table whole : List Column) (column : Column) (first range count : ℕ) (all rest : List ℕ) → count ≡ bit_count range → all ≡ range ∷ rest → first + total_bits all ≤ f.vars + 1 → column ≡ (column_part first range f.vars).column → g ≡ with_part f (column_part first range f.vars).part → table ++ (columns_part all first f.vars).columns ≡ whole → (first + count + total_bits rest ≤ g.vars + 1) × ((table ++ column ∷ []) ++ (columns_part rest (first + count) g.vars).columns ≡ whole) × (with_part g (columns_part rest (first + count) g.vars).part ≡ with_part f (columns_part all first f.vars).part)
 columns_step_counted f g table whole column first range count all rest counted split high is made h =

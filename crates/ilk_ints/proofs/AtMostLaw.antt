@@ -3,6 +3,7 @@ use Rattle.std.proofs.Common.{◌≡◌, ◌==◌, ℕ, ◌+◌, ◌-◌, ◌/�
 use Rattle.std.specs.List.{list_any}
 use Rattle.std.proofs.lemmas.List.{append-nil}
 use Rattle.std.proofs.lemmas.Bool.{eqb-true, eq-eqb, ne_eqb, cases_eq, cases_lt, cases_order, lt-leb, le-leb, lt-ltb, le-ltb}
+use Rattle.std.proofs.Math.Nat.{pow-succ'}
 use Rattle.ilk_cnf.specs.Literal.{Literal, plus, minus}
 use Rattle.ilk_cnf.specs.Formula.{clause_in}
 use Rattle.ilk_cnf.specs.Truth.{value, is_true}
@@ -12,7 +13,6 @@ use Rattle.ilk_cnf.proofs.Parts.{value-new}
 use Rattle.ilk_cnf.proofs.Extending.{any_of-law, no_more_if, only_from_if}
 use Rattle.ilk_ints.specs.Bits.{bit_count, bits_of, bits_at}
 use Rattle.ilk_ints.specs.AtMost.{highest_bit_says, at_most_part, at_most_lit, at_most_bits}
-use Rattle.ilk_ints.proofs.BitsLaw.{pow-suc}
 
 -- an integer with more than one value has a bit
 pub bits_some : (range b : ℕ) → 1 < range → range ≤ 2 ^ b → 0 < b
@@ -32,15 +32,15 @@ highest_bit zero v a first less h =
     let here : first + 0 ≡ first = omega arith in
     ap (value a) here ∙ one ∙ (elim (cases_eq v 1) [
       | inl is ↦ (let odd : v % 2 ≡ 1 = omega arith in eq-eqb (v % 2) 1 odd ∙ sym (le-leb (2 ^ 0) v (omega arith)))
-      | inr other ↦ (let low : v < 1 = omega (arith, pow-suc 0) in ne_eqb (v % 2) 1 (λ e. absurd (omega arith)) ∙ sym (lt-leb (2 ^ 0) v (omega arith)))
+      | inr other ↦ (let low : v < 1 = omega (arith, pow-succ' 2 0) in ne_eqb (v % 2) 1 (λ e. absurd (omega arith)) ∙ sym (lt-leb (2 ^ 0) v (omega arith)))
     ])
 highest_bit (suc m) v a first less h =
     let rest : bits_at a (first + 1) (suc m) ≡ bits_of (suc m) (v / 2) = other_items (value a first) (v % 2 == 1) (bits_at a (first + 1) (suc m)) (bits_of (suc m) (v / 2)) h in
-    let step = highest_bit m (v / 2) a (first + 1) (omega (arith, pow-suc (suc m))) rest in
+    let step = highest_bit m (v / 2) a (first + 1) (omega (arith, pow-succ' 2 (suc m))) rest in
     let here : first + suc m ≡ first + 1 + m = omega arith in
     ap (value a) here ∙ step ∙ (elim (cases_lt v (2 ^ suc m)) [
-      | inl low ↦ lt-leb (2 ^ m) (v / 2) (omega (arith, pow-suc m)) ∙ sym (lt-leb (2 ^ suc m) v low)
-      | inr high ↦ le-leb (2 ^ m) (v / 2) (omega (arith, pow-suc m)) ∙ sym (le-leb (2 ^ suc m) v high)
+      | inl low ↦ lt-leb (2 ^ m) (v / 2) (omega (arith, pow-succ' 2 m)) ∙ sym (lt-leb (2 ^ suc m) v low)
+      | inr high ↦ le-leb (2 ^ m) (v / 2) (omega (arith, pow-succ' 2 m)) ∙ sym (le-leb (2 ^ suc m) v high)
     ])
 
 -- so where k + 1 is that half, it is false exactly up to k

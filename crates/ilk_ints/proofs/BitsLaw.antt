@@ -2,6 +2,8 @@
 use Rattle.std.proofs.Common.{◌≡◌, ◌==◌, ℕ, ◌+◌, ◌-◌, ◌*◌, ◌/◌, ◌%◌, ◌^◌, ◌<◌, ◌≤◌, zero, suc, Bool, true, false, not, ◌&&◌, List, [], ◌∷◌, ◌++◌, Some, length, cond, refl, inl, inr, sym, ap, ◌∙◌, subst, arith, eqb, leb, append_assoc}
 use Rattle.std.specs.List.{list_all, range_with_len, find}
 use Rattle.std.proofs.lemmas.Bool.{and_parts, and_from, eq-eqb, ne_eqb, cases_eq, false≢true, lt-leb, le-leb, lt-ltb}
+use Rattle.std.proofs.Math.Nat.{pow-succ'}
+use Rattle.ilk_base.proofs.Ranges.{find-least}
 use Rattle.ilk_cnf.specs.Literal.{Literal}
 use Rattle.ilk_cnf.specs.Formula.{clause_in}
 use Rattle.ilk_cnf.specs.Truth.{value, is_true}
@@ -12,24 +14,12 @@ use Rattle.ilk_ints.specs.Number.{value_lits, is_part, has_value}
 
 -- how many bits
 
--- the first number that passes
-find-first : (p : ℕ → Bool) (n a k : ℕ) → a ≤ k → k < a + n → ((b : ℕ) → a ≤ b → b < k → p b ≡ false) → p k ≡ true → find p (range_with_len a n) ≡ Some k
-find-first p zero a k low high none here = absurd (omega arith)
-find-first p (suc n) a k low high none here =
-    elim (cases_eq a k) [
-      | inl same ↦ (let at : p a ≡ true = ap p same ∙ here in rw at (ap Some same))
-      | inr other ↦ (let past : p a ≡ false = none a (omega arith) (omega arith) in rw past (find-first p n (a + 1) k (omega arith) (omega arith) (λ b x y. none b (omega arith) y) here))
-    ]
-
 pub bit_count-first : (range k : ℕ) → k < 8 → ((b : ℕ) → b < k → 2 ^ b < range) → range ≤ 2 ^ k → k ≡ bit_count range
 bit_count-first range k few below enough =
-    let found = find-first (λ b. leb range (2 ^ b)) 8 0 k (omega arith) (omega arith) (λ b _ less. lt-leb range (2 ^ b) (below b less)) (le-leb range (2 ^ k) enough) in
+    let found = find-least (λ b. leb range (2 ^ b)) 0 8 k (omega arith) (omega arith) (le-leb range (2 ^ k) enough) (λ b _ less. lt-leb range (2 ^ b) (below b less)) in
     rw found refl
 
 -- numbers and bits
-
-pub pow-suc : (b : ℕ) → 2 ^ suc b ≡ 2 * 2 ^ b
-pow-suc b = grind arith
 
 pub length-bits : (b v : ℕ) → length (bits_of b v) ≡ b
 length-bits zero v = refl
@@ -43,7 +33,7 @@ number_of (q ∷ qs) = cond q 1 0 + 2 * number_of qs
 pub number-bits : (b v : ℕ) → v < 2 ^ b → number_of (bits_of b v) ≡ v
 number-bits zero v h = omega arith
 number-bits (suc b) v h =
-    let rest = number-bits b (v / 2) (omega (arith, pow-suc b)) in
+    let rest = number-bits b (v / 2) (omega (arith, pow-succ' 2 b)) in
     elim (cases_eq (v % 2) 1) [
       | inl odd ↦ (let t = eq-eqb (v % 2) 1 odd in rw t (omega (arith, rest, odd)))
       | inr even ↦ (let t = ne_eqb (v % 2) 1 even in rw t (omega (arith, rest, even)))
@@ -51,8 +41,8 @@ number-bits (suc b) v h =
 
 pub number-less : (qs : List Bool) → number_of qs < 2 ^ length qs
 number-less [] = omega arith
-number-less (true ∷ qs) = let h = number-less qs in omega (arith, pow-suc (length qs))
-number-less (false ∷ qs) = let h = number-less qs in omega (arith, pow-suc (length qs))
+number-less (true ∷ qs) = let h = number-less qs in omega (arith, pow-succ' 2 (length qs))
+number-less (false ∷ qs) = let h = number-less qs in omega (arith, pow-succ' 2 (length qs))
 
 -- the bits of twice a number and one bit
 pub bits-twice : (b v : ℕ) (q : Bool) → bits_of (suc b) (2 * v + cond q 1 0) ≡ q ∷ bits_of b v

@@ -4,6 +4,7 @@ use mir.Val.{bool_byte}
 use Rattle.std.specs.List.{list_all, range_with_len}
 use Rattle.std.proofs.Math.Pow.{pow_mono}
 use Rattle.std.proofs.lemmas.Bool.{and_parts, and_from, ne_eqb, cases_eq, cases_lt, false≢true}
+use Rattle.std.proofs.Math.Nat.{pow-succ'}
 use Rattle.ilk_cnf.specs.Literal.{Literal, opposite}
 use Rattle.ilk_cnf.specs.Formula.{Formula, grown, as_clause, clause_in, clauses_in}
 use Rattle.ilk_cnf.specs.Truth.{value, some_true, satisfies}
@@ -13,7 +14,7 @@ use Rattle.ilk_cnf.proofs.Parts.{value-new}
 use Rattle.ilk_cnf.proofs.Gates.{some_true-opposites, opposites-in, satisfies-as_clauses}
 use Rattle.ilk_ints.specs.Bits.{bit_count, bits_of, bits_at, bit_lits, same_bits}
 use Rattle.ilk_ints.specs.Number.{value_lits, ruled_out, number_part, has_value, IsValue}
-use Rattle.ilk_ints.proofs.BitsLaw.{number_of, number-less, number-bits, bits-number, bits-twice, pow-suc, length-bits, same_bits-self, bits-test, value_lits-say, value_lits-in}
+use Rattle.ilk_ints.proofs.BitsLaw.{number_of, number-less, number-bits, bits-number, bits-twice, length-bits, same_bits-self, bits-test, value_lits-say, value_lits-in}
 
 -- numbers from a on
 
@@ -130,7 +131,7 @@ value_step a first count k v q less few is bits small =
     ap (λ (u : ℕ). bits_of (suc k) (2 * v + u)) is ∙ bits-twice k v (value a f) ∙ ap (λ (u : List Bool). value a f ∷ u) (bits ∙ ap (λ (g : ℕ). bits_at a g k) next)
     ∙ ap (λ (g : ℕ). bits_at a g (suc k)) here in
     let one : q ≤ 1 = rw is (at_most_one (value a f)) in
-    let fits : 2 * v + q < 2 ^ suc k = omega (arith, pow-suc k, small, one) in
+    let fits : 2 * v + q < 2 ^ suc k = omega (arith, pow-succ' 2 k, small, one) in
     let upto : suc k ≤ 8 = omega (arith, less, few) in
     let high : 2 ^ suc k ≤ 2 ^ 8 = pow_mono upto in
     (rw add-one at, rw add-one fits, omega (arith, fits, high))

@@ -38,8 +38,3 @@ leading_back value line_of [] last rest told none = ap (λ o. onto o (leading va
 leading_back value line_of (v ∷ values) last rest told none =
     ap (λ o. onto o (leading value (map line_of values ++ last ∷ rest))) (told zero v (omega arith))
     ∙ ap (λ vs. v ∷ vs) (leading_back value line_of values last rest (λ k d within. told (suc k) d (omega arith)) none)
-
--- and what is left after them is left
-pub past_lines : {A : Type 0} (line_of : A → Bytes) (values : List A) (rest : List Bytes) → drop (length values) (map line_of values ++ rest) ≡ rest
-past_lines line_of [] rest = refl
-past_lines line_of (v ∷ values) rest = past_lines line_of values rest

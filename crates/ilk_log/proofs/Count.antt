@@ -8,6 +8,7 @@ use Rattle.std.proofs.lemmas.List.{length-map}
 use Rattle.std.proofs.lemmas.List.Sums.{length-filter}
 use Rattle.std.proofs.lemmas.Map.Steps.{length-le_from_distinct_below}
 use Rattle.std.proofs.lemmas.Map.Keys.{IsDistinct-cons}
+use Rattle.std.proofs.Math.Nat.{pow-succ'}
 use Rattle.ilk_base.proofs.Lists.{at-before}
 use Rattle.ilk_base.proofs.Tested.{list_any-from}
 use Rattle.ilk_cnf.specs.Literal.{Literal, plus, minus, opposite, same_lit, has_lit, has_var, vars_differ}
@@ -34,12 +35,9 @@ digit-small c v = go (has_lit (plus v) c) (has_lit (minus v) c)
     go false true = omega arith
     go false false = omega arith
 
-pow-next : (n : ℕ) → 3 ^ suc n ≡ 3 * 3 ^ n
-pow-next n = grind arith
-
 code-below : (n : ℕ) (c : List Literal) → code n c < 3 ^ n
 code-below zero c = omega arith
-code-below (suc n) c = omega (arith, code-below n c, digit-small c (suc n), pow-next n)
+code-below (suc n) c = omega (arith, code-below n c, digit-small c (suc n), pow-succ' 3 n)
 
 -- equal codes have equal digits
 digits-same : (n v : ℕ) (c d : List Literal) → code n c ≡ code n d → 0 < v → v ≤ n → digit c v ≡ digit d v

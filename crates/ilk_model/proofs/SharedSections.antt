@@ -2,24 +2,18 @@
 use Rattle.std.proofs.Common.{◌≡◌, ◌≢◌, ℕ, ◌+◌, ◌*◌, ◌%◌, ◌^◌, ◌<◌, ◌≤◌, Bool, true, false, ◌==◌, ◌&&◌, ◌||◌, cond, List, [], ◌∷◌, count_by, get_or, length, max, min, nat_lt, take, refl, sym, ap, ◌∙◌, arith, subst}
 use Rattle.std.specs.Int.{bit_at, w128}
 use Rattle.std.specs.Int.Bits.{bit_and, bit_or}
+use Rattle.std.proofs.Math.Bool.{or-false}
 use Rattle.std.proofs.lemmas.Bool.Decides.{Decides-eqb, nat_tests}
 use Rattle.std.proofs.lemmas.List.{take_more}
 use Rattle.std.proofs.lemmas.List.Folds.{list_any-append}
 use Rattle.std.proofs.lemmas.List.Sums.{count_by_more_no, count_by_more_yes}
 use Rattle.std.proofs.lemmas.Nat.Bits.{bit_at_above, bit_at_and, bit_at_or, bit_at_set_other, bit_at_set_same}
+use Rattle.ilk_base.proofs.Truth.{or-true}
 use Rattle.ilk_plant.specs.Network.{has_section}
 
 -- the bit of a test
 abbrev pub bit : Bool → ℕ
 bit b = cond b 1 0
-
-or_true : (b : Bool) → (b || true) ≡ true
-or_true true = refl
-or_true false = refl
-
-or_false : (b : Bool) → (b || false) ≡ b
-or_false true = refl
-or_false false = refl
 
 -- one more section is set
 pub bit_set : (bits y x : ℕ) (h : Bool) → y < 128 → bit_at bits x ≡ bit h → bit_at (bit_or bits (1 * 2 ^ y % 2 ^ 128)) x ≡ bit (h || (y == x))
@@ -28,22 +22,22 @@ bit_set bits y x h below e = by_test (y == x) refl
     by_test : (b : Bool) → (y == x) ≡ b → bit_at (bit_or bits (1 * 2 ^ y % 2 ^ 128)) x ≡ bit (h || b)
     by_test true same =
         let P : ℕ → Type 0 = λ z. bit_at (bit_or bits (1 * 2 ^ y % 2 ^ 128)) z ≡ 1 in
-        subst P ((Decides-eqb y x).0 same) (bit_at_set_same w128 bits y below) ∙ ap bit (sym (or_true h))
+        subst P ((Decides-eqb y x).0 same) (bit_at_set_same w128 bits y below) ∙ ap bit (sym (or-true h))
     by_test false differs =
         let other : x ≢ y = λ equal. (let wrong : (y == x) ≡ true = (Decides-eqb y x).1 (sym equal) in absurd (cc)) in
-        bit_at_set_other w128 bits y below x other ∙ e ∙ ap bit (sym (or_false h))
+        bit_at_set_other w128 bits y below x other ∙ e ∙ ap bit (sym (or-false h))
 
 -- a section that is none
 pub bit_kept : (bits y x : ℕ) (h : Bool) → 128 ≤ y → x < 128 → bit_at bits x ≡ bit h → bit_at bits x ≡ bit (h || (y == x))
 bit_kept bits y x h past below e =
     let differs : (y == x) ≡ false = grind (arith, nat_tests) in
-    e ∙ ap bit (sym (or_false h)) ∙ ap (λ b. bit (h || b)) (sym differs)
+    e ∙ ap bit (sym (or-false h)) ∙ ap (λ b. bit (h || b)) (sym differs)
 
 -- the sections of a list with one more
 pub has_more : (x : ℕ) (sections : List ℕ) (i d : ℕ) → i < length sections → has_section x (take (i + 1) sections) ≡ (has_section x (take i sections) || (get_or sections i d == x))
 has_more x sections i d within =
     ap (has_section x) (take_more sections i d within) ∙ list_any-append (λ y. y == x) (take i sections) (get_or sections i d ∷ [])
-    ∙ ap (λ b. has_section x (take i sections) || b) (or_false (get_or sections i d == x))
+    ∙ ap (λ b. has_section x (take i sections) || b) (or-false (get_or sections i d == x))
 
 max_bits : (a b : Bool) → max (bit a) (bit b) ≡ bit (a || b)
 max_bits true true = refl
@@ -59,7 +53,7 @@ min_bits false false = refl
 
 -- whether there is one, and whether there are two, with one more
 some_more : (c : ℕ) → (nat_lt 0 c || true) ≡ nat_lt 0 (c + 1)
-some_more c = let more : nat_lt 0 (c + 1) ≡ true = grind (arith, nat_tests) in or_true (nat_lt 0 c) ∙ sym more
+some_more c = let more : nat_lt 0 (c + 1) ≡ true = grind (arith, nat_tests) in or-true (nat_lt 0 c) ∙ sym more
 
 two_more : (c : ℕ) → (nat_lt 1 c || (nat_lt 0 c && true)) ≡ nat_lt 1 (c + 1)
 two_more c = by_tests (nat_lt 1 c) (nat_lt 0 c) refl refl
@@ -84,7 +78,7 @@ module _ {T : Type 0} (has : T → Bool) (trains : List T) (i : ℕ) (d : T) (wi
     where
       by_test : (b : Bool) → has (get_or trains i d) ≡ b → bit (nat_lt 0 (count_by has (take i trains)) || b) ≡ bit (nat_lt 0 (count_by has (take (i + 1) trains)))
       by_test true e = ap bit (some_more (count_by has (take i trains)) ∙ ap (nat_lt 0) (sym (count_by_more_yes has trains i d within e)))
-      by_test false e = ap bit (or_false (nat_lt 0 (count_by has (take i trains))) ∙ ap (nat_lt 0) (sym (count_by_more_no has trains i d within e)))
+      by_test false e = ap bit (or-false (nat_lt 0 (count_by has (take i trains))) ∙ ap (nat_lt 0) (sym (count_by_more_no has trains i d within e)))
 
   pub shared_after : bit_at (bit_or shared (bit_and seen body)) x ≡ bit (nat_lt 1 (count_by has (take (i + 1) trains)))
   shared_after =

@@ -1,4 +1,5 @@
 pub mod Event
+pub mod EventWords
 pub mod Hazard
 pub mod Run
 pub mod Shared

@@ -3,12 +3,14 @@
 //!
 //! A run begins in a state, at the start by `start`, and goes on by `apply`, an event at a time;
 //! `hazard` tells whether a state has two trains in one section, or a train on a point that moves or
-//! lies wrongly. The definition of a run (`specs/Run.antt`) goes on only from states without hazard.
+//! lies wrongly. `Event` has its words for run texts. The definition of a run (`specs/Run.antt`) goes
+//! on only from states without hazard.
 #![tactic(auto)]
 
 mod event;
 mod hazards;
 mod shared;
+mod words;
 
 pub use event::{Event, apply};
 pub use hazards::{HazardAt, hazard};

@@ -5,20 +5,8 @@ use Rattle.serde_json.specs.Data.{Data, Items, item}
 use Rattle.serde_json.specs.View.{view, items_view}
 use Rattle.serde_json.specs.declared.value.Value.{Value}
 use Rattle.ilk_net_read.specs.declared.fault.FormFault.{FormFault}
-use Rattle.ilk_base.specs.Result.{◌>>=◌}
+use Rattle.ilk_base.proofs.Results.{with_front, with_front-step}
 use Rattle.ilk_net_read.specs.Network.{in_order}
-
-abbrev pub with_front : {A : Type 0} → List A → Result (List A) FormFault → Result (List A) FormFault
-with_front front (Ok rest) = Ok (front ++ rest)
-with_front front (Err fault) = Err fault
-
-pub with_front-none : {A : Type 0} (r : Result (List A) FormFault) → with_front [] r ≡ r
-with_front-none (Ok rest) = refl
-with_front-none (Err fault) = refl
-
-with_front-step : {A : Type 0} (front : List A) (x : A) (r : Result (List A) FormFault) → with_front front (r >>= λ rest. Ok (x ∷ rest)) ≡ with_front (front ++ x ∷ []) r
-with_front-step front x (Ok rest) = ap Ok (sym (append_assoc front (x ∷ []) rest))
-with_front-step front x (Err fault) = refl
 
 -- an entry that is read joins the front
 pub with_front-more : {A : Type 0} (one : ℕ → Data → Result A FormFault) (front : List A) (i : ℕ) (d : Data) (ds : Items) (x : A) → one i d ≡ Ok x

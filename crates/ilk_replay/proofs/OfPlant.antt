@@ -20,7 +20,7 @@ use Rattle.ilk_base.proofs.Results.{bind_ok, ok_is}
 use Rattle.ilk_base.proofs.Options.{bind_some, or_cases}
 use Rattle.ilk_lines.proofs.Leading.{leading_all}
 use Rattle.ilk_replay.specs.EventLine.{event_of, point_named}
-use Rattle.ilk_replay.specs.EventWords.{event_with}
+use Rattle.ilk_replay.specs.EventSubjects.{event_with}
 use Rattle.ilk_replay.specs.RunText.{run_text}
 use Rattle.ilk_replay.specs.StateLine.{board_told, lock_told, point_told, route_told, train_told}
 use Rattle.ilk_replay.specs.StateTold.{Beginning, point_sections, state_told}

@@ -15,7 +15,7 @@ use Rattle.ilk_plant.specs.declared.network.Section.{Section}
 use Rattle.ilk_model.specs.declared.event.Event.{Event}
 use Rattle.ilk_model.specs.declared.event.Event.TheVariants.{Mark, Allocate, Lock, Sense, Release, Finish, Throw, Settle, Enter, Head, Tail, Leave}
 use Rattle.ilk_replay.specs.EventLine.{event_of, event_told, point_named}
-use Rattle.ilk_replay.specs.EventWords.{event_with}
+use Rattle.ilk_replay.specs.EventSubjects.{event_with}
 use Rattle.ilk_replay.specs.RunText.{event_line, name_of}
 use Rattle.ilk_replay.specs.Writable.{IsAbout}
 use Rattle.ilk_replay.specs.declared.event_line.Subject.{Subject}

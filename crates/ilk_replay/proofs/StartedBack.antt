@@ -11,10 +11,12 @@ use Rattle.ilk_lines.specs.Lines.{Bytes, after_lines}
 use Rattle.ilk_lines.specs.Reading.{after_line, at_the_end}
 use Rattle.ilk_lines.specs.Written.{Lacks}
 use Rattle.ilk_lines.proofs.Lacking.{lacks_spaced}
-use Rattle.ilk_lines.proofs.Leading.{leading_back, past_lines}
+use Rattle.ilk_base.proofs.Lists.{drop-mapped}
+use Rattle.ilk_lines.proofs.Leading.{leading_back}
 use Rattle.ilk_lines.proofs.TextLines.{lines_back}
 use Rattle.ilk_replay.proofs.WordTables.{word_lacks, words_lack}
-use Rattle.ilk_replay.specs.EventWords.{event_with, event_word, events_about, subject}
+use Rattle.ilk_model.specs.EventWords.{event_word}
+use Rattle.ilk_replay.specs.EventSubjects.{event_with, events_about, subject}
 use Rattle.ilk_replay.specs.declared.event_line.Subject.{Subject}
 use Rattle.ilk_replay.specs.declared.event_line.Subject.TheVariants.{Route, Point, Section}
 use Rattle.ilk_replay.specs.EventLine.{event_of}
@@ -72,7 +74,7 @@ events_back p plant n events about =
     let lines : List Bytes = map (event_line p) events ++ codes "end" ∷ [] in
     let told : All (λ event. event_of p (event_line p event) ≡ Some event) events = λ k d within. event_back p plant (get_or events k d) (about k d within) in
     ap (λ (es : List Event). after_line (codes "end") (n + length es) (drop (length es) lines) >>= (λ more. at_the_end (n + length es + 1) more [] >>= (λ none. Ok es))) (leading_back (event_of p) (event_line p) events (codes "end") [] told refl)
-    ∙ ap (λ (ls : List Bytes). after_line (codes "end") (n + length events) ls >>= (λ more. at_the_end (n + length events + 1) more [] >>= (λ none. Ok events))) (past_lines (event_line p) events (codes "end" ∷ []))
+    ∙ ap (λ (ls : List Bytes). after_line (codes "end") (n + length events) ls >>= (λ more. at_the_end (n + length events + 1) more [] >>= (λ none. Ok events))) (drop-mapped (event_line p) events (codes "end" ∷ []))
 
 -- the run of these events from the start
 abbrev pub started : PlantLists → List Event → Told

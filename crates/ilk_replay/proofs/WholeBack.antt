@@ -8,7 +8,8 @@ use Rattle.ilk_lines.proofs.EachTold.{each_back, each_plain}
 use Rattle.ilk_base.proofs.Lists.{item_at}
 use Rattle.ilk_base.proofs.Ranges.{passing_within, range_within}
 use Rattle.ilk_lines.proofs.Lacking.{lacks_append, lacks_spaced}
-use Rattle.ilk_lines.proofs.Leading.{leading_back, past_lines}
+use Rattle.ilk_base.proofs.Lists.{drop-mapped}
+use Rattle.ilk_lines.proofs.Leading.{leading_back}
 use Rattle.ilk_lines.proofs.TextLines.{lines_back}
 use Rattle.std.specs.Fmt.{decimal}
 use Rattle.std.proofs.lemmas.List.Elements.{All-append, All-nil, All-cons}
@@ -93,7 +94,7 @@ state_back p plant plain s shape rest =
     ∙ ap (λ (z : Result (Part Hold) ℕ). z >>= with_locks p s.routes s.points s.boards) (each_back (lock_told p) (section_line p) (numbers_of p.sections) s.locks n3 (trains ++ last)
     (shape.locks ∙ sym (length-range_with_len 0 (length p.sections))) (λ i x v at here. lock_back p plant x v ((range_within (length p.sections) i x at).1)))
     ∙ ap (λ (ts : List Train). after_line (codes "events") (n4 + length ts) (drop (length ts) (trains ++ last)) >>= (λ more. Ok (made s.routes s.points s.boards s.locks ts (n4 + length ts + 1) more))) (leading_back (train_told p) (train_line p) s.trains (codes "events") rest (λ k d within. train_back p plant plain (get_or s.trains k d) (All-tested (is_body p) (λ t. is_body p t ≡ true) (λ t passes. passes) s.trains shape.bodies k d within)) refl)
-    ∙ ap (λ (ls : List Bytes). after_line (codes "events") (n4 + length s.trains) ls >>= (λ more. Ok (made s.routes s.points s.boards s.locks s.trains (n4 + length s.trains + 1) more))) (past_lines (train_line p) s.trains last)
+    ∙ ap (λ (ls : List Bytes). after_line (codes "events") (n4 + length s.trains) ls >>= (λ more. Ok (made s.routes s.points s.boards s.locks s.trains (n4 + length s.trains + 1) more))) (drop-mapped (train_line p) s.trains last)
 
 body_plain : (p : PlantLists) → HasPlainNames p → (body : List ℕ) → Lacks 10 (flat_map (λ x. 32 ∷ name_of p.section_names x) body)
 body_plain p plain [] = refl

@@ -3,7 +3,7 @@ use Rattle.std.proofs.Common.{◌≡◌, ℕ, Bool, true, false, ◌==◌, Optio
 use Rattle.std.specs.List.{list_all, list_any}
 use Rattle.std.specs.Prelude.{not}
 use Rattle.std.specs.Str.{bytes_eq}
-use Rattle.std.proofs.lemmas.Bool.{and_parts}
+use Rattle.std.proofs.lemmas.Bool.{and_parts, not-true}
 use Rattle.std.proofs.lemmas.Option.{same_Some}
 use Rattle.std.proofs.lemmas.Slice.Eq.{bytes_eq-Decides}
 use Rattle.ilk_base.specs.Words.{value_of_word}
@@ -41,12 +41,8 @@ each_passes : {A : Type 0} (test : A → Bool) (values : List A) → list_all te
 each_passes test [] all = tt
 each_passes test (x ∷ values) all = let parts = and_parts (test x) (list_all test values) all in (parts.0, each_passes test values parts.1)
 
-not_true : (b : Bool) → not b ≡ true → b ≡ false
-not_true true e = cc
-not_true false e = refl
-
 -- the word of a value that is read by it lacks what all words lack
 pub word_lacks : {A : Type 0} (c : ℕ) (word_of : A → Bytes) (values : List A) (v : A) → value_of_word word_of values (word_of v) ≡ Some v → words_lack c word_of values ≡ true → Lacks c (word_of v)
 word_lacks {A = A} c word_of values v e all =
     let test : A → Bool = λ w. not (list_any (λ b. b == c) (word_of w)) in
-    not_true _ (value_of_word-each (λ w. test w ≡ true) word_of values (word_of v) v (each_passes test values all) e)
+    not-true _ (value_of_word-each (λ w. test w ≡ true) word_of values (word_of v) v (each_passes test values all) e)

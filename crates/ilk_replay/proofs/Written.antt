@@ -16,7 +16,8 @@ use Rattle.ilk_plant.specs.Network.{is_point}
 use Rattle.ilk_plant.specs.Plant.{PlantLists, first_named}
 use Rattle.ilk_model.specs.declared.event.Event.{Event}
 use Rattle.ilk_replay.specs.EventLine.{event_of, event_told, point_named}
-use Rattle.ilk_replay.specs.EventWords.{event_with, event_word, events_about, subject}
+use Rattle.ilk_model.specs.EventWords.{event_word}
+use Rattle.ilk_replay.specs.EventSubjects.{event_with, events_about, subject}
 use Rattle.ilk_replay.specs.StateLine.{said_of}
 use Rattle.ilk_replay.specs.RunText.{event_line, name_of, subject_name}
 use Rattle.ilk_replay.specs.declared.event_line.Subject.{Subject}

@@ -1,4 +1,4 @@
-pub mod EventWords
+pub mod EventSubjects
 pub mod EventLine
 pub mod StateLine
 pub mod StateTold

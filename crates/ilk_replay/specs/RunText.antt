@@ -13,7 +13,8 @@ use Rattle.ilk_plant.specs.declared.state.RouteState.{RouteState}
 use Rattle.ilk_plant.specs.declared.state.State.{State}
 use Rattle.ilk_plant.specs.declared.state.Train.{Train}
 use Rattle.ilk_model.specs.declared.event.Event.{Event}
-use Rattle.ilk_replay.specs.EventWords.{event_word, subject}
+use Rattle.ilk_model.specs.EventWords.{event_word}
+use Rattle.ilk_replay.specs.EventSubjects.{subject}
 use Rattle.ilk_replay.specs.StateTold.{point_sections}
 use Rattle.ilk_plant.specs.Words.{aspect_word, direction_word, hold_word, lie_word, mode_word, position_word}
 use Rattle.ilk_replay.specs.declared.event_line.Subject.{Subject}

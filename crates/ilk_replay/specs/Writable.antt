@@ -5,7 +5,7 @@ use Rattle.ilk_plant.specs.Start.{start}
 use Rattle.ilk_plant.specs.Shape.{HasShape}
 use Rattle.ilk_model.specs.declared.event.Event.{Event}
 use Rattle.ilk_lines.specs.Lines.{Bytes}
-use Rattle.ilk_replay.specs.EventWords.{subject}
+use Rattle.ilk_replay.specs.EventSubjects.{subject}
 use Rattle.ilk_replay.specs.RunText.{run_text}
 use Rattle.ilk_replay.specs.Told.{tale_of}
 use Rattle.ilk_replay.specs.declared.event_line.Subject.{Subject}

@@ -1,9 +1,9 @@
 ghost use Rattle.std.specs.Prelude.{◌≡◌};
-ghost use Rattle.ilk_base.specs.Words.{value_of_word};
 ghost use Rattle.ilk_replay.specs.EventLine.{event_of, event_told};
-ghost use Rattle.ilk_replay.specs.EventWords.{event_with, event_word};
+ghost use Rattle.ilk_replay.specs.EventSubjects.{event_with};
 
 use crate::names::{point_named, route_named, section_named};
+use ilk_base::value_of_word;
 use ilk_lines::first_word;
 use ilk_model::Event;
 use ilk_plant::Plant;
@@ -16,42 +16,12 @@ pub(crate) enum Subject {
     Section(u32),
 }
 
-// The word of an event.
-fn event_word(event: Event) -> &'static [u8]
-    ensures { result.now ≡ event_word event }
-{
-    match event {
-        Event::Mark(_) => b"mark",
-        Event::Allocate(_) => b"allocate",
-        Event::Lock(_) => b"lock",
-        Event::Sense(_) => b"sense",
-        Event::Release(_) => b"release",
-        Event::Finish(_) => b"finish",
-        Event::Throw(_) => b"throw",
-        Event::Settle(_) => b"settle",
-        Event::Enter(_) => b"enter",
-        Event::Head(_) => b"head",
-        Event::Tail(_) => b"tail",
-        Event::Leave(_) => b"leave",
-    }
-}
-
-// The first of these events that has this word.
-fn among(events: &[Event], word: &[u8]) -> Option<Event>
-    ensures { result ≡ value_of_word event_word events.now word.now }
-{
-    events
-        .iter()
-        .copied()
-        .find(|event| word == event_word(*event))
-}
-
 // The event about this that has this word.
 fn event_with(word: &[u8], about: Subject) -> Option<Event>
     ensures { result ≡ event_with word.now about }
 {
     match about {
-        Subject::Route(r) => among(
+        Subject::Route(r) => value_of_word(
             &[
                 Event::Mark(r),
                 Event::Allocate(r),
@@ -62,8 +32,8 @@ fn event_with(word: &[u8], about: Subject) -> Option<Event>
             ],
             word,
         ),
-        Subject::Point(x) => among(&[Event::Throw(x), Event::Settle(x)], word),
-        Subject::Section(x) => among(
+        Subject::Point(x) => value_of_word(&[Event::Throw(x), Event::Settle(x)], word),
+        Subject::Section(x) => value_of_word(
             &[
                 Event::Enter(x),
                 Event::Head(x),

@@ -2,9 +2,9 @@
 //! done from a state.
 //!
 //! A run text has a line for each thing that it says, so its definition is put together from the
-//! parts of `ilk_lines`. `specs/EventWords` has the words of events, and `ilk_plant` those of modes, lies,
-//! locks and the like: one table for each kind of value, by which it is written and read, so that a
-//! new event or mode is a line there.
+//! parts of `ilk_lines`. `ilk_model` has the words of events, and `ilk_plant` those of modes, lies, locks
+//! and the like: one table for each kind of value, by which it is written and read, so that a new
+//! event or mode is a line there. `specs/EventSubjects` says what an event is about.
 //! `specs/RunText` says how the text of a run is written, `specs/Told` what a text tells, and
 //! `specs/Writable` and `specs/FirstBad` join the two: the law `texts_are_those_written` says that a
 //! text tells a run exactly where it is the one that is written for it, and that the bad line that is

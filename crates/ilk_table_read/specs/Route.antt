@@ -6,6 +6,7 @@ use Rattle.ilk_plant.specs.Words.{position_of_word}
 use Rattle.ilk_plant.specs.declared.draft.ListedDraft.{ListedDraft}
 use Rattle.ilk_plant.specs.declared.draft.RouteDraft.{RouteDraft}
 use Rattle.ilk_plant.specs.declared.network.Position.{Position}
+use Rattle.ilk_table_read.specs.declared.route.TheConstants.{ROUTE_MEMBERS}
 use Rattle.ilk_net_read.specs.Member.{has_members, text_at, optional_text_at, array_at, texts_at, each_as}
 
 -- the position in which a point is wanted
@@ -34,4 +35,4 @@ as_route d = do
   overlap ← texts_at (codes "overlap") d
   points ← points_at d
   conflicts ← texts_at (codes "conflicts") d
-  only_if (has_members 7 d) (record { name = name; source = source; destination = destination; path = path; overlap = overlap; points = points; conflicts = conflicts })
+  only_if (has_members ROUTE_MEMBERS d) (record { name = name; source = source; destination = destination; path = path; overlap = overlap; points = points; conflicts = conflicts })

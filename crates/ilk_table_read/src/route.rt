@@ -18,6 +18,9 @@ use ilk_plant::{ListedDraft, MAX_CONFLICTS, MAX_OVERLAP, MAX_PATH, MAX_POINTS, R
 use serde_json::Value;
 use std::alloc::Global;
 
+/// How many members a route has.
+pub(crate) const ROUTE_MEMBERS: usize = 7;
+
 fn route(alloc: Global, value: &Value) -> Result<RouteDraft, KindError>
     ensures { Reads result (spec.as_route (view value.now)) }
 {
@@ -28,7 +31,7 @@ fn route(alloc: Global, value: &Value) -> Result<RouteDraft, KindError>
     let overlap = texts_at(alloc, value, "overlap")?;
     let points = points_at(alloc, value)?;
     let conflicts = texts_at(alloc, value, "conflicts")?;
-    if !has_members(value, 7) {
+    if !has_members(value, ROUTE_MEMBERS) {
         return Err(KindError::WrongKind);
     }
     Ok(RouteDraft {

@@ -26,7 +26,8 @@ use Rattle.clap.specs.declared.builder.value_parser.ValueParser.TheVariants as p
 use Rattle.clap.specs.declared.error.kind.ErrorKind.{ErrorKind}
 use Rattle.clap.specs.declared.error.kind.ErrorKind.TheVariants as kind
 use Rattle.clap.specs.Words.{is_simple_and_free, new_app, with_rule}
-use Rattle.ilk_words.specs.Line.{app, columns_option, command_rule, held, option_rule, run_option}
+use Rattle.ilk_words.specs.Line.{app, command_rule, option_rule}
+use Rattle.ilk_words.specs.Options.{columns_option, held, run_option}
 use Rattle.ilk_words.specs.Places.{moved, moved_app, moved_rule, moved_rules, moved_shape}
 
 -- ---- one value

@@ -4,7 +4,7 @@ use Rattle.std.specs.Borrow.{Bor}
 use Rattle.clap.specs.Words.{App, Rule, Shape, Text}
 use Rattle.clap.specs.declared.builder.value_parser.ValueParser.{ValueParser}
 use Rattle.clap.specs.declared.builder.value_parser.ValueParser.TheVariants as parser
-use Rattle.ilk_words.specs.Line.{held}
+use Rattle.ilk_words.specs.Options.{held}
 
 -- the same parser, with its texts where the definition of the line has them
 abbrev pub moved : ValueParser → ValueParser

@@ -1,8 +1,9 @@
 //! What the words of the command line mean, read by `clap` as one simple command.
 //!
 //! `read_words` gives the command with its options, or none, which is a usage error; `names_of` gives
-//! the files that a command names, for the caller that opens them. The commands and their options
-//! are one table, `specs/Line.antt`, which the code hands to `clap`.
+//! the files that a command names, for the caller that opens them. `specs/Commands.antt` is the
+//! table of commands and `specs/Options.antt` that of options; `specs/Line.antt` is the line made of
+//! them, which the code hands to `clap`.
 #![tactic(auto)]
 
 mod command;

@@ -1,12 +1,17 @@
-ghost use Rattle.std.specs.Prelude.{◌≡◌, IfOk, map, string_bytes};
+//! What a line means: `chosen` finds the command by its name, and each command has a function that
+//! takes what the line has of its options.
+ghost use Rattle.std.specs.Prelude.{◌≡◌, ◌||◌, IfOk, is_none, map, string_bytes};
 ghost use Rattle.clap.specs.Words.{first_value, found_of};
-ghost use Rattle.ilk_words.specs.Words.{columns_named, command_of, command_on};
+ghost use Rattle.std.specs.List.{list_all, list_any};
+ghost use Rattle.std.specs.Str.{bytes_eq};
+ghost use Rattle.ilk_words.specs.Commands.{check_command, columns_of, replay_command};
+ghost use Rattle.ilk_words.specs.Words.{command_of, command_on, has_only, on_line};
 
-use crate::line::line_command;
+use crate::line::{CHECK, COLUMNS, OPTIONS, REPLAY, RUN, line_command};
 use crate::{Columns, Command};
 use clap::ArgMatches;
 use clap::error::ErrorKind;
-use ilk_base::Text;
+use ilk_base::{Text, Worded};
 use std::alloc::{AllocError, Global};
 
 /// What the words of the command line ask for, the program's name first. `None` where `clap`
@@ -28,25 +33,67 @@ pub fn read_words(alloc: Global, words: &Vec<String>) -> Result<Option<Command>,
 fn chosen(alloc: Global, matches: &ArgMatches<'_>) -> Result<Option<Command>, AllocError>
     ensures { IfOk result (λ c. c ≡ command_on (first_value (found_of matches.now))) }
 {
-    let Some(columns) = columns_named(matches.get_str("columns").unwrap_or("strict")) else {
-        return Ok(None);
-    };
-    match (matches.get_str("command"), matches.get_str("run")) {
-        (Some("check"), None) => Ok(Some(Command::Check { columns })),
-        (Some("replay"), Some(run)) => {
-            let run = Text::of(String::from_str(alloc, run)?);
-            Ok(Some(Command::Replay { columns, run }))
-        }
+    match matches.get_str("command") {
+        Some(CHECK) => Ok(check(matches)),
+        Some(REPLAY) => replay(alloc, matches),
         _ => Ok(None),
     }
 }
 
-fn columns_named(value: &str) -> Option<Columns>
-    ensures { result ≡ columns_named value.now }
+fn check(matches: &ArgMatches<'_>) -> Option<Command>
+    ensures { result ≡ on_line (first_value (found_of matches.now)) check_command }
 {
-    match value {
-        "strict" => Some(Columns::Strict),
-        "free" => Some(Columns::Free),
-        _ => None,
+    if !has_only(matches, &[COLUMNS]) {
+        return None;
     }
+    let columns = columns(matches)?;
+    Some(Command::Check { columns })
+}
+
+fn replay(alloc: Global, matches: &ArgMatches<'_>) -> Result<Option<Command>, AllocError>
+    ensures { IfOk result (λ c. c ≡ on_line (first_value (found_of matches.now)) replay_command) }
+{
+    if !has_only(matches, &[COLUMNS, RUN]) {
+        return Ok(None);
+    }
+    let (Some(columns), Some(run)) = (columns(matches), matches.get_str(RUN)) else {
+        return Ok(None);
+    };
+    let run = Text::of(String::from_str(alloc, run)?);
+    Ok(Some(Command::Replay { columns, run }))
+}
+
+// Whether no option is on the line but these.
+fn has_only(matches: &ArgMatches<'_>, own: &[&str]) -> bool
+    ensures { result ≡ has_only (first_value (found_of matches.now)) (λ name. list_any (λ o. bytes_eq name o.now) own.now) }
+{
+    each_allowed(matches, OPTIONS.as_slice(), own)
+}
+
+fn each_allowed(matches: &ArgMatches<'_>, options: &[&str], own: &[&str]) -> bool
+    ensures { result ≡ list_all (λ name. is_none (first_value (found_of matches.now) name.now) || list_any (λ o. bytes_eq name.now o.now) own.now) options.now }
+{
+    options
+        .iter()
+        .all(|option| is_allowed(matches, own, option))
+}
+
+// Whether an option isn't on the line, or is one of these.
+fn is_allowed(matches: &ArgMatches<'_>, own: &[&str], option: &str) -> bool
+    ensures { result ≡ (is_none (first_value (found_of matches.now) option.now) || list_any (λ o. bytes_eq option.now o.now) own.now) }
+{
+    matches.get_str(option).is_none() || is_among(own, option)
+}
+
+fn is_among(own: &[&str], option: &str) -> bool
+    ensures { result ≡ list_any (λ o. bytes_eq option.now o.now) own.now }
+{
+    own.iter().any(|name| option == *name)
+}
+
+fn columns(matches: &ArgMatches<'_>) -> Option<Columns>
+    ensures { result ≡ columns_of (first_value (found_of matches.now)) }
+{
+    let word = matches.get_str(COLUMNS).unwrap_or(Columns::Strict.word());
+    Columns::of_word(word.as_bytes())
 }

@@ -1,14 +1,15 @@
 use Rattle.std.proofs.Common.{◌∙◌, ◌+◌, ◌++◌, List, drop, get_or, ap, arith}
+use Rattle.std.proofs.lemmas.List.{drop_more}
 use Rattle.ilk_copy.specs.declared.copy.Column.{Column}
 use Rattle.ilk_copy.specs.Copy.{columns_part}
-use Rattle.ilk_copy.proofs.CopyLaw.{next_range, columns_step_counted, first_fits}
+use Rattle.ilk_copy.proofs.CopyLaw.{columns_step_counted, first_fits}
 use Rattle.ilk_copy.proofs.copy.add_columns.Goals as goal
 
 pub add_column-requires-clause-within : goal.add_column-requires-clause-within
 add_column-requires-clause-within c =
     let all = c.args.ranges.now in
     let i = c.loop-range.range-index in
-    first_fits c.loop-range.first (get_or all i 0) (c.loop-range.cnf.vars + 1) (drop i all) (drop (i + 1) all) (next_range all i c.loop-range-test.true) c.loop-range.invariant.within
+    first_fits c.loop-range.first (get_or all i 0) (c.loop-range.cnf.vars + 1) (drop i all) (drop (i + 1) all) (drop_more all i 0 c.loop-range-test.true) c.loop-range.invariant.within
 
 pub loop-range-preserved : goal.loop-range-preserved
 loop-range-preserved c =
@@ -16,7 +17,7 @@ loop-range-preserved c =
     let i = c.loop-range.range-index in
     let rest = drop (i + 1) all in
     let before = c.loop-range.invariant in
-    let next = columns_step_counted c.loop-range.cnf c.add_column.new.cnf c.loop-range.table (columns_part all c.args.first c.args.cnf.now.vars).columns c.in_ok-add_column.field-0 c.loop-range.first (get_or all i 0) c.bits.result (drop i all) rest c.bits.ensures.count (next_range all i c.loop-range-test.true) before.within c.in_ok-add_column.ensures.column c.in_ok-add_column.ensures.made before.table in
+    let next = columns_step_counted c.loop-range.cnf c.add_column.new.cnf c.loop-range.table (columns_part all c.args.first c.args.cnf.now.vars).columns c.in_ok-add_column.field-0 c.loop-range.first (get_or all i 0) c.bits.result (drop i all) rest c.bits.ensures.count (drop_more all i 0 c.loop-range-test.true) before.within c.in_ok-add_column.ensures.column c.in_ok-add_column.ensures.made before.table in
     record {
       from_1 = omega (arith, before.from_1);
       within = next.0;

@@ -3,7 +3,7 @@ use Rattle.std.specs.List.{list_all}
 use Rattle.serde_json.specs.View.{items_view}
 use Rattle.ilk_net_read.specs.Network.{in_order, section_of}
 use Rattle.ilk_plant.specs.Limits.{section_has_names}
-use Rattle.ilk_net_read.proofs.InOrder.{with_front}
+use Rattle.ilk_base.proofs.Results.{with_front}
 use Rattle.ilk_net_read.proofs.network.sections.Given as goal
 
 abbrev pub invariant-loop-i : goal.invariant-loop-i

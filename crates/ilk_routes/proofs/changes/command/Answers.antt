@@ -4,7 +4,7 @@ use Rattle.std.proofs.lemmas.List.{drop_all}
 use Rattle.ilk_routes.specs.Lies.{with_commands}
 use Rattle.ilk_routes.proofs.Commands.{with_commands-after, with_commands-none}
 use Rattle.ilk_routes.proofs.changes.command.Goals as goal
-use Rattle.ilk_base.proofs.Lists.{drop-next}
+use Rattle.std.proofs.lemmas.List.{drop_more}
 
 pub loop-listed-preserved : goal.loop-listed-preserved
 loop-listed-preserved c =
@@ -12,7 +12,7 @@ loop-listed-preserved c =
     let xs = c.as_slice-listed-items.result.now in
     let p = c.args.plant.now in
     let points = c.loop-listed.points in
-    let split = drop-next xs i _ (grind (arith, common_steps)) in
+    let split = drop_more xs i _ (grind (arith, common_steps)) in
     record {
       long = c.command_point.ensures.long ∙ c.loop-listed.invariant.long;
       rest = rw c.command_point.ensures.points (with_commands-after p points _ (drop (i + 1) xs) ∙ ap (with_commands p points) (sym split) ∙ c.loop-listed.invariant.rest);

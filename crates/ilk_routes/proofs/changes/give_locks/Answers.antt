@@ -4,7 +4,7 @@ use Rattle.std.proofs.lemmas.List.{drop_all}
 use Rattle.ilk_routes.specs.Locks.{with_locks}
 use Rattle.ilk_routes.proofs.Locks.{with_locks-first, with_locks-none}
 use Rattle.ilk_routes.proofs.changes.give_locks.Goals as goal
-use Rattle.ilk_base.proofs.Lists.{drop-next}
+use Rattle.std.proofs.lemmas.List.{drop_more}
 
 pub loop-x-preserved : goal.loop-x-preserved
 loop-x-preserved c =
@@ -12,7 +12,7 @@ loop-x-preserved c =
     let xs = c.as_slice-x-items.result.now in
     let hold = c.args.hold in
     let locks = c.loop-x.locks in
-    let split : drop i xs ≡ slice_index_or xs i 0 ∷ drop (i + 1) xs = drop-next xs i 0 (grind (arith, common_steps)) in
+    let split : drop i xs ≡ slice_index_or xs i 0 ∷ drop (i + 1) xs = drop_more xs i 0 (grind (arith, common_steps)) in
     record {
       long = length-set locks (slice_index_or xs i 0) hold ∙ c.loop-x.invariant.long;
       rest = with_locks-first locks (slice_index_or xs i 0) (drop (i + 1) xs) hold c.at_mut.result.now c.at_mut.ensures.value ∙ ap (λ left. with_locks locks left hold) (sym split) ∙ c.loop-x.invariant.rest;

@@ -2,7 +2,7 @@ use Rattle.std.proofs.Common.{◌≡◌, drop, length, true}
 use Rattle.std.specs.List.{list_all}
 use Rattle.serde_json.specs.View.{items_view}
 use Rattle.ilk_net_read.specs.Network.{in_order}
-use Rattle.ilk_net_read.proofs.InOrder.{with_front}
+use Rattle.ilk_base.proofs.Results.{with_front}
 use Rattle.ilk_plant.specs.Limits.{route_has_limits, route_has_names}
 use Rattle.ilk_table_read.specs.Table.{route_of}
 use Rattle.ilk_table_read.proofs.table.routes.Given as goal

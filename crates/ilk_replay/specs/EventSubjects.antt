@@ -1,9 +1,10 @@
--- The words of events, and what each event is about: by these an event's line is written, and read.
-use Rattle.std.specs.Prelude.{Option, List, [], ◌∷◌, codes}
+-- What each event is about: a route, the point on a section, or the trains at a section.
+use Rattle.std.specs.Prelude.{Option, List, [], ◌∷◌}
 use Rattle.ilk_lines.specs.Lines.{Bytes}
 use Rattle.ilk_base.specs.Words.{value_of_word}
 use Rattle.ilk_model.specs.declared.event.Event.{Event}
 use Rattle.ilk_model.specs.declared.event.Event.TheVariants.{Mark, Allocate, Lock, Sense, Release, Finish, Throw, Settle, Enter, Head, Tail, Leave}
+use Rattle.ilk_model.specs.EventWords.{event_word}
 use Rattle.ilk_replay.specs.declared.event_line.Subject.{Subject}
 use Rattle.ilk_replay.specs.declared.event_line.Subject.TheVariants.{Route, Point, Section}
 
@@ -27,20 +28,6 @@ abbrev pub events_about : Subject → List Event
 events_about (Route r) = Mark r ∷ Allocate r ∷ Lock r ∷ Sense r ∷ Release r ∷ Finish r ∷ []
 events_about (Point x) = Throw x ∷ Settle x ∷ []
 events_about (Section x) = Enter x ∷ Head x ∷ Tail x ∷ Leave x ∷ []
-
-abbrev pub event_word : Event → Bytes
-event_word (Mark r) = codes "mark"
-event_word (Allocate r) = codes "allocate"
-event_word (Lock r) = codes "lock"
-event_word (Sense r) = codes "sense"
-event_word (Release r) = codes "release"
-event_word (Finish r) = codes "finish"
-event_word (Throw x) = codes "throw"
-event_word (Settle x) = codes "settle"
-event_word (Enter x) = codes "enter"
-event_word (Head x) = codes "head"
-event_word (Tail x) = codes "tail"
-event_word (Leave x) = codes "leave"
 
 -- the event about this that has this word
 abbrev pub event_with : Bytes → Subject → Option Event

@@ -1,0 +1,26 @@
+//! The words by which run texts name events: one table, by which they are written and read.
+use crate::Event;
+use ilk_base::Worded;
+
+impl Worded for Event {
+    ghost use Rattle.ilk_model.specs.EventWords.{event_word};
+
+    ghost word_of = { event_word };
+
+    fn word(self) -> &'static str {
+        match self {
+            Event::Mark(_) => "mark",
+            Event::Allocate(_) => "allocate",
+            Event::Lock(_) => "lock",
+            Event::Sense(_) => "sense",
+            Event::Release(_) => "release",
+            Event::Finish(_) => "finish",
+            Event::Throw(_) => "throw",
+            Event::Settle(_) => "settle",
+            Event::Enter(_) => "enter",
+            Event::Head(_) => "head",
+            Event::Tail(_) => "tail",
+            Event::Leave(_) => "leave",
+        }
+    }
+}
