@@ -2,16 +2,17 @@
 use Rattle.std.proofs.Common.{◌≡◌, ◌≢◌, ℕ, zero, suc, ◌+◌, ◌*◌, ◌^◌, ◌<◌, ◌≤◌, inl, inr, true, false, ltb, leb, List, [], ◌∷◌, ◌++◌, length, get_or, set, map, refl, sym, ap, ◌∙◌, subst, arith, Some, length-append}
 use Rattle.std.specs.List.{slice_get}
 use Rattle.std.proofs.lemmas.Bool.{cases_Bool, and_parts, leb-true, eqb-false, or_parts, not-true}
-use Rattle.std.proofs.lemmas.List.{length-map}
+use Rattle.std.proofs.lemmas.List.{map-append, length-map}
+use Rattle.ilk_base.proofs.Lists.{slice_get-push_cases}
 use Rattle.ilk_cnf.specs.Literal.{Literal, has_var, vars_differ}
 use Rattle.ilk_cnf.specs.Formula.{lit_in, clause_in}
 use Rattle.ilk_arena.specs.Arena.{ArenaLists, place, stands_in, put_first, watched, added}
 use Rattle.ilk_arena.specs.Words.{Stands, upd}
 use Rattle.ilk_arena.specs.Linked.{lit_at, clause_at, cursor_at, chain_at, references_in, lists_of, Linked, Laid, Holds}
-use Rattle.ilk_arena.proofs.Blocks.{references-are, blocks-push, slice-of-push, stands-at}
+use Rattle.ilk_arena.proofs.Blocks.{references-are, blocks-push, stands-at}
 use Rattle.ilk_arena.proofs.Seen.{stands-from, lit-at-place, place-within, references-seen}
 use Rattle.ilk_arena.proofs.Adding.{block, appended, Joins, linked-push, added-long, added-short, stands-push, places-new}
-use Rattle.ilk_arena.proofs.Updates.{arena-ext, Gives, gives-set, gives-one, gives-seen, gives-as, map-same, map-push}
+use Rattle.ilk_arena.proofs.Updates.{arena-ext, Gives, gives-set, gives-one, gives-seen, gives-as, map-same}
 
 -- the places of literals, and the literals again
 pub round : (ls : List Literal) → map lit_at (map place ls) ≡ ls
@@ -41,7 +42,7 @@ laid-push ws hs refs ls a x b y k clause li la ke le vd =
     let ap1 = appended ws hs refs ls a x b y k li in
     record {
       blocks = blocks-push ws blk 1 refs (omega (arith, ap1.new_len)) la.blocks;
-      number = λ i d s. elim (slice-of-push refs c d i s) [
+      number = λ i d s. elim (slice_get-push_cases refs c d i s) [
         | inl q ↦ ap1.kept d 5 (stands-at refs i d q) (omega arith) ∙ la.number i d q
         | inr q ↦ (let P : ℕ → Type 0 = λ j. get_or us (j + 5) 0 ≡ i + 1 in subst P q.1 (ap1.new_number ∙ omega (arith, ke, q.0)))
       ];
@@ -81,8 +82,8 @@ grown-by vars spare old count ws hs ks x ls a al b bl cs h e vd j g =
     let new1 : Gives (lists_of vars spare us ks all).chains (length hs) (chain_at us ks) = record { size = new0.size ∙ j.heads; item = λ q l. new0.item q (omega (arith, j.heads)) } in
     let new2 = gives-as (lists_of vars spare us ks all).chains (length hs) (chain_at us ks) cs new1 r.1 in
     let chains : (lists_of vars spare us ks all).chains ≡ watched c ls (lists_of vars old ws hs refs).chains = gives-one (lists_of vars spare us ks all).chains (watched c ls (lists_of vars old ws hs refs).chains) (length hs) cs new2 g in
-    let clauses : map (clause_at us) all ≡ map (clause_at ws) refs ++ (ls ∷ []) = map-push (clause_at us) refs c ∙ ap (λ (cl : List (List Literal)). cl ++ (clause_at us c ∷ [])) (map-same (clause_at us) (clause_at ws) refs (λ d s. ap (λ (qs : List ℕ). map lit_at qs) (ap1.kept_places d s))) ∙ ap (λ (l : List Literal). map (clause_at ws) refs ++ (l ∷ [])) (ap (λ (qs : List ℕ). map lit_at qs) (places-new ws ps a al b bl (count + 1)) ∙ round ls) in
-    let cursors : map (cursor_at us) all ≡ map (cursor_at ws) refs ++ (0 ∷ []) = map-push (cursor_at us) refs c ∙ ap (λ (cu : List ℕ). cu ++ (cursor_at us c ∷ [])) (map-same (cursor_at us) (cursor_at ws) refs (λ d s. ap1.kept d 6 s (omega arith))) ∙ ap (λ (v : ℕ). map (cursor_at ws) refs ++ (v ∷ [])) ap1.new_cursor in
+    let clauses : map (clause_at us) all ≡ map (clause_at ws) refs ++ (ls ∷ []) = map-append (clause_at us) refs (c ∷ []) ∙ ap (λ (cl : List (List Literal)). cl ++ (clause_at us c ∷ [])) (map-same (clause_at us) (clause_at ws) refs (λ d s. ap (λ (qs : List ℕ). map lit_at qs) (ap1.kept_places d s))) ∙ ap (λ (l : List Literal). map (clause_at ws) refs ++ (l ∷ [])) (ap (λ (qs : List ℕ). map lit_at qs) (places-new ws ps a al b bl (count + 1)) ∙ round ls) in
+    let cursors : map (cursor_at us) all ≡ map (cursor_at ws) refs ++ (0 ∷ []) = map-append (cursor_at us) refs (c ∷ []) ∙ ap (λ (cu : List ℕ). cu ++ (cursor_at us c ∷ [])) (map-same (cursor_at us) (cursor_at ws) refs (λ d s. ap1.kept d 6 s (omega arith))) ∙ ap (λ (v : ℕ). map (cursor_at ws) refs ++ (v ∷ [])) ap1.new_cursor in
     let L = lists_of vars old ws hs refs in
     record {
       holds = record {

@@ -45,14 +45,6 @@ blocks-push ws xs k (c ∷ cs) n b =
     let l = length-append ws xs in
     (b.0, omega (arith, h, l, b.1), rw h (blocks-push ws xs (c + 7 + get_or ws c 0) cs n b.2))
 
--- a new reference is none of those before it
-pub slice-of-push : (xs : List ℕ) (y x : ℕ) (i : ℕ) → slice_get (xs ++ y ∷ []) i ≡ Some x → (slice_get xs i ≡ Some x) ⊎ ((i ≡ length xs) × (y ≡ x))
-slice-of-push [] y x zero h = inr (refl, cc)
-slice-of-push [] y x (suc i) h = absurd (cc)
-slice-of-push (a ∷ xs) y x zero h = inl h
-slice-of-push (a ∷ xs) y x (suc i) h =
-    elim (slice-of-push xs y x i h) [ inl p ↦ inl p | inr p ↦ inr (ap suc p.0, p.1) ]
-
 pub stands-at : (xs : List ℕ) (i x : ℕ) → slice_get xs i ≡ Some x → Stands xs x
 stands-at [] i x h = absurd (cc)
 stands-at (y ∷ xs) zero x h = inl cc

@@ -53,10 +53,6 @@ map-same f g [] e = refl
 map-same f g (x ∷ xs) e =
     ap (λ y. y ∷ map f xs) (e x (inl refl)) ∙ ap (λ ys. g x ∷ ys) (map-same f g xs (λ c s. e c (inr s)))
 
-pub map-push : {A : Type 0} (f : ℕ → A) (xs : List ℕ) (c : ℕ) → map f (xs ++ (c ∷ [])) ≡ map f xs ++ (f c ∷ [])
-map-push f [] c = refl
-map-push f (x ∷ xs) c = ap (λ ys. f x ∷ ys) (map-push f xs c)
-
 -- the words beside the chains stay
 pub laid-alike : (ws us refs : List ℕ) → Laid ws refs → Alike ws us refs → Laid us refs
 laid-alike ws us refs k a = record {

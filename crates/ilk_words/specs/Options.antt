@@ -1,4 +1,4 @@
--- The table of options: what each is called, what its values may be, and its default.
+-- The table of options: what each is called, what its values may be, and its default; and its value on a line.
 use Rattle.std.specs.Prelude.{Option, Some, None, List, [], ◌∷◌, codes, map}
 use Rattle.std.specs.Borrow.{Bor}
 use Rattle.std.specs.Option.{option_or}

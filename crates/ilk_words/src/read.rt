@@ -40,6 +40,7 @@ fn chosen(alloc: Global, matches: &ArgMatches<'_>) -> Result<Option<Command>, Al
     }
 }
 
+// Check, where no other option than its own is on the line.
 fn check(matches: &ArgMatches<'_>) -> Option<Command>
     ensures { result ≡ on_line (first_value (found_of matches.now)) check_command }
 {
@@ -50,6 +51,7 @@ fn check(matches: &ArgMatches<'_>) -> Option<Command>
     Some(Command::Check { columns })
 }
 
+// Replay, where its options are on the line and no other is.
 fn replay(alloc: Global, matches: &ArgMatches<'_>) -> Result<Option<Command>, AllocError>
     ensures { IfOk result (λ c. c ≡ on_line (first_value (found_of matches.now)) replay_command) }
 {
@@ -70,6 +72,7 @@ fn has_only(matches: &ArgMatches<'_>, own: &[&str]) -> bool
     each_allowed(matches, OPTIONS.as_slice(), own)
 }
 
+// Whether each of these options isn't on the line, or is one of a command's own.
 fn each_allowed(matches: &ArgMatches<'_>, options: &[&str], own: &[&str]) -> bool
     ensures { result ≡ list_all (λ name. is_none (first_value (found_of matches.now) name.now) || list_any (λ o. bytes_eq name.now o.now) own.now) options.now }
 {
@@ -85,12 +88,14 @@ fn is_allowed(matches: &ArgMatches<'_>, own: &[&str], option: &str) -> bool
     matches.get_str(option).is_none() || is_among(own, option)
 }
 
+// Whether an option is one of these.
 fn is_among(own: &[&str], option: &str) -> bool
     ensures { result ≡ list_any (λ o. bytes_eq option.now o.now) own.now }
 {
     own.iter().any(|name| option == *name)
 }
 
+// How strict the checks are to be: strict, where the line doesn't say.
 fn columns(matches: &ArgMatches<'_>) -> Option<Columns>
     ensures { result ≡ columns_of (first_value (found_of matches.now)) }
 {
