@@ -11,8 +11,9 @@ use std::fs::{File, Files};
 /// A source over a file that is opened through the runtime at the first call. It doesn't tell what is
 /// left.
 ///
-/// A refused opening is a failure, and the next call tries it again. A read that was interrupted is
-/// tried again at most 1000 times. Each failure is counted, up to the greatest `u64`.
+/// A refused opening is a failure, and the next call tries it again. Once open, the file stays open,
+/// also after a failure, and each read goes on where the one before it ended. A read that was
+/// interrupted is tried again at most 1000 times. Each failure is counted, up to the greatest `u64`.
 #[derive(Drop)]
 pub struct FileSource<'a, R: Files> {
     rt: &'a R,
@@ -41,7 +42,9 @@ impl<'a, R: Files> FileSource<'a, R> {
         ensures within { IfOk result (λ n. n ≤ length into.new) }
         ensures faults { self.new.faults ≡ self.old.faults }
         ensures opened { OnOk result (IsSome self.new.file) }
-        // Once the file is open, each read gives what the file has left.
+        // Once the file is open it stays open, and each read gives what the file has left.
+        ensures name { self.new.name ≡ self.old.name }
+        ensures stays { IsSome self.old.file → IsSome self.new.file }
         ensures bytes { IfSome self.old.file (λ old. IfSome self.new.file (λ new.
             ReadConsumes (R.File.remaining old) (R.File.remaining new) result into.new)) }
     {
@@ -64,9 +67,12 @@ impl<R: Files> Source for FileSource<'_, R> {
         ensures within { IfOk result (λ n. n ≤ length into.new) }
         ensures failed { OnErr result (Rose self.old.faults self.new.faults) }
         ensures faults { self.new.faults ≡ (if is_ok result then self.old.faults else one_more self.old.faults) }
+        ensures unraised { OnOk result (self.new.faults ≡ self.old.faults) }
         ensures counted { self.old.faults ≤ self.new.faults }
         ensures opened { OnOk result (IsSome self.new.file) }
-        // Once the file is open, each read gives what the file has left.
+        // Once the file is open it stays open, and each read gives what the file has left.
+        ensures name { self.new.name ≡ self.old.name }
+        ensures stays { IsSome self.old.file → IsSome self.new.file }
         ensures bytes { IfSome self.old.file (λ old. IfSome self.new.file (λ new.
             ReadConsumes (R.File.remaining old) (R.File.remaining new) result into.new)) }
     {

@@ -1,4 +1,4 @@
-ghost use Rattle.std.specs.Prelude.{◌≡◌, ℕ, ◌+◌, ◌^◌, ◌<◌, ◌≤◌, IfOk, IfErr, vec_len};
+ghost use Rattle.std.specs.Prelude.{◌≡◌, ◌≢◌, ℕ, ◌+◌, ◌^◌, ◌<◌, ◌≤◌, Err, IfOk, IfErr, vec_len};
 ghost use Rattle.ilk_io.specs.Source.{TakesAtMost, IsAtEnd, IsWhole};
 ghost use Rattle.ilk_io.specs.ReadError.{HasCause};
 
@@ -25,9 +25,10 @@ const PIECE: usize = 4096;
 
 /// Reads the source to its end, and answers all that was left of it, at most `limit` bytes.
 ///
-/// `Failed` comes where a call of the source failed, so only where its count of faults rose, and
-/// `TooLong` where more than `limit` bytes are there and no call failed first. At most `limit + 1`
-/// bytes are read, and after a refusal those that were read are gone from the source.
+/// `Failed` comes at the first call of the source that failed, so only where its count of faults
+/// rose, and `TooLong` where more than `limit` bytes are there and no call failed first. With every
+/// answer but `Failed` the count is as it was. At most `limit + 1` bytes are read, and after a
+/// refusal those that were read are gone from the source.
 pub fn read_all<S: Source>(alloc: Global, source: &mut S, limit: u64) -> Result<Vec<u8>, ReadError>
     requires { limit < 2 ^ 40 }
     ensures whole { IfOk result (λ v. IsWhole (S.left source.old) v.items) }
@@ -35,6 +36,7 @@ pub fn read_all<S: Source>(alloc: Global, source: &mut S, limit: u64) -> Result<
     ensures within { IfOk result (λ v. vec_len v ≤ limit) }
     ensures cause { IfErr result (λ e. HasCause e limit (S.left source.old) (S.faults source.old) (S.faults source.new)) }
     ensures taken { TakesAtMost (limit + 1) (S.left source.old) (S.left source.new) }
+    ensures unraised { result ≢ Err ReadError.Failed → S.faults source.new ≡ S.faults source.old }
     ensures counted { S.faults source.old ≤ S.faults source.new }
 {
     let mut bytes = Vec::new(alloc);

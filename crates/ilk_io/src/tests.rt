@@ -2,10 +2,11 @@
 ghost use Rattle.std.specs.Prelude.{◌^◌, ◌<◌};
 
 use crate::{
-    FileSource, MemSink, MemSource, ReadError, StdSink, StdSource, SteadySink, SteadySource,
-    read_all, write_all,
+    Failed, FileSource, MemSink, MemSource, ReadError, Sink, Source, StdSink, StdSource,
+    SteadySink, SteadySource, read_all, write_all,
 };
 use std::alloc::{AllocError, Global};
+use std::io::{ErrorKind, Read, Write};
 use std::rt::Files;
 use std::test::Fail;
 use std::{fs, io};
@@ -90,18 +91,70 @@ fn each_type_passes_the_bytes_on(rt: HostRuntime) -> Result<(), Fail> {
     Ok(())
 }
 
-fn make_file<R: Files>(rt: &R, name: &str) -> io::Result<()> {
-    fs::write(rt, name, "plant")
+// A reader and a writer whose calls are interrupted so many times, and then go well.
+#[derive(Drop)]
+struct Interrupted {
+    times: u64,
+}
+
+impl Interrupted {
+    fn call(&mut self) -> io::Result<()> {
+        if self.times == 0 {
+            return Ok(());
+        }
+        self.times -= 1;
+        Err(io::Error::from(ErrorKind::Interrupted))
+    }
+}
+
+impl Read for Interrupted {
+    fn read(&mut self, into: &mut [u8]) -> io::Result<usize> {
+        self.call()?;
+        let mut bytes = BYTES.as_slice();
+        bytes.read(into)
+    }
+}
+
+impl Write for Interrupted {
+    fn write(&mut self, piece: &[u8]) -> io::Result<usize> {
+        self.call()?;
+        Ok(piece.len())
+    }
+
+    fn flush(&mut self) -> io::Result<()> {
+        Ok(())
+    }
 }
 
 #[test]
-fn reads_a_file(rt: HostRuntime) -> Result<(), Fail> {
-    let name = "ilk_io_test";
-    make_file(&rt, name)?;
-    let there = read_file(rt.alloc(), &rt, name)?;
-    fs::remove_file(&rt, name)?;
-    assert_eq!(rt; there?.as_slice(), BYTES.as_slice());
-    let gone = read_file(rt.alloc(), &rt, name)?;
+fn tries_a_thousand_times_again(rt: HostRuntime) -> Result<(), Fail> {
+    for (times, wanted) in [(0, Ok(5)), (1000, Ok(5)), (1001, Err(Failed))] {
+        let mut piece = [0; 5];
+        let read = StdSource::new(Interrupted { times }).read(&mut piece);
+        assert_eq!(rt; read, wanted, "read at {times}");
+        let written = StdSink::new(Interrupted { times }).write(&BYTES);
+        assert_eq!(rt; written, wanted, "write at {times}");
+    }
+    Ok(())
+}
+
+fn make_file<R: Files>(rt: &R, name: &str, text: &str) -> io::Result<()> {
+    fs::write(rt, name, text)
+}
+
+#[test]
+fn reads_the_named_file(rt: HostRuntime) -> Result<(), Fail> {
+    let alloc = rt.alloc();
+    let names = ["ilk_io_test_1", "ilk_io_test_2"];
+    make_file(&rt, names[0], "plant")?;
+    make_file(&rt, names[1], "route")?;
+    let first = read_file(alloc, &rt, names[0])?;
+    let second = read_file(alloc, &rt, names[1])?;
+    fs::remove_file(&rt, names[0])?;
+    let gone = read_file(alloc, &rt, names[0])?;
+    fs::remove_file(&rt, names[1])?;
+    assert_eq!(rt; first?.as_slice(), b"plant".as_slice());
+    assert_eq!(rt; second?.as_slice(), b"route".as_slice());
     assert_eq!(rt; gone.err(), Some(ReadError::Failed));
     Ok(())
 }

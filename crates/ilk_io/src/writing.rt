@@ -6,12 +6,14 @@ use crate::{Failed, Sink};
 
 /// Writes the whole text to the sink.
 ///
-/// `Failed` comes where a call of the sink failed, so only where its count of faults rose, and then
-/// a prefix of the text was written. An empty text makes no call.
+/// `Failed` comes at the first call of the sink that failed, so only where its count of faults rose,
+/// and then a prefix of the text was written. With `Ok` the count is as it was. An empty text makes
+/// no call.
 pub fn write_all<K: Sink>(sink: &mut K, text: &[u8]) -> Result<(), Failed>
     ensures whole { OnOk result (Adds (K.written sink.old) (K.written sink.new) text.now) }
     ensures prefix { AddsPrefix (K.written sink.old) (K.written sink.new) text.now }
     ensures failed { OnErr result (Rose (K.faults sink.old) (K.faults sink.new)) }
+    ensures unraised { OnOk result (K.faults sink.new ≡ K.faults sink.old) }
     ensures counted { K.faults sink.old ≤ K.faults sink.new }
     ensures untouched { text.now ≡ [] → IsOk result × (sink.new ≡ sink.old) }
 {

@@ -1,2 +1,1 @@
-pub mod CheckReplies
-pub mod Statuses
+pub mod Ends

@@ -1,6 +1,5 @@
 -- What is answered to a configuration, and to what is read beside it.
-use Rattle.std.specs.Prelude.{ℕ, ◌≡◌, ◌⊎◌, Bool, false, Option, Some, None, Result, Ok, Err, List, [], ◌∷◌, length, flat_map, nat_lt, is_ok, if◌then◌else◌}
-use Rattle.ilk_io.specs.Source.{IsAtEnd, IsLonger}
+use Rattle.std.specs.Prelude.{ℕ, ◌≡◌, ◌++◌, Bool, false, Option, Some, None, IfSome, Result, Ok, Err, List, [], ◌∷◌, length, flat_map, nat_lt, is_ok, option_and_then, option_map, if◌then◌else◌}
 use Rattle.ilk_plant.specs.Plant.{PlantLists}
 use Rattle.ilk_plant.specs.Draft.{numbered}
 use Rattle.ilk_plant.specs.declared.broken.Broken.{Broken}
@@ -25,11 +24,10 @@ use Rattle.ilk_top.specs.Stages.{rules_broken}
 use Rattle.ilk_top.specs.Refusal.{refusal_line}
 use Rattle.ilk_top.specs.declared.refusal.Refusal.{Refusal}
 use Rattle.ilk_top.specs.declared.refusal.Refusal.TheVariants.{Form as FormRefusal, Rule as RuleRefusal}
+use Rattle.ilk_top.specs.declared.refusals.Refusals.{Refusals}
 use Rattle.ilk_top.specs.declared.reply.Reply.{Reply}
 use Rattle.ilk_top.specs.declared.status.Status.{Status}
 use Rattle.ilk_top.specs.declared.status.Status.TheVariants.{Good, Refused as IsRefused, Rejected, Usage}
-use Rattle.ilk_top.specs.declared.stop.Stop.{Stop}
-use Rattle.ilk_top.specs.declared.stop.Stop.TheVariants.{Refused, ReadFault, OutOfMemory}
 use Rattle.ilk_top.specs.declared.limits.TheConstants.{MAX_CONFIGURATION, MAX_RUN_TEXT}
 
 abbrev pub reply : Status → List ℕ → Reply
@@ -38,50 +36,42 @@ reply status report = record { status = status; report = report }
 abbrev pub refused : Refusal → Reply
 refused refusal = reply IsRefused (refusal_line refusal)
 
--- the first of the broken rules, if there is one
-abbrev pub or_refused : {A : Type 0} → List Broken → A → Result A Refusal
-or_refused [] x = Ok x
-or_refused (first ∷ rest) x = Err (RuleRefusal first)
+-- a fault of the form is the only refusal
+abbrev pub form_refused : FormFault → Refusals
+form_refused fault = record { first = FormRefusal fault; rest = [] }
 
--- the plant of these drafts, or the first rule that they break
-abbrev pub plant_of_drafts : Columns → Result (NetDraft × TableDraft) FormFault → Result PlantLists Refusal
-plant_of_drafts columns (Err fault) = Err (FormRefusal fault)
-plant_of_drafts columns (Ok (net, table)) = or_refused (rules_broken columns net table) (numbered net table)
+-- the broken rules as refusals, where there are any
+abbrev pub refusals_of : List Broken → Option Refusals
+refusals_of [] = None
+refusals_of (first ∷ rest) = Some (record { first = RuleRefusal first; rest = rest })
 
--- the plant of a configuration of these bytes, or why it is refused; more than MAX_CONFIGURATION bytes break F1
-abbrev pub plant_of : Columns → List ℕ → Result PlantLists Refusal
+-- the refusals, where there are any; else this value
+abbrev pub or_refused : {A : Type 0} → Option Refusals → A → Result A Refusals
+or_refused None x = Ok x
+or_refused (Some refusals) x = Err refusals
+
+-- the plant of these drafts, or all that they are refused with
+abbrev pub plant_of_drafts : Columns → Result (NetDraft × TableDraft) FormFault → Result PlantLists Refusals
+plant_of_drafts columns (Err fault) = Err (form_refused fault)
+plant_of_drafts columns (Ok (net, table)) = or_refused (refusals_of (rules_broken columns net table)) (numbered net table)
+
+-- the plant of a configuration of these bytes, or all that it is refused with; more than MAX_CONFIGURATION bytes break F1
+abbrev pub plant_of : Columns → List ℕ → Result PlantLists Refusals
 plant_of columns conf =
-    if nat_lt MAX_CONFIGURATION (length conf) then Err (FormRefusal (broken F1 Document)) else plant_of_drafts columns (drafts_of conf)
+    if nat_lt MAX_CONFIGURATION (length conf) then Err (form_refused (broken F1 Document)) else plant_of_drafts columns (drafts_of conf)
 
 -- a line for each of the broken rules
 abbrev pub broken_lines : List Broken → List ℕ
 broken_lines found = flat_map (λ b. refusal_line (RuleRefusal b)) found
 
--- the reply that lists the broken rules, or finds none
-abbrev pub check_reply : List Broken → Reply
-check_reply [] = reply Good clean_line
-check_reply (first ∷ rest) = reply IsRefused (broken_lines (first ∷ rest))
-
-abbrev pub check_drafts_reply : Columns → Result (NetDraft × TableDraft) FormFault → Reply
-check_drafts_reply columns (Err fault) = refused (FormRefusal fault)
-check_drafts_reply columns (Ok (net, table)) = check_reply (rules_broken columns net table)
+-- the reply that lists all refusals, or finds none
+abbrev pub check_reply : Result PlantLists Refusals → Reply
+check_reply (Ok p) = reply Good clean_line
+check_reply (Err refusals) = reply IsRefused (refusal_line refusals.first ++ broken_lines refusals.rest)
 
 -- what check answers to a configuration of these bytes
 abbrev pub check_answer : Columns → List ℕ → Reply
-check_answer columns conf =
-    if nat_lt MAX_CONFIGURATION (length conf) then refused (FormRefusal (broken F1 Document)) else check_drafts_reply columns (drafts_of conf)
-
--- a stop is the refusal that is given, but for faults and want of memory
-abbrev pub StopsAs : {A : Type 0} → Stop → Result A Refusal → Type 0
-StopsAs (Refused refusal) given = given ≡ Err refusal
-StopsAs ReadFault given = Unit {0}
-StopsAs OutOfMemory given = Unit {0}
-
--- a source that was refused is at its end, or had more bytes than the limit
-abbrev pub EndsOrLonger : Stop → ℕ → Option (List ℕ) → Option (List ℕ) → Type 0
-EndsOrLonger (Refused refusal) limit old new = IsAtEnd new ⊎ IsLonger old limit
-EndsOrLonger ReadFault limit old new = Unit {0}
-EndsOrLonger OutOfMemory limit old new = Unit {0}
+check_answer columns conf = check_reply (plant_of columns conf)
 
 -- the reply to what a replay shows: only a hazard is good
 abbrev pub seen_reply : PlantLists → Seen → Reply
@@ -95,30 +85,35 @@ tale_reply p (Bad line) = reply Rejected (rejected_line line)
 tale_reply p (IsTold run) = seen_reply p (seen_of p run.first run.events)
 
 -- the reply to a run text; more than MAX_RUN_TEXT bytes break F1
-abbrev pub replay_reply : PlantLists → List ℕ → Reply
-replay_reply p extra =
+abbrev pub run_reply : PlantLists → List ℕ → Reply
+run_reply p extra =
     if nat_lt MAX_RUN_TEXT (length extra) then refused (FormRefusal (broken F1 Extra)) else tale_reply p (tale_of p extra)
 
--- what replay answers to these bytes of the configuration and of the run text
-abbrev pub replay_answer : Columns → List ℕ → List ℕ → Reply
-replay_answer columns conf extra = of_plant (plant_of columns conf)
-  where
-    of_plant : Result PlantLists Refusal → Reply
-    of_plant (Err refusal) = refused refusal
-    of_plant (Ok p) = replay_reply p extra
+-- the first refusal, or the reply to the run text, where that is told
+abbrev pub replay_reply : Result PlantLists Refusals → Option (List ℕ) → Option Reply
+replay_reply (Err refusals) extra = Some (refused refusals.first)
+replay_reply (Ok p) extra = option_map (run_reply p) extra
 
--- what a command answers to these bytes of the configuration and of what is read beside it
-abbrev pub command_answer : Command → List ℕ → List ℕ → Reply
-command_answer (Check columns) conf extra = check_answer columns conf
-command_answer (Replay columns run) conf extra = replay_answer columns conf extra
+-- what replay answers to a configuration of these bytes, and to the run text, where that is told
+abbrev pub replay_answer : Columns → List ℕ → Option (List ℕ) → Option Reply
+replay_answer columns conf extra = replay_reply (plant_of columns conf) extra
+
+-- what a command answers to the configuration and to what is read beside it, where it is told what the command reads
+abbrev pub command_answer : Command → Option (List ℕ) → Option (List ℕ) → Option Reply
+command_answer (Check columns) conf extra = option_map (check_answer columns) conf
+command_answer (Replay columns run) conf extra = option_and_then (λ c. replay_answer columns c extra) conf
 
 -- what is answered where the words of the command line give this command, or none
-abbrev pub answer : Option Command → List ℕ → List ℕ → Reply
-answer None conf extra = reply Usage []
+abbrev pub answer : Option Command → Option (List ℕ) → Option (List ℕ) → Option Reply
+answer None conf extra = Some (reply Usage [])
 answer (Some command) conf extra = command_answer command conf extra
 
--- whether this command, if there is one, reads more than the configuration: replay does, where that gives a plant
-abbrev pub reads_extra : Option Command → List ℕ → Bool
-reads_extra None conf = false
-reads_extra (Some (Check columns)) conf = false
-reads_extra (Some (Replay columns run)) conf = is_ok (plant_of columns conf)
+-- whether more is read than the configuration, where that can be told: replay reads more where there is a plant
+abbrev pub reads_extra : Option Command → Option (List ℕ) → Option Bool
+reads_extra None conf = Some false
+reads_extra (Some (Check columns)) conf = Some false
+reads_extra (Some (Replay columns run)) conf = option_map (λ c. is_ok (plant_of columns c)) conf
+
+-- this reply is the answer, where that is told
+abbrev pub IsKnownAs : Option Reply → Reply → Type 0
+IsKnownAs known made = IfSome known (λ a. made ≡ a)

@@ -3,4 +3,4 @@ pub mod Refusal
 pub mod Report
 pub mod Stages
 pub mod Answer
-pub mod Ends
+pub mod Outside

@@ -1,5 +1,5 @@
 -- The broken rules of a configuration whose form is right, found in stages.
-use Rattle.std.specs.Prelude.{◌≡◌, ◌≢◌, List, [], ◌∷◌}
+use Rattle.std.specs.Prelude.{List, [], ◌∷◌}
 use Rattle.ilk_plant.specs.ColumnRules.{column_rules_broken}
 use Rattle.ilk_plant.specs.Draft.{numbered}
 use Rattle.ilk_plant.specs.NetworkRules.{network_rules_broken}
@@ -10,8 +10,6 @@ use Rattle.ilk_plant.specs.declared.draft.NetDraft.{NetDraft}
 use Rattle.ilk_plant.specs.declared.draft.TableDraft.{TableDraft}
 use Rattle.ilk_words.specs.declared.command.Columns.{Columns}
 use Rattle.ilk_words.specs.declared.command.Columns.TheVariants.{Strict, Free}
-use Rattle.ilk_top.specs.declared.checks.Checked.{Checked}
-use Rattle.ilk_top.specs.declared.checks.Checked.TheVariants.{Clean, Broken as BrokenRules}
 
 -- the first stage, where it found anything; else what the later ones find
 abbrev pub or_later : List Broken → List Broken → List Broken
@@ -27,8 +25,3 @@ columns_broken Free p = []
 abbrev pub rules_broken : Columns → NetDraft → TableDraft → List Broken
 rules_broken columns net table =
     or_later (network_rules_broken net) (or_later (table_rules_broken net table) (columns_broken columns (numbered net table)))
-
--- the checks found exactly these broken rules; where there is none they made this plant
-abbrev pub Finds : List Broken → PlantLists → Checked → Type 0
-Finds rules p (Clean plant) = (rules ≡ []) × (plant ≡ p)
-Finds rules p (BrokenRules found) = (rules ≡ found) × (found ≢ [])

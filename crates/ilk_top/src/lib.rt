@@ -4,31 +4,32 @@
 //! So the promise of the program is a clause of a call that `main` really makes: for every list of
 //! words and all bytes, the report and the status are those of the definition `answer`
 //! (`specs/Answer.antt`). A run goes by stages, a file each: the words (`ilk_words`), the
-//! configuration to a plant or all broken rules (`plant_stage`, `check_stage`, both over `checks`),
-//! the run text and its replay (`replay_stage`), the report (`report`, `refusal`), and last the
-//! status with the one write (`program`).
+//! configuration to a plant or all that it is refused with (`plant_stage`, over `checks`), the list
+//! of these (`check_stage`), the run text and its replay (`replay_stage`), the report (`report`,
+//! `refusal`), and last the status with the one write (`program`).
 #![tactic(auto)]
 
 mod check_stage;
 mod checks;
 mod limits;
+mod no_reply;
 mod plant_stage;
 mod program;
 mod refusal;
+mod refusals;
 mod replay_stage;
 mod reply;
 mod report;
 mod status;
-mod stop;
 
-pub use checks::Checked;
 pub use ilk_words::{FileNames, names_of};
 pub use limits::{MAX_CONFIGURATION, MAX_RUN_TEXT};
+pub use no_reply::NoReply;
 pub use program::run;
 pub use refusal::Refusal;
+pub use refusals::Refusals;
 pub use reply::Reply;
 pub use status::Status;
-pub use stop::{NoReply, Stop};
 
 #[cfg(test)]
 mod tests;

@@ -1,58 +1,58 @@
-ghost use Rattle.std.specs.Prelude.{◌≡◌, ◌≢◌, ◌+◌, ◌≤◌, IfOk, IfErr, IfSome, Ok, Err};
+ghost use Rattle.std.specs.Prelude.{◌≡◌, ◌+◌, ◌≤◌, ◌⊎◌, IfOk, IfSome, Err, is_ok};
 ghost use Rattle.ilk_io.specs.Faults.{Rose};
-ghost use Rattle.ilk_io.specs.Source.{IsAtEnd, TakesAtMost};
+ghost use Rattle.ilk_io.specs.Source.{IsAtEnd, IsLonger, TakesAtMost};
 ghost use Rattle.ilk_table_read.specs.Table.{drafts_of};
-ghost use Rattle.ilk_top.specs.Answer.{EndsOrLonger, StopsAs, plant_of, plant_of_drafts};
+ghost use Rattle.ilk_top.specs.Answer.{plant_of, plant_of_drafts};
+ghost use Rattle.ilk_top.specs.Outside.{ReadWithin, RisesOnlyAt};
 ghost use Rattle.ilk_top.specs.declared.limits.TheConstants.{MAX_CONFIGURATION};
 
-use crate::checks::{Checked, check_drafts};
+use crate::checks::check_drafts;
 use crate::limits::MAX_CONFIGURATION;
-use crate::{Refusal, Stop};
+use crate::{NoReply, Refusals};
 use ilk_io::{ReadError, Source, read_all};
 use ilk_net_read::{Form, FormError, FormFault, Place};
 use ilk_plant::Plant;
 use ilk_table_read::read_drafts;
 use ilk_words::Columns;
-use std::alloc::Global;
+use std::alloc::{AllocError, Global};
 
-// The plant of a configuration, or why it is refused.
-fn plant_of(alloc: Global, columns: Columns, conf: &[u8]) -> Result<Plant, Stop>
-    ensures ok { IfOk result (λ plant. plant_of_drafts columns (drafts_of conf.now) ≡ Ok plant) }
-    ensures stop { IfErr result (λ stop. StopsAs stop (plant_of_drafts columns (drafts_of conf.now))) }
-    ensures no_fault { result ≢ Err Stop.ReadFault }
+// The plant of a configuration, or all that it is refused with.
+fn plant_of(
+    alloc: Global,
+    columns: Columns,
+    conf: &[u8],
+) -> Result<Result<Plant, Refusals>, AllocError>
+    ensures { IfOk result (λ found. found ≡ plant_of_drafts columns (drafts_of conf.now)) }
 {
-    let (net, table) = match read_drafts(alloc, conf) {
-        Ok(drafts) => drafts,
-        Err(FormError::Fault(fault)) => return Err(Stop::Refused(Refusal::Form(fault))),
-        Err(FormError::OutOfMemory) => return Err(Stop::OutOfMemory),
-    };
-    match check_drafts(alloc, columns, &net, &table)? {
-        Checked::Clean(plant) => Ok(plant),
-        Checked::Broken(found) => match found.as_slice() {
-            [first, ..] => Err(Stop::Refused(Refusal::Rule(*first))),
-            [] => unreachable!(),
-        },
+    match read_drafts(alloc, conf) {
+        Ok((net, table)) => check_drafts(alloc, columns, &net, &table),
+        Err(FormError::Fault(fault)) => Ok(Err(Refusals::of_form(alloc, fault))),
+        Err(FormError::OutOfMemory) => Err(AllocError),
     }
 }
 
-/// Reads a configuration to its end, and makes its plant. Refused with the first rule that it
-/// breaks; ReadFault only where the source's count rose.
-pub fn read_plant<C: Source>(alloc: Global, columns: Columns, conf: &mut C) -> Result<Plant, Stop>
-    ensures ok { IfOk result (λ plant. IfSome (C.left conf.old) (λ c. plant_of columns c ≡ Ok plant)) }
-    ensures stop { IfErr result (λ stop. IfSome (C.left conf.old) (λ c. StopsAs stop (plant_of columns c))) }
-    ensures fault { result ≡ Err Stop.ReadFault → Rose (C.faults conf.old) (C.faults conf.new) }
-    ensures taken { TakesAtMost (MAX_CONFIGURATION + 1) (C.left conf.old) (C.left conf.new) }
-    ensures end { IfOk result (λ _. IsAtEnd (C.left conf.new)) }
-    ensures refused_end { IfErr result (λ stop. EndsOrLonger stop MAX_CONFIGURATION (C.left conf.old) (C.left conf.new)) }
-    ensures counted { C.faults conf.old ≤ C.faults conf.new }
+/// Reads a configuration to its end, and makes its plant, or finds all that it is refused with.
+/// ReadFault comes at the first fault of the source, so only where its count rose.
+pub fn read_plant<C: Source>(
+    alloc: Global,
+    columns: Columns,
+    conf: &mut C,
+) -> Result<Result<Plant, Refusals>, NoReply>
+    ensures ok { IfOk result (λ found. IfSome (C.left conf.old) (λ c. found ≡ plant_of columns c)) }
+    ensures fault { result ≡ Err NoReply.ReadFault → Rose (C.faults conf.old) (C.faults conf.new) }
+    ensures faults { RisesOnlyAt (result ≡ Err NoReply.ReadFault) (C.faults conf.old) (C.faults conf.new) }
+    ensures read { ReadWithin MAX_CONFIGURATION (is_ok result) (C.left conf.old) (C.left conf.new) }
 {
     match read_all(alloc, conf, MAX_CONFIGURATION) {
-        Ok(text) => plant_of(alloc, columns, text.as_slice()),
-        Err(ReadError::TooLong) => Err(Stop::Refused(Refusal::Form(FormFault {
-            rule: Form::F1,
-            place: Place::Document,
-        }))),
-        Err(ReadError::Failed) => Err(Stop::ReadFault),
-        Err(ReadError::OutOfMemory) => Err(Stop::OutOfMemory),
+        Ok(text) => Ok(plant_of(alloc, columns, text.as_slice())?),
+        Err(ReadError::TooLong) => Ok(Err(Refusals::of_form(
+            alloc,
+            FormFault {
+                rule: Form::F1,
+                place: Place::Document,
+            },
+        ))),
+        Err(ReadError::Failed) => Err(NoReply::ReadFault),
+        Err(ReadError::OutOfMemory) => Err(NoReply::OutOfMemory),
     }
 }

@@ -1,14 +1,14 @@
-ghost use Rattle.std.specs.Prelude.{◌≡◌, ◌+◌, ◌≤◌, ◌⊎◌, IfOk, IfSome, IsTrue, Err};
+ghost use Rattle.std.specs.Prelude.{◌≡◌, IfOk, IfSome, IsTrue, Err, Some, is_ok};
 ghost use Rattle.ilk_io.specs.Faults.{Rose};
-ghost use Rattle.ilk_io.specs.Source.{IsAtEnd, IsLonger, TakesAtMost};
-ghost use Rattle.ilk_top.specs.Answer.{replay_reply, seen_reply, tale_reply};
+ghost use Rattle.ilk_top.specs.Answer.{IsKnownAs, replay_reply, run_reply, seen_reply, tale_reply};
+ghost use Rattle.ilk_top.specs.Outside.{ReadWhereNeeded, ReadWithin, RisesOnlyAt};
 ghost use Rattle.ilk_top.specs.Status.{is_reply};
 ghost use Rattle.ilk_replay.specs.Told.{tale_of};
 ghost use Rattle.ilk_top.specs.declared.limits.TheConstants.{MAX_RUN_TEXT};
 
 use crate::limits::MAX_RUN_TEXT;
 use crate::report::{hazard_line, not_a_run_line, rejected_line};
-use crate::{NoReply, Refusal, Reply, Status};
+use crate::{NoReply, Refusal, Refusals, Reply, Status};
 use ilk_io::{ReadError, Source, read_all};
 use ilk_net_read::{Form, FormFault, Place};
 use ilk_plant::Plant;
@@ -44,15 +44,14 @@ fn text_reply(alloc: Global, plant: &Plant, text: &[u8]) -> Result<Reply, AllocE
     }
 }
 
-/// Reads a run text to its end, and replays it over the plant. Refused where it is longer than the
-/// limit; ReadFault only where the source's count rose.
-pub fn read_reply<D: Source>(alloc: Global, plant: &Plant, extra: &mut D) -> Result<Reply, NoReply>
-    ensures ok { IfOk result (λ made. IfSome (D.left extra.old) (λ x. made ≡ replay_reply plant.now x)) }
+// Reads a run text to its end, and replays it over the plant. Refused where it is longer than the
+// limit; ReadFault only where the source's count rose.
+fn run_reply<D: Source>(alloc: Global, plant: &Plant, extra: &mut D) -> Result<Reply, NoReply>
+    ensures ok { IfOk result (λ made. IfSome (D.left extra.old) (λ x. made ≡ run_reply plant.now x)) }
     ensures answer { IfOk result (λ made. IsTrue (is_reply made.status)) }
     ensures fault { result ≡ Err NoReply.ReadFault → Rose (D.faults extra.old) (D.faults extra.new) }
-    ensures taken { TakesAtMost (MAX_RUN_TEXT + 1) (D.left extra.old) (D.left extra.new) }
-    ensures end { IfOk result (λ _. IsAtEnd (D.left extra.new) ⊎ IsLonger (D.left extra.old) MAX_RUN_TEXT) }
-    ensures counted { D.faults extra.old ≤ D.faults extra.new }
+    ensures faults { RisesOnlyAt (result ≡ Err NoReply.ReadFault) (D.faults extra.old) (D.faults extra.new) }
+    ensures read { ReadWithin MAX_RUN_TEXT (is_ok result) (D.left extra.old) (D.left extra.new) }
 {
     match read_all(alloc, extra, MAX_RUN_TEXT) {
         Ok(text) => Ok(text_reply(alloc, plant, text.as_slice())?),
@@ -65,5 +64,24 @@ pub fn read_reply<D: Source>(alloc: Global, plant: &Plant, extra: &mut D) -> Res
         )?),
         Err(ReadError::Failed) => Err(NoReply::ReadFault),
         Err(ReadError::OutOfMemory) => Err(NoReply::OutOfMemory),
+    }
+}
+
+/// The reply to a replay: where there is a plant, the run text is read to its end and replayed over
+/// it, and otherwise the first refusal is the reply, and nothing is read.
+pub fn replay_reply<D: Source>(
+    alloc: Global,
+    found: &Result<Plant, Refusals>,
+    extra: &mut D,
+) -> Result<Reply, NoReply>
+    ensures ok { IfOk result (IsKnownAs (replay_reply found.now (D.left extra.old))) }
+    ensures answer { IfOk result (λ made. IsTrue (is_reply made.status)) }
+    ensures fault { result ≡ Err NoReply.ReadFault → Rose (D.faults extra.old) (D.faults extra.new) }
+    ensures faults { RisesOnlyAt (result ≡ Err NoReply.ReadFault) (D.faults extra.old) (D.faults extra.new) }
+    ensures read { ReadWhereNeeded D.left (Some (is_ok found.now)) MAX_RUN_TEXT (is_ok result) extra.old extra.new }
+{
+    match found {
+        Ok(plant) => run_reply(alloc, plant, extra),
+        Err(refusals) => Ok(Reply::refused(alloc, refusals.first)?),
     }
 }

@@ -1,4 +1,4 @@
-use Rattle.std.proofs.Common.{◌+◌, ◌-◌, ◌≤◌, vec_len}
+use Rattle.std.proofs.Common.{◌+◌, ◌-◌, ◌≡◌, ◌≤◌, vec_len}
 use Rattle.ilk_io.specs.Source.{Takes}
 use Rattle.ilk_io.proofs.reading.read_all.Given as goal
 
@@ -7,7 +7,7 @@ invariant-loop-bytes g l =
     record {
       taken : Takes (g.S.Source.left l.initial.source) (g.S.Source.left l.source) l.bytes.items;
       within : vec_len l.bytes ≤ l.limit;
-      counted : g.S.Source.faults l.initial.source ≤ g.S.Source.faults l.source;
+      unraised : g.S.Source.faults l.source ≡ g.S.Source.faults l.initial.source;
     }
 
 abbrev pub decreases-loop-bytes : goal.decreases-loop-bytes

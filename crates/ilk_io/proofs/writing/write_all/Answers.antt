@@ -1,4 +1,4 @@
-use Rattle.std.proofs.Common.{arith, ◌≡◌, length}
+use Rattle.std.proofs.Common.{arith, ◌≡◌, ◌∙◌, length}
 use Rattle.ilk_io.proofs.Added.{Written-prefix, Written-more, Written-empty}
 use Rattle.ilk_io.proofs.writing.write_all.Goals as goal
 
@@ -9,6 +9,6 @@ returns-in_err-taken-clause-prefix g c =
 pub loop-rest-preserved : goal.loop-rest-preserved
 loop-rest-preserved g c = record {
   written = Written-more _ _ _ _ _ _ c.loop-rest.invariant.written c.in_ok-taken.ensures.taken;
-  counted = omega (arith, c.write.ensures.counted, c.loop-rest.invariant.counted);
+  unraised = c.in_ok-taken.ensures.unraised ∙ c.loop-rest.invariant.unraised;
   untouched = λ e. let none : length c.loop-rest.rest.now ≡ 0 = Written-empty _ _ _ _ c.loop-rest.invariant.written e in absurd (grind (arith, c.is_empty.ensures, c.loop-rest-test.true));
 }

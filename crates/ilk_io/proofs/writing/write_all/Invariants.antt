@@ -6,7 +6,7 @@ abbrev pub invariant-loop-rest : goal.invariant-loop-rest
 invariant-loop-rest g l =
     record {
       written : Written (g.K.Sink.written l.initial.sink) (g.K.Sink.written l.sink) l.fn.text l.rest;
-      counted : g.K.Sink.faults l.initial.sink ≤ g.K.Sink.faults l.sink;
+      unraised : g.K.Sink.faults l.sink ≡ g.K.Sink.faults l.initial.sink;
       untouched : l.fn.text ≡ [] → l.sink ≡ l.initial.sink;
     }
 

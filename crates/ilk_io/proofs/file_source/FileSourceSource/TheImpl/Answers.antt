@@ -8,5 +8,6 @@ read-tells g c = record {
   end = untold-end c.result _;
   kept = untold-kept c.result;
   failed = c.ensures.failed;
+  unraised = c.ensures.unraised;
   counted = c.ensures.counted;
 }

@@ -1,0 +1,20 @@
+ghost use Rattle.ilk_top.specs.declared.no_reply.NoReply.TheVariants.{OutOfMemory};
+ghost use Rattle.std.specs.Prelude.{◌≡◌};
+
+use std::alloc::AllocError;
+
+/// Why there is no reply.
+#[derive(Clone, Copy, PartialEq, Eq, Debug)]
+pub enum NoReply {
+    /// A source failed.
+    ReadFault,
+    OutOfMemory,
+}
+
+impl From<AllocError> for NoReply {
+    ghost from_gives = { λ _ none. none ≡ OutOfMemory };
+
+    fn from(_error: AllocError) -> NoReply {
+        NoReply::OutOfMemory
+    }
+}
