@@ -1,6 +1,6 @@
 use Rattle.std.proofs.Common.{◌≡◌, [], ◌∷◌, ◌+◌, ◌∙◌, true, drop, get_or, sym, ap}
 use Rattle.std.proofs.lemmas.Bool.{and_parts}
-use Rattle.ilk_base.proofs.Lists.{drop-next}
+use Rattle.std.proofs.lemmas.List.{drop_more}
 use Rattle.ilk_cnf.specs.Formula.{Formula}
 use Rattle.ilk_cnf.specs.Part.{with_part}
 use Rattle.ilk_ir.specs.Tree.{Tree, is, value_valid}
@@ -19,7 +19,7 @@ loop-s-preserved c =
     let none : Setting = record { var = 0; value = 0 } in
     let s : Setting = get_or all i none in
     let ranges = ranges_of c.args.next.now in
-    let split : drop i all ≡ s ∷ drop (i + 1) all = drop-next all i none c.loop-s-test.true in
+    let split : drop i all ≡ s ∷ drop (i + 1) all = drop_more all i none c.loop-s-test.true in
     let form : tree_of c.set_form.result ≡ is s.var s.value = c.set_form.ensures in
     let p = λ (t : Tree). with_part c.loop-s.cnf (demand_part c.args.next.now (c.args.skip ∷ []) t c.loop-s.cnf.vars) in
     let made : c.demand.new.cnf ≡ with_part c.loop-s.cnf (demand_part c.args.next.now (c.args.skip ∷ []) (is s.var s.value) c.loop-s.cnf.vars) = c.in_ok-demand.ensures.made ∙ ap p form in
