@@ -15,7 +15,7 @@ STANDARD_ERROR = {7: b"irv: usage\n", 8: b"irv: read fault\n",
                   9: b"irv: write fault\n", 10: b"irv: out of memory\n"}
 STATUSES = {0, 5, 6, 7, 8, 9, 10}
 KEYS = {"why", "words", "conf", "replace", "replace all", "pad", "file", "folder",
-        "stdout", "stderr", "status", "output"}
+        "stdout", "stderr", "status", "output", "memory"}
 
 
 class CaseError(Exception):
@@ -33,6 +33,7 @@ class Case:
         self.conf = None
         self.conf_is_folder = False
         self.output_is_full = False
+        self.memory_mebibytes = None
         self.files = {}
         self.folders = []
         self.stdout = None
@@ -168,6 +169,8 @@ def apply_key(case, key, value, block):
         setattr(case, key, given_bytes(value, block))
     elif key == "status":
         case.status = int(value)
+    elif key == "memory":
+        case.memory_mebibytes = int(value)
     elif key == "output" and value == "full":
         case.output_is_full = True
     else:

@@ -1,6 +1,5 @@
-ghost use Rattle.std.specs.Prelude.{◌≡◌, ◌+◌, ◌≤◌, ◌⊎◌, IfOk, IfSome, Err, is_ok};
+ghost use Rattle.std.specs.Prelude.{◌≡◌, IfOk, IfSome, Err, is_ok};
 ghost use Rattle.ilk_io.specs.Faults.{Rose};
-ghost use Rattle.ilk_io.specs.Source.{IsAtEnd, IsLonger, TakesAtMost};
 ghost use Rattle.ilk_table_read.specs.Table.{drafts_of};
 ghost use Rattle.ilk_top.specs.Answer.{plant_of, plant_of_drafts};
 ghost use Rattle.ilk_top.specs.Outside.{ReadWithin, RisesOnlyAt};

@@ -1,6 +1,11 @@
 //! `irv`: checks a configuration of an interlocking, and replays runs over it.
 #![tactic(auto)]
 
+ghost use Rattle.std.specs.Prelude.{◌≡◌};
+ghost use Rattle.std.specs.IoError.{error_kind};
+ghost use Rattle.std.specs.Option.{option_copied};
+ghost use Rattle.irv.specs.Edge.{complaint, unread_words};
+
 use ilk_io::{FileSource, StdSink, StdSource, SteadySink, SteadySource};
 use ilk_plant::Text;
 use ilk_top::{Status, names_of, run};
@@ -20,7 +25,9 @@ fn words(rt: &HostRuntime) -> Result<Vec<String>, Status> {
 }
 
 // How the program ends where its words can't be read: a word that isn't UTF-8 is no right word.
-fn status_of(error: &io::Error) -> Status {
+fn status_of(error: &io::Error) -> Status
+    ensures { result ≡ unread_words (error_kind error.now) }
+{
     match error.kind() {
         io::ErrorKind::OutOfMemory => Status::OutOfMemory,
         _ => Status::Usage,
@@ -58,7 +65,9 @@ fn status(rt: &HostRuntime) -> Status {
 }
 
 // The line on standard error, for a status that has one.
-fn complaint(status: Status) -> Option<&'static str> {
+fn complaint(status: Status) -> Option<&'static str>
+    ensures { option_copied result ≡ complaint status }
+{
     match status {
         Status::Usage => Some("irv: usage"),
         Status::ReadFault => Some("irv: read fault"),
