@@ -1,0 +1,126 @@
+-- How far the walk is, told by the number of entries that are left.
+use Rattle.std.proofs.Common.{◌≡◌, ℕ, zero, suc, inl, inr, Bool, true, false, ◌&&◌, not, eqb, List, [], ◌∷◌, refl, sym, ap, ◌∙◌, subst, Some, None, length, take, reverse}
+use Rattle.std.specs.Prelude.{nat_lt, slice_get}
+use Rattle.std.specs.List.{filter}
+use Rattle.std.proofs.lemmas.Bool.{and_parts, and_from, or_left, or_right, cases_Bool, eqb-true, eq-eqb, true≢false}
+use Rattle.ilk_cnf.specs.Literal.{Literal, opposite, same_lit, has_lit, has_var}
+use Rattle.ilk_cnf.specs.Formula.{Formula, IsFormula, lit_in}
+use Rattle.ilk_log.proofs.Count.{same-lit, has-var}
+use Rattle.ilk_log.specs.declared.step.Step.{Step}
+use Rattle.ilk_trail.specs.declared.entry.Entry.{Entry}
+use Rattle.ilk_trail.specs.Trail.{TrailList, level_of}
+use Rattle.ilk_trail.specs.Laws.{IsTrail, lits_of, is_set}
+use Rattle.ilk_learn.specs.Resolvent.{without}
+use Rattle.ilk_learn.specs.Levels.{is_current, highest_first}
+use Rattle.ilk_learn.specs.Learning.{has_one_current, is_point, point_first, resolved, up_to_point, learned}
+use Rattle.ilk_learn.specs.Hand.{Keeps, Reached, IsConflict, all_set, conflict_step}
+use Rattle.ilk_learn.specs.declared.hand.Hand.{Hand}
+use Rattle.ilk_learn.proofs.Members.{member-within, kept-from}
+use Rattle.ilk_learn.proofs.Highest.{all-from, lone-passes}
+use Rattle.ilk_learn.proofs.Latest.{take-whole, reverse-one-more, level-entry}
+use Rattle.ilk_learn.proofs.Walk.{Walking, walking-next, walking-level}
+use Rattle.ilk_learn.proofs.Laws.{has-point, walking-start}
+use Rattle.ilk_learn.proofs.Holding.{same-level}
+
+-- the clause in hand with i entries left
+pub record Far (f : Formula) (t : TrailList) (h : Hand) (c i : ℕ) : Type 0 where
+  pub step : Step
+  pub walking : Walking f.vars f.clauses t.entries (reverse (take i t.entries)) step
+  pub keeps : Keeps t h step
+  pub goes : up_to_point f.clauses t.entries (reverse (take i t.entries)) step ≡ learned f.clauses t.entries c
+
+pub far-start : (f : Formula) (t : TrailList) (h : Hand) (c : ℕ) → IsFormula f → IsTrail t → IsConflict f t c → Keeps t h (conflict_step f.clauses c) → Far f t h c (length t.entries)
+far-start f t h c form trail k keeps =
+    let w = walking-start f t c form trail k.reasons k.conflict k.below in
+    let P : List Entry → Type 0 = λ es. Walking f.vars f.clauses t.entries (reverse es) (conflict_step f.clauses c) in
+    record {
+      step = conflict_step f.clauses c;
+      walking = subst P (sym (take-whole t.entries)) w;
+      keeps = keeps;
+      goes = ap (λ (es : List Entry). up_to_point f.clauses t.entries (reverse es) (conflict_step f.clauses c)) (take-whole t.entries);
+    }
+
+-- the entry that is next
+pub far-walking : (f : Formula) (t : TrailList) (h : Hand) (c n i : ℕ) (e : Entry) → (k : Far f t h c n) → n ≡ suc i → slice_get t.entries i ≡ Some e → Walking f.vars f.clauses t.entries (e ∷ reverse (take i t.entries)) k.step
+far-walking f t h c n i e k q at =
+    let P : List Entry → Type 0 = λ es. Walking f.vars f.clauses t.entries es k.step in
+    subst P (ap (λ (m : ℕ). reverse (take m t.entries)) q ∙ reverse-one-more t.entries i e at) k.walking
+
+pub has-entry : (es : List Entry) (i : ℕ) (e : Entry) → slice_get es i ≡ Some e → has_lit e.lit (lits_of es) ≡ true
+has-entry [] i e h = absurd (cc)
+has-entry (x ∷ es) zero e h = (let q : x ≡ e = cc in or_left (same_lit e.lit x.lit) (has_lit e.lit (lits_of es)) (ap (λ (y : Entry). same_lit e.lit y.lit) q ∙ same-lit e.lit))
+has-entry (x ∷ es) (suc i) e h = or_right (same_lit e.lit x.lit) (has_lit e.lit (lits_of es)) (has-entry es i e h)
+
+-- its literal is over the variables, is set, and was set at the current level
+pub entry-within : (t : TrailList) (i : ℕ) (e : Entry) → IsTrail t → slice_get t.entries i ≡ Some e → lit_in t.vars e.lit ≡ true
+entry-within t i e k at = member-within t.vars (lits_of t.entries) e.lit k.within (has-entry t.entries i e at)
+
+pub entry-current : (f : Formula) (t : TrailList) (h : Hand) (c n i : ℕ) (e : Entry) → IsTrail t → Far f t h c n → n ≡ suc i → slice_get t.entries i ≡ Some e → is_current t.entries e.lit ≡ true
+entry-current f t h c n i e trail k q at =
+    let w = far-walking f t h c n i e k q at in
+    eq-eqb _ _ (level-entry t.entries i e trail.once at ∙ walking-level f.vars f.clauses t.entries e (reverse (take i t.entries)) k.step w)
+
+-- where it is no point
+pub far-next : (f : Formula) (t : TrailList) (h new : Hand) (c n i : ℕ) (e : Entry) → IsFormula f → (k : Far f t h c n) → n ≡ suc i → slice_get t.entries i ≡ Some e → is_point t.entries e.lit k.step.clause ≡ false → Keeps t new (resolved f.clauses e k.step) → Far f t new c i
+far-next f t h new c n i e form k q at p keeps = record {
+  step = resolved f.clauses e k.step;
+  walking = walking-next f.vars f.clauses t.entries e (reverse (take i t.entries)) k.step (record { within = form.within; differ = form.differ }) (far-walking f t h c n i e k q at) p;
+  keeps = keeps;
+  goes = sym (ap (λ (es : List Entry). up_to_point f.clauses t.entries es k.step) (ap (λ (m : ℕ). reverse (take m t.entries)) q ∙ reverse-one-more t.entries i e at) ∙ rw p refl) ∙ k.goes;
+}
+
+-- two tests that agree on the literals of a clause keep the same of it
+filter-same : (p q : Literal → Bool) (c : List Literal) → ((m : Literal) → has_lit m c ≡ true → p m ≡ q m) → filter p c ≡ filter q c
+filter-same p q [] f = refl
+filter-same p q (m ∷ c) f =
+    let r = filter-same p q c (λ x h. f x (or_right (same_lit x m) (has_lit x c) h)) in
+    let e : p m ≡ q m = f m (or_left (same_lit m m) (has_lit m c) (same-lit m)) in
+    elim (cases_Bool (q m)) [
+      | inl t ↦ (let u : p m ≡ true = e ∙ t in rw (t, u) (ap (λ (xs : List Literal). m ∷ xs) r))
+      | inr t ↦ (let u : p m ≡ false = e ∙ t in rw (t, u) r)
+    ]
+
+-- the literals that are set, of those in hand
+lower-set : (f : Formula) (t : TrailList) (h : Hand) (es : List Entry) (s : Step) → Walking f.vars f.clauses t.entries es s → Keeps t h s → all_set t h.lower ≡ true
+lower-set f t h es s w k =
+    let q : Literal → Bool = λ m. not (is_current t.entries m) in
+    ap (all_set t) k.holds.rest
+    ∙ all-from (λ (m : Literal). lit_in t.vars m && is_set t.entries m.var) (filter q s.clause) (λ m a. (let b = (kept-from q s.clause m a).0 in
+    and_from (lit_in t.vars m) (is_set t.entries m.var) (member-within t.vars s.clause m k.holds.within b) (has-var (opposite m) (lits_of t.entries) (w.within (opposite m) (w.hand.denied m b)))))
+
+-- where it is the point
+pub far-point : (f : Formula) (t : TrailList) (h : Hand) (c n i : ℕ) (e : Entry) → IsTrail t → (k : Far f t h c n) → n ≡ suc i → slice_get t.entries i ≡ Some e → is_point t.entries e.lit k.step.clause ≡ true → Reached t f.clauses c h (Some e.lit)
+far-point f t h c n i e trail k q at p =
+    let es = reverse (take i t.entries) in
+    let s = k.step in
+    let w = far-walking f t h c n i e k q at in
+    let parts = and_parts (has_var e.lit.var s.clause) (has_one_current t.entries s.clause) p in
+    let one = and_parts (nat_lt 0 (level_of t.entries)) (eqb (length (filter (is_current t.entries) s.clause)) 1) parts.1 in
+    let has = has-point f.vars f.clauses t.entries e es s w parts.0 in
+    let current = entry-current f t h c n i e trail k q at in
+    let lower : without e.lit.var s.clause ≡ h.lower = filter-same (λ m. not (eqb m.var e.lit.var)) (λ m. not (is_current t.entries m)) s.clause (λ m a. ap not (agree m a has current one.1)) ∙ sym k.keeps.holds.rest in
+    let found : up_to_point f.clauses t.entries (e ∷ es) s ≡ record s { clause = point_first t.entries e.lit s.clause } = rw p refl in
+    record {
+      set = lower-set f t h (e ∷ es) s w k.keeps;
+      is = sym k.goes
+          ∙ ap (λ (xs : List Entry). up_to_point f.clauses t.entries xs s) (ap (λ (m : ℕ). reverse (take m t.entries)) q ∙ reverse-one-more t.entries i e at)
+          ∙ found
+          ∙ ap (λ (xs : List Literal). let r : Step = record { clause = opposite e.lit ∷ highest_first t.entries xs; hints = s.hints } in r) lower
+          ∙ ap (λ (hs : List ℕ). let r : Step = record { clause = opposite e.lit ∷ highest_first t.entries h.lower; hints = hs } in r) k.keeps.hinted;
+    }
+  where
+    agree : (m : Literal) → has_lit m k.step.clause ≡ true → has_lit (opposite e.lit) k.step.clause ≡ true → is_current t.entries e.lit ≡ true → eqb (length (filter (is_current t.entries) k.step.clause)) 1 ≡ true → eqb m.var e.lit.var ≡ is_current t.entries m
+    agree m a has current one = elim (cases_Bool (eqb m.var e.lit.var)) [
+      | inl y ↦ y ∙ sym (same-level t.entries m e.lit (eqb-true m.var e.lit.var y) ∙ current)
+      | inr y ↦ y ∙ sym (elim (cases_Bool (is_current t.entries m)) [
+        | inl z ↦ absurd (true≢false (sym (eq-eqb m.var e.lit.var (ap (λ (l : Literal). l.var) (lone-passes (is_current t.entries) k.step.clause m (opposite e.lit) one a z has current))) ∙ y))
+        | inr z ↦ z
+      ])
+    ]
+
+-- where no entry is left
+pub far-end : (f : Formula) (t : TrailList) (h : Hand) (c : ℕ) → Far f t h c 0 → Reached t f.clauses c h None
+far-end f t h c k = record {
+  set = lower-set f t h [] k.step k.walking k.keeps;
+  is = sym k.goes ∙ ap (λ (hs : List ℕ). let r : Step = record { clause = []; hints = hs } in r) k.keeps.hinted;
+}

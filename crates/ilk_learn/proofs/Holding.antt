@@ -1,0 +1,290 @@
+-- How the fields of a clause in hand follow it.
+use Rattle.std.proofs.Common.{◌≡◌, ℕ, ◌+◌, ◌-◌, ◌^◌, ◌<◌, ◌≤◌, zero, suc, inl, inr, Bool, true, false, ◌&&◌, ◌||◌, not, eqb, List, [], ◌∷◌, ◌++◌, refl, sym, ap, ◌∙◌, subst, Option, Some, arith, length, take, set, get_or, add-one, option_map, length-append, append-nil, append_assoc}
+use Rattle.std.specs.Prelude.{nat_lt, slice_get, unwrap_or}
+use Rattle.std.specs.List.{filter}
+use Rattle.std.specs.Prelude.{Result, Ok, Err, OnOk, reverse}
+use Rattle.std.proofs.lemmas.List.{reverse-append}
+use Rattle.ilk_log.specs.declared.step.Step.{Step}
+use Rattle.ilk_learn.specs.Learning.{resolved}
+use Rattle.ilk_learn.specs.declared.hand.Hand.{Hand}
+use Rattle.std.proofs.Math.ListN.{length-set}
+use Rattle.std.proofs.lemmas.Bool.{and_parts, and_from, or_cases, or_parts, or_from, ltb-true, or_left, or_right, cases_Bool, cases_eq, eqb-true, eqb-false, eq-eqb, ne_eqb, not-true, not_from_false, not_from_true, true≢false}
+use Rattle.std.proofs.lemmas.Option.{same_Some, slice_get_within, slice_get-get_or}
+use Rattle.std.proofs.lemmas.List.{get_or-set_same, get_or-set_other, get_or_read}
+use Rattle.std.proofs.lemmas.List.Elements.{filter-append}
+use Rattle.std.proofs.lemmas.List.Folds.{list_any-append}
+use Rattle.std.proofs.lemmas.List.Filters.{length-filter_both}
+use Rattle.ilk_base.proofs.Tested.{list_all-slice_get}
+use Rattle.ilk_clauses.specs.Reasons.{clause_at, HasReasons}
+use Rattle.ilk_cnf.specs.Literal.{Literal, opposite, same_lit, has_lit, has_var, vars_differ}
+use Rattle.ilk_cnf.specs.Formula.{Formula, IsFormula, lit_in, clause_in}
+use Rattle.ilk_cnf.proofs.Literals.{vars_differ-push}
+use Rattle.ilk_log.proofs.Sound.{lit-is}
+use Rattle.ilk_log.proofs.Count.{has-var}
+use Rattle.ilk_log.specs.Propagation.{is_false, is_falsified}
+use Rattle.ilk_log.specs.Fresh.{others}
+use Rattle.ilk_trail.specs.declared.entry.Entry.{Entry}
+use Rattle.ilk_trail.specs.Trail.{TrailList, entry_of, level_of}
+use Rattle.ilk_trail.specs.Laws.{IsTrail, lits_of, is_set}
+use Rattle.ilk_trail.proofs.Entries.{found}
+use Rattle.ilk_trail.proofs.Literals.{clause_in-push, count_of_vars, lit_in-parts}
+use Rattle.ilk_learn.specs.Resolvent.{without, with_lit, joined, resolvent}
+use Rattle.ilk_learn.specs.Levels.{level_at, is_current, highest_level}
+use Rattle.ilk_learn.specs.Asserting.{begins_at, is_asserting}
+use Rattle.ilk_learn.specs.Hand.{Holds, IsConflict, Keeps, all_set, conflict_step}
+use Rattle.ilk_learn.proofs.Members.{member-within, differ-kept, within-kept, kept-at, none-without, var-push}
+use Rattle.ilk_learn.proofs.Derived.{false-at}
+use Rattle.ilk_learn.proofs.Highest.{all-from}
+use Rattle.ilk_learn.proofs.Latest.{take-whole}
+use Rattle.ilk_learn.proofs.Walk.{stands, resolved-is, resolved-not}
+
+-- what was read
+pub mark-read : (marks : List Bool) (i v : ℕ) (b : Bool) → i ≡ v → v < length marks → b ≡ get_or marks i b → get_or marks v false ≡ b
+mark-read marks i v b e h r = sym (get_or_read marks v b h (rw e at r) false)
+
+pub level-read : (es : List Entry) (l : Literal) (k : ℕ) → option_map (λ (e : Entry). e.level) (entry_of es l.var) ≡ Some k → level_at es l ≡ k
+level-read es l k h = ap (λ (o : Option ℕ). unwrap_or o 0) h
+
+pub within-marks : (t : TrailList) (marks : List Bool) (current : ℕ) (lower c : List Literal) (l : Literal) → Holds t marks current lower c → lit_in t.vars l ≡ true → l.var < length marks
+within-marks t marks current lower c l h w = (let p = lit_in-parts t.vars l w in omega (arith, h.sized, p.1))
+
+-- a clause has few literals
+pub few : (t : TrailList) (marks : List Bool) (current : ℕ) (lower c : List Literal) → Holds t marks current lower c → IsTrail t → current ≤ 2 ^ 62 + 1
+few t marks current lower c h k =
+    let all = count_of_vars t.vars c h.within h.differ in
+    let both = length-filter_both (is_current t.entries) (λ l. not (is_current t.entries l)) (λ l. refl) c in
+    omega (arith, all, both, h.counted, k.few)
+
+-- a literal more
+pub holds-known : (t : TrailList) (marks : List Bool) (current : ℕ) (lower c : List Literal) (l : Literal) → Holds t marks current lower c → get_or marks l.var false ≡ true → Holds t marks current lower (with_lit c l)
+holds-known t marks current lower c l h m = (let known : has_var l.var c ≡ true = sym (h.marked l.var) ∙ m in rw known h)
+
+holds-push : (t : TrailList) (marks : List Bool) (current more : ℕ) (lower longer c : List Literal) (l : Literal) → Holds t marks current lower c → lit_in t.vars l ≡ true → has_var l.var c ≡ false → more ≡ length (filter (is_current t.entries) (c ++ l ∷ [])) → longer ≡ filter (λ m. not (is_current t.entries m)) (c ++ l ∷ []) → Holds t (set marks l.var true) more longer (c ++ l ∷ [])
+holds-push t marks current more lower longer c l h w u e f = record {
+  sized = simp length-set h.sized;
+  marked = λ v. elim (cases_eq v l.var) [
+    | inl p ↦ (let P : ℕ → Type 0 = λ j. get_or (set marks l.var true) j false ≡ has_var j (c ++ l ∷ []) in
+        subst P (sym p) (get_or-set_same marks l.var true false (within-marks t marks current lower c l h w) ∙ sym (var-push l.var c l ∙ or_right (has_var l.var c) (eqb l.var l.var || false) (or_left (eqb l.var l.var) false (eq-eqb l.var l.var refl)))))
+    | inr p ↦ get_or-set_other marks l.var v true false p ∙ h.marked v ∙ sym (var-push v c l ∙ other (has_var v c) (eqb l.var v) (ne_eqb l.var v (λ q. p (sym q))))
+  ];
+  counted = e;
+  rest = f;
+  differ = vars_differ-push c l h.differ u;
+  within = clause_in-push t.vars c l h.within w;
+}
+  where
+    other : (a b : Bool) → b ≡ false → (a || (b || false)) ≡ a
+    other true b e = refl
+    other false b e = rw e refl
+
+pub holds-current : (t : TrailList) (marks : List Bool) (current : ℕ) (lower c : List Literal) (l : Literal) → Holds t marks current lower c → lit_in t.vars l ≡ true → get_or marks l.var false ≡ false → is_current t.entries l ≡ true → Holds t (set marks l.var true) (current + 1) lower (with_lit c l)
+holds-current t marks current lower c l h w m k =
+    let u : has_var l.var c ≡ false = sym (h.marked l.var) ∙ m in
+    let p : Literal → Bool = is_current t.entries in
+    let q : Literal → Bool = λ x. not (p x) in
+    let one : filter p (c ++ l ∷ []) ≡ filter p c ++ l ∷ [] = filter-append p c (l ∷ []) ∙ rw k refl in
+    let none : filter q (c ++ l ∷ []) ≡ filter q c ++ [] = filter-append q c (l ∷ []) ∙ rw k refl in
+    let long : current + 1 ≡ length (filter p (c ++ l ∷ [])) = ap (λ n. n + 1) h.counted ∙ sym (ap length one ∙ length-append (filter p c) (l ∷ [])) in
+    rw u (holds-push t marks current (current + 1) lower lower c l h w u long (h.rest ∙ sym (append-nil (filter q c)) ∙ sym none))
+
+pub holds-lower : (t : TrailList) (marks : List Bool) (current : ℕ) (lower c : List Literal) (l : Literal) → Holds t marks current lower c → lit_in t.vars l ≡ true → get_or marks l.var false ≡ false → is_current t.entries l ≡ false → Holds t (set marks l.var true) current (lower ++ l ∷ []) (with_lit c l)
+holds-lower t marks current lower c l h w m k =
+    let u : has_var l.var c ≡ false = sym (h.marked l.var) ∙ m in
+    let p : Literal → Bool = is_current t.entries in
+    let q : Literal → Bool = λ x. not (p x) in
+    let one : filter q (c ++ l ∷ []) ≡ filter q c ++ l ∷ [] = filter-append q c (l ∷ []) ∙ rw k refl in
+    let none : filter p (c ++ l ∷ []) ≡ filter p c ++ [] = filter-append p c (l ∷ []) ∙ rw k refl in
+    rw u (holds-push t marks current current lower (lower ++ l ∷ []) c l h w u (h.counted ∙ ap length (sym (append-nil (filter p c)) ∙ sym none)) (ap (λ xs. xs ++ l ∷ []) h.rest ∙ sym one))
+
+-- the literals of a clause, one after another
+joined-suc : (k d : List Literal) (i : ℕ) (x : Literal) → slice_get d i ≡ Some x → joined k (take (suc i) d) ≡ with_lit (joined k (take i d)) x
+joined-suc k [] i x h = absurd (cc)
+joined-suc k (y ∷ d) zero x h = (let q : y ≡ x = cc in ap (with_lit k) q)
+joined-suc k (y ∷ d) (suc i) x h = joined-suc (with_lit k y) d i x h
+
+pub joined-more : (k d : List Literal) (i : ℕ) (x : Literal) → slice_get d i ≡ Some x → joined k (take (i + 1) d) ≡ with_lit (joined k (take i d)) x
+joined-more k d i x h = ap (λ (n : ℕ). joined k (take n d)) (add-one i) ∙ joined-suc k d i x h
+
+pub joined-whole : (k d : List Literal) (n : ℕ) → n ≡ length d → joined k (take n d) ≡ joined k d
+joined-whole k d n e = ap (λ (m : ℕ). joined k (take m d)) e ∙ ap (joined k) (take-whole d)
+
+pub set-at : (t : TrailList) (d : List Literal) (i : ℕ) (l : Literal) → all_set t d ≡ true → slice_get d i ≡ Some l → (lit_in t.vars l ≡ true) × (is_set t.entries l.var ≡ true)
+set-at t d i l h at = and_parts (lit_in t.vars l) (is_set t.entries l.var) (list_all-slice_get (λ (m : Literal). lit_in t.vars m && is_set t.entries m.var) d i l h at)
+
+-- a literal less
+pub same-level : (es : List Entry) (l m : Literal) → l.var ≡ m.var → is_current es l ≡ is_current es m
+same-level es l m e = ap (λ (v : ℕ). eqb (unwrap_or (option_map (λ (x : Entry). x.level) (entry_of es v)) 0) (level_of es)) e
+
+without-absent : (v : ℕ) (c : List Literal) → has_var v c ≡ false → without v c ≡ c
+without-absent v [] h = refl
+without-absent v (m ∷ c) h =
+    elim (cases_Bool (eqb m.var v)) [
+      | inl t ↦ absurd (true≢false (sym (or_left (eqb m.var v) (has_var v c) t) ∙ h))
+      | inr t ↦ rw t (ap (λ (xs : List Literal). m ∷ xs) (without-absent v c (sym (ap (λ (b : Bool). b || has_var v c) t) ∙ h)))
+    ]
+
+one-less : (p : Literal → Bool) (v : ℕ) (c : List Literal) → vars_differ c ≡ true → has_var v c ≡ true → ((l : Literal) → l.var ≡ v → p l ≡ true) → length (filter p c) ≡ length (filter p (without v c)) + 1
+one-less p v [] d h f = absurd (cc)
+one-less p v (m ∷ c) d h f =
+    let q = and_parts (not (has_var m.var c)) (vars_differ c) d in
+    elim (cases_Bool (eqb m.var v)) [
+      | inl t ↦ (let e = eqb-true m.var v t in
+          let here : p m ≡ true = f m e in
+          let away : has_var v c ≡ false = ap (λ (w : ℕ). has_var w c) (sym e) ∙ not-true (has_var m.var c) q.0 in
+          let rest : without v c ≡ c = without-absent v c away in
+          rw (t, here, rest) (omega arith))
+      | inr t ↦ (let k : has_var v c ≡ true = sym (ap (λ (b : Bool). b || has_var v c) t) ∙ h in
+          let r = one-less p v c q.1 k f in
+          elim (cases_Bool (p m)) [ inl u ↦ rw (t, u) (omega (arith, r)) | inr u ↦ rw (t, u) r ])
+    ]
+
+same-rest : (q : Literal → Bool) (v : ℕ) (c : List Literal) → ((l : Literal) → l.var ≡ v → q l ≡ false) → filter q (without v c) ≡ filter q c
+same-rest q v [] f = refl
+same-rest q v (m ∷ c) f =
+    let r = same-rest q v c f in
+    elim (cases_Bool (eqb m.var v)) [
+      | inl t ↦ (let u : q m ≡ false = f m (eqb-true m.var v t) in rw (t, u) r)
+      | inr t ↦ elim (cases_Bool (q m)) [ inl u ↦ rw (t, u) (ap (λ (xs : List Literal). m ∷ xs) r) | inr u ↦ rw (t, u) r ]
+    ]
+
+var-without : (v w : ℕ) (c : List Literal) → (w ≡ v → ⊥) → has_var w (without v c) ≡ has_var w c
+var-without v w [] n = refl
+var-without v w (m ∷ c) n =
+    elim (cases_Bool (eqb m.var v)) [
+      | inl t ↦ (let u : eqb m.var w ≡ false = ne_eqb m.var w (λ e. n (sym e ∙ eqb-true m.var v t)) in rw (t, u) (var-without v w c n))
+      | inr t ↦ rw t (ap (λ (b : Bool). eqb m.var w || b) (var-without v w c n))
+    ]
+
+pub some-current : (t : TrailList) (marks : List Bool) (current : ℕ) (lower c : List Literal) (l : Literal) → Holds t marks current lower c → has_var l.var c ≡ true → is_current t.entries l ≡ true → 1 ≤ current
+some-current t marks current lower c l h k u =
+    let r = one-less (is_current t.entries) l.var c h.differ k (λ m e. same-level t.entries m l e ∙ u) in
+    omega (arith, h.counted, r)
+
+pub holds-drop : (t : TrailList) (marks : List Bool) (current : ℕ) (lower c : List Literal) (l : Literal) → Holds t marks current lower c → lit_in t.vars l ≡ true → has_var l.var c ≡ true → is_current t.entries l ≡ true → Holds t (set marks l.var false) (current - 1) lower (without l.var c)
+holds-drop t marks current lower c l h w k u =
+    let cur : (m : Literal) → m.var ≡ l.var → is_current t.entries m ≡ true = λ m e. same-level t.entries m l e ∙ u in
+    let r = one-less (is_current t.entries) l.var c h.differ k cur in
+    record {
+      sized = simp length-set h.sized;
+      marked = λ v. elim (cases_eq v l.var) [
+        | inl p ↦ (let P : ℕ → Type 0 = λ j. get_or (set marks l.var false) j false ≡ has_var j (without l.var c) in
+            subst P (sym p) (get_or-set_same marks l.var false false (within-marks t marks current lower c l h w) ∙ sym (none-without l.var c)))
+        | inr p ↦ get_or-set_other marks l.var v false false p ∙ h.marked v ∙ sym (var-without l.var v c p)
+      ];
+      counted = omega (arith, h.counted, r);
+      rest = h.rest ∙ sym (same-rest (λ m. not (is_current t.entries m)) l.var c (λ m e. not_from_true (is_current t.entries m) (cur m e)));
+      differ = differ-kept (λ m. not (eqb m.var l.var)) c h.differ;
+      within = within-kept t.vars (λ m. not (eqb m.var l.var)) c h.within;
+    }
+
+-- the reason of an entry is a clause whose literals are all set
+pub reason-known : (f : Formula) (t : TrailList) (v r : ℕ) → IsFormula f → f.vars ≡ t.vars → HasReasons f.clauses t.entries → is_set t.entries v ≡ true → option_map (λ (e : Entry). e.reason) (entry_of t.entries v) ≡ Some (Some r) → (r < length f.clauses) × (all_set t (clause_at f.clauses r) ≡ true)
+reason-known f t v r form same reasons set h =
+    let x = found t.entries v set in
+    let why : x.entry.reason ≡ Some r = same_Some x.entry.reason (Some r) (sym (ap (option_map (λ (e : Entry). e.reason)) x.first) ∙ h) in
+    let d = clause_at f.clauses r in
+    let p = and_parts (has_lit x.entry.lit d) (is_falsified (lits_of (take x.place t.entries)) (others x.entry.lit d)) (reasons x.place x.entry r x.stands why) in
+    let at = stands f.clauses r x.entry.lit p.0 in
+    let within : clause_in t.vars d ≡ true = ap (λ (n : ℕ). clause_in n d) (sym same) ∙ list_all-slice_get (clause_in f.vars) f.clauses r d form.within at in (
+      slice_get_within f.clauses r d at,
+      all-from (λ (m : Literal). lit_in t.vars m && is_set t.entries m.var) d (λ m k. and_from (lit_in t.vars m) (is_set t.entries m.var) (member-within t.vars d m within k) (elim (cases_Bool (same_lit x.entry.lit m)) [
+        | inl y ↦ ap (λ (w : ℕ). is_set t.entries w) (sym (ap (λ (l : Literal). l.var) (lit-is x.entry.lit m y)) ∙ x.named) ∙ set
+        | inr y ↦ front-set t.entries x.place m.var (has-var (opposite m) (lits_of (take x.place t.entries)) (false-at (lits_of (take x.place t.entries)) (others x.entry.lit d) m p.1 (kept-at (λ z. not (same_lit x.entry.lit z)) d m k (not_from_false (same_lit x.entry.lit m) y))))
+      ])),
+    )
+  where
+    front-set : (es : List Entry) (n w : ℕ) → has_var w (lits_of (take n es)) ≡ true → has_var w (lits_of es) ≡ true
+    front-set es zero w h = absurd (cc)
+    front-set [] (suc n) w h = absurd (cc)
+    front-set (e ∷ es) (suc n) w h =
+        elim (or_cases (eqb e.lit.var w) (has_var w (lits_of (take n es))) h) [
+          | inl y ↦ or_left (eqb e.lit.var w) (has_var w (lits_of es)) y
+          | inr y ↦ or_right (eqb e.lit.var w) (has_var w (lits_of es)) (front-set es n w y)
+        ]
+
+-- what holds of each result that is no fault
+pub on-ok : {T E P : Type 0} (r : Result T E) → P → OnOk r P
+on-ok (Ok x) p = p
+on-ok (Err e) p = tt
+
+pub both-ok : {T E P Q R : Type 0} (r : Result T E) → OnOk r P → OnOk r Q → (P → Q → R) → OnOk r R
+both-ok (Ok x) p q f = f p q
+both-ok (Err e) p q f = tt
+
+pub entry-var : (es : List Entry) (v : ℕ) (e : Entry) → entry_of es v ≡ Some e → e.lit.var ≡ v
+entry-var [] v e h = absurd (cc)
+entry-var (x ∷ es) v e h =
+    elim (cases_Bool (eqb x.lit.var v)) [
+      | inl t ↦ (let q : Some x ≡ Some e = rw t at h in ap (λ (y : Entry). y.lit.var) (sym (same_Some x e q)) ∙ eqb-true x.lit.var v t)
+      | inr t ↦ entry-var es v e (rw t at h)
+    ]
+
+-- an entry whose variable the clause doesn't have is passed
+pub keeps-same : (t : TrailList) (clauses : List (List Literal)) (h : Hand) (e : Entry) (s : Step) (v : ℕ) → entry_of t.entries v ≡ Some e → get_or h.marks.items v false ≡ false → Keeps t h s → Keeps t h (resolved clauses e s)
+keeps-same t clauses h e s v at m k =
+    let q = entry-var t.entries v e at in
+    let none : has_var e.lit.var s.clause ≡ false = sym (k.holds.marked e.lit.var) ∙ ap (λ (w : ℕ). get_or h.marks.items w false) q ∙ m in
+    let P : Step → Type 0 = λ x. Keeps t h x in
+    subst P (sym (resolved-not clauses e s none)) k
+
+-- one whose variable it has is resolved with
+pub keeps-resolved : (t : TrailList) (clauses : List (List Literal)) (old new : Hand) (e : Entry) (s : Step) (v r : ℕ) → entry_of t.entries v ≡ Some e → option_map (λ (x : Entry). x.reason) (entry_of t.entries v) ≡ Some (Some r) → get_or old.marks.items v false ≡ true → Keeps t old s → ((k : List Literal) → Holds t old.marks.items old.current old.lower k → has_var v k ≡ true → Holds t new.marks.items new.current new.lower (resolvent v k (clause_at clauses r))) → new.hints ≡ old.hints ++ (r + 1) ∷ [] → Keeps t new (resolved clauses e s)
+keeps-resolved t clauses old new e s v r at why m k f g =
+    let q = entry-var t.entries v e at in
+    let has : has_var v s.clause ≡ true = sym (k.holds.marked v) ∙ m in
+    let has-e : has_var e.lit.var s.clause ≡ true = ap (λ (w : ℕ). has_var w s.clause) q ∙ has in
+    let reason : e.reason ≡ Some r = same_Some e.reason (Some r) (sym (ap (option_map (λ (x : Entry). x.reason)) at) ∙ why) in
+    let P : Step → Type 0 = λ x. Keeps t new x in
+    let Q : ℕ → Type 0 = λ w. Holds t new.marks.items new.current new.lower (resolvent w s.clause (clause_at clauses r)) in
+    subst P (sym (resolved-is clauses e s r has-e reason)) (record {
+      holds = subst Q (sym q) (f s.clause k.holds has);
+      hinted = ap (λ (hs : List ℕ). (r + 1) ∷ hs) k.hinted ∙ sym (ap reverse g ∙ reverse-append old.hints ((r + 1) ∷ []));
+    })
+
+-- a clause over different variables, literal by literal
+joined-apart : (k d : List Literal) → vars_differ (k ++ d) ≡ true → joined k d ≡ k ++ d
+joined-apart k [] h = sym (append-nil k)
+joined-apart k (l ∷ d) h =
+    let u : has_var l.var k ≡ false = unused k h in
+    let e : (k ++ l ∷ []) ++ d ≡ k ++ (l ∷ d) = append_assoc k (l ∷ []) d in
+    rw u (joined-apart (k ++ l ∷ []) d (ap vars_differ e ∙ h) ∙ e)
+  where
+    unused : (k : List Literal) → vars_differ (k ++ (l ∷ d)) ≡ true → has_var l.var k ≡ false
+    unused [] h = refl
+    unused (m ∷ k) h =
+        let p = and_parts (not (has_var m.var (k ++ (l ∷ d)))) (vars_differ (k ++ (l ∷ d))) h in
+        let away = or_parts (has_var m.var k) (eqb l.var m.var || has_var m.var d) (sym (list_any-append (λ (x : Literal). eqb x.var m.var) k (l ∷ d)) ∙ not-true (has_var m.var (k ++ (l ∷ d))) p.0) in
+        let other = or_parts (eqb l.var m.var) (has_var m.var d) away.1 in
+        or_from (eqb m.var l.var) (has_var l.var k) (ne_eqb m.var l.var (λ e. eqb-false l.var m.var other.0 (sym e))) (unused k p.1)
+
+pub joined-alone : (d : List Literal) → vars_differ d ≡ true → joined [] d ≡ d
+joined-alone d h = joined-apart [] d h
+
+-- the literals of a conflict are set
+pub conflict-set : (f : Formula) (t : TrailList) (c : ℕ) → IsFormula f → IsConflict f t c → (all_set t (clause_at f.clauses c) ≡ true) × (vars_differ (clause_at f.clauses c) ≡ true)
+conflict-set f t c form k =
+    let d = clause_at f.clauses c in
+    let p = and_parts (nat_lt c (length f.clauses)) (is_falsified (lits_of t.entries) d) k.conflict in
+    let at = slice_get-get_or f.clauses c [] (ltb-true c (length f.clauses) p.0) in
+    let within : clause_in t.vars d ≡ true = ap (λ (n : ℕ). clause_in n d) (sym k.vars) ∙ list_all-slice_get (clause_in f.vars) f.clauses c d form.within at in (
+      all-from (λ (m : Literal). lit_in t.vars m && is_set t.entries m.var) d (λ m a. and_from (lit_in t.vars m) (is_set t.entries m.var) (member-within t.vars d m within a) (has-var (opposite m) (lits_of t.entries) (false-at (lits_of t.entries) d m p.1 a))),
+      list_all-slice_get vars_differ f.clauses c d form.differ at,
+    )
+
+pub started-keeps : (f : Formula) (t : TrailList) (h : Hand) (c : ℕ) → IsFormula f → IsConflict f t c → Holds t h.marks.items h.current h.lower (joined [] (clause_at f.clauses c)) → h.hints ≡ (c + 1) ∷ [] → Keeps t h (conflict_step f.clauses c)
+started-keeps f t h c form k holds hints =
+    let P : List Literal → Type 0 = λ x. Holds t h.marks.items h.current h.lower x in
+    record {
+      holds = subst P (joined-alone (clause_at f.clauses c) (conflict-set f t c form k).1) holds;
+      hinted = sym (ap reverse hints);
+    }
+
+-- the literals of an asserting clause are set
+pub asserting-set : (es : List Entry) (c : List Literal) (i : ℕ) (l : Literal) → is_asserting es c ≡ true → slice_get c i ≡ Some l → is_set es l.var ≡ true
+asserting-set es [] i l h at = absurd (cc)
+asserting-set es (m ∷ c) i l h at =
+    let top = highest_level es c in
+    let one = and_parts (is_falsified (lits_of es) (m ∷ c) && is_current es m && nat_lt top (level_of es)) (begins_at es top c) h in
+    let two = and_parts (is_falsified (lits_of es) (m ∷ c) && is_current es m) (nat_lt top (level_of es)) one.0 in
+    let three = and_parts (is_falsified (lits_of es) (m ∷ c)) (is_current es m) two.0 in
+    has-var (opposite l) (lits_of es) (list_all-slice_get (is_false (lits_of es)) (m ∷ c) i l three.0 at)

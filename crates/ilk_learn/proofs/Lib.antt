@@ -1,0 +1,10 @@
+pub mod Examples
+pub mod Members
+pub mod Derived
+pub mod Highest
+pub mod Latest
+pub mod Walk
+pub mod Fresh
+pub mod Laws
+pub mod Holding
+pub mod Far

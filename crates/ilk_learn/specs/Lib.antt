@@ -1,0 +1,5 @@
+pub mod Resolvent
+pub mod Levels
+pub mod Learning
+pub mod Asserting
+pub mod Hand

@@ -1,0 +1,199 @@
+//! What is learned, from the clause in hand where its walk ended.
+
+ghost use Rattle.std.specs.Prelude.{◌≡◌, ◌-◌, ◌<◌, false, [], ◌∷◌, ◌++◌, find, reverse, IfOk, IsTrue};
+ghost use Rattle.std.specs.Bool.{◌==◌};
+ghost use Rattle.ilk_clauses.specs.Reasons.{is_conflict, HasReasons};
+ghost use Rattle.ilk_cnf.specs.Literal.{opposite};
+ghost use Rattle.ilk_cnf.specs.Formula.{clause_in};
+ghost use Rattle.ilk_log.specs.Propagation.{is_closed};
+ghost use Rattle.ilk_log.specs.Derived.{is_derived};
+ghost use Rattle.ilk_log.specs.Fresh.{IsFresh};
+ghost use Rattle.ilk_trail.specs.Trail.{level_of, up_to};
+ghost use Rattle.ilk_trail.specs.Laws.{lits_of};
+ghost use Rattle.ilk_learn.specs.Resolvent.{without};
+ghost use Rattle.ilk_learn.specs.Levels.{highest_first, highest_level, level_at};
+ghost use Rattle.ilk_learn.specs.Learning.{learned};
+ghost use Rattle.ilk_learn.specs.Asserting.{back_level, is_asserting};
+ghost use Rattle.ilk_learn.specs.Hand.{IsConflict, Keeps, all_set, conflict_step};
+
+use crate::hand::Hand;
+use ilk_clauses::Clauses;
+use ilk_cnf::{Lit, Lits};
+use ilk_log::{Hints, Step};
+use ilk_trail::Trail;
+use std::alloc::{AllocError, Global};
+
+/// What a conflict above level 0 teaches.
+#[derive(Drop)]
+pub struct Learned {
+    /// The clause, the literal that it forces first, and the hints that show it.
+    pub step: Step,
+    /// The level to go back to, at which the clause forces its first literal.
+    pub level: u64,
+}
+
+/// What is learned where all literals of clause `conflict` are false above level 0, and weren't at
+/// the level below. The clause is the one at the first unique implication point of the current level.
+/// It is derived by its hints, forces its first literal at the answered level, and is fresh where
+/// propagation was at its end there.
+pub fn learn(
+    alloc: Global,
+    clauses: &Clauses,
+    trail: &Trail,
+    conflict: u64,
+) -> Result<Learned, AllocError>
+    requires vars { clauses.now.vars ≡ trail.now.vars }
+    requires reasons { HasReasons clauses.now.clauses trail.now.entries }
+    requires conflict { IsTrue (is_conflict clauses.now.clauses (lits_of trail.now.entries) conflict) }
+    requires level { 0 < level_of trail.now.entries }
+    requires below { is_conflict clauses.now.clauses (lits_of (up_to (level_of trail.now.entries - 1) trail.now.entries)) conflict ≡ false }
+    ensures step { IfOk result (λ l. l.step ≡ learned clauses.now.clauses trail.now.entries conflict) }
+    ensures level { IfOk result (λ l. l.level ≡ back_level trail.now.entries l.step.clause) }
+    ensures derived { IfOk result (λ l. IsTrue (is_derived clauses.now.vars clauses.now.clauses l.step)) }
+    ensures asserting { IfOk result (λ l. IsTrue (is_asserting trail.now.entries l.step.clause)) }
+    ensures fresh { IfOk result (λ l. IsTrue (is_closed clauses.now.clauses (lits_of (up_to l.level trail.now.entries))) → IsFresh clauses.now.clauses l.step.clause) }
+{
+    let _count = clauses.count();
+    let _level = trail.level();
+    let step = analysed(alloc, clauses, trail, conflict)?;
+    let level = level_below(trail, &step.clause);
+    Ok(Learned { step, level })
+}
+
+/// The empty clause, with the hints that show it, where all literals of clause `conflict` are false at
+/// level 0.
+pub fn refute(
+    alloc: Global,
+    clauses: &Clauses,
+    trail: &Trail,
+    conflict: u64,
+) -> Result<Step, AllocError>
+    requires vars { clauses.now.vars ≡ trail.now.vars }
+    requires reasons { HasReasons clauses.now.clauses trail.now.entries }
+    requires conflict { IsTrue (is_conflict clauses.now.clauses (lits_of trail.now.entries) conflict) }
+    requires level { level_of trail.now.entries ≡ 0 }
+    ensures step { IfOk result (λ s. s ≡ learned clauses.now.clauses trail.now.entries conflict) }
+    ensures derived { IfOk result (λ s. IsTrue (is_derived clauses.now.vars clauses.now.clauses s)) }
+    ensures empty { IfOk result (λ s. s.clause ≡ []) }
+{
+    let _count = clauses.count();
+    let _level = trail.level();
+    analysed(alloc, clauses, trail, conflict)
+}
+
+// What is learned from a conflict, at any level.
+fn analysed(
+    alloc: Global,
+    clauses: &Clauses,
+    trail: &Trail,
+    conflict: u64,
+) -> Result<Step, AllocError>
+    requires { IsConflict clauses.now trail.now conflict }
+    ensures { IfOk result (λ s. s ≡ learned clauses.now.clauses trail.now.entries conflict) }
+{
+    let mut hand = started(alloc, clauses, trail, conflict)?;
+    let point = hand.walk(clauses, trail, conflict)?;
+    let clause = match point {
+        Some(lit) => clause_at_point(alloc, trail, lit, &hand.lower)?,
+        None => Lits::new(alloc),
+    };
+    let hints = turned(alloc, &hand.hints)?;
+    Ok(Step { clause, hints })
+}
+
+// Clause `conflict` in hand.
+fn started(
+    alloc: Global,
+    clauses: &Clauses,
+    trail: &Trail,
+    conflict: u64,
+) -> Result<Hand, AllocError>
+    requires { IsConflict clauses.now trail.now conflict }
+    ensures { IfOk result (λ h. Keeps trail.now h (conflict_step clauses.now.clauses conflict)) }
+{
+    let _count = clauses.count();
+    let mut hand = Hand::new(alloc, trail, clauses.vars())?;
+    hand.join(clauses, trail, conflict)?;
+    hand.hints.push(conflict + 1)?;
+    Ok(hand)
+}
+
+// The clause with the opposite of `lit` first, and next one of the highest level of the others.
+fn clause_at_point(alloc: Global, trail: &Trail, lit: Lit, lower: &Lits) -> Result<Lits, AllocError>
+    requires { IsTrue (all_set trail.now lower.now) }
+    ensures { IfOk result (λ c. c ≡ opposite lit ∷ highest_first trail.now.entries lower.now) }
+{
+    let mut clause = Lits::new(alloc);
+    clause.push(lit.negated())?;
+    match first_highest(trail, lower) {
+        Some(first) => with_first(clause, first, lower),
+        None => Ok(clause),
+    }
+}
+
+// The clause with this literal, and then the others, at its end.
+fn with_first(mut clause: Lits, first: Lit, lits: &Lits) -> Result<Lits, AllocError>
+    ensures { IfOk result (λ c. c ≡ clause ++ (first ∷ without first.var lits.now)) }
+{
+    clause.push(first)?;
+    let items = lits.as_slice();
+    for other in items {
+        if other.var() != first.var() {
+            clause.push(*other)?;
+        }
+    }
+    Ok(clause)
+}
+
+// The first literal of the highest level.
+fn first_highest(trail: &Trail, lits: &Lits) -> Option<Lit>
+    requires { IsTrue (all_set trail.now lits.now) }
+    ensures { result ≡ find (λ l. level_at trail.now.entries l == highest_level trail.now.entries lits.now) lits.now }
+{
+    let top = top_level(trail, lits);
+    let items = lits.as_slice();
+    for lit in items {
+        if trail.level_of(*lit) == top {
+            return Some(*lit);
+        }
+    }
+    None
+}
+
+// The highest level of the literals, 0 where there are none.
+fn top_level(trail: &Trail, lits: &Lits) -> u64
+    requires { IsTrue (all_set trail.now lits.now) }
+    ensures { result ≡ highest_level trail.now.entries lits.now }
+{
+    let mut top = 0;
+    let items = lits.as_slice();
+    for lit in items {
+        top = top.max(trail.level_of(*lit));
+    }
+    top
+}
+
+// The highest level of the literals after the first.
+fn level_below(trail: &Trail, clause: &Lits) -> u64
+    requires within { IsTrue (clause_in trail.now.vars clause.now) }
+    requires asserting { IsTrue (is_asserting trail.now.entries clause.now) }
+    ensures { result ≡ back_level trail.now.entries clause.now }
+{
+    if clause.len() < 2 {
+        return 0;
+    }
+    trail.level_of(*clause.at(1))
+}
+
+// The hints from the last on.
+fn turned(alloc: Global, hints: &Hints) -> Result<Hints, AllocError>
+    ensures { IfOk result (λ h. h ≡ reverse hints.now) }
+{
+    let mut turned = Hints::new(alloc);
+    let mut i = hints.len();
+    while i > 0 {
+        i -= 1;
+        turned.push(*hints.at(i))?;
+    }
+    Ok(turned)
+}

@@ -1,0 +1,163 @@
+//! The clause in hand while it is resolved with the reasons of entries.
+
+ghost use Rattle.std.specs.Prelude.{◌≡◌, ◌+◌, ◌-◌, ◌<◌, ◌^◌, true, false, [], ◌∷◌, ◌++◌, List, Some, length, slice_index_or, IfOk, OnOk, IsTrue};
+ghost use Rattle.ilk_clauses.specs.Reasons.{clause_at, HasReasons};
+ghost use Rattle.ilk_cnf.specs.Literal.{Literal, has_var};
+ghost use Rattle.ilk_cnf.specs.Formula.{lit_in};
+ghost use Rattle.ilk_log.specs.declared.step.Step.{Step as StepValue};
+ghost use Rattle.ilk_trail.specs.declared.entry.Entry.{Entry};
+ghost use Rattle.ilk_trail.specs.Trail.{entry_of};
+ghost use Rattle.ilk_trail.specs.Laws.{is_set};
+ghost use Rattle.ilk_learn.specs.Resolvent.{with_lit, joined, resolvent};
+ghost use Rattle.ilk_learn.specs.Levels.{is_current};
+ghost use Rattle.ilk_learn.specs.Learning.{is_point, resolved};
+ghost use Rattle.ilk_learn.specs.Hand.{HandHolds, IsConflict, Keeps, Reached, all_set, conflict_step};
+
+use ilk_clauses::Clauses;
+use ilk_cnf::{Lit, Lits};
+use ilk_log::Hints;
+use ilk_trail::Trail;
+use std::alloc::{AllocError, Global};
+
+// A clause, and the hints that show it.
+#[derive(Drop)]
+pub struct Hand {
+    // by variable: whether the clause has a literal of it
+    pub marks: Vec<bool>,
+    // how many of its literals were set at the current level
+    pub current: u64,
+    // its other literals
+    pub lower: Lits,
+    // the last of them first
+    pub hints: Hints,
+}
+
+impl Hand {
+    // The clause of no literal, without hints.
+    pub fn new(alloc: Global, trail: &Trail, vars: u64) -> Result<Hand, AllocError>
+        requires few { vars < 2 ^ 63 }
+        requires vars { vars ≡ trail.now.vars }
+        ensures holds { IfOk result (λ h. HandHolds trail.now h []) }
+        ensures hints { IfOk result (λ h. h.hints ≡ []) }
+    {
+        Ok(Hand {
+            marks: vec![in alloc; false; vars as usize + 1]?,
+            current: 0,
+            lower: Lits::new(alloc),
+            hints: Hints::new(alloc),
+        })
+    }
+
+    // Adds a literal, where the clause has none of its variable.
+    fn meet(&mut self, trail: &Trail, lit: Lit) -> Result<(), AllocError>
+        requires held { (c : List Literal) × HandHolds trail.now self.old c }
+        requires within { IsTrue (lit_in trail.now.vars lit) }
+        requires set { IsTrue (is_set trail.now.entries lit.var) }
+        ensures holds { OnOk result ((c : List Literal) → HandHolds trail.now self.old c → HandHolds trail.now self.new (with_lit c lit)) }
+        ensures hints { self.new.hints ≡ self.old.hints }
+    {
+        let var = lit.var() as usize;
+        if self.marks[var] {
+            return Ok(());
+        }
+        if trail.level_of(lit) == trail.level() {
+            self.current += 1;
+        } else {
+            self.lower.push(lit)?;
+        }
+        self.marks[var] = true;
+        Ok(())
+    }
+
+    // Adds the literals of clause `c` over variables that the clause in hand doesn't have.
+    pub fn join(&mut self, clauses: &Clauses, trail: &Trail, c: u64) -> Result<(), AllocError>
+        requires held { (k : List Literal) × HandHolds trail.now self.old k }
+        requires known { c < length clauses.now.clauses }
+        requires set { IsTrue (all_set trail.now (clause_at clauses.now.clauses c)) }
+        ensures holds { OnOk result ((k : List Literal) → HandHolds trail.now self.old k → HandHolds trail.now self.new (joined k (clause_at clauses.now.clauses c))) }
+        ensures hints { self.new.hints ≡ self.old.hints }
+    {
+        for i in 0..clauses.length(c) {
+            self.meet(trail, clauses.literal(c, i))?;
+        }
+        Ok(())
+    }
+
+    // Resolves with clause `reason` upon the variable of `lit`.
+    fn resolve(
+        &mut self,
+        clauses: &Clauses,
+        trail: &Trail,
+        lit: Lit,
+        reason: u64,
+    ) -> Result<(), AllocError>
+        requires held { (k : List Literal) × HandHolds trail.now self.old k × IsTrue (has_var lit.var k) }
+        requires within { IsTrue (lit_in trail.now.vars lit) }
+        requires current { IsTrue (is_current trail.now.entries lit) }
+        requires known { reason < length clauses.now.clauses }
+        requires numbered { reason + 1 < 2 ^ 64 }
+        requires set { IsTrue (all_set trail.now (clause_at clauses.now.clauses reason)) }
+        ensures holds { OnOk result ((k : List Literal) → HandHolds trail.now self.old k → IsTrue (has_var lit.var k) → HandHolds trail.now self.new (resolvent lit.var k (clause_at clauses.now.clauses reason))) }
+        ensures hints { OnOk result (self.new.hints ≡ self.old.hints ++ (reason + 1) ∷ []) }
+    {
+        self.join(clauses, trail, reason)?;
+        self.marks[lit.var() as usize] = false;
+        self.current -= 1;
+        self.hints.push(reason + 1)
+    }
+
+    // Passes the entry of `lit`: where the clause has its variable, resolves with its reason.
+    fn pass(&mut self, clauses: &Clauses, trail: &Trail, lit: Lit) -> Result<(), AllocError>
+        requires held { (s : StepValue) × Keeps trail.now self.old s }
+        requires reasons { HasReasons clauses.now.clauses trail.now.entries }
+        requires vars { clauses.now.vars ≡ trail.now.vars }
+        requires within { IsTrue (lit_in trail.now.vars lit) }
+        requires set { IsTrue (is_set trail.now.entries lit.var) }
+        requires current { slice_index_or self.old.marks.items lit.var false ≡ true → IsTrue (is_current trail.now.entries lit) }
+        ensures { OnOk result ((e : Entry) (s : StepValue) → entry_of trail.now.entries lit.var ≡ Some e → Keeps trail.now self.old s → Keeps trail.now self.new (resolved clauses.now.clauses e s)) }
+    {
+        let _count = clauses.count();
+        if self.marks[lit.var() as usize] {
+            if let Some(reason) = trail.reason(lit) {
+                return self.resolve(clauses, trail, lit, reason);
+            }
+        }
+        Ok(())
+    }
+
+    // Whether the clause has the variable of `lit`, and just one literal of the current level, above
+    // level 0.
+    fn is_point(&self, trail: &Trail, lit: Lit) -> bool
+        requires held { (c : List Literal) × HandHolds trail.now self.now c }
+        requires within { IsTrue (lit_in trail.now.vars lit) }
+        ensures { (c : List Literal) → HandHolds trail.now self.now c → result ≡ is_point trail.now.entries lit c }
+    {
+        let marked = self.marks[lit.var() as usize];
+        let level = trail.level();
+        marked && (level > 0 && self.current == 1)
+    }
+
+    // Goes through the entries from the latest on, as far as the point, and answers its literal.
+    pub fn walk(
+        &mut self,
+        clauses: &Clauses,
+        trail: &Trail,
+        conflict: u64,
+    ) -> Result<Option<Lit>, AllocError>
+        requires conflict { IsConflict clauses.now trail.now conflict }
+        requires held { Keeps trail.now self.old (conflict_step clauses.now.clauses conflict) }
+        ensures { IfOk result (λ point. Reached trail.now clauses.now.clauses conflict self.new point) }
+    {
+        let _clauses = clauses.count();
+        let mut i = trail.count();
+        while i > 0 {
+            i -= 1;
+            let lit = trail.at(i);
+            if self.is_point(trail, lit) {
+                return Ok(Some(lit));
+            }
+            self.pass(clauses, trail, lit)?;
+        }
+        Ok(None)
+    }
+}

@@ -1,0 +1,17 @@
+//! What a conflict of a search teaches.
+//!
+//! Where all literals of a clause are false, the clause is resolved with the reasons of the trail's
+//! entries, from the latest on, until one of its literals is left that was set at the current level:
+//! the first unique implication point (`specs/Learning`). What follows is a clause that forces this
+//! literal on a lower level (`specs/Asserting`), with the hints that show it.
+//!
+//! `learn` answers it with the level to go back to, and `refute` the empty clause, where the conflict
+//! stands at level 0. The clause in hand is kept as marks by variable, a count of its literals of the
+//! current level, and a list of the others (`hand`), so that the time is that of the literals looked
+//! at.
+#![tactic(auto)]
+
+mod analysis;
+mod hand;
+
+pub use analysis::{Learned, learn, refute};
