@@ -113,7 +113,7 @@ reasons-back cs es m c h =
     let P : List Entry → Type 0 = λ xs. HasReasons cs xs in
     reasons-front cs (up_to m es) (above_level m es) (subst P (sym (up_to-front 0 m es c)) h)
 
-up_to-twice : (k m : ℕ) (es : List Entry) → k ≤ m → up_to k (up_to m es) ≡ up_to k es
+pub up_to-twice : (k m : ℕ) (es : List Entry) → k ≤ m → up_to k (up_to m es) ≡ up_to k es
 up_to-twice k m [] h = refl
 up_to-twice k m (x ∷ es) h =
     elim (cases_Bool (nat_le x.level m)) [

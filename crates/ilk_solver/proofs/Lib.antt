@@ -6,3 +6,6 @@ pub mod ClosedLevels
 pub mod Searches
 pub mod Weights
 pub mod Added
+pub mod Satisfied
+pub mod Logs
+pub mod Asserted

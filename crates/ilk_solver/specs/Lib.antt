@@ -4,3 +4,5 @@ pub mod Propagated
 pub mod Levels
 pub mod Search
 pub mod Held
+pub mod Assigned
+pub mod Answered

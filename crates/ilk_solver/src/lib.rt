@@ -5,6 +5,7 @@
 //! learned clause whether the search goes back to its start.
 #![tactic(auto)]
 
+mod assigned;
 mod picker;
 mod propagation;
 mod restart;
