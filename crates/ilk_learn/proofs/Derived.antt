@@ -1,5 +1,5 @@
 -- A clause in hand, with hints that show it, through the resolutions with the reasons of entries.
-use Rattle.std.proofs.Common.{◌≡◌, ℕ, ◌+◌, suc, inl, inr, Bool, true, false, ◌&&◌, not, eqb, List, [], ◌∷◌, refl, sym, ap, ◌∙◌, subst, Option, Some, add-one}
+use Rattle.std.proofs.Common.{◌≡◌, ℕ, ◌+◌, suc, inl, inr, true, false, ◌&&◌, not, eqb, List, [], ◌∷◌, refl, sym, ap, ◌∙◌, subst, Option, Some, add-one}
 use Rattle.std.specs.List.{filter}
 use Rattle.std.specs.Prelude.{slice_get}
 use Rattle.std.proofs.lemmas.Bool.{and_parts, and_from, or_cases, or_left, or_right, cases_Bool, not-true, not_from_false, true≢false}
@@ -31,13 +31,6 @@ false-at set (l ∷ c) m f h =
       | inl e ↦ ap (λ (x : Literal). has_lit (opposite x) set) (lit-is m l e) ∙ p.0
       | inr r ↦ false-at set c m p.1 r
     ]
-
-pub opposite-twice : (l : Literal) → opposite (opposite l) ≡ l
-opposite-twice l = go l.var l.positive
-  where
-    go : (v : ℕ) (b : Bool) → ◌≡◌ {A = Literal} (record { var = v; positive = not (not b) }) (record { var = v; positive = b })
-    go v true = refl
-    go v false = refl
 
 -- the opposites of a clause's literals
 pub has-opposite : (c : List Literal) (m : Literal) → has_lit m c ≡ true → has_lit (opposite m) (opposites c) ≡ true

@@ -2,7 +2,9 @@
 use Rattle.std.proofs.Common.{◌≡◌, ℕ, zero, suc, inl, inr, Bool, true, false, ◌&&◌, not, eqb, List, [], ◌∷◌, refl, sym, ap, ◌∙◌, subst, Some, None, length, take, reverse}
 use Rattle.std.specs.Prelude.{nat_lt, slice_get}
 use Rattle.std.specs.List.{filter}
+use Rattle.std.proofs.Math.Seq.{take-length}
 use Rattle.std.proofs.lemmas.Bool.{and_parts, and_from, or_left, or_right, cases_Bool, eqb-true, eq-eqb, true≢false}
+use Rattle.ilk_clauses.proofs.Within.{lit_in-clause}
 use Rattle.ilk_cnf.specs.Literal.{Literal, opposite, same_lit, has_lit, has_var}
 use Rattle.ilk_cnf.specs.Formula.{Formula, IsFormula, lit_in}
 use Rattle.ilk_log.proofs.Count.{same-lit, has-var}
@@ -15,9 +17,9 @@ use Rattle.ilk_learn.specs.Levels.{is_current, highest_first}
 use Rattle.ilk_learn.specs.Learning.{has_one_current, is_point, point_first, resolved, up_to_point, learned}
 use Rattle.ilk_learn.specs.Hand.{Keeps, Reached, IsConflict, all_set, conflict_step}
 use Rattle.ilk_learn.specs.declared.hand.Hand.{Hand}
-use Rattle.ilk_learn.proofs.Members.{member-within, kept-from}
+use Rattle.ilk_learn.proofs.Members.{kept-from}
 use Rattle.ilk_learn.proofs.Highest.{all-from, lone-passes}
-use Rattle.ilk_learn.proofs.Latest.{take-whole, reverse-one-more, level-entry}
+use Rattle.ilk_learn.proofs.Latest.{reverse-one-more, level-entry}
 use Rattle.ilk_learn.proofs.Walk.{Walking, walking-next, walking-level}
 use Rattle.ilk_learn.proofs.Laws.{has-point, walking-start}
 use Rattle.ilk_learn.proofs.Holding.{same-level}
@@ -35,9 +37,9 @@ far-start f t h c form trail k keeps =
     let P : List Entry → Type 0 = λ es. Walking f.vars f.clauses t.entries (reverse es) (conflict_step f.clauses c) in
     record {
       step = conflict_step f.clauses c;
-      walking = subst P (sym (take-whole t.entries)) w;
+      walking = subst P (sym (take-length t.entries)) w;
       keeps = keeps;
-      goes = ap (λ (es : List Entry). up_to_point f.clauses t.entries (reverse es) (conflict_step f.clauses c)) (take-whole t.entries);
+      goes = ap (λ (es : List Entry). up_to_point f.clauses t.entries (reverse es) (conflict_step f.clauses c)) (take-length t.entries);
     }
 
 -- the entry that is next
@@ -53,7 +55,7 @@ has-entry (x ∷ es) (suc i) e h = or_right (same_lit e.lit x.lit) (has_lit e.li
 
 -- its literal is over the variables, is set, and was set at the current level
 pub entry-within : (t : TrailList) (i : ℕ) (e : Entry) → IsTrail t → slice_get t.entries i ≡ Some e → lit_in t.vars e.lit ≡ true
-entry-within t i e k at = member-within t.vars (lits_of t.entries) e.lit k.within (has-entry t.entries i e at)
+entry-within t i e k at = lit_in-clause t.vars (lits_of t.entries) e.lit k.within (has-entry t.entries i e at)
 
 pub entry-current : (f : Formula) (t : TrailList) (h : Hand) (c n i : ℕ) (e : Entry) → IsTrail t → Far f t h c n → n ≡ suc i → slice_get t.entries i ≡ Some e → is_current t.entries e.lit ≡ true
 entry-current f t h c n i e trail k q at =
@@ -86,7 +88,7 @@ lower-set f t h es s w k =
     let q : Literal → Bool = λ m. not (is_current t.entries m) in
     ap (all_set t) k.holds.rest
     ∙ all-from (λ (m : Literal). lit_in t.vars m && is_set t.entries m.var) (filter q s.clause) (λ m a. (let b = (kept-from q s.clause m a).0 in
-    and_from (lit_in t.vars m) (is_set t.entries m.var) (member-within t.vars s.clause m k.holds.within b) (has-var (opposite m) (lits_of t.entries) (w.within (opposite m) (w.hand.denied m b)))))
+    and_from (lit_in t.vars m) (is_set t.entries m.var) (lit_in-clause t.vars s.clause m k.holds.within b) (has-var (opposite m) (lits_of t.entries) (w.within (opposite m) (w.hand.denied m b)))))
 
 -- where it is the point
 pub far-point : (f : Formula) (t : TrailList) (h : Hand) (c n i : ℕ) (e : Entry) → IsTrail t → (k : Far f t h c n) → n ≡ suc i → slice_get t.entries i ≡ Some e → is_point t.entries e.lit k.step.clause ≡ true → Reached t f.clauses c h (Some e.lit)

@@ -8,6 +8,7 @@ use Rattle.ilk_log.specs.declared.step.Step.{Step}
 use Rattle.ilk_learn.specs.Learning.{resolved}
 use Rattle.ilk_learn.specs.declared.hand.Hand.{Hand}
 use Rattle.std.proofs.Math.ListN.{length-set}
+use Rattle.std.proofs.Math.Seq.{take-length}
 use Rattle.std.proofs.lemmas.Bool.{and_parts, and_from, or_cases, or_parts, or_from, ltb-true, or_left, or_right, cases_Bool, cases_eq, eqb-true, eqb-false, eq-eqb, ne_eqb, not-true, not_from_false, not_from_true, true≢false}
 use Rattle.std.proofs.lemmas.Option.{same_Some, slice_get_within, slice_get-get_or}
 use Rattle.std.proofs.lemmas.List.{get_or-set_same, get_or-set_other, get_or_read}
@@ -16,6 +17,7 @@ use Rattle.std.proofs.lemmas.List.Folds.{list_any-append}
 use Rattle.std.proofs.lemmas.List.Filters.{length-filter_both}
 use Rattle.ilk_base.proofs.Tested.{list_all-slice_get}
 use Rattle.ilk_clauses.specs.Reasons.{clause_at, HasReasons}
+use Rattle.ilk_clauses.proofs.Within.{lit_in-clause}
 use Rattle.ilk_cnf.specs.Literal.{Literal, opposite, same_lit, has_lit, has_var, vars_differ}
 use Rattle.ilk_cnf.specs.Formula.{Formula, IsFormula, lit_in, clause_in}
 use Rattle.ilk_cnf.proofs.Literals.{vars_differ-push}
@@ -32,10 +34,9 @@ use Rattle.ilk_learn.specs.Resolvent.{without, with_lit, joined, resolvent}
 use Rattle.ilk_learn.specs.Levels.{level_at, is_current, highest_level}
 use Rattle.ilk_learn.specs.Asserting.{begins_at, is_asserting}
 use Rattle.ilk_learn.specs.Hand.{Holds, IsConflict, Keeps, all_set, conflict_step}
-use Rattle.ilk_learn.proofs.Members.{member-within, differ-kept, within-kept, kept-at, none-without, var-push}
+use Rattle.ilk_learn.proofs.Members.{differ-kept, within-kept, kept-at, none-without, var-push}
 use Rattle.ilk_learn.proofs.Derived.{false-at}
 use Rattle.ilk_learn.proofs.Highest.{all-from}
-use Rattle.ilk_learn.proofs.Latest.{take-whole}
 use Rattle.ilk_learn.proofs.Walk.{stands, resolved-is, resolved-not}
 
 -- what was read
@@ -106,7 +107,7 @@ pub joined-more : (k d : List Literal) (i : ℕ) (x : Literal) → slice_get d i
 joined-more k d i x h = ap (λ (n : ℕ). joined k (take n d)) (add-one i) ∙ joined-suc k d i x h
 
 pub joined-whole : (k d : List Literal) (n : ℕ) → n ≡ length d → joined k (take n d) ≡ joined k d
-joined-whole k d n e = ap (λ (m : ℕ). joined k (take m d)) e ∙ ap (joined k) (take-whole d)
+joined-whole k d n e = ap (λ (m : ℕ). joined k (take m d)) e ∙ ap (joined k) (take-length d)
 
 pub set-at : (t : TrailList) (d : List Literal) (i : ℕ) (l : Literal) → all_set t d ≡ true → slice_get d i ≡ Some l → (lit_in t.vars l ≡ true) × (is_set t.entries l.var ≡ true)
 set-at t d i l h at = and_parts (lit_in t.vars l) (is_set t.entries l.var) (list_all-slice_get (λ (m : Literal). lit_in t.vars m && is_set t.entries m.var) d i l h at)
@@ -187,7 +188,7 @@ reason-known f t v r form same reasons set h =
     let at = stands f.clauses r x.entry.lit p.0 in
     let within : clause_in t.vars d ≡ true = ap (λ (n : ℕ). clause_in n d) (sym same) ∙ list_all-slice_get (clause_in f.vars) f.clauses r d form.within at in (
       slice_get_within f.clauses r d at,
-      all-from (λ (m : Literal). lit_in t.vars m && is_set t.entries m.var) d (λ m k. and_from (lit_in t.vars m) (is_set t.entries m.var) (member-within t.vars d m within k) (elim (cases_Bool (same_lit x.entry.lit m)) [
+      all-from (λ (m : Literal). lit_in t.vars m && is_set t.entries m.var) d (λ m k. and_from (lit_in t.vars m) (is_set t.entries m.var) (lit_in-clause t.vars d m within k) (elim (cases_Bool (same_lit x.entry.lit m)) [
         | inl y ↦ ap (λ (w : ℕ). is_set t.entries w) (sym (ap (λ (l : Literal). l.var) (lit-is x.entry.lit m y)) ∙ x.named) ∙ set
         | inr y ↦ front-set t.entries x.place m.var (has-var (opposite m) (lits_of (take x.place t.entries)) (false-at (lits_of (take x.place t.entries)) (others x.entry.lit d) m p.1 (kept-at (λ z. not (same_lit x.entry.lit z)) d m k (not_from_false (same_lit x.entry.lit m) y))))
       ])),
@@ -267,7 +268,7 @@ conflict-set f t c form k =
     let p = and_parts (nat_lt c (length f.clauses)) (is_falsified (lits_of t.entries) d) k.conflict in
     let at = slice_get-get_or f.clauses c [] (ltb-true c (length f.clauses) p.0) in
     let within : clause_in t.vars d ≡ true = ap (λ (n : ℕ). clause_in n d) (sym k.vars) ∙ list_all-slice_get (clause_in f.vars) f.clauses c d form.within at in (
-      all-from (λ (m : Literal). lit_in t.vars m && is_set t.entries m.var) d (λ m a. and_from (lit_in t.vars m) (is_set t.entries m.var) (member-within t.vars d m within a) (has-var (opposite m) (lits_of t.entries) (false-at (lits_of t.entries) d m p.1 a))),
+      all-from (λ (m : Literal). lit_in t.vars m && is_set t.entries m.var) d (λ m a. and_from (lit_in t.vars m) (is_set t.entries m.var) (lit_in-clause t.vars d m within a) (has-var (opposite m) (lits_of t.entries) (false-at (lits_of t.entries) d m p.1 a))),
       list_all-slice_get vars_differ f.clauses c d form.differ at,
     )
 

@@ -1,6 +1,7 @@
 -- The entries of a trail from the latest on.
 use Rattle.std.proofs.Common.{◌≡◌, ℕ, ◌≤◌, zero, suc, inl, inr, Bool, true, false, ◌||◌, not, eqb, List, [], ◌∷◌, ◌++◌, refl, sym, ap, ◌∙◌, subst, Some, arith, length, take, reverse}
 use Rattle.std.specs.List.{slice_get}
+use Rattle.std.proofs.Math.Seq.{take-length}
 use Rattle.std.proofs.lemmas.Bool.{and_parts, and_from, or_cases, or_parts, or_from, not-true, not_from_false, true≢false}
 use Rattle.std.proofs.lemmas.List.{reverse-append}
 use Rattle.std.proofs.lemmas.List.Folds.{list_any-append}
@@ -164,14 +165,10 @@ latest-take clauses t (suc n) r k h =
     let P : List Entry → Type 0 = λ ys. Latest clauses es ys in
     subst P (sym (reverse-one-more es n e x.1)) (here, latest-take clauses t n r k (omega arith))
 
-pub take-whole : {X : Type 0} (es : List X) → take (length es) es ≡ es
-take-whole [] = refl
-take-whole (e ∷ es) = ap (λ ys. e ∷ ys) (take-whole es)
-
 pub latest : (clauses : List (List Literal)) (t : TrailList) → HasReasons clauses t.entries → IsTrail t → Latest clauses t.entries (reverse t.entries)
 latest clauses t r k =
     let P : List Entry → Type 0 = λ ys. Latest clauses t.entries (reverse ys) in
-    subst P (take-whole t.entries) (latest-take clauses t (length t.entries) r k (omega arith))
+    subst P (take-length t.entries) (latest-take clauses t (length t.entries) r k (omega arith))
 
 pub top-is : (es : List Entry) → top_level (reverse es) ≡ level_of es
-top-is es = ap (λ (ys : List Entry). top_level (reverse ys)) (sym (take-whole es)) ∙ top-reverse es (length es) (omega arith) ∙ ap (last_level 0) (take-whole es)
+top-is es = ap (λ (ys : List Entry). top_level (reverse ys)) (sym (take-length es)) ∙ top-reverse es (length es) (omega arith) ∙ ap (last_level 0) (take-length es)

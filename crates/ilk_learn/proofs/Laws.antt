@@ -16,12 +16,13 @@ use Rattle.ilk_log.specs.Derived.{is_derived}
 use Rattle.ilk_trail.specs.declared.entry.Entry.{Entry}
 use Rattle.ilk_trail.specs.Trail.{TrailList, up_to, level_of}
 use Rattle.ilk_trail.specs.Laws.{IsTrail, lits_of}
+use Rattle.ilk_cnf.proofs.Gates.{opposite-opposite}
 use Rattle.ilk_learn.specs.Resolvent.{without}
 use Rattle.ilk_learn.specs.Levels.{level_at, is_current, highest_level, highest_first}
 use Rattle.ilk_learn.specs.Learning.{has_one_current, point_first, learned}
 use Rattle.ilk_learn.specs.Asserting.{begins_at, is_asserting}
 use Rattle.ilk_learn.proofs.Members.{var-of, no-var, same-var, differ-kept, from-without, in-without}
-use Rattle.ilk_learn.proofs.Derived.{false-from, false-at, opposite-twice, in_hand-start, in_hand-derived}
+use Rattle.ilk_learn.proofs.Derived.{false-from, false-at, in_hand-start, in_hand-derived}
 use Rattle.ilk_learn.proofs.Highest.{highest-below, highest_first-from, highest_first-has, highest_first-differ, highest_first-begins, lone-passes}
 use Rattle.ilk_learn.proofs.Latest.{latest, latest-level, top-is, has-reverse}
 use Rattle.ilk_learn.proofs.Walk.{Walking, AtPoint, AtEnd, walk, walking-level, end-level}
@@ -32,7 +33,7 @@ pub has-point : (n : ℕ) (clauses : List (List Literal)) (all : List Entry) (e 
 has-point n clauses all e es s w h =
     let x = var-of s.clause e.lit.var h in
     elim (or_cases (same_lit (opposite x.0) e.lit) (has_lit (opposite x.0) (lits_of es)) (w.hand.denied x.0 x.2)) [
-      | inl y ↦ (let same : opposite e.lit ≡ x.0 = ap opposite (sym (lit-is (opposite x.0) e.lit y)) ∙ opposite-twice x.0 in
+      | inl y ↦ (let same : opposite e.lit ≡ x.0 = ap opposite (sym (lit-is (opposite x.0) e.lit y)) ∙ opposite-opposite x.0 in
           ap (λ (l : Literal). has_lit l s.clause) same ∙ x.2)
       | inr y ↦ absurd (no-var (lits_of es) (opposite x.0) (ap (λ (v : ℕ). has_var v (lits_of es)) x.1 ∙ w.latest.0.unset) y)
     ]

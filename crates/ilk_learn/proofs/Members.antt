@@ -6,6 +6,7 @@ use Rattle.std.proofs.lemmas.List.Folds.{list_any-append}
 use Rattle.ilk_cnf.specs.Literal.{Literal, same_lit, has_lit, has_var, vars_differ}
 use Rattle.ilk_cnf.specs.Formula.{lit_in, clause_in}
 use Rattle.ilk_cnf.proofs.Literals.{vars_differ-push}
+use Rattle.ilk_clauses.proofs.Within.{lit_in-clause}
 use Rattle.ilk_trail.proofs.Literals.{clause_in-push}
 use Rattle.ilk_log.proofs.Sound.{lit-is}
 use Rattle.ilk_log.proofs.Count.{same-lit, has-var}
@@ -179,17 +180,8 @@ pub front-differ : (l : Literal) (c : List Literal) → vars_differ c ≡ true �
 front-differ l c d =
     and_from (not (has_var l.var (without l.var c))) (vars_differ (without l.var c)) (not_from_false (has_var l.var (without l.var c)) (none-without l.var c)) (differ-kept (λ m. not (eqb m.var l.var)) c d)
 
-pub member-within : (n : ℕ) (c : List Literal) (l : Literal) → clause_in n c ≡ true → has_lit l c ≡ true → lit_in n l ≡ true
-member-within n [] l h k = absurd (cc)
-member-within n (m ∷ c) l h k =
-    let p = and_parts (lit_in n m) (clause_in n c) h in
-    elim (or_cases (same_lit l m) (has_lit l c) k) [
-      | inl e ↦ ap (lit_in n) (lit-is l m e) ∙ p.0
-      | inr r ↦ member-within n c l p.1 r
-    ]
-
 -- a clause whose literals are all in another that is over the variables
 pub each-within : (n : ℕ) (c d : List Literal) → ((m : Literal) → has_lit m c ≡ true → has_lit m d ≡ true) → clause_in n d ≡ true → clause_in n c ≡ true
 each-within n [] d f h = refl
 each-within n (m ∷ c) d f h =
-    and_from (lit_in n m) (clause_in n c) (member-within n d m h (f m (or_left (same_lit m m) (has_lit m c) (same-lit m)))) (each-within n c d (λ x k. f x (or_right (same_lit x m) (has_lit x c) k)) h)
+    and_from (lit_in n m) (clause_in n c) (lit_in-clause n d m h (f m (or_left (same_lit m m) (has_lit m c) (same-lit m)))) (each-within n c d (λ x k. f x (or_right (same_lit x m) (has_lit x c) k)) h)

@@ -29,8 +29,8 @@ resolved clauses e s = unwrap_or (do
   r ← e.reason
   only_if (has_var e.lit.var s.clause) (record { clause = resolvent e.lit.var s.clause (clause_at clauses r); hints = (r + 1) ∷ s.hints })) s
 
--- the entries are gone through from the latest on: the clause is resolved with their reasons until one
--- of its literals was set at the current level; at level 0 until it has none
+-- the entries are gone through from the latest on, and the clause is resolved with their reasons, until
+-- just one of its literals was set at the current level; at level 0 until it has none
 abbrev pub up_to_point : List (List Literal) → List Entry → List Entry → Step → Step
 up_to_point clauses entries [] s = record s { clause = [] }
 up_to_point clauses entries (e ∷ rest) s = if is_point entries e.lit s.clause then record s { clause = point_first entries e.lit s.clause } else up_to_point clauses entries rest (resolved clauses e s)

@@ -7,8 +7,8 @@
 //!
 //! `learn` answers it with the level to go back to, and `refute` the empty clause, where the conflict
 //! stands at level 0. The clause in hand is kept as marks by variable, a count of its literals of the
-//! current level, and a list of the others (`hand`), so that the time is that of the literals looked
-//! at.
+//! current level, and a list of the others (`hand`), so that each literal that is met takes one look,
+//! and an entry that is passed one.
 #![tactic(auto)]
 
 mod analysis;
