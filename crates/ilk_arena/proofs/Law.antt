@@ -1,8 +1,8 @@
 -- The chains that an arena's lists have, from those of its words.
-use Rattle.std.proofs.Common.{◌≡◌, ℕ, ◌+◌, ◌*◌, ◌/◌, ◌%◌, ◌<◌, ◌≤◌, ◌⊎◌, inl, inr, Bool, true, false, not, cond, eqb, List, [], ◌∷◌, length, get_or, map, refl, sym, ap, ◌∙◌, subst, arith}
+use Rattle.std.proofs.Common.{◌≡◌, ℕ, ◌+◌, ◌*◌, ◌/◌, ◌%◌, ◌<◌, ◌≤◌, ◌⊎◌, inl, inr, true, false, cond, eqb, List, [], ◌∷◌, length, get_or, map, refl, sym, ap, ◌∙◌, subst, arith}
 use Rattle.std.specs.List.{IsDistinct}
 use Rattle.std.proofs.lemmas.Bool.Decides.{eqb_tells}
-use Rattle.std.proofs.lemmas.Bool.{cases_lt, cases_Bool, and_parts, and_from, or_left, or_right, eqb-true, eq-eqb}
+use Rattle.std.proofs.lemmas.Bool.{cases_lt, cases_Bool, or_left, or_right}
 use Rattle.std.proofs.lemmas.List.{get_or_past, length-map}
 use Rattle.ilk_cnf.specs.Literal.{Literal, same_lit, has_lit}
 use Rattle.ilk_arena.specs.Arena.{place, chain_of, stands_in, literals_of}
@@ -12,6 +12,7 @@ use Rattle.ilk_arena.specs.Linked.{lit_at, places_at, chain_at, lists_of, Linked
 use Rattle.ilk_arena.proofs.Seen.{stands-from, stands-to, lit-at-place, chain-seen, chains-count, clause-seen, references-seen, places-length}
 use Rattle.ilk_arena.proofs.Unlinking.{each-at}
 use Rattle.ilk_arena.proofs.LinkedChains.{distinct-std}
+use Rattle.ilk_cnf.proofs.SameLiterals.{same-lit}
 
 -- places and literals
 pub place-of-lit : (p : ℕ) → place (lit_at p) ≡ p
@@ -19,22 +20,6 @@ place-of-lit p = go (p / 2) (p % 2) (omega arith) (omega arith)
   where
     go : (q r : ℕ) → r < 2 → 2 * q + r ≡ p → cond (eqb r 1) (2 * q + 1) (2 * q) ≡ p
     go q r h e = elim (eqb_tells r 1) [ inl t ↦ rw t.0 (omega (arith, t.1)) | inr t ↦ rw t.0 (omega (arith, t.1)) ]
-
-pub same-lit : (l : Literal) → same_lit l l ≡ true
-same-lit l = go l.var l.positive
-  where
-    go : (v : ℕ) (b : Bool) → same_lit (record { var = v; positive = b }) (record { var = v; positive = b }) ≡ true
-    go v true = and_from (eqb v v) true (eq-eqb v v refl) refl
-    go v false = and_from (eqb v v) true (eq-eqb v v refl) refl
-
-pub lit-is : (l m : Literal) → same_lit l m ≡ true → l ≡ m
-lit-is l m h = (let p = and_parts (eqb l.var m.var) _ h in go l.var m.var l.positive m.positive (eqb-true l.var m.var p.0) p.1)
-  where
-    go : (v w : ℕ) (a b : Bool) → v ≡ w → cond a b (not b) ≡ true → ◌≡◌ {A = Literal} (record { var = v; positive = a }) (record { var = w; positive = b })
-    go v w true true e k = ap (λ (x : ℕ). let r : Literal = record { var = x; positive = true } in r) e
-    go v w true false e k = absurd (cc)
-    go v w false true e k = absurd (cc)
-    go v w false false e k = ap (λ (x : ℕ). let r : Literal = record { var = x; positive = false } in r) e
 
 pub has-lit : (p : ℕ) (ps : List ℕ) → Stands ps p → has_lit (lit_at p) (map lit_at ps) ≡ true
 has-lit p [] s = absurd s

@@ -12,8 +12,9 @@ use Rattle.ilk_base.proofs.Lists.{find-only}
 use Rattle.ilk_arena.proofs.Blocks.{few-clauses}
 use Rattle.ilk_arena.proofs.Seen.{stands-from, lit-at-place, place-within, chain-seen, clause-seen, cursor-seen, references-seen, vars-seen, first-is, after-is}
 use Rattle.std.proofs.lemmas.Grind.{common_steps}
-use Rattle.ilk_arena.proofs.Law.{place-of-lit, lit-is, same-lit, InChain, chain-has, clause-length, watch-gets, lit-of}
+use Rattle.ilk_arena.proofs.Law.{place-of-lit, InChain, chain-has, clause-length, watch-gets, lit-of}
 use Rattle.ilk_arena.proofs.Relinking.{long-of}
+use Rattle.ilk_cnf.proofs.SameLiterals.{same-lit, lit-is}
 
 -- a clause of the arena
 pub record Known (ws : List ℕ) (a : ArenaLists) (c : ℕ) : Type 0 where

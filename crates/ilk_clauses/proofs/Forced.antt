@@ -10,10 +10,10 @@ use Rattle.ilk_base.proofs.Lists.{slice_get-push_cases, at-before}
 use Rattle.ilk_cnf.specs.Literal.{Literal, same_lit, has_lit}
 use Rattle.ilk_log.specs.Fresh.{others}
 use Rattle.ilk_log.specs.Propagation.{is_false, is_falsified, lone_unset, unit_of}
-use Rattle.ilk_log.proofs.Count.{same-lit}
 use Rattle.ilk_trail.specs.declared.entry.Entry.{Entry}
 use Rattle.ilk_trail.specs.Laws.{lits_of}
 use Rattle.ilk_clauses.specs.Reasons.{HasReasons, clause_at, is_reason}
+use Rattle.ilk_cnf.proofs.SameLiterals.{same-lit}
 
 pub reasons-none : (cs : List (List Literal)) → HasReasons cs []
 reasons-none cs = λ i e c s r. absurd (cc)

@@ -6,10 +6,10 @@ use Rattle.std.proofs.lemmas.Bool.Decides.{eqb_tells}
 use Rattle.ilk_base.specs.Option.{is_some_and}
 use Rattle.ilk_cnf.specs.Literal.{Literal, opposite, has_lit, has_var, vars_differ}
 use Rattle.ilk_log.specs.Propagation.{is_false}
-use Rattle.ilk_log.proofs.Count.{has-var}
 use Rattle.ilk_trail.specs.declared.entry.Entry.{Entry}
 use Rattle.ilk_trail.specs.Trail.{value_of}
 use Rattle.ilk_trail.specs.Laws.{is_set, lits_of}
+use Rattle.ilk_cnf.proofs.SameLiterals.{has-var}
 
 -- a literal stands in the trail exactly where its value is true, and is false exactly where it is false
 pub record Tells (es : List Entry) (l : Literal) : Type 0 where

@@ -5,8 +5,8 @@ use Rattle.std.proofs.lemmas.Option.{slice_get-get_or}
 use Rattle.ilk_base.proofs.Tested.{list_any-at, list_all-slice_get}
 use Rattle.ilk_cnf.specs.Literal.{Literal, same_lit, has_lit}
 use Rattle.ilk_cnf.specs.Formula.{Formula, IsFormula, clause_in, lit_in}
-use Rattle.ilk_log.proofs.Sound.{lit-is}
 use Rattle.ilk_clauses.specs.Reasons.{clause_at}
+use Rattle.ilk_cnf.proofs.SameLiterals.{lit-is}
 
 pub clause-there : (cs : List (List Literal)) (c : ℕ) → c < length cs → slice_get cs c ≡ Some (clause_at cs c)
 clause-there cs c h = slice_get-get_or cs c [] h

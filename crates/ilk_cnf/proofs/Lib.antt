@@ -3,3 +3,4 @@ pub mod Distinct
 pub mod Parts
 pub mod Gates
 pub mod Extending
+pub mod SameLiterals

@@ -1,6 +1,6 @@
 -- Numbers and their bits, and what literals say of them.
-use Rattle.std.proofs.Common.{◌≡◌, ◌==◌, ℕ, ◌+◌, ◌-◌, ◌*◌, ◌/◌, ◌%◌, ◌^◌, ◌<◌, ◌≤◌, zero, suc, Bool, true, false, not, ◌&&◌, List, [], ◌∷◌, ◌++◌, Some, length, cond, refl, inl, inr, sym, ap, ◌∙◌, subst, arith, eqb, leb, append_assoc}
-use Rattle.std.specs.List.{list_all, range_with_len, find}
+use Rattle.std.proofs.Common.{◌≡◌, ◌==◌, ℕ, ◌+◌, ◌-◌, ◌*◌, ◌/◌, ◌%◌, ◌^◌, ◌<◌, ◌≤◌, zero, suc, Bool, true, false, not, ◌&&◌, List, [], ◌∷◌, ◌++◌, length, cond, refl, inl, inr, sym, ap, ◌∙◌, subst, arith, eqb, leb, append_assoc}
+use Rattle.std.specs.List.{list_all}
 use Rattle.std.proofs.lemmas.Bool.{and_parts, and_from, eq-eqb, ne_eqb, cases_eq, false≢true, lt-leb, le-leb, lt-ltb}
 use Rattle.std.proofs.Math.Nat.{pow-succ'}
 use Rattle.ilk_base.proofs.Ranges.{find-least}

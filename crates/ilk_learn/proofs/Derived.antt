@@ -12,10 +12,9 @@ use Rattle.ilk_log.specs.declared.step.Step.{Step}
 use Rattle.ilk_log.specs.Propagation.{is_false, is_falsified, lone_unset, unit_of, after_hint}
 use Rattle.ilk_log.specs.Derived.{opposites, ends_false, is_derived}
 use Rattle.ilk_log.specs.Fresh.{others}
-use Rattle.ilk_log.proofs.Sound.{lit-is}
-use Rattle.ilk_log.proofs.Count.{same-lit, has-var}
 use Rattle.ilk_learn.specs.Resolvent.{joined, resolvent}
 use Rattle.ilk_learn.proofs.Members.{var-of, no-var, same-var, kept-at, differ-kept, within-kept, from-without, in-without, joined-left, joined-from, joined-var-right, joined-differ, joined-within, each-within}
+use Rattle.ilk_cnf.proofs.SameLiterals.{same-lit, lit-is, has-var}
 
 -- a clause is false where the opposite of each of its literals is set
 pub false-from : (set c : List Literal) → ((m : Literal) → has_lit m c ≡ true → has_lit (opposite m) set ≡ true) → is_falsified set c ≡ true

@@ -7,7 +7,6 @@ use Rattle.std.proofs.lemmas.Bool.{and_parts, and_from, or_left, or_right, cases
 use Rattle.ilk_clauses.proofs.Within.{lit_in-clause}
 use Rattle.ilk_cnf.specs.Literal.{Literal, opposite, same_lit, has_lit, has_var}
 use Rattle.ilk_cnf.specs.Formula.{Formula, IsFormula, lit_in}
-use Rattle.ilk_log.proofs.Count.{same-lit, has-var}
 use Rattle.ilk_log.specs.declared.step.Step.{Step}
 use Rattle.ilk_trail.specs.declared.entry.Entry.{Entry}
 use Rattle.ilk_trail.specs.Trail.{TrailList, level_of}
@@ -23,6 +22,7 @@ use Rattle.ilk_learn.proofs.Latest.{reverse-one-more, level-entry}
 use Rattle.ilk_learn.proofs.Walk.{Walking, walking-next, walking-level}
 use Rattle.ilk_learn.proofs.Laws.{has-point, walking-start}
 use Rattle.ilk_learn.proofs.Holding.{same-level}
+use Rattle.ilk_cnf.proofs.SameLiterals.{same-lit, has-var}
 
 -- the clause in hand with i entries left
 pub record Far (f : Formula) (t : TrailList) (h : Hand) (c i : ℕ) : Type 0 where

@@ -3,8 +3,6 @@ use Rattle.std.proofs.Common.{◌≡◌, ℕ, ◌<◌, ◌≤◌, zero, suc, inl
 use Rattle.std.specs.Prelude.{nat_le, nat_lt, slice_get}
 use Rattle.std.proofs.lemmas.Bool.{and_parts, or_cases, or_left, or_right, cases_Bool, eqb-true, leb-true, le-leb, ltb-true, not-true, true≢false}
 use Rattle.ilk_cnf.specs.Literal.{Literal, opposite, same_lit, has_lit, has_var, vars_differ}
-use Rattle.ilk_log.proofs.Sound.{lit-is}
-use Rattle.ilk_log.proofs.Count.{same-lit}
 use Rattle.ilk_log.proofs.Closed.{stays-open}
 use Rattle.ilk_log.specs.Propagation.{is_closed, is_falsified}
 use Rattle.ilk_log.specs.Fresh.{others, IsFresh}
@@ -17,6 +15,7 @@ use Rattle.ilk_learn.proofs.Members.{var-of, kept-from}
 use Rattle.ilk_learn.proofs.Derived.{false-at, opposite-of}
 use Rattle.ilk_learn.proofs.Highest.{below-highest}
 use Rattle.ilk_learn.proofs.Latest.{level-entry}
+use Rattle.ilk_cnf.proofs.SameLiterals.{same-lit, lit-is}
 
 -- the entry of a literal
 pub entry-of : (es : List Entry) (m : Literal) → has_lit m (lits_of es) ≡ true → (i : ℕ) × (e : Entry) × (slice_get es i ≡ Some e) × (m ≡ e.lit)

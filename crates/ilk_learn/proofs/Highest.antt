@@ -6,13 +6,12 @@ use Rattle.ilk_base.proofs.Tested.{list_any-at, list_any-from}
 use Rattle.std.proofs.lemmas.Bool.{and_parts, and_from, or_cases, or_left, or_right, cases_Bool, cases_eq, eqb-true, eq-eqb, leb-true, leb-false, not-true, true≢false}
 use Rattle.std.proofs.lemmas.Option.{same_Some}
 use Rattle.ilk_cnf.specs.Literal.{Literal, same_lit, has_lit, has_var, vars_differ}
-use Rattle.ilk_log.proofs.Sound.{lit-is}
-use Rattle.ilk_log.proofs.Count.{same-lit}
 use Rattle.ilk_trail.specs.declared.entry.Entry.{Entry}
 use Rattle.ilk_learn.specs.Resolvent.{without}
 use Rattle.ilk_learn.specs.Levels.{level_at, highest_level, in_front, highest_first}
 use Rattle.ilk_learn.specs.Asserting.{begins_at}
 use Rattle.ilk_learn.proofs.Members.{no-var, in-without, kept-at, from-without, front-from, front-has, front-differ}
+use Rattle.ilk_cnf.proofs.SameLiterals.{same-lit, lit-is}
 
 pub find-has : (p : Literal → Bool) (c : List Literal) (l : Literal) → find p c ≡ Some l → (has_lit l c ≡ true) × (p l ≡ true)
 find-has p [] l h = absurd (cc)

@@ -21,8 +21,6 @@ use Rattle.ilk_clauses.proofs.Within.{lit_in-clause}
 use Rattle.ilk_cnf.specs.Literal.{Literal, opposite, same_lit, has_lit, has_var, vars_differ}
 use Rattle.ilk_cnf.specs.Formula.{Formula, IsFormula, lit_in, clause_in}
 use Rattle.ilk_cnf.proofs.Literals.{vars_differ-push}
-use Rattle.ilk_log.proofs.Sound.{lit-is}
-use Rattle.ilk_log.proofs.Count.{has-var}
 use Rattle.ilk_log.specs.Propagation.{is_false, is_falsified}
 use Rattle.ilk_log.specs.Fresh.{others}
 use Rattle.ilk_trail.specs.declared.entry.Entry.{Entry}
@@ -38,6 +36,7 @@ use Rattle.ilk_learn.proofs.Members.{differ-kept, within-kept, kept-at, none-wit
 use Rattle.ilk_learn.proofs.Derived.{false-at}
 use Rattle.ilk_learn.proofs.Highest.{all-from}
 use Rattle.ilk_learn.proofs.Walk.{stands, resolved-is, resolved-not}
+use Rattle.ilk_cnf.proofs.SameLiterals.{lit-is, has-var}
 
 -- what was read
 pub mark-read : (marks : List Bool) (i v : ℕ) (b : Bool) → i ≡ v → v < length marks → b ≡ get_or marks i b → get_or marks v false ≡ b

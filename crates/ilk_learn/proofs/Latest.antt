@@ -7,7 +7,6 @@ use Rattle.std.proofs.lemmas.List.{reverse-append}
 use Rattle.std.proofs.lemmas.List.Folds.{list_any-append}
 use Rattle.ilk_base.proofs.Lists.{item_at}
 use Rattle.ilk_cnf.specs.Literal.{Literal, opposite, same_lit, has_lit, has_var, vars_differ}
-use Rattle.ilk_log.proofs.Sound.{lit-is}
 use Rattle.ilk_log.specs.Propagation.{is_falsified}
 use Rattle.ilk_log.specs.Fresh.{others}
 use Rattle.ilk_clauses.specs.Reasons.{clause_at, is_reason, HasReasons}
@@ -19,6 +18,7 @@ use Rattle.ilk_trail.proofs.Levels.{last_level-push, climbs-front, next-level}
 use Rattle.ilk_trail.proofs.Literals.{vars_differ-front}
 use Rattle.ilk_learn.specs.Levels.{level_at}
 use Rattle.ilk_learn.proofs.Derived.{false-from, false-at}
+use Rattle.ilk_cnf.proofs.SameLiterals.{lit-is}
 
 -- the level of the latest
 abbrev pub top_level : List Entry → ℕ

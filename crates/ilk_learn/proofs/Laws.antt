@@ -8,8 +8,6 @@ use Rattle.ilk_base.proofs.Tested.{list_any-at, list_any-from, list_any-none, li
 use Rattle.ilk_clauses.specs.Reasons.{clause_at, is_conflict, HasReasons}
 use Rattle.ilk_cnf.specs.Literal.{Literal, opposite, same_lit, has_lit, has_var, vars_differ}
 use Rattle.ilk_cnf.specs.Formula.{Formula, IsFormula, clause_in}
-use Rattle.ilk_log.proofs.Sound.{lit-is}
-use Rattle.ilk_log.proofs.Count.{same-lit}
 use Rattle.ilk_log.specs.declared.step.Step.{Step}
 use Rattle.ilk_log.specs.Propagation.{is_falsified}
 use Rattle.ilk_log.specs.Derived.{is_derived}
@@ -27,6 +25,7 @@ use Rattle.ilk_learn.proofs.Highest.{highest-below, highest_first-from, highest_
 use Rattle.ilk_learn.proofs.Latest.{latest, latest-level, top-is, has-reverse}
 use Rattle.ilk_learn.proofs.Walk.{Walking, AtPoint, AtEnd, walk, walking-level, end-level}
 use Rattle.ilk_learn.proofs.Fresh.{has-up_to}
+use Rattle.ilk_cnf.proofs.SameLiterals.{same-lit, lit-is}
 
 -- the literal of the point stands in the clause, turned
 pub has-point : (n : ℕ) (clauses : List (List Literal)) (all : List Entry) (e : Entry) (es : List Entry) (s : Step) → Walking n clauses all (e ∷ es) s → has_var e.lit.var s.clause ≡ true → has_lit (opposite e.lit) s.clause ≡ true

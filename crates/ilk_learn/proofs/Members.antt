@@ -8,9 +8,8 @@ use Rattle.ilk_cnf.specs.Formula.{lit_in, clause_in}
 use Rattle.ilk_cnf.proofs.Literals.{vars_differ-push}
 use Rattle.ilk_clauses.proofs.Within.{lit_in-clause}
 use Rattle.ilk_trail.proofs.Literals.{clause_in-push}
-use Rattle.ilk_log.proofs.Sound.{lit-is}
-use Rattle.ilk_log.proofs.Count.{same-lit, has-var}
 use Rattle.ilk_learn.specs.Resolvent.{without, with_lit, joined}
+use Rattle.ilk_cnf.proofs.SameLiterals.{same-lit, lit-is, has-var}
 
 abbrev pub Has : Literal → List Literal → Type 0
 Has l c = has_lit l c ≡ true

@@ -8,7 +8,6 @@ use Rattle.ilk_base.specs.Option.{◌>>=◌, only_if}
 use Rattle.ilk_clauses.specs.Reasons.{clause_at}
 use Rattle.ilk_cnf.specs.Literal.{Literal, opposite, same_lit, has_lit, has_var, vars_differ}
 use Rattle.ilk_cnf.specs.Formula.{clause_in, clauses_in}
-use Rattle.ilk_log.proofs.Sound.{lit-is}
 use Rattle.ilk_log.specs.declared.step.Step.{Step}
 use Rattle.ilk_log.specs.Propagation.{is_falsified}
 use Rattle.ilk_log.specs.Fresh.{others}
@@ -23,6 +22,7 @@ use Rattle.ilk_learn.proofs.Members.{joined-left, in-without}
 use Rattle.ilk_learn.proofs.Derived.{InHand, in_hand-skip, in_hand-resolve}
 use Rattle.ilk_learn.proofs.Highest.{another-passes}
 use Rattle.ilk_learn.proofs.Latest.{top_level, Latest, latest-differ, latest-level}
+use Rattle.ilk_cnf.proofs.SameLiterals.{lit-is}
 
 -- where the current level isn't 0, a literal of the clause was set at it
 pub record HasCurrent (all : List Entry) (c : List Literal) : Type 0 where

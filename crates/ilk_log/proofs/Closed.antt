@@ -12,8 +12,7 @@ use Rattle.ilk_cnf.specs.Literal.{Literal, opposite, same_lit, has_lit, has_var}
 use Rattle.ilk_log.specs.Propagation.{is_closed, is_false, is_falsified, lone_unset, unit_of, after_hint, after_hints}
 use Rattle.ilk_log.specs.Derived.{opposites, ends_false}
 use Rattle.ilk_log.specs.Fresh.{others, StaysOpen}
-use Rattle.ilk_log.proofs.Sound.{lit-is}
-use Rattle.ilk_log.proofs.Count.{same-lit, has-var}
+use Rattle.ilk_cnf.proofs.SameLiterals.{same-lit, lit-is, has-var}
 
 -- propagation is at its end, told of each clause
 record IsClosed (clauses : List (List Literal)) (set : List Literal) : Type 0 where

@@ -17,7 +17,7 @@ use Rattle.ilk_log.specs.declared.step.Step.{Step}
 use Rattle.ilk_log.specs.Propagation.{is_false, is_falsified, lone_unset, unit_of, after_hints}
 use Rattle.ilk_log.specs.Derived.{opposites, is_derived, each_derived, is_derived_log, is_empty}
 use Rattle.ilk_log.specs.Fresh.{others, IsFresh, EachFresh}
-use Rattle.ilk_log.proofs.Sound.{lit-is}
+use Rattle.ilk_cnf.proofs.SameLiterals.{same-lit, lit-is, has-var}
 
 -- 1 for the positive literal of v, 2 for the negative one, 0 for neither
 abbrev digit : List Literal → ℕ → ℕ
@@ -62,21 +62,6 @@ code-positive (suc n) v c d p h =
     ]
 
 -- literals
-pub same-lit : (l : Literal) → same_lit l l ≡ true
-same-lit l = go l.var l.positive
-  where
-    go : (v : ℕ) (b : Bool) → same_lit (record { var = v; positive = b }) (record { var = v; positive = b }) ≡ true
-    go v true = and_from (eqb v v) true (eq-eqb v v refl) refl
-    go v false = and_from (eqb v v) true (eq-eqb v v refl) refl
-
-pub has-var : (l : Literal) (ls : List Literal) → has_lit l ls ≡ true → has_var l.var ls ≡ true
-has-var l [] h = absurd (cc)
-has-var l (m ∷ ls) h =
-    elim (or_cases (same_lit l m) (has_lit l ls) h) [
-      | inl s ↦ or_left (eqb m.var l.var) _ (eq-eqb m.var l.var (sym (ap (λ (x : Literal). x.var) (lit-is l m s))))
-      | inr r ↦ or_right (eqb m.var l.var) _ (has-var l ls r)
-    ]
-
 no-lit : (l : Literal) (ls : List Literal) → has_var l.var ls ≡ false → has_lit l ls ≡ false
 no-lit l ls h = elim (cases_Bool (has_lit l ls)) [ inl t ↦ absurd (true≢false (sym (has-var l ls t) ∙ h)) | inr f ↦ f ]
 

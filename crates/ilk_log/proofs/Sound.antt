@@ -1,7 +1,7 @@
 -- What is derived is true wherever the clauses are.
-use Rattle.std.proofs.Common.{◌≡◌, ℕ, zero, suc, Bool, true, false, ◌&&◌, not, cond, List, [], ◌∷◌, ◌++◌, refl, sym, ap, ◌∙◌, subst, inl, inr, eqb, Some}
+use Rattle.std.proofs.Common.{◌≡◌, ℕ, zero, suc, Bool, true, false, ◌&&◌, not, cond, List, [], ◌∷◌, ◌++◌, refl, sym, ap, ◌∙◌, subst, inl, inr, Some}
 use Rattle.std.specs.List.{filter, list_all}
-use Rattle.std.proofs.lemmas.Bool.{and_parts, and_from, or_cases, or_parts, or_from, or_left, or_right, cases_Bool, eqb-true, true≢false}
+use Rattle.std.proofs.lemmas.Bool.{and_parts, and_from, or_cases, or_parts, or_from, or_left, or_right, cases_Bool, true≢false}
 use Rattle.std.proofs.lemmas.Option.{cond_some, same_Some}
 use Rattle.ilk_base.specs.Option.{◌>>=◌}
 use Rattle.ilk_base.proofs.Tested.{list_any-at, list_all-slice_get, list_all-more}
@@ -12,15 +12,7 @@ use Rattle.ilk_cnf.specs.Truth.{value, is_true, some_true, satisfies}
 use Rattle.ilk_log.specs.declared.step.Step.{Step}
 use Rattle.ilk_log.specs.Propagation.{is_false, is_falsified, lone_unset, unit_of, numbered, after_hint}
 use Rattle.ilk_log.specs.Derived.{opposites, ends_false, is_derived, each_derived, is_derived_log, is_empty, ends_empty, is_refutation}
-
-pub lit-is : (l m : Literal) → same_lit l m ≡ true → l ≡ m
-lit-is l m h = (let p = and_parts (eqb l.var m.var) _ h in go l.var m.var l.positive m.positive (eqb-true l.var m.var p.0) p.1)
-  where
-    go : (v w : ℕ) (a b : Bool) → v ≡ w → cond a b (not b) ≡ true → ◌≡◌ {A = Literal} (record { var = v; positive = a }) (record { var = w; positive = b })
-    go v w true true e k = ap (λ (x : ℕ). let r : Literal = record { var = x; positive = true } in r) e
-    go v w true false e k = absurd (cc)
-    go v w false true e k = absurd (cc)
-    go v w false false e k = ap (λ (x : ℕ). let r : Literal = record { var = x; positive = false } in r) e
+use Rattle.ilk_cnf.proofs.SameLiterals.{lit-is}
 
 -- a literal of a true list is true
 set-true : (a : List Bool) (set : List Literal) (l : Literal) → list_all (is_true a) set ≡ true → has_lit l set ≡ true → is_true a l ≡ true
