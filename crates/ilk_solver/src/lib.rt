@@ -1,8 +1,13 @@
 //! The search for an assignment that satisfies a formula.
 //!
-//! A search has its clauses by number, and a `View`: the trail and the weights of the variables. The
-//! view is what a `Picker` is shown when the next decision is due; a `Restart` is asked after each
-//! learned clause whether the search goes back to its start.
+//! A `Solver` is made by `new` of a formula, a `Picker` and a `Restart`, and `propagate` sets what the
+//! clauses force. It has its clauses by number, the steps so far, and a `View`: the trail and the
+//! weights of the variables. The view is what a `Picker` is shown when the next decision is due; a
+//! `Restart` is asked after each learned clause whether the search goes back to its start.
+//!
+//! `specs/Search` says what a search keeps between two calls: each forced entry has its reason, each
+//! level below the current one is closed (`specs/Levels`), and the weights count the steps.
+//! `specs/Propagated` says what propagation adds. It scans all clauses; only `propagation` knows that.
 #![tactic(auto)]
 
 mod assigned;
