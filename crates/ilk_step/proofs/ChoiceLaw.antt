@@ -146,6 +146,12 @@ choice-says a c m r n size =
     let say = chosen_lits-say (map not qs) a (d ++ c) (n + 1) (ap (λ (k : ℕ). k + 1) size) in
     subst (λ (u : List Bool). map (is_true u) (chosen_lits (n + 1) m) ≡ qs) whole (subst (λ (k : ℕ). map (is_true (a ++ (map not qs ++ (d ++ c)))) (chosen_lits (n + 1) k) ≡ qs) long (say ∙ not_not qs))
 
+pub turned : (v b : Bool) → not v ≡ b → v ≡ not b
+turned true true h = absurd cc
+turned true false h = refl
+turned false true h = refl
+turned false false h = absurd cc
+
 -- each variable of a choice is false exactly at the chosen rule
 pub chosen-at : (m : ℕ) (a : List Bool) (first r u i : ℕ) → map (is_true a) (chosen_lits first m) ≡ value_bits r u m → i < m → value a (first + i) ≡ not (eqb r (u + i))
 chosen-at zero a first r u i h less = absurd (omega arith)
@@ -154,12 +160,6 @@ chosen-at (suc m) a first r u zero h less =
     let one : first + 0 ≡ first = omega arith in
     let two : u ≡ u + 0 = omega arith in
     ap (value a) one ∙ turned (value a first) (eqb r u) here ∙ ap (λ (k : ℕ). not (eqb r k)) two
-  where
-    turned : (v b : Bool) → not v ≡ b → v ≡ not b
-    turned true true k = absurd cc
-    turned true false k = refl
-    turned false true k = refl
-    turned false false k = absurd cc
 chosen-at (suc m) a first r u (suc i) h less =
     let others : map (is_true a) (chosen_lits (first + 1) m) ≡ value_bits r (u + 1) m = cc in
     let one : first + suc i ≡ first + 1 + i = omega arith in

@@ -1,11 +1,7 @@
 -- How many variables and clauses the parts of a step have.
-use Rattle.std.proofs.Common.{◌≡◌, ◌==◌, ℕ, suc, ◌+◌, ◌*◌, ◌≤◌, Bool, true, false, List, [], ◌∷◌, ◌++◌, length, map, take, cond, refl, sym, ap, ◌∙◌, arith, length-append}
-use Rattle.std.specs.List.{range_with_len}
-use Rattle.std.proofs.lemmas.List.{length-map}
+use Rattle.std.proofs.Common.{◌≡◌, ◌==◌, ℕ, suc, ◌+◌, ◌*◌, ◌≤◌, Bool, true, false, List, [], ◌∷◌, ◌++◌, length, take, cond, refl, ap, arith, length-append}
 use Rattle.std.proofs.lemmas.List.FromFn.{length-map-range_with_len}
 use Rattle.ilk_cnf.specs.Literal.{Literal, plus, minus}
-use Rattle.ilk_cnf.specs.Formula.{Formula}
-use Rattle.ilk_cnf.specs.Part.{with_part}
 use Rattle.ilk_ints.specs.OneOf.{one_of_rest, one_of_part}
 use Rattle.ilk_ints.proofs.OneOfLaw.{one_of-few}
 use Rattle.ilk_ir.specs.System.{RuleTree}
@@ -13,10 +9,10 @@ use Rattle.ilk_ir.specs.declared.system.Setting.{Setting}
 use Rattle.ilk_copy.specs.declared.copy.Column.{Column}
 use Rattle.ilk_forms.specs.Size.{tree_size}
 use Rattle.ilk_forms.specs.Demand.{demand_part}
-use Rattle.ilk_forms.proofs.Few.{PartFew, demand_of-few, with_part-few}
+use Rattle.ilk_forms.proofs.Few.{demand_of-few}
 use Rattle.ilk_step.specs.Choice.{chosen_lits, choice_part}
-use Rattle.ilk_step.specs.Rules.{settings_part, rule_part, rules_part}
-use Rattle.ilk_step.specs.Frame.{setters, carried, carry_over, frame, frames, frames_part}
+use Rattle.ilk_step.specs.Rules.{settings_part, rules_part}
+use Rattle.ilk_step.specs.Frame.{setters, carried, carry_over, frames}
 use Rattle.ilk_step.specs.Step.{step_part}
 use Rattle.ilk_step.specs.Size.{guards_size, settings_count, literals_count}
 

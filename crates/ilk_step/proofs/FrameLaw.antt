@@ -1,5 +1,6 @@
 -- The clauses of the frames say that each variable is set by a chosen rule or keeps its value.
 use Rattle.std.proofs.Common.{◌≡◌, ◌==◌, ℕ, ◌+◌, ◌<◌, ◌≤◌, zero, suc, Bool, true, false, not, ◌&&◌, ◌||◌, List, [], ◌∷◌, ◌++◌, length, map, take, slice_get, Some, cond, refl, inl, inr, sym, ap, ◌∙◌, subst, arith, eqb, ltb}
+use Rattle.std.proofs.Math.Bool.{and-false, or-true, or-and_distrib_left}
 use Rattle.std.proofs.lemmas.List.{take-map, length-map}
 use Rattle.std.proofs.lemmas.List.Folds.{list_any-append, list_all-append}
 use Rattle.std.proofs.lemmas.Bool.{and_parts, cases_eq, eq-eqb, ne_eqb, eqb-true, ltb-true, false≢true}
@@ -26,12 +27,8 @@ pair_says false true false r = refl
 pair_says false false true r = refl
 pair_says false false false r = refl
 
-or_true : (f : Bool) → true ≡ (f || true)
-or_true true = refl
-or_true false = refl
-
 carry_over-say : (a : List Bool) (first ls ms : List Literal) → length ls ≡ length ms → satisfies a (carry_over first ls ms) ≡ (some_true a first || same_bits (map (is_true a) ls) (map (is_true a) ms))
-carry_over-say a first [] [] long = or_true (some_true a first)
+carry_over-say a first [] [] long = sym (or-true (some_true a first))
 carry_over-say a first [] (m ∷ ms) long = absurd (omega arith)
 carry_over-say a first (l ∷ ls) [] long = absurd (omega arith)
 carry_over-say a first (l ∷ ls) (m ∷ ms) long =
@@ -42,10 +39,6 @@ carry_over-say a first (l ∷ ls) (m ∷ ms) long =
 
 -- the carried literals of two columns say the same exactly where the values are equal
 
-and_false : (b : Bool) → (b && false) ≡ false
-and_false true = refl
-and_false false = refl
-
 values-differ : (j w x v : ℕ) → v ≤ w → w < v + j → (w ≡ x → ⊥) → same_bits (value_bits w v j) (value_bits x v j) ≡ false
 values-differ zero w x v low high ne = absurd (omega arith)
 values-differ (suc j) w x v low high ne =
@@ -55,7 +48,7 @@ values-differ (suc j) w x v low high ne =
           let there : eqb x v ≡ false = ne_eqb x v (λ e. ne (same ∙ sym e)) in
           rw (here, there) refl
           )
-      | inr other ↦ (let rest = values-differ j w x (v + 1) (omega arith) (omega arith) ne in rw rest (and_false (cond (eqb x v) (eqb w v) (not (eqb w v)))))
+      | inr other ↦ (let rest = values-differ j w x (v + 1) (omega arith) (omega arith) ne in rw rest (and-false (cond (eqb x v) (eqb w v) (not (eqb w v)))))
     ]
 
 -- what the carried literals of a range's values say
@@ -112,10 +105,6 @@ length-bound_bits (suc j) w k = ap suc (length-bound_bits j w (k + 1))
 same_length : (a : List Bool) (ls ms : List Literal) (ps qs : List Bool) → map (is_true a) ls ≡ ps → map (is_true a) ms ≡ qs → length ps ≡ length qs → length ls ≡ length ms
 same_length a ls ms ps qs one two long = sym (length-map ls (is_true a)) ∙ ap length one ∙ long ∙ sym (ap length two) ∙ length-map ms (is_true a)
 
-share : (x p q : Bool) → ((x || p) && (x || q)) ≡ (x || (p && q))
-share true p q = refl
-share false p q = refl
-
 -- one variable is set by a chosen rule, or has one value in both copies
 frame-say : (a : List Bool) (first : List Literal) (c d : Column) (range w x : ℕ) → w < range → x < range → map (is_true a) c.values ≡ value_bits w 0 range → map (is_true a) c.bounds ≡ bound_bits w 1 (bound_count range) → map (is_true a) d.values ≡ value_bits x 0 range → map (is_true a) d.bounds ≡ bound_bits x 1 (bound_count range) → satisfies a (frame first c d) ≡ (some_true a first || w == x)
 frame-say a first c d range w x hw hx cv cb dv db =
@@ -126,7 +115,7 @@ frame-say a first c d range w x hw hx cv cb dv db =
     carry_over-say a first (carried c.values) (carried d.values) (same_length a (carried c.values) (carried d.values) _ _ one two (length-carried_bits (eqb range 2) range w x)) ∙ ap (λ (b : Bool). some_true a first || b) (rw (one, two) (carried-same range w x hw hx)) in
     let bounds : satisfies a (carry_over first c.bounds d.bounds) ≡ (some_true a first || same_bits (bound_bits w 1 n) (bound_bits x 1 n)) =
     carry_over-say a first c.bounds d.bounds (same_length a c.bounds d.bounds _ _ cb db (length-bound_bits n w 1 ∙ sym (length-bound_bits n x 1))) ∙ rw (cb, db) refl in
-    list_all-append (some_true a) (carry_over first (carried c.values) (carried d.values)) (carry_over first c.bounds d.bounds) ∙ rw (values, bounds) (share (some_true a first) (eqb w x) (same_bits (bound_bits w 1 n) (bound_bits x 1 n)) ∙ ap (λ (b : Bool). some_true a first || b) (bounds-same range w x))
+    list_all-append (some_true a) (carry_over first (carried c.values) (carried d.values)) (carry_over first c.bounds d.bounds) ∙ rw (values, bounds) (sym (or-and_distrib_left (some_true a first) (eqb w x) (same_bits (bound_bits w 1 n) (bound_bits x 1 n))) ∙ ap (λ (b : Bool). some_true a first || b) (bounds-same range w x))
 
 -- every variable is
 pub frames-say : (now next : List Column) (ranges ws xs : List ℕ) (a : List Bool) (rs : List RuleTree) (k v : ℕ) → length now ≡ length ranges → length next ≡ length ranges → in_ranges ws ranges ≡ true → in_ranges xs ranges ≡ true → LiteralsSay a now ranges ws → LiteralsSay a next ranges xs → satisfies a (frames rs k v now next) ≡ kept (λ u. some_true a (setters u k rs)) v ws xs

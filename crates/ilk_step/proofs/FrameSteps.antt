@@ -11,10 +11,8 @@ use Rattle.ilk_cnf.proofs.Gates.{as_clauses-append, grown_more}
 use Rattle.ilk_ir.specs.System.{RuleTree}
 use Rattle.ilk_copy.specs.declared.copy.Column.{Column}
 use Rattle.ilk_forms.specs.Leaf.{columns_in}
+use Rattle.ilk_forms.proofs.DemandLaw.{joined-in}
 use Rattle.ilk_step.specs.Frame.{sets_variable, setters, carry_over, carried, frame, frames}
-
-joined : (first ls : List Literal) (n : ℕ) → clause_in n first ≡ true → clause_in n ls ≡ true → clause_in n (first ++ ls) ≡ true
-joined first ls n h k = list_all-append (lit_in n) first ls ∙ and_from _ _ h k
 
 pub setters-in : (rs : List RuleTree) (v k n : ℕ) → 0 < k → k + length rs ≤ n + 1 → clause_in n (setters v k rs) ≡ true
 setters-in [] v k n low high = refl
@@ -39,7 +37,7 @@ carry_over-in (l ∷ ls) [] first n f h k = refl
 carry_over-in (l ∷ ls) (m ∷ ms) first n f h k =
     let one = and_parts (lit_in n l) (clause_in n ls) h in
     let two = and_parts (lit_in n m) (clause_in n ms) k in
-    and_from _ _ (joined first (opposite l ∷ m ∷ []) n f (and_from _ _ one.0 (and_from _ _ two.0 refl))) (and_from _ _ (joined first (l ∷ opposite m ∷ []) n f (and_from _ _ one.0 (and_from _ _ two.0 refl))) (carry_over-in ls ms first n f one.1 two.1))
+    and_from _ _ (joined-in first (opposite l ∷ m ∷ []) n f (and_from _ _ one.0 (and_from _ _ two.0 refl))) (and_from _ _ (joined-in first (l ∷ opposite m ∷ []) n f (and_from _ _ one.0 (and_from _ _ two.0 refl))) (carry_over-in ls ms first n f one.1 two.1))
 
 frame-in : (first : List Literal) (c d : Column) (n : ℕ) → clause_in n first ≡ true → (clause_in n c.values && clause_in n c.bounds) ≡ true → (clause_in n d.values && clause_in n d.bounds) ≡ true → clauses_in n (frame first c d) ≡ true
 frame-in first c d n f h k =

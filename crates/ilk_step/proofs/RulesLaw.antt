@@ -1,5 +1,6 @@
 -- Where a rule is chosen, its guard holds in the one copy and its settings are in the next.
 use Rattle.std.proofs.Common.{◌≡◌, ℕ, ◌+◌, ◌<◌, ◌≤◌, zero, suc, Bool, true, false, not, ◌&&◌, ◌||◌, List, [], ◌∷◌, ◌++◌, length, map, slice_get, Some, refl, sym, ap, ◌∙◌, subst, arith, eqb, length-append}
+use Rattle.std.proofs.Math.Bool.{and-true, or-true}
 use Rattle.std.specs.List.{list_all}
 use Rattle.std.proofs.lemmas.List.{append-nil}
 use Rattle.std.proofs.lemmas.List.Folds.{list_all-append}
@@ -24,6 +25,7 @@ use Rattle.ilk_forms.proofs.Reading.{Reads, reads-more, columns_in-more}
 use Rattle.ilk_forms.proofs.DemandLaw.{PartFits, demand_of-fits, demand_of-law}
 use Rattle.ilk_step.specs.Choice.{chosen_lits}
 use Rattle.ilk_step.specs.Rules.{settings_part, rule_part, rules_part, rules_bits}
+use Rattle.ilk_step.proofs.ChoiceLaw.{turned}
 use Rattle.ilk_step.proofs.Firing.{rule_met}
 
 -- a part, and then the one that begins where it ends
@@ -87,16 +89,12 @@ rules-fits (r ∷ rs) now next k n hn hx same_ranges low high valid =
 
 -- the laws
 
-or_true : (x : Bool) → true ≡ (x || true)
-or_true true = refl
-or_true false = refl
-
 also : (x h rest : Bool) → (((x || false) || h) && (x || rest)) ≡ (x || (h && rest))
 also true h rest = refl
 also false h rest = refl
 
 pub settings-law : (sets : List Setting) (next : List Column) (xs : List ℕ) (skip : Literal) (a : List Bool) (n : ℕ) → length a ≡ n → Reads a next xs → columns_in n next ≡ true → clause_in n (skip ∷ []) ≡ true → settings_valid (ranges_of next) sets ≡ true → Extends a (settings_part next skip sets n).vars (settings_part next skip sets n).clauses (OnlyIf (is_true a skip || list_all (λ s. has_value xs s.var s.value) sets) [])
-settings-law [] next xs skip a n size r h f k = no_more_if a n [] (is_true a skip || true) size (or_true (is_true a skip))
+settings-law [] next xs skip a n size r h f k = no_more_if a n [] (is_true a skip || true) size (sym (or-true (is_true a skip)))
 settings-law (s ∷ sets) next xs skip a n size r h f k =
     let parts = and_parts (value_valid (ranges_of next) s.var s.value) (settings_valid (ranges_of next) sets) k in
     let p = demand_part next (skip ∷ []) (is s.var s.value) n in
@@ -167,16 +165,6 @@ rules-law (r ∷ rs) now next ws xs k a n size rn rx hn hx same_ranges low high 
 
 -- where one rule is chosen, only that rule has to be met
 
-turned : (v b : Bool) → not v ≡ b → v ≡ not b
-turned true true h = absurd cc
-turned true false h = refl
-turned false true h = refl
-turned false false h = absurd cc
-
-last : (b : Bool) → (b && true) ≡ b
-last true = refl
-last false = refl
-
 none_met : (rs : List RuleTree) (a : List Bool) (k r u : ℕ) (ws xs : List ℕ) → map (is_true a) (chosen_lits k (length rs)) ≡ value_bits r u (length rs) → r < u → all_met a k ws xs rs ≡ true
 none_met [] a k r u ws xs h less = refl
 none_met (rule ∷ rs) a k r u ws xs h less =
@@ -196,7 +184,7 @@ one_met (r ∷ rs) a k zero u rule ws xs h at =
     let others : map (is_true a) (chosen_lits (k + 1) (length rs)) ≡ value_bits (u + 0) (u + 1) (length rs) = cc in
     let rest = none_met rs a (k + 1) (u + 0) (u + 1) ws xs others (omega arith) in
     let this : r ≡ rule = cc in
-    rw (chosen, rest) (last (rule_met ws xs r)) ∙ ap (rule_met ws xs) this
+    rw (chosen, rest) (and-true (rule_met ws xs r)) ∙ ap (rule_met ws xs) this
 one_met (r ∷ rs) a k (suc i) u rule ws xs h at =
     let here : not (value a k) ≡ eqb (u + suc i) u = cc in
     let away : eqb (u + suc i) u ≡ false = ne_eqb (u + suc i) u (λ e. absurd (omega arith)) in
