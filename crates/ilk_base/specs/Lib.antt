@@ -1,5 +1,6 @@
 pub mod Option
 pub mod Result
+pub mod Each
 pub mod Row
 pub mod Once
 pub mod Words

@@ -8,8 +8,9 @@
 //! `at`, `len` and `as_slice`, and written by `at_mut` and `remove`. A type whose values have words
 //! in texts is `Worded`; its one table both writes and, by `value_of_word`, reads.
 //!
-//! `specs/` has `do` blocks over options (`Option`) and results (`Result`), lists in which nothing
-//! stands twice (`Once`), words in texts (`Words`), and what a write through `at_mut` leaves (`Row`).
+//! `specs/` has `do` blocks over options (`Option`) and results (`Result`), tests of every number
+//! below a bound (`Each`), lists in which nothing stands twice (`Once`), words in texts (`Words`),
+//! and what a write through `at_mut` leaves (`Row`).
 #![tactic(auto)]
 
 mod row;
