@@ -8,7 +8,7 @@ use Rattle.ilk_cnf.specs.Literal.{Literal, has_var, vars_differ}
 use Rattle.ilk_cnf.specs.Formula.{lit_in, clause_in}
 use Rattle.ilk_arena.specs.Arena.{ArenaLists, place, stands_in, put_first, watched, added}
 use Rattle.ilk_arena.specs.Words.{Stands, upd}
-use Rattle.ilk_arena.specs.Linked.{lit_at, clause_at, cursor_at, chain_at, references_in, lists_of, Linked, Laid, Holds}
+use Rattle.ilk_arena.specs.Linked.{lit_at, literals_at, cursor_at, chain_at, references_in, lists_of, Linked, Laid, HoldsArena}
 use Rattle.ilk_arena.proofs.Blocks.{references-are, blocks-push, stands-at}
 use Rattle.ilk_arena.proofs.Seen.{stands-from, lit-at-place, place-within, references-seen}
 use Rattle.ilk_arena.proofs.Adding.{block, appended, Joins, linked-push, added-long, added-short, stands-push, places-new}
@@ -52,17 +52,17 @@ laid-push ws hs refs ls a x b y k clause li la ke le vd =
       ];
       apart = λ d s. elim (stands-push refs c d s) [
         | inl q ↦ ap (λ (ps : List ℕ). vars_differ (map lit_at ps)) (ap1.kept_places d q) ∙ la.apart d q
-        | inr q ↦ (let P : ℕ → Type 0 = λ j. vars_differ (clause_at us j) ≡ true in
+        | inr q ↦ (let P : ℕ → Type 0 = λ j. vars_differ (literals_at us j) ≡ true in
             subst P q (ap (λ (ps : List ℕ). vars_differ (map lit_at ps)) (places-new ws ls a x b y k ∙ le) ∙ ap vars_differ (round clause) ∙ vd))
       ];
     }
 
 -- what add leaves
 pub record Grown (vars spare count : ℕ) (us ks : List ℕ) (a : ArenaLists) (ls : List Literal) (c : ℕ) : Type 0 where
-  pub holds : Holds us ks vars (count + 1)
+  pub holds : HoldsArena us ks vars (count + 1)
   pub lists : lists_of vars spare us ks (references_in us) ≡ added a ls c spare
 
-grown-by : (vars spare old count : ℕ) (ws hs ks : List ℕ) (x : ArenaLists) (ls : List Literal) (a al b bl : ℕ) (cs : ℕ → List ℕ) → Holds ws hs vars count → lists_of vars old ws hs (references_in ws) ≡ x → vars_differ ls ≡ true → Joins ws hs (references_in ws) (map place ls) ks a al b bl (count + 1) cs → Gives (watched (length ws) ls (lists_of vars old ws hs (references_in ws)).chains) (length hs) cs → Grown vars spare count (ws ++ block (length (map place ls)) a al b bl (count + 1) (map place ls)) ks x ls (length ws)
+grown-by : (vars spare old count : ℕ) (ws hs ks : List ℕ) (x : ArenaLists) (ls : List Literal) (a al b bl : ℕ) (cs : ℕ → List ℕ) → HoldsArena ws hs vars count → lists_of vars old ws hs (references_in ws) ≡ x → vars_differ ls ≡ true → Joins ws hs (references_in ws) (map place ls) ks a al b bl (count + 1) cs → Gives (watched (length ws) ls (lists_of vars old ws hs (references_in ws)).chains) (length hs) cs → Grown vars spare count (ws ++ block (length (map place ls)) a al b bl (count + 1) (map place ls)) ks x ls (length ws)
 unfolding lists_of
 grown-by vars spare old count ws hs ks x ls a al b bl cs h e vd j g =
     let refs = references_in ws in
@@ -82,7 +82,7 @@ grown-by vars spare old count ws hs ks x ls a al b bl cs h e vd j g =
     let new1 : Gives (lists_of vars spare us ks all).chains (length hs) (chain_at us ks) = record { size = new0.size ∙ j.heads; item = λ q l. new0.item q (omega (arith, j.heads)) } in
     let new2 = gives-as (lists_of vars spare us ks all).chains (length hs) (chain_at us ks) cs new1 r.1 in
     let chains : (lists_of vars spare us ks all).chains ≡ watched c ls (lists_of vars old ws hs refs).chains = gives-one (lists_of vars spare us ks all).chains (watched c ls (lists_of vars old ws hs refs).chains) (length hs) cs new2 g in
-    let clauses : map (clause_at us) all ≡ map (clause_at ws) refs ++ (ls ∷ []) = map-append (clause_at us) refs (c ∷ []) ∙ ap (λ (cl : List (List Literal)). cl ++ (clause_at us c ∷ [])) (map-same (clause_at us) (clause_at ws) refs (λ d s. ap (λ (qs : List ℕ). map lit_at qs) (ap1.kept_places d s))) ∙ ap (λ (l : List Literal). map (clause_at ws) refs ++ (l ∷ [])) (ap (λ (qs : List ℕ). map lit_at qs) (places-new ws ps a al b bl (count + 1)) ∙ round ls) in
+    let clauses : map (literals_at us) all ≡ map (literals_at ws) refs ++ (ls ∷ []) = map-append (literals_at us) refs (c ∷ []) ∙ ap (λ (cl : List (List Literal)). cl ++ (literals_at us c ∷ [])) (map-same (literals_at us) (literals_at ws) refs (λ d s. ap (λ (qs : List ℕ). map lit_at qs) (ap1.kept_places d s))) ∙ ap (λ (l : List Literal). map (literals_at ws) refs ++ (l ∷ [])) (ap (λ (qs : List ℕ). map lit_at qs) (places-new ws ps a al b bl (count + 1)) ∙ round ls) in
     let cursors : map (cursor_at us) all ≡ map (cursor_at ws) refs ++ (0 ∷ []) = map-append (cursor_at us) refs (c ∷ []) ∙ ap (λ (cu : List ℕ). cu ++ (cursor_at us c ∷ [])) (map-same (cursor_at us) (cursor_at ws) refs (λ d s. ap1.kept d 6 s (omega arith))) ∙ ap (λ (v : ℕ). map (cursor_at ws) refs ++ (v ∷ [])) ap1.new_cursor in
     let L = lists_of vars old ws hs refs in
     record {
@@ -120,7 +120,7 @@ words_long ws hs ls l m k = ws ++ block (length (map place ls)) (place l) (get_o
 abbrev pub heads_long : List ℕ → List ℕ → Literal → Literal → List ℕ
 heads_long ws hs l m = set (set hs (place l) (length ws)) (place m) (length ws)
 
-pub long-law : (vars spare old count : ℕ) (ws hs : List ℕ) (x : ArenaLists) (ls : List Literal) (l m : Literal) → Holds ws hs vars count → lists_of vars old ws hs (references_in ws) ≡ x → clause_in vars ls ≡ true → vars_differ ls ≡ true → slice_get ls 0 ≡ Some l → slice_get ls 1 ≡ Some m → Grown vars spare count (words_long ws hs ls l m (count + 1)) (heads_long ws hs l m) x ls (length ws)
+pub long-law : (vars spare old count : ℕ) (ws hs : List ℕ) (x : ArenaLists) (ls : List Literal) (l m : Literal) → HoldsArena ws hs vars count → lists_of vars old ws hs (references_in ws) ≡ x → clause_in vars ls ≡ true → vars_differ ls ≡ true → slice_get ls 0 ≡ Some l → slice_get ls 1 ≡ Some m → Grown vars spare count (words_long ws hs ls l m (count + 1)) (heads_long ws hs l m) x ls (length ws)
 long-law vars spare old count ws hs x ls l m h e ci vd a b =
     let refs = references_in ws in
     let ps = map place ls in
@@ -149,7 +149,7 @@ long-law vars spare old count ws hs x ls l m h e ci vd a b =
 abbrev pub words_short : List ℕ → List Literal → ℕ → List ℕ
 words_short ws ls k = ws ++ block (length (map place ls)) 0 0 1 0 k (map place ls)
 
-pub short-law : (vars spare old count : ℕ) (ws hs : List ℕ) (x : ArenaLists) (ls : List Literal) → Holds ws hs vars count → lists_of vars old ws hs (references_in ws) ≡ x → clause_in vars ls ≡ true → vars_differ ls ≡ true → length ls < 2 → Grown vars spare count (words_short ws ls (count + 1)) hs x ls (length ws)
+pub short-law : (vars spare old count : ℕ) (ws hs : List ℕ) (x : ArenaLists) (ls : List Literal) → HoldsArena ws hs vars count → lists_of vars old ws hs (references_in ws) ≡ x → clause_in vars ls ≡ true → vars_differ ls ≡ true → length ls < 2 → Grown vars spare count (words_short ws ls (count + 1)) hs x ls (length ws)
 short-law vars spare old count ws hs x ls h e ci vd n =
     let refs = references_in ws in
     let ps = map place ls in
@@ -165,7 +165,7 @@ short-law vars spare old count ws hs x ls h e ci vd n =
     same (l ∷ (m ∷ ls)) ch n = absurd (omega arith)
 
 -- the reference is a new one
-pub new-reference : (vars old count : ℕ) (ws hs : List ℕ) (x : ArenaLists) → Holds ws hs vars count → lists_of vars old ws hs (references_in ws) ≡ x → stands_in (length ws) x.references ≡ false
+pub new-reference : (vars old count : ℕ) (ws hs : List ℕ) (x : ArenaLists) → HoldsArena ws hs vars count → lists_of vars old ws hs (references_in ws) ≡ x → stands_in (length ws) x.references ≡ false
 new-reference vars old count ws hs x h e =
     let refs = references_in ws in
     let rs : x.references ≡ refs = ap (λ (y : ArenaLists). y.references) (sym e) ∙ references-seen vars old ws hs refs in
@@ -180,7 +180,7 @@ clause-lit n [] i l h s = absurd (cc)
 clause-lit n (x ∷ xs) zero l h s = (let e : x ≡ l = cc in ap (lit_in n) (sym e) ∙ (and_parts _ _ h).0)
 clause-lit n (x ∷ xs) (suc i) l h s = clause-lit n xs i l (and_parts _ _ h).1 s
 
-pub lit-fits : (vars count : ℕ) (ws hs : List ℕ) (ls : List Literal) (i : ℕ) (l : Literal) → Holds ws hs vars count → clause_in vars ls ≡ true → slice_get ls i ≡ Some l → (l.var ≤ 2 ^ 62) × (place l < length hs)
+pub lit-fits : (vars count : ℕ) (ws hs : List ℕ) (ls : List Literal) (i : ℕ) (l : Literal) → HoldsArena ws hs vars count → clause_in vars ls ≡ true → slice_get ls i ≡ Some l → (l.var ≤ 2 ^ 62) × (place l < length hs)
 lit-fits vars count ws hs ls i l h ci s =
     let t = clause-lit vars ls i l ci s in
     let p : (ltb 0 l.var ≡ true) × (leb l.var vars ≡ true) = and_parts _ _ t in

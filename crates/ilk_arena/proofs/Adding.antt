@@ -4,7 +4,7 @@ use Rattle.std.proofs.Math.Seq.{drop-append-add}
 use Rattle.std.proofs.Math.ListN.{length-set}
 use Rattle.std.proofs.lemmas.Bool.Decides.{nat_tests, eqb_tells}
 use Rattle.std.proofs.lemmas.Grind.{common_steps}
-use Rattle.ilk_arena.specs.Words.{slot, next, Path, Each, Stands, Watches, left, right, Distinct, Chains, Headers, upd}
+use Rattle.ilk_arena.specs.Words.{slot, next_reference, Path, Each, Stands, Watches, left, right, Distinct, Chains, Headers, upd}
 use Rattle.ilk_arena.specs.Linked.{places_at, chain_at, Linked}
 use Rattle.ilk_arena.proofs.Paths.{frame}
 use Rattle.ilk_arena.proofs.HeaderWrites.{slot-in}
@@ -15,7 +15,7 @@ slot-append : (ws xs : List ℕ) (l c : ℕ) → c + 7 ≤ length ws → slot (w
 unfolding slot
 slot-append ws xs l c h = (let e = get_or_append_left ws xs 0 (c + 1) (omega arith) in rw e refl)
 
-next-append : (ws xs : List ℕ) (l c : ℕ) → c + 7 ≤ length ws → next (ws ++ xs) l c ≡ next ws l c
+next-append : (ws xs : List ℕ) (l c : ℕ) → c + 7 ≤ length ws → next_reference (ws ++ xs) l c ≡ next_reference ws l c
 next-append ws xs l c h =
     let e = slot-append ws xs l c h in
     let f = get_or_append_left ws xs 0 (slot ws l c) (grind (arith, slot-in ws l c)) in
@@ -32,13 +32,13 @@ watch-shrink ws xs c l h (right p) = right (sym (get_or_append_left ws xs 0 (c +
 -- a longer block and more clauses leave the chains
 pub grown : (ws xs hs : List ℕ) (R S : ℕ → Type 0) (cs : ℕ → List ℕ) → Headers ws R → ((c : ℕ) → R c → S c) → Chains ws hs R cs → Chains (ws ++ xs) hs S cs
 grown ws xs hs R S cs hd f k = record {
-  path = λ l h. frame ws (ws ++ xs) l (get_or hs l 0) (cs l) (each-map (λ c. R c × Watches ws c l) (λ c. next (ws ++ xs) l c ≡ next ws l c) (cs l) (λ c r. next-append ws xs l c (hd.room c r.0).1) (k.held l h)) (k.path l h);
+  path = λ l h. frame ws (ws ++ xs) l (get_or hs l 0) (cs l) (each-map (λ c. R c × Watches ws c l) (λ c. next_reference (ws ++ xs) l c ≡ next_reference ws l c) (cs l) (λ c r. next-append ws xs l c (hd.room c r.0).1) (k.held l h)) (k.path l h);
   held = λ l h. each-map (λ c. R c × Watches ws c l) (λ c. S c × Watches (ws ++ xs) c l) (cs l) (λ c r. (f c r.0, watch-append ws xs c l (hd.room c r.0).1 r.1)) (k.held l h);
   once = k.once;
 }
 
 -- c, whose link leads to the old head, becomes the head
-pub push-head : (ws hs : List ℕ) (R : ℕ → Type 0) (cs : ℕ → List ℕ) (t c : ℕ) → t < length hs → R c → 0 < c → Watches ws c t → next ws t c ≡ get_or hs t 0 → Each (λ d. d ≢ c) (cs t) → Chains ws hs R cs → Chains ws (set hs t c) R (upd cs t (c ∷ cs t))
+pub push-head : (ws hs : List ℕ) (R : ℕ → Type 0) (cs : ℕ → List ℕ) (t c : ℕ) → t < length hs → R c → 0 < c → Watches ws c t → next_reference ws t c ≡ get_or hs t 0 → Each (λ d. d ≢ c) (cs t) → Chains ws hs R cs → Chains ws (set hs t c) R (upd cs t (c ∷ cs t))
 push-head ws hs R cs t c h rc pos w e gone k =
     let n : length (set hs t c) ≡ length hs = simp length-set in
     let at : get_or (set hs t c) t 0 ≡ c = get_or-set_same hs t c 0 h in
@@ -252,8 +252,8 @@ added-long ws hs refs ps a b k li ne long oa ob least small =
     let ap = appended ws hs refs ps a x b y k li in
     let ha : a < length hs = small a oa in
     let hb : b < length hs = small b ob in
-    let na : next us a c ≡ x = (let e : eqb (get_or us (c + 1) 0) a ≡ true = grind (arith, nat_tests, ap.new_left) in rw e ap.new_left_link) in
-    let nb : next us b c ≡ y = (let e : eqb (get_or us (c + 1) 0) b ≡ false = grind (arith, nat_tests, ap.new_left) in rw e ap.new_right_link) in
+    let na : next_reference us a c ≡ x = (let e : eqb (get_or us (c + 1) 0) a ≡ true = grind (arith, nat_tests, ap.new_left) in rw e ap.new_left_link) in
+    let nb : next_reference us b c ≡ y = (let e : eqb (get_or us (c + 1) 0) b ≡ false = grind (arith, nat_tests, ap.new_left) in rw e ap.new_right_link) in
     let one = upd (chain_at ws hs) a (c ∷ chain_at ws hs a) in
     let step1 : Chains us gs (Stands all) one = push-head us hs (Stands all) (chain_at ws hs) a c ha (stands-last refs c) li.started (left ap.new_left) na (ap.absent a ha) ap.chains in
     let ng : length gs ≡ length hs = simp length-set in

@@ -5,8 +5,8 @@ use Rattle.std.proofs.lemmas.Bool.{cases_eq, cases_order}
 use Rattle.std.proofs.lemmas.List.{get_or-set_same, get_or-set_other, drop-set-lt, drop-set-add, take-set-le, get_or-replicate, length-replicate, length-set}
 use Rattle.ilk_cnf.specs.Literal.{vars_differ}
 use Rattle.ilk_arena.specs.Arena.{ArenaLists, set_beside}
-use Rattle.ilk_arena.specs.Words.{Path, chain, Each, Stands, Watches, left, right, Distinct, Chains, Headers, next}
-use Rattle.ilk_arena.specs.Linked.{lit_at, places_at, clause_at, cursor_at, chain_at, Blocks, references_in, lists_of, Linked, Laid, Holds}
+use Rattle.ilk_arena.specs.Words.{Path, chain, Each, Stands, Watches, left, right, Distinct, Chains, Headers, next_reference}
+use Rattle.ilk_arena.specs.Linked.{lit_at, places_at, literals_at, cursor_at, chain_at, Blocks, references_in, lists_of, Linked, Laid, HoldsArena}
 use Rattle.ilk_arena.proofs.Blocks.{references-are, blocks-same, stands-at}
 use Rattle.ilk_arena.proofs.Unlinking.{each-at}
 use Rattle.ilk_arena.proofs.LinkedChains.{headers-of, chain_at-is, same-chains}
@@ -66,9 +66,9 @@ turned ws hs refs c v k r =
     let w1 : (d : ℕ) → Stands refs d → get_or us (d + 1) 0 ≡ get_or ws (d + 1) 0 = λ d s. cursor-read ws hs refs c d 1 v k r s (omega arith) in
     let w3 : (d : ℕ) → Stands refs d → get_or us (d + 3) 0 ≡ get_or ws (d + 3) 0 = λ d s. cursor-read ws hs refs c d 3 v k r s (omega arith) in
     let pl : (d : ℕ) → Stands refs d → places_at us d ≡ places_at ws d = λ d s. cursor-places ws hs refs c d v k r s in
-    let step : (l d : ℕ) → Stands refs d → next us l d ≡ next ws l d = λ l d s. next-far ws l d (c + 6) v (far d 1 s (omega arith)) (far d 2 s (omega arith)) (far d 4 s (omega arith)) in
+    let step : (l d : ℕ) → Stands refs d → next_reference us l d ≡ next_reference ws l d = λ l d s. next-far ws l d (c + 6) v (far d 1 s (omega arith)) (far d 2 s (omega arith)) (far d 4 s (omega arith)) in
     let ch : Chains us hs (Stands refs) (chain_at ws hs) = record {
-      path = λ l h. frame ws us l (get_or hs l 0) (chain_at ws hs l) (each-map (λ d. Stands refs d × Watches ws d l) (λ d. next us l d ≡ next ws l d) (chain_at ws hs l) (λ d s. step l d s.0) (k.chains.held l h)) (k.chains.path l h);
+      path = λ l h. frame ws us l (get_or hs l 0) (chain_at ws hs l) (each-map (λ d. Stands refs d × Watches ws d l) (λ d. next_reference us l d ≡ next_reference ws l d) (chain_at ws hs l) (λ d s. step l d s.0) (k.chains.held l h)) (k.chains.path l h);
       held = λ l h. each-map (λ d. Stands refs d × Watches ws d l) (λ d. Stands refs d × Watches us d l) (chain_at ws hs l) (λ d s. (s.0, watches-far ws d l (c + 6) v (far d 1 s.0 (omega arith)) (far d 3 s.0 (omega arith)) s.1)) (k.chains.held l h);
       once = k.chains.once;
     } in
@@ -106,9 +106,6 @@ rising ws k (c ∷ cs) b =
       (each-map (λ d. c + 7 + get_or ws c 0 ≤ d) (λ d. d ≢ c) cs (λ d h. omega arith) r.0, r.1),
     )
 
-each-in : (P : ℕ → Type 0) (xs : List ℕ) (c : ℕ) → Stands xs c → Each P xs → P c
-each-in P xs c s e = each-at P xs c s e
-
 cursors-set : (f g : ℕ → ℕ) (refs : List ℕ) (c v : ℕ) → Distinct refs → g c ≡ v → ((d : ℕ) → Stands refs d → d ≢ c → g d ≡ f d) → map g refs ≡ set_beside c refs (map f refs) v
 cursors-set f g [] c v d e h = refl
 cursors-set f g (r ∷ rs) c v d e h =
@@ -119,10 +116,10 @@ cursors-set f g (r ∷ rs) c v d e h =
     ]
 
 pub record CursorSet (vars spare count : ℕ) (us hs : List ℕ) (a : ArenaLists) (c v : ℕ) : Type 0 where
-  pub holds : Holds us hs vars count
+  pub holds : HoldsArena us hs vars count
   pub lists : lists_of vars spare us hs (references_in us) ≡ record a { cursors = set_beside c a.references a.cursors v }
 
-pub cursor-law : (vars spare count : ℕ) (ws hs : List ℕ) (a : ArenaLists) (c v : ℕ) → Holds ws hs vars count → lists_of vars spare ws hs (references_in ws) ≡ a → Stands (references_in ws) c → v ≤ get_or ws c 0 → CursorSet vars spare count (set ws (c + 6) v) hs a c v
+pub cursor-law : (vars spare count : ℕ) (ws hs : List ℕ) (a : ArenaLists) (c v : ℕ) → HoldsArena ws hs vars count → lists_of vars spare ws hs (references_in ws) ≡ a → Stands (references_in ws) c → v ≤ get_or ws c 0 → CursorSet vars spare count (set ws (c + 6) v) hs a c v
 unfolding lists_of
 cursor-law vars spare count ws hs a c v h e s le =
     let refs = references_in ws in
@@ -146,7 +143,7 @@ cursor-law vars spare count ws hs a c v h e s le =
     let Q : List ℕ → Type 0 = λ rs. Laid us rs in
     let L = lists_of vars spare ws hs refs in
     let chains : (lists_of vars spare us hs refs).chains ≡ L.chains = gives-one (lists_of vars spare us hs refs).chains L.chains (length hs) (chain_at ws hs) (gives-as (lists_of vars spare us hs refs).chains (length hs) (chain_at us hs) (chain_at ws hs) (gives-seen vars spare us hs refs) t.chains) (gives-seen vars spare ws hs refs) in
-    let clauses : map (clause_at us) refs ≡ map (clause_at ws) refs = map-same (clause_at us) (clause_at ws) refs (λ x q. ap (λ (ps : List ℕ). map lit_at ps) (cursor-places ws hs refs c x v k s q)) in
+    let clauses : map (literals_at us) refs ≡ map (literals_at ws) refs = map-same (literals_at us) (literals_at ws) refs (λ x q. ap (λ (ps : List ℕ). map lit_at ps) (cursor-places ws hs refs c x v k s q)) in
     let cursors : map (cursor_at us) refs ≡ set_beside c refs (map (cursor_at ws) refs) v = cursors-set (cursor_at ws) (cursor_at us) refs c v (rising ws 1 refs h.laid.blocks).1 at (λ x q n. away x n) in
     record {
       holds = record {
@@ -160,7 +157,7 @@ cursor-law vars spare count ws hs a c v h e s le =
     }
 
 -- an arena without clauses
-pub empty-holds : (vars : ℕ) → vars ≤ 2 ^ 62 → Holds (0 ∷ []) (replicate (2 * vars + 2) 0) vars 0
+pub empty-holds : (vars : ℕ) → vars ≤ 2 ^ 62 → HoldsArena (0 ∷ []) (replicate (2 * vars + 2) 0) vars 0
 empty-holds vars few =
     let ws : List ℕ = 0 ∷ [] in
     let hs : List ℕ = replicate (2 * vars + 2) 0 in

@@ -1,7 +1,7 @@
 -- Three clauses over three variables, and a watch that moves, worked through on the definitions.
 use Rattle.std.proofs.Common.{◌≡◌, ◌*◌, ◌+◌, [], ◌∷◌, replicate, refl, Some}
 use Rattle.ilk_cnf.specs.Literal.{plus, minus}
-use Rattle.ilk_arena.specs.Arena.{ArenaLists, chain_of, added, rewatched, other_watch_of, number_of}
+use Rattle.ilk_arena.specs.Arena.{ArenaLists, chain_of, added, rewatched, other_watch_of, number_of_clause}
 
 abbrev none : ArenaLists
 none = record { vars = 3; spare = 40; references = []; clauses = []; cursors = []; chains = replicate (2 * 3 + 2) [] }
@@ -25,7 +25,7 @@ chain-of-3 = refl
 other-watch : other_watch_of three 30 (plus 1) ≡ Some (plus 2)
 other-watch = refl
 
-third : number_of three 30 ≡ 3
+third : number_of_clause three 30 ≡ 3
 third = refl
 
 -- the third clause watches 3 in place of 1

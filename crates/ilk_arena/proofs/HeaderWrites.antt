@@ -4,7 +4,7 @@ use Rattle.std.proofs.lemmas.Bool.Decides.{nat_tests}
 use Rattle.std.proofs.lemmas.Bool.{cases_eq}
 use Rattle.std.proofs.lemmas.Grind.{get_or-set_at}
 use Rattle.std.proofs.Math.ListN.{length-set}
-use Rattle.ilk_arena.specs.Words.{slot, next, moved, Watches, left, right}
+use Rattle.ilk_arena.specs.Words.{slot, next_reference, watch_moved, Watches, left, right}
 
 -- a write outside the header
 pub slot-far : (ws : List ℕ) (l c i v : ℕ) → i ≢ c + 1 → slot (set ws i v) l c ≡ slot ws l c
@@ -17,7 +17,7 @@ pub slot-in : (ws : List ℕ) (l c : ℕ) → (slot ws l c ≡ c + 2) ⊎ (slot 
 unfolding slot
 slot-in ws l c = grind (arith, nat_tests)
 
-pub next-far : (ws : List ℕ) (l c i v : ℕ) → i ≢ c + 1 → i ≢ c + 2 → i ≢ c + 4 → next (set ws i v) l c ≡ next ws l c
+pub next-far : (ws : List ℕ) (l c i v : ℕ) → i ≢ c + 1 → i ≢ c + 2 → i ≢ c + 4 → next_reference (set ws i v) l c ≡ next_reference ws l c
 next-far ws l c i v a b d =
     let e = slot-far ws l c i v a in
     let f : get_or (set ws i v) (slot ws l c) 0 ≡ get_or ws (slot ws l c) 0 = get_or-set_other ws i (slot ws l c) v 0 (grind (arith, slot-in ws l c)) in
@@ -32,14 +32,14 @@ slots-apart ws c l m n (left p) (right q) = grind (arith, nat_tests)
 slots-apart ws c l m n (right p) (left q) = grind (arith, nat_tests)
 
 -- a write to the link of one watch leaves that of the other
-pub next-other : (ws : List ℕ) (c l m v : ℕ) → l ≢ m → Watches ws c l → Watches ws c m → next (set ws (slot ws m c) v) l c ≡ next ws l c
+pub next-other : (ws : List ℕ) (c l m v : ℕ) → l ≢ m → Watches ws c l → Watches ws c m → next_reference (set ws (slot ws m c) v) l c ≡ next_reference ws l c
 next-other ws c l m v n p q =
     let e : slot (set ws (slot ws m c) v) l c ≡ slot ws l c = slot-far ws l c (slot ws m c) v (grind (arith, slot-in ws m c)) in
     let f : get_or (set ws (slot ws m c) v) (slot ws l c) 0 ≡ get_or ws (slot ws l c) 0 = get_or-set_other ws (slot ws m c) (slot ws l c) v 0 (slots-apart ws c l m n p q) in
     rw e f
 
 -- the link that was written
-pub next-same : (ws : List ℕ) (c l v : ℕ) → c + 7 ≤ length ws → next (set ws (slot ws l c) v) l c ≡ v
+pub next-same : (ws : List ℕ) (c l v : ℕ) → c + 7 ≤ length ws → next_reference (set ws (slot ws l c) v) l c ≡ v
 next-same ws c l v h =
     let e : slot (set ws (slot ws l c) v) l c ≡ slot ws l c = slot-far ws l c (slot ws l c) v (grind (arith, slot-in ws l c)) in
     let b : slot ws l c < length ws = grind (arith, slot-in ws l c) in
@@ -49,20 +49,20 @@ pub watches-far : (ws : List ℕ) (c l i v : ℕ) → i ≢ c + 1 → i ≢ c + 
 watches-far ws c l i v a b (left p) = left (get_or-set_other ws i (c + 1) v 0 (λ q. a (sym q)) ∙ p)
 watches-far ws c l i v a b (right p) = right (get_or-set_other ws i (c + 3) v 0 (λ q. b (sym q)) ∙ p)
 
-pub moved-far : (ws : List ℕ) (f c t v l d : ℕ) → (c + 7 ≤ d) ⊎ (d + 7 ≤ c) → next (moved ws f c t v) l d ≡ next ws l d
+pub moved-far : (ws : List ℕ) (f c t v l d : ℕ) → (c + 7 ≤ d) ⊎ (d + 7 ≤ c) → next_reference (watch_moved ws f c t v) l d ≡ next_reference ws l d
 moved-far ws f c t v l d h =
     let us = set ws (slot ws f c - 1) t in
     let a = next-far us l d (slot ws f c) v (grind (arith, slot-in ws f c)) (grind (arith, slot-in ws f c)) (grind (arith, slot-in ws f c)) in
     let b = next-far ws l d (slot ws f c - 1) t (grind (arith, slot-in ws f c)) (grind (arith, slot-in ws f c)) (grind (arith, slot-in ws f c)) in
     a ∙ b
 
-pub moved-watch-far : (ws : List ℕ) (f c t v l d : ℕ) → (c + 7 ≤ d) ⊎ (d + 7 ≤ c) → Watches ws d l → Watches (moved ws f c t v) d l
+pub moved-watch-far : (ws : List ℕ) (f c t v l d : ℕ) → (c + 7 ≤ d) ⊎ (d + 7 ≤ c) → Watches ws d l → Watches (watch_moved ws f c t v) d l
 moved-watch-far ws f c t v l d h w =
     let us = set ws (slot ws f c - 1) t in
     watches-far us d l (slot ws f c) v (grind (arith, slot-in ws f c)) (grind (arith, slot-in ws f c)) (watches-far ws d l (slot ws f c - 1) t (grind (arith, slot-in ws f c)) (grind (arith, slot-in ws f c)) w)
 
 -- reads of the words of the header after the move
-pub moved-reads-left : (ws : List ℕ) (f c t v : ℕ) → c + 7 ≤ length ws → get_or ws (c + 1) 0 ≡ f → (slot ws f c ≡ c + 2) × (get_or (moved ws f c t v) (c + 1) 0 ≡ t) × (get_or (moved ws f c t v) (c + 2) 0 ≡ v) × (get_or (moved ws f c t v) (c + 3) 0 ≡ get_or ws (c + 3) 0) × (get_or (moved ws f c t v) (c + 4) 0 ≡ get_or ws (c + 4) 0)
+pub moved-reads-left : (ws : List ℕ) (f c t v : ℕ) → c + 7 ≤ length ws → get_or ws (c + 1) 0 ≡ f → (slot ws f c ≡ c + 2) × (get_or (watch_moved ws f c t v) (c + 1) 0 ≡ t) × (get_or (watch_moved ws f c t v) (c + 2) 0 ≡ v) × (get_or (watch_moved ws f c t v) (c + 3) 0 ≡ get_or ws (c + 3) 0) × (get_or (watch_moved ws f c t v) (c + 4) 0 ≡ get_or ws (c + 4) 0)
 unfolding slot
 moved-reads-left ws f c t v h p =
     let s : slot ws f c ≡ c + 2 = grind (arith, nat_tests) in
@@ -75,7 +75,7 @@ moved-reads-left ws f c t v h p =
       rw s (get_or-set_other (set ws (c + 2 - 1) t) (c + 2) (c + 4) v 0 (omega arith) ∙ get_or-set_other ws (c + 2 - 1) (c + 4) t 0 (omega arith)),
     )
 
-pub moved-reads-right : (ws : List ℕ) (f c t v : ℕ) → c + 7 ≤ length ws → get_or ws (c + 1) 0 ≢ f → (slot ws f c ≡ c + 4) × (get_or (moved ws f c t v) (c + 1) 0 ≡ get_or ws (c + 1) 0) × (get_or (moved ws f c t v) (c + 2) 0 ≡ get_or ws (c + 2) 0) × (get_or (moved ws f c t v) (c + 3) 0 ≡ t) × (get_or (moved ws f c t v) (c + 4) 0 ≡ v)
+pub moved-reads-right : (ws : List ℕ) (f c t v : ℕ) → c + 7 ≤ length ws → get_or ws (c + 1) 0 ≢ f → (slot ws f c ≡ c + 4) × (get_or (watch_moved ws f c t v) (c + 1) 0 ≡ get_or ws (c + 1) 0) × (get_or (watch_moved ws f c t v) (c + 2) 0 ≡ get_or ws (c + 2) 0) × (get_or (watch_moved ws f c t v) (c + 3) 0 ≡ t) × (get_or (watch_moved ws f c t v) (c + 4) 0 ≡ v)
 unfolding slot
 moved-reads-right ws f c t v h p =
     let s : slot ws f c ≡ c + 4 = grind (arith, nat_tests) in (
@@ -86,25 +86,25 @@ moved-reads-right ws f c t v h p =
       rw s (get_or-set_same (set ws (c + 4 - 1) t) (c + 4) v 0 (simp length-set (omega arith))),
     )
 
-pub moved-next : (ws : List ℕ) (f c t v : ℕ) → c + 7 ≤ length ws → get_or ws (c + 1) 0 ≢ t → next (moved ws f c t v) t c ≡ v
+pub moved-next : (ws : List ℕ) (f c t v : ℕ) → c + 7 ≤ length ws → get_or ws (c + 1) 0 ≢ t → next_reference (watch_moved ws f c t v) t c ≡ v
 unfolding slot
 moved-next ws f c t v h n =
     elim (cases_eq (get_or ws (c + 1) 0) f) [
-      | inl p ↦ (let r = moved-reads-left ws f c t v h p in let e : eqb (get_or (moved ws f c t v) (c + 1) 0) t ≡ true = grind (arith, nat_tests) in rw e r.2)
-      | inr p ↦ (let r = moved-reads-right ws f c t v h p in let e : eqb (get_or (moved ws f c t v) (c + 1) 0) t ≡ false = grind (arith, nat_tests) in rw e r.4)
+      | inl p ↦ (let r = moved-reads-left ws f c t v h p in let e : eqb (get_or (watch_moved ws f c t v) (c + 1) 0) t ≡ true = grind (arith, nat_tests) in rw e r.2)
+      | inr p ↦ (let r = moved-reads-right ws f c t v h p in let e : eqb (get_or (watch_moved ws f c t v) (c + 1) 0) t ≡ false = grind (arith, nat_tests) in rw e r.4)
     ]
 
-pub moved-other : (ws : List ℕ) (f c t v l : ℕ) → c + 7 ≤ length ws → l ≢ f → l ≢ t → Watches ws c f → Watches ws c l → next (moved ws f c t v) l c ≡ next ws l c
+pub moved-other : (ws : List ℕ) (f c t v l : ℕ) → c + 7 ≤ length ws → l ≢ f → l ≢ t → Watches ws c f → Watches ws c l → next_reference (watch_moved ws f c t v) l c ≡ next_reference ws l c
 unfolding slot
 moved-other ws f c t v l h n m wf wl =
     elim (cases_eq (get_or ws (c + 1) 0) f) [
       | inl p ↦ (let r = moved-reads-left ws f c t v h p in
-          let e : eqb (get_or (moved ws f c t v) (c + 1) 0) l ≡ false = grind (arith, nat_tests) in
+          let e : eqb (get_or (watch_moved ws f c t v) (c + 1) 0) l ≡ false = grind (arith, nat_tests) in
           let g : eqb (get_or ws (c + 1) 0) l ≡ false = grind (arith, nat_tests) in
           rw (e, g) r.4)
       | inr p ↦ (let r = moved-reads-right ws f c t v h p in
           let q : get_or ws (c + 1) 0 ≡ l = second ws c f l n p wf wl in
-          let e : eqb (get_or (moved ws f c t v) (c + 1) 0) l ≡ true = grind (arith, nat_tests) in
+          let e : eqb (get_or (watch_moved ws f c t v) (c + 1) 0) l ≡ true = grind (arith, nat_tests) in
           let g : eqb (get_or ws (c + 1) 0) l ≡ true = grind (arith, nat_tests) in
           rw (e, g) r.2)
     ]
@@ -114,18 +114,18 @@ moved-other ws f c t v l h n m wf wl =
     second ws c f l n p (right a) (left b) = b
     second ws c f l n p (right a) (right b) = absurd (n (sym b ∙ a))
 
-pub moved-watch : (ws : List ℕ) (f c t v : ℕ) → c + 7 ≤ length ws → Watches (moved ws f c t v) c t
+pub moved-watch : (ws : List ℕ) (f c t v : ℕ) → c + 7 ≤ length ws → Watches (watch_moved ws f c t v) c t
 moved-watch ws f c t v h =
     elim (cases_eq (get_or ws (c + 1) 0) f) [
       | inl p ↦ left (moved-reads-left ws f c t v h p).1
       | inr p ↦ right (moved-reads-right ws f c t v h p).3
     ]
 
-pub moved-watch-other : (ws : List ℕ) (f c t v l : ℕ) → c + 7 ≤ length ws → l ≢ f → Watches ws c f → Watches ws c l → Watches (moved ws f c t v) c l
+pub moved-watch-other : (ws : List ℕ) (f c t v l : ℕ) → c + 7 ≤ length ws → l ≢ f → Watches ws c f → Watches ws c l → Watches (watch_moved ws f c t v) c l
 moved-watch-other ws f c t v l h n wf w =
     elim (cases_eq (get_or ws (c + 1) 0) f) [
-      | inl p ↦ (let r = moved-reads-left ws f c t v h p in pick1 ws (moved ws f c t v) c f l n p r.3 w)
-      | inr p ↦ (let r = moved-reads-right ws f c t v h p in pick2 ws (moved ws f c t v) c f l n p r.1 wf w)
+      | inl p ↦ (let r = moved-reads-left ws f c t v h p in pick1 ws (watch_moved ws f c t v) c f l n p r.3 w)
+      | inr p ↦ (let r = moved-reads-right ws f c t v h p in pick2 ws (watch_moved ws f c t v) c f l n p r.1 wf w)
     ]
   where
     pick1 : (ws vs : List ℕ) (c f l : ℕ) → l ≢ f → get_or ws (c + 1) 0 ≡ f → get_or vs (c + 3) 0 ≡ get_or ws (c + 3) 0 → Watches ws c l → Watches vs c l

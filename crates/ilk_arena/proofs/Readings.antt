@@ -5,9 +5,9 @@ use Rattle.std.proofs.lemmas.Bool.Decides.{eqb_tells}
 use Rattle.std.proofs.lemmas.Bool.{cases_Bool, and_parts, and_from, leb-true, not-true, not_from_false}
 use Rattle.ilk_cnf.specs.Literal.{Literal, same_lit}
 use Rattle.ilk_cnf.specs.Formula.{lit_in}
-use Rattle.ilk_arena.specs.Arena.{ArenaLists, place, chain_of, stands_in, literals_of, cursor_of, number_of, first_of, after, other_watch_of}
-use Rattle.ilk_arena.specs.Words.{Stands, Watches, left, right, next, other, reference_of}
-use Rattle.ilk_arena.specs.Linked.{lit_at, places_at, chain_at, references_in, lists_of, Linked, Holds}
+use Rattle.ilk_arena.specs.Arena.{ArenaLists, place, chain_of, stands_in, literals_of, cursor_of, number_of_clause, first_of, after, other_watch_of}
+use Rattle.ilk_arena.specs.Words.{Stands, Watches, left, right, next_reference, other, reference_of}
+use Rattle.ilk_arena.specs.Linked.{lit_at, places_at, chain_at, references_in, lists_of, Linked, HoldsArena}
 use Rattle.ilk_base.proofs.Lists.{find-only}
 use Rattle.ilk_arena.proofs.Blocks.{few-clauses}
 use Rattle.ilk_arena.proofs.Seen.{stands-from, lit-at-place, place-within, chain-seen, clause-seen, cursor-seen, references-seen, vars-seen, first-is, after-is}
@@ -21,7 +21,7 @@ pub record Known (ws : List ℕ) (a : ArenaLists) (c : ℕ) : Type 0 where
   pub stands : Stands (references_in ws) c
   pub room : c + 7 + get_or ws c 0 ≤ length ws
   pub len : get_or ws c 0 ≡ length (literals_of a c)
-  pub number : get_or ws (c + 5) 0 ≡ number_of a c
+  pub number : get_or ws (c + 5) 0 ≡ number_of_clause a c
   pub cursor : get_or ws (c + 6) 0 ≡ cursor_of a c
   pub within : get_or ws (c + 6) 0 ≤ get_or ws c 0
 
@@ -45,7 +45,7 @@ stands-known vars spare ws hs a c e t =
     let rs : a.references ≡ refs = ap (λ (y : ArenaLists). y.references) (sym e) ∙ references-seen vars spare ws hs refs in
     stands-from c refs (ap (stands_in c) (sym rs) ∙ t)
 
-pub known : (vars spare count : ℕ) (ws hs : List ℕ) (a : ArenaLists) (c : ℕ) → Holds ws hs vars count → lists_of vars spare ws hs (references_in ws) ≡ a → stands_in c a.references ≡ true → Known ws a c
+pub known : (vars spare count : ℕ) (ws hs : List ℕ) (a : ArenaLists) (c : ℕ) → HoldsArena ws hs vars count → lists_of vars spare ws hs (references_in ws) ≡ a → stands_in c a.references ≡ true → Known ws a c
 known vars spare count ws hs a c h e t =
     let refs = references_in ws in
     let s = stands-known vars spare ws hs a c e t in
@@ -53,13 +53,13 @@ known vars spare count ws hs a c h e t =
       stands = s;
       room = h.linked.whole c s;
       len = sym (clause-length vars spare ws hs refs c h.linked s) ∙ ap (λ (x : ArenaLists). length (literals_of x c)) e;
-      number = h.laid.number (position_or_len (λ x. x == c) refs) c (position-at c refs s) ∙ ap (λ (rs : List ℕ). position_or_len (λ x. x == c) rs + 1) (sym (references-seen vars spare ws hs refs)) ∙ ap (λ (x : ArenaLists). number_of x c) e;
+      number = h.laid.number (position_or_len (λ x. x == c) refs) c (position-at c refs s) ∙ ap (λ (rs : List ℕ). position_or_len (λ x. x == c) rs + 1) (sym (references-seen vars spare ws hs refs)) ∙ ap (λ (x : ArenaLists). number_of_clause x c) e;
       cursor = sym (cursor-seen vars spare ws hs refs c s) ∙ ap (λ (x : ArenaLists). cursor_of x c) e;
       within = h.laid.cursor c s;
     }
 
 -- a place fits the calls
-pub place-fits : (vars count : ℕ) (ws hs : List ℕ) (c p : ℕ) → Holds ws hs vars count → Stands (references_in ws) c → Stands (places_at ws c) p → (2 ≤ p) × (p < 2 ^ 63 + 2)
+pub place-fits : (vars count : ℕ) (ws hs : List ℕ) (c p : ℕ) → HoldsArena ws hs vars count → Stands (references_in ws) c → Stands (places_at ws c) p → (2 ≤ p) × (p < 2 ^ 63 + 2)
 place-fits vars count ws hs c p h s o = (h.linked.least c p s o, omega (arith, h.linked.small c p s o, h.heads, h.few))
 
 -- a literal of the arena's variables
@@ -68,7 +68,7 @@ pub record Within (ws hs : List ℕ) (a : ArenaLists) (l : Literal) : Type 0 whe
   pub below : place l < length hs
   pub chain : chain_of a l ≡ chain_at ws hs (place l)
 
-pub within : (vars spare count : ℕ) (ws hs : List ℕ) (a : ArenaLists) (l : Literal) → Holds ws hs vars count → lists_of vars spare ws hs (references_in ws) ≡ a → lit_in a.vars l ≡ true → Within ws hs a l
+pub within : (vars spare count : ℕ) (ws hs : List ℕ) (a : ArenaLists) (l : Literal) → HoldsArena ws hs vars count → lists_of vars spare ws hs (references_in ws) ≡ a → lit_in a.vars l ≡ true → Within ws hs a l
 within vars spare count ws hs a l h e t =
     let refs = references_in ws in
     let v : vars ≡ a.vars = sym (vars-seen vars spare ws hs refs) ∙ ap (λ (x : ArenaLists). x.vars) e in
@@ -82,14 +82,14 @@ within vars spare count ws hs a l h e t =
       chain = ap (λ (x : ArenaLists). chain_of x l) (sym e) ∙ chain-seen vars spare ws hs refs (place l) b;
     }
 
-pub first-seen : (vars spare count : ℕ) (ws hs : List ℕ) (a : ArenaLists) (l : Literal) → Holds ws hs vars count → Within ws hs a l → reference_of (get_or hs (place l) 0) ≡ first_of (chain_of a l)
+pub first-seen : (vars spare count : ℕ) (ws hs : List ℕ) (a : ArenaLists) (l : Literal) → HoldsArena ws hs vars count → Within ws hs a l → reference_of (get_or hs (place l) 0) ≡ first_of (chain_of a l)
 first-seen vars spare count ws hs a l h w = first-is ws (place l) (get_or hs (place l) 0) (chain_at ws hs (place l)) (h.linked.chains.path (place l) w.below) ∙ ap first_of (sym w.chain)
 
 -- a clause in a chain
 pub watching : (vars spare : ℕ) (ws hs : List ℕ) (a : ArenaLists) (l : Literal) (c : ℕ) → Linked ws hs (references_in ws) → lists_of vars spare ws hs (references_in ws) ≡ a → stands_in c (chain_of a l) ≡ true → InChain ws hs (references_in ws) l c
 watching vars spare ws hs a l c k e t = chain-has vars spare ws hs (references_in ws) l c k (ap (λ (x : ArenaLists). stands_in c (chain_of x l)) e ∙ t)
 
-pub after-seen : (vars count : ℕ) (ws hs : List ℕ) (a : ArenaLists) (l : Literal) (c : ℕ) → Holds ws hs vars count → Within ws hs a l → InChain ws hs (references_in ws) l c → reference_of (next ws (place l) c) ≡ after c (chain_of a l)
+pub after-seen : (vars count : ℕ) (ws hs : List ℕ) (a : ArenaLists) (l : Literal) (c : ℕ) → HoldsArena ws hs vars count → Within ws hs a l → InChain ws hs (references_in ws) l c → reference_of (next_reference ws (place l) c) ≡ after c (chain_of a l)
 after-seen vars count ws hs a l c h w i = after-is ws (place l) (get_or hs (place l) 0) c (chain_at ws hs (place l)) (h.linked.chains.path (place l) w.below) i.stands ∙ ap (after c) (sym w.chain)
 
 -- the other watch
@@ -127,7 +127,7 @@ index-of : (ps : List ℕ) (q : ℕ) → Stands ps q → (i : ℕ) × (slice_get
 index-of [] q s = absurd s
 index-of (p ∷ ps) q s = elim s [ inl e ↦ (0, ap (λ (x : ℕ). Some (lit_at x)) e) | inr r ↦ (let t = index-of ps q r in (suc t.0, t.1)) ]
 
-pub other-seen : (vars spare count : ℕ) (ws hs : List ℕ) (a : ArenaLists) (l : Literal) (c : ℕ) → Holds ws hs vars count → lists_of vars spare ws hs (references_in ws) ≡ a → stands_in c (chain_of a l) ≡ true → OtherWatch ws a c l
+pub other-seen : (vars spare count : ℕ) (ws hs : List ℕ) (a : ArenaLists) (l : Literal) (c : ℕ) → HoldsArena ws hs vars count → lists_of vars spare ws hs (references_in ws) ≡ a → stands_in c (chain_of a l) ≡ true → OtherWatch ws a c l
 other-seen vars spare count ws hs a l c h e t =
     let refs = references_in ws in
     let k = h.linked in
@@ -182,7 +182,7 @@ unfolding lists_of
 spare-change vars spare more ws hs a e = ap (λ (x : ArenaLists). record x { spare = more }) e
 
 -- the number of clauses fits a word
-pub count-fits : (vars count : ℕ) (ws hs : List ℕ) → Holds ws hs vars count → count < length ws
+pub count-fits : (vars count : ℕ) (ws hs : List ℕ) → HoldsArena ws hs vars count → count < length ws
 count-fits vars count ws hs h = omega (arith, h.counted, few-clauses ws (references_in ws) h.laid.blocks)
 
 -- what was written over all items

@@ -3,9 +3,9 @@ use Rattle.std.proofs.lemmas.List.{get_or-set_other}
 use Rattle.std.proofs.lemmas.Bool.Decides.{nat_tests, eqb_tells}
 use Rattle.std.proofs.lemmas.Bool.{cases_eq, cases_lt}
 use Rattle.std.proofs.Math.ListN.{length-set}
-use Rattle.ilk_arena.specs.Words.{slot, moved, Each, Stands, Watches, left, right, Chains, Headers, upd}
+use Rattle.ilk_arena.specs.Words.{slot, watch_moved, Each, Stands, Watches, left, right, Chains, Headers, upd}
 use Rattle.ilk_arena.specs.Linked.{places_at, chain_at, Linked}
-use Rattle.ilk_arena.specs.Arena.{without}
+use Rattle.ilk_arena.specs.Arena.{without_reference}
 use Rattle.ilk_arena.proofs.HeaderWrites.{slot-in, moved-reads-left, moved-reads-right}
 use Rattle.ilk_arena.proofs.ChainMoves.{push-moved}
 use Rattle.ilk_arena.proofs.LinkedChains.{headers-of, chain_at-is, same-chains}
@@ -34,22 +34,22 @@ alike-join ws us vs refs a b = record {
   });
 }
 
-pub alike-moved : (ws refs : List ℕ) (f c t v : ℕ) → Clear ws refs → Stands refs c → Alike ws (moved ws f c t v) refs
+pub alike-moved : (ws refs : List ℕ) (f c t v : ℕ) → Clear ws refs → Stands refs c → Alike ws (watch_moved ws f c t v) refs
 alike-moved ws refs f c t v k r =
     let us = set ws (slot ws f c - 1) t in
     let a = alike-step ws refs c (slot ws f c - 1) t k r (grind (arith, slot-in ws f c)) (grind (arith, slot-in ws f c)) in
-    alike-join ws us (moved ws f c t v) refs a (alike-step us refs c (slot ws f c) v (clear-of ws us refs a k) r (grind (arith, slot-in ws f c)) (grind (arith, slot-in ws f c)))
+    alike-join ws us (watch_moved ws f c t v) refs a (alike-step us refs c (slot ws f c) v (clear-of ws us refs a k) r (grind (arith, slot-in ws f c)) (grind (arith, slot-in ws f c)))
 
-moved-read-far : (ws : List ℕ) (f c t v i : ℕ) → i ≢ slot ws f c → i ≢ slot ws f c - 1 → get_or (moved ws f c t v) i 0 ≡ get_or ws i 0
+moved-read-far : (ws : List ℕ) (f c t v i : ℕ) → i ≢ slot ws f c → i ≢ slot ws f c - 1 → get_or (watch_moved ws f c t v) i 0 ≡ get_or ws i 0
 moved-read-far ws f c t v i a b = get_or-set_other (set ws (slot ws f c - 1) t) (slot ws f c) i v 0 a ∙ get_or-set_other ws (slot ws f c - 1) i t 0 b
 
-pub moved-same : (ws : List ℕ) (f c t v d : ℕ) → (c + 7 ≤ d) ⊎ (d + 7 ≤ c) → (get_or (moved ws f c t v) (d + 1) 0 ≡ get_or ws (d + 1) 0) × (get_or (moved ws f c t v) (d + 3) 0 ≡ get_or ws (d + 3) 0)
+pub moved-same : (ws : List ℕ) (f c t v d : ℕ) → (c + 7 ≤ d) ⊎ (d + 7 ≤ c) → (get_or (watch_moved ws f c t v) (d + 1) 0 ≡ get_or ws (d + 1) 0) × (get_or (watch_moved ws f c t v) (d + 3) 0 ≡ get_or ws (d + 3) 0)
 moved-same ws f c t v d h = (
   moved-read-far ws f c t v (d + 1) (grind (arith, slot-in ws f c)) (grind (arith, slot-in ws f c)),
   moved-read-far ws f c t v (d + 3) (grind (arith, slot-in ws f c)) (grind (arith, slot-in ws f c)),
 )
 
-moved-differ : (ws : List ℕ) (f c t v : ℕ) → c + 7 ≤ length ws → (Watches ws c t → ⊥) → get_or (moved ws f c t v) (c + 1) 0 ≢ get_or (moved ws f c t v) (c + 3) 0
+moved-differ : (ws : List ℕ) (f c t v : ℕ) → c + 7 ≤ length ws → (Watches ws c t → ⊥) → get_or (watch_moved ws f c t v) (c + 1) 0 ≢ get_or (watch_moved ws f c t v) (c + 3) 0
 moved-differ ws f c t v h n e =
     elim (cases_eq (get_or ws (c + 1) 0) f) [
       | inl p ↦ (let r = moved-reads-left ws f c t v h p in n (right (sym r.3 ∙ sym e ∙ r.1)))
@@ -57,17 +57,17 @@ moved-differ ws f c t v h n e =
     ]
 
 -- a clause's standing after the chain of f lost c and that of t got it
-stands-two : (cs : ℕ → List ℕ) (f t c d l : ℕ) → f ≢ t → ((d ≡ c) × (l ≡ t)) ⊎ (Stands (cs l) d × ((d ≢ c) ⊎ (l ≢ f))) → Stands (upd (upd cs f (without c (cs f))) t (c ∷ upd cs f (without c (cs f)) t) l) d
+stands-two : (cs : ℕ → List ℕ) (f t c d l : ℕ) → f ≢ t → ((d ≡ c) × (l ≡ t)) ⊎ (Stands (cs l) d × ((d ≢ c) ⊎ (l ≢ f))) → Stands (upd (upd cs f (without_reference c (cs f))) t (c ∷ upd cs f (without_reference c (cs f)) t) l) d
 stands-two cs f t c d l n (inl p) =
     elim (eqb_tells l t) [ inl e ↦ rw e.0 (inl (sym p.0)) | inr e ↦ absurd (e.1 p.1) ]
 stands-two cs f t c d l n (inr s) =
-    let one : Stands (upd cs f (without c (cs f)) l) d = elim (eqb_tells l f) [
+    let one : Stands (upd cs f (without_reference c (cs f)) l) d = elim (eqb_tells l f) [
       | inl e ↦ (let P : ℕ → Type 0 = λ j. Stands (cs j) d in
           rw e.0 (elim s.1 [ inl q ↦ stands-without c d (cs f) q (subst P e.1 s.0) | inr q ↦ absurd (q e.1) ]))
       | inr e ↦ rw e.0 s.0
     ] in
     elim (eqb_tells l t) [
-      | inl e ↦ (let P : ℕ → Type 0 = λ j. Stands (upd cs f (without c (cs f)) j) d in rw e.0 (inr (subst P e.1 one)))
+      | inl e ↦ (let P : ℕ → Type 0 = λ j. Stands (upd cs f (without_reference c (cs f)) j) d in rw e.0 (inr (subst P e.1 one)))
       | inr e ↦ rw e.0 one
     ]
 
@@ -84,7 +84,7 @@ long-of ws hs refs c f k r h w =
     go a b (right p) = omega arith
 
 -- what holds of the watches and of t holds of the watches after the move
-watch-words : (ws : List ℕ) (f c t v : ℕ) (P : ℕ → Type 0) → c + 7 ≤ length ws → P t → P (get_or ws (c + 1) 0) → P (get_or ws (c + 3) 0) → P (get_or (moved ws f c t v) (c + 1) 0) × P (get_or (moved ws f c t v) (c + 3) 0)
+watch-words : (ws : List ℕ) (f c t v : ℕ) (P : ℕ → Type 0) → c + 7 ≤ length ws → P t → P (get_or ws (c + 1) 0) → P (get_or ws (c + 3) 0) → P (get_or (watch_moved ws f c t v) (c + 1) 0) × P (get_or (watch_moved ws f c t v) (c + 3) 0)
 watch-words ws f c t v P h pt pl pr =
     elim (cases_eq (get_or ws (c + 1) 0) f) [
       | inl p ↦ (let r = moved-reads-left ws f c t v h p in (subst P (sym r.1) pt, subst P (sym r.3) pr))
@@ -95,17 +95,17 @@ watch-words ws f c t v P h pt pl pr =
 pub record Relinked (ws hs refs us ks : List ℕ) (f t c : ℕ) : Type 0 where
   pub linked : Linked us ks refs
   pub alike : Alike ws us refs
-  pub seen : (l : ℕ) → l < length hs → chain_at us ks l ≡ upd (upd (chain_at ws hs) f (without c (chain_at ws hs f))) t (c ∷ upd (chain_at ws hs) f (without c (chain_at ws hs f)) t) l
+  pub seen : (l : ℕ) → l < length hs → chain_at us ks l ≡ upd (upd (chain_at ws hs) f (without_reference c (chain_at ws hs f))) t (c ∷ upd (chain_at ws hs) f (without_reference c (chain_at ws hs f)) t) l
 
-pub relinked : (ws hs refs vs gs : List ℕ) (f t c : ℕ) → Linked ws hs refs → Alike ws vs refs → SameWatches ws vs refs → length gs ≡ length hs → Chains vs gs (Stands refs) (upd (chain_at ws hs) f (without c (chain_at ws hs f))) → 2 ≤ f → f < length hs → Stands (places_at ws c) t → Stands refs c → Watches ws c f → f ≢ t → (Watches ws c t → ⊥) → Relinked ws hs refs (moved vs f c t (get_or gs t 0)) (set gs t c) f t c
+pub relinked : (ws hs refs vs gs : List ℕ) (f t c : ℕ) → Linked ws hs refs → Alike ws vs refs → SameWatches ws vs refs → length gs ≡ length hs → Chains vs gs (Stands refs) (upd (chain_at ws hs) f (without_reference c (chain_at ws hs f))) → 2 ≤ f → f < length hs → Stands (places_at ws c) t → Stands refs c → Watches ws c f → f ≢ t → (Watches ws c t → ⊥) → Relinked ws hs refs (watch_moved vs f c t (get_or gs t 0)) (set gs t c) f t c
 relinked ws hs refs vs gs f t c k a w g ch lf hf own rc wf ne nw =
     let v = get_or gs t 0 in
-    let us = moved vs f c t v in
+    let us = watch_moved vs f c t v in
     let ks = set gs t c in
     let lt : 2 ≤ t = k.least c t rc own in
     let ht : t < length hs = k.small c t rc own in
     let long : 2 ≤ get_or ws c 0 = long-of ws hs refs c f k rc lf wf in
-    let one = upd (chain_at ws hs) f (without c (chain_at ws hs f)) in
+    let one = upd (chain_at ws hs) f (without_reference c (chain_at ws hs f)) in
     let two = upd one t (c ∷ one t) in
     let clear1 : Clear vs refs = clear-of ws vs refs a k.clear in
     let hd : Headers vs (Stands refs) = record {

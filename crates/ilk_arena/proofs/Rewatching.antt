@@ -4,9 +4,9 @@ use Rattle.std.specs.List.{slice_get}
 use Rattle.std.proofs.lemmas.List.{length-set}
 use Rattle.ilk_cnf.specs.Literal.{Literal}
 use Rattle.ilk_cnf.specs.Formula.{lit_in}
-use Rattle.ilk_arena.specs.Arena.{ArenaLists, place, chain_of, stands_in, literals_of, follows, without, put_first, taken_out, rewatched}
-use Rattle.ilk_arena.specs.Words.{Stands, StandsAfter, Watches, slot, next, moved, words_after, heads_after, upd}
-use Rattle.ilk_arena.specs.Linked.{lit_at, places_at, chain_at, references_in, lists_of, Linked, Holds}
+use Rattle.ilk_arena.specs.Arena.{ArenaLists, place, chain_of, stands_in, literals_of, follows, without_reference, put_first, taken_out, rewatched}
+use Rattle.ilk_arena.specs.Words.{Stands, StandsAfter, Watches, slot, next_reference, watch_moved, words_after, heads_after, upd}
+use Rattle.ilk_arena.specs.Linked.{lit_at, places_at, chain_at, references_in, lists_of, Linked, HoldsArena}
 use Rattle.std.specs.Option.{option_map}
 use Rattle.std.proofs.lemmas.Option.{slice_get-map, slice_get-get_or}
 use Rattle.ilk_arena.proofs.HeaderWrites.{slot-in}
@@ -35,10 +35,10 @@ after-alike ws hs refs None c f k h a = (record { size = refl; same = λ d s. re
 after-alike ws hs refs (Some b) c f k h a =
     let s : Stands (chain_at ws hs f) b = (let P : List ℕ → Type 0 = λ ys. Stands ys b in subst P (sym a.1.1) (stands-in a.0 b (c ∷ a.1.0))) in
     let r = (in-chain ws hs refs f b k h s).0 in
-    (alike-set ws hs refs b (slot ws f b) (next ws f c) k r (grind (arith, slot-in ws f b)) (grind (arith, slot-in ws f b)), same-set ws hs refs f b (next ws f c) k r, refl)
+    (alike-set ws hs refs b (slot ws f b) (next_reference ws f c) k r (grind (arith, slot-in ws f b)) (grind (arith, slot-in ws f b)), same-set ws hs refs f b (next_reference ws f c) k r, refl)
 
 abbrev pub words_moved : List ℕ → List ℕ → Option ℕ → ℕ → ℕ → ℕ → List ℕ
-words_moved ws hs before f c t = moved (words_after ws before f c) f c t (get_or (heads_after hs ws before f c) t 0)
+words_moved ws hs before f c t = watch_moved (words_after ws before f c) f c t (get_or (heads_after hs ws before f c) t 0)
 
 abbrev pub heads_moved : List ℕ → List ℕ → Option ℕ → ℕ → ℕ → ℕ → List ℕ
 heads_moved ws hs before f c t = set (heads_after hs ws before f c) t c
@@ -82,7 +82,7 @@ lit-at vars spare ws hs refs a c i k e s h =
       is = ap (λ (x : ArenaLists). slice_get (literals_of x c) i) (sym e) ∙ ap (λ (ls : List Literal). slice_get ls i) (clause-seen vars spare ws hs refs c s) ∙ slice_get-map lit_at (places_at ws c) i ∙ ap (option_map lit_at) (slice_get-get_or (places_at ws c) i 0 il) ∙ ap (λ (p : ℕ). Some (lit_at p)) g;
     }
 
-pub ready : (vars spare count : ℕ) (ws hs : List ℕ) (a : ArenaLists) (before : Option ℕ) (c i : ℕ) (f : Literal) → Holds ws hs vars count → lists_of vars spare ws hs (references_in ws) ≡ a → lit_in a.vars f ≡ true → follows before c (chain_of a f) ≡ true → i < length (literals_of a c) → Ready ws hs a before c i f
+pub ready : (vars spare count : ℕ) (ws hs : List ℕ) (a : ArenaLists) (before : Option ℕ) (c i : ℕ) (f : Literal) → HoldsArena ws hs vars count → lists_of vars spare ws hs (references_in ws) ≡ a → lit_in a.vars f ≡ true → follows before c (chain_of a f) ≡ true → i < length (literals_of a c) → Ready ws hs a before c i f
 ready vars spare count ws hs a before c i f h e fi af lt =
     let refs = references_in ws in
     let k = h.linked in
@@ -110,10 +110,10 @@ ready vars spare count ws hs a before c i f h e fi af lt =
 
 -- what it leaves
 pub record Moved (vars spare count : ℕ) (ws hs us ks : List ℕ) (a : ArenaLists) (c : ℕ) (f t : Literal) : Type 0 where
-  pub holds : Holds us ks vars count
+  pub holds : HoldsArena us ks vars count
   pub lists : lists_of vars spare us ks (references_in us) ≡ rewatched a c f t
 
-pub rewatch-law : (vars spare count : ℕ) (ws hs : List ℕ) (a : ArenaLists) (before : Option ℕ) (c i p : ℕ) (f : Literal) → Holds ws hs vars count → lists_of vars spare ws hs (references_in ws) ≡ a → Ready ws hs a before c i f → lit_in a.vars f ≡ true → p ≡ get_or ws (c + 7 + i) 0 → stands_in c (chain_of a (lit_at p)) ≡ false → Moved vars spare count ws hs (words_moved ws hs before (place f) c p) (heads_moved ws hs before (place f) c p) a c f (lit_at p)
+pub rewatch-law : (vars spare count : ℕ) (ws hs : List ℕ) (a : ArenaLists) (before : Option ℕ) (c i p : ℕ) (f : Literal) → HoldsArena ws hs vars count → lists_of vars spare ws hs (references_in ws) ≡ a → Ready ws hs a before c i f → lit_in a.vars f ≡ true → p ≡ get_or ws (c + 7 + i) 0 → stands_in c (chain_of a (lit_at p)) ≡ false → Moved vars spare count ws hs (words_moved ws hs before (place f) c p) (heads_moved ws hs before (place f) c p) a c f (lit_at p)
 rewatch-law vars spare count ws hs a before c i p f h e r fi pe un =
     let refs = references_in ws in
     let k = h.linked in
@@ -148,8 +148,8 @@ rewatch-law vars spare count ws hs a before c i p f h e r fi pe un =
     let ho = holds-alike ws us hs ks vars count h m.alike kn m.linked in
     let g0 = gives-seen vars spare ws hs refs in
     let F = chain_at ws hs in
-    let g1 = gives-set L.chains (length hs) F x (without c (get_or L.chains x [])) (without c (F x)) g0 r.from_in (ap (without c) (chain-seen vars spare ws hs refs x r.from_in)) in
-    let F1 = upd F x (without c (F x)) in
+    let g1 = gives-set L.chains (length hs) F x (without_reference c (get_or L.chains x [])) (without_reference c (F x)) g0 r.from_in (ap (without_reference c) (chain-seen vars spare ws hs refs x r.from_in)) in
+    let F1 = upd F x (without_reference c (F x)) in
     let C1 = taken_out f c L.chains in
     let g2 = gives-set C1 (length hs) F1 p (c ∷ get_or C1 p []) (c ∷ F1 p) g1 pin (ap (λ ys. c ∷ ys) (g1.item p pin)) in
     let put : put_first (lit_at p) c C1 ≡ set C1 p (c ∷ get_or C1 p []) = ap (λ (q : ℕ). set C1 q (c ∷ get_or C1 q [])) pl in

@@ -6,9 +6,9 @@ use Rattle.std.proofs.lemmas.Grind.{common_steps}
 use Rattle.std.proofs.lemmas.List.FromFn.{get_or-map-range_with_len, length-map-range_with_len}
 use Rattle.ilk_cnf.specs.Literal.{Literal}
 use Rattle.ilk_cnf.specs.Formula.{lit_in}
-use Rattle.ilk_arena.specs.Arena.{place, stands_in, beside, literals_of, cursor_of, first_of, after, follows}
-use Rattle.ilk_arena.specs.Words.{Path, Stands, StandsAfter, next, reference_of}
-use Rattle.ilk_arena.specs.Linked.{lit_at, places_at, clause_at, cursor_at, chain_at, lists_of}
+use Rattle.ilk_arena.specs.Arena.{place, stands_in, paired_with, literals_of, cursor_of, first_of, after, follows}
+use Rattle.ilk_arena.specs.Words.{Path, Stands, StandsAfter, next_reference, reference_of}
+use Rattle.ilk_arena.specs.Linked.{lit_at, places_at, literals_at, cursor_at, chain_at, lists_of}
 
 -- the test and the relation
 pub stands-from : (c : ℕ) (cs : List ℕ) → stands_in c cs ≡ true → Stands cs c
@@ -44,7 +44,7 @@ place-within n l h = (let p = and_parts _ _ h in go l.var l.positive (ltb-true 0
     go v false a b = (omega arith, omega arith)
 
 -- the items of the lists
-pub beside-map : {A : Type 0} (f : ℕ → A) (d : A) (refs : List ℕ) (c : ℕ) → Stands refs c → beside c refs (map f refs) d ≡ f c
+pub beside-map : {A : Type 0} (f : ℕ → A) (d : A) (refs : List ℕ) (c : ℕ) → Stands refs c → paired_with c refs (map f refs) d ≡ f c
 beside-map f d [] c s = absurd s
 beside-map f d (r ∷ rs) c s =
     elim (eqb_tells r c) [
@@ -60,9 +60,9 @@ pub chains-count : (vars spare : ℕ) (ws hs refs : List ℕ) → length (lists_
 unfolding lists_of
 chains-count vars spare ws hs refs = length-map-range_with_len (chain_at ws hs) 0 (length hs)
 
-pub clause-seen : (vars spare : ℕ) (ws hs refs : List ℕ) (c : ℕ) → Stands refs c → literals_of (lists_of vars spare ws hs refs) c ≡ clause_at ws c
+pub clause-seen : (vars spare : ℕ) (ws hs refs : List ℕ) (c : ℕ) → Stands refs c → literals_of (lists_of vars spare ws hs refs) c ≡ literals_at ws c
 unfolding lists_of
-clause-seen vars spare ws hs refs c s = beside-map (clause_at ws) [] refs c s
+clause-seen vars spare ws hs refs c s = beside-map (literals_at ws) [] refs c s
 
 pub cursor-seen : (vars spare : ℕ) (ws hs refs : List ℕ) (c : ℕ) → Stands refs c → cursor_of (lists_of vars spare ws hs refs) c ≡ cursor_at ws c
 unfolding lists_of
@@ -93,12 +93,12 @@ first-is ws l k (c ∷ cs) p =
     let e : eqb k 0 ≡ false = grind (arith, nat_tests) in
     rw e (ap Some p.0)
 
-pub after-is : (ws : List ℕ) (l k c : ℕ) (cs : List ℕ) → Path ws l k cs → Stands cs c → reference_of (next ws l c) ≡ after c cs
+pub after-is : (ws : List ℕ) (l k c : ℕ) (cs : List ℕ) → Path ws l k cs → Stands cs c → reference_of (next_reference ws l c) ≡ after c cs
 after-is ws l k c [] p s = absurd s
 after-is ws l k c (x ∷ xs) p s =
     elim (eqb_tells x c) [
-      | inl e ↦ rw e.0 (let P : ℕ → Type 0 = λ j. reference_of (next ws l j) ≡ first_of xs in subst P e.1 (first-is ws l (next ws l x) xs p.2))
-      | inr e ↦ rw e.0 (elim s [ inl q ↦ absurd (e.1 q) | inr q ↦ after-is ws l (next ws l x) c xs p.2 q ])
+      | inl e ↦ rw e.0 (let P : ℕ → Type 0 = λ j. reference_of (next_reference ws l j) ≡ first_of xs in subst P e.1 (first-is ws l (next_reference ws l x) xs p.2))
+      | inr e ↦ rw e.0 (elim s [ inl q ↦ absurd (e.1 q) | inr q ↦ after-is ws l (next_reference ws l x) c xs p.2 q ])
     ]
 
 -- c stands after the given clause

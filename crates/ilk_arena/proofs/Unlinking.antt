@@ -3,24 +3,24 @@ use Rattle.std.proofs.lemmas.List.{get_or-set_other, drop-set-lt, drop-set-add, 
 use Rattle.std.proofs.lemmas.Bool.Decides.{nat_tests, eqb_tells}
 use Rattle.std.proofs.lemmas.Bool.{cases_eq, cases_order}
 use Rattle.std.proofs.Math.ListN.{length-set}
-use Rattle.ilk_arena.specs.Words.{slot, moved, words_after, heads_after, Each, Stands, StandsAfter, Watches, left, right, Distinct, Chains, upd}
+use Rattle.ilk_arena.specs.Words.{slot, watch_moved, words_after, heads_after, Each, Stands, StandsAfter, Watches, left, right, Distinct, Chains, upd}
 use Rattle.ilk_arena.specs.Linked.{places_at, chain_at, Linked}
-use Rattle.ilk_arena.specs.Arena.{without}
+use Rattle.ilk_arena.specs.Arena.{without_reference}
 use Rattle.ilk_arena.proofs.HeaderWrites.{slot-in, moved-reads-left, moved-reads-right}
 use Rattle.ilk_arena.proofs.ChainMoves.{each-back, drop-first, drop-later}
 use Rattle.ilk_arena.proofs.LinkedChains.{headers-of}
 
-without-none : (c : ℕ) (xs : List ℕ) → Each (λ d. d ≢ c) xs → without c xs ≡ xs
+without-none : (c : ℕ) (xs : List ℕ) → Each (λ d. d ≢ c) xs → without_reference c xs ≡ xs
 without-none c [] e = refl
 without-none c (x ∷ xs) e =
     let n : x ≢ c = e.0 in
     let q : eqb x c ≡ false = grind (arith, nat_tests) in
     rw q (ap (λ ys. x ∷ ys) (without-none c xs e.1))
 
-pub without-first : (c : ℕ) (post : List ℕ) → Each (λ d. d ≢ c) post → without c (c ∷ post) ≡ post
+pub without-first : (c : ℕ) (post : List ℕ) → Each (λ d. d ≢ c) post → without_reference c (c ∷ post) ≡ post
 without-first c post n = (let e : eqb c c ≡ true = grind (arith, nat_tests) in rw e (without-none c post n))
 
-without-later : (pre : List ℕ) (b c : ℕ) (post : List ℕ) → Distinct (pre ++ (b ∷ (c ∷ post))) → without c (pre ++ (b ∷ (c ∷ post))) ≡ pre ++ (b ∷ post)
+without-later : (pre : List ℕ) (b c : ℕ) (post : List ℕ) → Distinct (pre ++ (b ∷ (c ∷ post))) → without_reference c (pre ++ (b ∷ (c ∷ post))) ≡ pre ++ (b ∷ post)
 without-later [] b c post d =
     let n : c ≢ b = d.0.0 in
     let e : eqb b c ≡ false = grind (arith, nat_tests) in
@@ -30,12 +30,12 @@ without-later (p ∷ pre) b c post d =
     let e : eqb p c ≡ false = grind (arith, nat_tests) in
     rw (e, without-later pre b c post d.1) refl
 
-pub without-gone : (c : ℕ) (xs : List ℕ) → Each (λ d. d ≢ c) (without c xs)
+pub without-gone : (c : ℕ) (xs : List ℕ) → Each (λ d. d ≢ c) (without_reference c xs)
 without-gone c [] = tt
 without-gone c (x ∷ xs) =
     elim (eqb_tells x c) [ inl p ↦ rw p.0 (without-gone c xs) | inr p ↦ rw p.0 (p.1, without-gone c xs) ]
 
-pub stands-without : (c d : ℕ) (xs : List ℕ) → d ≢ c → Stands xs d → Stands (without c xs) d
+pub stands-without : (c d : ℕ) (xs : List ℕ) → d ≢ c → Stands xs d → Stands (without_reference c xs) d
 stands-without c d [] n s = absurd s
 stands-without c d (x ∷ xs) n s =
     elim (eqb_tells x c) [
@@ -117,11 +117,11 @@ watches-to ws vs c l a b (left p) = left (a ∙ p)
 watches-to ws vs c l a b (right p) = right (b ∙ p)
 
 -- after the move c watches t, and what it watched but f
-pub watch-back : (ws : List ℕ) (f c t v l : ℕ) → c + 7 ≤ length ws → get_or ws (c + 1) 0 ≢ get_or ws (c + 3) 0 → Watches ws c f → Watches (moved ws f c t v) c l → (l ≡ t) ⊎ (Watches ws c l × (l ≢ f))
+pub watch-back : (ws : List ℕ) (f c t v l : ℕ) → c + 7 ≤ length ws → get_or ws (c + 1) 0 ≢ get_or ws (c + 3) 0 → Watches ws c f → Watches (watch_moved ws f c t v) c l → (l ≡ t) ⊎ (Watches ws c l × (l ≢ f))
 watch-back ws f c t v l h n wf w =
     elim (cases_eq (get_or ws (c + 1) 0) f) [
-      | inl p ↦ (let r = moved-reads-left ws f c t v h p in pick1 ws (moved ws f c t v) c f t l p n r.1 r.3 w)
-      | inr p ↦ (let r = moved-reads-right ws f c t v h p in pick2 ws (moved ws f c t v) c f t l p n r.1 r.3 wf w)
+      | inl p ↦ (let r = moved-reads-left ws f c t v h p in pick1 ws (watch_moved ws f c t v) c f t l p n r.1 r.3 w)
+      | inr p ↦ (let r = moved-reads-right ws f c t v h p in pick2 ws (watch_moved ws f c t v) c f t l p n r.1 r.3 wf w)
     ]
   where
     pick1 : (ws vs : List ℕ) (c f t l : ℕ) → get_or ws (c + 1) 0 ≡ f → get_or ws (c + 1) 0 ≢ get_or ws (c + 3) 0 → get_or vs (c + 1) 0 ≡ t → get_or vs (c + 3) 0 ≡ get_or ws (c + 3) 0 → Watches vs c l → (l ≡ t) ⊎ (Watches ws c l × (l ≢ f))
@@ -134,12 +134,12 @@ watch-back ws f c t v l h n wf w =
     pick2 ws vs c f t l p n a b (right x) (right q) = inl (sym q ∙ b)
 
 -- c leaves the chain of f
-pub unlinked : (ws hs refs : List ℕ) (before : Option ℕ) (f c : ℕ) → Linked ws hs refs → f < length hs → StandsAfter before c (chain_at ws hs f) → Chains (words_after ws before f c) (heads_after hs ws before f c) (Stands refs) (upd (chain_at ws hs) f (without c (chain_at ws hs f)))
+pub unlinked : (ws hs refs : List ℕ) (before : Option ℕ) (f c : ℕ) → Linked ws hs refs → f < length hs → StandsAfter before c (chain_at ws hs f) → Chains (words_after ws before f c) (heads_after hs ws before f c) (Stands refs) (upd (chain_at ws hs) f (without_reference c (chain_at ws hs f)))
 unlinked ws hs refs None f c k h a =
-    let e : without c (chain_at ws hs f) ≡ a.0 = rw a.1 (without-first c a.0 (let D : List ℕ → Type 0 = λ ys. Distinct ys in let d : Distinct (c ∷ a.0) = subst D a.1 (k.chains.once f h) in d.0)) in
+    let e : without_reference c (chain_at ws hs f) ≡ a.0 = rw a.1 (without-first c a.0 (let D : List ℕ → Type 0 = λ ys. Distinct ys in let d : Distinct (c ∷ a.0) = subst D a.1 (k.chains.once f h) in d.0)) in
     rw e (drop-first ws hs (Stands refs) (chain_at ws hs) f c a.0 h a.1 k.chains)
 unlinked ws hs refs (Some b) f c k h a =
     let D : List ℕ → Type 0 = λ ys. Distinct ys in
     let d : Distinct (a.0 ++ (b ∷ (c ∷ a.1.0))) = subst D a.1.1 (k.chains.once f h) in
-    let e : without c (chain_at ws hs f) ≡ a.0 ++ (b ∷ a.1.0) = rw a.1.1 (without-later a.0 b c a.1.0 d) in
+    let e : without_reference c (chain_at ws hs f) ≡ a.0 ++ (b ∷ a.1.0) = rw a.1.1 (without-later a.0 b c a.1.0 d) in
     rw e (drop-later ws hs (Stands refs) (chain_at ws hs) f b c a.0 a.1.0 h a.1.1 (headers-of ws hs refs k) k.chains)

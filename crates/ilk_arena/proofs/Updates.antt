@@ -5,7 +5,7 @@ use Rattle.std.proofs.lemmas.List.{get_or-set_same, get_or-set_other, length-set
 use Rattle.ilk_cnf.specs.Literal.{Literal, vars_differ}
 use Rattle.ilk_arena.specs.Arena.{ArenaLists}
 use Rattle.ilk_arena.specs.Words.{Stands, upd}
-use Rattle.ilk_arena.specs.Linked.{lit_at, clause_at, cursor_at, chain_at, references_in, lists_of, Linked, Laid, Holds}
+use Rattle.ilk_arena.specs.Linked.{lit_at, literals_at, cursor_at, chain_at, references_in, lists_of, Linked, Laid, HoldsArena}
 use Rattle.ilk_base.proofs.Lists.{list-ext}
 use Rattle.ilk_arena.proofs.Blocks.{references-are, blocks-same, stands-at}
 use Rattle.ilk_arena.proofs.Seen.{chain-seen, chains-count}
@@ -62,7 +62,7 @@ laid-alike ws us refs k a = record {
   apart = λ c s. ap (λ (ps : List ℕ). vars_differ (map lit_at ps)) (a.same c s).places ∙ k.apart c s;
 }
 
-pub holds-alike : (ws us hs ks : List ℕ) (vars count : ℕ) → Holds ws hs vars count → Alike ws us (references_in ws) → length ks ≡ length hs → Linked us ks (references_in ws) → Holds us ks vars count × (references_in us ≡ references_in ws)
+pub holds-alike : (ws us hs ks : List ℕ) (vars count : ℕ) → HoldsArena ws hs vars count → Alike ws us (references_in ws) → length ks ≡ length hs → Linked us ks (references_in ws) → HoldsArena us ks vars count × (references_in us ≡ references_in ws)
 holds-alike ws us hs ks vars count h a n li =
     let d = laid-alike ws us (references_in ws) h.laid a in
     let e : references_in us ≡ references_in ws = references-are us (references_in ws) d.blocks in
@@ -82,6 +82,6 @@ pub lists-alike : (vars spare : ℕ) (ws us hs ks refs : List ℕ) (chains : Lis
 unfolding lists_of
 lists-alike vars spare ws us hs ks refs chains a e =
     arena-ext (lists_of vars spare us ks refs) (record (lists_of vars spare ws hs refs) { chains = chains }) refl refl refl
-    (map-same (clause_at us) (clause_at ws) refs (λ c s. ap (λ (ps : List ℕ). map lit_at ps) (a.same c s).places))
+    (map-same (literals_at us) (literals_at ws) refs (λ c s. ap (λ (ps : List ℕ). map lit_at ps) (a.same c s).places))
     (map-same (cursor_at us) (cursor_at ws) refs (λ c s. (a.same c s).cursor))
     e

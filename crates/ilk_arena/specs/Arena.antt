@@ -26,22 +26,22 @@ abbrev pub stands_in : ℕ → List ℕ → Bool
 stands_in c cs = list_any (λ x. x == c) cs
 
 -- the item of the second list that stands beside c in the first, or else d
-abbrev pub beside : {A : Type 0} → ℕ → List ℕ → List A → A → A
-beside c [] xs d = d
-beside c (r ∷ rs) [] d = d
-beside c (r ∷ rs) (x ∷ xs) d = if r == c then x else beside c rs xs d
+abbrev pub paired_with : {A : Type 0} → ℕ → List ℕ → List A → A → A
+paired_with c [] xs d = d
+paired_with c (r ∷ rs) [] d = d
+paired_with c (r ∷ rs) (x ∷ xs) d = if r == c then x else paired_with c rs xs d
 
 -- the literals of clause c
 abbrev pub literals_of : ArenaLists → ℕ → List Literal
-literals_of a c = beside c a.references a.clauses []
+literals_of a c = paired_with c a.references a.clauses []
 
 -- the cursor of clause c
 abbrev pub cursor_of : ArenaLists → ℕ → ℕ
-cursor_of a c = beside c a.references a.cursors 0
+cursor_of a c = paired_with c a.references a.cursors 0
 
 -- the number of clause c: its place in the order of adding, from 1
-abbrev pub number_of : ArenaLists → ℕ → ℕ
-number_of a c = position_or_len (λ x. x == c) a.references + 1
+abbrev pub number_of_clause : ArenaLists → ℕ → ℕ
+number_of_clause a c = position_or_len (λ x. x == c) a.references + 1
 
 -- the first of some references
 abbrev pub first_of : List ℕ → Option ℕ
@@ -68,12 +68,12 @@ abbrev pub put_first : Literal → ℕ → List (List ℕ) → List (List ℕ)
 put_first l c chains = slice_set chains (place l) (c ∷ slice_index_or chains (place l) [])
 
 -- the references without c
-abbrev pub without : ℕ → List ℕ → List ℕ
-without c cs = filter (λ x. not (x == c)) cs
+abbrev pub without_reference : ℕ → List ℕ → List ℕ
+without_reference c cs = filter (λ x. not (x == c)) cs
 
 -- the chains, with c taken out of that of l
 abbrev pub taken_out : Literal → ℕ → List (List ℕ) → List (List ℕ)
-taken_out l c chains = slice_set chains (place l) (without c (slice_index_or chains (place l) []))
+taken_out l c chains = slice_set chains (place l) (without_reference c (slice_index_or chains (place l) []))
 
 -- the chains, where clause c with these literals watches the first two of them, if it has two
 abbrev pub watched : ℕ → List Literal → List (List ℕ) → List (List ℕ)

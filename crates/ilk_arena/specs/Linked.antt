@@ -14,8 +14,8 @@ unfoldable pub places_at : List ℕ → ℕ → List ℕ
 places_at ws c = take (slice_index ws c) (drop (c + 7) ws)
 
 -- the literals of c
-abbrev pub clause_at : List ℕ → ℕ → List Literal
-clause_at ws c = map lit_at (places_at ws c)
+abbrev pub literals_at : List ℕ → ℕ → List Literal
+literals_at ws c = map lit_at (places_at ws c)
 
 -- the cursor of c
 abbrev pub cursor_at : List ℕ → ℕ → ℕ
@@ -39,7 +39,7 @@ lists_of vars spare ws hs refs = record {
   vars = vars;
   spare = spare;
   references = refs;
-  clauses = map (clause_at ws) refs;
+  clauses = map (literals_at ws) refs;
   cursors = map (cursor_at ws) refs;
   chains = map (chain_at ws hs) (range_with_len 0 (length hs));
 }
@@ -72,10 +72,10 @@ pub record Laid (ws refs : List ℕ) : Type 0 where
   pub blocks : Blocks ws 1 refs
   pub number : (i c : ℕ) → slice_get refs i ≡ Some c → slice_index ws (c + 5) ≡ i + 1
   pub cursor : (c : ℕ) → Stands refs c → slice_index ws (c + 6) ≤ slice_index ws c
-  pub apart : (c : ℕ) → Stands refs c → vars_differ (clause_at ws c) ≡ true
+  pub apart : (c : ℕ) → Stands refs c → vars_differ (literals_at ws c) ≡ true
 
 -- how the words, the heads, the number of variables and the number of clauses hold the lists
-pub record Holds (ws hs : List ℕ) (vars count : ℕ) : Type 0 where
+pub record HoldsArena (ws hs : List ℕ) (vars count : ℕ) : Type 0 where
   pub few : vars ≤ 2 ^ 62
   pub heads : length hs ≡ 2 * vars + 2
   pub counted : count ≡ length (references_in ws)

@@ -11,12 +11,12 @@ unfoldable pub slot : List ℕ → ℕ → ℕ → ℕ
 slot ws l c = cond (eqb (slice_index ws (c + 1)) l) (c + 2) (c + 4)
 
 -- the words where c watches t in place of f, and its link there is v
-abbrev pub moved : List ℕ → ℕ → ℕ → ℕ → ℕ → List ℕ
-moved ws f c t v = slice_set (slice_set ws (slot ws f c - 1) t) (slot ws f c) v
+abbrev pub watch_moved : List ℕ → ℕ → ℕ → ℕ → ℕ → List ℕ
+watch_moved ws f c t v = slice_set (slice_set ws (slot ws f c - 1) t) (slot ws f c) v
 
 -- the clause after c in the chain of l, or 0
-abbrev pub next : List ℕ → ℕ → ℕ → ℕ
-next ws l c = slice_index ws (slot ws l c)
+abbrev pub next_reference : List ℕ → ℕ → ℕ → ℕ
+next_reference ws l c = slice_index ws (slot ws l c)
 
 -- the watch of c besides f
 abbrev pub other : List ℕ → ℕ → ℕ → ℕ
@@ -29,21 +29,21 @@ reference_of k = cond (eqb k 0) None (Some k)
 -- the words and the heads after c has left the chain of f, where it stood after the given clause
 abbrev pub words_after : List ℕ → Option ℕ → ℕ → ℕ → List ℕ
 words_after ws None f c = ws
-words_after ws (Some b) f c = slice_set ws (slot ws f b) (next ws f c)
+words_after ws (Some b) f c = slice_set ws (slot ws f b) (next_reference ws f c)
 
 abbrev pub heads_after : List ℕ → List ℕ → Option ℕ → ℕ → ℕ → List ℕ
-heads_after hs ws None f c = slice_set hs f (next ws f c)
+heads_after hs ws None f c = slice_set hs f (next_reference ws f c)
 heads_after hs ws (Some b) f c = hs
 
 -- from link k on the chain of l runs through cs and ends
 abbrev pub Path : List ℕ → ℕ → ℕ → List ℕ → Type 0
 Path ws l k [] = k ≡ 0
-Path ws l k (c ∷ cs) = (k ≡ c) × (0 < c) × Path ws l (next ws l c) cs
+Path ws l k (c ∷ cs) = (k ≡ c) × (0 < c) × Path ws l (next_reference ws l c) cs
 
 -- the clauses from link k on, at most n of them
 abbrev pub chain : List ℕ → ℕ → ℕ → ℕ → List ℕ
 chain ws l zero k = []
-chain ws l (suc n) k = cond (eqb k 0) [] (k ∷ chain ws l n (next ws l k))
+chain ws l (suc n) k = cond (eqb k 0) [] (k ∷ chain ws l n (next_reference ws l k))
 
 -- what holds of each item
 abbrev pub Each : (ℕ → Type 0) → List ℕ → Type 0

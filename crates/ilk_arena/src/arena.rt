@@ -1,7 +1,7 @@
 ghost use Rattle.std.specs.Prelude.{◌≡◌, ◌≤◌, ◌<◌, ◌+◌, ◌*◌, ◌^◌, false, Some, [], length, slice_get, replicate, IfOk, IfSome, OnOk, OnErr, IsTrue};
 ghost use Rattle.ilk_cnf.specs.Formula.{clause_in, lit_in};
 ghost use Rattle.ilk_cnf.specs.Literal.{vars_differ};
-ghost use Rattle.ilk_arena.specs.Arena.{added, after, chain_of, cursor_of, first_of, follows, literals_of, number_of, other_watch_of, rewatched, set_beside, stands_in};
+ghost use Rattle.ilk_arena.specs.Arena.{added, after, chain_of, cursor_of, first_of, follows, literals_of, number_of_clause, other_watch_of, rewatched, set_beside, stands_in};
 ghost use Rattle.ilk_arena.specs.Words.{reference_of};
 ghost use Rattle.ilk_arena.specs.Chains.{IsArena};
 
@@ -33,13 +33,13 @@ pub struct Arena {
 impl Model for Arena {
     ghost use Rattle.std.specs.Prelude.{◌-◌, vec_len, vec_capacity};
     ghost use Rattle.ilk_arena.specs.Arena.{ArenaLists};
-    ghost use Rattle.ilk_arena.specs.Linked.{lists_of, references_in, Holds};
+    ghost use Rattle.ilk_arena.specs.Linked.{lists_of, references_in, HoldsArena};
 
     ghost Value = { ArenaLists };
 
     ghost view = { λ a. lists_of a.vars (vec_capacity a.words - vec_len a.words) a.words.items a.heads.items (references_in a.words.items) };
 
-    ghost invariant = { λ a. Holds a.words.items a.heads.items a.vars a.count };
+    ghost invariant = { λ a. HoldsArena a.words.items a.heads.items a.vars a.count };
 }
 
 // A link as a reference.
@@ -168,7 +168,7 @@ impl Arena {
     /// The number of clause `c`: clauses are numbered from 1, in the order in which they were added.
     pub fn number(&self, c: u64) -> u64
         requires { IsTrue (stands_in c self.now.references) }
-        ensures { result ≡ number_of self.now c }
+        ensures { result ≡ number_of_clause self.now c }
     {
         self.words[c as usize + NUMBER]
     }

@@ -1,5 +1,5 @@
 ghost use Rattle.std.specs.Prelude.{◌≡◌, ◌+◌, ◌-◌, ◌<◌, ◌≤◌, length, slice_index, slice_set, IfSome};
-ghost use Rattle.ilk_arena.specs.Words.{slot, next, moved, other, words_after, heads_after};
+ghost use Rattle.ilk_arena.specs.Words.{slot, next_reference, watch_moved, other, words_after, heads_after};
 
 /// Where the link of place `at` stands in the header of `clause`.
 #[inline(always)]
@@ -21,7 +21,7 @@ pub fn slot_of(words: &[u64], at: u64, clause: u64) -> u64
 #[inline(always)]
 pub fn next_of(words: &[u64], at: u64, clause: u64) -> u64
     requires { clause + 7 ≤ length words.now }
-    ensures { result ≡ next words.now at clause }
+    ensures { result ≡ next_reference words.now at clause }
 {
     words[slot_of(words, at, clause) as usize]
 }
@@ -44,7 +44,7 @@ pub fn other_of(words: &[u64], at: u64, clause: u64) -> u64
 fn skip(words: &mut [u64], from: u64, before: u64, clause: u64)
     requires before_in { before + 7 ≤ length words.old }
     requires clause_in { clause + 7 ≤ length words.old }
-    ensures { words.new ≡ slice_set words.old (slot words.old from before) (next words.old from clause) }
+    ensures { words.new ≡ slice_set words.old (slot words.old from before) (next_reference words.old from clause) }
 {
     let after = next_of(words, from, clause);
     let at = slot_of(words, from, before);
@@ -54,7 +54,7 @@ fn skip(words: &mut [u64], from: u64, before: u64, clause: u64)
 // Makes the watch of `from` one of `to`, whose link is `link`.
 fn relabel(words: &mut [u64], from: u64, clause: u64, to: u64, link: u64)
     requires { clause + 7 ≤ length words.old }
-    ensures { words.new ≡ moved words.old from clause to link }
+    ensures { words.new ≡ watch_moved words.old from clause to link }
 {
     let at = slot_of(words, from, clause);
     words[at as usize - 1] = to;
@@ -79,7 +79,7 @@ fn unlink(words: &mut [u64], heads: &mut [u64], before: Option<u64>, from: u64, 
 fn link_first(words: &mut [u64], heads: &mut [u64], from: u64, clause: u64, to: u64)
     requires clause_in { clause + 7 ≤ length words.old }
     requires to_in { to < length heads.old }
-    ensures words { words.new ≡ moved words.old from clause to (slice_index heads.old to) }
+    ensures words { words.new ≡ watch_moved words.old from clause to (slice_index heads.old to) }
     ensures heads { heads.new ≡ slice_set heads.old to clause }
 {
     let first = heads[to as usize];
@@ -101,7 +101,7 @@ pub fn move_watch(
     requires clause_in { clause + 7 ≤ length words.old }
     requires from_in { from < length heads.old }
     requires to_in { to < length heads.old }
-    ensures words { words.new ≡ moved (words_after words.old before from clause) from clause to (slice_index (heads_after heads.old words.old before from clause) to) }
+    ensures words { words.new ≡ watch_moved (words_after words.old before from clause) from clause to (slice_index (heads_after heads.old words.old before from clause) to) }
     ensures heads { heads.new ≡ slice_set (heads_after heads.old words.old before from clause) to clause }
 {
     unlink(words, heads, before, from, clause);

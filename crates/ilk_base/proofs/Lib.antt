@@ -1,6 +1,7 @@
 pub mod Truth
 pub mod Options
 pub mod Lists
+pub mod Lengths
 pub mod Tested
 pub mod Positions
 pub mod Ranges

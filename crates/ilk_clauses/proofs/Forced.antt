@@ -9,6 +9,7 @@ use Rattle.std.proofs.Math.Seq.{take-append_seam}
 use Rattle.ilk_base.proofs.Lists.{slice_get-push_cases, at-before}
 use Rattle.ilk_cnf.specs.Literal.{Literal, same_lit, has_lit}
 use Rattle.ilk_log.specs.Fresh.{others}
+use Rattle.ilk_log.proofs.Closed.{lone-is}
 use Rattle.ilk_log.specs.Propagation.{is_false, is_falsified, lone_unset, unit_of}
 use Rattle.ilk_trail.specs.declared.entry.Entry.{Entry}
 use Rattle.ilk_trail.specs.Laws.{lits_of}
@@ -87,14 +88,9 @@ one-left set (m ∷ c) l h =
           record { has = rw s refl; others_false = rw s (filter-none-false set c empty l) })
     ]
 
-lone-left : (set ls : List Literal) (l : Literal) → lone_unset set ls ≡ Some l → ls ≡ l ∷ []
-lone-left set [] l h = absurd (cc)
-lone-left set (m ∷ []) l h = (let e = cond_some (not (has_lit m set)) m l h in ap (λ (x : Literal). x ∷ []) e.1)
-lone-left set (m ∷ (n ∷ ls)) l h = absurd (cc)
-
 -- a unit forces its unset literal
 pub unit-forces : (cs : List (List Literal)) (set : List Literal) (c : ℕ) (l : Literal) → unit_of set (clause_at cs c) ≡ Some l → is_reason cs set l c ≡ true
 unit-forces cs set c l u =
     let clause = clause_at cs c in
-    let one = one-left set clause l (lone-left set (filter (λ m. not (is_false set m)) clause) l u) in
+    let one = one-left set clause l (lone-is set (filter (λ m. not (is_false set m)) clause) l u) in
     and_from (has_lit l clause) (is_falsified set (others l clause)) one.has one.others_false

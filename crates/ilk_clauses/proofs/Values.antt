@@ -7,14 +7,14 @@ use Rattle.ilk_base.specs.Option.{is_some_and}
 use Rattle.ilk_cnf.specs.Literal.{Literal, opposite, has_lit, has_var, vars_differ}
 use Rattle.ilk_log.specs.Propagation.{is_false}
 use Rattle.ilk_trail.specs.declared.entry.Entry.{Entry}
-use Rattle.ilk_trail.specs.Trail.{value_of}
+use Rattle.ilk_trail.specs.Trail.{value_of_literal}
 use Rattle.ilk_trail.specs.Laws.{is_set, lits_of}
 use Rattle.ilk_cnf.proofs.SameLiterals.{has-var}
 
 -- a literal stands in the trail exactly where its value is true, and is false exactly where it is false
 pub record Tells (es : List Entry) (l : Literal) : Type 0 where
-  pub stands : has_lit l (lits_of es) ≡ is_some_and (value_of es l) (λ b. b)
-  pub denied : is_false (lits_of es) l ≡ is_some_and (value_of es l) not
+  pub stands : has_lit l (lits_of es) ≡ is_some_and (value_of_literal es l) (λ b. b)
+  pub denied : is_false (lits_of es) l ≡ is_some_and (value_of_literal es l) not
 
 -- no literal of a variable that isn't there
 pub no_lit : (l : Literal) (v : ℕ) (ls : List Literal) → l.var ≡ v → has_var v ls ≡ false → has_lit l ls ≡ false
@@ -59,7 +59,7 @@ value-tells (x ∷ es) l d =
     ]
 
 -- a literal without a value is over a variable that isn't set
-pub value-none : (es : List Entry) (l : Literal) → value_of es l ≡ None → is_set es l.var ≡ false
+pub value-none : (es : List Entry) (l : Literal) → value_of_literal es l ≡ None → is_set es l.var ≡ false
 value-none [] l h = refl
 value-none (x ∷ es) l h =
     elim (eqb_tells x.lit.var l.var) [
@@ -68,7 +68,7 @@ value-none (x ∷ es) l h =
     ]
 
 -- a variable is set exactly where its literal has a value
-pub value-some : (es : List Entry) (l : Literal) (b : Bool) → value_of es l ≡ Some b → is_set es l.var ≡ true
+pub value-some : (es : List Entry) (l : Literal) (b : Bool) → value_of_literal es l ≡ Some b → is_set es l.var ≡ true
 value-some [] l b h = absurd (cc)
 value-some (x ∷ es) l b h =
     elim (eqb_tells x.lit.var l.var) [

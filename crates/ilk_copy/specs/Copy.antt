@@ -14,7 +14,7 @@ numbers_part [] n = nothing_at n
 numbers_part (range ∷ ranges) n = and_then (number_part range n) (numbers_part ranges)
 
 -- a part, and the literals of each variable that it answers
-pub record Columns : Type 0 where
+pub record CopyColumns : Type 0 where
   pub part : Part
   pub columns : List Column
 
@@ -36,7 +36,7 @@ column_part first range n =
     }
 
 -- those of the variables of these ranges, the first of which has its bits from `first` on
-abbrev pub columns_part : List ℕ → ℕ → ℕ → Columns
+abbrev pub columns_part : List ℕ → ℕ → ℕ → CopyColumns
 columns_part [] first n = record { part = nothing_at n; columns = [] }
 columns_part (range ∷ ranges) first n =
     record {
@@ -45,7 +45,7 @@ columns_part (range ∷ ranges) first n =
     }
 
 -- the bits of every variable, then the literals of every variable
-abbrev pub copy_part : List ℕ → ℕ → Columns
+abbrev pub copy_part : List ℕ → ℕ → CopyColumns
 copy_part ranges n =
     record {
       part = and_then (numbers_part ranges n) (λ m. (columns_part ranges (n + 1) m).part);

@@ -21,7 +21,8 @@ use Rattle.ilk_forms.specs.Truths.{Truths, gate_truth, truths_each, demand_of_bi
 use Rattle.ilk_forms.specs.Demand.{one_clause, some_part, demand_of, demand_each}
 use Rattle.ilk_forms.proofs.Reading.{Reads, reads-more, columns_in-more, leaf-in}
 use Rattle.ilk_forms.proofs.GatheredFits.{Fits, signed-in, gathered_each-fits}
-use Rattle.ilk_forms.proofs.GatheredLaw.{Says, signed-says, here, same, longer, gathered_each-says}
+use Rattle.ilk_base.proofs.Lengths.{longer}
+use Rattle.ilk_forms.proofs.GatheredLaw.{Says, signed-says, here, same, gathered_each-says}
 use Rattle.ilk_forms.proofs.TruthsMean.{forms_are, all-are, some-are, turned, truths_each-mean}
 
 -- where a demand ends, and what its clauses are over

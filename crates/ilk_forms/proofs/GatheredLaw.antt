@@ -5,6 +5,7 @@ use Rattle.std.proofs.lemmas.List.{append-nil, map-append}
 use Rattle.std.proofs.lemmas.List.Folds.{list_all-map}
 use Rattle.std.proofs.lemmas.Bool.{and_parts}
 use Rattle.ilk_base.proofs.Tested.{list_any-map}
+use Rattle.ilk_base.proofs.Lengths.{longer}
 use Rattle.ilk_cnf.specs.Literal.{Literal, plus}
 use Rattle.ilk_cnf.specs.Formula.{clause_in}
 use Rattle.ilk_cnf.specs.Truth.{is_true}
@@ -112,9 +113,6 @@ here columns ws a n size r = rw (← size) r.within
 
 pub same : (n : ℕ) → n ≤ n
 same n = omega arith
-
-pub longer : (a b : List Bool) → length a ≤ length (a ++ b)
-longer a b = omega (arith, length-append a b)
 
 pub signed-says : (a : List Bool) (positive : Bool) (l : Literal) → is_true a (signed positive l) ≡ same_truth positive (is_true a l)
 signed-says a true l = refl

@@ -10,7 +10,7 @@ use Rattle.ilk_cnf.specs.Truth.{value, is_true}
 use Rattle.ilk_cnf.specs.Extends.{Extends, Only}
 use Rattle.ilk_cnf.proofs.Extending.{all_of-law}
 use Rattle.ilk_ints.specs.Bits.{bit_count, bits_of, bits_at, bit_lits, same_bits}
-use Rattle.ilk_ints.specs.Number.{value_lits, is_part, has_value}
+use Rattle.ilk_ints.specs.Number.{value_lits, is_part, bits_have_value}
 
 -- how many bits
 
@@ -114,7 +114,7 @@ pub lits-say : (a : List Bool) (qs : List Bool) (first : ℕ) → list_all (is_t
 lits-say a [] first = refl
 lits-say a (q ∷ qs) first = ap (λ (r : Bool). cond q (value a first) (not (value a first)) && r) (lits-say a qs (first + 1))
 
-pub value_lits-say : (a : List Bool) (first range v : ℕ) → list_all (is_true a) (value_lits first range v) ≡ has_value a first range v
+pub value_lits-say : (a : List Bool) (first range v : ℕ) → list_all (is_true a) (value_lits first range v) ≡ bits_have_value a first range v
 value_lits-say a first range v =
     let b = bit_count range in
     lits-say a (bits_of b v) first ∙ ap (λ (k : ℕ). same_bits (bits_at a first k) (bits_of b v)) (length-bits b v)
@@ -131,17 +131,17 @@ value_lits-in n first range v low high =
 
 -- is
 
-pub is-law : (a : List Bool) (first range v n : ℕ) → length a ≡ n → 0 < first → first + bit_count range ≤ n + 1 → Extends a (n + 1) (is_part first range v n).clauses (Only (has_value a first range v ∷ []))
+pub is-law : (a : List Bool) (first range v n : ℕ) → length a ≡ n → 0 < first → first + bit_count range ≤ n + 1 → Extends a (n + 1) (is_part first range v n).clauses (Only (bits_have_value a first range v ∷ []))
 is-law a first range v n size low high =
     subst (λ (e : Bool). Extends a (n + 1) (is_part first range v n).clauses (Only (e ∷ []))) (value_lits-say a first range v) (all_of-law a n (value_lits first range v) size (value_lits-in n first range v low high))
 
-pub has_value-exact : (a : List Bool) (first range v w : ℕ) → range ≤ 2 ^ bit_count range → v < range → w < range → bits_at a first (bit_count range) ≡ bits_of (bit_count range) w → has_value a first range v ≡ eqb w v
+pub has_value-exact : (a : List Bool) (first range v w : ℕ) → range ≤ 2 ^ bit_count range → v < range → w < range → bits_at a first (bit_count range) ≡ bits_of (bit_count range) w → bits_have_value a first range v ≡ eqb w v
 has_value-exact a first range v w enough hv hw is =
     let b = bit_count range in
     ap (λ (u : List Bool). same_bits u (bits_of b v)) is ∙ bits-test b w v (omega arith) (omega arith)
 
 -- an integer of range 2 is its one bit
-pub bit_is-exact : (a : List Bool) (first v : ℕ) → v < 2 → is_true a (record { var = first; positive = (v == 1) }) ≡ has_value a first 2 v
+pub bit_is-exact : (a : List Bool) (first v : ℕ) → v < 2 → is_true a (record { var = first; positive = (v == 1) }) ≡ bits_have_value a first 2 v
 bit_is-exact a first v less =
     elim (cases_eq v 1) [
       | inl is ↦ (let one : (v == 1) ≡ true = eq-eqb v 1 is in let odd : (v % 2 == 1) ≡ true = eq-eqb (v % 2) 1 (omega arith) in rw (one, odd) (and_end (value a first)))

@@ -15,7 +15,7 @@ use Rattle.ilk_cnf.proofs.Extending.{no_more_if, only_from_if}
 use Rattle.ilk_ints.specs.Bits.{bit_count, bits_of, bits_at}
 use Rattle.ilk_ints.specs.AtMost.{highest_bit_says, at_most_part, at_most_lit, at_most_bits}
 use Rattle.ilk_ints.specs.Named.{value_bits, bound_count, bounds_from, bounds_part, bound_bits, bounds_bits}
-use Rattle.ilk_ints.proofs.OneOfLaw.{map-left}
+use Rattle.ilk_ints.proofs.OneOfLaw.{map-left, first-two}
 use Rattle.ilk_ints.proofs.ValuesLaw.{bits_at-left}
 use Rattle.ilk_ints.proofs.AtMostLaw.{at_most-law, at_most-exact, bits_some}
 
@@ -64,11 +64,6 @@ next-inside first range k n below e es low some high h =
     let rest = (and_parts _ _ (and_parts _ _ h).1).1 in
     and_from _ _ (at_most-lit_in first range k n below e low some high) (clause_in-more n (at_most_part range k below e n).vars es (at_most-low range k n below e) rest)
 
-pub two-inside : (n : ℕ) (below e : Literal) (es : List Literal) → clause_in n (below ∷ e ∷ es) ≡ true → clause_in n (below ∷ e ∷ []) ≡ true
-two-inside n below e es h =
-    let one = and_parts _ _ h in
-    and_from _ _ one.0 (and_from _ _ (and_parts _ _ one.1).0 refl)
-
 pub bounds-in : (es : List Literal) (first range k n : ℕ) (below : Literal) → 0 < first → 0 < bit_count range → first + bit_count range ≤ n + 1 → clause_in n (below ∷ es) ≡ true → clauses_in (bounds_from first range below k es n).part.vars (bounds_from first range below k es n).part.clauses ≡ true
 bounds-in [] first range k n below low some high h = refl
 bounds-in (e ∷ es) first range k n below low some high h =
@@ -78,7 +73,7 @@ bounds-in (e ∷ es) first range k n below low some high h =
     let grows = at_most-low range k n below e in
     let end = bounds-low es first range (k + 1) p.vars l in
     list_all-append (clause_in rest.part.vars) p.clauses rest.part.clauses
-    ∙ and_from _ _ (clauses_in-more p.vars rest.part.vars p.clauses end (at_most-in range k n below e (two-inside n below e es h))) (bounds-in es first range (k + 1) p.vars l low some (omega arith) (next-inside first range k n below e es low some high h))
+    ∙ and_from _ _ (clauses_in-more p.vars rest.part.vars p.clauses end (at_most-in range k n below e (first-two n below e es h))) (bounds-in es first range (k + 1) p.vars l low some (omega arith) (next-inside first range k n below e es low some high h))
 
 pub bounds-law : (es : List Literal) (a : List Bool) (first range k w n : ℕ) (below : Literal) → length a ≡ n → 0 < first → 0 < bit_count range → first + bit_count range ≤ n + 1 → range ≤ 2 ^ bit_count range → w < range → bits_at a first (bit_count range) ≡ bits_of (bit_count range) w → clause_in n (below ∷ es) ≡ true → is_true a below ≡ ltb w k → map (is_true a) es ≡ value_bits w k (length es) → Extends a (bounds_from first range below k es n).part.vars (bounds_from first range below k es n).part.clauses (Only (bounds_bits range w k (length es)))
 bounds-law [] a first range k w n below size low some high enough less is inside under same = only_from_if a n [] [] (no_more_if a n [] true size refl)
@@ -89,7 +84,7 @@ bounds-law (e ∷ es) a first range k w n below size low some high enough less i
     let rest = bounds_from first range l (k + 1) es p.vars in
     let here : is_true a e ≡ eqb w k = first_of (is_true a e) (eqb w k) (map (is_true a) es) (value_bits w (k + 1) (length es)) same in
     let others : map (is_true a) es ≡ value_bits w (k + 1) (length es) = rest_of (is_true a e) (eqb w k) (map (is_true a) es) (value_bits w (k + 1) (length es)) same in
-    let one : Extends a p.vars p.clauses (Only b) = at_most-law a range k w n below e size (two-inside n below e es inside) under here in
+    let one : Extends a p.vars p.clauses (Only b) = at_most-law a range k w n below e size (first-two n below e es inside) under here in
     let long : length (a ++ b) ≡ p.vars = one.sized b refl in
     let grows : n ≤ p.vars = at_most-low range k n below e in
     let kept : bits_at (a ++ b) first (bit_count range) ≡ bits_of (bit_count range) w = bits_at-left (bit_count range) a b first (rw size high) ∙ is in
@@ -97,7 +92,7 @@ bounds-law (e ∷ es) a first range k w n below size low some high enough less i
     let next_same : map (is_true (a ++ b)) es ≡ value_bits w (k + 1) (length es) = map-left a b es (rw size (and_parts _ _ (and_parts _ _ inside).1).1) ∙ others in
     let next = bounds-law es (a ++ b) first range (k + 1) w p.vars l long low some (omega (arith, high, grows)) enough less kept (next-inside first range k n below e es low some high inside) next_under next_same in
     let fits : length a ≤ p.vars = rw size grows in
-    one_by_one a b (bounds_bits range w (k + 1) (length es)) p.vars rest.part.vars p.clauses rest.part.clauses fits (bounds-low es first range (k + 1) p.vars l) (at_most-in range k n below e (two-inside n below e es inside)) one next
+    one_by_one a b (bounds_bits range w (k + 1) (length es)) p.vars rest.part.vars p.clauses rest.part.clauses fits (bounds-low es first range (k + 1) p.vars l) (at_most-in range k n below e (first-two n below e es inside)) one next
   where
     first_of : (p q : Bool) (ps qs : List Bool) → p ∷ ps ≡ q ∷ qs → p ≡ q
     first_of p q ps qs h = cc
@@ -115,7 +110,7 @@ bounds-say (e ∷ es) a c first range k w n below size low some high enough less
     let d = bounds_bits range w (k + 1) (length es) in
     let here : is_true a e ≡ eqb w k = first_of (is_true a e) (eqb w k) (map (is_true a) es) (value_bits w (k + 1) (length es)) same in
     let others : map (is_true a) es ≡ value_bits w (k + 1) (length es) = rest_of (is_true a e) (eqb w k) (map (is_true a) es) (value_bits w (k + 1) (length es)) same in
-    let one : Extends a p.vars p.clauses (Only b) = at_most-law a range k w n below e size (two-inside n below e es inside) under here in
+    let one : Extends a p.vars p.clauses (Only b) = at_most-law a range k w n below e size (first-two n below e es inside) under here in
     let long : length (a ++ b) ≡ p.vars = one.sized b refl in
     let grows : n ≤ p.vars = at_most-low range k n below e in
     let kept : bits_at (a ++ b) first (bit_count range) ≡ bits_of (bit_count range) w = bits_at-left (bit_count range) a b first (rw size high) ∙ is in

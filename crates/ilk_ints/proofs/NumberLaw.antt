@@ -13,7 +13,7 @@ use Rattle.ilk_cnf.specs.Part.{as_clauses}
 use Rattle.ilk_cnf.proofs.Parts.{value-new}
 use Rattle.ilk_cnf.proofs.Gates.{some_true-opposites, opposites-in, satisfies-as_clauses}
 use Rattle.ilk_ints.specs.Bits.{bit_count, bits_of, bits_at, bit_lits, same_bits}
-use Rattle.ilk_ints.specs.Number.{value_lits, ruled_out, number_part, has_value, IsValue}
+use Rattle.ilk_ints.specs.Number.{value_lits, ruled_out, number_part, bits_have_value, IsValue}
 use Rattle.ilk_ints.proofs.BitsLaw.{number_of, number-less, number-bits, bits-number, bits-twice, length-bits, same_bits-self, bits-test, value_lits-say, value_lits-in}
 
 -- numbers from a on
@@ -54,7 +54,7 @@ bits_at-new (q ∷ d) a first size =
     rw (here, rest) refl
 
 -- the list that rules a pattern out
-ruled-says : (a : List Bool) (first range v : ℕ) → some_true a (map opposite (value_lits first range v)) ≡ not (has_value a first range v)
+ruled-says : (a : List Bool) (first range v : ℕ) → some_true a (map opposite (value_lits first range v)) ≡ not (bits_have_value a first range v)
 ruled-says a first range v = some_true-opposites a (value_lits first range v) ∙ ap not (value_lits-say a first range v)
 
 -- where every other pattern is ruled out, the bits are those of a value
@@ -73,7 +73,7 @@ value-below a first range enough sat = below
     less : v < 2 ^ b
     less = subst (λ (k : ℕ). v < 2 ^ k) (length-bits_at a b first) (number-less (bits_at a first b))
 
-    same : has_value a first range v ≡ true
+    same : bits_have_value a first range v ≡ true
     same = ap (λ (u : List Bool). same_bits u (bits_of b v)) is ∙ same_bits-self (bits_of b v)
 
     past : range ≤ v → ⊥
@@ -101,7 +101,7 @@ number-law a range n enough size = record {
         let less = h.1 in
         let l : length d ≡ b = ap length h.2 ∙ length-bits b h.0 in
         let bits : bits_at (a ++ d) (n + 1) b ≡ bits_of b h.0 = at d l ∙ h.2 in
-        let differs : has_value (a ++ d) (n + 1) range i ≡ false = ap (λ (u : List Bool). same_bits u (bits_of b i)) bits ∙ bits-test b h.0 i (omega arith) high ∙ ne_eqb h.0 i (λ k. absurd (omega arith)) in
+        let differs : bits_have_value (a ++ d) (n + 1) range i ≡ false = ap (λ (u : List Bool). same_bits u (bits_of b i)) bits ∙ bits-test b h.0 i (omega arith) high ∙ ne_eqb h.0 i (λ k. absurd (omega arith)) in
         ruled-says (a ++ d) (n + 1) range i ∙ ap not differs
 
     value : (d : List Bool) → length d ≡ bit_count range → satisfies (a ++ d) (ruled_out (n + 1) range) ≡ true → IsValue range d

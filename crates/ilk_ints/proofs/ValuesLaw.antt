@@ -12,7 +12,7 @@ use Rattle.ilk_cnf.proofs.Parts.{value-new, value-left, one_by_one}
 use Rattle.ilk_cnf.proofs.Gates.{new-in, all_of-in, with_part-and_then}
 use Rattle.ilk_cnf.proofs.Extending.{no_more_if, only_from_if}
 use Rattle.ilk_ints.specs.Bits.{bit_count, bits_of, bits_at}
-use Rattle.ilk_ints.specs.Number.{is_part, has_value, value_lits}
+use Rattle.ilk_ints.specs.Number.{is_part, bits_have_value, value_lits}
 use Rattle.ilk_ints.proofs.BitsLaw.{is-law, has_value-exact, value_lits-in, bit_is-exact}
 use Rattle.ilk_ints.specs.Named.{values_from, values_part, value_bits, values_bits}
 
@@ -68,7 +68,7 @@ pub values-law : (j : ℕ) (a : List Bool) (first range v w n : ℕ) → length 
 values-law zero a first range v w n size low high enough less upto is = only_from_if a n [] [] (no_more_if a n [] true size refl)
 values-law (suc j) a first range v w n size low high enough less upto is =
     let rest = values_from first range (v + 1) j (n + 1) in
-    let q = has_value a first range v in
+    let q = bits_have_value a first range v in
     let here : q ≡ eqb w v = has_value-exact a first range v w enough (omega arith) less is in
     let one : Extends a (n + 1) (is_part first range v n).clauses (Only (eqb w v ∷ [])) = subst (λ (e : Bool). Extends a (n + 1) (is_part first range v n).clauses (Only (e ∷ []))) here (is-law a first range v n size low high) in
     let long : length (a ++ eqb w v ∷ []) ≡ n + 1 = length-append a (eqb w v ∷ []) ∙ ap (λ (k : ℕ). k + 1) size in
@@ -113,7 +113,7 @@ values_part-say a c first range w n size high enough less is = by_case (range ==
         let two : range ≡ 2 = eqb-true range 2 h in
         let long : first + bit_count range ≤ length a + 1 = rw size high in
         let kept : bits_at (a ++ c) first (bit_count range) ≡ bits_of (bit_count range) w = bits_at-left (bit_count range) a c first long ∙ is in
-        let one : (v : ℕ) → v < 2 → is_true (a ++ c) (record { var = first; positive = (v == 1) }) ≡ eqb w v = λ v small. bit_is-exact (a ++ c) first v small ∙ ap (λ (r : ℕ). has_value (a ++ c) first r v) (sym two) ∙ has_value-exact (a ++ c) first range v w enough (omega (arith, two, small)) less kept in
+        let one : (v : ℕ) → v < 2 → is_true (a ++ c) (record { var = first; positive = (v == 1) }) ≡ eqb w v = λ v small. bit_is-exact (a ++ c) first v small ∙ ap (λ (r : ℕ). bits_have_value (a ++ c) first r v) (sym two) ∙ has_value-exact (a ++ c) first range v w enough (omega (arith, two, small)) less kept in
         let zeroth = one 0 (omega arith) in
         let first_one = one 1 (omega arith) in
         let both : map (is_true (a ++ c)) ((record { var = first; positive = (0 == 1) }) ∷ (record { var = first; positive = (1 == 1) }) ∷ []) ≡ value_bits w 0 2 = cc in

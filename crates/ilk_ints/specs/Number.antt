@@ -23,8 +23,8 @@ abbrev pub is_part : ℕ → ℕ → ℕ → ℕ → Part
 is_part first range v n = all_of_part (value_lits first range v) n
 
 -- whether the integer has the value
-abbrev pub has_value : List Bool → ℕ → ℕ → ℕ → Bool
-has_value a first range v = same_bits (bits_at a first (bit_count range)) (bits_of (bit_count range) v)
+abbrev pub bits_have_value : List Bool → ℕ → ℕ → ℕ → Bool
+bits_have_value a first range v = same_bits (bits_at a first (bit_count range)) (bits_of (bit_count range) v)
 
 -- the bits of some value of the range
 abbrev pub IsValue : ℕ → List Bool → Type 0

@@ -6,7 +6,7 @@ ghost use Rattle.ilk_cnf.specs.Literal.{opposite, plus};
 ghost use Rattle.ilk_cnf.specs.Part.{with_part, as_clauses};
 ghost use Rattle.ilk_cnf.specs.Truth.{is_true, satisfies};
 ghost use Rattle.ilk_ints.specs.Bits.{bit_count, bits_of, bits_at, bit_lits};
-ghost use Rattle.ilk_ints.specs.Number.{IsValue, ruled_out, number_part, is_part, has_value};
+ghost use Rattle.ilk_ints.specs.Number.{IsValue, ruled_out, number_part, is_part, bits_have_value};
 
 use ilk_cnf::{Assignment, Cnf, Lit, Lits, all_of, opposites};
 use std::alloc::{AllocError, Global};
@@ -119,10 +119,10 @@ pub fn is(alloc: Global, cnf: &mut Cnf, n: Bounded, value: u8) -> Result<Lit, Al
     requires within { n.first + bit_count n.range ≤ cnf.old.vars + 1 }
     ensures lit { IfOk result (λ l. l ≡ plus (cnf.old.vars + 1)) }
     ensures made { OnOk result (cnf.new ≡ with_part cnf.old (is_part n.first n.range value cnf.old.vars)) }
-    ensures law { OnOk result ((a : List Bool) → length a ≡ cnf.old.vars → PartExtends a (is_part n.first n.range value cnf.old.vars) (Only (has_value a n.first n.range value ∷ []))) }
+    ensures law { OnOk result ((a : List Bool) → length a ≡ cnf.old.vars → PartExtends a (is_part n.first n.range value cnf.old.vars) (Only (bits_have_value a n.first n.range value ∷ []))) }
 
     // The bits are those of the value exactly where the integer is the value.
-    ensures exact { OnOk result ((a : List Bool) (v : ℕ) → v < n.range → bits_at a n.first (bit_count n.range) ≡ bits_of (bit_count n.range) v → has_value a n.first n.range value ≡ (v == value)) }
+    ensures exact { OnOk result ((a : List Bool) (v : ℕ) → v < n.range → bits_at a n.first (bit_count n.range) ≡ bits_of (bit_count n.range) v → bits_have_value a n.first n.range value ≡ (v == value)) }
 {
     let _ = cnf.vars();
     let lits = lits_of(alloc, n.first, bits(n.range), u64::from(value))?;
@@ -138,7 +138,7 @@ pub fn bit_is(n: Bounded, value: u8) -> Lit
     requires from_1 { 0 < n.first }
     requires numbered { n.first ≤ 2 ^ 62 }
     ensures lit { result ≡ record { var = n.first; positive = (value == 1) } }
-    ensures exact { (a : List Bool) → is_true a result ≡ has_value a n.first n.range value }
+    ensures exact { (a : List Bool) → is_true a result ≡ bits_have_value a n.first n.range value }
 {
     Lit::new(n.first, value == 1)
 }

@@ -12,7 +12,7 @@ use Rattle.ilk_log.specs.declared.step.Step.{Step}
 use Rattle.ilk_log.specs.Propagation.{is_false, is_falsified, lone_unset, unit_of, after_hint}
 use Rattle.ilk_log.specs.Derived.{opposites, ends_false, is_derived}
 use Rattle.ilk_log.specs.Fresh.{others}
-use Rattle.ilk_learn.specs.Resolvent.{joined, resolvent}
+use Rattle.ilk_learn.specs.Resolvent.{with_each_lit, resolvent}
 use Rattle.ilk_learn.proofs.Members.{var-of, no-var, same-var, kept-at, differ-kept, within-kept, from-without, in-without, joined-left, joined-from, joined-var-right, joined-differ, joined-within, each-within}
 use Rattle.ilk_cnf.proofs.SameLiterals.{same-lit, lit-is, has-var}
 
@@ -119,13 +119,13 @@ other-var d l m v h k n e = true≢false (sym (same-lit l) ∙ ap (same_lit l) (
 -- the resolvent with the reason of an entry
 pub in_hand-resolve : (n : ℕ) (clauses : List (List Literal)) (e : Entry) (es : List Entry) (s : Step) (r : ℕ) (d : List Literal) → InHand n clauses (e ∷ es) s → slice_get clauses r ≡ Some d → has_lit e.lit d ≡ true → is_falsified (lits_of es) (others e.lit d) ≡ true → vars_differ d ≡ true → clause_in n d ≡ true → vars_differ (lits_of es) ≡ true → has_var e.lit.var (lits_of es) ≡ false → InHand n clauses es (record { clause = resolvent e.lit.var s.clause d; hints = (r + 1) ∷ s.hints })
 in_hand-resolve n clauses e es s r d k at has falsified differ within once unset = record {
-  denied = λ m h. (let w = from-without e.lit.var (joined s.clause d) m h in
+  denied = λ m h. (let w = from-without e.lit.var (with_each_lit s.clause d) m h in
       elim (joined-from m s.clause d w.0) [
         | inl a ↦ earlier m (k.denied m a) w.1
         | inr a ↦ reason-denied m a (apart m w.1)
       ]);
-  differ = differ-kept (λ l. not (eqb l.var e.lit.var)) (joined s.clause d) (joined-differ s.clause d k.differ);
-  within = within-kept n (λ l. not (eqb l.var e.lit.var)) (joined s.clause d) (joined-within n s.clause d k.within within);
+  differ = differ-kept (λ l. not (eqb l.var e.lit.var)) (with_each_lit s.clause d) (joined-differ s.clause d k.differ);
+  within = within-kept n (λ l. not (eqb l.var e.lit.var)) (with_each_lit s.clause d) (joined-within n s.clause d k.within within);
   hinted = (r + 1, s.hints, refl);
   shown = λ set f g. (let one : unit_of set d ≡ Some e.lit = unit-one set d e.lit differ has (unset-in set g e.lit refl) (unset-in set g (opposite e.lit) refl) (λ m a b. reason-false set f g m a b) in
       let q : r + 1 ≡ suc r = add-one r in
@@ -162,9 +162,9 @@ in_hand-resolve n clauses e es s r d k at has falsified differ within once unset
 
     reason-false : (set : List Literal) → ((m : Literal) → has_lit m (resolvent e.lit.var s.clause d) ≡ true → has_lit (opposite m) set ≡ true) → ((m : Literal) → has_lit m set ≡ true → has_lit m (lits_of es) ≡ true) → (m : Literal) → has_lit m d ≡ true → same_lit e.lit m ≡ false → has_lit (opposite m) set ≡ true
     reason-false set f g m a b =
-        let x = var-of (joined s.clause d) m.var (joined-var-right m.var s.clause d (has-var m d a)) in
+        let x = var-of (with_each_lit s.clause d) m.var (joined-var-right m.var s.clause d (has-var m d a)) in
         let u : x.0.var ≡ e.lit.var → ⊥ = λ q. other-var d e.lit m differ has a b (sym x.1 ∙ q) in
-        let set-x = f x.0 (in-without e.lit.var (joined s.clause d) x.0 x.2 u) in
+        let set-x = f x.0 (in-without e.lit.var (with_each_lit s.clause d) x.0 x.2 u) in
         let same : opposite x.0 ≡ opposite m = same-var (lits_of es) (opposite x.0) (opposite m) once (g (opposite x.0) set-x) (reason-denied m a b) x.1 in
         ap (λ (l : Literal). has_lit l set) (sym same) ∙ set-x
 
@@ -172,7 +172,7 @@ in_hand-resolve n clauses e es s r d k at has falsified differ within once unset
     more-false set f m a = elim (or_cases (same_lit (opposite m) e.lit) (has_lit (opposite m) (lits_of es)) (k.denied m a)) [
       | inl x ↦ or_left (same_lit (opposite m) e.lit) (has_lit (opposite m) set) x
       | inr x ↦ (let u : m.var ≡ e.lit.var → ⊥ = λ q. no-var (lits_of es) (opposite m) (ap (λ (w : ℕ). has_var w (lits_of es)) q ∙ unset) x in
-          or_right (same_lit (opposite m) e.lit) (has_lit (opposite m) set) (f m (in-without e.lit.var (joined s.clause d) m (joined-left m s.clause d a) u)))
+          or_right (same_lit (opposite m) e.lit) (has_lit (opposite m) set) (f m (in-without e.lit.var (with_each_lit s.clause d) m (joined-left m s.clause d a) u)))
     ]
 
 -- a clause with the same literals as that in hand, over different variables, is derived

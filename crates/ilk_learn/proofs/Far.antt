@@ -11,9 +11,9 @@ use Rattle.ilk_log.specs.declared.step.Step.{Step}
 use Rattle.ilk_trail.specs.declared.entry.Entry.{Entry}
 use Rattle.ilk_trail.specs.Trail.{TrailList, level_of}
 use Rattle.ilk_trail.specs.Laws.{IsTrail, lits_of, is_set}
-use Rattle.ilk_learn.specs.Resolvent.{without}
+use Rattle.ilk_learn.specs.Resolvent.{without_variable}
 use Rattle.ilk_learn.specs.Levels.{is_current, highest_first}
-use Rattle.ilk_learn.specs.Learning.{has_one_current, is_point, point_first, resolved, up_to_point, learned}
+use Rattle.ilk_learn.specs.Learning.{has_one_current, is_implication_point, point_first, resolved, up_to_point, learned}
 use Rattle.ilk_learn.specs.Hand.{Keeps, Reached, IsConflict, all_set, conflict_step}
 use Rattle.ilk_learn.specs.declared.hand.Hand.{Hand}
 use Rattle.ilk_learn.proofs.Members.{kept-from}
@@ -63,7 +63,7 @@ entry-current f t h c n i e trail k q at =
     eq-eqb _ _ (level-entry t.entries i e trail.once at ∙ walking-level f.vars f.clauses t.entries e (reverse (take i t.entries)) k.step w)
 
 -- where it is no point
-pub far-next : (f : Formula) (t : TrailList) (h new : Hand) (c n i : ℕ) (e : Entry) → IsFormula f → (k : Far f t h c n) → n ≡ suc i → slice_get t.entries i ≡ Some e → is_point t.entries e.lit k.step.clause ≡ false → Keeps t new (resolved f.clauses e k.step) → Far f t new c i
+pub far-next : (f : Formula) (t : TrailList) (h new : Hand) (c n i : ℕ) (e : Entry) → IsFormula f → (k : Far f t h c n) → n ≡ suc i → slice_get t.entries i ≡ Some e → is_implication_point t.entries e.lit k.step.clause ≡ false → Keeps t new (resolved f.clauses e k.step) → Far f t new c i
 far-next f t h new c n i e form k q at p keeps = record {
   step = resolved f.clauses e k.step;
   walking = walking-next f.vars f.clauses t.entries e (reverse (take i t.entries)) k.step (record { within = form.within; differ = form.differ }) (far-walking f t h c n i e k q at) p;
@@ -91,7 +91,7 @@ lower-set f t h es s w k =
     and_from (lit_in t.vars m) (is_set t.entries m.var) (lit_in-clause t.vars s.clause m k.holds.within b) (has-var (opposite m) (lits_of t.entries) (w.within (opposite m) (w.hand.denied m b)))))
 
 -- where it is the point
-pub far-point : (f : Formula) (t : TrailList) (h : Hand) (c n i : ℕ) (e : Entry) → IsTrail t → (k : Far f t h c n) → n ≡ suc i → slice_get t.entries i ≡ Some e → is_point t.entries e.lit k.step.clause ≡ true → Reached t f.clauses c h (Some e.lit)
+pub far-point : (f : Formula) (t : TrailList) (h : Hand) (c n i : ℕ) (e : Entry) → IsTrail t → (k : Far f t h c n) → n ≡ suc i → slice_get t.entries i ≡ Some e → is_implication_point t.entries e.lit k.step.clause ≡ true → Reached t f.clauses c h (Some e.lit)
 far-point f t h c n i e trail k q at p =
     let es = reverse (take i t.entries) in
     let s = k.step in
@@ -100,7 +100,7 @@ far-point f t h c n i e trail k q at p =
     let one = and_parts (nat_lt 0 (level_of t.entries)) (eqb (length (filter (is_current t.entries) s.clause)) 1) parts.1 in
     let has = has-point f.vars f.clauses t.entries e es s w parts.0 in
     let current = entry-current f t h c n i e trail k q at in
-    let lower : without e.lit.var s.clause ≡ h.lower = filter-same (λ m. not (eqb m.var e.lit.var)) (λ m. not (is_current t.entries m)) s.clause (λ m a. ap not (agree m a has current one.1)) ∙ sym k.keeps.holds.rest in
+    let lower : without_variable e.lit.var s.clause ≡ h.lower = filter-same (λ m. not (eqb m.var e.lit.var)) (λ m. not (is_current t.entries m)) s.clause (λ m a. ap not (agree m a has current one.1)) ∙ sym k.keeps.holds.rest in
     let found : up_to_point f.clauses t.entries (e ∷ es) s ≡ record s { clause = point_first t.entries e.lit s.clause } = rw p refl in
     record {
       set = lower-set f t h (e ∷ es) s w k.keeps;

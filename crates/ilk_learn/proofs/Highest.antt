@@ -7,7 +7,7 @@ use Rattle.std.proofs.lemmas.Bool.{and_parts, and_from, or_cases, or_left, or_ri
 use Rattle.std.proofs.lemmas.Option.{same_Some}
 use Rattle.ilk_cnf.specs.Literal.{Literal, same_lit, has_lit, has_var, vars_differ}
 use Rattle.ilk_trail.specs.declared.entry.Entry.{Entry}
-use Rattle.ilk_learn.specs.Resolvent.{without}
+use Rattle.ilk_learn.specs.Resolvent.{without_variable}
 use Rattle.ilk_learn.specs.Levels.{level_at, highest_level, in_front, highest_first}
 use Rattle.ilk_learn.specs.Asserting.{begins_at}
 use Rattle.ilk_learn.proofs.Members.{no-var, in-without, kept-at, from-without, front-from, front-has, front-differ}
@@ -58,7 +58,7 @@ highest-at es m (n ∷ c) =
     ]
 
 -- what holds of a list, and of it with one of its literals in front
-pub in_front-both : (P : List Literal → Type 0) (p : Literal → Bool) (c : List Literal) → (find p c ≡ None → P c) → ((l : Literal) → has_lit l c ≡ true → p l ≡ true → P (l ∷ without l.var c)) → P (in_front (find p c) c)
+pub in_front-both : (P : List Literal → Type 0) (p : Literal → Bool) (c : List Literal) → (find p c ≡ None → P c) → ((l : Literal) → has_lit l c ≡ true → p l ≡ true → P (l ∷ without_variable l.var c)) → P (in_front (find p c) c)
 in_front-both P p c f g = go (find p c) refl
   where
     go : (o : Option Literal) → find p c ≡ o → P (in_front o c)
@@ -91,12 +91,12 @@ highest_first-begins es c d =
         let a = highest-at es m c in
         absurd (true≢false (sym (eq-eqb (level_at es a.0) (highest_level es (m ∷ c)) a.2) ∙ find-none (at_highest es (m ∷ c)) (m ∷ c) a.0 e a.1))
 
-    first : (l : Literal) → has_lit l c ≡ true → at_highest es c l ≡ true → begins_at es (highest_level es (l ∷ without l.var c)) (l ∷ without l.var c) ≡ true
+    first : (l : Literal) → has_lit l c ≡ true → at_highest es c l ≡ true → begins_at es (highest_level es (l ∷ without_variable l.var c)) (l ∷ without_variable l.var c) ≡ true
     first l h t =
         let top : level_at es l ≡ highest_level es c = eqb-true (level_at es l) (highest_level es c) t in
-        let low : highest_level es (without l.var c) ≤ highest_level es c =
-        highest-below es (without l.var c) (highest_level es c) (λ m k. below-highest es c m (from-without l.var c m k).0) in
-        eq-eqb (level_at es l) (highest_level es (l ∷ without l.var c)) (omega (arith, top, low))
+        let low : highest_level es (without_variable l.var c) ≤ highest_level es c =
+        highest-below es (without_variable l.var c) (highest_level es c) (λ m k. below-highest es c m (from-without l.var c m k).0) in
+        eq-eqb (level_at es l) (highest_level es (l ∷ without_variable l.var c)) (omega (arith, top, low))
 
 -- what each literal passes, all pass
 pub all-from : (p : Literal → Bool) (c : List Literal) → ((m : Literal) → has_lit m c ≡ true → p m ≡ true) → list_all p c ≡ true
@@ -142,9 +142,9 @@ pub another-passes : (p : Literal → Bool) (c : List Literal) (v : ℕ) (l : Li
 another-passes p c v l d h t n =
     elim (cases_eq l.var v) [
       | inr u ↦ (l, h, t, u)
-      | inl u ↦ elim (cases_Bool (list_any p (without v c))) [
-        | inl y ↦ (let a = list_any-at p (without v c) y in
-            let w = from-without v c a.1 (list_any-from (same_lit a.1) (without v c) a.0 a.1 a.2 (same-lit a.1)) in
+      | inl u ↦ elim (cases_Bool (list_any p (without_variable v c))) [
+        | inl y ↦ (let a = list_any-at p (without_variable v c) y in
+            let w = from-without v c a.1 (list_any-from (same_lit a.1) (without_variable v c) a.0 a.1 a.2 (same-lit a.1)) in
             (a.1, w.0, a.3, w.1))
         | inr y ↦ absurd (let one : filter p c ≡ l ∷ [] = one-passes p c l d h t (λ m k z. elim (cases_eq m.var v) [
           | inl s ↦ s ∙ sym u
@@ -154,10 +154,10 @@ another-passes p c v l d h t n =
       ]
     ]
   where
-    passes-any : (m : Literal) → has_lit m (without v c) ≡ true → p m ≡ true → list_any p (without v c) ≡ true
+    passes-any : (m : Literal) → has_lit m (without_variable v c) ≡ true → p m ≡ true → list_any p (without_variable v c) ≡ true
     passes-any m k z =
-        let a = list_any-at (same_lit m) (without v c) k in
-        list_any-from p (without v c) a.0 a.1 a.2 (ap p (sym (lit-is m a.1 a.3)) ∙ z)
+        let a = list_any-at (same_lit m) (without_variable v c) k in
+        list_any-from p (without_variable v c) a.0 a.1 a.2 (ap p (sym (lit-is m a.1 a.3)) ∙ z)
 
 -- where just one literal passes, two that pass are one
 pub lone-passes : (p : Literal → Bool) (c : List Literal) (a b : Literal) → eqb (length (filter p c)) 1 ≡ true → has_lit a c ≡ true → p a ≡ true → has_lit b c ≡ true → p b ≡ true → a ≡ b
@@ -173,9 +173,9 @@ lone-passes p c a b n h t k u = go (filter p c) n (kept-at p c a h t) (kept-at p
     go (x ∷ (y ∷ xs)) n h k = absurd (let e : length (x ∷ (y ∷ xs)) ≡ 1 = eqb-true (length (x ∷ (y ∷ xs))) 1 n in omega (arith, e))
 
 -- the clause of a literal, with the others after it
-pub front-some : (es : List Entry) (c clause x : List Literal) (l first : Literal) → clause ≡ l ∷ [] → Some first ≡ find (λ m. eqb (level_at es m) (highest_level es c)) c → x ≡ clause ++ (first ∷ without first.var c) → x ≡ l ∷ highest_first es c
+pub front-some : (es : List Entry) (c clause x : List Literal) (l first : Literal) → clause ≡ l ∷ [] → Some first ≡ find (λ m. eqb (level_at es m) (highest_level es c)) c → x ≡ clause ++ (first ∷ without_variable first.var c) → x ≡ l ∷ highest_first es c
 front-some es c clause x l first h f e =
-    e ∙ ap (λ (xs : List Literal). xs ++ (first ∷ without first.var c)) h ∙ ap (λ (o : Option Literal). l ∷ in_front o c) f
+    e ∙ ap (λ (xs : List Literal). xs ++ (first ∷ without_variable first.var c)) h ∙ ap (λ (o : Option Literal). l ∷ in_front o c) f
 
 pub front-none : (es : List Entry) (c clause : List Literal) (l : Literal) → clause ≡ l ∷ [] → None ≡ find (λ m. eqb (level_at es m) (highest_level es c)) c → clause ≡ l ∷ highest_first es c
 front-none es c clause l h f =

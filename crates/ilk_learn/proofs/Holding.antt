@@ -28,10 +28,10 @@ use Rattle.ilk_trail.specs.Trail.{TrailList, entry_of, level_of}
 use Rattle.ilk_trail.specs.Laws.{IsTrail, lits_of, is_set}
 use Rattle.ilk_trail.proofs.Entries.{found}
 use Rattle.ilk_trail.proofs.Literals.{clause_in-push, count_of_vars, lit_in-parts}
-use Rattle.ilk_learn.specs.Resolvent.{without, with_lit, joined, resolvent}
+use Rattle.ilk_learn.specs.Resolvent.{without_variable, with_lit, with_each_lit, resolvent}
 use Rattle.ilk_learn.specs.Levels.{level_at, is_current, highest_level}
 use Rattle.ilk_learn.specs.Asserting.{begins_at, is_asserting}
-use Rattle.ilk_learn.specs.Hand.{Holds, IsConflict, Keeps, all_set, conflict_step}
+use Rattle.ilk_learn.specs.Hand.{HoldsClause, IsConflict, Keeps, all_set, conflict_step}
 use Rattle.ilk_learn.proofs.Members.{differ-kept, within-kept, kept-at, none-without, var-push}
 use Rattle.ilk_learn.proofs.Derived.{false-at}
 use Rattle.ilk_learn.proofs.Highest.{all-from}
@@ -45,21 +45,21 @@ mark-read marks i v b e h r = sym (get_or_read marks v b h (rw e at r) false)
 pub level-read : (es : List Entry) (l : Literal) (k : ℕ) → option_map (λ (e : Entry). e.level) (entry_of es l.var) ≡ Some k → level_at es l ≡ k
 level-read es l k h = ap (λ (o : Option ℕ). unwrap_or o 0) h
 
-pub within-marks : (t : TrailList) (marks : List Bool) (current : ℕ) (lower c : List Literal) (l : Literal) → Holds t marks current lower c → lit_in t.vars l ≡ true → l.var < length marks
+pub within-marks : (t : TrailList) (marks : List Bool) (current : ℕ) (lower c : List Literal) (l : Literal) → HoldsClause t marks current lower c → lit_in t.vars l ≡ true → l.var < length marks
 within-marks t marks current lower c l h w = (let p = lit_in-parts t.vars l w in omega (arith, h.sized, p.1))
 
 -- a clause has few literals
-pub few : (t : TrailList) (marks : List Bool) (current : ℕ) (lower c : List Literal) → Holds t marks current lower c → IsTrail t → current ≤ 2 ^ 62 + 1
+pub few : (t : TrailList) (marks : List Bool) (current : ℕ) (lower c : List Literal) → HoldsClause t marks current lower c → IsTrail t → current ≤ 2 ^ 62 + 1
 few t marks current lower c h k =
     let all = count_of_vars t.vars c h.within h.differ in
     let both = length-filter_both (is_current t.entries) (λ l. not (is_current t.entries l)) (λ l. refl) c in
     omega (arith, all, both, h.counted, k.few)
 
 -- a literal more
-pub holds-known : (t : TrailList) (marks : List Bool) (current : ℕ) (lower c : List Literal) (l : Literal) → Holds t marks current lower c → get_or marks l.var false ≡ true → Holds t marks current lower (with_lit c l)
+pub holds-known : (t : TrailList) (marks : List Bool) (current : ℕ) (lower c : List Literal) (l : Literal) → HoldsClause t marks current lower c → get_or marks l.var false ≡ true → HoldsClause t marks current lower (with_lit c l)
 holds-known t marks current lower c l h m = (let known : has_var l.var c ≡ true = sym (h.marked l.var) ∙ m in rw known h)
 
-holds-push : (t : TrailList) (marks : List Bool) (current more : ℕ) (lower longer c : List Literal) (l : Literal) → Holds t marks current lower c → lit_in t.vars l ≡ true → has_var l.var c ≡ false → more ≡ length (filter (is_current t.entries) (c ++ l ∷ [])) → longer ≡ filter (λ m. not (is_current t.entries m)) (c ++ l ∷ []) → Holds t (set marks l.var true) more longer (c ++ l ∷ [])
+holds-push : (t : TrailList) (marks : List Bool) (current more : ℕ) (lower longer c : List Literal) (l : Literal) → HoldsClause t marks current lower c → lit_in t.vars l ≡ true → has_var l.var c ≡ false → more ≡ length (filter (is_current t.entries) (c ++ l ∷ [])) → longer ≡ filter (λ m. not (is_current t.entries m)) (c ++ l ∷ []) → HoldsClause t (set marks l.var true) more longer (c ++ l ∷ [])
 holds-push t marks current more lower longer c l h w u e f = record {
   sized = simp length-set h.sized;
   marked = λ v. elim (cases_eq v l.var) [
@@ -77,7 +77,7 @@ holds-push t marks current more lower longer c l h w u e f = record {
     other true b e = refl
     other false b e = rw e refl
 
-pub holds-current : (t : TrailList) (marks : List Bool) (current : ℕ) (lower c : List Literal) (l : Literal) → Holds t marks current lower c → lit_in t.vars l ≡ true → get_or marks l.var false ≡ false → is_current t.entries l ≡ true → Holds t (set marks l.var true) (current + 1) lower (with_lit c l)
+pub holds-current : (t : TrailList) (marks : List Bool) (current : ℕ) (lower c : List Literal) (l : Literal) → HoldsClause t marks current lower c → lit_in t.vars l ≡ true → get_or marks l.var false ≡ false → is_current t.entries l ≡ true → HoldsClause t (set marks l.var true) (current + 1) lower (with_lit c l)
 holds-current t marks current lower c l h w m k =
     let u : has_var l.var c ≡ false = sym (h.marked l.var) ∙ m in
     let p : Literal → Bool = is_current t.entries in
@@ -87,7 +87,7 @@ holds-current t marks current lower c l h w m k =
     let long : current + 1 ≡ length (filter p (c ++ l ∷ [])) = ap (λ n. n + 1) h.counted ∙ sym (ap length one ∙ length-append (filter p c) (l ∷ [])) in
     rw u (holds-push t marks current (current + 1) lower lower c l h w u long (h.rest ∙ sym (append-nil (filter q c)) ∙ sym none))
 
-pub holds-lower : (t : TrailList) (marks : List Bool) (current : ℕ) (lower c : List Literal) (l : Literal) → Holds t marks current lower c → lit_in t.vars l ≡ true → get_or marks l.var false ≡ false → is_current t.entries l ≡ false → Holds t (set marks l.var true) current (lower ++ l ∷ []) (with_lit c l)
+pub holds-lower : (t : TrailList) (marks : List Bool) (current : ℕ) (lower c : List Literal) (l : Literal) → HoldsClause t marks current lower c → lit_in t.vars l ≡ true → get_or marks l.var false ≡ false → is_current t.entries l ≡ false → HoldsClause t (set marks l.var true) current (lower ++ l ∷ []) (with_lit c l)
 holds-lower t marks current lower c l h w m k =
     let u : has_var l.var c ≡ false = sym (h.marked l.var) ∙ m in
     let p : Literal → Bool = is_current t.entries in
@@ -97,16 +97,16 @@ holds-lower t marks current lower c l h w m k =
     rw u (holds-push t marks current current lower (lower ++ l ∷ []) c l h w u (h.counted ∙ ap length (sym (append-nil (filter p c)) ∙ sym none)) (ap (λ xs. xs ++ l ∷ []) h.rest ∙ sym one))
 
 -- the literals of a clause, one after another
-joined-suc : (k d : List Literal) (i : ℕ) (x : Literal) → slice_get d i ≡ Some x → joined k (take (suc i) d) ≡ with_lit (joined k (take i d)) x
+joined-suc : (k d : List Literal) (i : ℕ) (x : Literal) → slice_get d i ≡ Some x → with_each_lit k (take (suc i) d) ≡ with_lit (with_each_lit k (take i d)) x
 joined-suc k [] i x h = absurd (cc)
 joined-suc k (y ∷ d) zero x h = (let q : y ≡ x = cc in ap (with_lit k) q)
 joined-suc k (y ∷ d) (suc i) x h = joined-suc (with_lit k y) d i x h
 
-pub joined-more : (k d : List Literal) (i : ℕ) (x : Literal) → slice_get d i ≡ Some x → joined k (take (i + 1) d) ≡ with_lit (joined k (take i d)) x
-joined-more k d i x h = ap (λ (n : ℕ). joined k (take n d)) (add-one i) ∙ joined-suc k d i x h
+pub joined-more : (k d : List Literal) (i : ℕ) (x : Literal) → slice_get d i ≡ Some x → with_each_lit k (take (i + 1) d) ≡ with_lit (with_each_lit k (take i d)) x
+joined-more k d i x h = ap (λ (n : ℕ). with_each_lit k (take n d)) (add-one i) ∙ joined-suc k d i x h
 
-pub joined-whole : (k d : List Literal) (n : ℕ) → n ≡ length d → joined k (take n d) ≡ joined k d
-joined-whole k d n e = ap (λ (m : ℕ). joined k (take m d)) e ∙ ap (joined k) (take-length d)
+pub joined-whole : (k d : List Literal) (n : ℕ) → n ≡ length d → with_each_lit k (take n d) ≡ with_each_lit k d
+joined-whole k d n e = ap (λ (m : ℕ). with_each_lit k (take m d)) e ∙ ap (with_each_lit k) (take-length d)
 
 pub set-at : (t : TrailList) (d : List Literal) (i : ℕ) (l : Literal) → all_set t d ≡ true → slice_get d i ≡ Some l → (lit_in t.vars l ≡ true) × (is_set t.entries l.var ≡ true)
 set-at t d i l h at = and_parts (lit_in t.vars l) (is_set t.entries l.var) (list_all-slice_get (λ (m : Literal). lit_in t.vars m && is_set t.entries m.var) d i l h at)
@@ -115,7 +115,7 @@ set-at t d i l h at = and_parts (lit_in t.vars l) (is_set t.entries l.var) (list
 pub same-level : (es : List Entry) (l m : Literal) → l.var ≡ m.var → is_current es l ≡ is_current es m
 same-level es l m e = ap (λ (v : ℕ). eqb (unwrap_or (option_map (λ (x : Entry). x.level) (entry_of es v)) 0) (level_of es)) e
 
-without-absent : (v : ℕ) (c : List Literal) → has_var v c ≡ false → without v c ≡ c
+without-absent : (v : ℕ) (c : List Literal) → has_var v c ≡ false → without_variable v c ≡ c
 without-absent v [] h = refl
 without-absent v (m ∷ c) h =
     elim (cases_Bool (eqb m.var v)) [
@@ -123,7 +123,7 @@ without-absent v (m ∷ c) h =
       | inr t ↦ rw t (ap (λ (xs : List Literal). m ∷ xs) (without-absent v c (sym (ap (λ (b : Bool). b || has_var v c) t) ∙ h)))
     ]
 
-one-less : (p : Literal → Bool) (v : ℕ) (c : List Literal) → vars_differ c ≡ true → has_var v c ≡ true → ((l : Literal) → l.var ≡ v → p l ≡ true) → length (filter p c) ≡ length (filter p (without v c)) + 1
+one-less : (p : Literal → Bool) (v : ℕ) (c : List Literal) → vars_differ c ≡ true → has_var v c ≡ true → ((l : Literal) → l.var ≡ v → p l ≡ true) → length (filter p c) ≡ length (filter p (without_variable v c)) + 1
 one-less p v [] d h f = absurd (cc)
 one-less p v (m ∷ c) d h f =
     let q = and_parts (not (has_var m.var c)) (vars_differ c) d in
@@ -131,14 +131,14 @@ one-less p v (m ∷ c) d h f =
       | inl t ↦ (let e = eqb-true m.var v t in
           let here : p m ≡ true = f m e in
           let away : has_var v c ≡ false = ap (λ (w : ℕ). has_var w c) (sym e) ∙ not-true (has_var m.var c) q.0 in
-          let rest : without v c ≡ c = without-absent v c away in
+          let rest : without_variable v c ≡ c = without-absent v c away in
           rw (t, here, rest) (omega arith))
       | inr t ↦ (let k : has_var v c ≡ true = sym (ap (λ (b : Bool). b || has_var v c) t) ∙ h in
           let r = one-less p v c q.1 k f in
           elim (cases_Bool (p m)) [ inl u ↦ rw (t, u) (omega (arith, r)) | inr u ↦ rw (t, u) r ])
     ]
 
-same-rest : (q : Literal → Bool) (v : ℕ) (c : List Literal) → ((l : Literal) → l.var ≡ v → q l ≡ false) → filter q (without v c) ≡ filter q c
+same-rest : (q : Literal → Bool) (v : ℕ) (c : List Literal) → ((l : Literal) → l.var ≡ v → q l ≡ false) → filter q (without_variable v c) ≡ filter q c
 same-rest q v [] f = refl
 same-rest q v (m ∷ c) f =
     let r = same-rest q v c f in
@@ -147,7 +147,7 @@ same-rest q v (m ∷ c) f =
       | inr t ↦ elim (cases_Bool (q m)) [ inl u ↦ rw (t, u) (ap (λ (xs : List Literal). m ∷ xs) r) | inr u ↦ rw (t, u) r ]
     ]
 
-var-without : (v w : ℕ) (c : List Literal) → (w ≡ v → ⊥) → has_var w (without v c) ≡ has_var w c
+var-without : (v w : ℕ) (c : List Literal) → (w ≡ v → ⊥) → has_var w (without_variable v c) ≡ has_var w c
 var-without v w [] n = refl
 var-without v w (m ∷ c) n =
     elim (cases_Bool (eqb m.var v)) [
@@ -155,19 +155,19 @@ var-without v w (m ∷ c) n =
       | inr t ↦ rw t (ap (λ (b : Bool). eqb m.var w || b) (var-without v w c n))
     ]
 
-pub some-current : (t : TrailList) (marks : List Bool) (current : ℕ) (lower c : List Literal) (l : Literal) → Holds t marks current lower c → has_var l.var c ≡ true → is_current t.entries l ≡ true → 1 ≤ current
+pub some-current : (t : TrailList) (marks : List Bool) (current : ℕ) (lower c : List Literal) (l : Literal) → HoldsClause t marks current lower c → has_var l.var c ≡ true → is_current t.entries l ≡ true → 1 ≤ current
 some-current t marks current lower c l h k u =
     let r = one-less (is_current t.entries) l.var c h.differ k (λ m e. same-level t.entries m l e ∙ u) in
     omega (arith, h.counted, r)
 
-pub holds-drop : (t : TrailList) (marks : List Bool) (current : ℕ) (lower c : List Literal) (l : Literal) → Holds t marks current lower c → lit_in t.vars l ≡ true → has_var l.var c ≡ true → is_current t.entries l ≡ true → Holds t (set marks l.var false) (current - 1) lower (without l.var c)
+pub holds-drop : (t : TrailList) (marks : List Bool) (current : ℕ) (lower c : List Literal) (l : Literal) → HoldsClause t marks current lower c → lit_in t.vars l ≡ true → has_var l.var c ≡ true → is_current t.entries l ≡ true → HoldsClause t (set marks l.var false) (current - 1) lower (without_variable l.var c)
 holds-drop t marks current lower c l h w k u =
     let cur : (m : Literal) → m.var ≡ l.var → is_current t.entries m ≡ true = λ m e. same-level t.entries m l e ∙ u in
     let r = one-less (is_current t.entries) l.var c h.differ k cur in
     record {
       sized = simp length-set h.sized;
       marked = λ v. elim (cases_eq v l.var) [
-        | inl p ↦ (let P : ℕ → Type 0 = λ j. get_or (set marks l.var false) j false ≡ has_var j (without l.var c) in
+        | inl p ↦ (let P : ℕ → Type 0 = λ j. get_or (set marks l.var false) j false ≡ has_var j (without_variable l.var c) in
             subst P (sym p) (get_or-set_same marks l.var false false (within-marks t marks current lower c l h w) ∙ sym (none-without l.var c)))
         | inr p ↦ get_or-set_other marks l.var v false false p ∙ h.marked v ∙ sym (var-without l.var v c p)
       ];
@@ -228,21 +228,21 @@ keeps-same t clauses h e s v at m k =
     subst P (sym (resolved-not clauses e s none)) k
 
 -- one whose variable it has is resolved with
-pub keeps-resolved : (t : TrailList) (clauses : List (List Literal)) (old new : Hand) (e : Entry) (s : Step) (v r : ℕ) → entry_of t.entries v ≡ Some e → option_map (λ (x : Entry). x.reason) (entry_of t.entries v) ≡ Some (Some r) → get_or old.marks.items v false ≡ true → Keeps t old s → ((k : List Literal) → Holds t old.marks.items old.current old.lower k → has_var v k ≡ true → Holds t new.marks.items new.current new.lower (resolvent v k (clause_at clauses r))) → new.hints ≡ old.hints ++ (r + 1) ∷ [] → Keeps t new (resolved clauses e s)
+pub keeps-resolved : (t : TrailList) (clauses : List (List Literal)) (old new : Hand) (e : Entry) (s : Step) (v r : ℕ) → entry_of t.entries v ≡ Some e → option_map (λ (x : Entry). x.reason) (entry_of t.entries v) ≡ Some (Some r) → get_or old.marks.items v false ≡ true → Keeps t old s → ((k : List Literal) → HoldsClause t old.marks.items old.current old.lower k → has_var v k ≡ true → HoldsClause t new.marks.items new.current new.lower (resolvent v k (clause_at clauses r))) → new.hints ≡ old.hints ++ (r + 1) ∷ [] → Keeps t new (resolved clauses e s)
 keeps-resolved t clauses old new e s v r at why m k f g =
     let q = entry-var t.entries v e at in
     let has : has_var v s.clause ≡ true = sym (k.holds.marked v) ∙ m in
     let has-e : has_var e.lit.var s.clause ≡ true = ap (λ (w : ℕ). has_var w s.clause) q ∙ has in
     let reason : e.reason ≡ Some r = same_Some e.reason (Some r) (sym (ap (option_map (λ (x : Entry). x.reason)) at) ∙ why) in
     let P : Step → Type 0 = λ x. Keeps t new x in
-    let Q : ℕ → Type 0 = λ w. Holds t new.marks.items new.current new.lower (resolvent w s.clause (clause_at clauses r)) in
+    let Q : ℕ → Type 0 = λ w. HoldsClause t new.marks.items new.current new.lower (resolvent w s.clause (clause_at clauses r)) in
     subst P (sym (resolved-is clauses e s r has-e reason)) (record {
       holds = subst Q (sym q) (f s.clause k.holds has);
       hinted = ap (λ (hs : List ℕ). (r + 1) ∷ hs) k.hinted ∙ sym (ap reverse g ∙ reverse-append old.hints ((r + 1) ∷ []));
     })
 
 -- a clause over different variables, literal by literal
-joined-apart : (k d : List Literal) → vars_differ (k ++ d) ≡ true → joined k d ≡ k ++ d
+joined-apart : (k d : List Literal) → vars_differ (k ++ d) ≡ true → with_each_lit k d ≡ k ++ d
 joined-apart k [] h = sym (append-nil k)
 joined-apart k (l ∷ d) h =
     let u : has_var l.var k ≡ false = unused k h in
@@ -257,7 +257,7 @@ joined-apart k (l ∷ d) h =
         let other = or_parts (eqb l.var m.var) (has_var m.var d) away.1 in
         or_from (eqb m.var l.var) (has_var l.var k) (ne_eqb m.var l.var (λ e. eqb-false l.var m.var other.0 (sym e))) (unused k p.1)
 
-pub joined-alone : (d : List Literal) → vars_differ d ≡ true → joined [] d ≡ d
+pub joined-alone : (d : List Literal) → vars_differ d ≡ true → with_each_lit [] d ≡ d
 joined-alone d h = joined-apart [] d h
 
 -- the literals of a conflict are set
@@ -271,9 +271,9 @@ conflict-set f t c form k =
       list_all-slice_get vars_differ f.clauses c d form.differ at,
     )
 
-pub started-keeps : (f : Formula) (t : TrailList) (h : Hand) (c : ℕ) → IsFormula f → IsConflict f t c → Holds t h.marks.items h.current h.lower (joined [] (clause_at f.clauses c)) → h.hints ≡ (c + 1) ∷ [] → Keeps t h (conflict_step f.clauses c)
+pub started-keeps : (f : Formula) (t : TrailList) (h : Hand) (c : ℕ) → IsFormula f → IsConflict f t c → HoldsClause t h.marks.items h.current h.lower (with_each_lit [] (clause_at f.clauses c)) → h.hints ≡ (c + 1) ∷ [] → Keeps t h (conflict_step f.clauses c)
 started-keeps f t h c form k holds hints =
-    let P : List Literal → Type 0 = λ x. Holds t h.marks.items h.current h.lower x in
+    let P : List Literal → Type 0 = λ x. HoldsClause t h.marks.items h.current h.lower x in
     record {
       holds = subst P (joined-alone (clause_at f.clauses c) (conflict-set f t c form k).1) holds;
       hinted = sym (ap reverse hints);

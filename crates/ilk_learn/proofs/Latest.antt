@@ -12,7 +12,7 @@ use Rattle.ilk_log.specs.Fresh.{others}
 use Rattle.ilk_clauses.specs.Reasons.{clause_at, is_reason, HasReasons}
 use Rattle.ilk_trail.specs.declared.entry.Entry.{Entry}
 use Rattle.ilk_trail.specs.Trail.{TrailList, entry_of, last_level, level_of}
-use Rattle.ilk_trail.specs.Laws.{IsTrail, lits_of, is_next, climbs}
+use Rattle.ilk_trail.specs.Laws.{IsTrail, lits_of, is_level_next, climbs}
 use Rattle.ilk_trail.proofs.Entries.{lits_of-push, found, set-at}
 use Rattle.ilk_trail.proofs.Levels.{last_level-push, climbs-front, next-level}
 use Rattle.ilk_trail.proofs.Literals.{vars_differ-front}
@@ -29,7 +29,7 @@ top_level (e ∷ es) = e.level
 pub record IsLatest (clauses : List (List Literal)) (all : List Entry) (e : Entry) (es : List Entry) : Type 0 where
   pub forced : (r : ℕ) → e.reason ≡ Some r → is_reason clauses (lits_of es) e.lit r ≡ true
   pub unset : has_var e.lit.var (lits_of es) ≡ false
-  pub next : is_next (top_level es) e ≡ true
+  pub next : is_level_next (top_level es) e ≡ true
   pub level : level_at all e.lit ≡ e.level
 
 -- the same of each of them
@@ -112,8 +112,8 @@ climbs-take : (k : ℕ) (es : List Entry) (n : ℕ) → climbs k es ≡ true →
 climbs-take k es zero h = refl
 climbs-take k [] (suc n) h = refl
 climbs-take k (e ∷ es) (suc n) h =
-    let p = and_parts (is_next k e) (climbs e.level es) h in
-    and_from (is_next k e) (climbs e.level (take n es)) p.0 (climbs-take e.level es n p.1)
+    let p = and_parts (is_level_next k e) (climbs e.level es) h in
+    and_from (is_level_next k e) (climbs e.level (take n es)) p.0 (climbs-take e.level es n p.1)
 
 -- an entry is that of its variable
 one-place : (es : List Entry) (i j : ℕ) (x y : Entry) → vars_differ (lits_of es) ≡ true → slice_get es i ≡ Some x → slice_get es j ≡ Some y → x.lit.var ≡ y.lit.var → x ≡ y
@@ -159,7 +159,7 @@ latest-take clauses t (suc n) r k h =
     let here : IsLatest clauses es e (reverse (take n es)) = record {
       forced = λ c q. reason-reverse clauses (take n es) e.lit c (r n e c x.1 q);
       unset = var-reverse e.lit.var (take n es) ∙ apart.1;
-      next = ap (λ (l : ℕ). is_next l e) (top-reverse es n (omega arith)) ∙ (climbs-front 0 (take n es) e climbing).1;
+      next = ap (λ (l : ℕ). is_level_next l e) (top-reverse es n (omega arith)) ∙ (climbs-front 0 (take n es) e climbing).1;
       level = level-entry es n e k.once x.1;
     } in
     let P : List Entry → Type 0 = λ ys. Latest clauses es ys in

@@ -15,7 +15,7 @@ use Rattle.ilk_trail.specs.declared.entry.Entry.{Entry}
 use Rattle.ilk_trail.specs.Trail.{TrailList, up_to, level_of}
 use Rattle.ilk_trail.specs.Laws.{IsTrail, lits_of}
 use Rattle.ilk_cnf.proofs.Gates.{opposite-opposite}
-use Rattle.ilk_learn.specs.Resolvent.{without}
+use Rattle.ilk_learn.specs.Resolvent.{without_variable}
 use Rattle.ilk_learn.specs.Levels.{level_at, is_current, highest_level, highest_first}
 use Rattle.ilk_learn.specs.Learning.{has_one_current, point_first, learned}
 use Rattle.ilk_learn.specs.Asserting.{begins_at, is_asserting}
@@ -40,27 +40,27 @@ has-point n clauses all e es s w h =
 -- the clause with the point first has the same literals, of different variables
 point-from : (all : List Entry) (e : Entry) (c : List Literal) (m : Literal) → has_lit (opposite e.lit) c ≡ true → has_lit m (point_first all e.lit c) ≡ true → has_lit m c ≡ true
 point-from all e c m p h =
-    elim (or_cases (same_lit m (opposite e.lit)) (has_lit m (highest_first all (without e.lit.var c))) h) [
+    elim (or_cases (same_lit m (opposite e.lit)) (has_lit m (highest_first all (without_variable e.lit.var c))) h) [
       | inl x ↦ ap (λ (l : Literal). has_lit l c) (lit-is m (opposite e.lit) x) ∙ p
-      | inr x ↦ (from-without e.lit.var c m (highest_first-from all (without e.lit.var c) m x)).0
+      | inr x ↦ (from-without e.lit.var c m (highest_first-from all (without_variable e.lit.var c) m x)).0
     ]
 
 point-has : (all : List Entry) (e : Entry) (c : List Literal) (m : Literal) → vars_differ c ≡ true → has_lit (opposite e.lit) c ≡ true → has_lit m c ≡ true → has_lit m (point_first all e.lit c) ≡ true
 point-has all e c m d p h =
-    let rest = highest_first all (without e.lit.var c) in
+    let rest = highest_first all (without_variable e.lit.var c) in
     elim (cases_eq m.var e.lit.var) [
       | inl v ↦ or_left (same_lit m (opposite e.lit)) (has_lit m rest) (ap (same_lit m) (sym (same-var c m (opposite e.lit) d h p v)) ∙ same-lit m)
-      | inr v ↦ or_right (same_lit m (opposite e.lit)) (has_lit m rest) (highest_first-has all (without e.lit.var c) m (differ-kept (λ l. not (eqb l.var e.lit.var)) c d) (in-without e.lit.var c m h v))
+      | inr v ↦ or_right (same_lit m (opposite e.lit)) (has_lit m rest) (highest_first-has all (without_variable e.lit.var c) m (differ-kept (λ l. not (eqb l.var e.lit.var)) c d) (in-without e.lit.var c m h v))
     ]
 
 point-differ : (all : List Entry) (e : Entry) (c : List Literal) → vars_differ c ≡ true → vars_differ (point_first all e.lit c) ≡ true
 point-differ all e c d =
-    let rest = highest_first all (without e.lit.var c) in
+    let rest = highest_first all (without_variable e.lit.var c) in
     let apart : has_var e.lit.var rest ≡ false = elim (cases_Bool (has_var e.lit.var rest)) [
-      | inl x ↦ absurd (let m = var-of rest e.lit.var x in (from-without e.lit.var c m.0 (highest_first-from all (without e.lit.var c) m.0 m.2)).1 m.1)
+      | inl x ↦ absurd (let m = var-of rest e.lit.var x in (from-without e.lit.var c m.0 (highest_first-from all (without_variable e.lit.var c) m.0 m.2)).1 m.1)
       | inr x ↦ x
     ] in
-    and_from (not (has_var e.lit.var rest)) (vars_differ rest) (not_from_false (has_var e.lit.var rest) apart) (highest_first-differ all (without e.lit.var c) (differ-kept (λ l. not (eqb l.var e.lit.var)) c d))
+    and_from (not (has_var e.lit.var rest)) (vars_differ rest) (not_from_false (has_var e.lit.var rest) apart) (highest_first-differ all (without_variable e.lit.var c) (differ-kept (λ l. not (eqb l.var e.lit.var)) c d))
 
 -- a clause that is false, but not at the levels below the current, has a literal at the current
 pub has-current : (t : TrailList) (c : List Literal) → IsTrail t → is_falsified (lits_of t.entries) c ≡ true → is_falsified (lits_of (up_to (level_of t.entries - 1) t.entries)) c ≡ false → ((m : Literal) → has_lit m (lits_of t.entries) ≡ true → level_at t.entries m ≤ level_of t.entries) → (l : Literal) × (has_lit l c ≡ true) × (level_at t.entries l ≡ level_of t.entries)
@@ -130,17 +130,17 @@ point-asserting n clauses all s a =
     let p = and_parts (has_var e.lit.var c) (has_one_current all c) a.point in
     let one = and_parts (nat_lt 0 (level_of all)) (eqb (length (filter (is_current all) c)) 1) p.1 in
     let has = has-point n clauses all e a.before a.step w p.0 in
-    let rest = highest_first all (without e.lit.var c) in
+    let rest = highest_first all (without_variable e.lit.var c) in
     let level : level_at all e.lit ≡ level_of all = w.latest.0.level ∙ walking-level n clauses all e a.before a.step w in
     let current : is_current all (opposite e.lit) ≡ true = eq-eqb (level_at all e.lit) (level_of all) level in
     let falsified : is_falsified (lits_of all) (point_first all e.lit c) ≡ true = false-from (lits_of all) (point_first all e.lit c) (λ m h. w.within (opposite m) (w.hand.denied m (point-from all e c m has h))) in
-    let other : (m : Literal) → has_lit m rest ≡ true → level_at all m ≤ level_of all - 1 = λ m h. (let q = from-without e.lit.var c m (highest_first-from all (without e.lit.var c) m h) in
+    let other : (m : Literal) → has_lit m rest ≡ true → level_at all m ≤ level_of all - 1 = λ m h. (let q = from-without e.lit.var c m (highest_first-from all (without_variable e.lit.var c) m h) in
     let le : level_at all m ≤ e.level = latest-level clauses all (e ∷ a.before) (opposite m) w.latest (w.hand.denied m q.0) in
     let ne : level_at all m ≡ level_of all → ⊥ = λ z. q.1 (ap (λ (l : Literal). l.var) (lone-passes (is_current all) c m (opposite e.lit) one.1 q.0 (eq-eqb (level_at all m) (level_of all) z) has current)) in
     omega (arith, le, ne, w.low)) in
     let pos = ltb-true 0 (level_of all) one.0 in
     let lower : highest_level all rest < level_of all = omega (arith, highest-below all rest (level_of all - 1) other, pos) in
-    let begins = highest_first-begins all (without e.lit.var c) (differ-kept (λ l. not (eqb l.var e.lit.var)) c w.hand.differ) in
+    let begins = highest_first-begins all (without_variable e.lit.var c) (differ-kept (λ l. not (eqb l.var e.lit.var)) c w.hand.differ) in
     ap (λ (x : Step). is_asserting all x.clause) a.is ∙ and_from _ (begins_at all (highest_level all rest) rest) (and_from _ (nat_lt (highest_level all rest) (level_of all)) (and_from (is_falsified (lits_of all) (point_first all e.lit c)) (is_current all (opposite e.lit)) falsified current) (lt-ltb (highest_level all rest) (level_of all) lower)) begins
 
 -- above level 0 its clause is asserting

@@ -8,7 +8,7 @@ use Rattle.ilk_cnf.specs.Formula.{lit_in, clause_in}
 use Rattle.ilk_cnf.proofs.Literals.{vars_differ-push}
 use Rattle.ilk_clauses.proofs.Within.{lit_in-clause}
 use Rattle.ilk_trail.proofs.Literals.{clause_in-push}
-use Rattle.ilk_learn.specs.Resolvent.{without, with_lit, joined}
+use Rattle.ilk_learn.specs.Resolvent.{without_variable, with_lit, with_each_lit}
 use Rattle.ilk_cnf.proofs.SameLiterals.{same-lit, lit-is, has-var}
 
 abbrev pub Has : Literal → List Literal → Type 0
@@ -94,20 +94,20 @@ within-kept n p (m ∷ c) h =
     ]
 
 -- the literals but those of a variable
-pub from-without : (v : ℕ) (c : List Literal) (l : Literal) → has_lit l (without v c) ≡ true → (has_lit l c ≡ true) × (l.var ≡ v → ⊥)
+pub from-without : (v : ℕ) (c : List Literal) (l : Literal) → has_lit l (without_variable v c) ≡ true → (has_lit l c ≡ true) × (l.var ≡ v → ⊥)
 from-without v c l h =
     let q = kept-from (λ m. not (eqb m.var v)) c l h in
     (q.0, eqb-false l.var v (not-true (eqb l.var v) q.1))
 
-pub in-without : (v : ℕ) (c : List Literal) (l : Literal) → has_lit l c ≡ true → (l.var ≡ v → ⊥) → has_lit l (without v c) ≡ true
+pub in-without : (v : ℕ) (c : List Literal) (l : Literal) → has_lit l c ≡ true → (l.var ≡ v → ⊥) → has_lit l (without_variable v c) ≡ true
 in-without v c l h n = kept-at (λ m. not (eqb m.var v)) c l h (not_from_false (eqb l.var v) (ne_eqb l.var v n))
 
-pub none-without : (v : ℕ) (c : List Literal) → has_var v (without v c) ≡ false
+pub none-without : (v : ℕ) (c : List Literal) → has_var v (without_variable v c) ≡ false
 none-without v [] = refl
 none-without v (m ∷ c) =
     elim (cases_Bool (eqb m.var v)) [
       | inl t ↦ rw t (none-without v c)
-      | inr t ↦ rw t (or_from (eqb m.var v) (has_var v (without v c)) t (none-without v c))
+      | inr t ↦ rw t (or_from (eqb m.var v) (has_var v (without_variable v c)) t (none-without v c))
     ]
 
 -- a clause with one literal more
@@ -121,12 +121,12 @@ pub var-push : (v : ℕ) (c : List Literal) (l : Literal) → has_var v (c ++ l 
 var-push v c l = list_any-append (λ (m : Literal). eqb m.var v) c (l ∷ [])
 
 -- clauses joined have the literals of the first, all variables of both, and no other literals
-pub joined-left : (m : Literal) (c d : List Literal) → has_lit m c ≡ true → has_lit m (joined c d) ≡ true
+pub joined-left : (m : Literal) (c d : List Literal) → has_lit m c ≡ true → has_lit m (with_each_lit c d) ≡ true
 joined-left m c [] h = h
 joined-left m c (l ∷ d) h =
     joined-left m (with_lit c l) d (with_lit-both (λ x. has_lit m x ≡ true) c l (λ _. h) (λ _. has-left m c (l ∷ []) h))
 
-pub joined-from : (m : Literal) (c d : List Literal) → has_lit m (joined c d) ≡ true → (has_lit m c ≡ true) ⊎ (has_lit m d ≡ true)
+pub joined-from : (m : Literal) (c d : List Literal) → has_lit m (with_each_lit c d) ≡ true → (has_lit m c ≡ true) ⊎ (has_lit m d ≡ true)
 joined-from m c [] h = inl h
 joined-from m c (l ∷ d) h =
     elim (joined-from m (with_lit c l) d h) [
@@ -137,12 +137,12 @@ joined-from m c (l ∷ d) h =
       | inr k ↦ inr (or_right (same_lit m l) (has_lit m d) k)
     ]
 
-pub joined-var-left : (v : ℕ) (c d : List Literal) → has_var v c ≡ true → has_var v (joined c d) ≡ true
+pub joined-var-left : (v : ℕ) (c d : List Literal) → has_var v c ≡ true → has_var v (with_each_lit c d) ≡ true
 joined-var-left v c d h =
     let f = var-of c v h in
-    ap (λ (w : ℕ). has_var w (joined c d)) (sym f.1) ∙ has-var f.0 (joined c d) (joined-left f.0 c d f.2)
+    ap (λ (w : ℕ). has_var w (with_each_lit c d)) (sym f.1) ∙ has-var f.0 (with_each_lit c d) (joined-left f.0 c d f.2)
 
-pub joined-var-right : (v : ℕ) (c d : List Literal) → has_var v d ≡ true → has_var v (joined c d) ≡ true
+pub joined-var-right : (v : ℕ) (c d : List Literal) → has_var v d ≡ true → has_var v (with_each_lit c d) ≡ true
 joined-var-right v c [] h = absurd (cc)
 joined-var-right v c (l ∷ d) h =
     elim (or_cases (eqb l.var v) (has_var v d) h) [
@@ -150,34 +150,34 @@ joined-var-right v c (l ∷ d) h =
       | inr r ↦ joined-var-right v (with_lit c l) d r
     ]
 
-pub joined-differ : (c d : List Literal) → vars_differ c ≡ true → vars_differ (joined c d) ≡ true
+pub joined-differ : (c d : List Literal) → vars_differ c ≡ true → vars_differ (with_each_lit c d) ≡ true
 joined-differ c [] h = h
 joined-differ c (l ∷ d) h = joined-differ (with_lit c l) d (with_lit-both (λ x. vars_differ x ≡ true) c l (λ _. h) (λ n. vars_differ-push c l h n))
 
-pub joined-within : (n : ℕ) (c d : List Literal) → clause_in n c ≡ true → clause_in n d ≡ true → clause_in n (joined c d) ≡ true
+pub joined-within : (n : ℕ) (c d : List Literal) → clause_in n c ≡ true → clause_in n d ≡ true → clause_in n (with_each_lit c d) ≡ true
 joined-within n c [] h k = h
 joined-within n c (l ∷ d) h k =
     let p = and_parts (lit_in n l) (clause_in n d) k in
     joined-within n (with_lit c l) d (with_lit-both (λ x. clause_in n x ≡ true) c l (λ _. h) (λ _. clause_in-push n c l h p.0)) p.1
 
 -- a literal of a clause put in front of it
-pub front-from : (l m : Literal) (c : List Literal) → has_lit l c ≡ true → has_lit m (l ∷ without l.var c) ≡ true → has_lit m c ≡ true
+pub front-from : (l m : Literal) (c : List Literal) → has_lit l c ≡ true → has_lit m (l ∷ without_variable l.var c) ≡ true → has_lit m c ≡ true
 front-from l m c h k =
-    elim (or_cases (same_lit m l) (has_lit m (without l.var c)) k) [
+    elim (or_cases (same_lit m l) (has_lit m (without_variable l.var c)) k) [
       | inl e ↦ ap (λ (x : Literal). has_lit x c) (lit-is m l e) ∙ h
       | inr r ↦ (from-without l.var c m r).0
     ]
 
-pub front-has : (l m : Literal) (c : List Literal) → vars_differ c ≡ true → has_lit l c ≡ true → has_lit m c ≡ true → has_lit m (l ∷ without l.var c) ≡ true
+pub front-has : (l m : Literal) (c : List Literal) → vars_differ c ≡ true → has_lit l c ≡ true → has_lit m c ≡ true → has_lit m (l ∷ without_variable l.var c) ≡ true
 front-has l m c d h k =
     elim (cases_Bool (eqb m.var l.var)) [
-      | inl e ↦ or_left (same_lit m l) (has_lit m (without l.var c)) (ap (λ (x : Literal). same_lit m x) (sym (same-var c m l d k h (eqb-true m.var l.var e))) ∙ same-lit m)
-      | inr e ↦ or_right (same_lit m l) (has_lit m (without l.var c)) (in-without l.var c m k (eqb-false m.var l.var e))
+      | inl e ↦ or_left (same_lit m l) (has_lit m (without_variable l.var c)) (ap (λ (x : Literal). same_lit m x) (sym (same-var c m l d k h (eqb-true m.var l.var e))) ∙ same-lit m)
+      | inr e ↦ or_right (same_lit m l) (has_lit m (without_variable l.var c)) (in-without l.var c m k (eqb-false m.var l.var e))
     ]
 
-pub front-differ : (l : Literal) (c : List Literal) → vars_differ c ≡ true → vars_differ (l ∷ without l.var c) ≡ true
+pub front-differ : (l : Literal) (c : List Literal) → vars_differ c ≡ true → vars_differ (l ∷ without_variable l.var c) ≡ true
 front-differ l c d =
-    and_from (not (has_var l.var (without l.var c))) (vars_differ (without l.var c)) (not_from_false (has_var l.var (without l.var c)) (none-without l.var c)) (differ-kept (λ m. not (eqb m.var l.var)) c d)
+    and_from (not (has_var l.var (without_variable l.var c))) (vars_differ (without_variable l.var c)) (not_from_false (has_var l.var (without_variable l.var c)) (none-without l.var c)) (differ-kept (λ m. not (eqb m.var l.var)) c d)
 
 -- a clause whose literals are all in another that is over the variables
 pub each-within : (n : ℕ) (c d : List Literal) → ((m : Literal) → has_lit m c ≡ true → has_lit m d ≡ true) → clause_in n d ≡ true → clause_in n c ≡ true

@@ -15,9 +15,9 @@ use Rattle.ilk_trail.specs.declared.entry.Entry.{Entry}
 use Rattle.ilk_trail.specs.Trail.{level_of}
 use Rattle.ilk_trail.specs.Laws.{lits_of}
 use Rattle.ilk_trail.proofs.Levels.{next-level}
-use Rattle.ilk_learn.specs.Resolvent.{joined, resolvent}
+use Rattle.ilk_learn.specs.Resolvent.{with_each_lit, resolvent}
 use Rattle.ilk_learn.specs.Levels.{level_at, is_current}
-use Rattle.ilk_learn.specs.Learning.{has_one_current, is_point, point_first, resolved, up_to_point}
+use Rattle.ilk_learn.specs.Learning.{has_one_current, is_implication_point, point_first, resolved, up_to_point}
 use Rattle.ilk_learn.proofs.Members.{joined-left, in-without}
 use Rattle.ilk_learn.proofs.Derived.{InHand, in_hand-skip, in_hand-resolve}
 use Rattle.ilk_learn.proofs.Highest.{another-passes}
@@ -47,7 +47,7 @@ pub record AtPoint (n : ℕ) (clauses : List (List Literal)) (all : List Entry) 
   pub before : List Entry
   pub step : Step
   pub walking : Walking n clauses all (entry ∷ before) step
-  pub point : is_point all entry.lit step.clause ≡ true
+  pub point : is_implication_point all entry.lit step.clause ≡ true
   pub is : result ≡ record step { clause = point_first all entry.lit step.clause }
 
 -- or, at level 0, where no entry is left
@@ -107,7 +107,7 @@ has-reason n clauses all e es s latest low k c h = go e.reason refl
     go None q = absurd (decided q (cases_lt 0 (level_of all)))
 
 -- an entry that is no point is passed
-pub walking-next : (n : ℕ) (clauses : List (List Literal)) (all : List Entry) (e : Entry) (es : List Entry) (s : Step) → AreClauses n clauses → Walking n clauses all (e ∷ es) s → is_point all e.lit s.clause ≡ false → Walking n clauses all es (resolved clauses e s)
+pub walking-next : (n : ℕ) (clauses : List (List Literal)) (all : List Entry) (e : Entry) (es : List Entry) (s : Step) → AreClauses n clauses → Walking n clauses all (e ∷ es) s → is_implication_point all e.lit s.clause ≡ false → Walking n clauses all es (resolved clauses e s)
 walking-next n clauses all e es s a w p = (let after = next in record {
   latest = w.latest.1;
   low = omega (arith, (next-level (top_level es) e w.latest.0.next).0, w.low);
@@ -132,12 +132,12 @@ walking-next n clauses all e es s a w p = (let after = next in record {
           let P : Step → Type 0 = λ t. InHand n clauses es t × HasCurrent all t.clause in
           subst P q (
             in_hand-resolve n clauses e es s r.0 d w.hand at parts.0 parts.1 differ within (latest-differ clauses all es w.latest.1) w.latest.0.unset,
-            record { some = λ pos. (let m = other-left n clauses all e es s w.hand w.current many pos in (m.0, in-without e.lit.var (joined s.clause d) m.0 (joined-left m.0 s.clause d m.1) m.3, m.2)) },
+            record { some = λ pos. (let m = other-left n clauses all e es s w.hand w.current many pos in (m.0, in-without e.lit.var (with_each_lit s.clause d) m.0 (joined-left m.0 s.clause d m.1) m.3, m.2)) },
           ))
     ]
 
 -- the reason of an entry that is resolved upon
-pub walking-reason : (n : ℕ) (clauses : List (List Literal)) (all : List Entry) (e : Entry) (es : List Entry) (s : Step) → Walking n clauses all (e ∷ es) s → has_var e.lit.var s.clause ≡ true → is_point all e.lit s.clause ≡ false → (r : ℕ) × (e.reason ≡ Some r) × (slice_get clauses r ≡ Some (clause_at clauses r)) × (has_lit e.lit (clause_at clauses r) ≡ true) × (is_falsified (lits_of es) (others e.lit (clause_at clauses r)) ≡ true)
+pub walking-reason : (n : ℕ) (clauses : List (List Literal)) (all : List Entry) (e : Entry) (es : List Entry) (s : Step) → Walking n clauses all (e ∷ es) s → has_var e.lit.var s.clause ≡ true → is_implication_point all e.lit s.clause ≡ false → (r : ℕ) × (e.reason ≡ Some r) × (slice_get clauses r ≡ Some (clause_at clauses r)) × (has_lit e.lit (clause_at clauses r) ≡ true) × (is_falsified (lits_of es) (others e.lit (clause_at clauses r)) ≡ true)
 walking-reason n clauses all e es s w u p =
     let many : has_one_current all s.clause ≡ false = elim (and_cases (has_var e.lit.var s.clause) (has_one_current all s.clause) p) [ inl x ↦ absurd (true≢false (sym u ∙ x)) | inr x ↦ x ] in
     let r = has-reason n clauses all e es s w.latest w.low w.hand w.current many in
@@ -159,7 +159,7 @@ walking-level n clauses all e es s w =
 pub walk : (n : ℕ) (clauses : List (List Literal)) (all es : List Entry) (s : Step) → AreClauses n clauses → Walking n clauses all es s → AtPoint n clauses all (up_to_point clauses all es s) ⊎ AtEnd n clauses all (up_to_point clauses all es s)
 walk n clauses all [] s a w = inr (record { step = s; walking = w; is = refl })
 walk n clauses all (e ∷ es) s a w =
-    elim (cases_Bool (is_point all e.lit s.clause)) [
+    elim (cases_Bool (is_implication_point all e.lit s.clause)) [
       | inl p ↦ inl (record { entry = e; before = es; step = s; walking = w; point = p; is = rw p refl })
       | inr p ↦ (let P : Step → Type 0 = λ t. AtPoint n clauses all t ⊎ AtEnd n clauses all t in
           let goes : up_to_point clauses all (e ∷ es) s ≡ up_to_point clauses all es (resolved clauses e s) = rw p refl in

@@ -17,7 +17,7 @@ abbrev pub all_set : TrailList → List Literal → Bool
 all_set t c = list_all (λ l. lit_in t.vars l && is_set t.entries l.var) c
 
 -- marks by variable, the number of the literals of the current level, and the other literals hold clause c
-pub record Holds (t : TrailList) (marks : List Bool) (current : ℕ) (lower : List Literal) (c : List Literal) : Type 0 where
+pub record HoldsClause (t : TrailList) (marks : List Bool) (current : ℕ) (lower : List Literal) (c : List Literal) : Type 0 where
   pub sized : length marks ≡ t.vars + 1
   pub marked : (v : ℕ) → slice_index_or marks v false ≡ has_var v c
   pub counted : current ≡ length (filter (is_current t.entries) c)
@@ -27,11 +27,11 @@ pub record Holds (t : TrailList) (marks : List Bool) (current : ℕ) (lower : Li
 
 -- the same of the fields
 abbrev pub HandHolds : TrailList → Hand → List Literal → Type 0
-HandHolds t h c = Holds t h.marks.items h.current h.lower c
+HandHolds t h c = HoldsClause t h.marks.items h.current h.lower c
 
 -- the fields hold the clause of a step, and its hints, the last of them first
 pub record Keeps (t : TrailList) (h : Hand) (s : Step) : Type 0 where
-  pub holds : Holds t h.marks.items h.current h.lower s.clause
+  pub holds : HoldsClause t h.marks.items h.current h.lower s.clause
   pub hinted : s.hints ≡ reverse h.hints
 
 -- the clause at point l, where there is one, with the literals of lower levels

@@ -4,7 +4,7 @@ use Rattle.std.specs.List.{find}
 use Rattle.ilk_cnf.specs.Literal.{Literal}
 use Rattle.ilk_trail.specs.declared.entry.Entry.{Entry}
 use Rattle.ilk_trail.specs.Trail.{entry_of, level_of}
-use Rattle.ilk_learn.specs.Resolvent.{without}
+use Rattle.ilk_learn.specs.Resolvent.{without_variable}
 
 -- the level at which the variable of l was set, 0 where it is unset
 abbrev pub level_at : List Entry → Literal → ℕ
@@ -22,7 +22,7 @@ highest_level entries (l ∷ ls) = max (level_at entries l) (highest_level entri
 -- the literals with this one in front
 abbrev pub in_front : Option Literal → List Literal → List Literal
 in_front None ls = ls
-in_front (Some l) ls = l ∷ without l.var ls
+in_front (Some l) ls = l ∷ without_variable l.var ls
 
 -- the literals with the first of the highest level in front
 abbrev pub highest_first : List Entry → List Literal → List Literal

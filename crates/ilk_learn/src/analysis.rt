@@ -10,7 +10,7 @@ ghost use Rattle.ilk_log.specs.Derived.{is_derived};
 ghost use Rattle.ilk_log.specs.Fresh.{IsFresh};
 ghost use Rattle.ilk_trail.specs.Trail.{level_of, up_to};
 ghost use Rattle.ilk_trail.specs.Laws.{lits_of};
-ghost use Rattle.ilk_learn.specs.Resolvent.{without};
+ghost use Rattle.ilk_learn.specs.Resolvent.{without_variable};
 ghost use Rattle.ilk_learn.specs.Levels.{highest_first, highest_level, level_at};
 ghost use Rattle.ilk_learn.specs.Learning.{learned};
 ghost use Rattle.ilk_learn.specs.Asserting.{back_level, is_asserting};
@@ -133,7 +133,7 @@ fn clause_at_point(alloc: Global, trail: &Trail, lit: Lit, lower: &Lits) -> Resu
 
 // The clause with this literal, and then the others, at its end.
 fn with_first(mut clause: Lits, first: Lit, lits: &Lits) -> Result<Lits, AllocError>
-    ensures { IfOk result (λ c. c ≡ clause ++ (first ∷ without first.var lits.now)) }
+    ensures { IfOk result (λ c. c ≡ clause ++ (first ∷ without_variable first.var lits.now)) }
 {
     clause.push(first)?;
     let items = lits.as_slice();

@@ -8,9 +8,9 @@ ghost use Rattle.ilk_log.specs.declared.step.Step.{Step as StepValue};
 ghost use Rattle.ilk_trail.specs.declared.entry.Entry.{Entry};
 ghost use Rattle.ilk_trail.specs.Trail.{entry_of};
 ghost use Rattle.ilk_trail.specs.Laws.{is_set};
-ghost use Rattle.ilk_learn.specs.Resolvent.{with_lit, joined, resolvent};
+ghost use Rattle.ilk_learn.specs.Resolvent.{with_lit, with_each_lit, resolvent};
 ghost use Rattle.ilk_learn.specs.Levels.{is_current};
-ghost use Rattle.ilk_learn.specs.Learning.{is_point, resolved};
+ghost use Rattle.ilk_learn.specs.Learning.{is_implication_point, resolved};
 ghost use Rattle.ilk_learn.specs.Hand.{HandHolds, IsConflict, Keeps, Reached, all_set, conflict_step};
 
 use ilk_clauses::Clauses;
@@ -74,7 +74,7 @@ impl Hand {
         requires held { (k : List Literal) × HandHolds trail.now self.old k }
         requires known { c < length clauses.now.clauses }
         requires set { IsTrue (all_set trail.now (clause_at clauses.now.clauses c)) }
-        ensures holds { OnOk result ((k : List Literal) → HandHolds trail.now self.old k → HandHolds trail.now self.new (joined k (clause_at clauses.now.clauses c))) }
+        ensures holds { OnOk result ((k : List Literal) → HandHolds trail.now self.old k → HandHolds trail.now self.new (with_each_lit k (clause_at clauses.now.clauses c))) }
         ensures hints { self.new.hints ≡ self.old.hints }
     {
         for i in 0..clauses.length(c) {
@@ -130,7 +130,7 @@ impl Hand {
     fn is_point(&self, trail: &Trail, lit: Lit) -> bool
         requires held { (c : List Literal) × HandHolds trail.now self.now c }
         requires within { IsTrue (lit_in trail.now.vars lit) }
-        ensures { (c : List Literal) → HandHolds trail.now self.now c → result ≡ is_point trail.now.entries lit c }
+        ensures { (c : List Literal) → HandHolds trail.now self.now c → result ≡ is_implication_point trail.now.entries lit c }
     {
         let marked = self.marks[lit.var() as usize];
         let level = trail.level();

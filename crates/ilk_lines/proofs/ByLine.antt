@@ -5,7 +5,7 @@ use Rattle.std.proofs.lemmas.Bool.Decides.{nat_tests}
 use Rattle.std.proofs.lemmas.Slice.Eq.{bytes_eq-Decides}
 use Rattle.ilk_base.specs.Result.{◌>>=◌}
 use Rattle.ilk_lines.specs.Lines.{Bytes}
-use Rattle.ilk_lines.specs.Reading.{Part, after_line, each_told, leading, onto}
+use Rattle.ilk_lines.specs.Reading.{LinesPart, after_line, each_told, leading, onto}
 use Rattle.ilk_base.proofs.Results.{err_is}
 use Rattle.ilk_lines.proofs.InOrder.{told_with, values_left}
 
@@ -75,18 +75,18 @@ after_by_line wanted n next by = record { fills = after_fills wanted n next by.f
             fails_first n m (after_then wanted n next) (line ∷ lines) (sym here) (λ some more others. after_refuses wanted n next line differs more others ∙ ap (λ k. Err k) here) (after_fills wanted n next by.fills)
 
 -- the part with one value more
-abbrev with_value : {A : Type 0} → A → Part A → Part A
+abbrev with_value : {A : Type 0} → A → LinesPart A → LinesPart A
 with_value v part = record part { values = v ∷ part.values }
 
 -- lines for items, and then the next reader
-abbrev pub each_then : {A T : Type 0} → (ℕ → Bytes → Option A) → List ℕ → ℕ → (Part A → Bytes → Result T ℕ) → Reader T
+abbrev pub each_then : {A T : Type 0} → (ℕ → Bytes → Option A) → List ℕ → ℕ → (LinesPart A → Bytes → Result T ℕ) → Reader T
 each_then value items n next lines bytes = each_told value items n lines >>= (λ part. next part bytes)
 
 -- the next reader after these values, of lines of which the first has this number
-abbrev pub part_reader : {A T : Type 0} → (Part A → Bytes → Result T ℕ) → List A → ℕ → Reader T
+abbrev pub part_reader : {A T : Type 0} → (LinesPart A → Bytes → Result T ℕ) → List A → ℕ → Reader T
 part_reader next values number lines bytes = next (record { values = values; number = number; lines = lines }) bytes
 
-each_none : {A T : Type 0} (value : ℕ → Bytes → Option A) (n : ℕ) (next : Part A → Bytes → Result T ℕ) (lines : List Bytes) (bytes : Bytes) → each_then value [] n next lines bytes ≡ part_reader next [] (n + 0) lines bytes
+each_none : {A T : Type 0} (value : ℕ → Bytes → Option A) (n : ℕ) (next : LinesPart A → Bytes → Result T ℕ) (lines : List Bytes) (bytes : Bytes) → each_then value [] n next lines bytes ≡ part_reader next [] (n + 0) lines bytes
 each_none value n next lines bytes = refl
 
 none_enough : (k : ℕ) → (0 == suc k) ≡ false
@@ -95,18 +95,18 @@ none_enough k = grind (arith, nat_tests)
 -- no value is told
 no_values : {A : Type 0} (x : ℕ) (items : List ℕ) (n : ℕ) (lines : List Bytes) → told_with {A = A} (x ∷ items) n lines [] ≡ Err (n + 0)
 no_values {A = A} x items n lines =
-    ap (λ b. cond {A = Result (Part A) ℕ} b (Ok (record { values = []; number = n + length (x ∷ items); lines = drop (length (x ∷ items)) lines })) (Err (n + 0))) (none_enough (length items))
+    ap (λ b. cond {A = Result (LinesPart A) ℕ} b (Ok (record { values = []; number = n + length (x ∷ items); lines = drop (length (x ∷ items)) lines })) (Err (n + 0))) (none_enough (length items))
 
-each_missing : {A T : Type 0} (value : ℕ → Bytes → Option A) (x : ℕ) (items : List ℕ) (n : ℕ) (next : Part A → Bytes → Result T ℕ) (bytes : Bytes) → each_then value (x ∷ items) n next [] bytes ≡ Err (n + 0)
-each_missing {A = A} value x items n next bytes = ap (λ (r : Result (Part A) ℕ). r >>= (λ part. next part bytes)) (no_values x items n [])
+each_missing : {A T : Type 0} (value : ℕ → Bytes → Option A) (x : ℕ) (items : List ℕ) (n : ℕ) (next : LinesPart A → Bytes → Result T ℕ) (bytes : Bytes) → each_then value (x ∷ items) n next [] bytes ≡ Err (n + 0)
+each_missing {A = A} value x items n next bytes = ap (λ (r : Result (LinesPart A) ℕ). r >>= (λ part. next part bytes)) (no_values x items n [])
 
-each_refuses : {A T : Type 0} (value : ℕ → Bytes → Option A) (x : ℕ) (items : List ℕ) (n : ℕ) (next : Part A → Bytes → Result T ℕ) (line : Bytes) → value x line ≡ None → (more : List Bytes) (bytes : Bytes) → each_then value (x ∷ items) n next (line ∷ more) bytes ≡ Err (n + 0)
+each_refuses : {A T : Type 0} (value : ℕ → Bytes → Option A) (x : ℕ) (items : List ℕ) (n : ℕ) (next : LinesPart A → Bytes → Result T ℕ) (line : Bytes) → value x line ≡ None → (more : List Bytes) (bytes : Bytes) → each_then value (x ∷ items) n next (line ∷ more) bytes ≡ Err (n + 0)
 each_refuses {A = A} value x items n next line none more bytes =
     ap (λ (o : Option A). told_with (x ∷ items) n (line ∷ more) (onto o (values_left value items more)) >>= (λ part. next part bytes)) none
-    ∙ ap (λ (r : Result (Part A) ℕ). r >>= (λ part. next part bytes)) (no_values x items n (line ∷ more))
+    ∙ ap (λ (r : Result (LinesPart A) ℕ). r >>= (λ part. next part bytes)) (no_values x items n (line ∷ more))
 
 -- what is told with one value more
-told_more : {A T : Type 0} (x : ℕ) (items : List ℕ) (n : ℕ) (line : Bytes) (more : List Bytes) (v : A) (values : List A) (next : Part A → Bytes → Result T ℕ) (bytes : Bytes)
+told_more : {A T : Type 0} (x : ℕ) (items : List ℕ) (n : ℕ) (line : Bytes) (more : List Bytes) (v : A) (values : List A) (next : LinesPart A → Bytes → Result T ℕ) (bytes : Bytes)
     → (told_with (x ∷ items) n (line ∷ more) (v ∷ values) >>= (λ part. next part bytes)) ≡ (told_with items (n + 1) more values >>= (λ part. next (with_value v part) bytes))
 told_more {A = A} x items n line more v values next bytes = by_count (length values == length items) refl
   where
@@ -120,7 +120,7 @@ told_more {A = A} x items n line more v values next bytes = by_count (length val
         let number : n + length (v ∷ values) ≡ n + 1 + length values = omega arith in
         rw (longer, differs) (ap (λ k. Err k) number)
 
-each_goes : {A T : Type 0} (value : ℕ → Bytes → Option A) (x : ℕ) (items : List ℕ) (n : ℕ) (next : Part A → Bytes → Result T ℕ) (line : Bytes) (v : A) → value x line ≡ Some v → (more : List Bytes) (bytes : Bytes) → each_then value (x ∷ items) n next (line ∷ more) bytes ≡ each_then value items (n + 1) (λ part. next (with_value v part)) more bytes
+each_goes : {A T : Type 0} (value : ℕ → Bytes → Option A) (x : ℕ) (items : List ℕ) (n : ℕ) (next : LinesPart A → Bytes → Result T ℕ) (line : Bytes) (v : A) → value x line ≡ Some v → (more : List Bytes) (bytes : Bytes) → each_then value (x ∷ items) n next (line ∷ more) bytes ≡ each_then value items (n + 1) (λ part. next (with_value v part)) more bytes
 each_goes value x items n next line v some more bytes =
     ap (λ o. told_with (x ∷ items) n (line ∷ more) (onto o (values_left value items more)) >>= (λ part. next part bytes)) some
     ∙ told_more x items n line more v (values_left value items more) next bytes
@@ -130,7 +130,7 @@ abbrev pub HasLine : {A : Type 0} → (ℕ → Bytes → Option A) → ℕ → T
 HasLine {A} value x = (line : Bytes) × (v : A) × (value x line ≡ Some v)
 
 -- one more item
-each_more : {A T : Type 0} (value : ℕ → Bytes → Option A) (x : ℕ) (items : List ℕ) (n : ℕ) (next : Part A → Bytes → Result T ℕ) → HasLine value x → ((v : A) → IsByLine (n + 1) (each_then value items (n + 1) (λ part. next (with_value v part)))) → IsByLine n (each_then value (x ∷ items) n next)
+each_more : {A T : Type 0} (value : ℕ → Bytes → Option A) (x : ℕ) (items : List ℕ) (n : ℕ) (next : LinesPart A → Bytes → Result T ℕ) → HasLine value x → ((v : A) → IsByLine (n + 1) (each_then value items (n + 1) (λ part. next (with_value v part)))) → IsByLine n (each_then value (x ∷ items) n next)
 each_more {A = A} value x items n next own rest = record { fills = fills; fails = fails }
   where
     fills : Fills (each_then value (x ∷ items) n next)
@@ -153,7 +153,7 @@ each_more {A = A} value x items n next own rest = record { fills = fills; fails 
     fails (line ∷ lines) bytes m e = by_value line lines bytes m e (value x line) refl
 
 -- a reader of lines for items, and then a next one, goes by line where each item has a line
-pub each_by_line : {A T : Type 0} (value : ℕ → Bytes → Option A) (items : List ℕ) (n : ℕ) (next : Part A → Bytes → Result T ℕ) → ((i x : ℕ) → slice_get items i ≡ Some x → HasLine value x) → ((values : List A) → IsByLine (n + length items) (part_reader next values (n + length items))) → IsByLine n (each_then value items n next)
+pub each_by_line : {A T : Type 0} (value : ℕ → Bytes → Option A) (items : List ℕ) (n : ℕ) (next : LinesPart A → Bytes → Result T ℕ) → ((i x : ℕ) → slice_get items i ≡ Some x → HasLine value x) → ((values : List A) → IsByLine (n + length items) (part_reader next values (n + length items))) → IsByLine n (each_then value items n next)
 each_by_line {A = A} value [] n next has by =
     let P : ℕ → Type 0 = λ k. IsByLine k (part_reader next [] (n + 0)) in
     let same : n + 0 ≡ n = omega arith in

@@ -5,22 +5,22 @@ use Rattle.std.proofs.lemmas.Bool.Decides.{Decides-eqb}
 use Rattle.std.proofs.lemmas.List.Elements.{All-nil, All-cons}
 use Rattle.std.proofs.lemmas.Slice.Eq.{bytes_eq-Decides}
 use Rattle.ilk_lines.specs.Lines.{Bytes}
-use Rattle.ilk_lines.specs.Reading.{Part, after_line, at_the_end, each_told, onto}
+use Rattle.ilk_lines.specs.Reading.{LinesPart, after_line, at_the_end, each_told, onto}
 use Rattle.ilk_lines.specs.Written.{Lacks, each_line}
 use Rattle.ilk_base.proofs.Results.{ok_is}
 use Rattle.ilk_lines.proofs.InOrder.{told_with, values_left}
 
 -- the values that are told are those of the lines, one for each item
-pub each_ok : {A : Type 0} (value : ℕ → Bytes → Option A) (items : List ℕ) (n : ℕ) (lines : List Bytes) (part : Part A) → each_told value items n lines ≡ Ok part → (part.values ≡ values_left value items lines) × (length part.values ≡ length items)
+pub each_ok : {A : Type 0} (value : ℕ → Bytes → Option A) (items : List ℕ) (n : ℕ) (lines : List Bytes) (part : LinesPart A) → each_told value items n lines ≡ Ok part → (part.values ≡ values_left value items lines) × (length part.values ≡ length items)
 each_ok {A = A} value items n lines part e = by_count (length (values_left value items lines) == length items) refl e
   where
-    whole : Part A
+    whole : LinesPart A
     whole = record { values = values_left value items lines; number = n + length items; lines = drop (length items) lines }
 
-    by_count : (b : Bool) → (length (values_left value items lines) == length items) ≡ b → cond {A = Result (Part A) ℕ} b (Ok whole) (Err (n + length (values_left value items lines))) ≡ Ok part → (part.values ≡ values_left value items lines) × (length part.values ≡ length items)
+    by_count : (b : Bool) → (length (values_left value items lines) == length items) ≡ b → cond {A = Result (LinesPart A) ℕ} b (Ok whole) (Err (n + length (values_left value items lines))) ≡ Ok part → (part.values ≡ values_left value items lines) × (length part.values ≡ length items)
     by_count true same here =
         let this : whole ≡ part = cc in
-        let values : part.values ≡ values_left value items lines = ap (λ (q : Part A). q.values) (sym this) in
+        let values : part.values ≡ values_left value items lines = ap (λ (q : LinesPart A). q.values) (sym this) in
         (values, ap length values ∙ (Decides-eqb _ _).0 same)
     by_count false same here = cc
 
@@ -73,18 +73,18 @@ each_lines {A = A} value line_of holds (x ∷ items) (line ∷ lines) all = by_v
         let fewer : length (values_left value items lines) ≡ length items = omega arith in
         ap (λ l. l ∷ lines) (holds x line v this) ∙ ap (λ ls. line_of x v ∷ ls) (rest fewer)
 
-each_rest : {A : Type 0} (value : ℕ → Bytes → Option A) (items : List ℕ) (n : ℕ) (lines : List Bytes) (part : Part A) → each_told value items n lines ≡ Ok part → part.lines ≡ drop (length items) lines
+each_rest : {A : Type 0} (value : ℕ → Bytes → Option A) (items : List ℕ) (n : ℕ) (lines : List Bytes) (part : LinesPart A) → each_told value items n lines ≡ Ok part → part.lines ≡ drop (length items) lines
 each_rest {A = A} value items n lines part e = by_count (length (values_left value items lines) == length items) e
   where
-    whole : Part A
+    whole : LinesPart A
     whole = record { values = values_left value items lines; number = n + length items; lines = drop (length items) lines }
 
-    by_count : (b : Bool) → cond {A = Result (Part A) ℕ} b (Ok whole) (Err (n + length (values_left value items lines))) ≡ Ok part → part.lines ≡ drop (length items) lines
-    by_count true here = ap (λ (q : Part A). q.lines) (sym (ok_is here))
+    by_count : (b : Bool) → cond {A = Result (LinesPart A) ℕ} b (Ok whole) (Err (n + length (values_left value items lines))) ≡ Ok part → part.lines ≡ drop (length items) lines
+    by_count true here = ap (λ (q : LinesPart A). q.lines) (sym (ok_is here))
     by_count false here = cc
 
 -- where each value's line is the one that is written for it, the lines are those that are written for the values
-pub told_lines : {A : Type 0} (value : ℕ → Bytes → Option A) (line_of : ℕ → A → Bytes) → ((x : ℕ) (line : Bytes) (v : A) → value x line ≡ Some v → line ≡ line_of x v) → (items : List ℕ) (n : ℕ) (lines : List Bytes) (part : Part A) → each_told value items n lines ≡ Ok part → lines ≡ each_line line_of items part.values ++ part.lines
+pub told_lines : {A : Type 0} (value : ℕ → Bytes → Option A) (line_of : ℕ → A → Bytes) → ((x : ℕ) (line : Bytes) (v : A) → value x line ≡ Some v → line ≡ line_of x v) → (items : List ℕ) (n : ℕ) (lines : List Bytes) (part : LinesPart A) → each_told value items n lines ≡ Ok part → lines ≡ each_line line_of items part.values ++ part.lines
 told_lines value line_of holds items n lines part e =
     let ok = each_ok value items n lines part e in
     each_lines value line_of holds items lines (ap length (sym ok.0) ∙ ok.1)

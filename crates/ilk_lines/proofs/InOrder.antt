@@ -5,7 +5,7 @@ use Rattle.std.proofs.lemmas.Grind.{common_steps}
 use Rattle.std.proofs.lemmas.List.{drop-drop, drop_more, length_push}
 use Rattle.std.proofs.lemmas.Option.{same_Some}
 use Rattle.ilk_lines.specs.Lines.{Bytes}
-use Rattle.ilk_lines.specs.Reading.{Part, each_told, leading, onto}
+use Rattle.ilk_lines.specs.Reading.{LinesPart, each_told, leading, onto}
 
 -- the value that the first of these lines tells of item x, and the lines after it
 abbrev pub one_told : {A : Type 0} → (ℕ → Bytes → Option A) → ℕ → List Bytes → Option (A × List Bytes)
@@ -45,7 +45,7 @@ at_next {A = A} value items n lines taken new x left following number next (line
         }
 
 -- what is told where these are the values
-abbrev pub told_with : {A : Type 0} → List ℕ → ℕ → List Bytes → List A → Result (Part A) ℕ
+abbrev pub told_with : {A : Type 0} → List ℕ → ℕ → List Bytes → List A → Result (LinesPart A) ℕ
 told_with items n lines values = if length values == length items then Ok (record { values = values; number = n + length items; lines = drop (length items) lines }) else Err (n + length values)
 
 nothing_left : {A : Type 0} (value : ℕ → Bytes → Option A) (x : ℕ) (following : List ℕ) (rest : List Bytes) → one_told value x rest ≡ None → values_left value (x ∷ following) rest ≡ []

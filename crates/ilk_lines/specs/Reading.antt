@@ -25,13 +25,13 @@ leading value [] = []
 leading value (item ∷ more) = onto (value item) (leading value more)
 
 -- values that lines tell, and the lines after these, of which the first has this number
-pub record Part (A : Type 0) : Type 0 where
+pub record LinesPart (A : Type 0) : Type 0 where
   pub values : List A
   pub number : ℕ
   pub lines : List Bytes
 
 -- the values of the first lines, of which the first has the number n, as far as each has one
-abbrev pub leading_part : {A : Type 0} → (Bytes → Option A) → ℕ → List Bytes → Part A
+abbrev pub leading_part : {A : Type 0} → (Bytes → Option A) → ℕ → List Bytes → LinesPart A
 leading_part value n lines = record {
   values = leading value lines;
   number = n + length (leading value lines);
@@ -40,7 +40,7 @@ leading_part value n lines = record {
 
 -- the values of as many lines as there are items, the one for each item in order; the first line
 -- that isn't its item's is bad
-abbrev pub each_told : {A : Type 0} → (ℕ → Bytes → Option A) → List ℕ → ℕ → List Bytes → Result (Part A) ℕ
+abbrev pub each_told : {A : Type 0} → (ℕ → Bytes → Option A) → List ℕ → ℕ → List Bytes → Result (LinesPart A) ℕ
 each_told value items n lines =
     let values = leading (λ pair. value pair.0 pair.1) (zip items lines) in
     if length values == length items then Ok (record { values = values; number = n + length items; lines = drop (length items) lines }) else Err (n + length values)

@@ -69,7 +69,7 @@ false-more set all (m ∷ c) w f =
     let p = and_parts (is_false set m) (is_falsified set c) f in
     and_from (is_false all m) (is_falsified all c) (w (opposite m) p.0) (false-more set all c w p.1)
 
-lone-is : (set ls : List Literal) (l : Literal) → lone_unset set ls ≡ Some l → ls ≡ l ∷ []
+pub lone-is : (set ls : List Literal) (l : Literal) → lone_unset set ls ≡ Some l → ls ≡ l ∷ []
 lone-is set [] l h = absurd (cc)
 lone-is set (m ∷ []) l h = elim (cases_Bool (has_lit m set)) [
   | inl t ↦ absurd (let z : None ≡ Some l = rw t at h in cc)

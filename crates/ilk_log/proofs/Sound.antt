@@ -10,7 +10,7 @@ use Rattle.ilk_cnf.specs.Literal.{Literal, opposite, same_lit, has_lit, vars_dif
 use Rattle.ilk_cnf.specs.Formula.{Formula, clause_in}
 use Rattle.ilk_cnf.specs.Truth.{value, is_true, some_true, satisfies}
 use Rattle.ilk_log.specs.declared.step.Step.{Step}
-use Rattle.ilk_log.specs.Propagation.{is_false, is_falsified, lone_unset, unit_of, numbered, after_hint}
+use Rattle.ilk_log.specs.Propagation.{is_false, is_falsified, lone_unset, unit_of, clause_numbered, after_hint}
 use Rattle.ilk_log.specs.Derived.{opposites, ends_false, is_derived, each_derived, is_derived_log, is_empty, ends_empty, is_refutation}
 use Rattle.ilk_cnf.proofs.SameLiterals.{lit-is}
 
@@ -69,14 +69,14 @@ lone-true a set (m ∷ []) l h t =
     elim (or_cases (is_true a m) false t) [ inl q ↦ ap (is_true a) (sym e.1) ∙ q | inr q ↦ absurd (cc) ]
 lone-true a set (m ∷ (n ∷ ls)) l h t = absurd (cc)
 
-clause-true : (a : List Bool) (clauses : List (List Literal)) (h : ℕ) (c : List Literal) → satisfies a clauses ≡ true → numbered clauses h ≡ Some c → some_true a c ≡ true
+clause-true : (a : List Bool) (clauses : List (List Literal)) (h : ℕ) (c : List Literal) → satisfies a clauses ≡ true → clause_numbered clauses h ≡ Some c → some_true a c ≡ true
 clause-true a clauses zero c s n = absurd (cc)
 clause-true a clauses (suc i) c s n = list_all-slice_get (some_true a) clauses i c s n
 
 -- what is set by a hint is true
 hint-true : (a : List Bool) (clauses : List (List Literal)) (set next : List Literal) (h : ℕ) → satisfies a clauses ≡ true → list_all (is_true a) set ≡ true → after_hint clauses set h ≡ Some next → list_all (is_true a) next ≡ true
 hint-true a clauses set next h s t e =
-    let b = bind_some (numbered clauses h) (λ (c : List Literal). unit_of set c >>= (λ (l : Literal). Some (l ∷ set))) next e in
+    let b = bind_some (clause_numbered clauses h) (λ (c : List Literal). unit_of set c >>= (λ (l : Literal). Some (l ∷ set))) next e in
     let d = bind_some (unit_of set b.0) (λ (l : Literal). Some (l ∷ set)) next b.2 in
     let l : is_true a d.0 ≡ true = lone-true a set (filter (λ m. not (is_false set m)) b.0) d.0 d.1 (open-true a set b.0 t (clause-true a clauses h b.0 s b.1)) in
     let q : d.0 ∷ set ≡ next = same_Some (d.0 ∷ set) next d.2 in
@@ -86,7 +86,7 @@ hint-true a clauses set next h s t e =
 no-end : (a : List Bool) (clauses : List (List Literal)) (set : List Literal) (hints : List ℕ) → satisfies a clauses ≡ true → list_all (is_true a) set ≡ true → ends_false clauses set hints ≡ true → ⊥
 no-end a clauses set [] s t e = absurd (cc)
 no-end a clauses set (h ∷ []) s t e =
-    let r = some-and (numbered clauses h) (is_falsified set) e in
+    let r = some-and (clause_numbered clauses h) (is_falsified set) e in
     true≢false (sym (clause-true a clauses h r.0 s r.1) ∙ falsified a set r.0 t r.2)
 no-end a clauses set (h ∷ (k ∷ hints)) s t e =
     let r = some-and (after_hint clauses set h) (λ next. ends_false clauses next (k ∷ hints)) e in

@@ -21,7 +21,7 @@ use Rattle.ilk_lines.proofs.Cuts.{parts_follow}
 use Rattle.ilk_lines.proofs.LineWords.{line-words, words_back}
 use Rattle.ilk_log.specs.declared.step.Step.{Step}
 use Rattle.ilk_log.specs.StepText.{lit_word, step_words, step_text, has_numbers}
-use Rattle.ilk_log.specs.StepReading.{count_of, lit_of, lits_of, no_words, hints_of, step_of}
+use Rattle.ilk_log.specs.StepReading.{count_of, lit_of, lits_of_words, no_words, hints_of, step_of}
 
 -- numbers
 count-written : (limit n : ℕ) (word : Bytes) → limit < 2 ^ 64 → count_of limit word ≡ Some n → (word ≡ decimal n) × (0 < n) × (n ≤ limit)
@@ -89,15 +89,15 @@ count-not-zero word n h = elim (cases_Bool (bytes_eq word (codes "0"))) [
 ]
 
 -- the literals of a line
-lits-written : (words : List Bytes) (ls : List Literal) (rest : List Bytes) → lits_of words ≡ Some (ls, rest) → (words ≡ map lit_word ls ++ (codes "0" ∷ rest)) × (clause_in (2 ^ 62) ls ≡ true)
+lits-written : (words : List Bytes) (ls : List Literal) (rest : List Bytes) → lits_of_words words ≡ Some (ls, rest) → (words ≡ map lit_word ls ++ (codes "0" ∷ rest)) × (clause_in (2 ^ 62) ls ≡ true)
 lits-written [] ls rest h = absurd (cc)
 lits-written (word ∷ words) ls rest h =
     elim (cases_Bool (bytes_eq word (codes "0"))) [
       | inl e ↦ (let q = some_pair_parts [] ls words rest (rw e at h) in
           let P : List Literal → Type 0 = λ xs. (word ∷ words ≡ map lit_word xs ++ (codes "0" ∷ rest)) × (clause_in (2 ^ 62) xs ≡ true) in
           subst P q.0 (ap (λ (w : Bytes). w ∷ words) (zero-word word e) ∙ ap (λ (ws : List Bytes). codes "0" ∷ ws) q.1, refl))
-      | inr e ↦ (let b = bind_some (lit_of word) (λ (l : Literal). lits_of words >>= (λ (r : List Literal × List Bytes). Some (l ∷ r.0, r.1))) (ls, rest) (rw e at h) in
-          let d = bind_some (lits_of words) (λ (r : List Literal × List Bytes). Some (b.0 ∷ r.0, r.1)) (ls, rest) b.2 in
+      | inr e ↦ (let b = bind_some (lit_of word) (λ (l : Literal). lits_of_words words >>= (λ (r : List Literal × List Bytes). Some (l ∷ r.0, r.1))) (ls, rest) (rw e at h) in
+          let d = bind_some (lits_of_words words) (λ (r : List Literal × List Bytes). Some (b.0 ∷ r.0, r.1)) (ls, rest) b.2 in
           let q = some_pair_parts (b.0 ∷ d.0.0) ls d.0.1 rest d.2 in
           let w = lit-written word b.0 b.1 in
           let i = lits-written words d.0.0 d.0.1 d.1 in
@@ -105,7 +105,7 @@ lits-written (word ∷ words) ls rest h =
           subst P q.0 (ap (λ (x : Bytes). x ∷ words) w.0 ∙ ap (λ (ws : List Bytes). lit_word b.0 ∷ ws) (i.0 ∙ ap (λ (ws : List Bytes). map lit_word d.0.0 ++ (codes "0" ∷ ws)) q.1), and_from (lit_in (2 ^ 62) b.0) (clause_in (2 ^ 62) d.0.0) w.1 i.1))
     ]
 
-lits-back : (ls : List Literal) (rest : List Bytes) → clause_in (2 ^ 62) ls ≡ true → lits_of (map lit_word ls ++ (codes "0" ∷ rest)) ≡ Some (ls, rest)
+lits-back : (ls : List Literal) (rest : List Bytes) → clause_in (2 ^ 62) ls ≡ true → lits_of_words (map lit_word ls ++ (codes "0" ∷ rest)) ≡ Some (ls, rest)
 lits-back [] rest h = refl
 lits-back (l ∷ ls) rest h =
     let p = and_parts (lit_in (2 ^ 62) l) (clause_in (2 ^ 62) ls) h in
@@ -151,7 +151,7 @@ step-written : (words : List Bytes) (s : Step) → step_of words ≡ Some s → 
 step-written [] s h = absurd (cc)
 step-written (word ∷ words) s h =
     elim (cases_Bool (bytes_eq word (codes "step"))) [
-      | inl e ↦ (let b = bind_some (lits_of words) (λ (r : List Literal × List Bytes). hints_of r.1 >>= (λ (hs : List ℕ). let t : Step = record { clause = r.0; hints = hs } in Some t)) s (rw e at h) in
+      | inl e ↦ (let b = bind_some (lits_of_words words) (λ (r : List Literal × List Bytes). hints_of r.1 >>= (λ (hs : List ℕ). let t : Step = record { clause = r.0; hints = hs } in Some t)) s (rw e at h) in
           let d = bind_some (hints_of b.0.1) (λ (hs : List ℕ). let t : Step = record { clause = b.0.0; hints = hs } in Some t) s b.2 in
           let l = lits-written words b.0.0 b.0.1 b.1 in
           let i = hints-written b.0.1 d.0 d.1 in
@@ -205,30 +205,30 @@ with_lits front o = option_map (λ r. (front ++ r.0, r.1)) o
 
 -- how the reading of literals goes on at the next word
 pub record AtLits (whole : List Bytes) (taken : List Literal) (left : List Bytes) : Type 0 where
-  pub is : lits_of whole ≡ with_lits taken (lits_of left)
+  pub is : lits_of_words whole ≡ with_lits taken (lits_of_words left)
 
 pub lits-start : (whole : List Bytes) → AtLits whole [] whole
-lits-start whole = record { is = sym (go (lits_of whole)) }
+lits-start whole = record { is = sym (go (lits_of_words whole)) }
   where
     go : (o : Option (List Literal × List Bytes)) → with_lits [] o ≡ o
     go None = refl
     go (Some r) = refl
 
-pub lits-end : (whole left words : List Bytes) (taken : List Literal) (word : Bytes) → AtLits whole taken left → left ≡ word ∷ words → bytes_eq word (codes "0") ≡ true → lits_of whole ≡ Some (taken, words)
+pub lits-end : (whole left words : List Bytes) (taken : List Literal) (word : Bytes) → AtLits whole taken left → left ≡ word ∷ words → bytes_eq word (codes "0") ≡ true → lits_of_words whole ≡ Some (taken, words)
 lits-end whole left words taken word a e h =
-    a.is ∙ ap (λ (ws : List Bytes). with_lits taken (lits_of ws)) e ∙ rw h (ap (λ (ls : List Literal). Some (ls, words)) (append-nil taken))
+    a.is ∙ ap (λ (ws : List Bytes). with_lits taken (lits_of_words ws)) e ∙ rw h (ap (λ (ls : List Literal). Some (ls, words)) (append-nil taken))
 
-pub lits-bad : (whole left words : List Bytes) (taken : List Literal) (word : Bytes) → AtLits whole taken left → left ≡ word ∷ words → bytes_eq word (codes "0") ≡ false → lit_of word ≡ None → lits_of whole ≡ None
+pub lits-bad : (whole left words : List Bytes) (taken : List Literal) (word : Bytes) → AtLits whole taken left → left ≡ word ∷ words → bytes_eq word (codes "0") ≡ false → lit_of word ≡ None → lits_of_words whole ≡ None
 lits-bad whole left words taken word a e h n =
-    a.is ∙ ap (λ (ws : List Bytes). with_lits taken (lits_of ws)) e ∙ rw (h, n) refl
+    a.is ∙ ap (λ (ws : List Bytes). with_lits taken (lits_of_words ws)) e ∙ rw (h, n) refl
 
-pub lits-cut : (whole left : List Bytes) (taken : List Literal) (word : Bytes) (l : Literal) → AtLits whole taken left → left ≡ word ∷ [] → bytes_eq word (codes "0") ≡ false → lit_of word ≡ Some l → lits_of whole ≡ None
+pub lits-cut : (whole left : List Bytes) (taken : List Literal) (word : Bytes) (l : Literal) → AtLits whole taken left → left ≡ word ∷ [] → bytes_eq word (codes "0") ≡ false → lit_of word ≡ Some l → lits_of_words whole ≡ None
 lits-cut whole left taken word l a e h n =
-    a.is ∙ ap (λ (ws : List Bytes). with_lits taken (lits_of ws)) e ∙ rw (h, n) refl
+    a.is ∙ ap (λ (ws : List Bytes). with_lits taken (lits_of_words ws)) e ∙ rw (h, n) refl
 
 pub lits-next : (whole left words : List Bytes) (taken : List Literal) (word : Bytes) (l : Literal) → AtLits whole taken left → left ≡ word ∷ words → bytes_eq word (codes "0") ≡ false → lit_of word ≡ Some l → AtLits whole (taken ++ l ∷ []) words
 lits-next whole left words taken word l a e h n = record {
-  is = a.is ∙ ap (λ (ws : List Bytes). with_lits taken (lits_of ws)) e ∙ rw (h, n) (go (lits_of words));
+  is = a.is ∙ ap (λ (ws : List Bytes). with_lits taken (lits_of_words ws)) e ∙ rw (h, n) (go (lits_of_words words));
 }
   where
     go : (o : Option (List Literal × List Bytes)) → with_lits taken (o >>= (λ (r : List Literal × List Bytes). Some (l ∷ r.0, r.1))) ≡ with_lits (taken ++ l ∷ []) o

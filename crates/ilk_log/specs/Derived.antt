@@ -4,7 +4,7 @@ use Rattle.ilk_base.specs.Option.{is_some_and}
 use Rattle.ilk_cnf.specs.Literal.{Literal, opposite, vars_differ}
 use Rattle.ilk_cnf.specs.Formula.{Formula, clause_in}
 use Rattle.ilk_log.specs.declared.step.Step.{Step}
-use Rattle.ilk_log.specs.Propagation.{is_falsified, numbered, after_hint}
+use Rattle.ilk_log.specs.Propagation.{is_falsified, clause_numbered, after_hint}
 
 -- the opposites of a clause's literals: where they are set, all its literals are false
 abbrev pub opposites : List Literal → List Literal
@@ -13,7 +13,7 @@ opposites c = map opposite c
 -- whether each hint but the last can be taken, and the last names a clause with all literals false
 abbrev pub ends_false : List (List Literal) → List Literal → List ℕ → Bool
 ends_false clauses set [] = false
-ends_false clauses set (h ∷ []) = is_some_and (numbered clauses h) (is_falsified set)
+ends_false clauses set (h ∷ []) = is_some_and (clause_numbered clauses h) (is_falsified set)
 ends_false clauses set (h ∷ (k ∷ hints)) = is_some_and (after_hint clauses set h) (λ next. ends_false clauses next (k ∷ hints))
 
 -- whether a step follows from the clauses over the variables 1 to n: its clause is over different of

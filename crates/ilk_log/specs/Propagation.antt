@@ -24,15 +24,15 @@ abbrev pub unit_of : List Literal → List Literal → Option Literal
 unit_of set c = lone_unset set (filter (λ l. not (is_false set l)) c)
 
 -- the clause with number h: clauses are numbered from 1
-abbrev pub numbered : List (List Literal) → ℕ → Option (List Literal)
-numbered clauses zero = None
-numbered clauses (suc i) = slice_get clauses i
+abbrev pub clause_numbered : List (List Literal) → ℕ → Option (List Literal)
+clause_numbered clauses zero = None
+clause_numbered clauses (suc i) = slice_get clauses i
 
 -- the set literals after hint h was taken: it names a clause with one literal unset and all others
 -- false, and that literal is then set
 abbrev pub after_hint : List (List Literal) → List Literal → ℕ → Option (List Literal)
 after_hint clauses set h = do
-  c ← numbered clauses h
+  c ← clause_numbered clauses h
   l ← unit_of set c
   Some (l ∷ set)
 

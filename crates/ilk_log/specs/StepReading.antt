@@ -18,12 +18,12 @@ lit_of [] = None
 lit_of (b ∷ word) = if b == 45 then option_map (λ v. record { var = v; positive = false }) (count_of (2 ^ 62) word) else option_map (λ v. record { var = v; positive = true }) (count_of (2 ^ 62) (b ∷ word))
 
 -- the literals before the word 0, and the words after it
-abbrev pub lits_of : List Bytes → Option (List Literal × List Bytes)
-lits_of [] = None
-lits_of (word ∷ words) =
+abbrev pub lits_of_words : List Bytes → Option (List Literal × List Bytes)
+lits_of_words [] = None
+lits_of_words (word ∷ words) =
     if bytes_eq word (codes "0") then Some ([], words) else (do
       l ← lit_of word
-      rest ← lits_of words
+      rest ← lits_of_words words
       Some (l ∷ rest.0, rest.1))
 
 -- whether there are no words
@@ -45,6 +45,6 @@ abbrev pub step_of : List Bytes → Option Step
 step_of [] = None
 step_of (word ∷ words) =
     if bytes_eq word (codes "step") then (do
-      lits ← lits_of words
+      lits ← lits_of_words words
       hints ← hints_of lits.1
       Some (record { clause = lits.0; hints = hints })) else None

@@ -1,7 +1,7 @@
 ghost use Rattle.std.specs.Prelude.{◌≡◌, ◌↔◌, IfOk, Some, [], option_map, IsTrue};
 ghost use Rattle.std.specs.Option.{option_map_or};
 ghost use Rattle.ilk_lines.specs.Words.{words_of};
-ghost use Rattle.ilk_log.specs.StepReading.{count_of, hints_of, lit_of, lits_of, step_of};
+ghost use Rattle.ilk_log.specs.StepReading.{count_of, hints_of, lit_of, lits_of_words, step_of};
 ghost use Rattle.ilk_log.specs.StepText.{has_numbers, step_text};
 ghost use Rattle.ilk_log.specs.declared.step.Step.{Step as StepValue};
 
@@ -37,7 +37,7 @@ fn read_lits<'a>(
     alloc: Global,
     line: &'a [u8],
 ) -> Result<Option<(Lits, Option<&'a [u8]>)>, AllocError>
-    ensures { IfOk result (λ told. option_map (λ pair. (pair.0, option_map_or (λ rest. words_of rest.now) pair.1 [])) told ≡ lits_of (words_of line.now)) }
+    ensures { IfOk result (λ told. option_map (λ pair. (pair.0, option_map_or (λ rest. words_of rest.now) pair.1 [])) told ≡ lits_of_words (words_of line.now)) }
 {
     let mut lits = Row::new(alloc);
     let mut left = line;

@@ -6,7 +6,7 @@ use Rattle.std.proofs.lemmas.List.FromFn.{length-map-range_with_len}
 use Rattle.std.proofs.lemmas.Option.{slice_get_past}
 use Rattle.ilk_plant.specs.Name.{Name}
 use Rattle.ilk_plant.specs.Network.{same_direction}
-use Rattle.ilk_plant.specs.NetworkRules.{ends_of, is_next_up, leads_by, opposite, returns, section_named, is_not_named_back, names_once as names_once_by_name, has_wrong_neighbour as names_no_other_by_name}
+use Rattle.ilk_plant.specs.NetworkRules.{ends_of, is_next_up, leads_by, opposite_direction, returns, section_named, is_not_named_back, names_once as names_once_by_name, has_wrong_neighbour as names_no_other_by_name}
 use Rattle.ilk_base.specs.Option.{is_some_and}
 use Rattle.ilk_plant.specs.declared.draft.NetDraft.{NetDraft}
 use Rattle.ilk_plant.specs.declared.draft.SectionDraft.{SectionDraft}
@@ -60,7 +60,7 @@ module _ (net : NetDraft) (all : List (List End)) (ends_are : all ≡ numbered_a
 
   pub back_here : (x : ℕ) → list_any (is_one_sided all x) (ends_by_number all x) ≡ is_not_named_back net x
   back_here x =
-      any_here (is_one_sided all x) x ∙ (λ i. list_any (λ end. is_some_and (section_named net end.name) (λ y. not (y == x) && not (once_here x y (opposite end.side) i))) (ends_of net x))
+      any_here (is_one_sided all x) x ∙ (λ i. list_any (λ end. is_some_and (section_named net end.name) (λ y. not (y == x) && not (once_here x y (opposite_direction end.side) i))) (ends_of net x))
 
   -- N7
   next_here : (x y : ℕ) → is_next all x y ≡ is_next_up net x y

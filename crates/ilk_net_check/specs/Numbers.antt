@@ -5,7 +5,7 @@ use Rattle.std.specs.List.{list_any, range_with_len}
 use Rattle.ilk_plant.specs.Draft.{names_of_boards, names_of_sections}
 use Rattle.ilk_plant.specs.Name.{Name}
 use Rattle.ilk_plant.specs.Network.{same_direction}
-use Rattle.ilk_plant.specs.NetworkRules.{ends, leads_by, opposite, section_named, End as NamedEnd}
+use Rattle.ilk_plant.specs.NetworkRules.{ends, leads_by, opposite_direction, section_named, End as NamedEnd}
 use Rattle.ilk_base.specs.Option.{is_some_and}
 use Rattle.ilk_plant.specs.declared.draft.KindDraft.{KindDraft}
 use Rattle.ilk_plant.specs.declared.network.Dir.{Dir}
@@ -60,7 +60,7 @@ is_named_once x d ends = count_by (names x) ends == 1 && list_any (λ end. names
 -- whether an end of section x names a section other than x that doesn't name x back once, on the opposite side
 abbrev pub is_one_sided : List (List End) → ℕ → End → Bool
 is_one_sided all x end =
-    is_some_and end.section (λ y. not (y == x) && not (is_named_once x (opposite end.side) (ends_by_number all y)))
+    is_some_and end.section (λ y. not (y == x) && not (is_named_once x (opposite_direction end.side) (ends_by_number all y)))
 
 -- a network in numbers has what its draft says
 pub record IsNumbered (network : Network) : Type 0 where

@@ -1,5 +1,5 @@
 ghost use Rattle.std.specs.Prelude.{◌≡◌, ◌==◌, ◌++◌, not, IfOk, OnOk, map};
-ghost use Rattle.ilk_plant.specs.NetworkRules.{end_with, opposite as opposite_of};
+ghost use Rattle.ilk_plant.specs.NetworkRules.{end_with, opposite_direction as opposite_of};
 ghost use Rattle.ilk_base.specs.Option.{is_some_and};
 ghost use Rattle.ilk_plant.specs.Plant.{first_named};
 ghost use Rattle.ilk_net_check.specs.Numbers.{numbered_end, numbered_ends, ends_by_number};

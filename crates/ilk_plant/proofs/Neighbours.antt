@@ -12,7 +12,7 @@ use Rattle.ilk_plant.specs.Draft.{names_of_boards, names_of_sections, number_of,
 use Rattle.ilk_plant.specs.Name.{Name}
 use Rattle.ilk_plant.specs.Network.{beside, has_section, same_direction}
 use Rattle.ilk_base.specs.Option.{is_some_and}
-use Rattle.ilk_plant.specs.NetworkRules.{End, ends, ends_of, has_no_neighbour, names_another, names_once, names_section, opposite, section_named, stands_alone}
+use Rattle.ilk_plant.specs.NetworkRules.{End, ends, ends_of, has_no_neighbour, names_another, names_once, names_section, opposite_direction, section_named, stands_alone}
 use Rattle.ilk_plant.specs.Once.{all_differ, none_twice}
 use Rattle.ilk_plant.specs.Plant.{first_named, next_to}
 use Rattle.ilk_plant.specs.declared.broken.Rule.TheVariants.{N3, N4, N5, N6}
@@ -118,13 +118,13 @@ next-other net table rules x d =
     cc)
 
 -- an end of the section next to x that names x
-back-end : (net : NetDraft) → KeepsNetworkRules net → (x k y : ℕ) (end : End) → slice_get (ends_of net x) k ≡ Some end → number_of (names_of_sections net.sections) end.name ≡ y → list_any (λ other. names_section net x other && same_direction other.side (opposite end.side)) (ends_of net y) ≡ true
+back-end : (net : NetDraft) → KeepsNetworkRules net → (x k y : ℕ) (end : End) → slice_get (ends_of net x) k ≡ Some end → number_of (names_of_sections net.sections) end.name ≡ y → list_any (λ other. names_section net x other && same_direction other.side (opposite_direction end.side)) (ends_of net y) ≡ true
 back-end net rules x k y end at number =
     let known = end-number net rules x k y end at number in
-    let kept = list_any-none (λ e. is_some_and (section_named net e.name) (λ z. not (z == x) && not (names_once net x (opposite e.side) (ends_of net z)))) (ends_of net x) k end (rules 4 N5 refl x (ends-within net x k end at)) at in
-    let at_y : (not (y == x) && not (names_once net x (opposite end.side) (ends_of net y))) ≡ false = rw known.0 at kept in
-    let once = by-tests (y == x) (names_once net x (opposite end.side) (ends_of net y)) known.2 at_y in
-    (and_parts (count_by (names_section net x) (ends_of net y) == 1) (list_any (λ other. names_section net x other && same_direction other.side (opposite end.side)) (ends_of net y)) once).1
+    let kept = list_any-none (λ e. is_some_and (section_named net e.name) (λ z. not (z == x) && not (names_once net x (opposite_direction e.side) (ends_of net z)))) (ends_of net x) k end (rules 4 N5 refl x (ends-within net x k end at)) at in
+    let at_y : (not (y == x) && not (names_once net x (opposite_direction end.side) (ends_of net y))) ≡ false = rw known.0 at kept in
+    let once = by-tests (y == x) (names_once net x (opposite_direction end.side) (ends_of net y)) known.2 at_y in
+    (and_parts (count_by (names_section net x) (ends_of net y) == 1) (list_any (λ other. names_section net x other && same_direction other.side (opposite_direction end.side)) (ends_of net y)) once).1
   where
     by-tests : (a b : Bool) → a ≡ false → (not a && not b) ≡ false → b ≡ true
     by-tests true b e h = cc
@@ -132,18 +132,18 @@ back-end net rules x k y end at number =
     by-tests false false e h = cc
 
 -- a section next to another in direction d has that other one next to it in the opposite direction
-pub next-back : (net : NetDraft) (table : TableDraft) → KeepsNetworkRules net → (x y : ℕ) (d : Dir) → has_section y (next_to (numbered net table) x d) ≡ true → has_section x (next_to (numbered net table) y (opposite d)) ≡ true
+pub next-back : (net : NetDraft) (table : TableDraft) → KeepsNetworkRules net → (x y : ℕ) (d : Dir) → has_section y (next_to (numbered net table) x d) ≡ true → has_section x (next_to (numbered net table) y (opposite_direction d)) ≡ true
 next-back net table rules x y d h =
     let names : List Name = names_of_sections net.sections in
     let found : (k : ℕ) × (end : End) × (slice_get (ends_of net x) k ≡ Some end) × (end_leads_to names d y end ≡ true) = next-end net table x y d h in
     let leads = and_parts (same_direction found.1.side d) (number_of names found.1.name == y) found.3 in
     let side : found.1.side ≡ d = same-dir found.1.side d leads.0 in
     let named = back-end net rules x found.0 y found.1 found.2 (eqb-true _ _ leads.1) in
-    let back : (k : ℕ) × (end : End) × (slice_get (ends_of net y) k ≡ Some end) × ((names_section net x end && same_direction end.side (opposite found.1.side)) ≡ true) = list_any-at (λ other. names_section net x other && same_direction other.side (opposite found.1.side)) (ends_of net y) named in
-    let parts = and_parts (names_section net x back.1) (same_direction back.1.side (opposite found.1.side)) back.3 in
+    let back : (k : ℕ) × (end : End) × (slice_get (ends_of net y) k ≡ Some end) × ((names_section net x end && same_direction end.side (opposite_direction found.1.side)) ≡ true) = list_any-at (λ other. names_section net x other && same_direction other.side (opposite_direction found.1.side)) (ends_of net y) named in
+    let parts = and_parts (names_section net x back.1) (same_direction back.1.side (opposite_direction found.1.side)) back.3 in
     let number = names-number net x back.1 parts.0 in
-    let turned : same_direction back.1.side (opposite d) ≡ true = ap (λ e. same_direction back.1.side (opposite e)) (sym side) ∙ parts.1 in
-    next_to-ends net table y (opposite d) x ∙ list_any-from (end_leads_to names (opposite d) x) (ends_of net y) back.0 back.1 back.2 (both_true turned (eq-eqb _ _ number))
+    let turned : same_direction back.1.side (opposite_direction d) ≡ true = ap (λ e. same_direction back.1.side (opposite_direction e)) (sym side) ∙ parts.1 in
+    next_to-ends net table y (opposite_direction d) x ∙ list_any-from (end_leads_to names (opposite_direction d) x) (ends_of net y) back.0 back.1 back.2 (both_true turned (eq-eqb _ _ number))
   where
     names-number : (net : NetDraft) (x : ℕ) (end : End) → names_section net x end ≡ true → number_of (names_of_sections net.sections) end.name ≡ x
     names-number net x end h =

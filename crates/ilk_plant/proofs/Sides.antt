@@ -7,7 +7,7 @@ use Rattle.ilk_plant.proofs.Once.{all_differ-places, none_twice-places}
 use Rattle.ilk_plant.specs.Once.{none_twice}
 use Rattle.ilk_plant.specs.Name.{Name}
 use Rattle.ilk_plant.specs.Network.{has_section}
-use Rattle.ilk_plant.specs.NetworkRules.{opposite}
+use Rattle.ilk_plant.specs.NetworkRules.{opposite_direction}
 use Rattle.ilk_plant.specs.Plant.{IsPlant, PlantLists, first_named, next_to}
 use Rattle.ilk_plant.specs.declared.network.Dir.{Dir}
 use Rattle.ilk_plant.specs.declared.network.Dir.TheVariants.{Up, Down}
@@ -26,12 +26,12 @@ once-apart xs ys x once first second =
     absurd (omega (arith, within, places))
 
 -- a section next to another has that one next to it on the opposite side
-pub back-opposite : (p : PlantLists) → IsPlant p → (x y : ℕ) (d : Dir) → has_section y (next_to p x d) ≡ true → has_section x (next_to p y (opposite d)) ≡ true
+pub back-opposite : (p : PlantLists) → IsPlant p → (x y : ℕ) (d : Dir) → has_section y (next_to p x d) ≡ true → has_section x (next_to p y (opposite_direction d)) ≡ true
 back-opposite p plant x y Up h = (plant.neighbours_back x y).0 h
 back-opposite p plant x y Down h = (plant.neighbours_back y x).1 h
 
 -- a section next to another on one side isn't next to it on the other
-pub one-side : (p : PlantLists) → IsPlant p → (x y : ℕ) (d : Dir) → has_section y (next_to p x d) ≡ true → has_section y (next_to p x (opposite d)) ≡ false
+pub one-side : (p : PlantLists) → IsPlant p → (x y : ℕ) (d : Dir) → has_section y (next_to p x d) ≡ true → has_section y (next_to p x (opposite_direction d)) ≡ false
 one-side p plant x y Up h =
     not-true (has_section y (next_to p x Down)) (λ also. once-apart (next_to p x Down) (next_to p x Up) y (plant.neighbours_once x) also h)
 one-side p plant x y Down h =

@@ -25,9 +25,9 @@ abbrev pub has_neighbour_if_board : Option Name → Option Name → Bool
 has_neighbour_if_board None board = is_none board
 has_neighbour_if_board (Some neighbour) board = true
 
-abbrev pub opposite : Dir → Dir
-opposite Up = Down
-opposite Down = Up
+abbrev pub opposite_direction : Dir → Dir
+opposite_direction Up = Down
+opposite_direction Down = Up
 
 -- an end of a section at which a neighbour is given: its side, and the name of the neighbour
 pub record End : Type 0 where
@@ -43,7 +43,7 @@ end_with side (Some name) = record { side = side; name = name } ∷ []
 abbrev pub ends : KindDraft → List End
 ends (LinearDraft down up board_down board_up) = end_with Down down ++ end_with Up up
 ends (PointDraft stem plus minus faces) =
-    record { side = opposite faces; name = stem } ∷ record { side = faces; name = plus } ∷ record { side = faces; name = minus } ∷ []
+    record { side = opposite_direction faces; name = stem } ∷ record { side = faces; name = plus } ∷ record { side = faces; name = minus } ∷ []
 
 -- the ends of section x; none where x is no section
 abbrev pub ends_of : NetDraft → ℕ → List End
@@ -81,7 +81,7 @@ names_once net x d ends =
 -- whether an end of section x names another section, which doesn't name x at exactly one of its ends, on the opposite side
 abbrev pub is_one_way : NetDraft → ℕ → End → Bool
 is_one_way net x end =
-    is_some_and (section_named net end.name) (λ y. not (y == x) && not (names_once net x (opposite end.side) (ends_of net y)))
+    is_some_and (section_named net end.name) (λ y. not (y == x) && not (names_once net x (opposite_direction end.side) (ends_of net y)))
 
 -- N5: a neighbour of section x, other than x, doesn't name x at exactly one of its ends, on the opposite side
 abbrev pub is_not_named_back : NetDraft → ℕ → Bool

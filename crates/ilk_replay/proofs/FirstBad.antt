@@ -18,7 +18,7 @@ use Rattle.ilk_model.specs.declared.event.Event.{Event}
 use Rattle.ilk_replay.specs.EventLine.{event_of}
 use Rattle.ilk_replay.specs.FirstBad.{BeginsSome, IsFirstBad}
 use Rattle.ilk_lines.specs.Lines.{Bytes, after_lines, lines_of}
-use Rattle.ilk_lines.specs.Reading.{Part, after_line, at_the_end, each_told, leading_part, numbers_of}
+use Rattle.ilk_lines.specs.Reading.{LinesPart, after_line, at_the_end, each_told, leading_part, numbers_of}
 use Rattle.ilk_lines.proofs.ByLine.{FailsAt, Fills, HasLine, IsByLine, Reader, after_by_line, each_by_line, each_then, fails_first, fails_next, leading_by_line, leading_then}
 use Rattle.ilk_base.proofs.Results.{bind-assoc, err_is, ok_no_err}
 use Rattle.ilk_base.proofs.Lists.{item_at}
@@ -74,17 +74,17 @@ abbrev with_events : PlantLists → Bytes → Beginning → Result Told ℕ
 with_events p bytes b = events_told p b.number b.lines bytes >>= run_of b.first b.from_start
 
 -- the parts of a state, from the last on
-abbrev trains_read : PlantLists → List RouteState → List PointState → List Aspect → Part Hold → Bytes → Result Told ℕ
+abbrev trains_read : PlantLists → List RouteState → List PointState → List Aspect → LinesPart Hold → Bytes → Result Told ℕ
 trains_read p routes points boards locks bytes =
     leading_then (train_told p) (codes "events") locks.number (λ trains. events_read p (record { routes = routes; points = points; boards = boards; locks = locks.values; trains = trains }) false) locks.lines bytes
 
-abbrev locks_read : PlantLists → List RouteState → List PointState → Part Aspect → Bytes → Result Told ℕ
+abbrev locks_read : PlantLists → List RouteState → List PointState → LinesPart Aspect → Bytes → Result Told ℕ
 locks_read p routes points boards bytes = each_then (lock_told p) (numbers_of p.sections) boards.number (trains_read p routes points boards.values) boards.lines bytes
 
-abbrev boards_read : PlantLists → List RouteState → Part PointState → Bytes → Result Told ℕ
+abbrev boards_read : PlantLists → List RouteState → LinesPart PointState → Bytes → Result Told ℕ
 boards_read p routes points bytes = each_then (board_told p) (numbers_of p.boards) points.number (locks_read p routes points.values) points.lines bytes
 
-abbrev points_read : PlantLists → Part RouteState → Bytes → Result Told ℕ
+abbrev points_read : PlantLists → LinesPart RouteState → Bytes → Result Told ℕ
 points_read p routes bytes = each_then (point_told p) (point_sections p) routes.number (boards_read p routes.values) routes.lines bytes
 
 abbrev state_read : PlantLists → Reader Told
@@ -96,7 +96,7 @@ state_parts p lines bytes =
     bind-assoc (each_told (route_told p) (numbers_of p.routes) 3 lines) _ (with_events p bytes)
     ∙ (λ i. each_told (route_told p) (numbers_of p.routes) 3 lines >>= (λ routes. points_part routes i))
   where
-    trains_part : (routes : List RouteState) (points : List PointState) (boards : List Aspect) (locks : Part Hold) → ((do
+    trains_part : (routes : List RouteState) (points : List PointState) (boards : List Aspect) (locks : LinesPart Hold) → ((do
       trains ← Ok (leading_part (train_told p) locks.number locks.lines)
       more ← after_line (codes "events") trains.number trains.lines
       Ok (made routes points boards locks.values trains.values (trains.number + 1) more)) >>= with_events p bytes) ≡ trains_read p routes points boards locks bytes
@@ -104,7 +104,7 @@ state_parts p lines bytes =
         let trains = leading_part (train_told p) locks.number locks.lines in
         bind-assoc (after_line (codes "events") trains.number trains.lines) (λ more. Ok (made routes points boards locks.values trains.values (trains.number + 1) more)) (with_events p bytes)
 
-    locks_part : (routes : List RouteState) (points : List PointState) (boards : Part Aspect) → ((do
+    locks_part : (routes : List RouteState) (points : List PointState) (boards : LinesPart Aspect) → ((do
       locks ← each_told (lock_told p) (numbers_of p.sections) boards.number boards.lines
       trains ← Ok (leading_part (train_told p) locks.number locks.lines)
       more ← after_line (codes "events") trains.number trains.lines
@@ -113,7 +113,7 @@ state_parts p lines bytes =
         bind-assoc (each_told (lock_told p) (numbers_of p.sections) boards.number boards.lines) _ (with_events p bytes)
         ∙ (λ i. each_told (lock_told p) (numbers_of p.sections) boards.number boards.lines >>= (λ locks. trains_part routes points boards.values locks i))
 
-    boards_part : (routes : List RouteState) (points : Part PointState) → ((do
+    boards_part : (routes : List RouteState) (points : LinesPart PointState) → ((do
       boards ← each_told (board_told p) (numbers_of p.boards) points.number points.lines
       locks ← each_told (lock_told p) (numbers_of p.sections) boards.number boards.lines
       trains ← Ok (leading_part (train_told p) locks.number locks.lines)
@@ -123,7 +123,7 @@ state_parts p lines bytes =
         bind-assoc (each_told (board_told p) (numbers_of p.boards) points.number points.lines) _ (with_events p bytes)
         ∙ (λ i. each_told (board_told p) (numbers_of p.boards) points.number points.lines >>= (λ boards. locks_part routes points.values boards i))
 
-    points_part : (routes : Part RouteState) → ((do
+    points_part : (routes : LinesPart RouteState) → ((do
       points ← each_told (point_told p) (point_sections p) routes.number routes.lines
       boards ← each_told (board_told p) (numbers_of p.boards) points.number points.lines
       locks ← each_told (lock_told p) (numbers_of p.sections) boards.number boards.lines

@@ -1,7 +1,7 @@
 -- The text of a run that begins in a state tells that run.
 use Rattle.std.proofs.Common.{◌≡◌, ℕ, ◌+◌, ◌<◌, ◌^◌, true, false, All, Some, Result, Ok, List, [], ◌∷◌, ◌++◌, codes, drop, flat_map, get_or, length, map, slice_get, refl, sym, ap, ◌∙◌, arith, append_assoc}
 use Rattle.ilk_lines.specs.Lines.{Bytes, after_lines}
-use Rattle.ilk_lines.specs.Reading.{Part, after_line, each_told, leading_part, numbers_of}
+use Rattle.ilk_lines.specs.Reading.{LinesPart, after_line, each_told, leading_part, numbers_of}
 use Rattle.ilk_lines.specs.Written.{Lacks, each_line, spaced, text_of}
 use Rattle.ilk_lines.proofs.Decimals.{decimal_lacks}
 use Rattle.ilk_lines.proofs.EachTold.{each_back, each_plain}
@@ -52,19 +52,19 @@ routes_hold p plant s shape i x v at here =
     route_back p plant x route.0 v route.1 place.1 (shape.counts x route.0 v route.1 there)
 
 -- what is told after each part of a state
-abbrev with_locks : PlantLists → List RouteState → List PointState → List Aspect → Part Hold → Result Beginning ℕ
+abbrev with_locks : PlantLists → List RouteState → List PointState → List Aspect → LinesPart Hold → Result Beginning ℕ
 with_locks p routes points boards locks = do
   trains ← Ok (leading_part (train_told p) locks.number locks.lines)
   more ← after_line (codes "events") trains.number trains.lines
   Ok (made routes points boards locks.values trains.values (trains.number + 1) more)
 
-abbrev with_boards : PlantLists → List RouteState → List PointState → Part Aspect → Result Beginning ℕ
+abbrev with_boards : PlantLists → List RouteState → List PointState → LinesPart Aspect → Result Beginning ℕ
 with_boards p routes points boards = each_told (lock_told p) (numbers_of p.sections) boards.number boards.lines >>= with_locks p routes points boards.values
 
-abbrev with_points : PlantLists → List RouteState → Part PointState → Result Beginning ℕ
+abbrev with_points : PlantLists → List RouteState → LinesPart PointState → Result Beginning ℕ
 with_points p routes points = each_told (board_told p) (numbers_of p.boards) points.number points.lines >>= with_boards p routes points.values
 
-abbrev with_routes : PlantLists → Part RouteState → Result Beginning ℕ
+abbrev with_routes : PlantLists → LinesPart RouteState → Result Beginning ℕ
 with_routes p routes = each_told (point_told p) (point_sections p) routes.number routes.lines >>= with_points p routes.values
 
 -- the number of the line after those of a state's routes, points, boards, sections and trains
@@ -85,13 +85,13 @@ state_back p plant plain s shape rest =
     let n3 : ℕ = n2 + length (numbers_of p.boards) in
     let n4 : ℕ = n3 + length (numbers_of p.sections) in
     ap (state_told p) (sym (regroup routes points boards locks trains last))
-    ∙ ap (λ (z : Result (Part RouteState) ℕ). z >>= with_routes p) (each_back (route_told p) (route_line p) (numbers_of p.routes) s.routes 3 (points ++ (boards ++ (locks ++ (trains ++ last))))
+    ∙ ap (λ (z : Result (LinesPart RouteState) ℕ). z >>= with_routes p) (each_back (route_told p) (route_line p) (numbers_of p.routes) s.routes 3 (points ++ (boards ++ (locks ++ (trains ++ last))))
     (shape.routes ∙ sym (length-range_with_len 0 (length p.routes))) (routes_hold p plant s shape))
-    ∙ ap (λ (z : Result (Part PointState) ℕ). z >>= with_points p s.routes) (each_back (point_told p) (point_line p) (point_sections p) s.points n1 (boards ++ (locks ++ (trains ++ last)))
+    ∙ ap (λ (z : Result (LinesPart PointState) ℕ). z >>= with_points p s.routes) (each_back (point_told p) (point_line p) (point_sections p) s.points n1 (boards ++ (locks ++ (trains ++ last)))
     (shape.points ∙ sym (point_sections-length p)) (λ i x v at here. point_back p plant x v (point_within p i x at)))
-    ∙ ap (λ (z : Result (Part Aspect) ℕ). z >>= with_boards p s.routes s.points) (each_back (board_told p) (board_line p) (numbers_of p.boards) s.boards n2 (locks ++ (trains ++ last))
+    ∙ ap (λ (z : Result (LinesPart Aspect) ℕ). z >>= with_boards p s.routes s.points) (each_back (board_told p) (board_line p) (numbers_of p.boards) s.boards n2 (locks ++ (trains ++ last))
     (shape.boards ∙ sym (length-range_with_len 0 (length p.boards))) (λ i x v at here. board_back p plant x v ((range_within (length p.boards) i x at).1)))
-    ∙ ap (λ (z : Result (Part Hold) ℕ). z >>= with_locks p s.routes s.points s.boards) (each_back (lock_told p) (section_line p) (numbers_of p.sections) s.locks n3 (trains ++ last)
+    ∙ ap (λ (z : Result (LinesPart Hold) ℕ). z >>= with_locks p s.routes s.points s.boards) (each_back (lock_told p) (section_line p) (numbers_of p.sections) s.locks n3 (trains ++ last)
     (shape.locks ∙ sym (length-range_with_len 0 (length p.sections))) (λ i x v at here. lock_back p plant x v ((range_within (length p.sections) i x at).1)))
     ∙ ap (λ (ts : List Train). after_line (codes "events") (n4 + length ts) (drop (length ts) (trains ++ last)) >>= (λ more. Ok (made s.routes s.points s.boards s.locks ts (n4 + length ts + 1) more))) (leading_back (train_told p) (train_line p) s.trains (codes "events") rest (λ k d within. train_back p plant plain (get_or s.trains k d) (All-tested (is_body p) (λ t. is_body p t ≡ true) (λ t passes. passes) s.trains shape.bodies k d within)) refl)
     ∙ ap (λ (ls : List Bytes). after_line (codes "events") (n4 + length s.trains) ls >>= (λ more. Ok (made s.routes s.points s.boards s.locks s.trains (n4 + length s.trains + 1) more))) (drop-mapped (train_line p) s.trains last)

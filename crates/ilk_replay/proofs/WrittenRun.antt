@@ -3,7 +3,7 @@ use Rattle.std.proofs.Common.{◌≡◌, ℕ, ◌+◌, ◌<◌, ◌^◌, Bool, t
 use Rattle.std.proofs.lemmas.Option.{cond_some, same_Some}
 use Rattle.ilk_lines.specs.Decimal.{decimal_up_to}
 use Rattle.ilk_lines.specs.Lines.{Bytes, after_lines, lines_of}
-use Rattle.ilk_lines.specs.Reading.{Part, after_line, at_the_end, each_told, leading, numbers_of}
+use Rattle.ilk_lines.specs.Reading.{LinesPart, after_line, at_the_end, each_told, leading, numbers_of}
 use Rattle.ilk_lines.specs.Words.{after_word, first_word, words_of}
 use Rattle.ilk_lines.specs.Written.{each_line, spaced, text_of}
 use Rattle.ilk_lines.proofs.Decimals.{decimal-written}
@@ -139,7 +139,7 @@ made routes points boards locks trains number lines = record {
   lines = lines;
 }
 
-last_part : (p : PlantLists) → IsPlant p → (lines : List Bytes) (b : Beginning) (r : Part RouteState) (q : Part PointState) (m : Part Aspect) (k : Part Hold)
+last_part : (p : PlantLists) → IsPlant p → (lines : List Bytes) (b : Beginning) (r : LinesPart RouteState) (q : LinesPart PointState) (m : LinesPart Aspect) (k : LinesPart Hold)
     → each_told (route_told p) (numbers_of p.routes) 3 lines ≡ Ok r → each_told (point_told p) (point_sections p) r.number r.lines ≡ Ok q
     → each_told (board_told p) (numbers_of p.boards) q.number q.lines ≡ Ok m → each_told (lock_told p) (numbers_of p.sections) m.number m.lines ≡ Ok k
     → (trains : List Train) → trains ≡ leading (train_told p) k.lines

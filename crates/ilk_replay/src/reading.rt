@@ -1,5 +1,5 @@
 ghost use Rattle.std.specs.Prelude.{◌≡◌, IfOk, OnOk};
-ghost use Rattle.ilk_lines.specs.Answers.{Tells, part_of};
+ghost use Rattle.ilk_lines.specs.Answers.{AnswersAsTold, part_of};
 ghost use Rattle.ilk_lines.specs.Lines.{after_lines, lines_of};
 ghost use Rattle.ilk_lines.specs.Reading.{leading_part};
 ghost use Rattle.ilk_plant.specs.Shape.{HasShape};
@@ -30,7 +30,7 @@ fn read_event_lines(
 
 // The events of the lines that are left: a line for each event, the line `end`, and nothing more.
 fn read_events(alloc: Global, plant: &Plant, lines: &mut Lines) -> Result<Row<Event>, LineFault>
-    ensures { Tells (events_told plant.now lines.old.number lines.old.lines lines.old.after) result }
+    ensures { AnswersAsTold (events_told plant.now lines.old.number lines.old.lines lines.old.after) result }
 {
     let events = read_event_lines(alloc, plant, lines)?;
     lines.pass(b"end")?;
@@ -63,7 +63,7 @@ fn read_beginning(
 
 // The run that a text tells.
 fn read_told(alloc: Global, plant: &Plant, text: &[u8]) -> Result<Told, LineFault>
-    ensures told { Tells (told plant.now (lines_of text.now) (after_lines text.now)) result }
+    ensures told { AnswersAsTold (told plant.now (lines_of text.now) (after_lines text.now)) result }
     ensures shape { IfOk result (λ told. HasShape plant.now told.first) }
 {
     let mut lines = Lines::of(text);

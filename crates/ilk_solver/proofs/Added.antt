@@ -14,12 +14,12 @@ use Rattle.ilk_clauses.specs.Reasons.{HasReasons}
 use Rattle.ilk_clauses.proofs.Forced.{reasons-grown}
 use Rattle.ilk_solver.specs.Levels.{LevelsClosed}
 use Rattle.ilk_solver.specs.View.{ViewLists, weight_of}
-use Rattle.ilk_solver.specs.Held.{Holds}
+use Rattle.ilk_solver.specs.Held.{HoldsSearch}
 use Rattle.ilk_solver.proofs.ClosedLevels.{closed-added}
 use Rattle.ilk_solver.proofs.Searches.{known-closed, known-reasons}
 use Rattle.ilk_solver.proofs.Weights.{count_by-push, step_clauses-push}
 
-pub held-added : (cs : Formula) (given : ℕ) (log : List Step) (view new : ViewLists) (s : Step) → Holds cs given log view → LevelsClosed (s.clause ∷ []) view.trail.entries → new.trail ≡ view.trail → ((v : ℕ) → 0 < v → weight_of new v ≡ weight_of view v + cond (has_var v s.clause) 1 0) → Holds (grown cs cs.vars (s.clause ∷ [])) given (log ++ s ∷ []) new
+pub held-added : (cs : Formula) (given : ℕ) (log : List Step) (view new : ViewLists) (s : Step) → HoldsSearch cs given log view → LevelsClosed (s.clause ∷ []) view.trail.entries → new.trail ≡ view.trail → ((v : ℕ) → 0 < v → weight_of new v ≡ weight_of view v + cond (has_var v s.clause) 1 0) → HoldsSearch (grown cs cs.vars (s.clause ∷ [])) given (log ++ s ∷ []) new
 held-added cs given log view new s h apart same counts =
     let c = s.clause in
     let front : take given (cs.clauses ++ c ∷ []) ≡ take given cs.clauses = take-append-le given cs.clauses (c ∷ []) h.first in
@@ -45,7 +45,7 @@ held-added cs given log view new s h apart same counts =
     }
 
 -- a weight is at most the number of the clauses
-pub weight-fits : (cs : Formula) (given : ℕ) (log : List Step) (view : ViewLists) (room : ℕ) → Holds cs given log view → length view.weights ≡ view.trail.vars → length cs.clauses + 1 < room → (i : ℕ) → get_or view.weights i 0 + 1 < room
+pub weight-fits : (cs : Formula) (given : ℕ) (log : List Step) (view : ViewLists) (room : ℕ) → HoldsSearch cs given log view → length view.weights ≡ view.trail.vars → length cs.clauses + 1 < room → (i : ℕ) → get_or view.weights i 0 + 1 < room
 weight-fits cs given log view room h long few i = elim (below_or_past i (length view.weights)) [
   | inl b ↦ (let back : i + 1 - 1 ≡ i = omega arith in
       let known = h.search.weighed (i + 1) (and_from _ _ (lt-ltb 0 (i + 1) (omega arith)) (le-leb (i + 1) view.trail.vars (omega (arith, long, b)))) in

@@ -13,7 +13,7 @@ use Rattle.ilk_cnf.specs.Literal.{Literal}
 use Rattle.ilk_log.specs.Propagation.{is_closed, is_falsified, unit_of}
 use Rattle.ilk_trail.specs.declared.entry.Entry.{Entry}
 use Rattle.ilk_trail.specs.Trail.{decided, level_of, up_to}
-use Rattle.ilk_trail.specs.Laws.{climbs, is_next, lits_of}
+use Rattle.ilk_trail.specs.Laws.{climbs, is_level_next, lits_of}
 use Rattle.ilk_trail.proofs.Levels.{last_level-push, next-level, up_to-above, up_to-all}
 use Rattle.ilk_clauses.specs.Reasons.{HasReasons, is_reason}
 use Rattle.ilk_clauses.proofs.Forced.{reasons-front, reasons-push}
@@ -91,7 +91,7 @@ above_level k es = filter (λ e. not (nat_le e.level k)) es
 all-above : (j k : ℕ) (es : List Entry) → climbs j es ≡ true → k < j → (up_to k es ≡ []) × (above_level k es ≡ es)
 all-above j k [] c h = (refl, refl)
 all-above j k (x ∷ es) c h =
-    let p = and_parts (is_next j x) (climbs x.level es) c in
+    let p = and_parts (is_level_next j x) (climbs x.level es) c in
     let n = next-level j x p.0 in
     let high : nat_le x.level k ≡ false = grind (arith, nat_tests) in
     let r = all-above x.level k es p.1 (omega (arith, n.0, h)) in
@@ -100,7 +100,7 @@ all-above j k (x ∷ es) c h =
 pub up_to-front : (j k : ℕ) (es : List Entry) → climbs j es ≡ true → up_to k es ++ above_level k es ≡ es
 up_to-front j k [] c = refl
 up_to-front j k (x ∷ es) c =
-    let p = and_parts (is_next j x) (climbs x.level es) c in
+    let p = and_parts (is_level_next j x) (climbs x.level es) c in
     elim (cases_Bool (nat_le x.level k)) [
       | inl t ↦ rw t (ap (λ ys. x ∷ ys) (up_to-front x.level k es p.1))
       | inr t ↦ (let high : k < x.level = grind (arith, nat_tests) in

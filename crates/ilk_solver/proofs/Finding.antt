@@ -13,7 +13,7 @@ use Rattle.ilk_cnf.specs.Formula.{Formula, IsFormula, lit_in}
 use Rattle.ilk_log.specs.Fresh.{others}
 use Rattle.ilk_log.specs.Propagation.{is_closed, is_false, is_falsified, lone_unset, unit_of}
 use Rattle.ilk_trail.specs.declared.entry.Entry.{Entry}
-use Rattle.ilk_trail.specs.Trail.{value_of}
+use Rattle.ilk_trail.specs.Trail.{value_of_literal}
 use Rattle.ilk_trail.specs.Laws.{is_set, lits_of}
 use Rattle.ilk_clauses.specs.Reasons.{clause_at, is_conflict, is_reason}
 use Rattle.ilk_clauses.proofs.Forced.{unit-forces}
@@ -95,7 +95,7 @@ unit-unset es c l d u =
     let set = lits_of es in
     let lone = lone-open set (filter (λ m. not (is_false set m)) c) l u in
     let t = value-tells es l d in
-    value-none es l (no-value (value_of es l) (sym t.stands ∙ lone.0) (sym t.denied ∙ left-open set c l lone.1))
+    value-none es l (no-value (value_of_literal es l) (sym t.stands ∙ lone.0) (sym t.denied ∙ left-open set c l lone.1))
 
 pub forced-is : (f : Formula) (es : List Entry) (c : ℕ) (l : Literal) → IsFormula f → vars_differ (lits_of es) ≡ true → c < length f.clauses → look_of (lits_of es) (clause_at f.clauses c) ≡ Unit l → (is_reason f.clauses (lits_of es) l c ≡ true) × ((lit_in f.vars (plus l.var) && not (is_set es l.var)) ≡ true)
 forced-is f es c l k d w h =

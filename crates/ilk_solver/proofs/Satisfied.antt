@@ -11,7 +11,7 @@ use Rattle.ilk_cnf.specs.Formula.{clause_in, clauses_in, lit_in}
 use Rattle.ilk_cnf.specs.Truth.{is_true, some_true, satisfies, value}
 use Rattle.ilk_log.specs.Propagation.{is_closed, is_false, is_falsified, unit_of}
 use Rattle.ilk_trail.specs.declared.entry.Entry.{Entry}
-use Rattle.ilk_trail.specs.Trail.{value_of}
+use Rattle.ilk_trail.specs.Trail.{value_of_literal}
 use Rattle.ilk_trail.specs.Laws.{lits_of}
 use Rattle.ilk_trail.proofs.Literals.{lit_in-parts}
 use Rattle.ilk_clauses.proofs.Values.{value-none, value-tells}
@@ -19,7 +19,7 @@ use Rattle.ilk_solver.specs.View.{ViewLists}
 use Rattle.ilk_solver.specs.Assigned.{assignment_of, AllSet}
 
 -- the value of a variable whose literal is true
-value-plus : (es : List Entry) (l : Literal) → value_of es l ≡ Some true → value_of es (plus l.var) ≡ Some l.positive
+value-plus : (es : List Entry) (l : Literal) → value_of_literal es l ≡ Some true → value_of_literal es (plus l.var) ≡ Some l.positive
 value-plus [] l h = absurd (cc)
 value-plus (x ∷ es) l h =
     elim (eqb_tells x.lit.var l.var) [
@@ -35,14 +35,14 @@ value-plus (x ∷ es) l h =
     sign false true h = absurd (cc)
     sign false false h = refl
 
-assigned-at : (view : ViewLists) (v : ℕ) (b : Bool) → 0 < v → v ≤ view.trail.vars → value_of view.trail.entries (plus v) ≡ Some b → value (assignment_of view) v ≡ b
+assigned-at : (view : ViewLists) (v : ℕ) (b : Bool) → 0 < v → v ≤ view.trail.vars → value_of_literal view.trail.entries (plus v) ≡ Some b → value (assignment_of view) v ≡ b
 assigned-at view zero b h k e = absurd (omega arith)
 assigned-at view (suc i) b h k e =
-    let f : ℕ → Bool = λ v. unwrap_or (value_of view.trail.entries (plus (v + 1))) false in
+    let f : ℕ → Bool = λ v. unwrap_or (value_of_literal view.trail.entries (plus (v + 1))) false in
     let next : i + 1 ≡ suc i = omega arith in
-    get_or-map-range_with_len f 0 view.trail.vars i i false (omega arith) (omega arith) ∙ ap (λ (j : ℕ). unwrap_or (value_of view.trail.entries (plus j)) false) next ∙ ap (λ (o : Option Bool). unwrap_or o false) e
+    get_or-map-range_with_len f 0 view.trail.vars i i false (omega arith) (omega arith) ∙ ap (λ (j : ℕ). unwrap_or (value_of_literal view.trail.entries (plus j)) false) next ∙ ap (λ (o : Option Bool). unwrap_or o false) e
 
-true-literal : (view : ViewLists) (l : Literal) → lit_in view.trail.vars l ≡ true → value_of view.trail.entries l ≡ Some true → is_true (assignment_of view) l ≡ true
+true-literal : (view : ViewLists) (l : Literal) → lit_in view.trail.vars l ≡ true → value_of_literal view.trail.entries l ≡ Some true → is_true (assignment_of view) l ≡ true
 true-literal view l h e =
     let p = lit_in-parts view.trail.vars l h in
     let v = assigned-at view l.var l.positive p.0 p.1 (value-plus view.trail.entries l e) in
@@ -66,7 +66,7 @@ true-clause view (l ∷ c) d s h f =
     let within = lit_in-parts view.trail.vars l p.0 in
     elim (cases_Bool (is_false (lits_of es) l)) [
       | inl a ↦ or_right (is_true (assignment_of view) l) (some_true (assignment_of view) c) (true-clause view c d s p.1 (rw a at f))
-      | inr a ↦ or_left (is_true (assignment_of view) l) (some_true (assignment_of view) c) (true-literal view l p.0 (not-false (value_of es l) (λ n. true≢false (sym (s l.var within.0 within.1) ∙ value-none es l n)) (sym t.denied ∙ a)))
+      | inr a ↦ or_left (is_true (assignment_of view) l) (some_true (assignment_of view) c) (true-literal view l p.0 (not-false (value_of_literal es l) (λ n. true≢false (sym (s l.var within.0 within.1) ∙ value-none es l n)) (sym t.denied ∙ a)))
     ]
 
 pub satisfied : (view : ViewLists) (cs : List (List Literal)) → vars_differ (lits_of view.trail.entries) ≡ true → AllSet view → clauses_in view.trail.vars cs ≡ true → is_closed cs (lits_of view.trail.entries) ≡ true → satisfies (assignment_of view) cs ≡ true

@@ -8,7 +8,7 @@ use Rattle.ilk_base.proofs.Lists.{drop_at}
 use Rattle.ilk_cnf.specs.Literal.{Literal, has_lit, vars_differ}
 use Rattle.ilk_log.specs.Propagation.{is_false, is_falsified, lone_unset}
 use Rattle.ilk_trail.specs.declared.entry.Entry.{Entry}
-use Rattle.ilk_trail.specs.Trail.{value_of}
+use Rattle.ilk_trail.specs.Trail.{value_of_literal}
 use Rattle.ilk_trail.specs.Laws.{lits_of}
 use Rattle.ilk_clauses.proofs.Values.{value-tells}
 use Rattle.ilk_solver.specs.Look.{look_of}
@@ -27,9 +27,9 @@ after_literal first l (Some b) next = cond b Open (next first)
 -- what the rest of a clause tells, after the one open literal before it
 abbrev pub scan : List Entry → Option Literal → List Literal → Look
 scan es first [] = option_map_or Unit first Conflict
-scan es first (l ∷ ls) = after_literal first l (value_of es l) (λ next. scan es next ls)
+scan es first (l ∷ ls) = after_literal first l (value_of_literal es l) (λ next. scan es next ls)
 
-pub scan-next : (es : List Entry) (first : Option Literal) (clause : List Literal) (i : ℕ) (l : Literal) → slice_get clause i ≡ Some l → scan es first (drop i clause) ≡ after_literal first l (value_of es l) (λ next. scan es next (drop (i + 1) clause))
+pub scan-next : (es : List Entry) (first : Option Literal) (clause : List Literal) (i : ℕ) (l : Literal) → slice_get clause i ≡ Some l → scan es first (drop i clause) ≡ after_literal first l (value_of_literal es l) (λ next. scan es next (drop (i + 1) clause))
 scan-next es first clause i l e =
     ap (scan es first) (drop_at clause i l (slice_get_within clause i l e) (sym (get_or_from_slice_get clause i l l e)))
 
@@ -49,7 +49,7 @@ unfolding meaning
 scan-one es k [] d u = rw u refl
 scan-one es k (l ∷ c) d u =
     let t = value-tells es l d in
-    elim (value_cases (value_of es l)) [
+    elim (value_cases (value_of_literal es l)) [
       | inl v ↦ (let f : is_false (lits_of es) l ≡ false = rw v at t.denied in rw (v, f) refl)
       | inr w ↦ elim w [
         | inl v ↦ (let f : is_false (lits_of es) l ≡ true = rw v at t.denied in rw (v, f) (scan-one es k c d u))
@@ -67,7 +67,7 @@ unfolding meaning
 scan-none es [] d = refl
 scan-none es (l ∷ c) d =
     let t = value-tells es l d in
-    elim (value_cases (value_of es l)) [
+    elim (value_cases (value_of_literal es l)) [
       | inl v ↦ (let f : is_false (lits_of es) l ≡ false = rw v at t.denied in
           let h : has_lit l (lits_of es) ≡ true = rw v at t.stands in
           rw (v, f) (sym (open-first (lits_of es) l (filter (λ m. not (is_false (lits_of es) m)) c) h)))
@@ -103,17 +103,17 @@ scan-is es c d =
     scan-none es c d ∙ meaning-is set left ∙ ap (λ (b : Bool). cond b Conflict (option_map_or Unit (lone_unset set left) Open)) (sym (falsified-is set c))
 
 -- the next literal is true; or false; or has no value, after another that has none or as the first
-pub scan-true : (es : List Entry) (first : Option Literal) (clause : List Literal) (i : ℕ) (l : Literal) → slice_get clause i ≡ Some l → value_of es l ≡ Some true → scan es first (drop i clause) ≡ Open
+pub scan-true : (es : List Entry) (first : Option Literal) (clause : List Literal) (i : ℕ) (l : Literal) → slice_get clause i ≡ Some l → value_of_literal es l ≡ Some true → scan es first (drop i clause) ≡ Open
 scan-true es first clause i l e v = scan-next es first clause i l e ∙ rw v refl
 
-pub scan-false : (es : List Entry) (first : Option Literal) (clause : List Literal) (i : ℕ) (l : Literal) → slice_get clause i ≡ Some l → value_of es l ≡ Some false → scan es first (drop i clause) ≡ scan es first (drop (i + 1) clause)
+pub scan-false : (es : List Entry) (first : Option Literal) (clause : List Literal) (i : ℕ) (l : Literal) → slice_get clause i ≡ Some l → value_of_literal es l ≡ Some false → scan es first (drop i clause) ≡ scan es first (drop (i + 1) clause)
 scan-false es first clause i l e v = scan-next es first clause i l e ∙ rw v refl
 
-pub scan-second : (es : List Entry) (first : Option Literal) (clause : List Literal) (i : ℕ) (l : Literal) → slice_get clause i ≡ Some l → value_of es l ≡ None → is_some first ≡ true → scan es first (drop i clause) ≡ Open
+pub scan-second : (es : List Entry) (first : Option Literal) (clause : List Literal) (i : ℕ) (l : Literal) → slice_get clause i ≡ Some l → value_of_literal es l ≡ None → is_some first ≡ true → scan es first (drop i clause) ≡ Open
 scan-second es None clause i l e v s = absurd (cc)
 scan-second es (Some k) clause i l e v s = scan-next es (Some k) clause i l e ∙ rw v refl
 
-pub scan-first : (es : List Entry) (first : Option Literal) (clause : List Literal) (i : ℕ) (l : Literal) → slice_get clause i ≡ Some l → value_of es l ≡ None → is_some first ≡ false → scan es first (drop i clause) ≡ scan es (Some l) (drop (i + 1) clause)
+pub scan-first : (es : List Entry) (first : Option Literal) (clause : List Literal) (i : ℕ) (l : Literal) → slice_get clause i ≡ Some l → value_of_literal es l ≡ None → is_some first ≡ false → scan es first (drop i clause) ≡ scan es (Some l) (drop (i + 1) clause)
 scan-first es None clause i l e v s = scan-next es None clause i l e ∙ rw v refl
 scan-first es (Some k) clause i l e v s = absurd (cc)
 

@@ -17,11 +17,11 @@ use Rattle.ilk_solver.specs.Propagated.{IsPropagated}
 use Rattle.ilk_solver.specs.Levels.{LevelsClosed}
 use Rattle.ilk_solver.specs.View.{ViewLists, with_entries}
 use Rattle.ilk_solver.specs.Search.{all_clauses}
-use Rattle.ilk_solver.specs.Held.{search_of, Holds}
+use Rattle.ilk_solver.specs.Held.{search_of, HoldsSearch}
 use Rattle.ilk_solver.proofs.ClosedLevels.{closed-back, closed-decided, closed-propagated, reasons-back, reasons-decided, reasons-propagated}
 
 -- other entries, which have their reasons and leave the lower levels closed
-held-entries : (cs : Formula) (given : ℕ) (log : List Step) (view : ViewLists) (es : List Entry) → Holds cs given log view → HasReasons cs.clauses es → LevelsClosed cs.clauses es → Holds cs given log (with_entries view es)
+held-entries : (cs : Formula) (given : ℕ) (log : List Step) (view : ViewLists) (es : List Entry) → HoldsSearch cs given log view → HasReasons cs.clauses es → LevelsClosed cs.clauses es → HoldsSearch cs given log (with_entries view es)
 held-entries cs given log view es h r c =
     let all = all_clauses (search_of cs given log view) in
     let R : List (List Literal) → Type 0 = λ xs. HasReasons xs es in
@@ -37,26 +37,26 @@ held-entries cs given log view es h r c =
       };
     }
 
-pub known-reasons : (cs : Formula) (given : ℕ) (log : List Step) (view : ViewLists) → Holds cs given log view → HasReasons cs.clauses view.trail.entries
+pub known-reasons : (cs : Formula) (given : ℕ) (log : List Step) (view : ViewLists) → HoldsSearch cs given log view → HasReasons cs.clauses view.trail.entries
 known-reasons cs given log view h = (let R : List (List Literal) → Type 0 = λ xs. HasReasons xs view.trail.entries in subst R (sym h.laid) h.search.reasons)
 
-pub known-closed : (cs : Formula) (given : ℕ) (log : List Step) (view : ViewLists) → Holds cs given log view → LevelsClosed cs.clauses view.trail.entries
+pub known-closed : (cs : Formula) (given : ℕ) (log : List Step) (view : ViewLists) → HoldsSearch cs given log view → LevelsClosed cs.clauses view.trail.entries
 known-closed cs given log view h = (let C : List (List Literal) → Type 0 = λ xs. LevelsClosed xs view.trail.entries in subst C (sym h.laid) h.search.closed)
 
-pub held-propagated : (cs : Formula) (given : ℕ) (log : List Step) (view : ViewLists) (es : List Entry) → Holds cs given log view → IsPropagated cs.clauses view.trail.entries es → Holds cs given log (with_entries view es)
+pub held-propagated : (cs : Formula) (given : ℕ) (log : List Step) (view : ViewLists) (es : List Entry) → HoldsSearch cs given log view → IsPropagated cs.clauses view.trail.entries es → HoldsSearch cs given log (with_entries view es)
 held-propagated cs given log view es h p =
     held-entries cs given log view es h (reasons-propagated cs.clauses view.trail.entries es p (known-reasons cs given log view h)) (closed-propagated cs.clauses view.trail.entries es p (known-closed cs given log view h))
 
-pub held-decided : (cs : Formula) (given : ℕ) (log : List Step) (view : ViewLists) (l : Literal) → Holds cs given log view → climbs 0 view.trail.entries ≡ true → is_closed cs.clauses (lits_of view.trail.entries) ≡ true → Holds cs given log (with_entries view (decided view.trail.entries l))
+pub held-decided : (cs : Formula) (given : ℕ) (log : List Step) (view : ViewLists) (l : Literal) → HoldsSearch cs given log view → climbs 0 view.trail.entries ≡ true → is_closed cs.clauses (lits_of view.trail.entries) ≡ true → HoldsSearch cs given log (with_entries view (decided view.trail.entries l))
 held-decided cs given log view l h c k =
     held-entries cs given log view (decided view.trail.entries l) h (reasons-decided cs.clauses view.trail.entries l (known-reasons cs given log view h)) (closed-decided cs.clauses view.trail.entries l c (known-closed cs given log view h) k)
 
-pub held-back : (cs : Formula) (given : ℕ) (log : List Step) (view : ViewLists) (m : ℕ) → Holds cs given log view → climbs 0 view.trail.entries ≡ true → m ≤ level_of view.trail.entries → level_of (up_to m view.trail.entries) ≡ m → Holds cs given log (with_entries view (up_to m view.trail.entries))
+pub held-back : (cs : Formula) (given : ℕ) (log : List Step) (view : ViewLists) (m : ℕ) → HoldsSearch cs given log view → climbs 0 view.trail.entries ≡ true → m ≤ level_of view.trail.entries → level_of (up_to m view.trail.entries) ≡ m → HoldsSearch cs given log (with_entries view (up_to m view.trail.entries))
 held-back cs given log view m h c le top =
     held-entries cs given log view (up_to m view.trail.entries) h (reasons-back cs.clauses view.trail.entries m c (known-reasons cs given log view h)) (closed-back cs.clauses view.trail.entries m le top (known-closed cs given log view h))
 
 -- nothing set and no step
-pub held-start : (cs : Formula) → Holds cs (length cs.clauses) [] (record { trail = record { vars = cs.vars; entries = [] }; weights = replicate cs.vars 0 })
+pub held-start : (cs : Formula) → HoldsSearch cs (length cs.clauses) [] (record { trail = record { vars = cs.vars; entries = [] }; weights = replicate cs.vars 0 })
 held-start cs = record {
   first = omega arith;
   laid = sym (take-length cs.clauses) ∙ sym (append-nil (take (length cs.clauses) cs.clauses));

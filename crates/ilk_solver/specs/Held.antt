@@ -9,7 +9,7 @@ use Rattle.ilk_solver.specs.Search.{SearchLists, IsSearch, all_clauses}
 abbrev pub search_of : Formula → ℕ → List Step → ViewLists → SearchLists
 search_of clauses given log view = record { formula = record { vars = clauses.vars; clauses = take given clauses.clauses }; log = log; view = view }
 
-pub record Holds (clauses : Formula) (given : ℕ) (log : List Step) (view : ViewLists) : Type 0 where
+pub record HoldsSearch (clauses : Formula) (given : ℕ) (log : List Step) (view : ViewLists) : Type 0 where
   pub first : given ≤ length clauses.clauses
   pub laid : clauses.clauses ≡ all_clauses (search_of clauses given log view)
   pub search : IsSearch (search_of clauses given log view)

@@ -29,13 +29,13 @@ pub struct Search {
 
 impl Model for Search {
     ghost use Rattle.ilk_solver.specs.Search.{SearchLists};
-    ghost use Rattle.ilk_solver.specs.Held.{search_of, Holds};
+    ghost use Rattle.ilk_solver.specs.Held.{search_of, HoldsSearch};
 
     ghost Value = { SearchLists };
 
     ghost view = { λ s. search_of s.clauses s.given s.log s.view };
 
-    ghost invariant = { λ s. Holds s.clauses s.given s.log s.view };
+    ghost invariant = { λ s. HoldsSearch s.clauses s.given s.log s.view };
 }
 
 impl Search {

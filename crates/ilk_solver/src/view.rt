@@ -1,7 +1,7 @@
 ghost use Rattle.std.specs.Prelude.{◌≡◌, ◌≤◌, ◌<◌, ◌+◌, ◌^◌, ◌-◌, ℕ, [], false, length, not, replicate, slice_index, if◌then◌else◌, IfOk, IsTrue};
 ghost use Rattle.ilk_cnf.specs.Formula.{clause_in, lit_in};
 ghost use Rattle.ilk_cnf.specs.Literal.{has_var, vars_differ};
-ghost use Rattle.ilk_trail.specs.Trail.{assigned, decided, level_of, up_to, value_of};
+ghost use Rattle.ilk_trail.specs.Trail.{assigned, decided, level_of, up_to, value_of_literal};
 ghost use Rattle.ilk_trail.specs.Laws.{is_set};
 ghost use Rattle.ilk_solver.specs.View.{IsView, weight_of, with_entries};
 

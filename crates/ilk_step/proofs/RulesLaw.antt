@@ -5,6 +5,7 @@ use Rattle.std.specs.List.{list_all}
 use Rattle.std.proofs.lemmas.List.{append-nil}
 use Rattle.std.proofs.lemmas.List.Folds.{list_all-append}
 use Rattle.std.proofs.lemmas.Bool.{and_parts, and_from, lt-ltb, le-leb, leb-true, eq-eqb, ne_eqb}
+use Rattle.ilk_base.proofs.Lengths.{longer}
 use Rattle.ilk_cnf.specs.Literal.{Literal, plus}
 use Rattle.ilk_cnf.specs.Formula.{clause_in}
 use Rattle.ilk_cnf.specs.Truth.{value, is_true}
@@ -42,10 +43,6 @@ then-fits n p q one two =
 pub then-law : (a e d : List Bool) (o ok : Bool) (n : ℕ) (p : Part) (q : ℕ → Part) → length a ≡ n → PartFits n p → PartFits p.vars (q p.vars) → Extends a p.vars p.clauses (OnlyIf o e) → (length (a ++ e) ≡ p.vars → Extends (a ++ e) (q p.vars).vars (q p.vars).clauses (OnlyIf ok d)) → Extends a (and_then p q).vars (and_then p q).clauses (OnlyIf (o && ok) (e ++ d))
 then-law a e d o ok n p q size one two first next =
     if_then_if a e d o ok p.vars (q p.vars).vars p.clauses (q p.vars).clauses (rw size one.low) two.low one.inside first (λ yes. next (first.sized e (yes, refl)))
-
--- a longer assignment
-longer : (a e : List Bool) → length a ≤ length (a ++ e)
-longer a e = omega (arith, length-append a e)
 
 -- whether each setting is of the variables and their values
 abbrev pub settings_valid : List ℕ → List Setting → Bool

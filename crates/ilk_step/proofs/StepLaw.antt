@@ -5,6 +5,7 @@ use Rattle.std.specs.Prelude.{option_and_then}
 use Rattle.std.proofs.lemmas.List.{append-nil, length-map}
 use Rattle.std.proofs.lemmas.Bool.{and_parts, and_from}
 use Rattle.std.proofs.lemmas.Option.{slice_get_within, same_Some}
+use Rattle.ilk_base.proofs.Lengths.{longer}
 use Rattle.ilk_base.proofs.Lists.{item_at}
 use Rattle.ilk_base.proofs.Tested.{list_all-slice_get}
 use Rattle.ilk_cnf.specs.Formula.{clause_in}
@@ -52,9 +53,6 @@ pub record Copies (a : List Bool) (n : ℕ) (now next : List Column) (ws xs : Li
   pub same : ranges_of next ≡ ranges_of now
   pub now_say : LiteralsSay a now (ranges_of now) ws
   pub next_say : LiteralsSay a next (ranges_of now) xs
-
-longer : (a e : List Bool) → length a ≤ length (a ++ e)
-longer a e = omega (arith, length-append a e)
 
 -- the copies at a longer assignment
 copies-left : (a e : List Bool) (n m : ℕ) (now next : List Column) (ws xs : List ℕ) → n ≤ m → length (a ++ e) ≡ m → Copies a n now next ws xs → Copies (a ++ e) m now next ws xs

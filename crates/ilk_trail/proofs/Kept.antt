@@ -11,7 +11,7 @@ use Rattle.ilk_cnf.specs.Formula.{lit_in}
 use Rattle.ilk_cnf.proofs.Literals.{vars_differ-push}
 use Rattle.ilk_trail.specs.declared.entry.Entry.{Entry}
 use Rattle.ilk_trail.specs.Trail.{TrailList, entry_of, last_level, level_of}
-use Rattle.ilk_trail.specs.Laws.{IsTrail, is_next, is_set, lits_of}
+use Rattle.ilk_trail.specs.Laws.{IsTrail, is_level_next, is_set, lits_of}
 use Rattle.ilk_trail.specs.Stored.{Stored}
 use Rattle.ilk_base.proofs.Lists.{slice_get-push_cases, at-before}
 use Rattle.ilk_trail.proofs.Entries.{lits_of-push, entry_of-unset, entry_of-other, entry_of-new, found, set-at}
@@ -22,7 +22,7 @@ abbrev sign : Entry → Bool
 sign e = e.lit.positive
 
 -- the trail with one more entry
-pub trail-add : (n : ℕ) (es : List Entry) (e : Entry) → IsTrail (record { vars = n; entries = es }) → lit_in n e.lit ≡ true → is_set es e.lit.var ≡ false → is_next (last_level 0 es) e ≡ true → IsTrail (record { vars = n; entries = es ++ e ∷ [] })
+pub trail-add : (n : ℕ) (es : List Entry) (e : Entry) → IsTrail (record { vars = n; entries = es }) → lit_in n e.lit ≡ true → is_set es e.lit.var ≡ false → is_level_next (last_level 0 es) e ≡ true → IsTrail (record { vars = n; entries = es ++ e ∷ [] })
 trail-add n es e t h u k = record {
   few = t.few;
   within = rw (lits_of-push es e) (clause_in-push n (lits_of es) e.lit t.within h);
@@ -45,7 +45,7 @@ room-for n es l t h u =
     omega (arith, c, m)
 
 -- the fields after an entry was added
-pub stored-add : (values : List (Option Bool)) (places : List ℕ) (n : ℕ) (es : List Entry) (e : Entry) (size more : ℕ) → Stored values places (record { vars = n; entries = es }) size → size ≤ more → lit_in n e.lit ≡ true → is_set es e.lit.var ≡ false → is_next (last_level 0 es) e ≡ true → Stored (set values e.lit.var (Some e.lit.positive)) (set places e.lit.var (length es)) (record { vars = n; entries = es ++ e ∷ [] }) more
+pub stored-add : (values : List (Option Bool)) (places : List ℕ) (n : ℕ) (es : List Entry) (e : Entry) (size more : ℕ) → Stored values places (record { vars = n; entries = es }) size → size ≤ more → lit_in n e.lit ≡ true → is_set es e.lit.var ≡ false → is_level_next (last_level 0 es) e ≡ true → Stored (set values e.lit.var (Some e.lit.positive)) (set places e.lit.var (length es)) (record { vars = n; entries = es ++ e ∷ [] }) more
 stored-add values places n es e size more k le h u c = let w : e.lit.var ≤ n = (lit_in-parts n e.lit h).1 in record {
   values_long = simp length-set k.values_long;
   places_long = simp length-set k.places_long;

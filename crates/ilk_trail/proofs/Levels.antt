@@ -8,7 +8,7 @@ use Rattle.std.proofs.lemmas.Bool.Decides.{nat_tests}
 use Rattle.std.proofs.lemmas.List.Elements.{filter-append}
 use Rattle.ilk_trail.specs.declared.entry.Entry.{Entry}
 use Rattle.ilk_trail.specs.Trail.{last_level, level_of, up_to}
-use Rattle.ilk_trail.specs.Laws.{is_next, climbs}
+use Rattle.ilk_trail.specs.Laws.{is_level_next, climbs}
 
 pub last_level-push : (k : ℕ) (es : List Entry) (e : Entry) → last_level k (es ++ e ∷ []) ≡ e.level
 last_level-push k [] e = refl
@@ -32,21 +32,21 @@ last_level-nil k (x ∷ (y ∷ es)) h =
     let none : slice_get (y ∷ es) (length (y ∷ es) - 1) ≡ None = rw n at h in
     absurd (cc)
 
-pub climbs-push : (k : ℕ) (es : List Entry) (e : Entry) → climbs k es ≡ true → is_next (last_level k es) e ≡ true → climbs k (es ++ e ∷ []) ≡ true
+pub climbs-push : (k : ℕ) (es : List Entry) (e : Entry) → climbs k es ≡ true → is_level_next (last_level k es) e ≡ true → climbs k (es ++ e ∷ []) ≡ true
 climbs-push k [] e c n = rw n refl
 climbs-push k (x ∷ es) e c n =
-    let p = and_parts (is_next k x) (climbs x.level es) c in
+    let p = and_parts (is_level_next k x) (climbs x.level es) c in
     rw p.0 (climbs-push x.level es e p.1 n)
 
-pub climbs-front : (k : ℕ) (es : List Entry) (e : Entry) → climbs k (es ++ e ∷ []) ≡ true → (climbs k es ≡ true) × (is_next (last_level k es) e ≡ true)
-climbs-front k [] e c = (refl, (and_parts (is_next k e) true c).0)
+pub climbs-front : (k : ℕ) (es : List Entry) (e : Entry) → climbs k (es ++ e ∷ []) ≡ true → (climbs k es ≡ true) × (is_level_next (last_level k es) e ≡ true)
+climbs-front k [] e c = (refl, (and_parts (is_level_next k e) true c).0)
 climbs-front k (x ∷ es) e c =
-    let p = and_parts (is_next k x) (climbs x.level (es ++ e ∷ [])) c in
+    let p = and_parts (is_level_next k x) (climbs x.level (es ++ e ∷ [])) c in
     let r = climbs-front x.level es e p.1 in
-    (and_from (is_next k x) (climbs x.level es) p.0 r.0, r.1)
+    (and_from (is_level_next k x) (climbs x.level es) p.0 r.0, r.1)
 
 -- the next entry is at the level or at the one above
-pub next-level : (k : ℕ) (e : Entry) → is_next k e ≡ true → (k ≤ e.level) × (e.level ≤ k + 1)
+pub next-level : (k : ℕ) (e : Entry) → is_level_next k e ≡ true → (k ≤ e.level) × (e.level ≤ k + 1)
 next-level k e n =
     let q = eqb-true e.level (cond (is_some e.reason) k (k + 1)) n in
     elim (cases_Bool (is_some e.reason)) [
@@ -57,21 +57,21 @@ next-level k e n =
 pub level-rises : (k : ℕ) (es : List Entry) → climbs k es ≡ true → k ≤ last_level k es
 level-rises k [] c = omega arith
 level-rises k (x ∷ es) c =
-    let p = and_parts (is_next k x) (climbs x.level es) c in
+    let p = and_parts (is_level_next k x) (climbs x.level es) c in
     omega (arith, next-level k x p.0, level-rises x.level es p.1)
 
 -- there are no more levels than entries
 pub level-small : (k : ℕ) (es : List Entry) → climbs k es ≡ true → last_level k es ≤ k + length es
 level-small k [] c = omega arith
 level-small k (x ∷ es) c =
-    let p = and_parts (is_next k x) (climbs x.level es) c in
+    let p = and_parts (is_level_next k x) (climbs x.level es) c in
     omega (arith, next-level k x p.0, level-small x.level es p.1)
 
 -- entries up to the current level are all of them
 pub up_to-all : (k m : ℕ) (es : List Entry) → climbs k es ≡ true → last_level k es ≤ m → up_to m es ≡ es
 up_to-all k m [] c h = refl
 up_to-all k m (x ∷ es) c h =
-    let p = and_parts (is_next k x) (climbs x.level es) c in
+    let p = and_parts (is_level_next k x) (climbs x.level es) c in
     let r = level-rises x.level es p.1 in
     let q : nat_le x.level m ≡ true = grind (arith, nat_tests) in
     rw q (ap (λ ys. x ∷ ys) (up_to-all x.level m es p.1 h))

@@ -15,13 +15,13 @@ is_set entries v = has_var v (lits_of entries)
 
 -- whether entry e may follow one at level k: it is at that level where a clause forced it, and opens
 -- the next level where it was decided
-abbrev pub is_next : ℕ → Entry → Bool
-is_next k e = e.level == cond (is_some e.reason) k (k + 1)
+abbrev pub is_level_next : ℕ → Entry → Bool
+is_level_next k e = e.level == cond (is_some e.reason) k (k + 1)
 
 -- whether each entry may follow the one before it, the first of them one at level k
 abbrev pub climbs : ℕ → List Entry → Bool
 climbs k [] = true
-climbs k (e ∷ es) = is_next k e && climbs e.level es
+climbs k (e ∷ es) = is_level_next k e && climbs e.level es
 
 -- what is so of every trail: its literals are over its variables, none of which is set twice, and
 -- each level from 1 on begins with its decision

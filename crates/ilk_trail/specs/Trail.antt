@@ -16,8 +16,8 @@ abbrev pub entry_of : List Entry → ℕ → Option Entry
 entry_of entries v = find (λ e. e.lit.var == v) entries
 
 -- whether literal l is true, where its variable is set
-abbrev pub value_of : List Entry → Literal → Option Bool
-value_of entries l = option_map (λ e. beq e.lit.positive l.positive) (entry_of entries l.var)
+abbrev pub value_of_literal : List Entry → Literal → Option Bool
+value_of_literal entries l = option_map (λ e. beq e.lit.positive l.positive) (entry_of entries l.var)
 
 -- the level of the last entry, or else k
 abbrev pub last_level : ℕ → List Entry → ℕ

@@ -1,7 +1,7 @@
 ghost use Rattle.std.specs.Prelude.{◌≡◌, ◌≤◌, ◌<◌, ◌+◌, ◌^◌, ℕ, Bool, true, false, Some, [], ◌∷◌, ◌++◌, length, slice_get, option_map, IfOk, IsTrue};
 ghost use Rattle.ilk_cnf.specs.Formula.{lit_in};
-ghost use Rattle.ilk_trail.specs.Trail.{assigned, decided, entry_of, level_of, up_to, value_of};
-ghost use Rattle.ilk_trail.specs.Laws.{IsTrail, is_next, is_set};
+ghost use Rattle.ilk_trail.specs.Trail.{assigned, decided, entry_of, level_of, up_to, value_of_literal};
+ghost use Rattle.ilk_trail.specs.Laws.{IsTrail, is_level_next, is_set};
 
 use crate::entry::Entry;
 use ilk_cnf::Lit;
@@ -47,7 +47,7 @@ impl Trail {
     /// Whether `l` is true, or `None` where its variable is unset.
     pub fn value(&self, l: Lit) -> Option<bool>
         requires { IsTrue (lit_in self.now.vars l) }
-        ensures { result ≡ value_of self.now.entries l }
+        ensures { result ≡ value_of_literal self.now.entries l }
     {
         self.values[l.var() as usize].map(|positive| positive == l.positive())
     }
@@ -148,7 +148,7 @@ impl Trail {
     fn add(&mut self, entry: Entry)
         requires within { IsTrue (lit_in self.old.vars entry.lit) }
         requires unset { is_set self.old.entries entry.lit.var ≡ false }
-        requires level { IsTrue (is_next (level_of self.old.entries) entry) }
+        requires level { IsTrue (is_level_next (level_of self.old.entries) entry) }
         ensures { self.new ≡ record self.old { entries = self.old.entries ++ entry ∷ [] } }
     {
         let var = entry.lit.var() as usize;

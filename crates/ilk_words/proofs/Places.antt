@@ -28,29 +28,29 @@ use Rattle.clap.specs.declared.error.kind.ErrorKind.TheVariants as kind
 use Rattle.clap.specs.Words.{is_simple_and_free, new_app, with_rule}
 use Rattle.ilk_words.specs.Line.{app, command_rule, option_rule}
 use Rattle.ilk_words.specs.Options.{columns_option, held, run_option}
-use Rattle.ilk_words.specs.Places.{moved, moved_app, moved_rule, moved_rules, moved_shape}
+use Rattle.ilk_words.specs.Places.{with_held_texts, moved_app, moved_rule, moved_rules, moved_shape}
 
 -- ---- one value
 
-same_reading : (o : Option ValueParser) → reading_of (parser_of_value (option_map moved o)) ≡ reading_of (parser_of_value o)
+same_reading : (o : Option ValueParser) → reading_of (parser_of_value (option_map with_held_texts o)) ≡ reading_of (parser_of_value o)
 same_reading None = refl
 same_reading (Some (parser.Names names)) = refl
 same_reading (Some p) = refl
 
-same_refusal : (o : Option ValueParser) → refused_kind (parser_of_value (option_map moved o)) ≡ refused_kind (parser_of_value o)
+same_refusal : (o : Option ValueParser) → refused_kind (parser_of_value (option_map with_held_texts o)) ≡ refused_kind (parser_of_value o)
 same_refusal None = refl
 same_refusal (Some (parser.Names names)) = refl
 same_refusal (Some p) = refl
 
-same_values : (ignore_case : Bool) (o : Option ValueParser) (text : Text) → accepts ignore_case (parser_of_value (option_map moved o)) text ≡ accepts ignore_case (parser_of_value o) text
+same_values : (ignore_case : Bool) (o : Option ValueParser) (text : Text) → accepts ignore_case (parser_of_value (option_map with_held_texts o)) text ≡ accepts ignore_case (parser_of_value o) text
 same_values ignore_case None text = refl
 same_values ignore_case (Some (parser.Names names)) text = sym (list_any-map (λ (name : Bor Text). same_text ignore_case name.now text) (λ (s : Bor Text). held s.now) names.now)
 same_values ignore_case (Some p) text = refl
 
-value_as : (ignore_case : Bool) (o : Option ValueParser) (text : Text) → value_kinds ignore_case (parser_of_value (option_map moved o)) text ≡ value_kinds ignore_case (parser_of_value o) text
+value_as : (ignore_case : Bool) (o : Option ValueParser) (text : Text) → value_kinds ignore_case (parser_of_value (option_map with_held_texts o)) text ≡ value_kinds ignore_case (parser_of_value o) text
 value_as ignore_case o text = ap₂ (λ (b : Bool) (k : ErrorKind). if b then [] else k ∷ []) (same_values ignore_case o text) (same_refusal o)
 
-values_as : (ignore_case : Bool) (o : Option ValueParser) (texts : List Text) → values_kinds ignore_case (parser_of_value (option_map moved o)) texts ≡ values_kinds ignore_case (parser_of_value o) texts
+values_as : (ignore_case : Bool) (o : Option ValueParser) (texts : List Text) → values_kinds ignore_case (parser_of_value (option_map with_held_texts o)) texts ≡ values_kinds ignore_case (parser_of_value o) texts
 values_as ignore_case o [] = refl
 values_as ignore_case o (v ∷ vs) = ap₂ or_else (value_as ignore_case o v) (values_as ignore_case o vs)
 
@@ -353,12 +353,12 @@ same_faults s names h words has_subcommand below = ap₂ or_else (faults_of_walk
 
 -- ---- building
 
-same_default_parser : (x : ArgAction) → moved (parser_for x) ≡ parser_for x
+same_default_parser : (x : ArgAction) → with_held_texts (parser_for x) ≡ parser_for x
 same_default_parser SetTrue = refl
 same_default_parser Count = refl
 same_default_parser other = refl
 
-same_filled_parser : (o : Option ValueParser) (x : ArgAction) → moved (unwrap_or o (parser_for x)) ≡ unwrap_or (option_map moved o) (parser_for x)
+same_filled_parser : (o : Option ValueParser) (x : ArgAction) → with_held_texts (unwrap_or o (parser_for x)) ≡ unwrap_or (option_map with_held_texts o) (parser_for x)
 same_filled_parser None x = same_default_parser x
 same_filled_parser (Some p) x = refl
 

@@ -3,7 +3,7 @@ use Rattle.std.specs.Prelude.{Option, Some, List, [], ◌∷◌, codes}
 use Rattle.clap.specs.Words.{Text}
 use Rattle.ilk_base.specs.Option.{◌>>=◌}
 use Rattle.ilk_words.specs.Columns.{columns_of_word}
-use Rattle.ilk_words.specs.Options.{Line, LineOption, columns_option, run_option, value_of}
+use Rattle.ilk_words.specs.Options.{Line, LineOption, columns_option, run_option, value_of_option}
 use Rattle.ilk_words.specs.declared.command.Columns.{Columns}
 use Rattle.ilk_words.specs.declared.command.Command.{Command}
 use Rattle.ilk_words.specs.declared.command.Command.TheVariants.{Check, Replay}
@@ -16,7 +16,7 @@ pub record LineCommand : Type 0 where
 
 abbrev pub columns_of : Line → Option Columns
 columns_of line = do
-  value ← value_of line columns_option
+  value ← value_of_option line columns_option
   columns_of_word value
 
 abbrev pub check_command : LineCommand
@@ -34,7 +34,7 @@ replay_command = record {
   options = columns_option ∷ run_option ∷ [];
   command = λ line. do
     columns ← columns_of line
-    run ← value_of line run_option
+    run ← value_of_option line run_option
     Some (Replay columns run);
 }
 

@@ -42,5 +42,5 @@ abbrev pub Line : Type 0
 Line = Text → Option Text
 
 -- an option has the value that is on the line, or else its default
-abbrev pub value_of : Line → LineOption → Option Text
-value_of line o = option_or (line o.name) o.default
+abbrev pub value_of_option : Line → LineOption → Option Text
+value_of_option line o = option_or (line o.name) o.default

@@ -7,12 +7,12 @@ use Rattle.clap.specs.declared.builder.value_parser.ValueParser.TheVariants as p
 use Rattle.ilk_words.specs.Options.{held}
 
 -- the same parser, with its texts where the definition of the line has them
-abbrev pub moved : ValueParser → ValueParser
-moved (parser.Names names) = parser.Names (held (map (λ (s : Bor Text). held s.now) names.now))
-moved p = p
+abbrev pub with_held_texts : ValueParser → ValueParser
+with_held_texts (parser.Names names) = parser.Names (held (map (λ (s : Bor Text). held s.now) names.now))
+with_held_texts p = p
 
 abbrev pub moved_rule : Rule → Rule
-moved_rule a = record a { parser = option_map moved a.parser }
+moved_rule a = record a { parser = option_map with_held_texts a.parser }
 
 abbrev pub moved_rules : List Rule → List Rule
 moved_rules = map moved_rule

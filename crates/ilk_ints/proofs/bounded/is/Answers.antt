@@ -2,7 +2,7 @@ use Rattle.std.proofs.Common.{◌+◌, ◌^◌, ◌≤◌, ◌∷◌, [], ℕ, s
 use Rattle.ilk_cnf.specs.Extends.{Only}
 use Rattle.ilk_cnf.proofs.Extending.{extends-as_clauses}
 use Rattle.ilk_ints.specs.Bits.{bit_count}
-use Rattle.ilk_ints.specs.Number.{is_part, has_value}
+use Rattle.ilk_ints.specs.Number.{is_part, bits_have_value}
 use Rattle.ilk_ints.proofs.BitsLaw.{is-law, has_value-exact}
 use Rattle.ilk_ints.proofs.bounded.is.Goals as goal
 
@@ -11,7 +11,7 @@ returns-clause-law c =
     λ a size.
     let n = c.args.n in
     let vars = c.args.cnf.now.vars in
-    extends-as_clauses a (vars + 1) (is_part n.first n.range c.args.value vars).clauses (Only (has_value a n.first n.range c.args.value ∷ [])) (is-law a n.first n.range c.args.value vars size c.requires.from_1 c.requires.within)
+    extends-as_clauses a (vars + 1) (is_part n.first n.range c.args.value vars).clauses (Only (bits_have_value a n.first n.range c.args.value ∷ [])) (is-law a n.first n.range c.args.value vars size c.requires.from_1 c.requires.within)
 
 pub returns-clause-exact : goal.returns-clause-exact
 returns-clause-exact c =

@@ -5,14 +5,15 @@ use Rattle.ilk_base.proofs.Lists.{drop_at}
 use Rattle.ilk_ints.specs.Bits.{bit_count}
 use Rattle.ilk_ints.specs.Named.{bounds_from}
 use Rattle.ilk_ints.proofs.AtMostLaw.{bits_some}
-use Rattle.ilk_ints.proofs.BoundsLaw.{bounds_step, two-inside}
+use Rattle.ilk_ints.proofs.BoundsLaw.{bounds_step}
+use Rattle.ilk_ints.proofs.OneOfLaw.{first-two}
 use Rattle.ilk_ints.proofs.table.add_bounds.Goals as goal
 
 pub at_most-requires-clause-lits : goal.at_most-requires-clause-lits
 at_most-requires-clause-lits c =
     let rest = drop (c.loop-equal.equal-index + 1) c.args.equals.now in
     let here = drop_at c.args.equals.now c.loop-equal.equal-index c.equal-item.result c.loop-equal-test.true c.equal-item.is in
-    two-inside c.loop-equal.cnf.vars c.loop-equal.below c.equal-item.result rest (ap (λ (ls : List Literal). clause_in c.loop-equal.cnf.vars (c.loop-equal.below ∷ ls)) (sym here) ∙ c.loop-equal.invariant.inside)
+    first-two c.loop-equal.cnf.vars c.loop-equal.below c.equal-item.result rest (ap (λ (ls : List Literal). clause_in c.loop-equal.cnf.vars (c.loop-equal.below ∷ ls)) (sym here) ∙ c.loop-equal.invariant.inside)
 
 pub loop-equal-preserved : goal.loop-equal-preserved
 loop-equal-preserved c =

@@ -1,6 +1,6 @@
 use Rattle.std.proofs.Common.{◌≡◌, ◌+◌, ◌≤◌, length, drop, true, false, Some, None, is_some, arith, ap, sym, ◌∙◌}
 use Rattle.ilk_clauses.specs.Reasons.{clause_at}
-use Rattle.ilk_trail.specs.Trail.{TrailList, value_of}
+use Rattle.ilk_trail.specs.Trail.{TrailList, value_of_literal}
 use Rattle.ilk_solver.specs.declared.propagation.Look.TheVariants.{Conflict, Unit}
 use Rattle.std.specs.Option.{option_map_or}
 use Rattle.ilk_solver.proofs.Scan.{scan, scan-is, scan-true, scan-false, scan-second, scan-first, scan-end}
@@ -12,7 +12,7 @@ returns-then-value c =
     let es = c.args.view.now.trail.entries in
     let clause = clause_at c.args.clauses.now.clauses c.args.c in
     let l = c.literal-l.result in
-    let v : value_of es l ≡ Some true = ap (λ (t : TrailList). value_of t.entries l) (sym c.trail.ensures) ∙ sym c.in-Some.ensures ∙ ap Some c.if-value.true in
+    let v : value_of_literal es l ≡ Some true = ap (λ (t : TrailList). value_of_literal t.entries l) (sym c.trail.ensures) ∙ sym c.in-Some.ensures ∙ ap Some c.if-value.true in
     sym (scan-true es c.loop-i.unset clause c.loop-i.i l c.literal-l.ensures.literal v) ∙ c.loop-i.invariant ∙ scan-is es clause c.vars.ensures.view.trail.once
 
 pub returns-then-is_some : goal.returns-then-is_some
@@ -20,7 +20,7 @@ returns-then-is_some c =
     let es = c.args.view.now.trail.entries in
     let clause = clause_at c.args.clauses.now.clauses c.args.c in
     let l = c.literal-l.result in
-    let v : value_of es l ≡ None = ap (λ (t : TrailList). value_of t.entries l) (sym c.trail.ensures) ∙ sym c.in-None.ensures in
+    let v : value_of_literal es l ≡ None = ap (λ (t : TrailList). value_of_literal t.entries l) (sym c.trail.ensures) ∙ sym c.in-None.ensures in
     let s : is_some c.loop-i.unset ≡ true = cc in
     sym (scan-second es c.loop-i.unset clause c.loop-i.i l c.literal-l.ensures.literal v s) ∙ c.loop-i.invariant ∙ scan-is es clause c.vars.ensures.view.trail.once
 
@@ -30,11 +30,11 @@ loop-i-preserved c =
     let clause = clause_at c.args.clauses.now.clauses c.args.c in
     let i = c.loop-i.i in
     let l = c.literal-l.result in
-    let shown = ap (λ (t : TrailList). value_of t.entries l) (sym c.trail.ensures) in
+    let shown = ap (λ (t : TrailList). value_of_literal t.entries l) (sym c.trail.ensures) in
     elim c.match-value.branch [
-      | in-Some+else-value w ↦ (let v : value_of es l ≡ Some false = shown ∙ sym w.in-Some.ensures ∙ ap Some w.if-value.false in
+      | in-Some+else-value w ↦ (let v : value_of_literal es l ≡ Some false = shown ∙ sym w.in-Some.ensures ∙ ap Some w.if-value.false in
           ap (λ o. scan es o (drop (i + 1) clause)) w.unset-is ∙ sym (scan-false es c.loop-i.unset clause i l c.literal-l.ensures.literal v) ∙ c.loop-i.invariant)
-      | in-None+else-is_some w ↦ (let v : value_of es l ≡ None = shown ∙ sym w.in-None.ensures in
+      | in-None+else-is_some w ↦ (let v : value_of_literal es l ≡ None = shown ∙ sym w.in-None.ensures in
           let s : is_some c.loop-i.unset ≡ false = cc (w.is_some.ensures, w.if-is_some.false) in
           ap (λ o. scan es o (drop (i + 1) clause)) w.unset-is ∙ sym (scan-first es c.loop-i.unset clause i l c.literal-l.ensures.literal v s) ∙ c.loop-i.invariant)
     ]

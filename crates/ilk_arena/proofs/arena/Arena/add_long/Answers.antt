@@ -5,7 +5,7 @@ use Rattle.std.proofs.lemmas.Option.{slice_get_read}
 use Rattle.ilk_cnf.specs.Formula.{clause_in}
 use Rattle.ilk_cnf.proofs.Literals.{clause_in-more}
 use Rattle.ilk_arena.specs.Arena.{place, added}
-use Rattle.ilk_arena.specs.Linked.{lists_of, references_in, Holds}
+use Rattle.ilk_arena.specs.Linked.{lists_of, references_in, HoldsArena}
 use Rattle.ilk_arena.proofs.Law.{arena-law}
 use Rattle.ilk_arena.proofs.Adding.{block}
 use Rattle.ilk_arena.proofs.Readings.{vars-are, spare-is, spare-are, count-fits, written}
@@ -196,7 +196,7 @@ returns-clause-arena c =
     let g = long-law s.vars V _ s.count s.words.items hs c.args.self.now ls l m c.self.invariant c.self.view_is within c.requires.differ a b in
     let us = c.append.new.words.items in
     let ks = take s.heads.len (c.lead.new.heads ++ drop (length c.lead.new.heads) hs) in
-    let Q : List ℕ → List ℕ → Type 0 = λ xs ys. Holds xs ys s.vars (s.count + 1) in
+    let Q : List ℕ → List ℕ → Type 0 = λ xs ys. HoldsArena xs ys s.vars (s.count + 1) in
     let one = subst (λ (xs : List ℕ). Q xs (heads_long s.words.items hs l m)) (sym ew) g.holds in
     let two : Q us ks = subst (λ (ys : List ℕ). Q us ys) (sym eh) one in
     arena-law s.vars V us ks (references_in us) two.linked

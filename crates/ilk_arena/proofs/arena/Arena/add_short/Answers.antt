@@ -3,7 +3,7 @@ use Rattle.std.proofs.lemmas.List.{length-map}
 use Rattle.ilk_cnf.specs.Formula.{clause_in}
 use Rattle.ilk_cnf.proofs.Literals.{clause_in-more}
 use Rattle.ilk_arena.specs.Arena.{place, added}
-use Rattle.ilk_arena.specs.Linked.{lists_of, references_in, Holds}
+use Rattle.ilk_arena.specs.Linked.{lists_of, references_in, HoldsArena}
 use Rattle.ilk_arena.proofs.Law.{arena-law}
 use Rattle.ilk_arena.proofs.Adding.{block}
 use Rattle.ilk_arena.proofs.Readings.{vars-are, spare-is, spare-are, count-fits}
@@ -69,5 +69,5 @@ returns-clause-arena c = let s = c.self.inside in let within = ap (λ (n : ℕ).
     let g = short-law s.vars V _ s.count s.words.items s.heads.items c.args.self.now ls c.self.invariant c.self.view_is within c.requires.differ c.requires.short in
     let n : c.len-reference.result ≡ length s.words.items = omega (arith, c.len-reference.ensures, s.words.ok.0) in
     let us = c.append.new.words.items in
-    let Q : List ℕ → Type 0 = λ ws. Holds ws s.heads.items s.vars (s.count + 1) in
+    let Q : List ℕ → Type 0 = λ ws. HoldsArena ws s.heads.items s.vars (s.count + 1) in
     arena-law s.vars V us s.heads.items (references_in us) (subst Q (sym ew) g.holds).linked

@@ -1,6 +1,6 @@
 use Rattle.std.proofs.Common.{◌≡◌, ◌+◌, ◌-◌, ◌*◌, ◌∷◌, [], ℕ, List, replicate, ap, sym, subst, ◌∙◌}
 use Rattle.ilk_arena.specs.Arena.{ArenaLists}
-use Rattle.ilk_arena.specs.Linked.{lists_of, references_in, Holds}
+use Rattle.ilk_arena.specs.Linked.{lists_of, references_in, HoldsArena}
 use Rattle.ilk_arena.proofs.Law.{arena-law}
 use Rattle.ilk_arena.proofs.Readings.{spare-is}
 use Rattle.ilk_arena.proofs.arena.Arena.new.Goals as goal
@@ -26,7 +26,7 @@ returns-clause-arena c =
     let hs = c.in_ok-vec-2.field-0.items in
     let w : ws.items ≡ 0 ∷ [] = c.in_ok-vec.ensures.items in
     let h : hs ≡ replicate (2 * c.args.vars + 2) 0 = c.in_ok-vec-2.ensures.items_if_clones_equal (λ y e. e) in
-    let P : List ℕ → List ℕ → Type 0 = λ xs ys. Holds xs ys c.args.vars 0 in
+    let P : List ℕ → List ℕ → Type 0 = λ xs ys. HoldsArena xs ys c.args.vars 0 in
     let one : P ws.items (replicate (2 * c.args.vars + 2) 0) = subst (λ (xs : List ℕ). P xs (replicate (2 * c.args.vars + 2) 0)) (sym w) (empty-holds c.args.vars c.requires) in
     let two : P ws.items hs = subst (λ (ys : List ℕ). P ws.items ys) (sym h) one in
     arena-law c.args.vars V ws.items hs (references_in ws.items) two.linked

@@ -1,7 +1,7 @@
 use Rattle.std.proofs.Common.{List, take, ◌∙◌, subst, sym}
 use Rattle.ilk_clauses.specs.Reasons.{clause_at}
 use Rattle.ilk_cnf.specs.Literal.{Literal}
-use Rattle.ilk_learn.specs.Resolvent.{joined}
+use Rattle.ilk_learn.specs.Resolvent.{with_each_lit}
 use Rattle.ilk_learn.specs.Hand.{HandHolds}
 use Rattle.ilk_learn.proofs.Holding.{joined-more, set-at}
 use Rattle.ilk_learn.proofs.hand.Hand.join.Goals as goal
@@ -19,5 +19,5 @@ loop-i-preserved c = record {
   hints = c.meet.ensures.hints ∙ c.loop-i.invariant.hints;
   holds = λ k h. (let d = clause_at c.args.clauses.now.clauses c.args.c in
       let P : List Literal → Type 0 = λ x. HandHolds c.args.trail.now c.meet.new.self x in
-      subst P (sym (joined-more k d c.loop-i.i c.literal.result c.literal.ensures.literal)) (c.in_ok-meet.ensures.holds (joined k (take c.loop-i.i d)) (c.loop-i.invariant.holds k h)));
+      subst P (sym (joined-more k d c.loop-i.i c.literal.result c.literal.ensures.literal)) (c.in_ok-meet.ensures.holds (with_each_lit k (take c.loop-i.i d)) (c.loop-i.invariant.holds k h)));
 }

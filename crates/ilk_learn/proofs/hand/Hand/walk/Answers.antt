@@ -8,7 +8,7 @@ use Rattle.ilk_trail.specs.Trail.{entry_of}
 use Rattle.ilk_trail.specs.Laws.{is_set}
 use Rattle.ilk_trail.proofs.Entries.{set-at}
 use Rattle.ilk_learn.specs.Levels.{is_current}
-use Rattle.ilk_learn.specs.Learning.{is_point}
+use Rattle.ilk_learn.specs.Learning.{is_implication_point}
 use Rattle.ilk_learn.specs.Hand.{Reached}
 use Rattle.ilk_learn.proofs.Latest.{entry-at}
 use Rattle.ilk_learn.proofs.Far.{Far, far-start, far-next, far-point, far-end, entry-within, entry-current}
@@ -36,9 +36,9 @@ returns-then-is_point c =
     let k = c.loop-i.invariant.far in
     let x = mapped-Some (λ (e : Entry). e.lit) (slice_get t.entries i) c.at-lit.result c.at-lit.ensures in
     let q : c.loop-i.i ≡ suc i = omega arith in
-    let p : is_point t.entries c.at-lit.result k.step.clause ≡ true = sym (c.is_point.ensures k.step.clause k.keeps.holds) ∙ c.if-is_point.true in
+    let p : is_implication_point t.entries c.at-lit.result k.step.clause ≡ true = sym (c.is_point.ensures k.step.clause k.keeps.holds) ∙ c.if-is_point.true in
     let P : Literal → Type 0 = λ l. Reached t f.clauses c.args.conflict c.loop-i.self (Some l) in
-    subst P x.2 (far-point f t c.loop-i.self c.args.conflict c.loop-i.i i x.0 c.count-i.ensures.is_trail k q x.1 (ap (λ (l : Literal). is_point t.entries l k.step.clause) x.2 ∙ p))
+    subst P x.2 (far-point f t c.loop-i.self c.args.conflict c.loop-i.i i x.0 c.count-i.ensures.is_trail k q x.1 (ap (λ (l : Literal). is_implication_point t.entries l k.step.clause) x.2 ∙ p))
 
 pub pass-requires-clause-within : goal.pass-requires-clause-within
 pass-requires-clause-within c =
@@ -68,7 +68,7 @@ loop-i-preserved c =
     let low = c.loop-i.invariant.low in
     let x = mapped-Some (λ (e : Entry). e.lit) (slice_get t.entries i) c.at-lit.result c.at-lit.ensures in
     let q : c.loop-i.i ≡ suc i = omega arith in
-    let p : is_point t.entries x.0.lit k.step.clause ≡ false = ap (λ (l : Literal). is_point t.entries l k.step.clause) x.2 ∙ sym (c.is_point.ensures k.step.clause k.keeps.holds) ∙ c.if-is_point.false in
+    let p : is_implication_point t.entries x.0.lit k.step.clause ≡ false = ap (λ (l : Literal). is_implication_point t.entries l k.step.clause) x.2 ∙ sym (c.is_point.ensures k.step.clause k.keeps.holds) ∙ c.if-is_point.false in
     let at : entry_of t.entries c.at-lit.result.var ≡ Some x.0 = ap (λ (l : Literal). entry_of t.entries l.var) (sym x.2) ∙ entry-at t.entries i x.0 c.count-i.ensures.is_trail.once x.1 in
     record {
       low = omega (arith, low);

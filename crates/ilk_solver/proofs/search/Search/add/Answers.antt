@@ -5,7 +5,7 @@ use Rattle.ilk_log.specs.declared.step.Step.{Step}
 use Rattle.ilk_solver.specs.Levels.{LevelsClosed}
 use Rattle.ilk_solver.specs.View.{weight_of}
 use Rattle.ilk_solver.specs.Search.{SearchLists}
-use Rattle.ilk_solver.specs.Held.{Holds}
+use Rattle.ilk_solver.specs.Held.{HoldsSearch}
 use Rattle.ilk_solver.proofs.Added.{held-added, weight-fits}
 use Rattle.ilk_solver.proofs.search.Search.add.Goals as goal
 
@@ -26,6 +26,6 @@ invariant_of-result c =
     let O : SearchLists → Type 0 = λ x. LevelsClosed (step.clause ∷ []) x.view.trail.entries in
     let added = held-added s.clauses s.given s.log s.view new step c.self.invariant (subst O (sym c.self.view_is) c.requires.closed) c.count-2.ensures.trail (λ v p. c.count-2.ensures.weights v p ∙ ap (λ (ls : List Literal). weight_of s.view v + cond (has_var v ls) 1 0) c.as_slice-2.ensures) in
     let clauses = c.in_ok-add.ensures.ok ∙ ap (λ (ls : List Literal). grown s.clauses s.clauses.vars (ls ∷ [])) c.as_slice.ensures in
-    let L : List Step → Type 0 = λ log. Holds (grown s.clauses s.clauses.vars (step.clause ∷ [])) s.given log new in
-    let C : Formula → Type 0 = λ f. Holds f s.given c.push.new.self new in
+    let L : List Step → Type 0 = λ log. HoldsSearch (grown s.clauses s.clauses.vars (step.clause ∷ [])) s.given log new in
+    let C : Formula → Type 0 = λ f. HoldsSearch f s.given c.push.new.self new in
     subst C (sym clauses) (subst L (sym c.in_ok-push.ensures.ok) added)

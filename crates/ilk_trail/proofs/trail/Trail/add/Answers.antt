@@ -3,7 +3,7 @@ use Rattle.std.specs.Result.{is_ok}
 use Rattle.std.proofs.Math.ListN.{length-set}
 use Rattle.ilk_trail.specs.Trail.{TrailList, level_of}
 use Rattle.ilk_cnf.specs.Formula.{lit_in}
-use Rattle.ilk_trail.specs.Laws.{is_next, is_set}
+use Rattle.ilk_trail.specs.Laws.{is_level_next, is_set}
 use Rattle.ilk_trail.proofs.Kept.{room-for, stored-add}
 use Rattle.ilk_trail.proofs.trail.Trail.add.Goals as goal
 
@@ -31,4 +31,4 @@ invariant_of-self c =
     (stored-add s.values.items s.places.items n s.entries.items e _ _ k c.push.ensures.capacity
     (ap (λ (t : TrailList). lit_in t.vars e.lit) c.self.view_is ∙ c.requires.within)
     (ap (λ (t : TrailList). is_set t.entries e.lit.var) c.self.view_is ∙ c.requires.unset)
-    (ap (λ (t : TrailList). is_next (level_of t.entries) e) c.self.view_is ∙ c.requires.level))
+    (ap (λ (t : TrailList). is_level_next (level_of t.entries) e) c.self.view_is ∙ c.requires.level))
