@@ -51,11 +51,7 @@ fn protecting_points(
     }
 }
 
-fn protecting_boards(
-    alloc: Global,
-    version: Version,
-    value: &Value,
-) -> Result<Row<Text>, KindError>
+fn protecting_boards(alloc: Global, version: Version, value: &Value) -> Result<Row<Text>, KindError>
     ensures { Reads result
         (spec.since_second version (member.texts_at (codes "protecting_boards") (view value.now))) }
 {

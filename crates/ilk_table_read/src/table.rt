@@ -14,11 +14,7 @@ use ilk_plant::{MAX_ROUTES, RouteDraft, Row, TableDraft};
 use serde_json::Value;
 use std::alloc::Global;
 
-fn routes(
-    alloc: Global,
-    version: Version,
-    values: &[Value],
-) -> Result<Row<RouteDraft>, FormError>
+fn routes(alloc: Global, version: Version, values: &[Value]) -> Result<Row<RouteDraft>, FormError>
     requires { length values.now ≤ MAX_ROUTES }
     ensures exact { Gives result (in_order (route_of version) 0 (items_view values.now)) }
     ensures count { IfOk result (λ routes. length routes ≡ length values.now) }
