@@ -34,8 +34,8 @@ pub use broken::{Broken, Places, Rule, push_if};
 pub use draft::{KindDraft, ListedDraft, NetDraft, RouteDraft, SectionDraft, TableDraft};
 pub use ilk_base::{Row, Text, Worded};
 pub use limits::{
-    MAX_BOARDS, MAX_CONFLICTS, MAX_NAME, MAX_OVERLAP, MAX_PATH, MAX_POINTS, MAX_ROUTES,
-    MAX_SECTIONS,
+    MAX_BOARDS, MAX_CONFLICTS, MAX_NAME, MAX_OVERLAP, MAX_PATH, MAX_POINTS, MAX_PROTECTING_BOARDS,
+    MAX_PROTECTING_POINTS, MAX_ROUTES, MAX_SECTIONS,
 };
 pub use locks::{has_lock, is_clear};
 pub use names::Names;

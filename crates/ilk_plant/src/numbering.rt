@@ -202,6 +202,8 @@ fn numbered_route(
         overlap: numbers_of(alloc, section_names, &route.overlap)?,
         points: numbered_points(alloc, section_names, &route.points)?,
         conflicts: numbers_of(alloc, route_names, &route.conflicts)?,
+        protecting_points: numbered_points(alloc, section_names, &route.protecting_points)?,
+        protecting_boards: numbers_of(alloc, board_names, &route.protecting_boards)?,
     })
 }
 
