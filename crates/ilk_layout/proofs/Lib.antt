@@ -6,4 +6,14 @@ pub mod Standing
 pub mod Parts
 pub mod Places
 pub mod Writes
+pub mod Changes
+pub mod Chains
+pub mod Orders
+pub mod Tracks
+pub mod Calm
+pub mod Told
+pub mod Made
+pub mod Read
+pub mod Ranged
+pub mod Unseen
 pub mod Examples

@@ -1,15 +1,29 @@
--- What a plant gives a body: its sections are sections of the plant, and none stands twice.
-use Rattle.std.proofs.Common.{◌≡◌, ℕ, zero, suc, ◌<◌, true, Some, List, [], ◌∷◌, length, nat_lt, slice_get, arith}
-use Rattle.std.proofs.lemmas.Bool.{and_parts}
+-- What a plant gives a body: its sections are sections of the plant, none stands twice, and the way from one to the
+-- next goes both ways.
+use Rattle.std.proofs.Common.{◌≡◌, ℕ, zero, suc, ◌<◌, ◌≤◌, ◌==◌, eqb, true, false, Option, Some, None, List, [], ◌∷◌, length, nat_lt, slice_get, refl, sym, ◌∙◌, ap, arith}
+use Rattle.std.specs.List.{AllByRecursion, IsDistinct}
+use Rattle.std.proofs.lemmas.Bool.{and_parts, eq-eqb, eqb-true, ne_eqb}
 use Rattle.std.proofs.lemmas.Bool.Decides.{nat_tests}
+use Rattle.std.proofs.lemmas.Map.Steps.{length-le_from_distinct_below}
+use Rattle.std.proofs.lemmas.Option.{cond_some, slice_get_within}
 use Rattle.ilk_base.proofs.Once.{EachOnce}
-use Rattle.ilk_plant.specs.Network.{has_section}
+use Rattle.ilk_base.proofs.Options.{bind_some}
+use Rattle.ilk_base.proofs.Tested.{list_any-at}
+use Rattle.ilk_plant.specs.Network.{beside, has_section, same_direction}
+use Rattle.ilk_plant.specs.NetworkRules.{opposite_direction}
 use Rattle.ilk_plant.specs.Plant.{IsPlant, PlantLists, next_to}
 use Rattle.ilk_plant.specs.Shape.{is_body, leads_on}
 use Rattle.ilk_plant.specs.Sound.{NeverReturns}
 use Rattle.ilk_plant.specs.declared.network.Dir.{Dir}
+use Rattle.ilk_plant.specs.declared.network.Dir.TheVariants.{Up, Down}
+use Rattle.ilk_plant.specs.declared.network.Section.{Section}
+use Rattle.ilk_plant.specs.declared.network.Section.TheVariants.{Linear, Point}
+use Rattle.ilk_plant.specs.declared.state.Lie.{Lie}
+use Rattle.ilk_plant.specs.declared.state.Lie.TheVariants.{Plus, Minus, Moving}
 use Rattle.ilk_plant.specs.declared.state.Train.{Train}
 use Rattle.ilk_plant.proofs.Once.{none_twice-places}
+use Rattle.ilk_motion.specs.Ahead.{leads_to}
+use Rattle.ilk_layout.specs.Wellformed.{ahead_by, joined_to}
 
 -- each section of a walk from a section of the plant is one
 pub walk-known : (p : PlantLists) → IsPlant p → (d : Dir) (x : ℕ) (walk : List ℕ) (i y : ℕ) → x < length p.sections → leads_on p d x walk ≡ true → slice_get (x ∷ walk) i ≡ Some y → y < length p.sections
@@ -40,3 +54,77 @@ body-once p train never h = once train.dir train.body h
     once : (d : Dir) (body : List ℕ) → is_body p (record { dir = d; body = body }) ≡ true → EachOnce body
     once d [] h = λ i j v at also. cc
     once d (y ∷ rest) h = none_twice-places (y ∷ rest) (never d y rest (body-parts p d y rest h).1)
+
+distinct : (xs : List ℕ) → EachOnce xs → IsDistinct eqb xs
+unfolding IsDistinct
+distinct [] once = tt
+distinct (x ∷ xs) once =
+    (others xs (λ j y at. ne_eqb x y (λ e. (let places : zero ≡ suc j = once zero (suc j) y (ap Some e) at in absurd (omega arith)))), distinct xs (λ i k v at also. (let next : suc i ≡ suc k = once (suc i) (suc k) v at also in omega arith)))
+  where
+    others : (ys : List ℕ) → ((j : ℕ) (y : ℕ) → slice_get ys j ≡ Some y → eqb x y ≡ false) → AllByRecursion (λ y. eqb x y ≡ false) ys
+    others [] f = tt
+    others (y ∷ ys) f = (f zero y refl, others ys (λ j v at. f (suc j) v at))
+
+-- different numbers below n are at most n
+few-below : (xs : List ℕ) (n : ℕ) → EachOnce xs → ((i x : ℕ) → slice_get xs i ≡ Some x → x < n) → length xs ≤ n
+few-below xs n once below =
+    length-le_from_distinct_below xs n (distinct xs once) (λ q h. (let found : (k : ℕ) × (y : ℕ) × (slice_get xs k ≡ Some y) × (eqb q y ≡ true) = list_any-at (eqb q) xs h in let same = eqb-true q found.1 found.3 in let less = below found.0 found.1 found.2 in omega arith))
+
+-- a walk has fewer steps than there are sections
+pub walk-short : (p : PlantLists) → IsPlant p → NeverReturns p → (d : Dir) (x : ℕ) (walk : List ℕ) → x < length p.sections → leads_on p d x walk ≡ true → length walk < length p.sections
+walk-short p plant never d x walk within on =
+    let few = few-below (x ∷ walk) (length p.sections) (none_twice-places (x ∷ walk) (never d x walk on)) (λ i y at. walk-known p plant d x walk i y within on at) in
+    omega arith
+
+-- what a section leads to lies beside it
+led-beside : (k : Section) (d : Dir) (lie : Option Lie) (y : ℕ) → leads_to k d lie ≡ Some y → has_section y (beside k d) ≡ true
+led-beside (Linear down up b c) Down lie y e = rw e (grind (arith, nat_tests))
+led-beside (Linear down up b c) Up lie y e = rw e (grind (arith, nat_tests))
+led-beside (Point stem plus minus Up) Up (Some Plus) y e = grind (arith, nat_tests)
+led-beside (Point stem plus minus Up) Up (Some Minus) y e = grind (arith, nat_tests)
+led-beside (Point stem plus minus Up) Up (Some Moving) y e = cc
+led-beside (Point stem plus minus Up) Up None y e = cc
+led-beside (Point stem plus minus Up) Down lie y e = grind (arith, nat_tests)
+led-beside (Point stem plus minus Down) Down (Some Plus) y e = grind (arith, nat_tests)
+led-beside (Point stem plus minus Down) Down (Some Minus) y e = grind (arith, nat_tests)
+led-beside (Point stem plus minus Down) Down (Some Moving) y e = cc
+led-beside (Point stem plus minus Down) Down None y e = cc
+led-beside (Point stem plus minus Down) Up lie y e = grind (arith, nat_tests)
+
+pub ahead-beside : (p : PlantLists) (lie : ℕ → Option Lie) (x y : ℕ) (d : Dir) → ahead_by p lie x d ≡ Some y → (x < length p.sections) × (has_section y (next_to p x d) ≡ true)
+ahead-beside p lie x y d e =
+    let found = bind_some (slice_get p.sections x) (λ k. leads_to k d (lie x)) y e in
+    (slice_get_within p.sections x found.0 found.1, rw found.1 (led-beside found.0 d (lie x) y found.2))
+
+pub turned-twice : (d : Dir) → opposite_direction (opposite_direction d) ≡ d
+turned-twice Up = refl
+turned-twice Down = refl
+
+pub same-direction : (d e : Dir) → same_direction d e ≡ true → d ≡ e
+same-direction Up Up h = refl
+same-direction Down Down h = refl
+same-direction Up Down h = cc
+same-direction Down Up h = cc
+
+pub own-direction : (d : Dir) → same_direction d d ≡ true
+own-direction Up = refl
+own-direction Down = refl
+
+-- the two halves of the way from one section to the next
+pub joined-parts : (p : PlantLists) (lie : ℕ → Option Lie) (x y : ℕ) (d : Dir) → joined_to p lie x d ≡ Some y → (ahead_by p lie x d ≡ Some y) × (ahead_by p lie y (opposite_direction d) ≡ Some x)
+joined-parts p lie x y d e =
+    let one = bind_some (ahead_by p lie x d) _ y e in
+    let two = bind_some (ahead_by p lie one.0 (opposite_direction d)) _ y one.2 in
+    let three = cond_some (two.0 == x) one.0 y two.2 in
+    let there : one.0 ≡ y = three.1 in
+    let here : two.0 ≡ x = eqb-true two.0 x three.0 in
+    (one.1 ∙ ap Some there, ap (λ v. ahead_by p lie v (opposite_direction d)) (sym there) ∙ two.1 ∙ ap Some here)
+
+pub joined-from : (p : PlantLists) (lie : ℕ → Option Lie) (x y : ℕ) (d : Dir) → ahead_by p lie x d ≡ Some y → ahead_by p lie y (opposite_direction d) ≡ Some x → joined_to p lie x d ≡ Some y
+joined-from p lie x y d there back = let own : (x == x) ≡ true = eq-eqb x x refl in rw (there, back, own) refl
+
+-- it goes both ways
+pub joined-back : (p : PlantLists) (lie : ℕ → Option Lie) (x y : ℕ) (d : Dir) → joined_to p lie x d ≡ Some y → joined_to p lie y (opposite_direction d) ≡ Some x
+joined-back p lie x y d e =
+    let parts = joined-parts p lie x y d e in
+    joined-from p lie y x (opposite_direction d) parts.1 (ap (ahead_by p lie x) (turned-twice d) ∙ parts.0)

@@ -21,7 +21,7 @@ occupancy_values p s = map (λ x. occupancy_value (occupancy_of p s x)) (range_w
 abbrev pub image_of : PlantLists → State → List ℕ
 image_of p s =
     flat_map route_values s.routes
-    ++ flat_map point_values s.points
-    ++ map aspect_value s.boards
-    ++ map hold_value s.locks
-    ++ occupancy_values p s
+    ++ (flat_map point_values s.points
+    ++ (map aspect_value s.boards
+    ++ (map hold_value s.locks
+    ++ occupancy_values p s)))

@@ -4,3 +4,5 @@ pub mod Occupancy
 pub mod Image
 pub mod Wellformed
 pub mod Standing
+pub mod Decoded
+pub mod Laws

@@ -59,7 +59,10 @@ of_value value_of all number = find (λ a. value_of a == number) all
 abbrev pub lie_of_value : ℕ → Option Lie
 lie_of_value = of_value lie_value (LiesPlus ∷ LiesMinus ∷ Moving ∷ [])
 
+abbrev pub all_occupancies : List Occupancy
+all_occupancies =
+    Vacant ∷ Taken Up false false ∷ Taken Up false true ∷ Taken Up true false ∷ Taken Up true true
+    ∷ Taken Down false false ∷ Taken Down false true ∷ Taken Down true false ∷ Taken Down true true ∷ Crash ∷ []
+
 abbrev pub occupancy_of_value : ℕ → Option Occupancy
-occupancy_of_value = of_value occupancy_value
-    (Vacant ∷ Taken Up false false ∷ Taken Up false true ∷ Taken Up true false ∷ Taken Up true true
-    ∷ Taken Down false false ∷ Taken Down false true ∷ Taken Down true false ∷ Taken Down true true ∷ Crash ∷ [])
+occupancy_of_value = of_value occupancy_value all_occupancies

@@ -55,7 +55,7 @@ points_ranges n = flat_map (λ range. range) (replicate n (3 ∷ 2 ∷ []))
 abbrev pub ranges_of_plant : PlantLists → List ℕ
 ranges_of_plant p =
     flat_map route_ranges p.routes
-    ++ points_ranges (point_count p)
-    ++ replicate (length p.boards) 2
-    ++ replicate (length p.sections) 3
-    ++ replicate (length p.sections) 10
+    ++ (points_ranges (point_count p)
+    ++ (replicate (length p.boards) 2
+    ++ (replicate (length p.sections) 3
+    ++ replicate (length p.sections) 10)))
