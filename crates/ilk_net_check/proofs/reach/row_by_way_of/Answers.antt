@@ -1,7 +1,6 @@
-use Rattle.ilk_net_check.specs.Numbers.{joined}
+use Rattle.std.proofs.Common.{◌∙◌}
+use Rattle.ilk_net_check.proofs.Rows.{row-kept}
 use Rattle.ilk_net_check.proofs.reach.row_by_way_of.Goals as goal
-use Rattle.ilk_base.proofs.Ranges.{pushed}
 
-pub loop-y-preserved : goal.loop-y-preserved
-loop-y-preserved c =
-    pushed (joined c.args.leads.now c.args.k c.args.x) c.loop-y.y c.loop-y.made c.push.new.self c.joined.result c.in_ok-push.ensures.ok c.loop-y.invariant c.joined.ensures
+pub returns-in-Some : goal.returns-in-Some
+returns-in-Some c = ?

@@ -1,7 +1,7 @@
 use Rattle.std.proofs.Common.{◌≡◌, take}
 use Rattle.ilk_plant.specs.Broken.{each_broken_at}
 use Rattle.ilk_plant.specs.TableRules.{breaks_table, count_in_plant, table_rules}
-use Rattle.ilk_table_check.proofs.table.broken_routes.Given as goal
+use Rattle.ilk_table_check.proofs.table.check_numbered_table.Given as goal
 
 abbrev pub invariant-loop-rule : goal.invariant-loop-rule
 invariant-loop-rule l =

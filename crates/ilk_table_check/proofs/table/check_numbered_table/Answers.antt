@@ -1,7 +1,7 @@
 use Rattle.ilk_base.proofs.FlatMaps.{flat_map-grows}
 use Rattle.ilk_plant.specs.Broken.{broken_at, places_of}
 use Rattle.ilk_plant.specs.TableRules.{breaks_table, count_in_plant, table_rules}
-use Rattle.ilk_table_check.proofs.table.broken_routes.Goals as goal
+use Rattle.ilk_table_check.proofs.table.check_numbered_table.Goals as goal
 
 pub loop-rule-preserved : goal.loop-rule-preserved
 loop-rule-preserved c =

@@ -4,7 +4,7 @@ use Rattle.ilk_base.proofs.FlatMaps.{flat_map-grows}
 use Rattle.ilk_net_check.proofs.Returning.{listed-walks}
 use Rattle.ilk_plant.specs.Broken.{broken_at, each_broken_at, places_of}
 use Rattle.ilk_plant.specs.NetworkRules.{breaks_network, count_in_network, network_rules, network_rules_broken}
-use Rattle.ilk_net_check.proofs.rules.check_network.Goals as goal
+use Rattle.ilk_net_check.proofs.rules.check_named_network.Goals as goal
 
 pub loop-rule-preserved : goal.loop-rule-preserved
 loop-rule-preserved c =
