@@ -1,17 +1,18 @@
-ghost use Rattle.std.specs.Prelude.{◌≡◌, ◌==◌, ◌<◌, IfOk, OnOk, ◌++◌, length};
+ghost use Rattle.std.specs.Prelude.{◌≡◌, ◌==◌, ◌<◌, IfOk, OnOk, ◌++◌, length, map};
 ghost use Rattle.std.specs.List.{list_any};
 ghost use Rattle.ilk_plant.specs.Broken.{broken_at, broken_at_pairs, places_of};
 ghost use Rattle.ilk_plant.specs.Network.{has_section};
-ghost use Rattle.ilk_plant.specs.TableRules.{count_in_plant, sections_of};
-ghost use Rattle.ilk_plant.specs.ColumnRules.{breaks_columns, breaks_columns_at_pair, column_rule_broken, column_rules_broken, lists, share_section, is_border_without_board};
+ghost use Rattle.ilk_plant.specs.TableRules.{count_in_plant, sections_locked_for};
+ghost use Rattle.ilk_plant.specs.ColumnRules.{breaks_columns, breaks_columns_at_pair, column_rule_broken, column_rules_broken, is_kept_closed_by, lists, share_section, is_border_without_board};
 ghost use Rattle.ilk_table_check.specs.Columns.{pairs_of};
 
+use crate::listed::is_listed;
 use crate::ways::{overlap_leads_on, path_ends_at_board, path_leads_on, points_are_set};
-use ilk_plant::{Broken, Places, Plant, Route, Row, Rule, has_section, push_if};
+use ilk_plant::{Broken, Listed, Places, Plant, Route, Row, Rule, has_section, push_if};
 use std::alloc::{AllocError, Global};
 
 // The rules of the columns, in order.
-const COLUMN_RULES: [Rule; 7] = [
+const COLUMN_RULES: [Rule; 8] = [
     Rule::C1,
     Rule::C2,
     Rule::C3,
@@ -19,6 +20,7 @@ const COLUMN_RULES: [Rule; 7] = [
     Rule::C5,
     Rule::C6,
     Rule::C7,
+    Rule::C8,
 ];
 
 // Whether a route lists route `j` as a conflict.
@@ -36,21 +38,33 @@ fn lists(plant: &Plant, i: u32, j: u32) -> bool
     route_lists(plant.route(i), j)
 }
 
-// Whether a route has section `x` in its path or overlap.
+// Whether a route has section `x` in its path, its overlap or its protecting points.
 fn has_in_route(route: &Route, x: u32) -> bool
-    ensures { result ≡ has_section x (sections_of route.now) }
+    ensures { result ≡ has_section x (sections_locked_for route.now) }
 {
-    has_section(&route.path, x) || has_section(&route.overlap, x)
+    has_section(&route.path, x)
+        || has_section(&route.overlap, x)
+        || is_listed(x, route.protecting_points.as_slice())
 }
 
-// Whether a route has one of these sections in its path or overlap.
+// Whether a route has one of these sections in its path, its overlap or its protecting points.
 fn has_one_of(route: &Route, sections: &Row<u32>) -> bool
-    ensures { result ≡ list_any (λ x. has_section x (sections_of route.now)) sections.now }
+    ensures { result ≡ list_any (λ x. has_section x (sections_locked_for route.now)) sections.now }
 {
     sections.as_slice().iter().any(|x| has_in_route(route, *x))
 }
 
-// Whether routes `i` and `j` have one same section in path or overlap.
+// Whether a route has one of these points in its path, its overlap or its protecting points.
+fn has_one_listed(route: &Route, points: &[Listed]) -> bool
+    ensures { result ≡ list_any (λ x. has_section x (sections_locked_for route.now)) (map (λ listed. listed.point) points.now) }
+{
+    points
+        .iter()
+        .map(|listed| listed.point)
+        .any(|x| has_in_route(route, x))
+}
+
+// Whether routes `i` and `j` have one same section in path, overlap or protecting points.
 fn share_section(plant: &Plant, i: u32, j: u32) -> bool
     requires first { i < length plant.now.routes }
     requires second { j < length plant.now.routes }
@@ -58,7 +72,25 @@ fn share_section(plant: &Plant, i: u32, j: u32) -> bool
 {
     let route = plant.route(i);
     let other = plant.route(j);
-    has_one_of(route, &other.path) || has_one_of(route, &other.overlap)
+    has_one_of(route, &other.path)
+        || has_one_of(route, &other.overlap)
+        || has_one_listed(route, other.protecting_points.as_slice())
+}
+
+// Whether a route has board `m` among its protecting boards.
+fn keeps_closed(route: &Route, m: u32) -> bool
+    ensures { result ≡ list_any (λ n. n == m) route.now.protecting_boards }
+{
+    route.protecting_boards.as_slice().iter().any(|n| *n == m)
+}
+
+// Whether the source of route `j` is a protecting board of route `i`.
+fn is_kept_closed_by(plant: &Plant, i: u32, j: u32) -> bool
+    requires first { i < length plant.now.routes }
+    requires second { j < length plant.now.routes }
+    ensures { result ≡ is_kept_closed_by plant.now i j }
+{
+    keeps_closed(plant.route(i), plant.route(j).source)
 }
 
 // Whether section `x` is a border without a board in its inward direction.
@@ -107,6 +139,7 @@ fn breaks_at_pair(plant: &Plant, rule: Rule, i: u32, j: u32) -> bool
     match rule {
         Rule::C5 => lists(plant, i, j) && !lists(plant, j, i),
         Rule::C6 => i < j && !lists(plant, i, j) && share_section(plant, i, j),
+        Rule::C8 => is_kept_closed_by(plant, i, j) && !lists(plant, i, j),
         _ => false,
     }
 }
@@ -168,7 +201,7 @@ fn push_rule(found: &mut Row<Broken>, plant: &Plant, rule: Rule) -> Result<(), A
     }
 }
 
-/// All broken rules of the columns of a plant's table of routes, C1 to C7, in the order of the
+/// All broken rules of the columns of a plant's table of routes, C1 to C8, in the order of the
 /// rules, then of the first place, then of the second. The only refusal is want of memory.
 pub fn check_columns(alloc: Global, plant: &Plant) -> Result<Row<Broken>, AllocError>
     ensures { IfOk result (λ found. found ≡ column_rules_broken plant.now) }
