@@ -1,6 +1,6 @@
 -- The families of the invariant, worked by computing: for each family states that keep it, and for each of its conditions
 -- a state that breaks that condition. What a state breaks is told of all nine families.
-use Rattle.std.proofs.Common.{◌≡◌, ℕ, Bool, not, Option, Some, None, List, [], ◌∷◌, ◌++◌, set, refl}
+use Rattle.std.proofs.Common.{◌≡◌, ℕ, not, Some, None, List, [], ◌∷◌, ◌++◌, set, refl}
 use Rattle.std.specs.List.{filter}
 use Rattle.ilk_plant.specs.Plant.{PlantLists}
 use Rattle.ilk_plant.specs.Start.{start}
