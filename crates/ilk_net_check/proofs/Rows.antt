@@ -3,7 +3,7 @@ use Rattle.std.proofs.Common.{◌≡◌, ℕ, ◌<◌, Bool, false, ◌||◌, �
 use Rattle.std.specs.List.{range_with_len}
 use Rattle.std.proofs.lemmas.List.FromFn.{get_or-map-range_with_len, length-map-range_with_len}
 use Rattle.ilk_base.proofs.Lists.{list-ext}
-use Rattle.ilk_base.proofs.Truth.{or-false}
+use Rattle.std.proofs.Math.Bool.{or-false}
 use Rattle.ilk_net_check.specs.Numbers.{entry, joined}
 
 pub row-kept : (t : List (List Bool)) (k x n : ℕ) (row : List Bool) → row ≡ get_or t x [] → length row ≡ n → get_or row k false ≡ false → row ≡ map (joined t k x) (range_with_len 0 n)
