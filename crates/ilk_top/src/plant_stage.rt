@@ -31,7 +31,7 @@ fn plant_of(
 }
 
 /// Reads a configuration to its end, and makes its plant, or finds all that it is refused with.
-/// ReadFault comes at the first fault of the source, so only where its count rose.
+/// ReadFault comes at the first fault of the source, which is not called again.
 pub fn read_plant<C: Source>(
     alloc: Global,
     columns: Columns,

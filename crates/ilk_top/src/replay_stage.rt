@@ -45,7 +45,7 @@ fn text_reply(alloc: Global, plant: &Plant, text: &[u8]) -> Result<Reply, AllocE
 }
 
 // Reads a run text to its end, and replays it over the plant. Refused where it is longer than the
-// limit; ReadFault only where the source's count rose.
+// limit; ReadFault at the first fault of the source.
 fn run_reply<D: Source>(alloc: Global, plant: &Plant, extra: &mut D) -> Result<Reply, NoReply>
     ensures ok { IfOk result (λ made. IfSome (D.left extra.old) (λ x. made ≡ run_reply plant.now x)) }
     ensures answer { IfOk result (λ made. IsTrue (is_reply made.status)) }
