@@ -13,3 +13,5 @@ pub mod SetVariables
 pub mod Learning
 pub mod LogsGrow
 pub mod Measure
+pub mod Covering
+pub mod Leading

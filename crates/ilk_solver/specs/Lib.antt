@@ -7,3 +7,5 @@ pub mod Held
 pub mod Assigned
 pub mod Learned
 pub mod Answered
+pub mod Heaviest
+pub mod Heavier

@@ -16,6 +16,7 @@
 
 mod answer;
 mod assigned;
+mod heavier;
 mod picker;
 mod propagation;
 mod restart;
