@@ -5,4 +5,5 @@ pub mod Levels
 pub mod Search
 pub mod Held
 pub mod Assigned
+pub mod Learned
 pub mod Answered

@@ -1,8 +1,9 @@
-ghost use Rattle.std.specs.Prelude.{◌≡◌, ◌≤◌, ◌<◌, ◌+◌, ◌^◌, ◌-◌, ℕ, [], false, length, not, replicate, slice_index, if◌then◌else◌, IfOk, IsTrue};
+ghost use Rattle.std.specs.Prelude.{◌≡◌, ◌≤◌, ◌<◌, ◌+◌, ◌^◌, ◌-◌, ℕ, [], false, true, length, not, replicate, slice_index, if◌then◌else◌, IfOk, IsTrue};
 ghost use Rattle.ilk_cnf.specs.Formula.{clause_in, lit_in};
 ghost use Rattle.ilk_cnf.specs.Literal.{has_var, vars_differ};
 ghost use Rattle.ilk_trail.specs.Trail.{assigned, decided, level_of, up_to, value_of_literal};
 ghost use Rattle.ilk_trail.specs.Laws.{is_set};
+ghost use Rattle.ilk_solver.specs.Assigned.{AllSet, SomeUnset};
 ghost use Rattle.ilk_solver.specs.View.{IsView, weight_of, with_entries};
 
 use ilk_cnf::Lit;
@@ -76,6 +77,15 @@ impl View {
         ensures { result.now ≡ self.now.trail }
     {
         &self.trail
+    }
+
+    // Whether every variable has a value.
+    pub(crate) fn is_complete(&self) -> bool
+        ensures yes { result ≡ true → AllSet self.now }
+        ensures no { result ≡ false → SomeUnset self.now }
+    {
+        let _ = self.vars();
+        self.trail.count() == self.vars()
     }
 
     // Adds `l` at the current level, forced by clause `reason`.

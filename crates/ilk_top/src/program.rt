@@ -1,5 +1,5 @@
 ghost use Rattle.std.specs.Prelude.{◌≡◌, ◌≢◌, ◌⊎◌, ◌↔◌, IfOk, IsTrue, Err, Some, None, false, is_ok, map, string_bytes};
-ghost use Rattle.ilk_io.specs.Faults.{Rose};
+ghost use Rattle.ilk_io.specs.Faults.{RoseByOne};
 ghost use Rattle.ilk_words.specs.Words.{command_of};
 ghost use Rattle.ilk_top.specs.Answer.{IsKnownAs, answer, command_answer, reads_extra};
 ghost use Rattle.ilk_top.specs.Outside.{ReadWhereNeeded, ReadWithin, RisesOnlyAt, Tells};
@@ -24,8 +24,8 @@ fn command_reply<C: Source, D: Source>(
     ensures ok { IfOk result (IsKnownAs (command_answer command.now (C.left conf.old) (D.left extra.old))) }
     ensures answer { IfOk result (λ made. IsTrue (is_reply made.status)) }
     ensures read_fault { result ≡ Err NoReply.ReadFault
-        → (Rose (C.faults conf.old) (C.faults conf.new) × (extra.new ≡ extra.old))
-        ⊎ ((C.faults conf.new ≡ C.faults conf.old) × Rose (D.faults extra.old) (D.faults extra.new)) }
+        → (RoseByOne (C.faults conf.old) (C.faults conf.new) × (extra.new ≡ extra.old))
+        ⊎ ((C.faults conf.new ≡ C.faults conf.old) × RoseByOne (D.faults extra.old) (D.faults extra.new)) }
     ensures conf_faults { RisesOnlyAt (result ≡ Err NoReply.ReadFault) (C.faults conf.old) (C.faults conf.new) }
     ensures extra_faults { RisesOnlyAt (result ≡ Err NoReply.ReadFault) (D.faults extra.old) (D.faults extra.new) }
     ensures conf_read { ReadWithin MAX_CONFIGURATION (is_ok result) (C.left conf.old) (C.left conf.new) }
@@ -48,7 +48,7 @@ fn tell<O: Sink>(reply: &Reply, out: &mut O) -> Status
     requires { IsTrue (is_reply reply.now.status) }
     ensures answer { Tells (Some reply.now) result (O.written out.old) (O.written out.new) }
     ensures told { IsTrue (is_told result) }
-    ensures fault { result ≡ Status.WriteFault → Rose (O.faults out.old) (O.faults out.new) }
+    ensures fault { result ≡ Status.WriteFault → RoseByOne (O.faults out.old) (O.faults out.new) }
     ensures faults { RisesOnlyAt (result ≡ Status.WriteFault) (O.faults out.old) (O.faults out.new) }
 {
     match write_all(out, reply.report.as_str().as_bytes()) {
@@ -67,9 +67,9 @@ fn perform<C: Source, D: Source, O: Sink>(
 ) -> Status
     ensures answer { Tells (answer (Some command.now) (C.left conf.old) (D.left extra.old)) result (O.written out.old) (O.written out.new) }
     ensures read_fault { result ≡ Status.ReadFault
-        → (Rose (C.faults conf.old) (C.faults conf.new) × (extra.new ≡ extra.old))
-        ⊎ ((C.faults conf.new ≡ C.faults conf.old) × Rose (D.faults extra.old) (D.faults extra.new)) }
-    ensures write_fault { result ≡ Status.WriteFault → Rose (O.faults out.old) (O.faults out.new) }
+        → (RoseByOne (C.faults conf.old) (C.faults conf.new) × (extra.new ≡ extra.old))
+        ⊎ ((C.faults conf.new ≡ C.faults conf.old) × RoseByOne (D.faults extra.old) (D.faults extra.new)) }
+    ensures write_fault { result ≡ Status.WriteFault → RoseByOne (O.faults out.old) (O.faults out.new) }
     ensures conf_faults { RisesOnlyAt (result ≡ Status.ReadFault) (C.faults conf.old) (C.faults conf.new) }
     ensures extra_faults { RisesOnlyAt (result ≡ Status.ReadFault) (D.faults extra.old) (D.faults extra.new) }
     ensures out_faults { RisesOnlyAt (result ≡ Status.WriteFault) (O.faults out.old) (O.faults out.new) }
@@ -105,9 +105,9 @@ pub fn run<C: Source, D: Source, O: Sink, L: Sink>(
 
     // a fault comes at once, and only where a count rose; a count that rose is told as a fault
     ensures read_fault { result ≡ Status.ReadFault
-        → (Rose (C.faults conf.old) (C.faults conf.new) × (extra.new ≡ extra.old))
-        ⊎ ((C.faults conf.new ≡ C.faults conf.old) × Rose (D.faults extra.old) (D.faults extra.new)) }
-    ensures write_fault { result ≡ Status.WriteFault → Rose (O.faults out.old) (O.faults out.new) }
+        → (RoseByOne (C.faults conf.old) (C.faults conf.new) × (extra.new ≡ extra.old))
+        ⊎ ((C.faults conf.new ≡ C.faults conf.old) × RoseByOne (D.faults extra.old) (D.faults extra.new)) }
+    ensures write_fault { result ≡ Status.WriteFault → RoseByOne (O.faults out.old) (O.faults out.new) }
     ensures conf_faults { RisesOnlyAt (result ≡ Status.ReadFault) (C.faults conf.old) (C.faults conf.new) }
     ensures extra_faults { RisesOnlyAt (result ≡ Status.ReadFault) (D.faults extra.old) (D.faults extra.new) }
     ensures out_faults { RisesOnlyAt (result ≡ Status.WriteFault) (O.faults out.old) (O.faults out.new) }
