@@ -1,8 +1,8 @@
-ghost use Rattle.std.specs.Prelude.{◌≡◌, ◌==◌, ◌<◌, IfOk, OnOk, ◌++◌, false, length, map, slice_index_or};
+ghost use Rattle.std.specs.Prelude.{◌≡◌, ◌==◌, ◌||◌, ◌<◌, IfOk, OnOk, ◌++◌, false, length, map, slice_index_or};
 ghost use Rattle.std.specs.List.{list_any};
 ghost use Rattle.ilk_plant.specs.Broken.{broken_at, broken_at_pairs, places_of};
 ghost use Rattle.ilk_plant.specs.Network.{has_section};
-ghost use Rattle.ilk_plant.specs.TableRules.{count_in_plant, sections_locked_for};
+ghost use Rattle.ilk_plant.specs.TableRules.{count_in_plant, protecting_points_of, sections_locked_for};
 ghost use Rattle.ilk_plant.specs.ColumnRules.{breaks_columns, breaks_columns_at_pair, column_rule_broken, column_rules_broken, is_kept_closed_by, lists, share_section, is_border_without_board};
 ghost use Rattle.ilk_table_check.specs.Columns.{locked_flags, pairs_of};
 
@@ -87,6 +87,17 @@ fn any_point_flagged(flags: &[bool], points: &[Listed]) -> bool
         .any(|x| flag_at(flags, x))
 }
 
+// Whether one of the sections of a route's path, overlap or protecting points has its flag.
+fn any_of_route_flagged(flags: &[bool], route: &Route) -> bool
+    ensures { result ≡ ((list_any (λ x. slice_index_or flags.now x false) route.now.path
+        || list_any (λ x. slice_index_or flags.now x false) route.now.overlap)
+        || list_any (λ x. slice_index_or flags.now x false) (protecting_points_of route.now)) }
+{
+    any_flagged(flags, route.path.as_slice())
+        || any_flagged(flags, route.overlap.as_slice())
+        || any_point_flagged(flags, route.protecting_points.as_slice())
+}
+
 // Whether routes `i` and `j` have one same section in path, overlap or protecting points.
 // `locked` has what is locked for route `i`.
 fn share_section(plant: &Plant, locked: &[bool], i: u32, j: u32) -> bool
@@ -96,9 +107,7 @@ fn share_section(plant: &Plant, locked: &[bool], i: u32, j: u32) -> bool
     ensures { result ≡ share_section plant.now i j }
 {
     let other = plant.route(j);
-    any_flagged(locked, other.path.as_slice())
-        || any_flagged(locked, other.overlap.as_slice())
-        || any_point_flagged(locked, other.protecting_points.as_slice())
+    any_of_route_flagged(locked, other)
 }
 
 // Whether a route has board `m` among its protecting boards.

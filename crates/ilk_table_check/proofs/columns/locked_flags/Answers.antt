@@ -1,4 +1,4 @@
-use Rattle.std.proofs.Common.{slice_get, sym, ◌∙◌}
+use Rattle.std.proofs.Common.{slice_get}
 use Rattle.ilk_base.specs.Option.{is_some_and}
 use Rattle.ilk_plant.specs.Network.{has_section}
 use Rattle.ilk_plant.specs.TableRules.{sections_locked_for}
