@@ -1,15 +1,22 @@
-ghost use Rattle.std.specs.Prelude.{◌≡◌, ◌+◌, ◌*◌, ◌≤◌, ◌∷◌, [], List, Bool, not, length, map, OnOk, IfOk, IsTrue};
+ghost use Rattle.std.specs.Prelude.{◌≡◌, ℕ, ◌+◌, ◌*◌, ◌≤◌, ◌∷◌, [], List, Bool, ◌&&◌, not, length, map, OnOk, IfOk, IsTrue};
 ghost use Rattle.std.specs.List.{list_all};
 ghost use Rattle.ilk_cnf.specs.Extends.{PartExtends, OnlyIf};
 ghost use Rattle.ilk_cnf.specs.Formula.{clause_in};
 ghost use Rattle.ilk_cnf.specs.Literal.{plus, minus, opposite};
 ghost use Rattle.ilk_cnf.specs.Part.{with_part};
 ghost use Rattle.ilk_cnf.specs.Truth.{is_true};
+ghost use Rattle.ilk_ir.specs.Form.{tree_of, trees_of};
+ghost use Rattle.ilk_ir.specs.Tree.{all_of, negation, more, tree_holds, each_holds, tree_valid, each_valid};
+ghost use Rattle.ilk_copy.specs.Copy.{LiteralsSay};
+ghost use Rattle.ilk_forms.specs.Leaf.{columns_in, ranges_of};
 ghost use Rattle.ilk_forms.specs.Demand.{some_part};
-ghost use Rattle.ilk_forms.specs.Violated.{next_violated, violated_after, first_violated_part, first_violated_bits};
+ghost use Rattle.ilk_forms.specs.Violated.{next_violated, violated_after, first_violated_part, first_violated_bits, violated_part, violated_bits};
 
 use crate::clauses::add_some;
+use crate::literals::{gather, gather_each, push_all};
 use ilk_cnf::{Cnf, Lit, Lits, all_of, any_of};
+use ilk_copy::Table;
+use ilk_ir::Form;
 use std::alloc::{AllocError, Global};
 
 // Two literals of the next instance.
@@ -92,5 +99,52 @@ pub fn first_violated(alloc: Global, cnf: &mut Cnf, kept: &[Lit]) -> Result<(), 
     ensures clauses { OnOk result (length cnf.new.clauses ≤ length cnf.old.clauses + 6 * length kept.now + 1) }
 {
     add_first_violated(alloc, cnf, kept)?;
+    Ok(())
+}
+
+/// Demands that some of the forms doesn't hold of the copy's values, by the first instance that
+/// isn't kept. The instances are the parts of And at the top of each form, or the form itself. The
+/// forms are valid over the copy's variables.
+pub fn some_fails(
+    alloc: Global,
+    cnf: &mut Cnf,
+    table: &Table,
+    forms: &[Form],
+) -> Result<(), AllocError>
+    requires within { IsTrue (columns_in cnf.old.vars table.now) }
+    requires valid { IsTrue (each_valid (ranges_of table.now) (trees_of forms.now)) }
+    ensures made { OnOk result (cnf.new ≡ with_part cnf.old (violated_part table.now (all_of (trees_of forms.now)) cnf.old.vars)) }
+
+    // Where the copy's literals say the values ws, exactly the assignments extend over the part for
+    // which some form doesn't hold of ws, and the new variables have one value each.
+    ensures law { OnOk result ((a : List Bool) (ranges ws : List ℕ) → length a ≡ cnf.old.vars → LiteralsSay a table.now ranges ws → PartExtends a (violated_part table.now (all_of (trees_of forms.now)) cnf.old.vars) (OnlyIf (not (each_holds ws (trees_of forms.now))) (violated_bits ws (all_of (trees_of forms.now))))) }
+    ensures more { OnOk result (cnf.old.vars ≤ cnf.new.vars) }
+{
+    let kept = gather_each(alloc, cnf, table, true, true, forms)?;
+    first_violated(alloc, cnf, kept.as_slice())?;
+    Ok(())
+}
+
+/// Demands that the first form holds of the copy's values, or some of the others doesn't, in the
+/// same way: an instance of the first form is a part of Or at its top, which is kept where it
+/// doesn't hold.
+pub fn holds_or_some_fails(
+    alloc: Global,
+    cnf: &mut Cnf,
+    table: &Table,
+    form: &Form,
+    forms: &[Form],
+) -> Result<(), AllocError>
+    requires within { IsTrue (columns_in cnf.old.vars table.now) }
+    requires form { IsTrue (tree_valid (ranges_of table.now) (tree_of form.now)) }
+    requires valid { IsTrue (each_valid (ranges_of table.now) (trees_of forms.now)) }
+    ensures made { OnOk result (cnf.new ≡ with_part cnf.old (violated_part table.now (all_of (more (negation (tree_of form.now)) (trees_of forms.now))) cnf.old.vars)) }
+    ensures law { OnOk result ((a : List Bool) (ranges ws : List ℕ) → length a ≡ cnf.old.vars → LiteralsSay a table.now ranges ws → PartExtends a (violated_part table.now (all_of (more (negation (tree_of form.now)) (trees_of forms.now))) cnf.old.vars) (OnlyIf (not (not (tree_holds ws (tree_of form.now)) && each_holds ws (trees_of forms.now))) (violated_bits ws (all_of (more (negation (tree_of form.now)) (trees_of forms.now)))))) }
+    ensures more { OnOk result (cnf.old.vars ≤ cnf.new.vars) }
+{
+    let mut kept = gather(alloc, cnf, table, true, false, form)?;
+    let others = gather_each(alloc, cnf, table, true, true, forms)?;
+    push_all(&mut kept, others.as_slice())?;
+    first_violated(alloc, cnf, kept.as_slice())?;
     Ok(())
 }
