@@ -1,0 +1,9 @@
+pub mod Bodies
+pub mod Trains
+pub mod Plants
+pub mod Pushes
+pub mod Standing
+pub mod Parts
+pub mod Places
+pub mod Writes
+pub mod Examples

@@ -1,0 +1,27 @@
+-- The image of a state: the values of the plant's variables, in their order.
+use Rattle.std.specs.Prelude.{ℕ, List, [], ◌∷◌, ◌++◌, map, length}
+use Rattle.std.specs.List.{flat_map, range_with_len}
+use Rattle.ilk_plant.specs.Plant.{PlantLists}
+use Rattle.ilk_plant.specs.declared.state.PointState.{PointState}
+use Rattle.ilk_plant.specs.declared.state.RouteState.{RouteState}
+use Rattle.ilk_plant.specs.declared.state.State.{State}
+use Rattle.ilk_layout.specs.Occupancy.{occupancy_of}
+use Rattle.ilk_layout.specs.Values.{aspect_value, hold_value, lie_value, mode_value, occupancy_value, position_value}
+
+abbrev pub route_values : RouteState → List ℕ
+route_values now = mode_value now.mode ∷ now.seen ∷ now.rel ∷ []
+
+abbrev pub point_values : PointState → List ℕ
+point_values point = lie_value point.at ∷ position_value point.to ∷ []
+
+-- the numbers of the occupancies of all sections
+abbrev pub occupancy_values : PlantLists → State → List ℕ
+occupancy_values p s = map (λ x. occupancy_value (occupancy_of p s x)) (range_with_len 0 (length p.sections))
+
+abbrev pub image_of : PlantLists → State → List ℕ
+image_of p s =
+    flat_map route_values s.routes
+    ++ flat_map point_values s.points
+    ++ map aspect_value s.boards
+    ++ map hold_value s.locks
+    ++ occupancy_values p s

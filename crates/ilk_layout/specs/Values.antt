@@ -1,0 +1,65 @@
+-- The numbers of values: those of each type are numbered from 0, in the order of its declaration.
+use Rattle.std.specs.Prelude.{ℕ, true, false, Option, List, [], ◌∷◌, ◌==◌, find}
+use Rattle.ilk_plant.specs.declared.network.Dir.TheVariants.{Up, Down}
+use Rattle.ilk_plant.specs.declared.network.Position.{Position}
+use Rattle.ilk_plant.specs.declared.network.Position.TheVariants.{Plus, Minus}
+use Rattle.ilk_plant.specs.declared.state.Aspect.{Aspect}
+use Rattle.ilk_plant.specs.declared.state.Aspect.TheVariants.{Open, Closed}
+use Rattle.ilk_plant.specs.declared.state.Hold.{Hold}
+use Rattle.ilk_plant.specs.declared.state.Hold.TheVariants.{Free as FreeLock, Locked as LockedLock, Used as UsedLock}
+use Rattle.ilk_plant.specs.declared.state.Lie.{Lie}
+use Rattle.ilk_plant.specs.declared.state.Lie.TheVariants.{Plus as LiesPlus, Minus as LiesMinus, Moving}
+use Rattle.ilk_plant.specs.declared.state.Mode.{Mode}
+use Rattle.ilk_plant.specs.declared.state.Mode.TheVariants.{Free, Marked, Allocating, Locked, Occupied}
+use Rattle.ilk_layout.specs.declared.values.Occupancy.{Occupancy}
+use Rattle.ilk_layout.specs.declared.values.Occupancy.TheVariants.{Vacant, Taken, Crash}
+
+abbrev pub mode_value : Mode → ℕ
+mode_value Free = 0
+mode_value Marked = 1
+mode_value Allocating = 2
+mode_value Locked = 3
+mode_value Occupied = 4
+
+abbrev pub lie_value : Lie → ℕ
+lie_value LiesPlus = 0
+lie_value LiesMinus = 1
+lie_value Moving = 2
+
+abbrev pub position_value : Position → ℕ
+position_value Plus = 0
+position_value Minus = 1
+
+abbrev pub aspect_value : Aspect → ℕ
+aspect_value Open = 0
+aspect_value Closed = 1
+
+abbrev pub hold_value : Hold → ℕ
+hold_value FreeLock = 0
+hold_value LockedLock = 1
+hold_value UsedLock = 2
+
+-- 0 for vacant and 9 for crash; else 1, and 4 for a train down, 2 for its tail, 1 for its head
+abbrev pub occupancy_value : Occupancy → ℕ
+occupancy_value Vacant = 0
+occupancy_value (Taken Up false false) = 1
+occupancy_value (Taken Up false true) = 2
+occupancy_value (Taken Up true false) = 3
+occupancy_value (Taken Up true true) = 4
+occupancy_value (Taken Down false false) = 5
+occupancy_value (Taken Down false true) = 6
+occupancy_value (Taken Down true false) = 7
+occupancy_value (Taken Down true true) = 8
+occupancy_value Crash = 9
+
+-- of some values, the one that has this number
+abbrev pub of_value : {A : Type 0} → (A → ℕ) → List A → ℕ → Option A
+of_value value_of all number = find (λ a. value_of a == number) all
+
+abbrev pub lie_of_value : ℕ → Option Lie
+lie_of_value = of_value lie_value (LiesPlus ∷ LiesMinus ∷ Moving ∷ [])
+
+abbrev pub occupancy_of_value : ℕ → Option Occupancy
+occupancy_of_value = of_value occupancy_value
+    (Vacant ∷ Taken Up false false ∷ Taken Up false true ∷ Taken Up true false ∷ Taken Up true true
+    ∷ Taken Down false false ∷ Taken Down false true ∷ Taken Down true false ∷ Taken Down true true ∷ Crash ∷ [])
