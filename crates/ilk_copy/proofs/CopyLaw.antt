@@ -22,7 +22,7 @@ use Rattle.ilk_ints.specs.Named.{values_part, bounds_part, values_bits, bounds_b
 use Rattle.ilk_ints.proofs.ValuesLaw.{values_part-low, values_part-law, values_part-say, bits_at-left}
 use Rattle.ilk_ints.proofs.BoundsLaw.{bounds_part-law}
 use Rattle.ilk_ints.proofs.TableParts.{bit_count-enough, values_part-in, values_part-lits_in, length-values_part, bounds_part-low, bounds_part-in}
-use Rattle.ilk_copy.specs.Copy.{numbers_part, columns_part, copy_part, numbers_bits, columns_bits, total_bits, column_part, IsCopy}
+use Rattle.ilk_copy.specs.Copy.{numbers_part, columns_part, copy_part, numbers_bits, columns_bits, total_bits, column_part, HaveBits, IsCopy}
 
 -- each range is at most what its bits can say
 abbrev pub ranges_fit : List ℕ → Bool
@@ -72,13 +72,6 @@ numbers-law (range ∷ ranges) a n size fit =
 pub numbers-end : (ranges : List ℕ) (n : ℕ) → (numbers_part ranges n).vars ≡ n + total_bits ranges
 numbers-end [] n = omega arith
 numbers-end (range ∷ ranges) n = let h = numbers-end ranges (n + bit_count range) in omega arith
-
--- the variables have the bits of these values
-abbrev pub HaveBits : List Bool → ℕ → List ℕ → List ℕ → Type 0
-HaveBits a first [] ws = Unit {0}
-HaveBits a first (range ∷ ranges) [] = ⊥
-HaveBits a first (range ∷ ranges) (w ∷ ws) =
-    (bits_at a first (bit_count range) ≡ bits_of (bit_count range) w) × HaveBits a (first + bit_count range) ranges ws
 
 pub HaveBits-left : (ranges ws : List ℕ) (a c : List Bool) (first : ℕ) → first + total_bits ranges ≤ length a + 1 → HaveBits a first ranges ws → HaveBits (a ++ c) first ranges ws
 HaveBits-left [] ws a c first fits h = tt
@@ -167,6 +160,31 @@ columns-law (range ∷ ranges) (w ∷ ws) a first n size low high fit inside has
   where
     assoc_fits : (f b t m : ℕ) → f + (b + t) ≤ m + 1 → f + b + t ≤ m + 1
     assoc_fits f b t m h = omega arith
+
+pub columns-in : (ranges : List ℕ) (first n : ℕ) → 0 < first → first + total_bits ranges ≤ n + 1 → ranges_fit ranges ≡ true → clauses_in (columns_part ranges first n).part.vars (columns_part ranges first n).part.clauses ≡ true
+columns-in [] first n low high fit = refl
+columns-in (range ∷ ranges) first n low high fit =
+    let fits = and_parts _ _ fit in
+    let enough : range ≤ 2 ^ bit_count range = leb-true range (2 ^ bit_count range) fits.0 in
+    let p = column_part first range n in
+    let m = p.part.vars in
+    let grows : n ≤ m = column-low first range n in
+    let rest = columns_part ranges (first + bit_count range) m in
+    list_all-append (clause_in rest.part.vars) p.part.clauses rest.part.clauses
+    ∙ and_from _ _ (clauses_in-more m rest.part.vars p.part.clauses (columns-low ranges (first + bit_count range) m) (column-in first range n low (omega arith) enough)) (columns-in ranges (first + bit_count range) m (omega (arith, low)) (omega (arith, high, grows)) fits.1)
+
+pub copy-low : (ranges : List ℕ) (n : ℕ) → n ≤ (copy_part ranges n).part.vars
+copy-low ranges n =
+    let one = numbers-low ranges n in
+    let two = columns-low ranges (n + 1) (numbers_part ranges n).vars in
+    omega arith
+
+pub copy-in : (ranges : List ℕ) (n : ℕ) → ranges_fit ranges ≡ true → clauses_in (copy_part ranges n).part.vars (copy_part ranges n).part.clauses ≡ true
+copy-in ranges n fit =
+    let p = numbers_part ranges n in
+    let rest = columns_part ranges (n + 1) p.vars in
+    list_all-append (clause_in rest.part.vars) p.clauses rest.part.clauses
+    ∙ and_from _ _ (clauses_in-more p.vars rest.part.vars p.clauses (columns-low ranges (n + 1) p.vars) (numbers-in ranges n)) (columns-in ranges (n + 1) p.vars (omega arith) (omega (arith, numbers-end ranges n)) fit)
 
 -- one variable more
 

@@ -1,2 +1,3 @@
 pub mod CopyLaw
 pub mod CopySays
+pub mod CopyFew

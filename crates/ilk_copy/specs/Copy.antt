@@ -2,7 +2,7 @@
 use Rattle.std.specs.Prelude.{ℕ, ◌+◌, Bool, true, List, [], ◌∷◌, ◌++◌, ◌≡◌, map}
 use Rattle.ilk_cnf.specs.Truth.{is_true}
 use Rattle.ilk_cnf.specs.Part.{Part, nothing_at, and_then}
-use Rattle.ilk_ints.specs.Bits.{bit_count, bits_of}
+use Rattle.ilk_ints.specs.Bits.{bit_count, bits_of, bits_at}
 use Rattle.ilk_ints.specs.Number.{number_part}
 use Rattle.ilk_ints.specs.Named.{values_part, bounds_part, values_bits, bounds_bits, bound_count, value_bits, bound_bits}
 use Rattle.ilk_ir.specs.System.{in_ranges}
@@ -70,6 +70,13 @@ copy_bits ranges ws = numbers_bits ranges ws ++ columns_bits ranges ws
 -- those of some values in range
 abbrev pub IsCopy : List ℕ → List Bool → Type 0
 IsCopy ranges b = (ws : List ℕ) × (in_ranges ws ranges ≡ true) × (b ≡ copy_bits ranges ws)
+
+-- the variables from `first` on have the bits of these values
+abbrev pub HaveBits : List Bool → ℕ → List ℕ → List ℕ → Type 0
+HaveBits a first [] ws = Unit {0}
+HaveBits a first (range ∷ ranges) [] = ⊥
+HaveBits a first (range ∷ ranges) (w ∷ ws) =
+    (bits_at a first (bit_count range) ≡ bits_of (bit_count range) w) × HaveBits a (first + bit_count range) ranges ws
 
 -- each variable's literals say its value, and its bounds
 abbrev pub LiteralsSay : List Bool → List Column → List ℕ → List ℕ → Type 0

@@ -1,4 +1,4 @@
-ghost use Rattle.std.specs.Prelude.{◌≡◌, ℕ, ◌+◌, ◌<◌, ◌≤◌, ◌++◌, List, Bool, nat_lt, length, OnOk, IfOk, IsTrue};
+ghost use Rattle.std.specs.Prelude.{◌≡◌, ℕ, ◌+◌, ◌*◌, ◌<◌, ◌≤◌, ◌++◌, List, Bool, nat_lt, sum, length, OnOk, IfOk, IsTrue};
 ghost use Rattle.std.specs.List.{list_all};
 ghost use Rattle.ilk_cnf.specs.Extends.{PartExtends};
 ghost use Rattle.ilk_cnf.specs.Part.{with_part};
@@ -75,6 +75,9 @@ pub fn add_copy(alloc: Global, cnf: &mut Cnf, ranges: &Ranges) -> Result<Table, 
     ensures table { IfOk result (λ table. table ≡ (copy_part ranges.now cnf.old.vars).columns) }
     ensures made { OnOk result (cnf.new ≡ with_part cnf.old (copy_part ranges.now cnf.old.vars).part) }
     ensures law { OnOk result ((a : List Bool) → length a ≡ cnf.old.vars → IsTrue (list_all (λ range. nat_lt range 256) ranges.now) → PartExtends a (copy_part ranges.now cnf.old.vars).part (IsCopy ranges.now)) }
+
+    // At most two variables for each value of a variable.
+    ensures vars { OnOk result (cnf.new.vars ≤ cnf.old.vars + 2 * sum ranges.now) }
 
     // There each variable's literals say its value, whatever follows the copy.
     ensures exact { OnOk result ((a c : List Bool) (ws : List ℕ) → length a ≡ cnf.old.vars → IsTrue (list_all (λ range. nat_lt range 256) ranges.now) → IsTrue (in_ranges ws ranges.now) → LiteralsSay (a ++ (copy_bits ranges.now ws ++ c)) (copy_part ranges.now cnf.old.vars).columns ranges.now ws) }

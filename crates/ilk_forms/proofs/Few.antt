@@ -28,7 +28,7 @@ gate-few : (all : Bool) (ls : List Literal) (n : ℕ) → ((gate_part all ls n).
 gate-few true ls n = (refl, equals_all-few (plus (n + 1)) ls)
 gate-few false ls n = (refl, equals_all-few (minus (n + 1)) (map opposite ls) ∙ ap (λ (k : ℕ). k + 1) (length-map ls opposite))
 
-single_of-few : (all : Bool) (ls : List Literal) (n : ℕ) → ((single_of all ls n).part.vars ≤ n + 1) × (length (single_of all ls n).part.clauses ≤ length ls + 1)
+pub single_of-few : (all : Bool) (ls : List Literal) (n : ℕ) → ((single_of all ls n).part.vars ≤ n + 1) × (length (single_of all ls n).part.clauses ≤ length ls + 1)
 single_of-few all [] n = let h = gate-few all [] n in (omega (arith, h.0), omega (arith, h.1))
 single_of-few all (l ∷ []) n = (omega arith, omega arith)
 single_of-few all (l ∷ m ∷ ls) n = let h = gate-few all (l ∷ m ∷ ls) n in (omega (arith, h.0), omega (arith, h.1))

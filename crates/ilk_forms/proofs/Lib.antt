@@ -8,3 +8,4 @@ pub mod LiteralLaw
 pub mod ViolatedLaw
 pub mod Few
 pub mod CopyTable
+pub mod FormViolated

@@ -1,11 +1,13 @@
 -- The demand that some of several instances is violated, by the first one that is.
-use Rattle.std.specs.Prelude.{ℕ, ◌+◌, Bool, not, List, [], ◌∷◌, ◌&&◌}
+use Rattle.std.specs.Prelude.{ℕ, ◌+◌, Bool, true, false, not, List, [], ◌∷◌, ◌++◌, ◌&&◌, ◌||◌, if◌then◌else◌}
 use Rattle.ilk_cnf.specs.Literal.{Literal, plus, minus, opposite}
-use Rattle.ilk_cnf.specs.Part.{Part, and_then, all_of_part, any_of_part}
+use Rattle.ilk_cnf.specs.Part.{Part, nothing_at, and_then, all_of_part, any_of_part}
 use Rattle.ilk_ints.specs.Named.{Named}
-use Rattle.ilk_forms.specs.Gathered.{no_literals, then_named}
+use Rattle.ilk_ir.specs.Tree.{Tree, yes, no, is, all_of, any_of, negation, Trees, none, more}
+use Rattle.ilk_copy.specs.declared.copy.Column.{Column}
+use Rattle.ilk_forms.specs.Gathered.{no_literals, then_named, gathered}
 use Rattle.ilk_forms.specs.Demand.{one_clause, some_part}
-use Rattle.ilk_forms.specs.Truths.{Truths, no_truths, then_truths}
+use Rattle.ilk_forms.specs.Truths.{Truths, no_truths, then_truths, truths}
 
 -- after n variables, where `before` says that each instance before is kept and `kept` that this one is: a variable that is false exactly where this is the first that isn't, and one that is true where each is kept so far
 abbrev pub next_violated : Literal → Literal → ℕ → Named
@@ -36,3 +38,36 @@ truths_after before (kept ∷ others) = then_truths (next_truths before kept) (t
 abbrev pub first_violated_bits : List Bool → List Bool
 first_violated_bits [] = []
 first_violated_bits (kept ∷ others) = (truths_after kept others).bits
+
+-- whether there are no trees
+abbrev pub no_trees : Trees → Bool
+no_trees none = true
+no_trees (more t ts) = false
+
+-- whether some instance of the form (positive), or of its negation, is plainly never kept: it is No, or Or of nothing
+abbrev mutual
+  pub never_kept : Bool → Tree → Bool
+  never_kept positive yes = not positive
+  never_kept positive no = positive
+  never_kept positive (is v c) = false
+  never_kept true (all_of ts) = some_never true ts
+  never_kept false (all_of ts) = no_trees ts
+  never_kept true (any_of ts) = no_trees ts
+  never_kept false (any_of ts) = some_never false ts
+  never_kept positive (negation t) = never_kept (not positive) t
+
+  pub some_never : Bool → Trees → Bool
+  some_never positive none = false
+  some_never positive (more t ts) = never_kept positive t || some_never positive ts
+
+-- after n variables: the form doesn't hold, by the first of its instances that isn't kept; the instances are the parts of And at its top. Nothing is demanded where one is plainly never kept
+abbrev pub violated_part : List Column → Tree → ℕ → Part
+violated_part columns t n =
+    if never_kept true t
+    then nothing_at n
+    else and_then (gathered columns true true t n).part (first_violated_part (gathered columns true true t n).lits)
+
+-- the values of the new variables, where the copy has the values ws
+abbrev pub violated_bits : List ℕ → Tree → List Bool
+violated_bits ws t =
+    if never_kept true t then [] else (truths ws true true t).bits ++ first_violated_bits (truths ws true true t).lits

@@ -8,8 +8,9 @@
 //! exactly one way, by the values of `specs/Truths`. `literal_of` answers a literal for a whole
 //! form.
 //!
-//! Where one of many instances is to be violated, each instance gets its literal by `literal_of`,
-//! and `first_violated` demands that some instance is the first that isn't kept (`specs/Violated`).
+//! Where some form is not to hold, its instances are the parts of And at its top. `some_fails` and
+//! `holds_or_some_fails` give each instance a literal, and `first_violated` demands that some
+//! instance is the first that isn't kept (`specs/Violated`).
 #![tactic(auto)]
 
 mod clauses;
@@ -18,4 +19,4 @@ mod violated;
 
 pub use clauses::demand;
 pub use literals::literal_of;
-pub use violated::first_violated;
+pub use violated::{first_violated, holds_or_some_fails, some_fails};

@@ -99,7 +99,7 @@ pub fn push_all(lits: &mut Lits, more: &[Lit]) -> Result<(), AllocError>
 // The literals of which all are true, or some, exactly where the form holds (`positive`), or where
 // it doesn't.
 #[cycle(gather)]
-fn gather(
+pub fn gather(
     alloc: Global,
     cnf: &mut Cnf,
     table: &Table,

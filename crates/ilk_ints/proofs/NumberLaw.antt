@@ -85,24 +85,28 @@ value-below a first range enough sat = below
     below : IsValue range (bits_at a first b)
     below = elim (cases_lt v range) [ inl low ↦ (v, low, is) | inr high ↦ absurd (past high) ]
 
+-- where the bits are those of a value, no pattern that is ruled out is theirs
+pub value-passes : (a : List Bool) (first range w : ℕ) → range ≤ 2 ^ bit_count range → w < range → bits_at a first (bit_count range) ≡ bits_of (bit_count range) w → satisfies a (ruled_out first range) ≡ true
+value-passes a first range w enough less bits =
+    satisfies-map a (λ v. map opposite (value_lits first range v)) (range_with_len range (2 ^ b - range)) ∙ range-each (λ v. some_true a (map opposite (value_lits first range v))) (2 ^ b - range) range (λ i low high. other i low (omega arith))
+  where
+    b : ℕ
+    b = bit_count range
+
+    other : (i : ℕ) → range ≤ i → i < 2 ^ b → some_true a (map opposite (value_lits first range i)) ≡ true
+    other i low high =
+        let differs : bits_have_value a first range i ≡ false = ap (λ (u : List Bool). same_bits u (bits_of b i)) bits ∙ bits-test b w i (omega arith) high ∙ ne_eqb w i (λ k. absurd (omega arith)) in
+        ruled-says a first range i ∙ ap not differs
+
 pub number-law : (a : List Bool) (range n : ℕ) → range ≤ 2 ^ bit_count range → length a ≡ n → Extends a (number_part range n).vars (number_part range n).clauses (IsValue range)
 number-law a range n enough size = record {
   sized = λ d h. (let is = h.2 in omega (arith, length-append a d, size, ap length is, length-bits (bit_count range) h.0));
-  does = λ d h. satisfies-map (a ++ d) (λ v. map opposite (value_lits (n + 1) range v)) (range_with_len range (2 ^ bit_count range - range)) ∙ range-each (λ v. some_true (a ++ d) (map opposite (value_lits (n + 1) range v))) (2 ^ bit_count range - range) range (λ i low high. other d h i low (omega arith));
+  does = λ d h. value-passes (a ++ d) (n + 1) range h.0 enough h.1 (at d (ap length h.2 ∙ length-bits (bit_count range) h.0) ∙ h.2);
   only = λ d long sat. value d (omega (arith, length-append a d, size, long)) sat;
 }
   where
     at : (d : List Bool) → length d ≡ bit_count range → bits_at (a ++ d) (n + 1) (bit_count range) ≡ d
     at d l = ap (λ (k : ℕ). bits_at (a ++ d) (n + 1) k) (sym l) ∙ bits_at-new d a (n + 1) (ap (λ (k : ℕ). k + 1) size)
-
-    other : (d : List Bool) (h : IsValue range d) (i : ℕ) → range ≤ i → i < 2 ^ bit_count range → some_true (a ++ d) (map opposite (value_lits (n + 1) range i)) ≡ true
-    other d h i low high =
-        let b = bit_count range in
-        let less = h.1 in
-        let l : length d ≡ b = ap length h.2 ∙ length-bits b h.0 in
-        let bits : bits_at (a ++ d) (n + 1) b ≡ bits_of b h.0 = at d l ∙ h.2 in
-        let differs : bits_have_value (a ++ d) (n + 1) range i ≡ false = ap (λ (u : List Bool). same_bits u (bits_of b i)) bits ∙ bits-test b h.0 i (omega arith) high ∙ ne_eqb h.0 i (λ k. absurd (omega arith)) in
-        ruled-says (a ++ d) (n + 1) range i ∙ ap not differs
 
     value : (d : List Bool) → length d ≡ bit_count range → satisfies (a ++ d) (ruled_out (n + 1) range) ≡ true → IsValue range d
     value d l sat = subst (IsValue range) (at d l) (value-below (a ++ d) (n + 1) range enough sat)

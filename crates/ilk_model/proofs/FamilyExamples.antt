@@ -1,8 +1,9 @@
 -- The families of the invariant, worked by computing: for each family states that keep it, and for each of its conditions
 -- a state that breaks that condition. What a state breaks is told of all nine families.
-use Rattle.std.proofs.Common.{◌≡◌, ℕ, Bool, not, Option, Some, None, List, [], ◌∷◌, ◌++◌, set, refl}
+use Rattle.std.proofs.Common.{◌≡◌, ℕ, not, Some, None, List, [], ◌∷◌, ◌++◌, set, refl}
 use Rattle.std.specs.List.{filter}
 use Rattle.ilk_plant.specs.Plant.{PlantLists}
+use Rattle.ilk_plant.proofs.Shapes.{shape-true, start-shape}
 use Rattle.ilk_plant.specs.Start.{start}
 use Rattle.ilk_plant.specs.declared.network.Board.{Board}
 use Rattle.ilk_plant.specs.declared.network.Dir.{Dir}
@@ -20,7 +21,7 @@ use Rattle.ilk_plant.specs.declared.state.State.{State}
 use Rattle.ilk_plant.specs.declared.table.Listed.{Listed}
 use Rattle.ilk_plant.specs.declared.table.Route.{Route}
 use Rattle.ilk_routes.specs.Locks.{with_locks}
-use Rattle.ilk_model.specs.Meets.{keeps}
+use Rattle.ilk_model.specs.Meets.{Meets, keeps}
 
 abbrev board : ℕ → Dir → Board
 board x d = record { section = x; dir = d }
@@ -95,6 +96,21 @@ broken s = filter (λ j. not (keeps station s j)) (1 ∷ 2 ∷ 3 ∷ 4 ∷ 5 ∷
 -- no family is broken at the start
 nothing_breaks : broken at_rest ≡ []
 nothing_breaks = refl
+
+-- so the start meets the invariant
+start_meets : Meets station at_rest
+start_meets = record { shape = start-shape station; no_hazard = refl; families_kept = refl }
+
+-- and so does a state in which a train has passed the source of route 0, and is sensed in its first section
+abbrev on_its_way : State
+on_its_way = with_route 0 Occupied 1 0 (locked (2 ∷ []) (used (1 ∷ []) (with_train Up (0 ∷ 1 ∷ []) at_rest)))
+
+on_its_way_meets : Meets station on_its_way
+on_its_way_meets = record {
+  shape = shape-true station on_its_way (record { routes = refl; points = refl; boards = refl; locks = refl }) refl refl;
+  no_hazard = refl;
+  families_kept = refl;
+}
 
 -- V1
 -- a route that is Free has seen a section

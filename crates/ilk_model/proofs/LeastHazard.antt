@@ -1,5 +1,5 @@
 -- The least hazard, by the bits of the sections that two or more trains have.
-use Rattle.std.proofs.Common.{◌≡◌, ℕ, ◌<◌, Bool, true, false, ◌==◌, ◌||◌, cond, Some, None, option_map, length, find, refl, sym, ap, ◌∙◌, arith}
+use Rattle.std.proofs.Common.{◌≡◌, ℕ, ◌<◌, Bool, ◌||◌, cond, Some, None, option_map, length, find, sym, ap, ◌∙◌, arith}
 use Rattle.std.specs.List.{range_with_len}
 use Rattle.ilk_plant.specs.Plant.{IsPlant, PlantLists}
 use Rattle.ilk_plant.specs.declared.state.State.{State}

@@ -1,11 +1,10 @@
 -- A step extends an assignment in exactly one way for each rule that leads from the one copy's values to the next's.
-use Rattle.std.proofs.Common.{◌≡◌, ℕ, ◌+◌, ◌<◌, ◌≤◌, Bool, true, ◌&&◌, List, [], ◌∷◌, ◌++◌, length, map, slice_get, Option, Some, None, refl, sym, ap, ◌∙◌, subst, arith, length-append, append_assoc}
+use Rattle.std.proofs.Common.{◌≡◌, ℕ, ◌+◌, ◌<◌, ◌≤◌, Bool, true, ◌&&◌, List, [], ◌∷◌, ◌++◌, length, map, slice_get, Option, Some, None, refl, sym, ap, ◌∙◌, subst, arith, append_assoc}
 use Rattle.std.specs.List.{list_all}
 use Rattle.std.specs.Prelude.{option_and_then}
 use Rattle.std.proofs.lemmas.List.{append-nil, length-map}
 use Rattle.std.proofs.lemmas.Bool.{and_parts, and_from}
 use Rattle.std.proofs.lemmas.Option.{slice_get_within, same_Some}
-use Rattle.ilk_base.proofs.Lengths.{longer}
 use Rattle.ilk_base.proofs.Lists.{item_at}
 use Rattle.ilk_base.proofs.Tested.{list_all-slice_get}
 use Rattle.ilk_cnf.specs.Formula.{clause_in}
@@ -33,7 +32,7 @@ use Rattle.ilk_step.proofs.FrameSteps.{frames-in}
 use Rattle.ilk_step.proofs.RulesLaw.{then-fits, then-law, rules-fits, rules-law, one_met}
 
 -- the literals of a copy say its values, whatever follows
-says-left : (columns : List Column) (ranges ws : List ℕ) (a e : List Bool) (n : ℕ) → length a ≡ n → columns_in n columns ≡ true → LiteralsSay a columns ranges ws → LiteralsSay (a ++ e) columns ranges ws
+pub says-left : (columns : List Column) (ranges ws : List ℕ) (a e : List Bool) (n : ℕ) → length a ≡ n → columns_in n columns ≡ true → LiteralsSay a columns ranges ws → LiteralsSay (a ++ e) columns ranges ws
 says-left [] ranges ws a e n size inside h = tt
 says-left (column ∷ columns) [] ws a e n size inside h = absurd h
 says-left (column ∷ columns) (range ∷ ranges) [] a e n size inside h = absurd h
@@ -111,6 +110,15 @@ after-law rs now next ws xs a k m r rule c low high valid hw hx chosen at =
     subst (λ (d : List Bool). Extends a p.vars (p.clauses ++ frames rs k 0 now next) (OnlyIf (met && keeps) d)) (append-nil e) both
 
 -- the whole step
+
+pub step-fits : (rules : List RuleTree) (now next : List Column) (n : ℕ) → columns_in n now ≡ true → columns_in n next ≡ true → ranges_of next ≡ ranges_of now → list_all (rule_valid (ranges_of now)) rules ≡ true → PartFits n (step_part rules now next n)
+step-fits rules now next n hn hx same valid =
+    let count = length rules in
+    let p = choice_part count n in
+    let grows : n + count ≤ p.vars = choice-low count n in
+    let first : PartFits n p = record { low = omega (arith, grows); inside = choice-in count n } in
+    let more = first.low in
+    then-fits n p (after_choice rules now next (n + 1)) first (after-fits rules now next (n + 1) p.vars (columns_in-more n p.vars now more hn) (columns_in-more n p.vars next more hx) same (omega arith) (omega (arith, grows)) valid)
 
 pub step-law : (rules : List RuleTree) (now next : List Column) (ws xs : List ℕ) (a : List Bool) (n : ℕ) → Copies a n now next ws xs → list_all (rule_valid (ranges_of now)) rules ≡ true → in_ranges ws (ranges_of now) ≡ true → in_ranges xs (ranges_of now) ≡ true → Extends a (step_part rules now next n).vars (step_part rules now next n).clauses (IsStep rules ws xs)
 step-law rules now next ws xs a n c valid hw hx =

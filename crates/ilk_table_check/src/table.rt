@@ -232,17 +232,6 @@ fn push_rule(found: &mut Row<Broken>, plant: &Numbered, rule: Rule) -> Result<()
     Ok(())
 }
 
-// The broken rules of a numbered table, in the order of the rules and then of the routes.
-fn broken_routes(alloc: Global, plant: &Numbered) -> Result<Row<Broken>, AllocError>
-    ensures { IfOk result (λ found. found ≡ routes_broken plant.now) }
-{
-    let mut found = Row::new(alloc);
-    for rule in &TABLE_RULES {
-        push_rule(&mut found, plant, *rule)?;
-    }
-    Ok(found)
-}
-
 /// All broken rules of a table of routes, R1 to R8, in the order of the rules and then of the
 /// routes. A name stands for the first section, board or route that has it. Network and table are
 /// within the limits. The only refusal is want of memory.
@@ -255,5 +244,16 @@ pub fn check_table(
     ensures { IfOk result (λ found. found ≡ table_rules_broken net.now table.now) }
 {
     let plant = Numbered::of(alloc, net, table)?;
-    broken_routes(alloc, &plant)
+    check_numbered_table(alloc, &plant)
+}
+
+/// The same, of drafts that are numbered already.
+pub fn check_numbered_table(alloc: Global, plant: &Numbered) -> Result<Row<Broken>, AllocError>
+    ensures { IfOk result (λ found. found ≡ routes_broken plant.now) }
+{
+    let mut found = Row::new(alloc);
+    for rule in &TABLE_RULES {
+        push_rule(&mut found, plant, *rule)?;
+    }
+    Ok(found)
 }

@@ -1,9 +1,10 @@
 use Rattle.ilk_copy.proofs.CopySays.{copy-say}
-use Rattle.std.proofs.Common.{◌∙◌, ℕ, List, ap}
+use Rattle.std.proofs.Common.{◌∙◌, ℕ, List, ap, arith}
 use Rattle.ilk_cnf.specs.Formula.{Formula}
 use Rattle.ilk_cnf.proofs.Extending.{extends-as_clauses}
 use Rattle.ilk_copy.specs.Copy.{numbers_part, copy_part, IsCopy}
 use Rattle.ilk_copy.proofs.CopyLaw.{columns_fit, copy_made, copy-law, ranges_fit-small}
+use Rattle.ilk_copy.proofs.CopyFew.{copy-few}
 use Rattle.ilk_copy.proofs.copy.add_copy.Goals as goal
 
 pub add_columns-requires-clause-within : goal.add_columns-requires-clause-within
@@ -25,3 +26,9 @@ returns-clause-law c =
 
 pub returns-clause-exact : goal.returns-clause-exact
 returns-clause-exact c = λ a d ws size small inside. copy-say c.args.ranges.now ws a d c.args.cnf.now.vars size (ranges_fit-small c.args.ranges.now small) inside
+
+pub returns-clause-vars : goal.returns-clause-vars
+returns-clause-vars c =
+    let made = returns-clause-made c in
+    let few = copy-few c.args.ranges.now c.args.cnf.now.vars in
+    omega (arith, few, ap (λ (f : Formula). f.vars) made)

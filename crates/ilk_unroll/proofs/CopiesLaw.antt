@@ -1,0 +1,187 @@
+-- Copies of a system's values: exactly one assignment for each list of value lists in range, and their literals say these.
+use Rattle.std.proofs.Common.{◌≡◌, ℕ, ◌<◌, ◌≤◌, zero, suc, Bool, true, List, [], ◌∷◌, ◌++◌, length, get_or, slice_get, Some, refl, sym, ap, ◌∙◌, subst, arith, append_assoc}
+use Rattle.std.specs.List.{list_all}
+use Rattle.std.proofs.lemmas.List.Folds.{list_all-append}
+use Rattle.std.proofs.lemmas.Bool.{and_from, and_parts}
+use Rattle.std.proofs.lemmas.Option.{same_Some}
+use Rattle.ilk_base.proofs.Tested.{list_all-slice_get}
+use Rattle.ilk_cnf.specs.Formula.{Formula, clause_in, clauses_in}
+use Rattle.ilk_cnf.specs.Extends.{Extends, Only, Then}
+use Rattle.ilk_cnf.specs.Part.{Part, with_part}
+use Rattle.ilk_cnf.proofs.Literals.{clauses_in-more}
+use Rattle.ilk_cnf.proofs.Parts.{in_turn, in_words}
+use Rattle.ilk_cnf.proofs.Extending.{no_more_if, only_from_if}
+use Rattle.ilk_cnf.proofs.Gates.{with_part-and_then}
+use Rattle.ilk_ir.specs.System.{in_ranges}
+use Rattle.ilk_ir.specs.Tree.{Tree, tree_valid}
+use Rattle.ilk_copy.specs.declared.copy.Column.{Column}
+use Rattle.ilk_copy.specs.Copy.{copy_part, copy_bits, IsCopy, LiteralsSay}
+use Rattle.ilk_copy.proofs.CopyLaw.{ranges_fit, copy-low, copy-in, copy-law}
+use Rattle.ilk_copy.proofs.CopySays.{copy-say}
+use Rattle.ilk_forms.specs.Leaf.{columns_in, ranges_of}
+use Rattle.ilk_forms.proofs.Reading.{columns_in-more}
+use Rattle.ilk_forms.proofs.CopyTable.{copy-lits_in, copy-ranges}
+use Rattle.ilk_step.proofs.StepLaw.{says-left}
+use Rattle.ilk_unroll.specs.Query.{copies_part}
+use Rattle.ilk_unroll.specs.Assignment.{copies_bits}
+use Rattle.ilk_unroll.specs.Tables.{tables_in, valid_in, HaveRanges}
+
+pub copies-low : (count : ℕ) (ranges : List ℕ) (n : ℕ) → n ≤ (copies_part ranges count n).part.vars
+copies-low zero ranges n = omega arith
+copies-low (suc count) ranges n =
+    let one = copy-low ranges n in
+    let rest = copies-low count ranges (copy_part ranges n).part.vars in
+    omega arith
+
+pub copies-in : (count : ℕ) (ranges : List ℕ) (n : ℕ) → ranges_fit ranges ≡ true → clauses_in (copies_part ranges count n).part.vars (copies_part ranges count n).part.clauses ≡ true
+copies-in zero ranges n fit = refl
+copies-in (suc count) ranges n fit =
+    let p = (copy_part ranges n).part in
+    let rest = (copies_part ranges count p.vars).part in
+    list_all-append (clause_in rest.vars) p.clauses rest.clauses ∙ and_from _ _ (clauses_in-more p.vars rest.vars p.clauses (copies-low count ranges p.vars) (copy-in ranges n fit)) (copies-in count ranges p.vars fit)
+
+pub tables_in-more : (m n : ℕ) (tables : List (List Column)) → m ≤ n → tables_in m tables ≡ true → tables_in n tables ≡ true
+tables_in-more m n [] le h = refl
+tables_in-more m n (table ∷ tables) le h =
+    let parts = and_parts (columns_in m table) (tables_in m tables) h in
+    and_from _ _ (columns_in-more m n table le parts.0) (tables_in-more m n tables le parts.1)
+
+pub copies-tables_in : (count : ℕ) (ranges : List ℕ) (n : ℕ) → ranges_fit ranges ≡ true → tables_in (copies_part ranges count n).part.vars (copies_part ranges count n).tables ≡ true
+copies-tables_in zero ranges n fit = refl
+copies-tables_in (suc count) ranges n fit =
+    let p = copy_part ranges n in
+    and_from _ _ (columns_in-more p.part.vars (copies_part ranges count p.part.vars).part.vars p.columns (copies-low count ranges p.part.vars) (copy-lits_in ranges n fit)) (copies-tables_in count ranges p.part.vars fit)
+
+pub copies-ranges : (count : ℕ) (ranges : List ℕ) (n : ℕ) → HaveRanges ranges (copies_part ranges count n).tables
+copies-ranges zero ranges n = tt
+copies-ranges (suc count) ranges n = (copy-ranges ranges n, copies-ranges count ranges (copy_part ranges n).part.vars)
+
+pub copies-many : (count : ℕ) (ranges : List ℕ) (n : ℕ) → length (copies_part ranges count n).tables ≡ count
+copies-many zero ranges n = refl
+copies-many (suc count) ranges n = ap suc (copies-many count ranges (copy_part ranges n).part.vars)
+
+-- a form that is valid over the ranges is so over each copy
+pub valid_in-from : (ranges : List ℕ) (tables : List (List Column)) (t : Tree) → HaveRanges ranges tables → tree_valid ranges t ≡ true → valid_in tables t ≡ true
+valid_in-from ranges [] t h k = refl
+valid_in-from ranges (table ∷ tables) t h k = and_from _ _ (ap (λ (rs : List ℕ). tree_valid rs t) h.0 ∙ k) (valid_in-from ranges tables t h.1 k)
+
+-- whether each value list is in range
+abbrev pub all_in_ranges : List ℕ → List (List ℕ) → Bool
+all_in_ranges ranges run = list_all (λ values. in_ranges values ranges) run
+
+-- the variables of so many copies with value lists in range
+abbrev pub AreCopies : ℕ → List ℕ → List Bool → Type 0
+AreCopies count ranges b = (run : List (List ℕ)) × (length run ≡ count) × (all_in_ranges ranges run ≡ true) × (b ≡ copies_bits ranges run)
+
+pub copies-law : (count : ℕ) (ranges : List ℕ) (a : List Bool) (n : ℕ) → length a ≡ n → ranges_fit ranges ≡ true → Extends a (copies_part ranges count n).part.vars (copies_part ranges count n).part.clauses (AreCopies count ranges)
+copies-law zero ranges a n size fit = in_words a n [] (Only []) (AreCopies zero ranges) (λ b h. ([], refl, refl, h)) (λ b h. none b h.0 h.1 h.3) (only_from_if a n [] [] (no_more_if a n [] true size refl))
+  where
+    none : (b : List Bool) (run : List (List ℕ)) → length run ≡ zero → b ≡ copies_bits ranges run → b ≡ []
+    none b [] h e = e
+    none b (values ∷ run) h e = absurd (omega arith)
+copies-law (suc count) ranges a n size fit =
+    in_words a (copies_part ranges (suc count) n).part.vars (copies_part ranges (suc count) n).part.clauses _ (AreCopies (suc count) ranges) to (λ b h. split b h.0 h.1 h.2 h.3) (in_turn a m rest.vars (copy_part ranges n).part.clauses rest.clauses (IsCopy ranges) (λ b _. AreCopies count ranges) (omega (arith, size, copy-low ranges n)) (copies-low count ranges m) (copy-in ranges n fit) first (λ b h. copies-law count ranges (a ++ b) m (first.sized b h) fit))
+  where
+    m : ℕ
+    m = (copy_part ranges n).part.vars
+
+    rest : Part
+    rest = (copies_part ranges count m).part
+
+    first : Extends a m (copy_part ranges n).part.clauses (IsCopy ranges)
+    first = copy-law ranges a n size fit
+
+    to : (b : List Bool) → Then (IsCopy ranges) (λ b _. AreCopies count ranges) b → AreCopies (suc count) ranges b
+    to b h =
+        (h.3.0 ∷ h.4.0, ap suc h.4.1, and_from _ _ h.3.1 h.4.2, h.2 ∙ ap (λ (u : List Bool). u ++ h.1) h.3.2 ∙ ap (λ (u : List Bool). copy_bits ranges h.3.0 ++ u) h.4.3)
+
+    split : (b : List Bool) (run : List (List ℕ)) → length run ≡ suc count → all_in_ranges ranges run ≡ true → b ≡ copies_bits ranges run → Then (IsCopy ranges) (λ b _. AreCopies count ranges) b
+    split b [] l r e = absurd (omega arith)
+    split b (values ∷ run) l r e =
+        let parts = and_parts (in_ranges values ranges) (all_in_ranges ranges run) r in
+        (copy_bits ranges values, copies_bits ranges run, e, (values, parts.0, refl), (run, (omega arith), parts.1, refl))
+
+-- the literals of a copy of n variables' formula say its values
+pub record TableSays (a : List Bool) (n : ℕ) (ranges : List ℕ) (table : List Column) (values : List ℕ) : Type 0 where
+  pub within : columns_in n table ≡ true
+  pub has_ranges : ranges_of table ≡ ranges
+  pub says : LiteralsSay a table ranges values
+  pub in_range : in_ranges values ranges ≡ true
+
+-- those of each copy
+abbrev pub TablesSay : List Bool → ℕ → List ℕ → List (List Column) → List (List ℕ) → Type 0
+TablesSay a n ranges [] [] = Unit {0}
+TablesSay a n ranges [] (values ∷ run) = ⊥
+TablesSay a n ranges (table ∷ tables) [] = ⊥
+TablesSay a n ranges (table ∷ tables) (values ∷ run) = TableSays a n ranges table values × TablesSay a n ranges tables run
+
+pub table_says-more : (a e : List Bool) (n m : ℕ) (ranges : List ℕ) (table : List Column) (values : List ℕ) → length a ≡ n → n ≤ m → TableSays a n ranges table values → TableSays (a ++ e) m ranges table values
+table_says-more a e n m ranges table values size le h = record {
+  within = columns_in-more n m table le h.within;
+  has_ranges = h.has_ranges;
+  says = says-left table ranges values a e n size h.within h.says;
+  in_range = h.in_range;
+}
+
+pub tables_say-more : (tables : List (List Column)) (run : List (List ℕ)) (a e : List Bool) (n m : ℕ) (ranges : List ℕ) → length a ≡ n → n ≤ m → TablesSay a n ranges tables run → TablesSay (a ++ e) m ranges tables run
+tables_say-more [] [] a e n m ranges size le h = tt
+tables_say-more [] (values ∷ run) a e n m ranges size le h = h
+tables_say-more (table ∷ tables) [] a e n m ranges size le h = h
+tables_say-more (table ∷ tables) (values ∷ run) a e n m ranges size le h =
+    (table_says-more a e n m ranges table values size le h.0, tables_say-more tables run a e n m ranges size le h.1)
+
+pub copies-say : (count : ℕ) (ranges : List ℕ) (run : List (List ℕ)) (a : List Bool) (n : ℕ) → length a ≡ n → ranges_fit ranges ≡ true → length run ≡ count → all_in_ranges ranges run ≡ true → TablesSay (a ++ copies_bits ranges run) (copies_part ranges count n).part.vars ranges (copies_part ranges count n).tables run
+copies-say zero ranges [] a n size fit l h = tt
+copies-say zero ranges (values ∷ run) a n size fit l h = absurd (omega arith)
+copies-say (suc count) ranges [] a n size fit l h = absurd (omega arith)
+copies-say (suc count) ranges (values ∷ run) a n size fit l h =
+    let parts = and_parts (in_ranges values ranges) (all_in_ranges ranges run) h in
+    let p = copy_part ranges n in
+    let m = p.part.vars in
+    let b = copy_bits ranges values in
+    let long : length (a ++ b) ≡ m = (copy-law ranges a n size fit).sized b (values, parts.0, refl) in
+    let end = (copies_part ranges count m).part.vars in
+    let first : TableSays (a ++ (b ++ copies_bits ranges run)) end ranges p.columns values = record {
+      within = columns_in-more m end p.columns (copies-low count ranges m) (copy-lits_in ranges n fit);
+      has_ranges = copy-ranges ranges n;
+      says = copy-say ranges values a (copies_bits ranges run) n size fit parts.0;
+      in_range = parts.0;
+    } in
+    let rest = copies-say count ranges run (a ++ b) m long fit (omega arith) parts.1 in
+    (first, subst (λ (u : List Bool). TablesSay u end ranges (copies_part ranges count m).tables run) (append_assoc a b (copies_bits ranges run)) rest)
+
+-- the copy with a number
+pub table-at : (tables : List (List Column)) (run : List (List ℕ)) (a : List Bool) (n : ℕ) (ranges : List ℕ) (j : ℕ) → TablesSay a n ranges tables run → j < length tables → TableSays a n ranges (get_or tables j []) (get_or run j []) × (slice_get run j ≡ Some (get_or run j []))
+table-at [] run a n ranges j h less = absurd (omega arith)
+table-at (table ∷ tables) [] a n ranges j h less = absurd h
+table-at (table ∷ tables) (values ∷ run) a n ranges zero h less = (h.0, refl)
+table-at (table ∷ tables) (values ∷ run) a n ranges (suc j) h less = table-at tables run a n ranges j h.1 (omega arith)
+
+-- one copy more
+
+pub copies-step : (f g : Formula) (ranges : List ℕ) (tables whole : List (List Column)) (table : List Column) (end : Formula) (k m : ℕ) → k ≡ suc m → table ≡ (copy_part ranges f.vars).columns → g ≡ with_part f (copy_part ranges f.vars).part → tables ++ (copies_part ranges k f.vars).tables ≡ whole → with_part f (copies_part ranges k f.vars).part ≡ end → ((tables ++ table ∷ []) ++ (copies_part ranges m g.vars).tables ≡ whole) × (with_part g (copies_part ranges m g.vars).part ≡ end)
+copies-step f g ranges tables whole table end k m split is made seen h =
+    let p = copy_part ranges f.vars in (
+      append_assoc tables (table ∷ []) (copies_part ranges m g.vars).tables
+          ∙ ap (λ (t : List Column). tables ++ t ∷ (copies_part ranges m g.vars).tables) is
+          ∙ ap (λ (e : Formula). tables ++ p.columns ∷ (copies_part ranges m e.vars).tables) made
+          ∙ ap (λ (i : ℕ). tables ++ (copies_part ranges i f.vars).tables) (sym split)
+          ∙ seen,
+      ap (λ (e : Formula). with_part e (copies_part ranges m e.vars).part) made
+          ∙ with_part-and_then f p.part (λ i. (copies_part ranges m i).part)
+          ∙ ap (λ (i : ℕ). with_part f (copies_part ranges i f.vars).part) (sym split)
+          ∙ h,
+    )
+
+-- a copy of the list, by its number
+
+pub within-at : (tables : List (List Column)) (n j : ℕ) (table : List Column) → tables_in n tables ≡ true → slice_get tables j ≡ Some table → columns_in n table ≡ true
+within-at tables n j table h at = list_all-slice_get (columns_in n) tables j table h at
+
+pub ranges-at : (tables : List (List Column)) (ranges : List ℕ) (j : ℕ) (table : List Column) → HaveRanges ranges tables → slice_get tables j ≡ Some table → ranges_of table ≡ ranges
+ranges-at [] ranges j table h at = absurd cc
+ranges-at (t ∷ tables) ranges zero table h at = ap ranges_of (sym (same_Some t table at)) ∙ h.0
+ranges-at (t ∷ tables) ranges (suc j) table h at = ranges-at tables ranges j table h.1 at
+
+pub valid-at : (tables : List (List Column)) (t : Tree) (j : ℕ) (table : List Column) → valid_in tables t ≡ true → slice_get tables j ≡ Some table → tree_valid (ranges_of table) t ≡ true
+valid-at tables t j table h at = list_all-slice_get (λ (table : List Column). tree_valid (ranges_of table) t) tables j table h at

@@ -1,0 +1,6 @@
+pub mod CopiesLaw
+pub mod StepsLaw
+pub mod DemandsLaw
+pub mod Runs
+pub mod QueryLaw
+pub mod ReadBack

@@ -1,0 +1,302 @@
+-- The satisfying assignments of a query's formula are exactly those of the runs that it asks for.
+use Rattle.std.proofs.Common.{◌≡◌, ℕ, ◌+◌, ◌<◌, ◌≤◌, suc, Bool, true, ◌&&◌, List, [], ◌∷◌, ◌++◌, length, eqb, unwrap_or, Option, Some, refl, sym, ap, ◌∙◌, subst, arith, append_assoc}
+use Rattle.std.specs.List.{list_all}
+use Rattle.std.specs.Prelude.{nat_lt}
+use Rattle.std.proofs.lemmas.Bool.{and_from, and_parts, eqb-true, eq-eqb, leb-true}
+use Rattle.ilk_base.specs.Option.{is_some_and}
+use Rattle.ilk_base.proofs.Options.{some-and}
+use Rattle.ilk_cnf.specs.Literal.{Literal}
+use Rattle.ilk_cnf.specs.Formula.{Formula}
+use Rattle.ilk_cnf.specs.Extends.{Extends, OnlyIf, Then}
+use Rattle.ilk_cnf.specs.Part.{Part, with_part, and_then}
+use Rattle.ilk_cnf.specs.Truth.{satisfies}
+use Rattle.ilk_cnf.proofs.Parts.{in_turn, in_words}
+use Rattle.ilk_cnf.proofs.Extending.{extends-as_clauses}
+use Rattle.ilk_cnf.proofs.Gates.{with_part-and_then}
+use Rattle.ilk_ir.specs.Tree.{Tree, tree_valid}
+use Rattle.ilk_ir.specs.System.{RuleTree, SystemTree, rule_valid, system_valid, in_ranges}
+use Rattle.ilk_copy.specs.declared.copy.Column.{Column}
+use Rattle.ilk_copy.specs.Copy.{HaveBits, numbers_part, copy_part, total_bits, numbers_bits, columns_bits, copy_bits}
+use Rattle.ilk_copy.proofs.CopyLaw.{ranges_fit, HaveBits-new, columns-low, numbers-end}
+use Rattle.ilk_step.specs.declared.choice.Choice.{Choice}
+use Rattle.ilk_forms.proofs.DemandLaw.{PartFits}
+use Rattle.ilk_unroll.specs.declared.queries.Wanted.{Wanted}
+use Rattle.ilk_unroll.specs.declared.queries.Wanted.TheVariants.{Hazard, Breach, Step}
+use Rattle.ilk_unroll.specs.Goal.{GoalTree, Demanded, goal_valid, wanted_valid, step_count, demanded}
+use Rattle.ilk_unroll.specs.Run.{run_from, met_by, is_wanted_run}
+use Rattle.ilk_unroll.specs.Query.{CopyTables, copies_part, steps_part, demands_part, query_part, query_formula}
+use Rattle.ilk_unroll.specs.Assignment.{copies_bits, steps_bits, demands_bits, run_bits, run_assignment, IsWantedRun}
+use Rattle.ilk_unroll.specs.Tables.{tables_in, valid_in, HaveRanges, step_choices, AllChosen}
+use Rattle.ilk_unroll.proofs.CopiesLaw.{copies-low, copies-in, copies-tables_in, copies-ranges, copies-many, all_in_ranges, AreCopies, copies-law, TablesSay, copies-say, tables_say-more, tables_in-more, valid_in-from}
+use Rattle.ilk_unroll.proofs.StepsLaw.{Joined, AreSteps, steps-fits, steps-law, steps-say}
+use Rattle.ilk_unroll.proofs.DemandsLaw.{demanded_valid, demands-fits, demands-law, demanded-valid}
+use Rattle.ilk_unroll.proofs.Runs.{run-is, joined-run, joined-many}
+
+pub rules-valid : (s : SystemTree) → system_valid s ≡ true → list_all (rule_valid s.ranges) s.rules ≡ true
+rules-valid s valid = (and_parts _ _ valid).1
+
+-- what a run that is asked for is
+pub record Wants (s : SystemTree) (g : GoalTree) (q : Wanted) (first rules : List ℕ) : Type 0 where
+  pub run : List (List ℕ)
+  pub is : run_from s first rules ≡ Some run
+  pub in_range : in_ranges first s.ranges ≡ true
+  pub many : length rules ≡ step_count q
+  pub met : list_all (met_by run) (demanded g q) ≡ true
+
+pub wants : (s : SystemTree) (g : GoalTree) (q : Wanted) (first rules : List ℕ) → is_wanted_run s g q first rules ≡ true → Wants s g q first rules
+wants s g q first rules h =
+    let outer = and_parts (in_ranges first s.ranges && eqb (length rules) (step_count q)) (is_some_and (run_from s first rules) (λ run. list_all (met_by run) (demanded g q))) h in
+    let inner = and_parts (in_ranges first s.ranges) (eqb (length rules) (step_count q)) outer.0 in
+    let some = some-and (run_from s first rules) (λ run. list_all (met_by run) (demanded g q)) outer.1 in
+    record { run = some.0; is = some.1; in_range = inner.0; many = eqb-true (length rules) (step_count q) inner.1; met = some.2 }
+
+pub wanted-from : (s : SystemTree) (g : GoalTree) (q : Wanted) (first rules : List ℕ) → Wants s g q first rules → is_wanted_run s g q first rules ≡ true
+wanted-from s g q first rules w =
+    and_from _ _ (and_from _ _ w.in_range (eq-eqb (length rules) (step_count q) w.many)) (ap (λ (o : Option (List (List ℕ))). is_some_and o (λ run. list_all (met_by run) (demanded g q))) w.is ∙ w.met)
+
+assignment-is : (s : SystemTree) (g : GoalTree) (q : Wanted) (first rules : List ℕ) (run : List (List ℕ)) → run_from s first rules ≡ Some run → run_assignment s g q first rules ≡ run_bits s g q run rules
+assignment-is s g q first rules run is = ap (λ (o : Option (List (List ℕ))). run_bits s g q (unwrap_or o []) rules) is
+
+pub query-law : (s : SystemTree) (g : GoalTree) (q : Wanted) → system_valid s ≡ true → ranges_fit s.ranges ≡ true → goal_valid s.ranges g ≡ true → Extends [] (query_part s g q).vars (query_part s g q).clauses (IsWantedRun s g q)
+query-law s g q valid fit goal_ok =
+    in_words [] d.vars (c.part.clauses ++ (t.clauses ++ d.clauses)) _ (IsWantedRun s g q) to from (in_turn [] m d.vars c.part.clauses (t.clauses ++ d.clauses) (AreCopies count ranges) inner (omega arith) (omega (arith, steps_fit.low, demands_fit.low)) (copies-in count ranges 0 fit) first part)
+  where
+    count : ℕ
+    count = suc (step_count q)
+
+    ranges : List ℕ
+    ranges = s.ranges
+
+    ds : List Demanded
+    ds = demanded g q
+
+    c : CopyTables
+    c = copies_part ranges count 0
+
+    m : ℕ
+    m = c.part.vars
+
+    t : Part
+    t = steps_part s.rules c.tables m
+
+    d : Part
+    d = demands_part c.tables ds t.vars
+
+    inside : tables_in m c.tables ≡ true
+    inside = copies-tables_in count ranges 0 fit
+
+    have : HaveRanges ranges c.tables
+    have = copies-ranges count ranges 0
+
+    steps_fit : PartFits m t
+    steps_fit = steps-fits c.tables ranges s.rules m inside have (rules-valid s valid)
+
+    more : tables_in t.vars c.tables ≡ true
+    more = tables_in-more m t.vars c.tables steps_fit.low inside
+
+    ds_valid : list_all (demanded_valid ranges (length c.tables)) ds ≡ true
+    ds_valid = ap (λ (k : ℕ). list_all (demanded_valid ranges k) ds) (copies-many count ranges 0) ∙ demanded-valid ranges g q goal_ok
+
+    demands_fit : PartFits t.vars d
+    demands_fit = demands-fits ds c.tables ranges t.vars more have ds_valid
+
+    first : Extends [] m c.part.clauses (AreCopies count ranges)
+    first = copies-law count ranges [] 0 refl fit
+
+    inner : (b : List Bool) → AreCopies count ranges b → List Bool → Type 0
+    inner b h = Then (AreSteps s.rules h.0) (λ e _. OnlyIf (list_all (met_by h.0) ds) (demands_bits h.0 ds))
+
+    part : (b : List Bool) → (h : AreCopies count ranges b) → Extends b d.vars (t.clauses ++ d.clauses) (inner b h)
+    part b h =
+        let long : length b ≡ m = first.sized b h in
+        let says : TablesSay b m ranges c.tables h.0 = subst (λ (u : List Bool). TablesSay u m ranges c.tables h.0) (sym h.3) (copies-say count ranges h.0 [] 0 refl fit h.1 h.2) in
+        let next = steps-law c.tables h.0 b m ranges s.rules long says (rules-valid s valid) in
+        in_turn b t.vars d.vars t.clauses d.clauses (AreSteps s.rules h.0) (λ e _. OnlyIf (list_all (met_by h.0) ds) (demands_bits h.0 ds)) (omega (arith, long, steps_fit.low)) demands_fit.low steps_fit.inside next (λ e k. demands-law ds c.tables h.0 ranges (b ++ e) t.vars (next.sized e k) more have (tables_say-more c.tables h.0 b e m t.vars ranges long steps_fit.low says) ds_valid)
+
+    a_run : (b : List Bool) (run : List (List ℕ)) (rules : List ℕ) → length run ≡ count → all_in_ranges ranges run ≡ true → Joined s.rules run rules → list_all (met_by run) ds ≡ true → b ≡ run_bits s g q run rules → IsWantedRun s g q b
+    a_run b [] rules many h j met e = absurd (omega arith)
+    a_run b (values ∷ run) rules many h j met e =
+        let parts = and_parts (in_ranges values ranges) (all_in_ranges ranges run) h in
+        let is = joined-run s run values rules j in
+        let long = joined-many s.rules run values rules j in
+        (values, rules, wanted-from s g q values rules (record { run = values ∷ run; is = is; in_range = parts.0; many = omega (arith, long, many); met = met }), e ∙ sym (assignment-is s g q values rules (values ∷ run) is))
+
+    to : (b : List Bool) → Then (AreCopies count ranges) inner b → IsWantedRun s g q b
+    to b h =
+        let r = h.4 in
+        a_run b h.3.0 r.3.0 h.3.1 h.3.2 r.3.1 r.4.0 (h.2 ∙ ap (λ (u : List Bool). u ++ h.1) h.3.3 ∙ ap (λ (u : List Bool). copies_bits ranges h.3.0 ++ u) (r.2 ∙ ap (λ (u : List Bool). u ++ r.1) r.3.2 ∙ ap (λ (u : List Bool). steps_bits s.rules h.3.0 r.3.0 ++ u) r.4.1))
+
+    from : (b : List Bool) → IsWantedRun s g q b → Then (AreCopies count ranges) inner b
+    from b h =
+        let w = wants s g q h.0 h.1 h.2 in
+        let r = run-is s h.1 h.0 w.run (rules-valid s valid) w.in_range w.is in
+        let run = w.run in
+        let e : b ≡ run_bits s g q run h.1 = h.3 ∙ assignment-is s g q h.0 h.1 run w.is in
+        (copies_bits ranges run, steps_bits s.rules run h.1 ++ demands_bits run ds, e, (run, r.many ∙ ap suc w.many, r.in_range, refl), (steps_bits s.rules run h.1, demands_bits run ds, refl, (h.1, r.joined, refl), (w.met, refl)))
+
+-- the assignment of a run has the bits of its first values, and its rules are chosen
+pub run-says : (s : SystemTree) (g : GoalTree) (q : Wanted) (first rules : List ℕ) → system_valid s ≡ true → ranges_fit s.ranges ≡ true → Wants s g q first rules → HaveBits (run_assignment s g q first rules) 1 s.ranges first × AllChosen (run_assignment s g q first rules) (step_choices s.rules (copies_part s.ranges (suc (step_count q)) 0).tables (copies_part s.ranges (suc (step_count q)) 0).part.vars) rules
+run-says s g q first rules valid fit w =
+    let ranges = s.ranges in
+    let count = suc (step_count q) in
+    let c = copies_part ranges count 0 in
+    let r = run-is s rules first w.run (rules-valid s valid) w.in_range w.is in
+    let run = w.run in
+    let many : length run ≡ count = r.many ∙ ap suc w.many in
+    let end = steps_bits s.rules run rules ++ demands_bits run (demanded g q) in
+    let e : run_assignment s g q first rules ≡ copies_bits ranges run ++ end = assignment-is s g q first rules run w.is in
+    let long : length (copies_bits ranges run) ≡ c.part.vars = (copies-law count ranges [] 0 refl fit).sized (copies_bits ranges run) (run, many, r.in_range, refl) in
+    let says = copies-say count ranges run [] 0 refl fit many r.in_range in
+    let begins : copies_bits ranges run ++ end ≡ numbers_bits ranges first ++ (columns_bits ranges first ++ (copies_bits ranges r.rest ++ end)) =
+    ap (λ (u : List (List ℕ)). copies_bits ranges u ++ end) r.begins ∙ append_assoc (copy_bits ranges first) (copies_bits ranges r.rest) end ∙ append_assoc (numbers_bits ranges first) (columns_bits ranges first) (copies_bits ranges r.rest ++ end) in (
+      subst (λ (u : List Bool). HaveBits u 1 ranges first) (sym (e ∙ begins)) (HaveBits-new ranges first [] (columns_bits ranges first ++ (copies_bits ranges r.rest ++ end)) 1 refl w.in_range),
+      subst (λ (u : List Bool). AllChosen u (step_choices s.rules c.tables c.part.vars) rules) (sym e) (steps-say c.tables run rules (copies_bits ranges run) (demands_bits run (demanded g q)) c.part.vars ranges s.rules long says (rules-valid s valid) r.joined),
+    )
+
+-- the calls
+
+pub positive-ranges : (s : SystemTree) → system_valid s ≡ true → list_all (λ range. nat_lt 0 range) s.ranges ≡ true
+positive-ranges s valid = (and_parts _ _ (and_parts _ _ valid).0).1
+
+abbrev pub no_formula : Formula
+no_formula = record { vars = 0; clauses = [] }
+
+-- copies in an empty formula
+pub copies_made : (ranges : List ℕ) (steps : ℕ) (f g : Formula) (tables : List (List Column)) → f ≡ no_formula → tables ≡ (copies_part ranges (steps + 1) f.vars).tables → g ≡ with_part f (copies_part ranges (steps + 1) f.vars).part → (tables ≡ (copies_part ranges (suc steps) 0).tables) × (g ≡ with_part no_formula (copies_part ranges (suc steps) 0).part)
+copies_made ranges steps f g tables empty seen made =
+    let more : steps + 1 ≡ suc steps = omega arith in (
+      seen ∙ ap (λ (k : Formula). (copies_part ranges (steps + 1) k.vars).tables) empty ∙ ap (λ (i : ℕ). (copies_part ranges i 0).tables) more,
+      made ∙ ap (λ (k : Formula). with_part k (copies_part ranges (steps + 1) k.vars).part) empty ∙ ap (λ (i : ℕ). with_part no_formula (copies_part ranges i 0).part) more,
+    )
+
+pub unrolled_made : (ranges : List ℕ) (rules : List RuleTree) (steps : ℕ) (g h : Formula) (tables : List (List Column)) → tables ≡ (copies_part ranges (suc steps) 0).tables → g ≡ with_part no_formula (copies_part ranges (suc steps) 0).part → h ≡ with_part g (steps_part rules tables g.vars) → h ≡ with_part no_formula (and_then (copies_part ranges (suc steps) 0).part (steps_part rules (copies_part ranges (suc steps) 0).tables))
+unrolled_made ranges rules steps g h tables seen made last =
+    let c = copies_part ranges (suc steps) 0 in
+    last
+    ∙ ap (λ (ts : List (List Column)). with_part g (steps_part rules ts g.vars)) seen
+    ∙ ap (λ (k : Formula). with_part k (steps_part rules c.tables k.vars)) made
+    ∙ with_part-and_then no_formula c.part (steps_part rules c.tables)
+
+-- what unrolling leaves, where the copies were made
+pub unrolled-inside : (ranges : List ℕ) (steps : ℕ) (f g : Formula) (tables : List (List Column)) → ranges_fit ranges ≡ true → f ≡ no_formula → tables ≡ (copies_part ranges (steps + 1) f.vars).tables → g ≡ with_part f (copies_part ranges (steps + 1) f.vars).part → (tables_in g.vars tables ≡ true) × HaveRanges ranges tables
+unrolled-inside ranges steps f g tables fit empty seen made =
+    let p = copies_part ranges (suc steps) 0 in
+    let is = copies_made ranges steps f g tables empty seen made in (
+      ap (λ (k : Formula). tables_in k.vars tables) is.1 ∙ ap (tables_in p.part.vars) is.0 ∙ copies-tables_in (suc steps) ranges 0 fit,
+      subst (HaveRanges ranges) (sym is.0) (copies-ranges (suc steps) ranges 0),
+    )
+
+-- and where the steps were
+pub unrolled-within : (s : SystemTree) (g h : Formula) (tables : List (List Column)) → system_valid s ≡ true → tables_in g.vars tables ≡ true → HaveRanges s.ranges tables → h ≡ with_part g (steps_part s.rules tables g.vars) → (tables_in h.vars tables ≡ true) × (g.vars ≤ h.vars)
+unrolled-within s g h tables valid inside have made =
+    let fits = steps-fits tables s.ranges s.rules g.vars inside have (rules-valid s valid) in
+    let vars : h.vars ≡ (steps_part s.rules tables g.vars).vars = ap (λ (k : Formula). k.vars) made in
+    let low = fits.low in
+    (ap (λ (k : ℕ). tables_in k tables) vars ∙ tables_in-more g.vars (steps_part s.rules tables g.vars).vars tables low inside, omega arith)
+
+-- the bits of the first copy
+pub copies-reach : (ranges : List ℕ) (count : ℕ) → total_bits ranges ≤ (copies_part ranges (suc count) 0).part.vars
+copies-reach ranges count =
+    let one = copies-low count ranges (copy_part ranges 0).part.vars in
+    let two = columns-low ranges 1 (numbers_part ranges 0).vars in
+    let end = numbers-end ranges 0 in
+    omega arith
+
+pub unrolled-reach : (s : SystemTree) (steps : ℕ) (f g h : Formula) (tables : List (List Column)) → system_valid s ≡ true → ranges_fit s.ranges ≡ true → f ≡ no_formula → tables ≡ (copies_part s.ranges (steps + 1) f.vars).tables → g ≡ with_part f (copies_part s.ranges (steps + 1) f.vars).part → h ≡ with_part g (steps_part s.rules tables g.vars) → total_bits s.ranges ≤ h.vars
+unrolled-reach s steps f g h tables valid fit empty seen made last =
+    let is = copies_made s.ranges steps f g tables empty seen made in
+    let inside = unrolled-inside s.ranges steps f g tables fit empty seen made in
+    let within = unrolled-within s g h tables valid inside.0 inside.1 last in
+    let low = within.1 in
+    let reach = copies-reach s.ranges steps in
+    let vars : g.vars ≡ (copies_part s.ranges (suc steps) 0).part.vars = ap (λ (k : Formula). k.vars) is.1 in
+    omega arith
+
+-- the whole formula
+pub query_made : (s : SystemTree) (g : GoalTree) (q : Wanted) (steps : ℕ) (f h : Formula) (tables : List (List Column)) → steps ≡ step_count q → tables ≡ (copies_part s.ranges (suc steps) 0).tables → f ≡ with_part no_formula (and_then (copies_part s.ranges (suc steps) 0).part (steps_part s.rules (copies_part s.ranges (suc steps) 0).tables)) → h ≡ with_part f (demands_part tables (demanded g q) f.vars) → h ≡ query_formula s g q
+query_made s g q steps f h tables count seen made last = last ∙ moved tables seen ∙ with_made made ∙ by_count count
+  where
+    c : ℕ → CopyTables
+    c k = copies_part s.ranges (suc k) 0
+
+    moved : (ts : List (List Column)) → ts ≡ (c steps).tables → with_part f (demands_part ts (demanded g q) f.vars) ≡ with_part f (demands_part (c steps).tables (demanded g q) f.vars)
+    moved ts e = ap (λ (us : List (List Column)). with_part f (demands_part us (demanded g q) f.vars)) e
+
+    p : Part
+    p = and_then (c steps).part (steps_part s.rules (c steps).tables)
+
+    with_made : f ≡ with_part no_formula p → with_part f (demands_part (c steps).tables (demanded g q) f.vars) ≡ with_part no_formula (and_then (c steps).part (λ m. and_then (steps_part s.rules (c steps).tables m) (demands_part (c steps).tables (demanded g q))))
+    with_made e =
+        ap (λ (k : Formula). with_part k (demands_part (c steps).tables (demanded g q) k.vars)) e
+        ∙ with_part-and_then no_formula p (demands_part (c steps).tables (demanded g q))
+        ∙ ap (λ (cs : List (List Literal)). with_part no_formula (record { vars = (demands_part (c steps).tables (demanded g q) p.vars).vars; clauses = cs })) (append_assoc (c steps).part.clauses (steps_part s.rules (c steps).tables (c steps).part.vars).clauses (demands_part (c steps).tables (demanded g q) p.vars).clauses)
+
+    by_count : steps ≡ step_count q → with_part no_formula (and_then (c steps).part (λ m. and_then (steps_part s.rules (c steps).tables m) (demands_part (c steps).tables (demanded g q)))) ≡ query_formula s g q
+    by_count e = ap (λ (k : ℕ). with_part no_formula (and_then (c k).part (λ m. and_then (steps_part s.rules (c k).tables m) (demands_part (c k).tables (demanded g q))))) e
+
+-- the goal's forms over the copies
+pub forms-valid : (ranges : List ℕ) (tables : List (List Column)) (ts : List Tree) → HaveRanges ranges tables → list_all (tree_valid ranges) ts ≡ true → list_all (valid_in tables) ts ≡ true
+forms-valid ranges tables [] r h = refl
+forms-valid ranges tables (t ∷ ts) r h =
+    let parts = and_parts (tree_valid ranges t) (list_all (tree_valid ranges) ts) h in
+    and_from _ _ (valid_in-from ranges tables t r parts.0) (forms-valid ranges tables ts r parts.1)
+
+pub few-wanted : (q : Wanted) → wanted_valid q ≡ true → step_count q ≤ 16
+few-wanted (Hazard n) h = leb-true n 16 h
+few-wanted (Breach n) h = leb-true n 16 h
+few-wanted (Step n) h = leb-true n 16 (and_parts _ _ h).1
+
+pub tables-many : (s : SystemTree) (steps : ℕ) (q : Wanted) (tables : List (List Column)) → steps ≡ step_count q → tables ≡ (copies_part s.ranges (suc steps) 0).tables → step_count q < length tables
+tables-many s steps q tables count seen =
+    let long : length tables ≡ suc steps = ap length seen ∙ copies-many (suc steps) s.ranges 0 in
+    omega arith
+
+-- the bits of the first copy are of the formula
+query-reach : (s : SystemTree) (g : GoalTree) (q : Wanted) → system_valid s ≡ true → ranges_fit s.ranges ≡ true → goal_valid s.ranges g ≡ true → total_bits s.ranges ≤ (query_part s g q).vars
+query-reach s g q valid fit goal_ok =
+    let ranges = s.ranges in
+    let count = suc (step_count q) in
+    let c = copies_part ranges count 0 in
+    let m = c.part.vars in
+    let t = steps_part s.rules c.tables m in
+    let inside = copies-tables_in count ranges 0 fit in
+    let have = copies-ranges count ranges 0 in
+    let steps_fit = steps-fits c.tables ranges s.rules m inside have (rules-valid s valid) in
+    let ds_valid = ap (λ (k : ℕ). list_all (demanded_valid ranges k) (demanded g q)) (copies-many count ranges 0) ∙ demanded-valid ranges g q goal_ok in
+    let demands_fit = demands-fits (demanded g q) c.tables ranges t.vars (tables_in-more m t.vars c.tables steps_fit.low inside) have ds_valid in
+    let reach = copies-reach ranges (step_count q) in
+    let three = steps_fit.low in
+    let four = demands_fit.low in
+    omega arith
+
+-- a satisfying assignment's run, and what tells it
+pub record ReadsAs (s : SystemTree) (g : GoalTree) (q : Wanted) (a : List Bool) (choices : List Choice) : Type 0 where
+  pub first : List ℕ
+  pub rules : List ℕ
+  pub wanted : is_wanted_run s g q first rules ≡ true
+  pub is : a ≡ run_assignment s g q first rules
+  pub in_range : in_ranges first s.ranges ≡ true
+  pub have : HaveBits a 1 s.ranges first
+  pub chosen : AllChosen a choices rules
+  pub reached : total_bits s.ranges ≤ length a
+
+pub reads_as : (s : SystemTree) (g : GoalTree) (q : Wanted) (a : List Bool) (steps : ℕ) (choices : List Choice) → system_valid s ≡ true → ranges_fit s.ranges ≡ true → goal_valid s.ranges g ≡ true → length a ≡ (query_formula s g q).vars → satisfies a (query_formula s g q).clauses ≡ true → steps ≡ step_count q → choices ≡ step_choices s.rules (copies_part s.ranges (suc steps) 0).tables (copies_part s.ranges (suc steps) 0).part.vars → ReadsAs s g q a choices
+reads_as s g q a steps choices valid fit goal_ok size sat count seen =
+    let p = query_part s g q in
+    let run = (extends-as_clauses [] p.vars p.clauses (IsWantedRun s g q) (query-law s g q valid fit goal_ok)).only a size sat in
+    let w = wants s g q run.0 run.1 run.2 in
+    let says = run-says s g q run.0 run.1 valid fit w in
+    let same : choices ≡ step_choices s.rules (copies_part s.ranges (suc (step_count q)) 0).tables (copies_part s.ranges (suc (step_count q)) 0).part.vars = seen ∙ ap (λ (k : ℕ). step_choices s.rules (copies_part s.ranges (suc k) 0).tables (copies_part s.ranges (suc k) 0).part.vars) count in
+    let have : HaveBits a 1 s.ranges run.0 = subst (λ (u : List Bool). HaveBits u 1 s.ranges run.0) (sym run.3) says.0 in
+    let chosen : AllChosen a (step_choices s.rules (copies_part s.ranges (suc (step_count q)) 0).tables (copies_part s.ranges (suc (step_count q)) 0).part.vars) run.1 = subst (λ (u : List Bool). AllChosen u (step_choices s.rules (copies_part s.ranges (suc (step_count q)) 0).tables (copies_part s.ranges (suc (step_count q)) 0).part.vars) run.1) (sym run.3) says.1 in
+    let low = query-reach s g q valid fit goal_ok in
+    record {
+      first = run.0;
+      rules = run.1;
+      wanted = run.2;
+      is = run.3;
+      in_range = w.in_range;
+      have = have;
+      chosen = subst (λ (cs : List Choice). AllChosen a cs run.1) (sym same) chosen;
+      reached = rw size low;
+    }

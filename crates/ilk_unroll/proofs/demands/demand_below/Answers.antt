@@ -1,0 +1,22 @@
+use Rattle.std.proofs.Common.{◌∙◌, ◌∷◌, [], List, sym, ap}
+use Rattle.ilk_cnf.specs.Part.{with_part}
+use Rattle.ilk_ir.specs.Form.{tree_of}
+use Rattle.ilk_unroll.specs.Goal.{Demanded, holds_in, holds_below}
+use Rattle.ilk_unroll.specs.Query.{demands_part}
+use Rattle.ilk_unroll.proofs.DemandsLaw.{nothing-made, demands-then, holds_below-more}
+use Rattle.ilk_unroll.proofs.demands.demand_below.Goals as goal
+
+pub loop-copy-init : goal.loop-copy-init
+loop-copy-init c = record { within = c.requires.within; made = nothing-made c.args.cnf.now }
+
+pub loop-copy-preserved : goal.loop-copy-preserved
+loop-copy-preserved c =
+    let tables = c.args.tables.now in
+    let t = tree_of c.args.form.now in
+    let f = c.args.cnf.now in
+    let i = c.loop-copy.copy in
+    record {
+      within = c.in_ok-demand_in.ensures.within;
+      made = demands-then (holds_below t i) (holds_in i t ∷ []) tables f c.loop-copy.cnf c.demand_in.new.cnf c.loop-copy.invariant.made c.in_ok-demand_in.ensures.made
+          ∙ ap (λ (ds : List Demanded). with_part f (demands_part tables ds f.vars)) (sym (holds_below-more t i));
+    }

@@ -1,0 +1,73 @@
+use Rattle.std.proofs.Common.{◌∷◌, [], refl, arith}
+use Rattle.ilk_cnf.proofs.Extending.{extends-as_clauses}
+use Rattle.ilk_ir.specs.Tree.{all_of, negation, trees}
+use Rattle.ilk_ir.specs.System.{system_tree}
+use Rattle.ilk_copy.proofs.CopyLaw.{ranges_fit-small}
+use Rattle.ilk_unroll.specs.Goal.{goal_tree}
+use Rattle.ilk_unroll.specs.Query.{query_part}
+use Rattle.ilk_unroll.specs.Assignment.{run_assignment, IsWantedRun}
+use Rattle.ilk_unroll.proofs.CopiesLaw.{valid_in-from}
+use Rattle.ilk_unroll.proofs.DemandsLaw.{goal-valid}
+use Rattle.ilk_unroll.proofs.QueryLaw.{query-law, query_made, forms-valid, few-wanted, tables-many}
+use Rattle.ilk_unroll.proofs.formula.query.Goals as goal
+
+pub unroll-requires-clause-steps : goal.unroll-requires-clause-steps
+unroll-requires-clause-steps c = let few = few-wanted c.args.q c.requires.wanted in omega (arith, few, c.steps.ensures)
+
+pub add_demands-requires-clause-steps : goal.add_demands-requires-clause-steps
+add_demands-requires-clause-steps c = tables-many (system_tree c.args.system.now) c.steps.result c.args.q c.in_ok-unrolled.unrolled.tables c.steps.ensures c.in_ok-unrolled.ensures.tables
+
+pub add_demands-requires-clause-few : goal.add_demands-requires-clause-few
+add_demands-requires-clause-few c = few-wanted c.args.q c.requires.wanted
+
+pub add_demands-requires-clause-start : goal.add_demands-requires-clause-start
+add_demands-requires-clause-start c =
+    let g = goal_tree c.args.goal.now in
+    valid_in-from c.args.system.now.ranges c.in_ok-unrolled.unrolled.tables g.start c.in_ok-unrolled.ensures.ranges (goal-valid c.args.system.now.ranges g c.requires.goal).start
+
+pub add_demands-requires-clause-hazard : goal.add_demands-requires-clause-hazard
+add_demands-requires-clause-hazard c =
+    let g = goal_tree c.args.goal.now in
+    valid_in-from c.args.system.now.ranges c.in_ok-unrolled.unrolled.tables g.hazard c.in_ok-unrolled.ensures.ranges (goal-valid c.args.system.now.ranges g c.requires.goal).hazard
+
+pub add_demands-requires-clause-wellformed : goal.add_demands-requires-clause-wellformed
+add_demands-requires-clause-wellformed c =
+    let g = goal_tree c.args.goal.now in
+    valid_in-from c.args.system.now.ranges c.in_ok-unrolled.unrolled.tables g.wellformed c.in_ok-unrolled.ensures.ranges (goal-valid c.args.system.now.ranges g c.requires.goal).wellformed
+
+pub add_demands-requires-clause-each : goal.add_demands-requires-clause-each
+add_demands-requires-clause-each c =
+    let g = goal_tree c.args.goal.now in
+    forms-valid c.args.system.now.ranges c.in_ok-unrolled.unrolled.tables g.families c.in_ok-unrolled.ensures.ranges (goal-valid c.args.system.now.ranges g c.requires.goal).families
+
+pub add_demands-requires-clause-families : goal.add_demands-requires-clause-families
+add_demands-requires-clause-families c =
+    let g = goal_tree c.args.goal.now in
+    valid_in-from c.args.system.now.ranges c.in_ok-unrolled.unrolled.tables (all_of (trees g.families)) c.in_ok-unrolled.ensures.ranges (goal-valid c.args.system.now.ranges g c.requires.goal).kept
+
+pub add_demands-requires-clause-last : goal.add_demands-requires-clause-last
+add_demands-requires-clause-last c =
+    let g = goal_tree c.args.goal.now in
+    valid_in-from c.args.system.now.ranges c.in_ok-unrolled.unrolled.tables (all_of (trees (negation g.hazard ∷ g.families))) c.in_ok-unrolled.ensures.ranges (goal-valid c.args.system.now.ranges g c.requires.goal).safe
+
+pub returns-clause-formula : goal.returns-clause-formula
+returns-clause-formula c =
+    query_made (system_tree c.args.system.now) (goal_tree c.args.goal.now) c.args.q c.steps.result c.unroll.new.cnf c.add_demands.new.cnf c.in_ok-unrolled.unrolled.tables c.steps.ensures c.in_ok-unrolled.ensures.tables c.in_ok-unrolled.ensures.made c.in_ok-add_demands.ensures
+
+pub returns-clause-sound : goal.returns-clause-sound
+returns-clause-sound c =
+    λ a size sat.
+    let s = system_tree c.args.system.now in
+    let g = goal_tree c.args.goal.now in
+    let p = query_part s g c.args.q in
+    (extends-as_clauses [] p.vars p.clauses (IsWantedRun s g c.args.q) (query-law s g c.args.q c.requires.system (ranges_fit-small s.ranges c.in_ok-unrolled.ensures.bytes) c.requires.goal)).only a size sat
+
+pub returns-clause-complete : goal.returns-clause-complete
+returns-clause-complete c =
+    λ first rules wanted.
+    let s = system_tree c.args.system.now in
+    let g = goal_tree c.args.goal.now in
+    let p = query_part s g c.args.q in
+    let law = extends-as_clauses [] p.vars p.clauses (IsWantedRun s g c.args.q) (query-law s g c.args.q c.requires.system (ranges_fit-small s.ranges c.in_ok-unrolled.ensures.bytes) c.requires.goal) in
+    let a = run_assignment s g c.args.q first rules in
+    (law.sized a (first, rules, wanted, refl), law.does a (first, rules, wanted, refl))

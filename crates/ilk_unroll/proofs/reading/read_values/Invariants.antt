@@ -1,0 +1,13 @@
+use Rattle.std.proofs.Common.{◌≡◌, ℕ, ◌+◌, ◌<◌, ◌≤◌, true, List, drop}
+use Rattle.ilk_ir.specs.System.{in_ranges}
+use Rattle.ilk_copy.specs.Copy.{total_bits, HaveBits}
+use Rattle.ilk_unroll.proofs.ReadBack.{Left}
+use Rattle.ilk_unroll.proofs.reading.read_values.Given as goal
+
+abbrev pub invariant-loop-range : goal.invariant-loop-range
+invariant-loop-range l =
+    record {
+      from_1 : 0 < l.first;
+      reached : l.first + total_bits (drop l.range-index l.range-items) ≤ total_bits l.ranges + 1;
+      left : (values : List ℕ) → in_ranges values l.ranges ≡ true → HaveBits l.a 1 l.ranges values → Left l.a l.first (drop l.range-index l.range-items) l.values values;
+    }

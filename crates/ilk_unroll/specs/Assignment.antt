@@ -1,0 +1,43 @@
+-- The assignment that a run is: what each variable of its query's formula is.
+use Rattle.std.specs.Prelude.{ℕ, ◌≡◌, Bool, true, List, [], ◌∷◌, ◌++◌, unwrap_or, slice_index_or, if◌then◌else◌}
+use Rattle.ilk_ir.specs.System.{RuleTree, SystemTree}
+use Rattle.ilk_copy.specs.Copy.{copy_bits}
+use Rattle.ilk_forms.specs.Truths.{demand_bits}
+use Rattle.ilk_forms.specs.Violated.{violated_bits}
+use Rattle.ilk_step.specs.Step.{step_bits}
+use Rattle.ilk_unroll.specs.Goal.{GoalTree, Demanded, demanded}
+use Rattle.ilk_unroll.specs.Run.{run_from, is_wanted_run}
+use Rattle.ilk_unroll.specs.declared.queries.Wanted.{Wanted}
+
+-- the variables of the copies with these value lists
+abbrev pub copies_bits : List ℕ → List (List ℕ) → List Bool
+copies_bits ranges [] = []
+copies_bits ranges (values ∷ run) = copy_bits ranges values ++ copies_bits ranges run
+
+-- those of the steps by these rules
+abbrev pub steps_bits : List RuleTree → List (List ℕ) → List ℕ → List Bool
+steps_bits rules [] chosen = []
+steps_bits rules (values ∷ run) [] = []
+steps_bits rules (values ∷ run) (rule ∷ chosen) = step_bits rules values rule ++ steps_bits rules run chosen
+
+-- those of what is demanded
+abbrev pub demanded_bits : List (List ℕ) → Demanded → List Bool
+demanded_bits run d =
+    if d.holds then demand_bits (slice_index_or run d.copy []) d.form else violated_bits (slice_index_or run d.copy []) d.form
+
+abbrev pub demands_bits : List (List ℕ) → List Demanded → List Bool
+demands_bits run [] = []
+demands_bits run (d ∷ ds) = demanded_bits run d ++ demands_bits run ds
+
+-- all of them
+abbrev pub run_bits : SystemTree → GoalTree → Wanted → List (List ℕ) → List ℕ → List Bool
+run_bits s g q run rules = copies_bits s.ranges run ++ (steps_bits s.rules run rules ++ demands_bits run (demanded g q))
+
+-- the assignment of the run that begins with `first` and fires `rules`
+abbrev pub run_assignment : SystemTree → GoalTree → Wanted → List ℕ → List ℕ → List Bool
+run_assignment s g q first rules = run_bits s g q (unwrap_or (run_from s first rules) []) rules
+
+-- that of some run that the query asks for
+abbrev pub IsWantedRun : SystemTree → GoalTree → Wanted → List Bool → Type 0
+IsWantedRun s g q a =
+    (first : List ℕ) × (rules : List ℕ) × (is_wanted_run s g q first rules ≡ true) × (a ≡ run_assignment s g q first rules)

@@ -1,0 +1,199 @@
+ghost use Rattle.std.specs.Prelude.{◌≡◌, ◌+◌, ◌<◌, ◌≤◌, ◌∷◌, [], length, map, OnOk, IsTrue};
+ghost use Rattle.std.specs.List.{list_all, flat_map};
+ghost use Rattle.ilk_cnf.specs.Part.{with_part};
+ghost use Rattle.ilk_ir.specs.Form.{tree_of, trees_of};
+ghost use Rattle.ilk_ir.specs.Tree.{all_of, more, negation};
+ghost use Rattle.ilk_unroll.specs.Goal.{holds_in, fails_in, holds_below, demanded, goal_tree, step_count};
+ghost use Rattle.ilk_unroll.specs.Query.{demands_part};
+ghost use Rattle.ilk_unroll.specs.Tables.{tables_in, valid_in};
+
+use crate::queries::{Goal, Wanted};
+use crate::unroll::Tables;
+use ilk_cnf::Cnf;
+use ilk_forms::{demand, holds_or_some_fails, some_fails};
+use ilk_ir::{Form, Forms};
+use std::alloc::{AllocError, Global};
+
+// Demands the form of the copy with the number.
+fn demand_in(
+    alloc: Global,
+    cnf: &mut Cnf,
+    tables: &Tables,
+    form: &Form,
+    copy: u32,
+) -> Result<(), AllocError>
+    requires copy { copy < length tables.now }
+    requires within { IsTrue (tables_in cnf.old.vars tables.now) }
+    requires valid { IsTrue (valid_in tables.now (tree_of form.now)) }
+    ensures made { OnOk result (cnf.new ≡ with_part cnf.old (demands_part tables.now (holds_in copy (tree_of form.now) ∷ []) cnf.old.vars)) }
+    ensures within { OnOk result (IsTrue (tables_in cnf.new.vars tables.now)) }
+{
+    demand(alloc, cnf, tables.at(u64::from(copy)), &[], form)?;
+    Ok(())
+}
+
+// Demands the form of each of so many copies.
+fn demand_below(
+    alloc: Global,
+    cnf: &mut Cnf,
+    tables: &Tables,
+    form: &Form,
+    count: u32,
+) -> Result<(), AllocError>
+    requires count { count ≤ length tables.now }
+    requires within { IsTrue (tables_in cnf.old.vars tables.now) }
+    requires valid { IsTrue (valid_in tables.now (tree_of form.now)) }
+    ensures made { OnOk result (cnf.new ≡ with_part cnf.old (demands_part tables.now (holds_below (tree_of form.now) count) cnf.old.vars)) }
+    ensures within { OnOk result (IsTrue (tables_in cnf.new.vars tables.now)) }
+{
+    for copy in 0..count {
+        demand_in(alloc, cnf, tables, form, copy)?;
+    }
+    Ok(())
+}
+
+// Demands each of the forms of each of so many copies.
+fn demand_each_below(
+    alloc: Global,
+    cnf: &mut Cnf,
+    tables: &Tables,
+    forms: &[Form],
+    count: u32,
+) -> Result<(), AllocError>
+    requires count { count ≤ length tables.now }
+    requires within { IsTrue (tables_in cnf.old.vars tables.now) }
+    requires valid { IsTrue (list_all (valid_in tables.now) (map tree_of forms.now)) }
+    ensures made { OnOk result (cnf.new ≡ with_part cnf.old (demands_part tables.now (flat_map (λ t. holds_below t count) (map tree_of forms.now)) cnf.old.vars)) }
+    ensures within { OnOk result (IsTrue (tables_in cnf.new.vars tables.now)) }
+{
+    for form in forms {
+        demand_below(alloc, cnf, tables, form, count)?;
+    }
+    Ok(())
+}
+
+// Demands that some of the forms doesn't hold in the copy with the number.
+fn demand_violated(
+    alloc: Global,
+    cnf: &mut Cnf,
+    tables: &Tables,
+    forms: &Forms,
+    copy: u32,
+) -> Result<(), AllocError>
+    requires copy { copy < length tables.now }
+    requires within { IsTrue (tables_in cnf.old.vars tables.now) }
+    requires valid { IsTrue (valid_in tables.now (all_of (trees_of forms.now))) }
+    ensures { OnOk result (cnf.new ≡ with_part cnf.old (demands_part tables.now (fails_in copy (all_of (trees_of forms.now)) ∷ []) cnf.old.vars)) }
+{
+    some_fails(alloc, cnf, tables.at(u64::from(copy)), forms.as_slice())?;
+    Ok(())
+}
+
+// Demands that the form holds in the copy with the number, or some of the others doesn't.
+fn demand_or_violated(
+    alloc: Global,
+    cnf: &mut Cnf,
+    tables: &Tables,
+    form: &Form,
+    forms: &Forms,
+    copy: u32,
+) -> Result<(), AllocError>
+    requires copy { copy < length tables.now }
+    requires within { IsTrue (tables_in cnf.old.vars tables.now) }
+    requires valid { IsTrue (valid_in tables.now (all_of (more (negation (tree_of form.now)) (trees_of forms.now)))) }
+    ensures { OnOk result (cnf.new ≡ with_part cnf.old (demands_part tables.now (fails_in copy (all_of (more (negation (tree_of form.now)) (trees_of forms.now))) ∷ []) cnf.old.vars)) }
+{
+    let table = tables.at(u64::from(copy));
+    holds_or_some_fails(alloc, cnf, table, form, forms.as_slice())?;
+    Ok(())
+}
+
+// The demands of a hazard query.
+fn add_hazard(
+    alloc: Global,
+    cnf: &mut Cnf,
+    tables: &Tables,
+    goal: &Goal,
+    steps: u32,
+) -> Result<(), AllocError>
+    requires steps { steps < length tables.now }
+    requires within { IsTrue (tables_in cnf.old.vars tables.now) }
+    requires start { IsTrue (valid_in tables.now (tree_of goal.now.start)) }
+    requires hazard { IsTrue (valid_in tables.now (tree_of goal.now.hazard)) }
+    requires wellformed { IsTrue (valid_in tables.now (tree_of goal.now.wellformed)) }
+    ensures { OnOk result (cnf.new ≡ with_part cnf.old (demands_part tables.now (demanded (goal_tree goal.now) (Wanted.Hazard steps)) cnf.old.vars)) }
+{
+    demand_in(alloc, cnf, tables, &goal.start, 0)?;
+    demand_below(alloc, cnf, tables, &goal.wellformed, steps)?;
+    demand_in(alloc, cnf, tables, &goal.hazard, steps)?;
+    Ok(())
+}
+
+// The demands of a breach query.
+fn add_breach(
+    alloc: Global,
+    cnf: &mut Cnf,
+    tables: &Tables,
+    goal: &Goal,
+    steps: u32,
+) -> Result<(), AllocError>
+    requires steps { steps < length tables.now }
+    requires few { steps ≤ 16 }
+    requires within { IsTrue (tables_in cnf.old.vars tables.now) }
+    requires start { IsTrue (valid_in tables.now (tree_of goal.now.start)) }
+    requires wellformed { IsTrue (valid_in tables.now (tree_of goal.now.wellformed)) }
+    requires families { IsTrue (valid_in tables.now (all_of (trees_of goal.now.families))) }
+    ensures { OnOk result (cnf.new ≡ with_part cnf.old (demands_part tables.now (demanded (goal_tree goal.now) (Wanted.Breach steps)) cnf.old.vars)) }
+{
+    demand_in(alloc, cnf, tables, &goal.start, 0)?;
+    demand_below(alloc, cnf, tables, &goal.wellformed, steps + 1)?;
+    demand_violated(alloc, cnf, tables, &goal.families, steps)?;
+    Ok(())
+}
+
+// The demands of a step query.
+fn add_step_query(
+    alloc: Global,
+    cnf: &mut Cnf,
+    tables: &Tables,
+    goal: &Goal,
+    steps: u32,
+) -> Result<(), AllocError>
+    requires steps { steps < length tables.now }
+    requires within { IsTrue (tables_in cnf.old.vars tables.now) }
+    requires wellformed { IsTrue (valid_in tables.now (tree_of goal.now.wellformed)) }
+    requires each { IsTrue (list_all (valid_in tables.now) (map tree_of goal.now.families)) }
+    requires last { IsTrue (valid_in tables.now (all_of (more (negation (tree_of goal.now.hazard)) (trees_of goal.now.families)))) }
+    ensures { OnOk result (cnf.new ≡ with_part cnf.old (demands_part tables.now (demanded (goal_tree goal.now) (Wanted.Step steps)) cnf.old.vars)) }
+{
+    demand_below(alloc, cnf, tables, &goal.wellformed, steps)?;
+    demand_each_below(alloc, cnf, tables, goal.families.as_slice(), steps)?;
+    demand_or_violated(alloc, cnf, tables, &goal.hazard, &goal.families, steps)?;
+    Ok(())
+}
+
+/// What the query demands of the copies.
+pub fn add_demands(
+    alloc: Global,
+    cnf: &mut Cnf,
+    tables: &Tables,
+    goal: &Goal,
+    q: Wanted,
+) -> Result<(), AllocError>
+    requires steps { step_count q < length tables.now }
+    requires few { step_count q ≤ 16 }
+    requires within { IsTrue (tables_in cnf.old.vars tables.now) }
+    requires start { IsTrue (valid_in tables.now (tree_of goal.now.start)) }
+    requires hazard { IsTrue (valid_in tables.now (tree_of goal.now.hazard)) }
+    requires wellformed { IsTrue (valid_in tables.now (tree_of goal.now.wellformed)) }
+    requires each { IsTrue (list_all (valid_in tables.now) (map tree_of goal.now.families)) }
+    requires families { IsTrue (valid_in tables.now (all_of (trees_of goal.now.families))) }
+    requires last { IsTrue (valid_in tables.now (all_of (more (negation (tree_of goal.now.hazard)) (trees_of goal.now.families)))) }
+    ensures { OnOk result (cnf.new ≡ with_part cnf.old (demands_part tables.now (demanded (goal_tree goal.now) q) cnf.old.vars)) }
+{
+    match q {
+        Wanted::Hazard(steps) => add_hazard(alloc, cnf, tables, goal, steps),
+        Wanted::Breach(steps) => add_breach(alloc, cnf, tables, goal, steps),
+        Wanted::Step(steps) => add_step_query(alloc, cnf, tables, goal, steps),
+    }
+}

@@ -1,0 +1,37 @@
+ghost use Rattle.std.specs.Prelude.{◌≡◌, ℕ, List, Bool, length, OnOk, IfOk, IsTrue};
+ghost use Rattle.ilk_cnf.specs.Truth.{satisfies};
+ghost use Rattle.ilk_ir.specs.System.{system_tree, system_valid};
+ghost use Rattle.ilk_unroll.specs.Goal.{goal_tree, goal_valid, wanted_valid};
+ghost use Rattle.ilk_unroll.specs.Run.{is_wanted_run};
+ghost use Rattle.ilk_unroll.specs.Query.{query_formula};
+ghost use Rattle.ilk_unroll.specs.Assignment.{run_assignment, IsWantedRun};
+
+use crate::demands::add_demands;
+use crate::queries::{Goal, Wanted};
+use crate::unroll::unroll;
+use ilk_cnf::Cnf;
+use ilk_ir::System;
+use std::alloc::{AllocError, Global};
+
+/// The formula of a query: a copy of the system's values for the first and after each step, the
+/// steps, and what the query demands of them. Its satisfying assignments are exactly those of the
+/// runs that the query asks for, one for each. Nothing is asked of what may follow the last step.
+/// The system is valid, the goal's forms are valid over its ranges, and the query has at most 16
+/// steps, and at least one where it is a step query.
+pub fn query(alloc: Global, system: &System, goal: &Goal, q: Wanted) -> Result<Cnf, AllocError>
+    requires system { IsTrue (system_valid (system_tree system.now)) }
+    requires goal { IsTrue (goal_valid system.now.ranges (goal_tree goal.now)) }
+    requires wanted { IsTrue (wanted_valid q) }
+    ensures formula { IfOk result (λ cnf. cnf ≡ query_formula (system_tree system.now) (goal_tree goal.now) q) }
+
+    // An assignment that satisfies the formula is that of a run that the query asks for.
+    ensures sound { OnOk result ((a : List Bool) → length a ≡ (query_formula (system_tree system.now) (goal_tree goal.now) q).vars → IsTrue (satisfies a (query_formula (system_tree system.now) (goal_tree goal.now) q).clauses) → IsWantedRun (system_tree system.now) (goal_tree goal.now) q a) }
+
+    // The assignment of each such run satisfies the formula.
+    ensures complete { OnOk result ((first rules : List ℕ) → IsTrue (is_wanted_run (system_tree system.now) (goal_tree goal.now) q first rules) → (length (run_assignment (system_tree system.now) (goal_tree goal.now) q first rules) ≡ (query_formula (system_tree system.now) (goal_tree goal.now) q).vars) × IsTrue (satisfies (run_assignment (system_tree system.now) (goal_tree goal.now) q first rules) (query_formula (system_tree system.now) (goal_tree goal.now) q).clauses)) }
+{
+    let mut cnf = Cnf::new(alloc);
+    let unrolled = unroll(alloc, &mut cnf, system, q.steps())?;
+    add_demands(alloc, &mut cnf, &unrolled.tables, goal, q)?;
+    Ok(cnf)
+}

@@ -1,0 +1,90 @@
+ghost use Rattle.std.specs.Prelude.{◌≡◌, ℕ, ◌+◌, ◌<◌, ◌≤◌, ◌^◌, List, length, IfOk, IsTrue};
+ghost use Rattle.ilk_cnf.specs.Truth.{satisfies};
+ghost use Rattle.ilk_ir.specs.System.{system_tree, system_valid, in_ranges};
+ghost use Rattle.ilk_copy.specs.Copy.{total_bits, HaveBits};
+ghost use Rattle.ilk_unroll.specs.Goal.{goal_tree, goal_valid, wanted_valid};
+ghost use Rattle.ilk_unroll.specs.Run.{is_wanted_run};
+ghost use Rattle.ilk_unroll.specs.Query.{query_formula};
+ghost use Rattle.ilk_unroll.specs.Assignment.{run_assignment};
+ghost use Rattle.ilk_unroll.specs.Tables.{AllChosen, choices_numbered};
+
+use crate::queries::{Goal, Wanted};
+use crate::unroll::{Choices, unroll};
+use ilk_base::Row;
+use ilk_cnf::{Assignment, Cnf};
+use ilk_ints::{Bounded, bits, value_of};
+use ilk_ir::{Ranges, System, Values};
+use ilk_step::chosen_rule;
+use std::alloc::{AllocError, Global};
+
+/// Numbers of rules.
+pub type Rows = Row<u32>;
+
+/// A run: its first values, and the rules that are fired one after another.
+#[derive(Drop)]
+pub struct Trace {
+    pub first: Values,
+    pub rules: Rows,
+}
+
+// The values of integers with these ranges, whose bits stand from the first variable on.
+fn read_values(alloc: Global, ranges: &Ranges, a: &Assignment) -> Result<Values, AllocError>
+    requires numbered { total_bits ranges.now ≤ 2 ^ 62 }
+    requires reached { total_bits ranges.now ≤ length a.now }
+    requires told { (values : List ℕ) × IsTrue (in_ranges values ranges.now) × HaveBits a.now 1 ranges.now values }
+    ensures { IfOk result (λ read. (values : List ℕ) → IsTrue (in_ranges values ranges.now) → HaveBits a.now 1 ranges.now values → read ≡ values) }
+{
+    let mut values = Values::new(alloc);
+    let mut first = 1;
+    for range in ranges.as_slice() {
+        let _ = a.len();
+        let count = bits(*range);
+        let n = Bounded {
+            first,
+            range: *range,
+        };
+        values.push(value_of(n, a))?;
+        first += count;
+    }
+    Ok(values)
+}
+
+// The rules that are chosen, step by step.
+fn read_rules(alloc: Global, choices: &Choices, a: &Assignment) -> Result<Rows, AllocError>
+    requires numbered { IsTrue (choices_numbered (2 ^ 62) choices.now) }
+    requires chosen { (rules : List ℕ) × AllChosen a.now choices.now rules }
+    ensures { IfOk result (λ read. (rules : List ℕ) → AllChosen a.now choices.now rules → read ≡ rules) }
+{
+    let mut rules = Rows::new(alloc);
+    for choice in choices.as_slice() {
+        rules.push(chosen_rule(a, *choice))?;
+    }
+    Ok(rules)
+}
+
+/// The run that the assignment is: it satisfies the formula that `query` gives for the same
+/// arguments. The formula's variables stand where the copies and steps put them, so these are made
+/// once more. There is no other run with this assignment, so two assignments that satisfy the
+/// formula and give the same run are equal.
+pub fn read_back(
+    alloc: Global,
+    system: &System,
+    goal: &Goal,
+    q: Wanted,
+    a: &Assignment,
+) -> Result<Trace, AllocError>
+    requires system { IsTrue (system_valid (system_tree system.now)) }
+    requires goal { IsTrue (goal_valid system.now.ranges (goal_tree goal.now)) }
+    requires wanted { IsTrue (wanted_valid q) }
+    requires sized { length a.now ≡ (query_formula (system_tree system.now) (goal_tree goal.now) q).vars }
+    requires satisfied { IsTrue (satisfies a.now (query_formula (system_tree system.now) (goal_tree goal.now) q).clauses) }
+    ensures run { IfOk result (λ trace. IsTrue (is_wanted_run (system_tree system.now) (goal_tree goal.now) q trace.first trace.rules)) }
+    ensures assignment { IfOk result (λ trace. a.now ≡ run_assignment (system_tree system.now) (goal_tree goal.now) q trace.first trace.rules) }
+{
+    let mut cnf = Cnf::new(alloc);
+    let unrolled = unroll(alloc, &mut cnf, system, q.steps())?;
+    let first = read_values(alloc, &system.ranges, a)?;
+    let rules = read_rules(alloc, &unrolled.choices, a)?;
+    let _ = goal;
+    Ok(Trace { first, rules })
+}

@@ -1,0 +1,100 @@
+ghost use Rattle.std.specs.Prelude.{◌≡◌, ◌<◌, ◌≤◌, ◌^◌, suc, [], nat_lt, map, OnOk, IfOk, IsTrue};
+ghost use Rattle.std.specs.List.{list_all};
+ghost use Rattle.ilk_cnf.specs.Part.{with_part, and_then};
+ghost use Rattle.ilk_ir.specs.System.{rule_tree, rule_valid, system_tree, system_valid};
+ghost use Rattle.ilk_copy.specs.Copy.{total_bits};
+ghost use Rattle.ilk_unroll.specs.Query.{copies_part, steps_part};
+ghost use Rattle.ilk_unroll.specs.Tables.{tables_in, HaveRanges, step_choices, choices_numbered};
+
+use ilk_base::Row;
+use ilk_cnf::Cnf;
+use ilk_copy::{Table, add_copy};
+use ilk_ir::{Ranges, System};
+use ilk_step::{Choice, add_step};
+use std::alloc::{AllocError, Global};
+
+/// The literals of each copy.
+pub type Tables = Row<Table>;
+
+/// For each step, the variables that say which rule is chosen.
+pub type Choices = Row<Choice>;
+
+/// What an unrolled system's formula is read by.
+#[derive(Drop)]
+pub struct Unrolled {
+    pub tables: Tables,
+    pub choices: Choices,
+}
+
+// Adds so many copies of variables with these ranges.
+fn add_copies(
+    alloc: Global,
+    cnf: &mut Cnf,
+    ranges: &Ranges,
+    count: u32,
+) -> Result<Tables, AllocError>
+    requires { IsTrue (list_all (λ range. nat_lt 0 range) ranges.now) }
+    ensures tables { IfOk result (λ tables. tables ≡ (copies_part ranges.now count cnf.old.vars).tables) }
+    ensures made { OnOk result (cnf.new ≡ with_part cnf.old (copies_part ranges.now count cnf.old.vars).part) }
+{
+    let mut tables = Tables::new(alloc);
+    for _ in 0..count {
+        tables.push(add_copy(alloc, cnf, ranges)?)?;
+    }
+    Ok(tables)
+}
+
+// Adds a step from each copy to the next.
+fn add_steps(
+    alloc: Global,
+    cnf: &mut Cnf,
+    system: &System,
+    tables: &Tables,
+) -> Result<Choices, AllocError>
+    requires within { IsTrue (tables_in cnf.old.vars tables.now) }
+    requires ranges { HaveRanges system.now.ranges tables.now }
+    requires valid { IsTrue (system_valid (system_tree system.now)) }
+    ensures choices { IfOk result (λ choices. choices ≡ step_choices (map rule_tree system.now.rules) tables.now cnf.old.vars) }
+    ensures made { OnOk result (cnf.new ≡ with_part cnf.old (steps_part (map rule_tree system.now.rules) tables.now cnf.old.vars)) }
+{
+    let mut choices = Choices::new(alloc);
+    for i in 1..tables.len() {
+        let choice = add_step(alloc, cnf, tables.at(i - 1), tables.at(i), &system.rules)?;
+        choices.push(choice)?;
+    }
+    Ok(choices)
+}
+
+// The same ranges, each of which is a byte.
+fn bytes_of(ranges: &[u8]) -> &[u8]
+    ensures items { result.now ≡ ranges.now }
+    ensures bytes { IsTrue (list_all (λ range. nat_lt range 256) ranges.now) }
+{
+    ranges
+}
+
+/// Adds a copy for the first values and one after each step, and then the steps.
+pub fn unroll(
+    alloc: Global,
+    cnf: &mut Cnf,
+    system: &System,
+    steps: u32,
+) -> Result<Unrolled, AllocError>
+    requires empty { cnf.old ≡ record { vars = 0; clauses = [] } }
+    requires steps { steps < 2 ^ 31 }
+    requires valid { IsTrue (system_valid (system_tree system.now)) }
+    ensures tables { IfOk result (λ unrolled. unrolled.tables ≡ (copies_part system.now.ranges (suc steps) 0).tables) }
+    ensures choices { IfOk result (λ unrolled. unrolled.choices ≡ step_choices (map rule_tree system.now.rules) (copies_part system.now.ranges (suc steps) 0).tables (copies_part system.now.ranges (suc steps) 0).part.vars) }
+    ensures made { OnOk result (cnf.new ≡ with_part (record { vars = 0; clauses = [] }) (and_then (copies_part system.now.ranges (suc steps) 0).part (steps_part (map rule_tree system.now.rules) (copies_part system.now.ranges (suc steps) 0).tables))) }
+    ensures within { IfOk result (λ unrolled. IsTrue (tables_in cnf.new.vars unrolled.tables)) }
+    ensures ranges { IfOk result (λ unrolled. HaveRanges system.now.ranges unrolled.tables) }
+    ensures numbered { IfOk result (λ unrolled. IsTrue (choices_numbered (2 ^ 62) unrolled.choices)) }
+    ensures reach { OnOk result (total_bits system.now.ranges ≤ 2 ^ 62) }
+    ensures bytes { OnOk result (IsTrue (list_all (λ range. nat_lt range 256) system.now.ranges)) }
+{
+    let _ranges = bytes_of(system.ranges.as_slice());
+    let tables = add_copies(alloc, cnf, &system.ranges, steps + 1)?;
+    let choices = add_steps(alloc, cnf, system, &tables)?;
+    let _ = cnf.vars();
+    Ok(Unrolled { tables, choices })
+}
