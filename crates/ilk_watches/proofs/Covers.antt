@@ -56,7 +56,7 @@ stands-either d (x ∷ xs) ys h =
       | inr q ↦ elim (stands-either d xs ys q) [ inl p ↦ inl (or_right (eqb x d) (stands_in d xs) p) | inr p ↦ inr p ]
     ]
 
-stands-one : (d c : ℕ) → stands_in d (c ∷ []) ≡ true → d ≡ c
+pub stands-one : (d c : ℕ) → stands_in d (c ∷ []) ≡ true → d ≡ c
 stands-one d c h = elim (or_cases (eqb c d) false h) [ inl q ↦ sym (eqb-true c d q) | inr q ↦ absurd (cc) ]
 
 pub not-passed : (xs ys : List ℕ) (c : ℕ) → IsDistinct eqb (xs ++ c ∷ ys) → stands_in c xs ≡ false

@@ -1,10 +1,10 @@
 -- True and false literals of a trail, and of one with more entries.
-use Rattle.std.proofs.Common.{◌≡◌, ◌≢◌, ◌||◌, ◌<◌, ◌≤◌, ℕ, Bool, zero, suc, inl, inr, true, false, not, eqb, List, [], ◌∷◌, ◌++◌, length, take, drop, Option, Some, None, refl, sym, ap, ◌∙◌, subst, arith}
+use Rattle.std.proofs.Common.{◌≡◌, ◌≢◌, ◌||◌, ◌+◌, ◌<◌, ◌≤◌, ℕ, Bool, zero, suc, inl, inr, true, false, not, eqb, List, [], ◌∷◌, ◌++◌, length, take, drop, Option, Some, None, refl, sym, ap, ◌∙◌, subst, arith}
 use Rattle.std.specs.Prelude.{nat_le}
 use Rattle.std.specs.List.{slice_get}
 use Rattle.std.proofs.lemmas.Bool.{cases_Bool, or_cases, or_left, or_right, and_parts, not-true, true≢false, eq-eqb}
 use Rattle.std.proofs.lemmas.Option.{slice_get_within}
-use Rattle.std.proofs.lemmas.List.{take-append-drop, length-take}
+use Rattle.std.proofs.lemmas.List.{take-append-drop, length-take, length-map}
 use Rattle.ilk_base.specs.Option.{is_some_and}
 use Rattle.ilk_base.proofs.Lists.{at-before, take-at}
 use Rattle.ilk_cnf.specs.Literal.{Literal, opposite, same_lit, has_lit, has_var, vars_differ}
@@ -12,9 +12,13 @@ use Rattle.ilk_cnf.proofs.Gates.{opposite-opposite}
 use Rattle.ilk_cnf.proofs.SameLiterals.{lit-is, same-lit, has-var}
 use Rattle.ilk_log.specs.Propagation.{is_false}
 use Rattle.ilk_trail.specs.declared.entry.Entry.{Entry}
-use Rattle.ilk_trail.specs.Trail.{up_to, value_of_literal}
-use Rattle.ilk_trail.specs.Laws.{is_set, lits_of}
+use Rattle.ilk_trail.specs.Trail.{TrailList, up_to, value_of_literal}
+use Rattle.ilk_trail.specs.Laws.{IsTrail, is_set, lits_of}
+use Rattle.ilk_cnf.specs.Formula.{lit_in}
+use Rattle.ilk_clauses.proofs.Within.{lit_in-clause}
+use Rattle.std.proofs.lemmas.Bool.Decides.{nat_tests}
 use Rattle.ilk_trail.proofs.Entries.{set-at}
+use Rattle.ilk_trail.proofs.Literals.{count_of_vars}
 use Rattle.ilk_clauses.proofs.Values.{value-tells}
 use Rattle.ilk_watches.specs.Watched.{is_true_at}
 
@@ -123,3 +127,23 @@ one-entry (x ∷ es) zero zero e d v s t q = refl
 one-entry (x ∷ es) zero (suc j) e d v s t q = absurd (twice es x e d j v (cc) t q)
 one-entry (x ∷ es) (suc i) zero e d v s t q = absurd (twice es x d e i v (cc) s (sym q))
 one-entry (x ∷ es) (suc i) (suc j) e d v s t q = ap suc (one-entry es i j e d (and_parts (not (has_var x.lit.var (lits_of es))) (vars_differ (lits_of es)) v).1 s t q)
+
+-- the literals of a trail are over its variables
+pub entry-within : (t : TrailList) (i : ℕ) (e : Entry) → IsTrail t → slice_get t.entries i ≡ Some e → lit_in t.vars e.lit ≡ true
+entry-within t i e k s = lit_in-clause t.vars (lits_of t.entries) e.lit k.within (entry-lit t.entries i e s)
+
+-- a literal that is added is true at its level and above
+pub true-pushed : (es : List Entry) (e : Entry) (k : ℕ) → e.level ≤ k → is_true_at (es ++ e ∷ []) k e.lit ≡ true
+true-pushed [] e k h = (let t : nat_le e.level k ≡ true = grind (arith, nat_tests) in rw t (or_left (same_lit e.lit e.lit) false (same-lit e.lit)))
+true-pushed (x ∷ es) e k h =
+    elim (cases_Bool (nat_le x.level k)) [
+      | inl t ↦ rw t (or_right (same_lit e.lit x.lit) (is_true_at (es ++ e ∷ []) k e.lit) (true-pushed es e k h))
+      | inr t ↦ rw t (true-pushed es e k h)
+    ]
+
+-- a trail has at most one entry for each variable
+pub entries-few : (t : TrailList) → IsTrail t → length t.entries ≤ t.vars + 1
+entries-few t k =
+    let m = count_of_vars t.vars (lits_of t.entries) k.within k.once in
+    let n : length (lits_of t.entries) ≡ length t.entries = simp length-map in
+    omega (arith, m, n)

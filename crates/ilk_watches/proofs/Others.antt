@@ -93,7 +93,7 @@ reason-of a c set m k s h o =
     let test : List Literal → Bool = λ ls. has_lit m ls && is_falsified set (others m ls) in
     ap (λ (i : ℕ). test (clause_at a.clauses i)) n ∙ ap test b.literals ∙ and_from (has_lit m (literals_of a c)) (is_falsified set (others m (literals_of a c))) h o
 
-falsified-whole : (set : List Literal) (m : Literal) (c : List Literal) → is_falsified set (others m c) ≡ true → is_false set m ≡ true → is_falsified set c ≡ true
+pub falsified-whole : (set : List Literal) (m : Literal) (c : List Literal) → is_falsified set (others m c) ≡ true → is_false set m ≡ true → is_falsified set c ≡ true
 falsified-whole set m [] h f = refl
 falsified-whole set m (l ∷ c) h f =
     elim (cases_Bool (same_lit m l)) [

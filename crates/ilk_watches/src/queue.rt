@@ -88,6 +88,7 @@ impl Queue {
         ensures propagated { IsPropagated clauses.old.clauses trail.old.entries trail.new.entries }
     {
         'entries: while self.head < trail.count() {
+            let _ = clauses.count();
             if let Some(c) = walk(clauses, trail, self.head) {
                 return Some(c);
             }
@@ -109,6 +110,8 @@ impl Queue {
         ensures queue { IsQueue clauses.new trail.new.entries self.new.head self.new.settled }
     {
         let _ = self.propagate(clauses, trail);
+        let _ = clauses.count();
+        let _ = trail.level();
         trail.decide(l);
     }
 

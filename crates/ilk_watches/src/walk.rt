@@ -157,6 +157,7 @@ fn visit(
     ensures clauses { SameClauses clauses.old clauses.new }
     ensures trail { trail.new ≡ record trail.old { entries = trail.new.entries } }
     ensures propagated { IsPropagated clauses.old.clauses trail.old.entries trail.new.entries }
+    ensures was_trail { IsTrail trail.old }
 {
     let _ = trail.level();
     let other = clauses.arena().other_watch(c, f);
@@ -206,5 +207,6 @@ pub fn walk(clauses: &mut ArenaClauses, trail: &mut Trail, head: u64) -> Option<
             Visited::Broken => return Some(clauses.arena().number(c) - 1),
         }
     }
+    let _ = trail.level();
     None
 }
