@@ -68,13 +68,7 @@ fn find_between(
 }
 
 // The first such literal from `start` on and around.
-fn find_around(
-    clauses: &ArenaClauses,
-    trail: &Trail,
-    c: u64,
-    other: Lit,
-    start: u64,
-) -> Option<u64>
+fn find_around(clauses: &ArenaClauses, trail: &Trail, c: u64, other: Lit, start: u64) -> Option<u64>
     requires known { IsTrue (stands_in c clauses.now.references) }
     requires vars { trail.now.vars ≡ clauses.now.vars }
     requires trail { IsTrail trail.now }
