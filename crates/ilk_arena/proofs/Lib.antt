@@ -13,4 +13,5 @@ pub mod Rewatching
 pub mod AddedClauses
 pub mod Cursors
 pub mod Readings
+pub mod Watching
 pub mod Examples

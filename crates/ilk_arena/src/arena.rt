@@ -148,6 +148,14 @@ impl Arena {
         reference
     }
 
+    /// How many variables there are.
+    pub fn vars(&self) -> u64
+        ensures count { result ≡ self.now.vars }
+        ensures numbered { result ≤ 2 ^ 62 }
+    {
+        self.vars
+    }
+
     /// How many literals clause `c` has.
     pub fn length(&self, c: u64) -> u64
         requires { IsTrue (stands_in c self.now.references) }

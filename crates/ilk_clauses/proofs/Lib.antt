@@ -1,3 +1,4 @@
 pub mod Within
 pub mod Values
 pub mod Forced
+pub mod Chained

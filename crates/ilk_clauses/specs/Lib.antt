@@ -1,1 +1,3 @@
 pub mod Reasons
+pub mod Chained
+pub mod Held

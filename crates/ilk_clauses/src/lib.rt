@@ -8,6 +8,8 @@
 //! literal, and which is a conflict.
 #![tactic(auto)]
 
+mod arena_clauses;
 mod clauses;
 
+pub use arena_clauses::ArenaClauses;
 pub use clauses::Clauses;

@@ -1,0 +1,13 @@
+pub mod Entries
+pub mod Covers
+pub mod Propagations
+pub mod Others
+pub mod Scan
+pub mod Walks
+pub mod Finding
+pub mod Satisfied
+pub mod Looks
+pub mod Queues
+pub mod Prefixes
+pub mod Back
+pub mod Added

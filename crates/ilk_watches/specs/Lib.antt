@@ -1,0 +1,4 @@
+pub mod Propagated
+pub mod Watched
+pub mod Look
+pub mod Visits

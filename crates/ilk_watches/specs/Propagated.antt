@@ -1,0 +1,15 @@
+-- What propagation adds to a trail.
+use Rattle.std.specs.Prelude.{ℕ, ◌≡◌, ◌≤◌, List, Some, IsSomeAnd, IsTrue, length, take, slice_get}
+use Rattle.ilk_cnf.specs.Literal.{Literal}
+use Rattle.ilk_trail.specs.declared.entry.Entry.{Entry}
+use Rattle.ilk_trail.specs.Trail.{level_of}
+use Rattle.ilk_trail.specs.Laws.{lits_of}
+use Rattle.ilk_clauses.specs.Reasons.{is_reason}
+
+-- the earlier entries stay, and so does the level; each new entry is at that level, and its reason is
+-- a clause that forces its literal where the entries before it are set
+pub record IsPropagated (clauses : List (List Literal)) (old new : List Entry) : Type 0 where
+  pub kept : take (length old) new ≡ old
+  pub level : level_of new ≡ level_of old
+  pub levels : (i : ℕ) (e : Entry) → length old ≤ i → slice_get new i ≡ Some e → e.level ≡ level_of old
+  pub reasons : (i : ℕ) (e : Entry) → length old ≤ i → slice_get new i ≡ Some e → IsSomeAnd e.reason (λ c. IsTrue (is_reason clauses (lits_of (take i new)) e.lit c))

@@ -1,0 +1,63 @@
+-- Only private contracts and proofs need this file: what a visit of a clause in the chain of a false literal leaves.
+use Rattle.std.specs.List.{last_or}
+use Rattle.std.specs.Prelude.{ℕ, ◌≡◌, ◌≢◌, ◌<◌, ◌≤◌, ◌-◌, ◌&&◌, ◌==◌, [], ◌∷◌, ◌++◌, Bool, true, false, if◌then◌else◌, List, Option, None, Some, IsSomeAnd, IsTrue, not, slice_get}
+use Rattle.ilk_cnf.specs.Literal.{Literal, has_lit, same_lit}
+use Rattle.ilk_log.specs.Propagation.{is_false, is_falsified}
+use Rattle.ilk_log.specs.Fresh.{others}
+use Rattle.ilk_trail.specs.declared.entry.Entry.{Entry}
+use Rattle.ilk_trail.specs.Laws.{lits_of}
+use Rattle.ilk_arena.specs.Arena.{ArenaLists, chain_of, first_of, literals_of, number_of_clause, rewatched, stands_in}
+use Rattle.ilk_clauses.specs.Reasons.{is_conflict}
+use Rattle.ilk_watches.specs.Watched.{AllCovered}
+use Rattle.ilk_watches.specs.declared.walk.Visited.{Visited}
+use Rattle.ilk_watches.specs.declared.walk.Visited.TheVariants.{Stays, Moves, Broken}
+
+-- whether l may be watched beside `other`: it is another literal, and isn't false
+abbrev pub may_watch : List Literal → Literal → Literal → Bool
+may_watch set other l = not (same_lit other l) && not (is_false set l)
+
+-- literal i is one that may be watched; none from one index on and before another is
+abbrev pub MayWatchAt : List Literal → Literal → List Literal → ℕ → Type 0
+MayWatchAt set other ls i = IsSomeAnd (slice_get ls i) (λ l. IsTrue (may_watch set other l))
+
+abbrev pub NoneMayWatch : List Literal → Literal → List Literal → ℕ → ℕ → Type 0
+NoneMayWatch set other ls from to = (i : ℕ) (l : Literal) → from ≤ i → i < to → slice_get ls i ≡ Some l → may_watch set other l ≡ false
+
+-- whether the watch of clause c at f was moved to a literal that isn't false; else all its literals but
+-- the other watch are false
+abbrev pub IsReplaced : ArenaLists → List Literal → ArenaLists → ℕ → Literal → Literal → Bool → Type 0
+IsReplaced a set b c f other true = (t : Literal) × (is_false set t ≡ false) × (b.chains ≡ (rewatched a c f t).chains)
+IsReplaced a set b c f other false = (b.chains ≡ a.chains) × IsTrue (is_falsified set (others other (literals_of a c)))
+
+-- a watch of clause c besides f is true
+abbrev pub OtherTrue : ArenaLists → List Entry → ℕ → Literal → Type 0
+OtherTrue a es c f = (l : Literal) → IsTrue (stands_in c (chain_of a l)) → l ≢ f → IsTrue (has_lit l (lits_of es))
+
+-- what a visit of clause c in the chain of f leaves
+abbrev pub IsVisited : ArenaLists → List Entry → ArenaLists → List Entry → ℕ → Literal → Visited → Type 0
+IsVisited a es b fs c f Stays = (b.chains ≡ a.chains) × OtherTrue a fs c f
+IsVisited a es b fs c f Moves = (t : Literal) × (is_false (lits_of es) t ≡ false) × (b.chains ≡ (rewatched a c f t).chains)
+IsVisited a es b fs c f Broken = (b.chains ≡ a.chains) × IsTrue (is_conflict a.clauses (lits_of fs) (number_of_clause a c - 1))
+
+-- a walk along the chain of f: the clauses that are passed have their other watch true
+pub record IsWalk (a : ArenaLists) (es : List Entry) (n : ℕ) (f : Literal) (passed rest : List ℕ) : Type 0 where
+  pub split : chain_of a f ≡ passed ++ rest
+  pub covered : AllCovered a es n
+  pub done : (c : ℕ) → IsTrue (stands_in c passed) → OtherTrue a es c f
+
+-- the same, told by the clause before the one that is next
+pub record Walking (a : ArenaLists) (es : List Entry) (n : ℕ) (f : Literal) (before next : Option ℕ) : Type 0 where
+  pub passed : List ℕ
+  pub rest : List ℕ
+  pub before_is : before ≡ last_or None passed
+  pub next_is : next ≡ first_of rest
+  pub is : IsWalk a es n f passed rest
+
+-- what is left of a chain from a clause on
+abbrev pub from_reference : ℕ → List ℕ → List ℕ
+from_reference c [] = []
+from_reference c (x ∷ xs) = if x == c then x ∷ xs else from_reference c xs
+
+abbrev pub rest_from : Option ℕ → List ℕ → List ℕ
+rest_from None cs = []
+rest_from (Some c) cs = from_reference c cs

@@ -1,0 +1,25 @@
+//! Propagation by two watched literals.
+//!
+//! Each clause of two or more literals watches two of them, and stands in the chains of both
+//! (`ilk_arena`). As long as neither is false the clause can't force anything. So when a literal
+//! becomes false, only the clauses in its chain are visited: where the other watch is true nothing is
+//! to do; else the clause takes another literal that isn't false as its watch; else its other watch is
+//! forced, or the clause is false.
+//!
+//! A `Queue` says how far propagation has come: which entries of the trail are still to be propagated,
+//! and which clauses were not looked at yet. `propagate` looks at these, and then walks along the chain
+//! of each literal that became false. `decide` and `back_to` keep the queue in step with the trail.
+//!
+//! `specs/Watched` says what is so between two calls: where a watch was made false by an entry that is
+//! propagated, the other watch is true at the level of that entry, so that it stays true until the
+//! entry is taken off. It is kept when levels are taken off (`proofs/Back`) and when a clause is added
+//! (`proofs/Added`), and it holds where nothing is set (`proofs/Start`). `specs/Propagated` says what
+//! propagation adds to a trail.
+#![tactic(auto)]
+
+mod look;
+mod queue;
+mod walk;
+
+pub use look::{Look, look_at};
+pub use queue::Queue;
