@@ -2,4 +2,8 @@
 #![tactic(auto)]
 
 #[cfg(test)]
+mod assignments;
+#[cfg(test)]
 mod number_tests;
+#[cfg(test)]
+mod query_tests;

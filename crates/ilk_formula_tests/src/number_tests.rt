@@ -1,22 +1,10 @@
-ghost use Rattle.std.specs.Prelude.{◌≡◌, ◌<◌, length, IfOk};
+ghost use Rattle.std.specs.Prelude.{◌<◌};
 
-use ilk_cnf::{Assignment, Cnf};
+use crate::assignments::assignment_of;
+use ilk_cnf::Cnf;
 use ilk_ints::{number, value_of};
 use std::alloc::{AllocError, Global};
 use std::test::Fail;
-
-// The assignment of so many variables whose values are the bits of `pattern`, the lowest first.
-fn assignment_of(alloc: Global, vars: u64, pattern: u64) -> Result<Assignment, AllocError>
-    ensures { IfOk result (λ a. length a ≡ vars) }
-{
-    let mut a = Assignment::new(alloc);
-    let mut rest = pattern;
-    for _ in 0..vars {
-        a.push(rest % 2 == 1)?;
-        rest /= 2;
-    }
-    Ok(a)
-}
 
 // The values that an integer of `range` has in those of the first `patterns` assignments that
 // satisfy the formula of it alone.

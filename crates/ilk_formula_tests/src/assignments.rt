@@ -1,0 +1,17 @@
+ghost use Rattle.std.specs.Prelude.{◌≡◌, length, IfOk};
+
+use ilk_cnf::Assignment;
+use std::alloc::{AllocError, Global};
+
+// The assignment of so many variables whose values are the bits of `pattern`, the lowest first.
+pub fn assignment_of(alloc: Global, vars: u64, pattern: u64) -> Result<Assignment, AllocError>
+    ensures { IfOk result (λ a. length a ≡ vars) }
+{
+    let mut a = Assignment::new(alloc);
+    let mut rest = pattern;
+    for _ in 0..vars {
+        a.push(rest % 2 == 1)?;
+        rest /= 2;
+    }
+    Ok(a)
+}
