@@ -26,12 +26,16 @@ def listed(word):
     return {"point": name, "position": position}
 
 
+SINCE_SECOND = ("protecting_points", "protecting_boards")
+
+
 def route(words):
-    """A route's object, from NAME from BOARD to BOARD path .. overlap .. points .. conflicts .."""
+    """A route's object, from NAME from BOARD to BOARD and its lists, each after its name."""
     name, heading, source, heading_two, destination, *rest = words
     if (heading, heading_two) != ("from", "to"):
         raise ValueError(f"a route wants from and to: {name}")
-    lists = {"path": [], "overlap": [], "points": [], "conflicts": []}
+    lists = {"path": [], "overlap": [], "points": [], "conflicts": [],
+             "protecting_points": [], "protecting_boards": []}
     current = None
     for word in rest:
         if word in lists:
@@ -41,29 +45,39 @@ def route(words):
     return {"name": name, "source": source, "destination": or_null(destination),
             "path": lists["path"], "overlap": lists["overlap"],
             "points": [listed(word) for word in lists["points"]],
-            "conflicts": lists["conflicts"]}
+            "conflicts": lists["conflicts"],
+            "protecting_points": [listed(word) for word in lists["protecting_points"]],
+            "protecting_boards": lists["protecting_boards"]}
 
 
-def document(sections, routes):
-    """A configuration's bytes."""
-    value = {"version": 1, "sections": sections, "routes": routes}
+def document(sections, routes, version=1):
+    """A configuration's bytes. The routes of version 1 have no protecting lists."""
+    if version == 1:
+        routes = [{key: value for key, value in route.items() if key not in SINCE_SECOND}
+                  for route in routes]
+    value = {"version": version, "sections": sections, "routes": routes}
     return json.dumps(value, separators=(",", ":")).encode()
 
 
 def plant_text(lines):
-    """The configuration that a short plant text stands for."""
-    sections, routes = [], []
+    """The configuration that a short plant text stands for: of version 2 where it has a protecting
+    list, or says so, else of version 1."""
+    sections, routes, version = [], [], 1
     for line in lines:
         kind, *words = line.split()
+        if any(word in SINCE_SECOND for word in words):
+            version = 2
         if kind == "linear":
             sections.append(linear(*words))
         elif kind == "point":
             sections.append(point(*words))
         elif kind == "route":
             routes.append(route(words))
+        elif kind == "version":
+            version = int(words[0])
         else:
             raise ValueError(f"no line of a plant: {line}")
-    return document(sections, routes)
+    return document(sections, routes, version)
 
 
 def line_sections(count):
@@ -112,17 +126,23 @@ def made_routes(count, conflicts):
 
 
 def made_largest():
-    """128 sections in a line and 128 routes over the same 32 of them, each listing all others."""
-    sections = line_sections(128)
+    """256 sections in a line and 256 routes over the same 32 of them, each with an overlap of 8
+    more and 8 protecting boards, and listing all others."""
+    sections = line_sections(256)
     sections[0]["board_up"] = "m1"
     sections[32]["board_up"] = "m2"
-    sections[127]["board_down"] = "m3"
-    names = [f"r{i}" for i in range(128)]
+    sections[255]["board_down"] = "m3"
+    for i in range(8):
+        sections[100 + i]["board_up"] = f"p{i}"
+    names = [f"r{i}" for i in range(256)]
     path = [f"s{i}" for i in range(1, 33)]
+    overlap = [f"s{i}" for i in range(33, 41)]
     return document(sections, [{"name": name, "source": "m1", "destination": "m2", "path": path,
-                                "overlap": [], "points": [],
-                                "conflicts": [other for other in names if other != name]}
-                               for name in names])
+                                "overlap": overlap, "points": [],
+                                "conflicts": [other for other in names if other != name],
+                                "protecting_points": [],
+                                "protecting_boards": [f"p{i}" for i in range(8)]}
+                               for name in names], 2)
 
 
 def made(kind, *words):

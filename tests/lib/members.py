@@ -23,13 +23,33 @@ BASE = {
         {"name": "r2", "source": "m2", "destination": None, "path": ["p", "a"], "overlap": [],
          "points": [{"point": "p", "position": "plus"}], "conflicts": ["r1"]}]}
 
-# Where each kind of object stands in the base, and the place that a fault in it has.
+# The same of version 2, with one more point and two more borders behind it, for what protects.
+BASE_OF_SECOND = {
+    "version": 2,
+    "sections": [
+        *BASE["sections"][:3],
+        {"name": "u", "kind": "linear", "down": "p", "up": "q", "board_down": None,
+         "board_up": None},
+        {"name": "q", "kind": "point", "faces": "up", "stem": "u", "plus": "v", "minus": "w"},
+        {"name": "v", "kind": "linear", "down": "q", "up": None, "board_down": "m3",
+         "board_up": None},
+        {"name": "w", "kind": "linear", "down": "q", "up": None, "board_down": "m4",
+         "board_up": None}],
+    "routes": [
+        {**BASE["routes"][0], "protecting_points": [{"point": "q", "position": "plus"}],
+         "protecting_boards": ["m3"]},
+        {**BASE["routes"][1], "protecting_points": [{"point": "q", "position": "minus"}],
+         "protecting_boards": ["m1"]}]}
+
+# For each kind of object the base in which it stands, where, and the place that a fault in it has.
 OBJECTS = {
-    "document": ([], "document"),
-    "linear": (["sections", 2], "sections[2]"),
-    "point": (["sections", 1], "sections[1]"),
-    "route": (["routes", 1], "routes[1]"),
-    "listed": (["routes", 1, "points", 0], "routes[1]"),
+    "document": (BASE, [], "document"),
+    "linear": (BASE, ["sections", 2], "sections[2]"),
+    "point": (BASE, ["sections", 1], "sections[1]"),
+    "route": (BASE, ["routes", 1], "routes[1]"),
+    "listed": (BASE, ["routes", 1, "points", 0], "routes[1]"),
+    "route_of_second": (BASE_OF_SECOND, ["routes", 1], "routes[1]"),
+    "protecting": (BASE_OF_SECOND, ["routes", 1, "protecting_points", 0], "routes[1]"),
 }
 
 
@@ -80,9 +100,9 @@ def wrong_values(allowed, texts):
             yield f"the text {json.dumps(text)}", text
 
 
-def wrong_entries(path, entry_kind, place):
+def wrong_entries(base, path, entry_kind, place):
     """Arrays with an entry of a wrong kind, and the place of the object that entry has or is of."""
-    right = at(BASE, path)
+    right = at(base, path)
     for kind, sample in SAMPLES.items():
         if kind == entry_kind:
             continue
@@ -95,24 +115,24 @@ def wrong_entries(path, entry_kind, place):
 
 def object_cases(kind, rows):
     """The cases of one kind of object."""
-    where, place = OBJECTS[kind]
+    base, where, place = OBJECTS[kind]
     for label, sample in SAMPLES.items():
         yield refused(f"{kind}: unknown member with {label}",
-                      put(BASE, [*where, "other"], sample), place,
+                      put(base, [*where, "other"], sample), place,
                       "no member but the listed ones is allowed")
     for member, words in rows:
         path = [*where, member]
         allowed = [word for word in words if word in SAMPLES]
         texts = [word[1:] for word in words if word.startswith("=")]
         entries = next((word[1:] for word in words if word.startswith("*")), None)
-        yield refused(f"{kind}: {member} missing", without(BASE, path), place,
+        yield refused(f"{kind}: {member} missing", without(base, path), place,
                       "every listed member is needed")
         for label, sample in wrong_values(allowed, texts):
-            yield refused(f"{kind}: {member} is {label}", put(BASE, path, sample), place,
+            yield refused(f"{kind}: {member} is {label}", put(base, path, sample), place,
                           f"{member} is {' or '.join(words)}")
         if entries:
-            for label, sample, at_place in wrong_entries(path, entries, place):
-                yield refused(f"{kind}: {member} is {label}", put(BASE, path, sample), at_place,
+            for label, sample, at_place in wrong_entries(base, path, entries, place):
+                yield refused(f"{kind}: {member} is {label}", put(base, path, sample), at_place,
                               f"the entries of {member} are of the kind {entries}")
 
 
@@ -132,9 +152,12 @@ def member_cases():
     """All cases of the table, and the base itself, which is right."""
     rows = read_rows((CASES / "members.table").read_text(encoding="utf-8"))
     cases = [member_case("the base is right", BASE, "clean", 0,
-                         "two routes over a point, with a board at each border")]
+                         "two routes over a point, with a board at each border"),
+             member_case("the base of version 2 is right", BASE_OF_SECOND, "clean", 0,
+                         "the same, with a point and a board that protect each route")]
     for kind, members in rows.items():
-        known = set(at(BASE, OBJECTS[kind][0]))
+        base, where, _ = OBJECTS[kind]
+        known = set(at(base, where))
         if known != {member for member, _ in members}:
             raise CaseError(f"members.table: {kind} hasn't the members of its object")
         cases.extend(object_cases(kind, members))

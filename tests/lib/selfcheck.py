@@ -7,8 +7,8 @@ from casefile import EXAMPLES, STATUSES, CaseError
 
 RULES = ["F1", "F2", "F3", "F4", "F5", "F6",
          "N1", "N2", "N3", "N4", "N5", "N6", "N7", "N8",
-         "R1", "R2", "R3", "R4", "R5", "R6",
-         "C1", "C2", "C3", "C4", "C5", "C6", "C7"]
+         "R1", "R2", "R3", "R4", "R5", "R6", "R7", "R8",
+         "C1", "C2", "C3", "C4", "C5", "C6", "C7", "C8"]
 NAME = "[A-Za-z0-9_-]{1,32}"
 REFUSED = re.compile(r"refused ([A-Z][0-9]) "
                      r"(document|extra|[a-z]+\[[0-9]+\](?: routes\[[0-9]+\])?)")
@@ -29,7 +29,7 @@ def entry_of(case, line):
     numbers = [int(number) for number in re.findall(r"\[([0-9]+)\]", place)]
     kind = place.partition("[")[0]
     wanted = PLACES.get(rule, kind if rule[0] == "F" else "routes")
-    if kind != wanted or (len(numbers) == 2) != (rule in ("C5", "C6")):
+    if kind != wanted or (len(numbers) == 2) != (rule in ("C5", "C6", "C8")):
         raise CaseError(f"{case.where}: {case.name}: no place of {rule}: {place}")
     return RULES.index(rule), numbers
 

@@ -1,4 +1,3 @@
-pub mod FaultCounts
 pub mod Taken
 pub mod Added
 pub mod Untold

@@ -1,6 +1,10 @@
 -- The count of faults that a source or a sink keeps.
-use Rattle.std.specs.Prelude.{◌≡◌, ℕ, ◌+◌, ◌^◌, ◌<◌, ◌⊎◌}
+use Rattle.std.specs.Prelude.{◌≡◌, ℕ, ◌+◌, ◌^◌, nat_lt, if◌then◌else◌}
 
--- the count rose in a call, or stands at the greatest `u64` after it
-abbrev pub Rose : ℕ → ℕ → Type 0
-Rose old new = (old < new) ⊎ (new + 1 ≡ 2 ^ 64)
+-- one more, which stands still at the greatest `u64`
+abbrev pub one_more : ℕ → ℕ
+one_more n = if nat_lt (n + 1) (2 ^ 64) then n + 1 else n
+
+-- exactly one call failed between these two counts
+abbrev pub RoseByOne : ℕ → ℕ → Type 0
+RoseByOne old new = new ≡ one_more old

@@ -1,10 +1,7 @@
 -- Which calls of a source or sink in memory fail.
-use Rattle.std.specs.Prelude.{ℕ, ◌+◌, ◌-◌, ◌^◌, min, ◌==◌, Bool, List}
+use Rattle.std.specs.Prelude.{ℕ, ◌==◌, Bool, List}
 use Rattle.std.specs.List.{list_any}
-
--- one more, which stands still at the greatest `u64`
-abbrev pub one_more : ℕ → ℕ
-one_more n = min (n + 1) (2 ^ 64 - 1)
+use Rattle.ilk_io.specs.Faults.{one_more}
 
 -- the numbers of the calls that are to fail, from 1; how many calls were made, and how many of them failed
 pub record Plan : Type 0 where

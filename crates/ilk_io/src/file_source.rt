@@ -1,7 +1,6 @@
-ghost use Rattle.std.specs.Prelude.{◌≡◌, ◌≤◌, ℕ, None, length, IfOk, IfSome, IsSome, OnOk, OnErr, is_ok, if◌then◌else◌};
+ghost use Rattle.std.specs.Prelude.{◌≡◌, ◌≤◌, ℕ, None, length, IfOk, IfSome, IsSome, OnOk, OnErr};
 ghost use Rattle.std.specs.Io.KnownBytes.{ReadConsumes};
-ghost use Rattle.ilk_io.specs.Faults.{Rose};
-ghost use Rattle.ilk_io.specs.Plan.{one_more};
+ghost use Rattle.ilk_io.specs.Faults.{RoseByOne};
 
 use crate::plan::one_more;
 use crate::retry::read_once;
@@ -65,10 +64,8 @@ impl<R: Files> Source for FileSource<'_, R> {
 
     fn read(&mut self, into: &mut [u8]) -> Result<usize, Failed>
         ensures within { IfOk result (λ n. n ≤ length into.new) }
-        ensures failed { OnErr result (Rose self.old.faults self.new.faults) }
-        ensures faults { self.new.faults ≡ (if is_ok result then self.old.faults else one_more self.old.faults) }
+        ensures failed { OnErr result (RoseByOne self.old.faults self.new.faults) }
         ensures unraised { OnOk result (self.new.faults ≡ self.old.faults) }
-        ensures counted { self.old.faults ≤ self.new.faults }
         ensures opened { OnOk result (IsSome self.new.file) }
         // Once the file is open it stays open, and each read gives what the file has left.
         ensures name { self.new.name ≡ self.old.name }

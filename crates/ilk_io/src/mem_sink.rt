@@ -1,5 +1,5 @@
 ghost use Rattle.std.specs.Prelude.{◌≡◌, ℕ, ◌<◌, ◌≤◌, List, [], Some, length, take, IfOk, OnOk, OnErr};
-ghost use Rattle.ilk_io.specs.Faults.{Rose};
+ghost use Rattle.ilk_io.specs.Faults.{RoseByOne};
 ghost use Rattle.ilk_io.specs.Sink.{Adds};
 ghost use Rattle.std.specs.Result.{result_ok};
 ghost use Rattle.ilk_io.specs.Memory.{write_count, after_write};
@@ -63,9 +63,8 @@ impl Sink for MemSink {
         ensures some { IfOk result (λ n. 0 < length piece.now → 0 < n) }
         ensures taken { IfOk result (λ n. Adds (Some self.old.taken) (Some self.new.taken) (take n piece.now)) }
         ensures kept { OnErr result (self.new.taken ≡ self.old.taken) }
-        ensures failed { OnErr result (Rose self.old.plan.faults self.new.plan.faults) }
+        ensures failed { OnErr result (RoseByOne self.old.plan.faults self.new.plan.faults) }
         ensures unraised { OnOk result (self.new.plan.faults ≡ self.old.plan.faults) }
-        ensures counted { self.old.plan.faults ≤ self.new.plan.faults }
         ensures count { result_ok result ≡ write_count self.old piece.now }
         ensures after { self.new ≡ after_write self.old piece.now }
     {

@@ -1,5 +1,5 @@
 ghost use Rattle.std.specs.Prelude.{◌≡◌, ℕ, ◌<◌, ◌≤◌, List, Some, length, take, IfOk, OnOk, OnErr};
-ghost use Rattle.ilk_io.specs.Faults.{Rose};
+ghost use Rattle.ilk_io.specs.Faults.{RoseByOne};
 ghost use Rattle.ilk_io.specs.Source.{Takes, IsAtEnd};
 ghost use Rattle.std.specs.Result.{result_ok};
 ghost use Rattle.ilk_io.specs.Memory.{read_count, after_read};
@@ -47,9 +47,8 @@ impl Source for MemSource {
         ensures taken { IfOk result (λ n. Takes (Some self.old.rest) (Some self.new.rest) (take n into.new)) }
         ensures end { IfOk result (λ n. n ≡ 0 → 0 < length into.new → IsAtEnd (Some self.new.rest)) }
         ensures kept { OnErr result (self.new.rest ≡ self.old.rest) }
-        ensures failed { OnErr result (Rose self.old.plan.faults self.new.plan.faults) }
+        ensures failed { OnErr result (RoseByOne self.old.plan.faults self.new.plan.faults) }
         ensures unraised { OnOk result (self.new.plan.faults ≡ self.old.plan.faults) }
-        ensures counted { self.old.plan.faults ≤ self.new.plan.faults }
         ensures count { result_ok result ≡ read_count self.old (length into.old) }
         ensures after { self.new ≡ after_read self.old (length into.old) }
     {

@@ -1,6 +1,6 @@
-ghost use Rattle.std.specs.Prelude.{◌≡◌, ◌≤◌};
-ghost use Rattle.ilk_io.specs.Faults.{Rose};
-ghost use Rattle.ilk_io.specs.Plan.{one_more, fails_next, after_call, after_fault};
+ghost use Rattle.std.specs.Prelude.{◌≡◌};
+ghost use Rattle.ilk_io.specs.Faults.{one_more};
+ghost use Rattle.ilk_io.specs.Plan.{fails_next, after_call, after_fault};
 
 use std::marker::Model;
 
@@ -22,9 +22,7 @@ impl Model for FaultPlan {
 
 // One more, which stands still at the greatest `u64`.
 pub fn one_more(n: u64) -> u64
-    ensures value { result ≡ one_more n }
-    ensures rose { Rose n result }
-    ensures counted { n ≤ result }
+    ensures { result ≡ one_more n }
 {
     n.saturating_add(1)
 }
@@ -57,9 +55,7 @@ impl FaultPlan {
 
     // Counts a call that failed.
     pub fn count_fault(&mut self)
-        ensures after { self.new ≡ after_fault self.old }
-        ensures rose { Rose self.old.faults self.new.faults }
-        ensures counted { self.old.faults ≤ self.new.faults }
+        ensures { self.new ≡ after_fault self.old }
     {
         self.calls = one_more(self.calls);
         self.faults = one_more(self.faults);

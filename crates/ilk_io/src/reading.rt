@@ -25,10 +25,10 @@ const PIECE: usize = 4096;
 
 /// Reads the source to its end, and answers all that was left of it, at most `limit` bytes.
 ///
-/// `Failed` comes at the first call of the source that failed, so only where its count of faults
-/// rose, and `TooLong` where more than `limit` bytes are there and no call failed first. With every
-/// answer but `Failed` the count is as it was. At most `limit + 1` bytes are read, and after a
-/// refusal those that were read are gone from the source.
+/// `Failed` comes at the first call of the source that failed, which is not called again: exactly
+/// one fault is counted. `TooLong` comes where more than `limit` bytes are there and no call failed
+/// first. With every answer but `Failed` the count is as it was. At most `limit + 1` bytes are read,
+/// and after a refusal those that were read are gone from the source.
 pub fn read_all<S: Source>(alloc: Global, source: &mut S, limit: u64) -> Result<Vec<u8>, ReadError>
     requires { limit < 2 ^ 40 }
     ensures whole { IfOk result (λ v. IsWhole (S.left source.old) v.items) }
@@ -45,13 +45,13 @@ pub fn read_all<S: Source>(alloc: Global, source: &mut S, limit: u64) -> Result<
         let room = limit + 1 - bytes.len() as u64;
         let want = room.min(PIECE as u64) as usize;
         match source.read(&mut piece[..want]) {
-            Err(Failed) => return Err(ReadError::Failed),
             Ok(0) => return Ok(bytes),
             Ok(n) => {
                 if bytes.extend_from_slice(&piece[..n]).is_err() {
                     return Err(ReadError::OutOfMemory);
                 }
             }
+            Err(Failed) => return Err(ReadError::Failed),
         }
         if bytes.len() as u64 > limit {
             return Err(ReadError::TooLong);

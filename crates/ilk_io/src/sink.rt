@@ -1,5 +1,5 @@
 ghost use Rattle.std.specs.Prelude.{◌≡◌, ℕ, ◌<◌, ◌≤◌, Option, List, length, take, IfOk, OnOk, OnErr};
-ghost use Rattle.ilk_io.specs.Faults.{Rose};
+ghost use Rattle.ilk_io.specs.Faults.{RoseByOne};
 ghost use Rattle.ilk_io.specs.Sink.{Adds};
 
 use crate::Failed;
@@ -15,14 +15,13 @@ pub trait Sink {
     /// Takes bytes from the front of the piece, and answers how many. Of a piece that isn't empty it
     /// takes at least one.
     ///
-    /// `Failed` comes only where the count of faults rose in this call, and then no byte is taken. A
-    /// call that answers anything else leaves the count as it was.
+    /// A call that answers `Failed` counts one fault, and no byte is taken. A call that answers
+    /// anything else leaves the count as it was.
     fn write(&mut self, piece: &[u8]) -> Result<usize, Failed>
         ensures within { IfOk result (λ n. n ≤ length piece.now) }
         ensures some { IfOk result (λ n. 0 < length piece.now → 0 < n) }
         ensures taken { IfOk result (λ n. Adds (written self.old) (written self.new) (take n piece.now)) }
         ensures kept { OnErr result (written self.new ≡ written self.old) }
-        ensures failed { OnErr result (Rose (faults self.old) (faults self.new)) }
-        ensures unraised { OnOk result (faults self.new ≡ faults self.old) }
-        ensures counted { faults self.old ≤ faults self.new };
+        ensures failed { OnErr result (RoseByOne (faults self.old) (faults self.new)) }
+        ensures unraised { OnOk result (faults self.new ≡ faults self.old) };
 }

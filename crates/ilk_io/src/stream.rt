@@ -1,7 +1,6 @@
-ghost use Rattle.std.specs.Prelude.{◌≡◌, ℕ, ◌<◌, ◌≤◌, None, length, IfOk, OnOk, OnErr, is_ok, if◌then◌else◌};
+ghost use Rattle.std.specs.Prelude.{◌≡◌, ℕ, ◌<◌, ◌≤◌, None, length, IfOk, OnOk, OnErr};
 ghost use Rattle.std.specs.Io.KnownBytes.{ReadConsumes, WriteAppends};
-ghost use Rattle.ilk_io.specs.Faults.{Rose};
-ghost use Rattle.ilk_io.specs.Plan.{one_more};
+ghost use Rattle.ilk_io.specs.Faults.{RoseByOne};
 
 use crate::plan::one_more;
 use crate::retry::{read_once, write_once};
@@ -34,10 +33,8 @@ impl<R: Read> Source for StdSource<R> {
 
     fn read(&mut self, into: &mut [u8]) -> Result<usize, Failed>
         ensures within { IfOk result (λ n. n ≤ length into.new) }
-        ensures failed { OnErr result (Rose self.old.faults self.new.faults) }
-        ensures faults { self.new.faults ≡ (if is_ok result then self.old.faults else one_more self.old.faults) }
+        ensures failed { OnErr result (RoseByOne self.old.faults self.new.faults) }
         ensures unraised { OnOk result (self.new.faults ≡ self.old.faults) }
-        ensures counted { self.old.faults ≤ self.new.faults }
         ensures bytes { ReadConsumes (R.remaining self.old.reader) (R.remaining self.new.reader) result into.new }
     {
         let answer = read_once(&mut self.reader, into);
@@ -75,10 +72,8 @@ impl<W: Write> Sink for StdSink<W> {
     fn write(&mut self, piece: &[u8]) -> Result<usize, Failed>
         ensures within { IfOk result (λ n. n ≤ length piece.now) }
         ensures some { IfOk result (λ n. 0 < length piece.now → 0 < n) }
-        ensures failed { OnErr result (Rose self.old.faults self.new.faults) }
-        ensures faults { self.new.faults ≡ (if is_ok result then self.old.faults else one_more self.old.faults) }
+        ensures failed { OnErr result (RoseByOne self.old.faults self.new.faults) }
         ensures unraised { OnOk result (self.new.faults ≡ self.old.faults) }
-        ensures counted { self.old.faults ≤ self.new.faults }
         ensures bytes { WriteAppends (W.contents self.old.writer) (W.contents self.new.writer) result piece.now }
     {
         let answer = write_once(&mut self.writer, piece);

@@ -1,26 +1,28 @@
 ghost use Rattle.std.specs.Prelude.{◌≡◌, [], ◌≤◌, IsOk, OnOk, OnErr};
-ghost use Rattle.ilk_io.specs.Faults.{Rose};
+ghost use Rattle.ilk_io.specs.Faults.{RoseByOne};
 ghost use Rattle.ilk_io.specs.Sink.{Adds, AddsPrefix};
 
 use crate::{Failed, Sink};
 
 /// Writes the whole text to the sink.
 ///
-/// `Failed` comes at the first call of the sink that failed, so only where its count of faults rose,
-/// and then a prefix of the text was written. With `Ok` the count is as it was. An empty text makes
-/// no call.
+/// `Failed` comes at the first call of the sink that failed, which is not called again: exactly one
+/// fault is counted, and a prefix of the text was written. With `Ok` the count is as it was. An
+/// empty text makes no call.
 pub fn write_all<K: Sink>(sink: &mut K, text: &[u8]) -> Result<(), Failed>
     ensures whole { OnOk result (Adds (K.written sink.old) (K.written sink.new) text.now) }
     ensures prefix { AddsPrefix (K.written sink.old) (K.written sink.new) text.now }
-    ensures failed { OnErr result (Rose (K.faults sink.old) (K.faults sink.new)) }
+    ensures failed { OnErr result (RoseByOne (K.faults sink.old) (K.faults sink.new)) }
     ensures unraised { OnOk result (K.faults sink.new ≡ K.faults sink.old) }
     ensures counted { K.faults sink.old ≤ K.faults sink.new }
     ensures untouched { text.now ≡ [] → IsOk result × (sink.new ≡ sink.old) }
 {
     let mut rest = text;
     while !rest.is_empty() {
-        let taken = sink.write(rest)?;
-        rest = &rest[taken..];
+        match sink.write(rest) {
+            Err(Failed) => return Err(Failed),
+            Ok(taken) => rest = &rest[taken..],
+        }
     }
     Ok(())
 }

@@ -54,6 +54,8 @@ route source destination path points conflicts = record {
   overlap = [];
   points = listed points;
   conflicts = conflicts;
+  protecting_points = [];
+  protecting_boards = [];
 }
   where
     listed : List (ℕ × Position) → List Listed

@@ -1,27 +1,22 @@
 -- The least hazard, by the bits of the sections that two or more trains have.
-use Rattle.std.proofs.Common.{◌≡◌, ℕ, ◌<◌, Bool, true, false, ◌==◌, ◌||◌, cond, Some, None, option_map, length, find, refl, sym, ap, ◌∙◌, arith}
+use Rattle.std.proofs.Common.{◌≡◌, ℕ, ◌<◌, Bool, ◌||◌, cond, Some, None, option_map, length, find, sym, ap, ◌∙◌, arith}
 use Rattle.std.specs.List.{range_with_len}
-use Rattle.std.specs.Int.{bit_at}
 use Rattle.ilk_plant.specs.Plant.{IsPlant, PlantLists}
 use Rattle.ilk_plant.specs.declared.state.State.{State}
 use Rattle.ilk_model.specs.Hazard.{hazard, is_hazardous, is_two, is_wrong}
-use Rattle.ilk_model.specs.Shared.{is_hazardous_by_bits}
+use Rattle.ilk_model.specs.Shared.{is_hazardous_by_bits, is_shared}
+use Rattle.ilk_model.specs.declared.shared.SharedSections.{SharedSections}
 use Rattle.ilk_model.specs.declared.hazards.HazardAt.{HazardAt}
 use Rattle.ilk_model.specs.declared.hazards.HazardAt.TheVariants.{Two, Wrong}
-use Rattle.ilk_model.proofs.SharedSections.{bit}
 use Rattle.ilk_base.proofs.Ranges.{find-same, find-within}
-
-bit-test : (b : Bool) → (bit b == 1) ≡ b
-bit-test true = refl
-bit-test false = refl
 
 abbrev hazard_at : State → ℕ → HazardAt
 hazard_at s x = cond (is_two s x) (Two x) (Wrong x)
 
 -- the hazard at the least section that is bad by the bits
-module _ (p : PlantLists) (plant : IsPlant p) (s : State) (shared : ℕ) (exact : (x : ℕ) → x < 128 → bit_at shared x ≡ bit (is_two s x)) where
-  two-test : (x : ℕ) → x < length p.sections → (bit_at shared x == 1) ≡ is_two s x
-  two-test x within = let few = plant.few_sections in ap (λ n. n == 1) (exact x (omega arith)) ∙ bit-test (is_two s x)
+module _ (p : PlantLists) (plant : IsPlant p) (s : State) (shared : SharedSections) (exact : (x : ℕ) → x < 256 → is_shared shared x ≡ is_two s x) where
+  two-test : (x : ℕ) → x < length p.sections → is_shared shared x ≡ is_two s x
+  two-test x within = let few = plant.few_sections in exact x (omega arith)
 
   least : find (is_hazardous_by_bits p s shared) (range_with_len 0 (length p.sections)) ≡ find (is_hazardous p s) (range_with_len 0 (length p.sections))
   least = find-same (is_hazardous_by_bits p s shared) (is_hazardous p s) 0 (length p.sections) (λ x low high. ap (λ b. b || is_wrong p s x) (two-test x (omega arith)))
@@ -31,7 +26,7 @@ module _ (p : PlantLists) (plant : IsPlant p) (s : State) (shared : ℕ) (exact 
   no_hazard e = ap (option_map (hazard_at s)) (e ∙ least)
 
   -- this is the least
-  pub least_hazard : (x : ℕ) (b : Bool) → Some x ≡ find (is_hazardous_by_bits p s shared) (range_with_len 0 (length p.sections)) → b ≡ (bit_at shared x == 1) → Some (cond b (Two x) (Wrong x)) ≡ hazard p s
+  pub least_hazard : (x : ℕ) (b : Bool) → Some x ≡ find (is_hazardous_by_bits p s shared) (range_with_len 0 (length p.sections)) → b ≡ is_shared shared x → Some (cond b (Two x) (Wrong x)) ≡ hazard p s
   least_hazard x b e two =
       let within = find-within (is_hazardous_by_bits p s shared) 0 (length p.sections) x (sym e) in
       ap (λ c. Some (cond c (Two x) (Wrong x))) (two ∙ two-test x (omega arith)) ∙ ap (option_map (hazard_at s)) (e ∙ least)

@@ -1,3 +1,4 @@
 pub mod Examples
+pub mod FamilyExamples
 pub mod SharedSections
 pub mod LeastHazard

@@ -1,5 +1,5 @@
 -- Sections as bits: those of a body, and those that two or more trains have.
-use Rattle.std.proofs.Common.{◌≡◌, ◌≢◌, ℕ, ◌+◌, ◌*◌, ◌%◌, ◌^◌, ◌<◌, ◌≤◌, Bool, true, false, ◌==◌, ◌&&◌, ◌||◌, cond, List, [], ◌∷◌, count_by, get_or, length, max, min, nat_lt, take, refl, sym, ap, ◌∙◌, arith, subst}
+use Rattle.std.proofs.Common.{◌≡◌, ◌≢◌, ℕ, ◌+◌, ◌-◌, ◌*◌, ◌%◌, ◌^◌, ◌<◌, ◌≤◌, Bool, true, false, ◌==◌, ◌&&◌, ◌||◌, cond, List, [], ◌∷◌, count_by, get_or, length, max, min, nat_lt, take, refl, sym, ap, ◌∙◌, arith, subst}
 use Rattle.std.specs.Int.{bit_at, w128}
 use Rattle.std.specs.Int.Bits.{bit_and, bit_or}
 use Rattle.std.proofs.Math.Bool.{or-false}
@@ -10,6 +10,8 @@ use Rattle.std.proofs.lemmas.List.Sums.{count_by_more_no, count_by_more_yes}
 use Rattle.std.proofs.lemmas.Nat.Bits.{bit_at_above, bit_at_and, bit_at_or, bit_at_set_other, bit_at_set_same}
 use Rattle.ilk_base.proofs.Truth.{or-true}
 use Rattle.ilk_plant.specs.Network.{has_section}
+use Rattle.ilk_model.specs.Shared.{is_shared}
+use Rattle.ilk_model.specs.declared.shared.SharedSections.{SharedSections}
 
 -- the bit of a test
 abbrev pub bit : Bool → ℕ
@@ -93,3 +95,21 @@ module _ {T : Type 0} (has : T → Bool) (trains : List T) (i : ℕ) (d : T) (wi
 -- a number below 2 ^ 128 has no bit from there on
 pub no_bit_past : (bits x : ℕ) → bits < 2 ^ 128 → 128 ≤ x → false ≡ (bit_at bits x == 1)
 no_bit_past bits x small past = sym (ap (λ b. b == 1) (bit_at_above bits 128 x small past))
+
+bit-test : (b : Bool) → (bit b == 1) ≡ b
+bit-test true = refl
+bit-test false = refl
+
+-- where the low and the high bits are exact, all are
+pub shared_exact : (shared : SharedSections) (two : ℕ → Bool) → ((x : ℕ) → x < 128 → bit_at shared.low x ≡ bit (two (0 + x))) → ((x : ℕ) → x < 128 → bit_at shared.high x ≡ bit (two (128 + x))) → (x : ℕ) → x < 256 → is_shared shared x ≡ two x
+shared_exact shared two low high x within = by_test (nat_lt x 128) refl
+  where
+    by_test : (b : Bool) → nat_lt x 128 ≡ b → cond b (bit_at shared.low x == 1) (bit_at shared.high (x - 128) == 1) ≡ two x
+    by_test true e =
+        let here : x < 128 = grind (arith, nat_tests) in
+        let same : 0 + x ≡ x = omega arith in
+        ap (λ n. n == 1) (low x here) ∙ bit-test (two (0 + x)) ∙ ap two same
+    by_test false e =
+        let past : 128 ≤ x = grind (arith, nat_tests) in
+        let same : 128 + (x - 128) ≡ x = omega arith in
+        ap (λ n. n == 1) (high (x - 128) (omega arith)) ∙ bit-test (two (128 + (x - 128))) ∙ ap two same

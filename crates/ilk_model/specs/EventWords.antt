@@ -1,7 +1,7 @@
 -- The words of events, by which run texts are written and read.
 use Rattle.std.specs.Prelude.{ℕ, List, codes}
 use Rattle.ilk_model.specs.declared.event.Event.{Event}
-use Rattle.ilk_model.specs.declared.event.Event.TheVariants.{Mark, Allocate, Lock, Sense, Release, Finish, Throw, Settle, Enter, Head, Tail, Leave}
+use Rattle.ilk_model.specs.declared.event.Event.TheVariants.{Mark, Allocate, Lock, Sense, Release, Finish, Throw, Settle, Enter, Head, Tail, Leave, Cancel}
 
 abbrev pub event_word : Event → List ℕ
 event_word (Mark r) = codes "mark"
@@ -16,3 +16,4 @@ event_word (Enter x) = codes "enter"
 event_word (Head x) = codes "head"
 event_word (Tail x) = codes "tail"
 event_word (Leave x) = codes "leave"
+event_word (Cancel r) = codes "cancel"

@@ -1,5 +1,9 @@
 pub mod Event
 pub mod EventWords
 pub mod Hazard
+pub mod Commanded
+pub mod Holding
+pub mod Families
+pub mod Meets
 pub mod Run
 pub mod Shared

@@ -1,10 +1,15 @@
 -- Cited by private contracts alone: hazards, by the bits of the sections that two or more trains have in their bodies.
-use Rattle.std.specs.Prelude.{ℕ, Bool, ◌==◌, ◌||◌}
+use Rattle.std.specs.Prelude.{ℕ, ◌-◌, Bool, ◌==◌, ◌||◌, if◌then◌else◌, nat_lt}
 use Rattle.std.specs.Int.{bit_at}
 use Rattle.ilk_plant.specs.Plant.{PlantLists}
 use Rattle.ilk_plant.specs.declared.state.State.{State}
 use Rattle.ilk_model.specs.Hazard.{is_wrong}
+use Rattle.ilk_model.specs.declared.shared.SharedSections.{SharedSections}
 
--- whether bit x is set, or x is a point on which some train's body is wrong
-abbrev pub is_hazardous_by_bits : PlantLists → State → ℕ → ℕ → Bool
-is_hazardous_by_bits p s shared x = (bit_at shared x == 1) || is_wrong p s x
+-- whether the bit of section x is set: among the low bits below 128, and among the high ones from there on
+abbrev pub is_shared : SharedSections → ℕ → Bool
+is_shared shared x = if nat_lt x 128 then bit_at shared.low x == 1 else bit_at shared.high (x - 128) == 1
+
+-- whether the bit of x is set, or x is a point on which some train's body is wrong
+abbrev pub is_hazardous_by_bits : PlantLists → State → SharedSections → ℕ → Bool
+is_hazardous_by_bits p s shared x = is_shared shared x || is_wrong p s x

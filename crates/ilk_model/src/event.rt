@@ -5,13 +5,13 @@ ghost use Rattle.ilk_model.specs.Event.{next};
 use ilk_motion::{step_enter, step_head, step_leave, step_tail};
 use ilk_plant::{Plant, State};
 use ilk_routes::{
-    step_allocate, step_finish, step_lock, step_mark, step_release, step_sense, step_settle,
-    step_throw,
+    step_allocate, step_cancel, step_finish, step_lock, step_mark, step_release, step_sense,
+    step_settle, step_throw,
 };
 use std::alloc::{AllocError, Global};
 
-/// An event, with the number of its route (mark to finish), of its point's section (throw and
-/// settle) or of its section (enter to leave).
+/// An event, with the number of its route (mark to finish, and cancel), of its point's section
+/// (throw and settle) or of its section (enter to leave).
 #[derive(Clone, Copy, PartialEq, Eq, Debug)]
 pub enum Event {
     Mark(u32),
@@ -26,6 +26,7 @@ pub enum Event {
     Head(u32),
     Tail(u32),
     Leave(u32),
+    Cancel(u32),
 }
 
 /// Does the event, if it is enabled. True exactly where it is; on false and for want of memory
@@ -50,5 +51,6 @@ pub fn apply(alloc: Global, plant: &Plant, s: &mut State, event: Event) -> Resul
         Event::Head(x) => step_head(alloc, plant, s, x),
         Event::Tail(x) => Ok(step_tail(plant, s, x)),
         Event::Leave(x) => Ok(step_leave(plant, s, x)),
+        Event::Cancel(r) => Ok(step_cancel(plant, s, r)),
     }
 }

@@ -4,7 +4,7 @@ ghost use Rattle.ilk_plant.specs.Shape.{HasShape};
 ghost use Rattle.ilk_model.specs.Hazard.{has_pair, hazard, is_wrong, strays};
 ghost use Rattle.ilk_model.specs.Shared.{is_hazardous_by_bits};
 
-use crate::shared::{has_bit, shared_sections};
+use crate::shared::{SharedSections, is_shared, shared_sections};
 use ilk_plant::{Lie, Plant, Row, Section, State, Train, has_section, lie_of};
 
 /// A hazard, at a section.
@@ -66,14 +66,14 @@ fn is_wrong(plant: &Plant, s: &State, x: u32) -> bool
 }
 
 // Whether two trains share `x`, by these bits, or some train's body is wrong on it.
-fn is_hazardous(plant: &Plant, s: &State, shared: u128, x: u32) -> bool
+fn is_hazardous(plant: &Plant, s: &State, shared: SharedSections, x: u32) -> bool
     ensures { result ≡ is_hazardous_by_bits plant.now s.now shared x }
 {
-    has_bit(shared, x) || is_wrong(plant, s, x)
+    is_shared(shared, x) || is_wrong(plant, s, x)
 }
 
 // The least section that two trains share, by these bits, or on which some train's body is wrong.
-fn first_hazardous(plant: &Plant, s: &State, shared: u128) -> Option<u32>
+fn first_hazardous(plant: &Plant, s: &State, shared: SharedSections) -> Option<u32>
     ensures { result ≡ find (is_hazardous_by_bits plant.now s.now shared) (range_with_len 0 (length plant.now.sections)) }
 {
     (0..plant.sections()).find(|x| is_hazardous(plant, s, shared, *x))
@@ -88,7 +88,7 @@ pub fn hazard(plant: &Plant, s: &State) -> Option<HazardAt>
     plant.is_sound();
     let shared = shared_sections(s);
     let x = first_hazardous(plant, s, shared)?;
-    Some(if has_bit(shared, x) {
+    Some(if is_shared(shared, x) {
         HazardAt::Two(x)
     } else {
         HazardAt::Wrong(x)

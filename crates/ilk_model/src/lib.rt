@@ -4,7 +4,8 @@
 //! A run begins in a state, at the start by `start`, and goes on by `apply`, an event at a time;
 //! `hazard` tells whether a state has two trains in one section, or a train on a point that moves or
 //! lies wrongly. `Event` has its words for run texts. The definition of a run (`specs/Run.antt`) goes
-//! on only from states without hazard.
+//! on only from states without hazard. The nine families of the invariant (`specs/Families.antt`, and
+//! `specs/Meets.antt` for all of them) are definitions, which no call here asks.
 #![tactic(auto)]
 
 mod event;

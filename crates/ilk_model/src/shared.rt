@@ -1,41 +1,83 @@
-ghost use Rattle.std.specs.Prelude.{ℕ, ◌≡◌, ◌==◌, ◌<◌, if◌then◌else◌};
+ghost use Rattle.std.specs.Prelude.{ℕ, ◌≡◌, ◌==◌, ◌+◌, ◌<◌, if◌then◌else◌};
 ghost use Rattle.std.specs.Int.{bit_at};
 ghost use Rattle.ilk_plant.specs.Network.{has_section};
 ghost use Rattle.ilk_model.specs.Hazard.{is_two};
+ghost use Rattle.ilk_model.specs.Shared.{is_shared};
 
 use ilk_plant::{Row, State};
 
-// The sections of a body, as bits: bit `x` for section `x`, below 128.
-fn sections_of(body: &Row<u32>) -> u128
-    ensures { (x : ℕ) → x < 128 → bit_at result x ≡ (if has_section x body.now then 1 else 0) }
+/// The sections that two or more trains have in their bodies, as bits: bit `x` of `low` for section
+/// `x`, below 128, and bit `x` of `high` for section 128 + `x`, below 256.
+#[derive(Clone, Copy)]
+pub(crate) struct SharedSections {
+    low: u128,
+    high: u128,
+}
+
+// The place of section `y` among the 128 sections from `from` on, or 128 where it is none of them.
+fn place_of(y: u32, from: u32) -> u32
+    ensures { (x : ℕ) → x < 128 → (result == x) ≡ (y == from + x) }
+{
+    if y < from {
+        return 128;
+    }
+    let place = y - from;
+    if place < 128 { place } else { 128 }
+}
+
+// The sections of a body, as bits: bit `x` for section `from` + `x`, for `x` below 128.
+fn sections_of(body: &Row<u32>, from: u32) -> u128
+    ensures { (x : ℕ) → x < 128 → bit_at result x ≡ (if has_section (from + x) body.now then 1 else 0) }
 {
     let mut bits: u128 = 0;
     for y in body.as_slice() {
-        if *y < 128 {
-            bits |= 1 << *y;
+        let place = place_of(*y, from);
+        if place < 128 {
+            bits |= 1 << place;
         }
     }
     bits
 }
 
-/// The sections that two or more trains have in their bodies, as bits: bit `x` for section `x`,
-/// below 128.
-pub(crate) fn shared_sections(s: &State) -> u128
-    ensures { (x : ℕ) → x < 128 → bit_at result x ≡ (if is_two s.now x then 1 else 0) }
+// The sections that two or more trains have in their bodies, as bits: bit `x` for section
+// `from` + `x`, for `x` below 128.
+fn shared_from(s: &State, from: u32) -> u128
+    ensures { (x : ℕ) → x < 128 → bit_at result x ≡ (if is_two s.now (from + x) then 1 else 0) }
 {
     let mut seen: u128 = 0;
     let mut shared: u128 = 0;
     for train in s.trains.as_slice() {
-        let body = sections_of(&train.body);
+        let body = sections_of(&train.body, from);
         shared |= seen & body;
         seen |= body;
     }
     shared
 }
 
-/// Whether bit `x` is set.
-pub(crate) fn has_bit(bits: u128, x: u32) -> bool
+/// The sections below 256 that two or more trains have in their bodies.
+pub(crate) fn shared_sections(s: &State) -> SharedSections
+    ensures { (x : ℕ) → x < 256 → is_shared result x ≡ is_two s.now x }
+{
+    SharedSections {
+        low: shared_from(s, 0),
+        high: shared_from(s, 128),
+    }
+}
+
+// Whether bit `x` is set.
+fn has_bit(bits: u128, x: u32) -> bool
     ensures { result ≡ (bit_at bits x == 1) }
 {
     x < 128 && (bits >> x) & 1 == 1
+}
+
+/// Whether section `x` is one of these.
+pub(crate) fn is_shared(shared: SharedSections, x: u32) -> bool
+    ensures { result ≡ is_shared shared x }
+{
+    if x < 128 {
+        has_bit(shared.low, x)
+    } else {
+        has_bit(shared.high, x - 128)
+    }
 }

@@ -21,6 +21,7 @@ impl Worded for Event {
             Event::Head(_) => "head",
             Event::Tail(_) => "tail",
             Event::Leave(_) => "leave",
+            Event::Cancel(_) => "cancel",
         }
     }
 }

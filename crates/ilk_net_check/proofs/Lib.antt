@@ -1,3 +1,4 @@
 pub mod Numbered
 pub mod Returning
 pub mod Tables
+pub mod Rows

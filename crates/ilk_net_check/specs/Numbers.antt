@@ -2,7 +2,7 @@
 -- pairs of sections.
 use Rattle.std.specs.Prelude.{ℕ, Bool, false, not, ◌&&◌, ◌||◌, ◌==◌, Option, List, [], length, map, count_by, slice_index_or, ◌≡◌}
 use Rattle.std.specs.List.{list_any, range_with_len}
-use Rattle.ilk_plant.specs.Draft.{names_of_boards, names_of_sections}
+use Rattle.ilk_plant.specs.NetNames.{IsNamedAs}
 use Rattle.ilk_plant.specs.Name.{Name}
 use Rattle.ilk_plant.specs.Network.{same_direction}
 use Rattle.ilk_plant.specs.NetworkRules.{ends, leads_by, opposite_direction, section_named, End as NamedEnd}
@@ -64,7 +64,6 @@ is_one_sided all x end =
 
 -- a network in numbers has what its draft says
 pub record IsNumbered (network : Network) : Type 0 where
-  pub section_names : network.section_names ≡ names_of_sections network.net.now.sections
-  pub board_names : network.board_names ≡ names_of_boards network.net.now.sections
+  pub names : IsNamedAs network.names.now network.net.now
   pub ends : network.ends ≡ map (λ section. numbered_ends (section_named network.net.now) section.kind) network.net.now.sections
   pub leads : network.leads ≡ table (length network.net.now.sections) (leads_by (is_next network.ends) (length network.net.now.sections))

@@ -1,5 +1,6 @@
 //! The rules of the network (N), asked of its draft: `check_network` gives the whole list of
-//! those that are broken, each at every place, in order.
+//! those that are broken, each at every place, in order. `check_named_network` takes the network's
+//! names, where they are made already.
 //!
 //! The definitions speak of names and of walks of any length. The checks number the names once, and
 //! find where walks lead by a table that grows by one section at a time, which is proved to be the
@@ -16,5 +17,5 @@ mod rules;
 mod tests;
 mod walks;
 
-pub use rules::check_network;
+pub use rules::{check_named_network, check_network};
 pub use walks::returning_walks;

@@ -2,6 +2,7 @@ ghost use Rattle.std.specs.Prelude.{◌≡◌, ◌≤◌, ◌++◌, ◌↔◌, I
 ghost use Rattle.std.specs.List.{Contains};
 ghost use Rattle.std.specs.Option.{option_copied};
 ghost use Rattle.ilk_plant.specs.Broken.{broken_at, places_of};
+ghost use Rattle.ilk_plant.specs.NetNames.{IsNamedAs};
 ghost use Rattle.ilk_plant.specs.NetworkRules.{Returns, breaks_network, count_in_network, has_board_at_end, has_wrong_neighbour, is_not_named_back as is_not_named_back_of, network_rules_broken, repeats_neighbour as repeats_neighbour_of, returns, stands_alone};
 ghost use Rattle.ilk_net_check.specs.Numbers.{IsNumbered};
 ghost use Rattle.ilk_plant.specs.declared.broken.Rule.TheVariants.{N7};
@@ -11,9 +12,7 @@ use crate::ends::{End, all_ends, ends_by_number};
 use crate::kinds::{has_board_to_nowhere, has_no_neighbour, repeats_neighbour};
 use crate::neighbours::{is_not_named_back, names_no_other};
 use crate::reach::{entry, walks_up};
-use ilk_plant::{
-    Broken, KindDraft, Names, NetDraft, Places, Row, Rule, board_names, push_if, section_names,
-};
+use ilk_plant::{Broken, KindDraft, NetDraft, NetNames, Places, Row, Rule, push_if};
 use std::alloc::{AllocError, Global};
 
 // The rules of the network, in order.
@@ -28,32 +27,29 @@ const NETWORK_RULES: [Rule; 8] = [
     Rule::N8,
 ];
 
-// A network with numbers for names: its draft, the names of its sections and of its boards, the
-// ends of each section, and from which section walks up lead to which.
+// A network with numbers for names: its draft and its names, the ends of each section, and from
+// which section walks up lead to which.
 #[derive(Drop)]
 struct Network<'a> {
     net: &'a NetDraft,
-    section_names: Names,
-    board_names: Names,
+    names: &'a NetNames,
     ends: Row<Row<End>>,
     leads: Row<Row<bool>>,
 }
 
 impl<'a> Network<'a> {
     // The network of this draft.
-    fn of(alloc: Global, net: &'a NetDraft) -> Result<Network<'a>, AllocError>
-        requires { length net.now.sections ≤ MAX_SECTIONS }
+    fn of(alloc: Global, net: &'a NetDraft, names: &'a NetNames) -> Result<Network<'a>, AllocError>
+        requires few { length net.now.sections ≤ MAX_SECTIONS }
+        requires named { IsNamedAs names.now net.now }
         ensures net { IfOk result (λ network. network.net.now ≡ net.now) }
         ensures numbered { IfOk result IsNumbered }
     {
-        let section_names = section_names(alloc, &net.sections)?;
-        let board_names = board_names(alloc, &net.sections)?;
-        let ends = all_ends(alloc, &section_names, net.sections.as_slice())?;
+        let ends = all_ends(alloc, &names.section_names, net.sections.as_slice())?;
         let leads = walks_up(alloc, &ends, net.sections.len() as u32)?;
         Ok(Network {
             net,
-            section_names,
-            board_names,
+            names,
             ends,
             leads,
         })
@@ -134,7 +130,7 @@ impl Network<'_> {
     {
         match places {
             Places::Sections => self.net.sections.len() as u32,
-            Places::Boards => self.board_names.len(),
+            Places::Boards => self.names.board_names.len(),
             Places::Routes | Places::RoutePairs => 0,
         }
     }
@@ -145,8 +141,8 @@ impl Network<'_> {
         ensures { result ≡ breaks_network self.now.net.now rule x }
     {
         match rule {
-            Rule::N1 => self.section_names.is_named_before(x),
-            Rule::N2 => self.board_names.is_named_before(x),
+            Rule::N1 => self.names.section_names.is_named_before(x),
+            Rule::N2 => self.names.board_names.is_named_before(x),
             Rule::N3 => self.has_wrong_neighbour(x),
             Rule::N4 => self.repeats_neighbour(x),
             Rule::N5 => self.is_not_named_back(x),
@@ -188,7 +184,23 @@ pub fn check_network(alloc: Global, net: &NetDraft) -> Result<Row<Broken>, Alloc
     ensures walks { IfOk result (λ broken. (x : ℕ) →
         Contains broken (record { rule = N7; first = x; second = None }) ↔ Returns net.now x) }
 {
-    let network = Network::of(alloc, net)?;
+    let names = NetNames::of(alloc, net)?;
+    check_named_network(alloc, net, &names)
+}
+
+/// The same, where the names of the network are made already.
+pub fn check_named_network(
+    alloc: Global,
+    net: &NetDraft,
+    names: &NetNames,
+) -> Result<Row<Broken>, AllocError>
+    requires few { length net.now.sections ≤ MAX_SECTIONS }
+    requires named { IsNamedAs names.now net.now }
+    ensures rules { IfOk result (λ broken. broken ≡ network_rules_broken net.now) }
+    ensures walks { IfOk result (λ broken. (x : ℕ) →
+        Contains broken (record { rule = N7; first = x; second = None }) ↔ Returns net.now x) }
+{
+    let network = Network::of(alloc, net, names)?;
     let mut broken = Row::new(alloc);
     for rule in &NETWORK_RULES {
         push_broken(&mut broken, &network, *rule)?;

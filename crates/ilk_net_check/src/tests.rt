@@ -1,5 +1,5 @@
 use crate::check_network;
-use ilk_plant::{Broken, KindDraft, NetDraft, Row, Rule, SectionDraft, Text};
+use ilk_plant::{Broken, KindDraft, MAX_SECTIONS, NetDraft, Row, Rule, SectionDraft, Text};
 use std::alloc::{AllocError, Global};
 use std::test::Fail;
 
@@ -40,7 +40,7 @@ fn check(alloc: Global, lines: &[Linear]) -> Result<Option<Row<Broken>>, AllocEr
             kind,
         })?;
     }
-    if sections.len() > 128 {
+    if sections.len() > MAX_SECTIONS {
         return Ok(None);
     }
     Ok(Some(check_network(alloc, &NetDraft { sections })?))

@@ -2,4 +2,3 @@ pub mod Values
 pub mod InOrder
 pub mod EachAs
 pub mod Limits
-pub mod Documents

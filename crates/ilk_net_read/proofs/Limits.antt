@@ -24,6 +24,11 @@ has_allowed_counts-true document e =
 pub has_allowed_counts-seen : (document : Document) → has_allowed_counts (seen document) ≡ counts_are_allowed (length document.sections.now) (length document.routes.now)
 has_allowed_counts-seen document = simp items_len-items_view
 
+pub few_routes : (document : Document) → HasAllowedCounts (seen document) → length document.routes.now ≤ MAX_ROUTES
+few_routes document limits =
+    let count = items_len-items_view document.routes.now in
+    rw count at limits.routes
+
 pub few_sections : (document : Document) → HasAllowedCounts (seen document) → (1 ≤ length document.sections.now) × (length document.sections.now ≤ MAX_SECTIONS)
 few_sections document limits =
     let count = items_len-items_view document.sections.now in

@@ -1,5 +1,5 @@
 -- The form of a configuration, as far as its network: the rules in the order in which they are asked.
-use Rattle.std.specs.Prelude.{ℕ, ◌+◌, List, [], ◌∷◌, None, Result, Ok, IsOk, if◌then◌else◌}
+use Rattle.std.specs.Prelude.{ℕ, ◌+◌, List, [], ◌∷◌, None, Result, Ok, if◌then◌else◌}
 use Rattle.std.specs.Str.{is_utf8}
 use Rattle.serde_json.specs.Data.{Data, Items, no_items, item}
 use Rattle.serde_json.specs.Read.{read}
@@ -10,7 +10,7 @@ use Rattle.ilk_plant.specs.declared.draft.SectionDraft.{SectionDraft}
 use Rattle.ilk_net_read.specs.declared.fault.Form.TheVariants.{F2, F3, F4, F5, F6}
 use Rattle.ilk_net_read.specs.declared.fault.FormFault.{FormFault}
 use Rattle.ilk_net_read.specs.declared.fault.Place.TheVariants.{Document, Section}
-use Rattle.ilk_net_read.specs.Document.{Parts, as_document, has_allowed_counts, has_version}
+use Rattle.ilk_net_read.specs.Document.{Parts, as_document, has_allowed_counts, in_version}
 use Rattle.ilk_net_read.specs.Fault.{broken, checked, or_fault}
 use Rattle.ilk_net_read.specs.Section.{as_section}
 
@@ -21,8 +21,8 @@ value_of bytes = or_fault (broken F2 Document) (if is_utf8 bytes then read bytes
 -- the document: F3 where the value isn't one, then F4, the version, then F6, how many sections and routes
 abbrev pub document_of : Data → Result Parts FormFault
 document_of d = do
-  found ← or_fault (broken F3 Document) (as_document d)
-  document ← checked has_version (broken F4 Document) found
+  written ← or_fault (broken F3 Document) (as_document d)
+  document ← or_fault (broken F4 Document) (in_version written)
   checked has_allowed_counts (broken F6 Document) document
 
 -- section i: F3 where the value isn't one, then F5, its names
@@ -45,7 +45,3 @@ network_of d = do
   document ← document_of d
   sections ← in_order section_of 0 document.sections
   Ok (record { sections = sections })
-
--- the document's part of the form is right
-abbrev pub HasDocument : Data → Type 0
-HasDocument d = IsOk (document_of d)

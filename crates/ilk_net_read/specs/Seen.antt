@@ -1,10 +1,18 @@
--- Cited by private contracts alone: the members of a document, as their data.
+-- The members of a document, as their data.
 use Rattle.std.specs.Prelude.{◌≤◌}
 use Rattle.serde_json.specs.Events.{items_len}
 use Rattle.serde_json.specs.View.{items_view}
 use Rattle.ilk_plant.specs.declared.limits.TheConstants.{MAX_ROUTES, MAX_SECTIONS}
-use Rattle.ilk_net_read.specs.Document.{Parts}
+use Rattle.ilk_net_read.specs.Document.{Parts, Written}
 use Rattle.ilk_net_read.specs.declared.document.Document.{Document}
+use Rattle.ilk_net_read.specs.declared.document.Members.{Members}
+
+abbrev pub seen_members : Members → Written
+seen_members members = record {
+  version = members.version;
+  sections = items_view members.sections.now;
+  routes = items_view members.routes.now;
+}
 
 abbrev pub seen : Document → Parts
 seen document = record {

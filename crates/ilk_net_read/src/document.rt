@@ -6,25 +6,33 @@ ghost use Rattle.ilk_plant.specs.Limits as limits;
 ghost use Rattle.ilk_net_read.specs.Document as parts;
 ghost use Rattle.ilk_net_read.specs.Fault.{GivesBy};
 ghost use Rattle.ilk_net_read.specs.Network as network;
-ghost use Rattle.ilk_net_read.specs.Seen.{seen, HasAllowedCounts};
+ghost use Rattle.ilk_net_read.specs.Seen.{seen, seen_members, HasAllowedCounts};
 
 use crate::fault::broken;
 use crate::member::{array_at, has_members, whole_number_at};
 use crate::name::lies_within;
-use crate::{Form, FormError, Place};
+use crate::{Form, FormError, Place, Version};
 use ilk_plant::{MAX_ROUTES, MAX_SECTIONS};
 use serde_json::Value;
 
-/// The members of a document.
+// The members of a document, as they are written.
 #[derive(Drop)]
-pub(crate) struct Document<'v> {
-    pub(crate) version: u64,
-    pub(crate) sections: &'v [Value],
-    pub(crate) routes: &'v [Value],
+struct Members<'v> {
+    version: u64,
+    sections: &'v [Value],
+    routes: &'v [Value],
 }
 
-fn members(value: &Value) -> Option<Document<'_>>
-    ensures { option_map seen result ≡ parts.as_document (view value.now) }
+/// A document of one of the versions, with its sections and its routes.
+#[derive(Drop)]
+pub struct Document<'v> {
+    pub version: Version,
+    pub sections: &'v [Value],
+    pub routes: &'v [Value],
+}
+
+fn written(value: &Value) -> Option<Members<'_>>
+    ensures { option_map seen_members result ≡ parts.as_document (view value.now) }
 {
     let version = whole_number_at(value, "version")?;
     let sections = array_at(value, "sections")?;
@@ -32,10 +40,21 @@ fn members(value: &Value) -> Option<Document<'_>>
     if !has_members(value, 3) {
         return None;
     }
-    Some(Document {
+    Some(Members {
         version,
         sections,
         routes,
+    })
+}
+
+fn in_version<'v>(members: &Members<'v>) -> Option<Document<'v>>
+    ensures { option_map seen result ≡ parts.in_version (seen_members members.now) }
+{
+    let version = Version::numbered(members.version)?;
+    Some(Document {
+        version,
+        sections: members.sections,
+        routes: members.routes,
     })
 }
 
@@ -52,18 +71,18 @@ fn has_allowed_counts(document: &Document<'_>) -> bool
     counts_are_allowed(document.sections.len(), document.routes.len())
 }
 
-/// The document: rule F3 is broken where the value isn't one, then F4 where its version isn't 1,
-/// and then F6 where it has no section, or more sections or routes than are allowed.
-pub(crate) fn document_of(value: &Value) -> Result<Document<'_>, FormError>
+/// The document: rule F3 is broken where the value isn't one, then F4 where its version is neither
+/// 1 nor 2, and then F6 where it has no section, or more sections or routes than are allowed.
+pub fn document_of(value: &Value) -> Result<Document<'_>, FormError>
     ensures exact { GivesBy seen result (network.document_of (view value.now)) }
     ensures limits { IfOk result (λ document. HasAllowedCounts (seen document)) }
 {
-    let Some(document) = members(value) else {
+    let Some(members) = written(value) else {
         return Err(broken(Form::F3, Place::Document));
     };
-    if document.version != 1 {
+    let Some(document) = in_version(&members) else {
         return Err(broken(Form::F4, Place::Document));
-    }
+    };
     if !has_allowed_counts(&document) {
         return Err(broken(Form::F6, Place::Document));
     }

@@ -18,7 +18,7 @@ pub enum Form {
     F2,
     /// Each member is there, is known and is of its kind.
     F3,
-    /// The version is 1.
+    /// The version is 1 or 2.
     F4,
     /// A name is of 1 to `MAX_NAME` of the characters `A-Z a-z 0-9 _ -`.
     F5,

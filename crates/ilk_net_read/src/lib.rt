@@ -2,8 +2,8 @@
 //!
 //! The form is asked in one order, which the definition of the reading has too, so that a
 //! configuration has one first fault. `read_value` reads the bytes as JSON, `read_network` the
-//! document and the sections; what the members of objects are read by is handed on to the reader of
-//! the table of routes.
+//! document and the sections. What reads a document, and what reads the members of objects, is
+//! handed on to the reader of the table of routes.
 #![tactic(auto)]
 
 mod document;
@@ -13,7 +13,9 @@ mod name;
 mod network;
 mod section;
 mod text;
+mod version;
 
+pub use document::{Document, document_of};
 pub use fault::{Form, FormError, FormFault, KindError, Place, broken};
 pub use member::{
     array_at, has_members, optional_text_at, str_at, text_at, texts_at, whole_number_at,
@@ -21,6 +23,7 @@ pub use member::{
 pub use name::{is_name, is_name_if_given, lies_within};
 pub use network::read_network;
 pub use text::read_value;
+pub use version::Version;
 
 #[cfg(test)]
 mod tests;

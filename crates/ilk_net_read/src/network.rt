@@ -5,7 +5,7 @@ ghost use Rattle.std.specs.List.{list_all};
 ghost use Rattle.serde_json.specs.View.{view, items_view};
 ghost use Rattle.ilk_plant.specs.Limits.{NetworkHasLimits, section_has_names};
 ghost use Rattle.ilk_net_read.specs.Fault.{Gives};
-ghost use Rattle.ilk_net_read.specs.Network.{network_of, section_of, in_order, HasDocument};
+ghost use Rattle.ilk_net_read.specs.Network.{network_of, section_of, in_order};
 
 use crate::FormError;
 use crate::document::document_of;
@@ -32,8 +32,6 @@ fn sections(alloc: Global, values: &[Value]) -> Result<Row<SectionDraft>, FormEr
 /// (F3, F4, F6) or else in its sections in order (F3, then F5, of each).
 pub fn read_network(alloc: Global, value: &Value) -> Result<NetDraft, FormError>
     ensures exact { Gives result (network_of (view value.now)) }
-    // what reading the table of routes asks for
-    ensures document { IfOk result (λ net. HasDocument (view value.now)) }
     // some sections, no more than are allowed, whose texts are names
     ensures limits { IfOk result NetworkHasLimits }
 {

@@ -26,7 +26,9 @@ section_names-allowed sections h =
 -- the first of the texts of a route is its name
 route-name : (route : RouteDraft) → route_has_names route ≡ true → is_name route.name ≡ true
 route-name route h =
-    let six = and_parts _ _ h in
+    let eight = and_parts _ _ h in
+    let seven = and_parts _ _ eight.0 in
+    let six = and_parts _ _ seven.0 in
     let five = and_parts _ _ six.0 in
     let four = and_parts _ _ five.0 in
     let three = and_parts _ _ four.0 in

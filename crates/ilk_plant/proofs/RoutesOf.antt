@@ -1,5 +1,5 @@
 -- The routes of the plant, where no rule of the table is broken.
-use Rattle.std.proofs.Common.{◌≡◌, ◌≢◌, ℕ, ◌<◌, ◌≤◌, Bool, true, false, ◌&&◌, not, Option, Some, None, IsSome, IsTrue, All, length, nat_le, slice_get, nat_lt, refl, sym, ◌∙◌, ap, arith}
+use Rattle.std.proofs.Common.{◌≡◌, ◌≢◌, ℕ, ◌<◌, ◌≤◌, ◌==◌, Bool, true, false, ◌&&◌, not, Option, Some, None, IsSome, IsTrue, All, length, nat_le, slice_get, nat_lt, refl, sym, ◌∙◌, ap, arith}
 use Rattle.std.specs.List.{list_all}
 use Rattle.std.proofs.lemmas.Bool.Decides.{nat_tests}
 use Rattle.std.proofs.lemmas.List.{length-map}
@@ -8,12 +8,12 @@ use Rattle.std.proofs.lemmas.Option.{slice_get_within}
 use Rattle.ilk_plant.proofs.Rules.{KeepsTableRules}
 use Rattle.ilk_plant.specs.Draft.{names_of_boards, names_of_routes, names_of_sections, number_of, numbered, numbered_point, numbered_route}
 use Rattle.ilk_plant.specs.Limits.{route_has_limits}
-use Rattle.ilk_plant.specs.declared.broken.Rule.TheVariants.{R2, R3, R4, R5, R6}
-use Rattle.ilk_plant.specs.declared.limits.TheConstants.{MAX_CONFLICTS, MAX_OVERLAP, MAX_PATH, MAX_POINTS}
+use Rattle.ilk_plant.specs.declared.broken.Rule.TheVariants.{R2, R3, R4, R5, R6, R7, R8}
+use Rattle.ilk_plant.specs.declared.limits.TheConstants.{MAX_CONFLICTS, MAX_OVERLAP, MAX_PATH, MAX_POINTS, MAX_PROTECTING_BOARDS, MAX_PROTECTING_POINTS}
 use Rattle.ilk_plant.specs.Network.{has_section, is_point}
 use Rattle.ilk_base.specs.Option.{is_some_and}
 use Rattle.ilk_plant.specs.Plant.{IsRouteOf, PlantLists, point_number, is_point_section}
-use Rattle.ilk_plant.specs.TableRules.{has_conflicts_once, has_destination_or_none, has_points_once, has_sections_once, has_source, is_board, is_other_route, is_section, points_of, route_fails, sections_of}
+use Rattle.ilk_plant.specs.TableRules.{has_conflicts_once, has_destination_or_none, has_points_once, has_protecting_boards_once, has_protecting_points_once, has_sections_once, has_source, is_board, is_other_route, is_section, points_of, protecting_points_of, route_fails, sections_of}
 use Rattle.ilk_plant.specs.Once.{none_twice}
 use Rattle.ilk_plant.specs.declared.draft.NetDraft.{NetDraft}
 use Rattle.ilk_plant.specs.declared.draft.RouteDraft.{RouteDraft}
@@ -62,17 +62,30 @@ point-numbered p x h = by_section (slice_get p.sections x) refl
 other : (p : PlantLists) (r q : ℕ) → is_other_route p r q ≡ true → q ≢ r
 other p r q h = grind (arith, nat_tests)
 
+-- a number that is tested to be that of a board other than m
+other-board : (p : PlantLists) (m n : ℕ) → (is_board p n && not (n == m)) ≡ true → (n < length p.boards) × (n ≢ m)
+other-board p m n h = (below n (length p.boards) (and_parts _ _ h).0, grind (arith, nat_tests))
+
+-- what is tested to be a point section apart from others is apart from them
+apart : (b c : Bool) → (b && not c) ≡ true → c ≡ false
+apart true false h = refl
+apart true true h = cc
+apart false false h = cc
+apart false true h = cc
+
 -- what the limits of a route say of its lists
-limits-kept : (route : RouteDraft) → route_has_limits route ≡ true → (1 ≤ length route.path) × (length route.path ≤ MAX_PATH) × (length route.overlap ≤ MAX_OVERLAP) × (length route.points ≤ MAX_POINTS) × (length route.conflicts ≤ MAX_CONFLICTS)
+limits-kept : (route : RouteDraft) → route_has_limits route ≡ true → (1 ≤ length route.path) × (length route.path ≤ MAX_PATH) × (length route.overlap ≤ MAX_OVERLAP) × (length route.points ≤ MAX_POINTS) × (length route.conflicts ≤ MAX_CONFLICTS) × (length route.protecting_points ≤ MAX_PROTECTING_POINTS) × (length route.protecting_boards ≤ MAX_PROTECTING_BOARDS)
 limits-kept route h =
-    let three = and_parts _ (nat_le (length route.conflicts) MAX_CONFLICTS) h in
+    let five = and_parts _ (nat_le (length route.protecting_boards) MAX_PROTECTING_BOARDS) h in
+    let four = and_parts _ (nat_le (length route.protecting_points) MAX_PROTECTING_POINTS) five.0 in
+    let three = and_parts _ (nat_le (length route.conflicts) MAX_CONFLICTS) four.0 in
     let two = and_parts _ (nat_le (length route.points) MAX_POINTS) three.0 in
     let one = and_parts _ (nat_le (length route.overlap) MAX_OVERLAP) two.0 in
     let path = and_parts (nat_le 1 (length route.path)) (nat_le (length route.path) MAX_PATH) one.0 in
-    (leb-true _ _ path.0, leb-true _ _ path.1, leb-true _ _ one.1, leb-true _ _ two.1, leb-true _ _ three.1)
+    (leb-true _ _ path.0, leb-true _ _ path.1, leb-true _ _ one.1, leb-true _ _ two.1, leb-true _ _ three.1, leb-true _ _ four.1, leb-true _ _ five.1)
 
 -- a route of the plant has the limits of its draft
-route-limits : (net : NetDraft) (table : TableDraft) (r : ℕ) (route : Route) → list_all route_has_limits table.routes ≡ true → slice_get (numbered net table).routes r ≡ Some route → (1 ≤ length route.path) × (length route.path ≤ MAX_PATH) × (length route.overlap ≤ MAX_OVERLAP) × (length route.points ≤ MAX_POINTS) × (length route.conflicts ≤ MAX_CONFLICTS)
+route-limits : (net : NetDraft) (table : TableDraft) (r : ℕ) (route : Route) → list_all route_has_limits table.routes ≡ true → slice_get (numbered net table).routes r ≡ Some route → (1 ≤ length route.path) × (length route.path ≤ MAX_PATH) × (length route.overlap ≤ MAX_OVERLAP) × (length route.points ≤ MAX_POINTS) × (length route.conflicts ≤ MAX_CONFLICTS) × (length route.protecting_points ≤ MAX_PROTECTING_POINTS) × (length route.protecting_boards ≤ MAX_PROTECTING_BOARDS)
 route-limits net table r route each e =
     let found : (draft : RouteDraft) × (slice_get table.routes r ≡ Some draft) × (numbered_route (names_of_sections net.sections) (names_of_boards net.sections) (names_of_routes table.routes) draft ≡ route) = route-at net table r route e in
     let limits = limits-kept found.0 (list_all-slice_get route_has_limits table.routes r found.0 each found.1) in
@@ -80,7 +93,9 @@ route-limits net table r route each e =
     let overlap : length route.overlap ≡ length found.0.overlap = ap (λ a. length a.overlap) (sym found.2) ∙ length-map found.0.overlap (number_of (names_of_sections net.sections)) in
     let points : length route.points ≡ length found.0.points = ap (λ a. length a.points) (sym found.2) ∙ length-map found.0.points (numbered_point (names_of_sections net.sections)) in
     let conflicts : length route.conflicts ≡ length found.0.conflicts = ap (λ a. length a.conflicts) (sym found.2) ∙ length-map found.0.conflicts (number_of (names_of_routes table.routes)) in
-    (omega (arith, path, limits.0), omega (arith, path, limits.1), omega (arith, overlap, limits.2), omega (arith, points, limits.3), omega (arith, conflicts, limits.4))
+    let protecting_points : length route.protecting_points ≡ length found.0.protecting_points = ap (λ a. length a.protecting_points) (sym found.2) ∙ length-map found.0.protecting_points (numbered_point (names_of_sections net.sections)) in
+    let protecting_boards : length route.protecting_boards ≡ length found.0.protecting_boards = ap (λ a. length a.protecting_boards) (sym found.2) ∙ length-map found.0.protecting_boards (number_of (names_of_boards net.sections)) in
+    (omega (arith, path, limits.0), omega (arith, path, limits.1), omega (arith, overlap, limits.2), omega (arith, points, limits.3), omega (arith, conflicts, limits.4), omega (arith, protecting_points, limits.5), omega (arith, protecting_boards, limits.6))
 
 -- a route of the plant speaks of what there is
 pub route-known : (net : NetDraft) (table : TableDraft) → KeepsTableRules (numbered net table) → list_all route_has_limits table.routes ≡ true → (r : ℕ) (route : Route) → slice_get (numbered net table).routes r ≡ Some route → IsRouteOf (numbered net table) route
@@ -94,6 +109,9 @@ route-known net table rules each r route e =
     let each_point : list_all (λ listed. is_point_section p listed.point && has_section listed.point (sections_of route)) route.points ≡ true = sym (list_all-map (λ x. is_point_section p x && has_section x (sections_of route)) (λ listed. listed.point) route.points) ∙ points.0 in
     let destination = route-passes p (λ a. has_destination_or_none p a.destination) r route (rules 4 R5 refl r within) e in
     let conflicts = and_parts (list_all (is_other_route p r) route.conflicts) (none_twice route.conflicts) (route-passes p (has_conflicts_once p r) r route (rules 5 R6 refl r within) e) in
+    let protecting = and_parts (list_all (λ x. is_point_section p x && not (has_section x (sections_of route))) (protecting_points_of route)) (none_twice (protecting_points_of route)) (route-passes p (has_protecting_points_once p) r route (rules 6 R7 refl r within) e) in
+    let each_protecting : list_all (λ listed. is_point_section p listed.point && not (has_section listed.point (sections_of route))) route.protecting_points ≡ true = sym (list_all-map (λ x. is_point_section p x && not (has_section x (sections_of route))) (λ listed. listed.point) route.protecting_points) ∙ protecting.0 in
+    let boards = and_parts (list_all (λ m. is_board p m && not (m == route.source)) route.protecting_boards) (none_twice route.protecting_boards) (route-passes p (has_protecting_boards_once p) r route (rules 7 R8 refl r within) e) in
     let lengths = route-limits net table r route each e in
     record {
       destination = λ m is. let known : is_board p m ≡ true = rw is at destination in below m (length p.boards) known;
@@ -102,6 +120,15 @@ route-known net table rules each r route e =
       points_passed = All-tested (λ listed. is_point_section p listed.point && has_section listed.point (sections_of route)) (λ listed. IsTrue (has_section listed.point (sections_of route))) (λ listed h. (and_parts _ _ h).1) route.points each_point;
       points_once = points.1;
       conflicts_once = conflicts.1;
+      protecting_points = All-tested (λ listed. is_point_section p listed.point && not (has_section listed.point (sections_of route))) (λ listed. listed.point < length p.sections) (λ listed h. point-within p listed.point (and_parts _ _ h).0) route.protecting_points each_protecting;
+      protecting_points_are_points = All-tested (λ listed. is_point_section p listed.point && not (has_section listed.point (sections_of route))) (λ listed. IsSome (point_number p listed.point)) (λ listed h. point-numbered p listed.point (and_parts _ _ h).0) route.protecting_points each_protecting;
+      protecting_points_apart = All-tested (λ listed. is_point_section p listed.point && not (has_section listed.point (sections_of route))) (λ listed. has_section listed.point (sections_of route) ≡ false) (λ listed h. apart (is_point_section p listed.point) (has_section listed.point (sections_of route)) h) route.protecting_points each_protecting;
+      protecting_points_once = protecting.1;
+      protecting_boards = All-tested (λ m. is_board p m && not (m == route.source)) (λ m. m < length p.boards) (λ m h. (other-board p route.source m h).0) route.protecting_boards boards.0;
+      protecting_boards_other = All-tested (λ m. is_board p m && not (m == route.source)) (λ m. m ≢ route.source) (λ m h. (other-board p route.source m h).1) route.protecting_boards boards.0;
+      protecting_boards_once = boards.1;
+      few_protecting_points = lengths.5;
+      few_protecting_boards = lengths.6;
       short_overlap = lengths.2;
       few_points = lengths.3;
       few_conflicts = lengths.4;

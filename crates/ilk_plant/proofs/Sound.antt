@@ -65,6 +65,10 @@ numbered-IsSound net table sound = record {
   drafts = record { net = net; table = table; sound = sound; same = refl };
 }
 
+-- so does what comes of sound drafts
+pub sound-of_drafts : (p : PlantLists) → IsOfDrafts p → IsSound p
+sound-of_drafts p drafts = subst IsSound (sym drafts.same) (numbered-IsSound drafts.net drafts.table drafts.sound)
+
 -- a plant breaks no rule of the table
 pub table-kept : (p : PlantLists) → IsOfDrafts p → routes_broken p ≡ []
 table-kept p drafts =

@@ -6,7 +6,7 @@ use Rattle.ilk_plant.specs.declared.broken.Broken.{Broken}
 use Rattle.ilk_plant.specs.declared.broken.Places.{Places}
 use Rattle.ilk_plant.specs.declared.broken.Places.TheVariants.{Sections, Boards, Routes, RoutePairs}
 use Rattle.ilk_plant.specs.declared.broken.Rule.{Rule}
-use Rattle.ilk_plant.specs.declared.broken.Rule.TheVariants.{N1, N2, N3, N4, N5, N6, N7, N8, R1, R2, R3, R4, R5, R6, C1, C2, C3, C4, C5, C6, C7}
+use Rattle.ilk_plant.specs.declared.broken.Rule.TheVariants.{N1, N2, N3, N4, N5, N6, N7, N8, R1, R2, R3, R4, R5, R6, R7, R8, C1, C2, C3, C4, C5, C6, C7, C8}
 
 -- the name of a rule, and what the places are at which it is asked
 abbrev pub name_and_places : Rule → Name × Places
@@ -24,6 +24,8 @@ name_and_places R3 = (codes "R3", Routes)
 name_and_places R4 = (codes "R4", Routes)
 name_and_places R5 = (codes "R5", Routes)
 name_and_places R6 = (codes "R6", Routes)
+name_and_places R7 = (codes "R7", Routes)
+name_and_places R8 = (codes "R8", Routes)
 name_and_places C1 = (codes "C1", Routes)
 name_and_places C2 = (codes "C2", Routes)
 name_and_places C3 = (codes "C3", Routes)
@@ -31,6 +33,7 @@ name_and_places C4 = (codes "C4", Routes)
 name_and_places C5 = (codes "C5", RoutePairs)
 name_and_places C6 = (codes "C6", RoutePairs)
 name_and_places C7 = (codes "C7", Sections)
+name_and_places C8 = (codes "C8", RoutePairs)
 
 abbrev pub rule_word : Rule → Name
 rule_word rule = (name_and_places rule).0

@@ -1,4 +1,4 @@
--- The rules of the columns of the table of routes, C1 to C7, over the plant. A route has the direction of its
+-- The rules of the columns of the table of routes, C1 to C8, over the plant. A route has the direction of its
 -- source board, and `next_to` is asked in that direction, for the overlap too.
 use Rattle.std.specs.Prelude.{ℕ, Bool, true, false, not, Option, Some, None, List, [], ◌∷◌, ◌&&◌, ◌||◌, ◌==◌, ◌-◌, nat_lt, is_none, length, take, slice_get, flat_map}
 use Rattle.std.specs.List.{list_any, list_all}
@@ -7,12 +7,12 @@ use Rattle.ilk_plant.specs.Broken.{broken_at, broken_at_pairs, places_of}
 use Rattle.ilk_plant.specs.Network.{has_section}
 use Rattle.ilk_plant.specs.Plant.{PlantLists, next_to, board_of, border, is_point_section}
 use Rattle.ilk_plant.specs.Shape.{leads_on}
-use Rattle.ilk_plant.specs.TableRules.{count_in_plant, points_of, route_fails, sections_of}
+use Rattle.ilk_plant.specs.TableRules.{count_in_plant, points_of, route_fails, sections_locked_for}
 use Rattle.ilk_plant.specs.declared.broken.Broken.{Broken}
 use Rattle.ilk_plant.specs.declared.broken.Places.{Places}
 use Rattle.ilk_plant.specs.declared.broken.Places.TheVariants.{RoutePairs}
 use Rattle.ilk_plant.specs.declared.broken.Rule.{Rule}
-use Rattle.ilk_plant.specs.declared.broken.Rule.TheVariants.{C1, C2, C3, C4, C5, C6, C7}
+use Rattle.ilk_plant.specs.declared.broken.Rule.TheVariants.{C1, C2, C3, C4, C5, C6, C7, C8}
 use Rattle.ilk_plant.specs.declared.network.Board.{Board}
 use Rattle.ilk_plant.specs.declared.network.Dir.{Dir}
 use Rattle.ilk_plant.specs.declared.network.Position.{Position}
@@ -93,13 +93,14 @@ lists p i j = is_some_and (slice_get p.routes i) (λ route. list_any (λ r. r ==
 abbrev pub lists_alone : PlantLists → ℕ → ℕ → Bool
 lists_alone p i j = lists p i j && not (lists p j i)
 
--- whether route i has one of these sections in its path or overlap
+-- whether route i has one of these sections in its path, its overlap or its protecting points
 abbrev pub has_one_of : PlantLists → List ℕ → ℕ → Bool
-has_one_of p sections i = is_some_and (slice_get p.routes i) (λ route. list_any (λ x. has_section x (sections_of route)) sections)
+has_one_of p sections i =
+    is_some_and (slice_get p.routes i) (λ route. list_any (λ x. has_section x (sections_locked_for route)) sections)
 
--- whether routes i and j have one same section in path or overlap
+-- whether routes i and j have one same section in path, overlap or protecting points
 abbrev pub share_section : PlantLists → ℕ → ℕ → Bool
-share_section p i j = is_some_and (slice_get p.routes j) (λ route. has_one_of p (sections_of route) i)
+share_section p i j = is_some_and (slice_get p.routes j) (λ route. has_one_of p (sections_locked_for route) i)
 
 -- C6 is broken: i is below j, they share a section, and i doesn't list j
 abbrev pub share_unlisted : PlantLists → ℕ → ℕ → Bool
@@ -109,8 +110,17 @@ share_unlisted p i j = nat_lt i j && share_section p i j && not (lists p i j)
 abbrev pub is_border_without_board : PlantLists → ℕ → Bool
 is_border_without_board p x = is_some_and (border p x) (λ inward. has_no_board p inward x)
 
+-- whether the source of route j is a protecting board of route i
+abbrev pub is_kept_closed_by : PlantLists → ℕ → ℕ → Bool
+is_kept_closed_by p i j =
+    is_some_and (slice_get p.routes i) (λ route. is_some_and (slice_get p.routes j) (λ other. list_any (λ m. m == other.source) route.protecting_boards))
+
+-- C8 is broken: the source of route j is a protecting board of route i, and i doesn't list j
+abbrev pub protects_unlisted : PlantLists → ℕ → ℕ → Bool
+protects_unlisted p i j = is_kept_closed_by p i j && not (lists p i j)
+
 abbrev pub column_rules : List Rule
-column_rules = C1 ∷ C2 ∷ C3 ∷ C4 ∷ C5 ∷ C6 ∷ C7 ∷ []
+column_rules = C1 ∷ C2 ∷ C3 ∷ C4 ∷ C5 ∷ C6 ∷ C7 ∷ C8 ∷ []
 
 -- whether a rule of the columns is broken at its place i
 abbrev pub breaks_columns : PlantLists → Rule → ℕ → Bool
@@ -125,6 +135,7 @@ breaks_columns p _ = λ i. false
 abbrev pub breaks_columns_at_pair : PlantLists → Rule → ℕ → ℕ → Bool
 breaks_columns_at_pair p C5 = lists_alone p
 breaks_columns_at_pair p C6 = share_unlisted p
+breaks_columns_at_pair p C8 = protects_unlisted p
 breaks_columns_at_pair p _ = λ i j. false
 
 -- a rule of the columns, at each of its places at which it is broken

@@ -76,6 +76,8 @@ numbered_route sections boards routes route = record {
   overlap = map (number_of sections) route.overlap;
   points = map (numbered_point sections) route.points;
   conflicts = map (number_of routes) route.conflicts;
+  protecting_points = map (numbered_point sections) route.protecting_points;
+  protecting_boards = map (number_of boards) route.protecting_boards;
 }
 
 -- the plant of a network and a table: their sections, boards and routes in order, with numbers for names

@@ -11,6 +11,7 @@ pub mod Broken
 pub mod TableRules
 pub mod ColumnRules
 pub mod Names
+pub mod NetNames
 pub mod Words
 pub mod NetworkRules
 pub mod Limits

@@ -2,7 +2,7 @@
 use Rattle.std.specs.Prelude.{ℕ, ◌≤◌, ◌&&◌, Bool, IsTrue, length, nat_le}
 use Rattle.std.specs.List.{list_all}
 use Rattle.ilk_plant.specs.Name.{is_name, is_name_if_given, lies_within}
-use Rattle.ilk_plant.specs.declared.limits.TheConstants.{MAX_CONFLICTS, MAX_OVERLAP, MAX_PATH, MAX_POINTS, MAX_ROUTES, MAX_SECTIONS}
+use Rattle.ilk_plant.specs.declared.limits.TheConstants.{MAX_CONFLICTS, MAX_OVERLAP, MAX_PATH, MAX_POINTS, MAX_PROTECTING_BOARDS, MAX_PROTECTING_POINTS, MAX_ROUTES, MAX_SECTIONS}
 use Rattle.ilk_plant.specs.declared.draft.KindDraft.{KindDraft}
 use Rattle.ilk_plant.specs.declared.draft.KindDraft.TheVariants.{Linear, Point}
 use Rattle.ilk_plant.specs.declared.draft.NetDraft.{NetDraft}
@@ -23,15 +23,25 @@ section_has_names section = is_name section.name && kind_has_names section.kind
 -- whether each text of a route is a name
 abbrev pub route_has_names : RouteDraft → Bool
 route_has_names route =
-    is_name route.name && is_name route.source && is_name_if_given route.destination && list_all is_name route.path && list_all is_name route.overlap && list_all (λ listed. is_name listed.point) route.points && list_all is_name route.conflicts
+    is_name route.name
+    && is_name route.source
+    && is_name_if_given route.destination
+    && list_all is_name route.path
+    && list_all is_name route.overlap
+    && list_all (λ listed. is_name listed.point) route.points
+    && list_all is_name route.conflicts
+    && list_all (λ listed. is_name listed.point) route.protecting_points
+    && list_all is_name route.protecting_boards
 
--- whether a route has some sections in its path, and its path, overlap, points and conflicts are within their limits
+-- whether a route has some sections in its path, and its path and what it lists are within their limits
 abbrev pub route_has_limits : RouteDraft → Bool
 route_has_limits route =
     lies_within 1 MAX_PATH (length route.path)
     && nat_le (length route.overlap) MAX_OVERLAP
     && nat_le (length route.points) MAX_POINTS
     && nat_le (length route.conflicts) MAX_CONFLICTS
+    && nat_le (length route.protecting_points) MAX_PROTECTING_POINTS
+    && nat_le (length route.protecting_boards) MAX_PROTECTING_BOARDS
 
 -- whether a configuration may have so many sections, at least one of them, and so many routes
 abbrev pub counts_are_allowed : ℕ → ℕ → Bool

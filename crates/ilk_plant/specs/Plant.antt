@@ -4,7 +4,7 @@ use Rattle.ilk_base.specs.Option.{◌>>=◌, is_some_and, only_if}
 use Rattle.ilk_plant.specs.Name.{IsName}
 use Rattle.ilk_plant.specs.Once.{all_differ, none_twice}
 use Rattle.ilk_plant.specs.Network.{beside, board_on, has_section, inward, is_point}
-use Rattle.ilk_plant.specs.declared.limits.TheConstants.{MAX_BOARDS, MAX_CONFLICTS, MAX_OVERLAP, MAX_PATH, MAX_POINTS, MAX_ROUTES, MAX_SECTIONS}
+use Rattle.ilk_plant.specs.declared.limits.TheConstants.{MAX_BOARDS, MAX_CONFLICTS, MAX_OVERLAP, MAX_PATH, MAX_POINTS, MAX_PROTECTING_BOARDS, MAX_PROTECTING_POINTS, MAX_ROUTES, MAX_SECTIONS}
 use Rattle.ilk_plant.specs.declared.network.Dir.{Dir}
 use Rattle.ilk_plant.specs.declared.network.Dir.TheVariants.{Up, Down}
 use Rattle.ilk_plant.specs.declared.network.Section.{Section}
@@ -70,11 +70,20 @@ pub record IsRouteOf (p : PlantLists) (route : Route) : Type 0 where
   pub points_once : IsTrue (none_twice (map (λ listed. listed.point) route.points))
   pub conflicts : All (λ r. r < length p.routes) route.conflicts
   pub conflicts_once : IsTrue (none_twice route.conflicts)
+  pub protecting_points : All (λ listed. listed.point < length p.sections) route.protecting_points
+  pub protecting_points_are_points : All (λ listed. IsSome (point_number p listed.point)) route.protecting_points
+  pub protecting_points_apart : All (λ listed. has_section listed.point (route.path ++ route.overlap) ≡ false) route.protecting_points
+  pub protecting_points_once : IsTrue (none_twice (map (λ listed. listed.point) route.protecting_points))
+  pub protecting_boards : All (λ m. m < length p.boards) route.protecting_boards
+  pub protecting_boards_other : All (λ m. m ≢ route.source) route.protecting_boards
+  pub protecting_boards_once : IsTrue (none_twice route.protecting_boards)
   pub path_begins : 0 < length route.path
   pub path_ends : length route.path ≤ MAX_PATH
   pub short_overlap : length route.overlap ≤ MAX_OVERLAP
   pub few_points : length route.points ≤ MAX_POINTS
   pub few_conflicts : length route.conflicts ≤ MAX_CONFLICTS
+  pub few_protecting_points : length route.protecting_points ≤ MAX_PROTECTING_POINTS
+  pub few_protecting_boards : length route.protecting_boards ≤ MAX_PROTECTING_BOARDS
 
 -- what every plant has
 pub record IsPlant (p : PlantLists) : Type 0 where

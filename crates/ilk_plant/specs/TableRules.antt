@@ -1,4 +1,4 @@
--- The rules of the table of routes, R1 to R6. A name stands for the first section, board or route that has it:
+-- The rules of the table of routes, R1 to R8. A name stands for the first section, board or route that has it:
 -- the rules are over the numbered drafts, where a name that nothing has is the count, and so no number of one.
 use Rattle.std.specs.Prelude.{ℕ, Bool, true, false, not, Option, Some, None, List, [], ◌∷◌, ◌++◌, ◌&&◌, ◌==◌, nat_lt, length, map, slice_get}
 use Rattle.std.specs.List.{list_all}
@@ -12,7 +12,7 @@ use Rattle.ilk_plant.specs.declared.broken.Broken.{Broken}
 use Rattle.ilk_plant.specs.declared.broken.Places.{Places}
 use Rattle.ilk_plant.specs.declared.broken.Places.TheVariants.{Sections, Boards, Routes, RoutePairs}
 use Rattle.ilk_plant.specs.declared.broken.Rule.{Rule}
-use Rattle.ilk_plant.specs.declared.broken.Rule.TheVariants.{R1, R2, R3, R4, R5, R6}
+use Rattle.ilk_plant.specs.declared.broken.Rule.TheVariants.{R1, R2, R3, R4, R5, R6, R7, R8}
 use Rattle.ilk_plant.specs.declared.draft.NetDraft.{NetDraft}
 use Rattle.ilk_plant.specs.declared.draft.TableDraft.{TableDraft}
 use Rattle.ilk_plant.specs.declared.table.Route.{Route}
@@ -36,6 +36,13 @@ sections_of route = route.path ++ route.overlap
 abbrev pub points_of : Route → List ℕ
 points_of route = map (λ listed. listed.point) route.points
 
+abbrev pub protecting_points_of : Route → List ℕ
+protecting_points_of route = map (λ listed. listed.point) route.protecting_points
+
+-- the sections that are locked for a route: those of its path, of its overlap and of its protecting points
+abbrev pub sections_locked_for : Route → List ℕ
+sections_locked_for route = sections_of route ++ protecting_points_of route
+
 -- R2: the source is a board
 abbrev pub has_source : PlantLists → Route → Bool
 has_source p route = is_board p route.source
@@ -58,6 +65,16 @@ has_destination_or_none p (Some m) = is_board p m
 abbrev pub has_conflicts_once : PlantLists → ℕ → Route → Bool
 has_conflicts_once p i route = list_all (is_other_route p i) route.conflicts && none_twice route.conflicts
 
+-- R7: each protecting point is a point section in neither path nor overlap, and none is listed twice
+abbrev pub has_protecting_points_once : PlantLists → Route → Bool
+has_protecting_points_once p route =
+    list_all (λ x. is_point_section p x && not (has_section x (sections_of route))) (protecting_points_of route) && none_twice (protecting_points_of route)
+
+-- R8: each protecting board is a board other than the source, and none is listed twice
+abbrev pub has_protecting_boards_once : PlantLists → Route → Bool
+has_protecting_boards_once p route =
+    list_all (λ m. is_board p m && not (m == route.source)) route.protecting_boards && none_twice route.protecting_boards
+
 -- whether route i fails the test
 abbrev pub route_fails : PlantLists → (Route → Bool) → ℕ → Bool
 route_fails p test i = is_some_and (slice_get p.routes i) (λ route. not (test route))
@@ -70,7 +87,7 @@ count_in_plant p Routes = length p.routes
 count_in_plant p RoutePairs = length p.routes
 
 abbrev pub table_rules : List Rule
-table_rules = R1 ∷ R2 ∷ R3 ∷ R4 ∷ R5 ∷ R6 ∷ []
+table_rules = R1 ∷ R2 ∷ R3 ∷ R4 ∷ R5 ∷ R6 ∷ R7 ∷ R8 ∷ []
 
 -- whether a rule of the table is broken at its place i
 abbrev pub breaks_table : PlantLists → Rule → ℕ → Bool
@@ -80,6 +97,8 @@ breaks_table p R3 = route_fails p (has_sections_once p)
 breaks_table p R4 = route_fails p (has_points_once p)
 breaks_table p R5 = route_fails p (λ route. has_destination_or_none p route.destination)
 breaks_table p R6 = λ i. route_fails p (has_conflicts_once p i) i
+breaks_table p R7 = route_fails p (has_protecting_points_once p)
+breaks_table p R8 = route_fails p (has_protecting_boards_once p)
 breaks_table p _ = λ i. false
 
 -- the broken rules of the table, in order

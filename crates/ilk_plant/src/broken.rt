@@ -22,6 +22,8 @@ pub enum Rule {
     R4,
     R5,
     R6,
+    R7,
+    R8,
     C1,
     C2,
     C3,
@@ -29,6 +31,7 @@ pub enum Rule {
     C5,
     C6,
     C7,
+    C8,
 }
 
 /// What the places are at which a rule is asked.
@@ -61,6 +64,8 @@ impl Rule {
             Rule::R4 => ("R4", Places::Routes),
             Rule::R5 => ("R5", Places::Routes),
             Rule::R6 => ("R6", Places::Routes),
+            Rule::R7 => ("R7", Places::Routes),
+            Rule::R8 => ("R8", Places::Routes),
             Rule::C1 => ("C1", Places::Routes),
             Rule::C2 => ("C2", Places::Routes),
             Rule::C3 => ("C3", Places::Routes),
@@ -68,6 +73,7 @@ impl Rule {
             Rule::C5 => ("C5", Places::RoutePairs),
             Rule::C6 => ("C6", Places::RoutePairs),
             Rule::C7 => ("C7", Places::Sections),
+            Rule::C8 => ("C8", Places::RoutePairs),
         }
     }
 

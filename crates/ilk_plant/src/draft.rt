@@ -53,4 +53,6 @@ pub struct RouteDraft {
     pub overlap: Row<Text>,
     pub points: Row<ListedDraft>,
     pub conflicts: Row<Text>,
+    pub protecting_points: Row<ListedDraft>,
+    pub protecting_boards: Row<Text>,
 }

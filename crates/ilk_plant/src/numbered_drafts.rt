@@ -3,13 +3,12 @@ ghost use Rattle.ilk_plant.specs.Draft.{is_named_before, numbered};
 ghost use Rattle.ilk_plant.specs.TableRules.{count_in_plant, is_board, is_other_route, is_section};
 ghost use Rattle.ilk_plant.specs.Plant.{is_point_section};
 ghost use Rattle.ilk_plant.specs.Kept.{point_numbers};
+ghost use Rattle.ilk_plant.specs.NetNames.{IsNamedAs};
 ghost use Rattle.ilk_plant.specs.declared.limits.TheConstants.{MAX_SECTIONS, MAX_ROUTES};
 
 use crate::names::Names;
-use crate::numbering::{
-    named_boards, numbered_routes, numbered_sections, route_names, section_names,
-};
-use crate::{Board, NetDraft, Places, Route, Row, Section, TableDraft};
+use crate::numbering::{numbered_routes, numbered_sections, route_names};
+use crate::{Board, NetDraft, NetNames, Places, Route, Row, Section, TableDraft};
 use std::alloc::{AllocError, Global};
 use std::marker::Model;
 
@@ -51,9 +50,28 @@ impl Numbered {
         requires few_routes { length table.now.routes ≤ MAX_ROUTES }
         ensures { IfOk result (λ made. made ≡ numbered net.now table.now) }
     {
-        let named = named_boards(alloc, &net.sections)?;
-        let section_names = section_names(alloc, &net.sections)?;
-        let board_names = Names::of(alloc, named.names)?;
+        let names = NetNames::of(alloc, net)?;
+        Numbered::of_named(alloc, names, net, table)
+    }
+
+    /// The numbered network and table, where the names of the network are made already. The only
+    /// refusal is want of memory.
+    pub fn of_named(
+        alloc: Global,
+        names: NetNames,
+        net: &NetDraft,
+        table: &TableDraft,
+    ) -> Result<Numbered, AllocError>
+        requires few_sections { length net.now.sections ≤ MAX_SECTIONS }
+        requires few_routes { length table.now.routes ≤ MAX_ROUTES }
+        requires named { IsNamedAs names net.now }
+        ensures { IfOk result (λ made. made ≡ numbered net.now table.now) }
+    {
+        let NetNames {
+            section_names,
+            board_names,
+            boards,
+        } = names;
         let route_names = route_names(alloc, &table.routes)?;
         let sections = numbered_sections(alloc, &section_names, &board_names, &net.sections)?;
         let routes = numbered_routes(
@@ -65,7 +83,7 @@ impl Numbered {
         )?;
         Ok(Numbered {
             sections,
-            boards: named.boards,
+            boards,
             routes,
             section_names,
             board_names,

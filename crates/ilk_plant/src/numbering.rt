@@ -100,14 +100,6 @@ pub fn named_boards(alloc: Global, sections: &Row<SectionDraft>) -> Result<Named
     Ok(made)
 }
 
-/// The names of the boards, in the order of their numbers.
-pub fn board_names(alloc: Global, sections: &Row<SectionDraft>) -> Result<Names, AllocError>
-    requires { length sections.now ≤ MAX_SECTIONS }
-    ensures { IfOk result (λ names. names ≡ names_of_boards sections.now) }
-{
-    Names::of(alloc, named_boards(alloc, sections)?.names)
-}
-
 // The numbers for which these names stand.
 fn numbers_of(alloc: Global, names: &Names, wanted: &Row<Text>) -> Result<Row<u32>, AllocError>
     ensures { IfOk result (λ numbers. numbers ≡ map (number_of names.now) wanted.now) }
@@ -202,6 +194,8 @@ fn numbered_route(
         overlap: numbers_of(alloc, section_names, &route.overlap)?,
         points: numbered_points(alloc, section_names, &route.points)?,
         conflicts: numbers_of(alloc, route_names, &route.conflicts)?,
+        protecting_points: numbered_points(alloc, section_names, &route.protecting_points)?,
+        protecting_boards: numbers_of(alloc, board_names, &route.protecting_boards)?,
     })
 }
 

@@ -52,9 +52,10 @@ impl Model for Plant {
 }
 
 impl Plant {
-    /// The plant of a numbered network and table. The only refusal is want of memory.
-    pub(crate) fn of_numbered(alloc: Global, numbered: Numbered) -> Result<Plant, AllocError>
-        requires { IsSound numbered }
+    /// The plant of a numbered network and table, which come from drafts that are within the limits
+    /// and break no rule of the network or of the table. The only refusal is want of memory.
+    pub fn of_numbered(alloc: Global, numbered: Numbered) -> Result<Plant, AllocError>
+        requires { IsOfDrafts numbered }
         ensures { IfOk result (λ plant. plant ≡ numbered) }
     {
         let point_numbers = numbered.point_numbers(alloc)?;

@@ -22,4 +22,9 @@ pub struct Route {
     pub points: Row<Listed>,
     /// The routes that may not be set together with it.
     pub conflicts: Row<u32>,
+    /// The points beside its way that are held while it is set, with their positions, so that no
+    /// other train is led into it.
+    pub protecting_points: Row<Listed>,
+    /// The boards that are kept closed while it is locked, so that no train starts towards it.
+    pub protecting_boards: Row<u32>,
 }

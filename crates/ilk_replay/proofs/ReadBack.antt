@@ -13,7 +13,7 @@ use Rattle.ilk_plant.proofs.Once.{all_differ-places}
 use Rattle.ilk_plant.specs.Once.{all_differ}
 use Rattle.ilk_plant.specs.declared.network.Section.{Section}
 use Rattle.ilk_model.specs.declared.event.Event.{Event}
-use Rattle.ilk_model.specs.declared.event.Event.TheVariants.{Mark, Allocate, Lock, Sense, Release, Finish, Throw, Settle, Enter, Head, Tail, Leave}
+use Rattle.ilk_model.specs.declared.event.Event.TheVariants.{Mark, Allocate, Lock, Sense, Release, Finish, Throw, Settle, Enter, Head, Tail, Leave, Cancel}
 use Rattle.ilk_replay.specs.EventLine.{event_of, event_told, point_named}
 use Rattle.ilk_replay.specs.EventSubjects.{event_with}
 use Rattle.ilk_replay.specs.RunText.{event_line, name_of}
@@ -81,6 +81,7 @@ event_back p plant (Lock r) about = told_back p (codes "lock") _ (Lock r) refl (
 event_back p plant (Sense r) about = told_back p (codes "sense") _ (Sense r) refl (route_back p (codes "sense") r (Sense r) plant about refl)
 event_back p plant (Release r) about = told_back p (codes "release") _ (Release r) refl (route_back p (codes "release") r (Release r) plant about refl)
 event_back p plant (Finish r) about = told_back p (codes "finish") _ (Finish r) refl (route_back p (codes "finish") r (Finish r) plant about refl)
+event_back p plant (Cancel r) about = told_back p (codes "cancel") _ (Cancel r) refl (route_back p (codes "cancel") r (Cancel r) plant about refl)
 event_back p plant (Throw x) about = told_back p (codes "throw") _ (Throw x) refl (point_back p (codes "throw") x (Throw x) plant about (λ r. refl) refl)
 event_back p plant (Settle x) about = told_back p (codes "settle") _ (Settle x) refl (point_back p (codes "settle") x (Settle x) plant about (λ r. refl) refl)
 event_back p plant (Enter x) about = told_back p (codes "enter") _ (Enter x) refl (section_back p (codes "enter") x (Enter x) plant about (λ r. refl) (λ y. refl) refl)

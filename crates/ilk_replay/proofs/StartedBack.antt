@@ -6,7 +6,7 @@ use Rattle.ilk_base.specs.Result.{◌>>=◌}
 use Rattle.ilk_plant.specs.Plant.{IsPlant, PlantLists}
 use Rattle.ilk_plant.specs.Start.{start}
 use Rattle.ilk_model.specs.declared.event.Event.{Event}
-use Rattle.ilk_model.specs.declared.event.Event.TheVariants.{Mark, Allocate, Lock, Sense, Release, Finish, Throw, Settle, Enter, Head, Tail, Leave}
+use Rattle.ilk_model.specs.declared.event.Event.TheVariants.{Mark, Allocate, Lock, Sense, Release, Finish, Throw, Settle, Enter, Head, Tail, Leave, Cancel}
 use Rattle.ilk_lines.specs.Lines.{Bytes, after_lines}
 use Rattle.ilk_lines.specs.Reading.{after_line, at_the_end}
 use Rattle.ilk_lines.specs.Written.{Lacks}
@@ -50,6 +50,7 @@ event_back-word (Enter x) = refl
 event_back-word (Head x) = refl
 event_back-word (Tail x) = refl
 event_back-word (Leave x) = refl
+event_back-word (Cancel r) = refl
 
 words-plain : (about : Subject) → words_lack 10 event_word (events_about about) ≡ true
 words-plain (Route r) = refl

@@ -30,7 +30,7 @@ said_of-joins kind name line text e =
 
 -- the events about something are about it
 pub all_about : (about : Subject) → Each (λ event. subject event ≡ about) (events_about about)
-all_about (Route r) = (refl, (refl, (refl, (refl, (refl, (refl, tt))))))
+all_about (Route r) = (refl, (refl, (refl, (refl, (refl, (refl, (refl, tt)))))))
 all_about (Point x) = (refl, (refl, tt))
 all_about (Section x) = (refl, (refl, (refl, (refl, tt))))
 

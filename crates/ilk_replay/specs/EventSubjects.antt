@@ -3,7 +3,7 @@ use Rattle.std.specs.Prelude.{Option, List, [], ◌∷◌}
 use Rattle.ilk_lines.specs.Lines.{Bytes}
 use Rattle.ilk_base.specs.Words.{value_of_word}
 use Rattle.ilk_model.specs.declared.event.Event.{Event}
-use Rattle.ilk_model.specs.declared.event.Event.TheVariants.{Mark, Allocate, Lock, Sense, Release, Finish, Throw, Settle, Enter, Head, Tail, Leave}
+use Rattle.ilk_model.specs.declared.event.Event.TheVariants.{Mark, Allocate, Lock, Sense, Release, Finish, Throw, Settle, Enter, Head, Tail, Leave, Cancel}
 use Rattle.ilk_model.specs.EventWords.{event_word}
 use Rattle.ilk_replay.specs.declared.event_line.Subject.{Subject}
 use Rattle.ilk_replay.specs.declared.event_line.Subject.TheVariants.{Route, Point, Section}
@@ -22,10 +22,11 @@ subject (Enter x) = Section x
 subject (Head x) = Section x
 subject (Tail x) = Section x
 subject (Leave x) = Section x
+subject (Cancel r) = Route r
 
 -- the events that are about a route, about the point on a section, and about trains at a section
 abbrev pub events_about : Subject → List Event
-events_about (Route r) = Mark r ∷ Allocate r ∷ Lock r ∷ Sense r ∷ Release r ∷ Finish r ∷ []
+events_about (Route r) = Mark r ∷ Allocate r ∷ Lock r ∷ Sense r ∷ Release r ∷ Finish r ∷ Cancel r ∷ []
 events_about (Point x) = Throw x ∷ Settle x ∷ []
 events_about (Section x) = Enter x ∷ Head x ∷ Tail x ∷ Leave x ∷ []
 

@@ -29,6 +29,7 @@ fn event_with(word: &[u8], about: Subject) -> Option<Event>
                 Event::Sense(r),
                 Event::Release(r),
                 Event::Finish(r),
+                Event::Cancel(r),
             ],
             word,
         ),

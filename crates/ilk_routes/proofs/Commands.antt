@@ -1,5 +1,5 @@
 -- Points, where some have been commanded.
-use Rattle.std.proofs.Common.{◌≡◌, ℕ, true, false, Option, Some, None, List, [], ◌∷◌, length, slice_get, set, unwrap_or, refl, ap, arith}
+use Rattle.std.proofs.Common.{◌≡◌, ℕ, true, false, Option, Some, None, List, [], ◌∷◌, ◌++◌, ◌∙◌, length, slice_get, set, sym, unwrap_or, refl, ap, arith}
 use Rattle.std.proofs.lemmas.Grind.{common_steps}
 use Rattle.std.specs.Option.{option_or}
 use Rattle.ilk_base.specs.Option.{only_if}
@@ -57,3 +57,10 @@ with_commands-after p points listed rest =
     later_first : (later first : Option Position) (to : Position) → unwrap_or later (unwrap_or first to) ≡ unwrap_or (option_or later first) to
     later_first None first to = refl
     later_first (Some position) first to = refl
+
+-- some entries first, and then others
+pub with_commands-append : (p : PlantLists) (points : List PointState) (xs ys : List Listed) → with_commands p (with_commands p points xs) ys ≡ with_commands p points (xs ++ ys)
+with_commands-append p points [] ys = ap (λ left. with_commands p left ys) (with_commands-none p points)
+with_commands-append p points (x ∷ xs) ys =
+    ap (λ left. with_commands p left ys) (sym (with_commands-after p points x xs))
+    ∙ with_commands-append p (with_commands p points (x ∷ [])) xs ys ∙ with_commands-after p points x (xs ++ ys)

@@ -22,8 +22,8 @@ junction = record {
   sections = Linear None (Some 1) None (Some 0) ∷ Point 0 2 3 Up ∷ Linear (Some 1) None (Some 1) None ∷ Linear (Some 1) None (Some 2) None ∷ [];
   boards = record { section = 0; dir = Up } ∷ record { section = 2; dir = Down } ∷ record { section = 3; dir = Down } ∷ [];
   routes =
-      record { source = 0; destination = None; path = 1 ∷ 3 ∷ []; overlap = 2 ∷ []; points = record { point = 1; at = Minus } ∷ []; conflicts = 1 ∷ [] }
-      ∷ record { source = 0; destination = None; path = 1 ∷ 2 ∷ []; overlap = []; points = record { point = 1; at = Plus } ∷ []; conflicts = 0 ∷ [] }
+      record { source = 0; destination = None; path = 1 ∷ 3 ∷ []; overlap = 2 ∷ []; points = record { point = 1; at = Minus } ∷ []; conflicts = 1 ∷ []; protecting_points = []; protecting_boards = [] }
+      ∷ record { source = 0; destination = None; path = 1 ∷ 2 ∷ []; overlap = []; points = record { point = 1; at = Plus } ∷ []; conflicts = 0 ∷ []; protecting_points = []; protecting_boards = [] }
       ∷ [];
   section_names = [];
   board_names = [];

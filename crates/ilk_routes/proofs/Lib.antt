@@ -3,3 +3,4 @@ pub mod Locks
 pub mod Commands
 pub mod Shape
 pub mod Example
+pub mod ProtectionExample

@@ -1,10 +1,11 @@
 -- Locks, where some sections have been given one.
-use Rattle.std.proofs.Common.{◌≡◌, ℕ, Bool, true, false, Some, List, [], ◌∷◌, length, slice_get, set, refl, arith, if◌then◌else◌}
+use Rattle.std.proofs.Common.{◌≡◌, ℕ, Bool, true, false, Some, List, [], ◌∷◌, ◌++◌, ◌||◌, ◌==◌, length, slice_get, set, refl, sym, ◌∙◌, ap, arith, if◌then◌else◌}
 use Rattle.std.proofs.lemmas.Grind.{common_steps}
+use Rattle.std.proofs.lemmas.List.Folds.{list_any-append}
 use Rattle.ilk_plant.specs.Network.{has_section}
 use Rattle.ilk_plant.specs.declared.state.Hold.{Hold}
 use Rattle.ilk_routes.specs.Locks.{with_locks}
-use Rattle.ilk_routes.proofs.Numbered.{length-map_numbered, map_numbered-same, map_numbered-set}
+use Rattle.ilk_routes.proofs.Numbered.{length-map_numbered, map_numbered-after, map_numbered-same, map_numbered-set}
 
 pub length-with_locks : (locks : List Hold) (xs : List ℕ) (hold : Hold) → length (with_locks locks xs hold) ≡ length locks
 length-with_locks locks xs hold = length-map_numbered _ locks
@@ -27,3 +28,17 @@ with_locks-first locks x rest hold lock at =
     other : (i : ℕ) (z : Hold) → (x ≡ i → ⊥) → (if has_section i rest then hold else z) ≡ (if has_section i (x ∷ rest) then hold else z)
     other i z apart =
         let same : has_section i (x ∷ rest) ≡ has_section i rest = grind (arith, common_steps, apart) in rw same refl
+
+-- some sections are given the lock, and then others
+pub with_locks-append : (locks : List Hold) (xs ys : List ℕ) (hold : Hold) → with_locks (with_locks locks xs hold) ys hold ≡ with_locks locks (xs ++ ys) hold
+with_locks-append locks xs ys hold =
+    map_numbered-after (λ i z. if has_section i ys then hold else z) (λ i z. if has_section i xs then hold else z) (λ i z. if has_section i (xs ++ ys) then hold else z) locks both
+  where
+    twice : (a b : Bool) (z : Hold) → (if b then hold else (if a then hold else z)) ≡ (if a || b then hold else z)
+    twice true true z = refl
+    twice true false z = refl
+    twice false b z = refl
+
+    both : (i : ℕ) (z : Hold) → (if has_section i ys then hold else (if has_section i xs then hold else z)) ≡ (if has_section i (xs ++ ys) then hold else z)
+    both i z =
+        twice (has_section i xs) (has_section i ys) z ∙ ap (λ b. if b then hold else z) (sym (list_any-append (λ y. y == i) xs ys))

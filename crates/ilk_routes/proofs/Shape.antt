@@ -15,8 +15,11 @@ use Rattle.ilk_plant.specs.declared.state.State.{State}
 use Rattle.ilk_plant.specs.declared.table.Route.{Route}
 use Rattle.ilk_routes.proofs.Commands.{length-with_commands}
 use Rattle.ilk_routes.proofs.Locks.{length-with_locks}
+use Rattle.ilk_plant.specs.TableRules.{sections_locked_for}
+use Rattle.ilk_routes.specs.Claims.{sections_beside, wanted_points}
+use Rattle.ilk_routes.specs.Locks.{with_locks}
 use Rattle.ilk_routes.specs.Points.{after_settle, after_throw}
-use Rattle.ilk_routes.specs.Routes.{after_allocate, after_finish, after_lock, after_mark, after_release, after_sense}
+use Rattle.ilk_routes.specs.Routes.{after_allocate, after_cancel, after_finish, after_lock, after_mark, after_release, after_sense}
 use Rattle.ilk_base.proofs.Lists.{slice_get_set}
 
 length-close_if : (b : Bool) (boards : List Aspect) (m : ℕ) → length (if b then set boards m Closed else boards) ≡ length boards
@@ -49,8 +52,7 @@ after_allocate-shape p s t r shape e =
     option_and_then_some _ (slice_get p.routes r) t e (λ route known e1.
     option_and_then_some _ (slice_get s.routes r) t e1 (λ now here e2.
     let done = cond_some _ _ t e2 in
-    let locks = length-with_locks _ route.overlap _ ∙ length-with_locks s.locks route.path _ in
-    subst (HasShape p) done.1 (reshaped p s r route _ s.boards _ _ shape known (shape.counts r route now known here) refl (length-with_commands p s.points route.points) locks)))
+    subst (HasShape p) done.1 (reshaped p s r route _ s.boards _ _ shape known (shape.counts r route now known here) refl (length-with_commands p s.points (wanted_points route)) (length-with_locks s.locks (sections_locked_for route) _))))
 
 pub after_lock-shape : (p : PlantLists) (s t : State) (r : ℕ) → HasShape p s → after_lock p s r ≡ Some t → HasShape p t
 after_lock-shape p s t r shape e =
@@ -83,7 +85,18 @@ after_finish-shape p s t r shape e =
     option_and_then_some _ (slice_get s.routes r) t e1 (λ now here e2.
     option_and_then_some _ (last_or None route.path) t e2 (λ x there e3.
     let done = cond_some _ _ t e3 in
-    subst (HasShape p) done.1 (reshaped p s r route _ s.boards s.points _ shape known (fits_path-from_counts route (record { mode = Free; seen = 0; rel = 0 }) (omega arith) (omega arith)) refl refl (length-with_locks _ route.overlap _ ∙ length-set s.locks x _)))))
+    subst (HasShape p) done.1 (reshaped p s r route _ s.boards s.points _ shape known (fits_path-from_counts route (record { mode = Free; seen = 0; rel = 0 }) (omega arith) (omega arith)) refl refl (length-with_locks _ (sections_beside route) _ ∙ length-set s.locks x _)))))
+
+length-give_back_if : (b : Bool) (locks : List Hold) (sections : List ℕ) (hold : Hold) → length (if b then with_locks locks sections hold else locks) ≡ length locks
+length-give_back_if true locks sections hold = length-with_locks locks sections hold
+length-give_back_if false locks sections hold = refl
+
+pub after_cancel-shape : (p : PlantLists) (s t : State) (r : ℕ) → HasShape p s → after_cancel p s r ≡ Some t → HasShape p t
+after_cancel-shape p s t r shape e =
+    option_and_then_some _ (slice_get p.routes r) t e (λ route known e1.
+    option_and_then_some _ (slice_get s.routes r) t e1 (λ now here e2.
+    let done = cond_some _ _ t e2 in
+    subst (HasShape p) done.1 (reshaped p s r route _ s.boards s.points _ shape known (shape.counts r route now known here) refl refl (length-give_back_if _ s.locks (sections_locked_for route) _))))
 
 -- the shape of a state in which one point changes
 repointed : (p : PlantLists) (s : State) (n : ℕ) (point : PointState) → HasShape p s → HasShape p (record s { points = set s.points n point })

@@ -1,14 +1,17 @@
--- The six events of routes. Each is the state that follows, where the event is enabled.
+-- The seven events of routes. Each is the state that follows, where the event is enabled.
 use Rattle.std.specs.Prelude.{ℕ, ◌+◌, Bool, Option, None, ◌==◌, ◌&&◌, ◌||◌, if◌then◌else◌, length, nat_le, slice_get, set, not}
 use Rattle.std.specs.List.{list_any, list_all, last_or}
 use Rattle.ilk_base.specs.Option.{◌>>=◌, only_if}
 use Rattle.ilk_plant.specs.Plant.{PlantLists}
+use Rattle.ilk_plant.specs.TableRules.{sections_locked_for}
 use Rattle.ilk_plant.specs.State.{has_lock, is_clear, is_occupied}
 use Rattle.ilk_plant.specs.declared.state.Aspect.TheVariants.{Open, Closed}
 use Rattle.ilk_plant.specs.declared.state.Hold.TheVariants.{Free as FreeLock, Locked as LockedLock, Used as UsedLock}
 use Rattle.ilk_plant.specs.declared.state.Mode.TheVariants.{Free, Marked, Allocating, Locked, Occupied}
 use Rattle.ilk_plant.specs.declared.state.State.{State}
 use Rattle.ilk_plant.specs.declared.table.Route.{Route}
+use Rattle.ilk_routes.specs.Boards.{has_aspect, is_protecting}
+use Rattle.ilk_routes.specs.Claims.{sections_beside, wanted_points}
 use Rattle.ilk_routes.specs.Lies.{lies_as_listed, with_commands}
 use Rattle.ilk_routes.specs.Locks.{with_locks}
 use Rattle.ilk_routes.specs.Modes.{is_claimed, same_mode}
@@ -22,31 +25,38 @@ after_mark p s r = do
     routes = set s.routes r (record now { mode = Marked });
   })
 
--- whether no conflict is Allocating or Locked, and every section of path and overlap has lock Free and is vacant
+-- whether no conflict is Allocating or Locked, and every section of path, overlap and protecting points has lock Free
+-- and is vacant
 abbrev pub can_claim : State → Route → Bool
 can_claim s route =
-    not (list_any (is_claimed s) route.conflicts)
-    && list_all (is_clear s) route.path
-    && list_all (is_clear s) route.overlap
+    not (list_any (is_claimed s) route.conflicts) && list_all (is_clear s) (sections_locked_for route)
 
--- allocate r: r is Marked and can claim its sections; r is Allocating, those locks are Locked, and its points are
--- commanded to their listed positions
+-- allocate r: r is Marked and can claim its sections; r is Allocating, those locks are Locked, and each point that it
+-- wants, listed or protecting, is commanded to its position
 abbrev pub after_allocate : PlantLists → State → ℕ → Option State
 after_allocate p s r = do
   route ← slice_get p.routes r
   now ← slice_get s.routes r
   only_if (same_mode now.mode Marked && can_claim s route) (record s {
     routes = set s.routes r (record now { mode = Allocating });
-    locks = with_locks (with_locks s.locks route.path LockedLock) route.overlap LockedLock;
-    points = with_commands p s.points route.points;
+    locks = with_locks s.locks (sections_locked_for route) LockedLock;
+    points = with_commands p s.points (wanted_points route);
   })
 
--- lock r: r is Allocating, and each listed point lies at its listed position; r is Locked, and its source is Open
+-- whether each point that the route wants, listed or protecting, lies at its position, each of its protecting boards is
+-- Closed, and no Locked route has its source among its protecting boards
+abbrev pub can_lock : PlantLists → State → Route → Bool
+can_lock p s route =
+    list_all (lies_as_listed p s) (wanted_points route)
+    && list_all (λ m. has_aspect s m Closed) route.protecting_boards
+    && not (is_protecting p s route.source)
+
+-- lock r: r is Allocating and can be locked; r is Locked, and its source is Open
 abbrev pub after_lock : PlantLists → State → ℕ → Option State
 after_lock p s r = do
   route ← slice_get p.routes r
   now ← slice_get s.routes r
-  only_if (same_mode now.mode Allocating && list_all (lies_as_listed p s) route.points) (record s {
+  only_if (same_mode now.mode Allocating && can_lock p s route) (record s {
     routes = set s.routes r (record now { mode = Locked });
     boards = set s.boards route.source Open;
   })
@@ -82,7 +92,7 @@ after_release p s r = do
       })
 
 -- finish r: r is Occupied, the whole path is seen, and all of it but its last section is released; the locks of that
--- section and of the overlap are Free, none is seen or released, and r is Free
+-- section, of the overlap and of the protecting points are Free, none is seen or released, and r is Free
 abbrev pub after_finish : PlantLists → State → ℕ → Option State
 after_finish p s r = do
   route ← slice_get p.routes r
@@ -92,5 +102,16 @@ after_finish p s r = do
       && now.seen == length route.path
       && now.rel + 1 == length route.path) (record s {
         routes = set s.routes r (record { mode = Free; seen = 0; rel = 0 });
-        locks = with_locks (set s.locks x FreeLock) route.overlap FreeLock;
+        locks = with_locks (set s.locks x FreeLock) (sections_beside route) FreeLock;
       })
+
+-- cancel r: r is Marked or Allocating; where it is Allocating, the locks of path, overlap and protecting points are Free;
+-- r is Free
+abbrev pub after_cancel : PlantLists → State → ℕ → Option State
+after_cancel p s r = do
+  route ← slice_get p.routes r
+  now ← slice_get s.routes r
+  only_if (same_mode now.mode Marked || same_mode now.mode Allocating) (record s {
+    routes = set s.routes r (record now { mode = Free });
+    locks = (if same_mode now.mode Allocating then with_locks s.locks (sections_locked_for route) FreeLock else s.locks);
+  })

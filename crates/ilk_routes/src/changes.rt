@@ -1,9 +1,11 @@
-ghost use Rattle.std.specs.Prelude.{◌≡◌, ◌<◌, [], ◌∷◌, All, length};
+ghost use Rattle.std.specs.Prelude.{◌≡◌, ◌<◌, [], ◌∷◌, All, length, map};
 ghost use Rattle.ilk_plant.specs.Plant.{point_count};
+ghost use Rattle.ilk_plant.specs.TableRules.{protecting_points_of, sections_locked_for};
+ghost use Rattle.ilk_routes.specs.Claims.{sections_beside, wanted_points};
 ghost use Rattle.ilk_routes.specs.Lies.{with_commands};
 ghost use Rattle.ilk_routes.specs.Locks.{with_locks};
 
-use ilk_plant::{Hold, Listed, Plant, PointState, Row};
+use ilk_plant::{Hold, Listed, Plant, PointState, Route, Row};
 
 /// Gives each of the sections the lock.
 pub fn give_locks(locks: &mut Row<Hold>, sections: &Row<u32>, hold: Hold)
@@ -14,6 +16,43 @@ pub fn give_locks(locks: &mut Row<Hold>, sections: &Row<u32>, hold: Hold)
     for x in sections.as_slice() {
         *locks.at_mut(*x as u64) = hold;
     }
+}
+
+// Gives each of the points' sections the lock.
+fn give_point_locks(locks: &mut Row<Hold>, points: &Row<Listed>, hold: Hold)
+    requires { All (λ listed. listed.point < length locks.old) points.now }
+    ensures long { length locks.new ≡ length locks.old }
+    ensures locks { locks.new ≡ with_locks locks.old (map (λ listed. listed.point) points.now) hold }
+{
+    for listed in points.as_slice() {
+        *locks.at_mut(listed.point as u64) = hold;
+    }
+}
+
+/// Gives the lock to each section beside the route's path: those of its overlap and of its
+/// protecting points.
+pub fn give_locks_beside(locks: &mut Row<Hold>, route: &Route, hold: Hold)
+    requires overlap { All (λ x. x < length locks.old) route.now.overlap }
+    requires protecting { All (λ listed. listed.point < length locks.old) route.now.protecting_points }
+    ensures long { length locks.new ≡ length locks.old }
+    ensures locks { locks.new ≡ with_locks locks.old (sections_beside route.now) hold }
+{
+    give_locks(locks, &route.overlap, hold);
+    give_point_locks(locks, &route.protecting_points, hold);
+}
+
+/// Gives the lock to each section of the route: those of its path, of its overlap and of its
+/// protecting points.
+pub fn give_all_locks(locks: &mut Row<Hold>, route: &Route, hold: Hold)
+    requires path { All (λ x. x < length locks.old) route.now.path }
+    requires overlap { All (λ x. x < length locks.old) route.now.overlap }
+    requires protecting { All (λ listed. listed.point < length locks.old) route.now.protecting_points }
+    ensures long { length locks.new ≡ length locks.old }
+    ensures locks { locks.new ≡ with_locks locks.old (sections_locked_for route.now) hold }
+{
+    give_locks(locks, &route.path, hold);
+    give_locks(locks, &route.overlap, hold);
+    give_point_locks(locks, &route.protecting_points, hold);
 }
 
 // Commands a listed point to its listed position.
@@ -32,9 +71,21 @@ fn command_point(plant: &Plant, points: &mut Row<PointState>, listed: &Listed)
 pub fn command(plant: &Plant, points: &mut Row<PointState>, listed_points: &Row<Listed>)
     requires known { All (λ listed. listed.point < length plant.now.sections) listed_points.now }
     requires points { length points.old ≡ point_count plant.now }
-    ensures { points.new ≡ with_commands plant.now points.old listed_points.now }
+    ensures long { length points.new ≡ length points.old }
+    ensures points { points.new ≡ with_commands plant.now points.old listed_points.now }
 {
     for listed in listed_points.as_slice() {
         command_point(plant, points, listed);
     }
+}
+
+/// Commands each point that the route wants, listed or protecting, to its position.
+pub fn command_wanted(plant: &Plant, points: &mut Row<PointState>, route: &Route)
+    requires listed { All (λ listed. listed.point < length plant.now.sections) route.now.points }
+    requires protecting { All (λ listed. listed.point < length plant.now.sections) route.now.protecting_points }
+    requires points { length points.old ≡ point_count plant.now }
+    ensures { points.new ≡ with_commands plant.now points.old (wanted_points route.now) }
+{
+    command(plant, points, &route.points);
+    command(plant, points, &route.protecting_points);
 }

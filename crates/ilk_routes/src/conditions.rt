@@ -1,14 +1,19 @@
-ghost use Rattle.std.specs.Prelude.{◌≡◌, ◌≤◌, ◌<◌, ◌-◌, IfSome, None, Some, length, slice_get};
+ghost use Rattle.std.specs.Prelude.{◌≡◌, ◌≤◌, ◌<◌, ◌-◌, ◌&&◌, ◌==◌, IfSome, None, Some, length, map, slice_get};
 ghost use Rattle.ilk_plant.specs.Plant.{IsRouteOf};
 ghost use Rattle.ilk_plant.specs.Shape.{HasShape};
 ghost use Rattle.std.specs.List.{last_or, list_any, list_all};
 ghost use Rattle.ilk_plant.specs.State.{is_clear};
+ghost use Rattle.ilk_plant.specs.declared.state.Aspect.TheVariants.{Closed};
+ghost use Rattle.ilk_plant.specs.declared.state.Mode.TheVariants.{Locked};
+ghost use Rattle.ilk_routes.specs.Boards.{has_aspect, is_protecting, protects_by};
+ghost use Rattle.ilk_plant.specs.TableRules.{protecting_points_of, sections_locked_for};
+ghost use Rattle.ilk_routes.specs.Claims.{wanted_points};
 ghost use Rattle.ilk_routes.specs.Lies.{is_moving, lie_in, lies_as_listed, lies_at};
 ghost use Rattle.ilk_routes.specs.Modes.{has_mode, is_claimed};
-ghost use Rattle.ilk_routes.specs.Routes.{can_claim};
+ghost use Rattle.ilk_routes.specs.Routes.{can_claim, can_lock};
 
 use ilk_plant::{
-    Lie, Listed, Mode, Plant, Position, Route, RouteState, Row, State, is_clear, lie_of,
+    Aspect, Lie, Listed, Mode, Plant, Position, Route, RouteState, Row, State, is_clear, lie_of,
 };
 
 /// Whether route `r` has the mode.
@@ -42,12 +47,33 @@ fn all_clear(s: &State, sections: &Row<u32>) -> bool
     sections.as_slice().iter().all(|x| is_clear(s, *x))
 }
 
-/// Whether no conflicting route is Allocating or Locked, and each section of path and overlap has
-/// lock Free and is vacant.
+// Whether each of the points' sections has lock Free and is vacant.
+fn all_points_clear(s: &State, points: &Row<Listed>) -> bool
+    ensures { result ≡ list_all (is_clear s.now) (map (λ listed. listed.point) points.now) }
+{
+    points
+        .as_slice()
+        .iter()
+        .map(|listed| listed.point)
+        .all(|x| is_clear(s, x))
+}
+
+// Whether each section of the route's path, overlap and protecting points has lock Free and is
+// vacant.
+fn all_claimed_clear(s: &State, route: &Route) -> bool
+    ensures { result ≡ list_all (is_clear s.now) (sections_locked_for route.now) }
+{
+    all_clear(s, &route.path)
+        && all_clear(s, &route.overlap)
+        && all_points_clear(s, &route.protecting_points)
+}
+
+/// Whether no conflicting route is Allocating or Locked, and each section of path, overlap and
+/// protecting points has lock Free and is vacant.
 pub fn can_claim(s: &State, route: &Route) -> bool
     ensures { result ≡ can_claim s.now route.now }
 {
-    !any_claimed(s, &route.conflicts) && all_clear(s, &route.path) && all_clear(s, &route.overlap)
+    !any_claimed(s, &route.conflicts) && all_claimed_clear(s, route)
 }
 
 /// The last of the sections.
@@ -93,14 +119,80 @@ fn lies_as_listed(plant: &Plant, s: &State, listed: &Listed) -> bool
     }
 }
 
-/// Whether each listed point lies at its listed position.
-pub fn all_lie_as_listed(plant: &Plant, s: &State, points: &Row<Listed>) -> bool
+// Whether each listed point lies at its listed position.
+fn all_lie_as_listed(plant: &Plant, s: &State, points: &Row<Listed>) -> bool
     ensures { result ≡ list_all (lies_as_listed plant.now s.now) points.now }
 {
     points
         .as_slice()
         .iter()
         .all(|listed| lies_as_listed(plant, s, listed))
+}
+
+// Whether each point that the route wants, listed or protecting, lies at its position.
+fn all_wanted_lie(plant: &Plant, s: &State, route: &Route) -> bool
+    ensures { result ≡ list_all (lies_as_listed plant.now s.now) (wanted_points route.now) }
+{
+    all_lie_as_listed(plant, s, &route.points)
+        && all_lie_as_listed(plant, s, &route.protecting_points)
+}
+
+// Whether board `m` shows the aspect.
+fn has_aspect(s: &State, m: u32, aspect: Aspect) -> bool
+    ensures { result ≡ has_aspect s.now m aspect }
+{
+    match s.boards.as_slice().get(m as usize) {
+        Some(now) => *now == aspect,
+        None => false,
+    }
+}
+
+// Whether each of the boards is Closed.
+fn all_closed(s: &State, boards: &Row<u32>) -> bool
+    ensures { result ≡ list_all (λ m. has_aspect s.now m Closed) boards.now }
+{
+    boards
+        .as_slice()
+        .iter()
+        .all(|m| has_aspect(s, *m, Aspect::Closed))
+}
+
+// Whether board `m` is one of the boards.
+fn has_board(boards: &Row<u32>, m: u32) -> bool
+    ensures { result ≡ list_any (λ k. k == m) boards.now }
+{
+    boards.as_slice().iter().any(|k| *k == m)
+}
+
+// Whether route `q` has board `m` among its protecting boards.
+fn protects_by(plant: &Plant, q: u32, m: u32) -> bool
+    ensures { result ≡ protects_by plant.now q m }
+{
+    q < plant.routes() && has_board(&plant.route(q).protecting_boards, m)
+}
+
+// Whether route `q` is Locked and has board `m` among its protecting boards.
+fn is_locked_by(plant: &Plant, s: &State, q: u32, m: u32) -> bool
+    ensures { result ≡ (has_mode s.now q Locked && protects_by plant.now q m) }
+{
+    has_mode(s, q, Mode::Locked) && protects_by(plant, q, m)
+}
+
+// Whether some Locked route has board `m` among its protecting boards.
+fn is_protecting(plant: &Plant, s: &State, m: u32) -> bool
+    ensures { result ≡ is_protecting plant.now s.now m }
+{
+    (0..plant.routes()).any(|q| is_locked_by(plant, s, q, m))
+}
+
+/// Whether each point that the route wants, listed or protecting, lies at its position, each of its
+/// protecting boards is Closed, and no Locked route has its source among its protecting boards.
+pub fn can_lock(plant: &Plant, s: &State, route: &Route) -> bool
+    ensures { result ≡ can_lock plant.now s.now route.now }
+{
+    all_wanted_lie(plant, s, route)
+        && all_closed(s, &route.protecting_boards)
+        && !is_protecting(plant, s, route.source)
 }
 
 /// Route `r` with its state, whose counts are at most the length of its path.

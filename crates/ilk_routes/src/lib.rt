@@ -1,5 +1,5 @@
-//! The events of routes and points: marking, allocation, locking, use and sequential release of
-//! routes, and the moves of points.
+//! The events of routes and points: marking, allocation, locking, use, sequential release
+//! and cancelling of routes, and the moves of points.
 //!
 //! The rules are those of an interlocking with sequential release, as in Vu, Haxthausen and Peleska,
 //! "Formal modelling and verification of interlocking systems featuring sequential release",
@@ -16,4 +16,6 @@ mod points;
 mod routes;
 
 pub use points::{step_settle, step_throw};
-pub use routes::{step_allocate, step_finish, step_lock, step_mark, step_release, step_sense};
+pub use routes::{
+    step_allocate, step_cancel, step_finish, step_lock, step_mark, step_release, step_sense,
+};

@@ -1,9 +1,9 @@
 ghost use Rattle.std.specs.Prelude.{◌≡◌, is_some, unwrap_or};
 ghost use Rattle.ilk_plant.specs.Shape.{HasShape};
-ghost use Rattle.ilk_routes.specs.Routes.{after_allocate, after_finish, after_lock, after_mark, after_release, after_sense};
+ghost use Rattle.ilk_routes.specs.Routes.{after_allocate, after_cancel, after_finish, after_lock, after_mark, after_release, after_sense};
 
-use crate::changes::{command, give_locks};
-use crate::conditions::{all_lie_as_listed, can_claim, last_of, route_now};
+use crate::changes::{command_wanted, give_all_locks, give_locks_beside};
+use crate::conditions::{can_claim, can_lock, last_of, route_now};
 use ilk_plant::{Aspect, Hold, Mode, Plant, RouteState, State, has_lock, occupied};
 
 // Marks route `r`, where that is enabled.
@@ -33,9 +33,8 @@ fn allocate(plant: &Plant, s: &mut State, r: u32) -> bool
         return false;
     }
     s.routes.at_mut(r as u64).mode = Mode::Allocating;
-    give_locks(&mut s.locks, &route.path, Hold::Locked);
-    give_locks(&mut s.locks, &route.overlap, Hold::Locked);
-    command(plant, &mut s.points, &route.points);
+    give_all_locks(&mut s.locks, route, Hold::Locked);
+    command_wanted(plant, &mut s.points, route);
     true
 }
 
@@ -50,7 +49,7 @@ fn lock(plant: &Plant, s: &mut State, r: u32) -> bool
     }
     let route = plant.route(r);
     let mode = s.routes.at(r as u64).mode;
-    if mode != Mode::Allocating || !all_lie_as_listed(plant, s, &route.points) {
+    if mode != Mode::Allocating || !can_lock(plant, s, route) {
         return false;
     }
     s.routes.at_mut(r as u64).mode = Mode::Locked;
@@ -125,12 +124,32 @@ fn finish(plant: &Plant, s: &mut State, r: u32) -> bool
     }
     let last = last_of(&route.path);
     *s.locks.at_mut(last as u64) = Hold::Free;
-    give_locks(&mut s.locks, &route.overlap, Hold::Free);
+    give_locks_beside(&mut s.locks, route, Hold::Free);
     *s.routes.at_mut(r as u64) = RouteState {
         mode: Mode::Free,
         seen: 0,
         rel: 0,
     };
+    true
+}
+
+// Cancels route `r`, where that is enabled.
+fn cancel(plant: &Plant, s: &mut State, r: u32) -> bool
+    requires { HasShape plant.now s.old }
+    ensures answer { result ≡ is_some (after_cancel plant.now s.old r) }
+    ensures next { s.new ≡ unwrap_or (after_cancel plant.now s.old r) s.old }
+{
+    if r >= plant.routes() {
+        return false;
+    }
+    let mode = s.routes.at(r as u64).mode;
+    if mode != Mode::Marked && mode != Mode::Allocating {
+        return false;
+    }
+    if mode == Mode::Allocating {
+        give_all_locks(&mut s.locks, plant.route(r), Hold::Free);
+    }
+    s.routes.at_mut(r as u64).mode = Mode::Free;
     true
 }
 
@@ -147,12 +166,12 @@ pub fn step_mark(plant: &Plant, s: &mut State, r: u32) -> bool
     mark(plant, s, r)
 }
 
-/// Allocates route `r`: it becomes Allocating, the locks of its path and overlap become Locked, and
-/// each of its listed points is commanded to its listed position.
+/// Allocates route `r`: it becomes Allocating, the locks of its path, overlap and protecting points
+/// become Locked, and each of its listed and protecting points is commanded to its position.
 ///
 /// True exactly where that is enabled: `r` is a route, and Marked, no route that it lists as a
-/// conflict is Allocating or Locked, and every section of its path and overlap has lock Free and is
-/// vacant. Otherwise false, and `s` is unchanged.
+/// conflict is Allocating or Locked, and every section of its path, overlap and protecting points
+/// has lock Free and is vacant. Otherwise false, and `s` is unchanged.
 pub fn step_allocate(plant: &Plant, s: &mut State, r: u32) -> bool
     requires { HasShape plant.now s.old }
     ensures answer { result ≡ is_some (after_allocate plant.now s.old r) }
@@ -164,8 +183,9 @@ pub fn step_allocate(plant: &Plant, s: &mut State, r: u32) -> bool
 
 /// Locks route `r`: it becomes Locked, and its source board opens.
 ///
-/// True exactly where that is enabled: `r` is a route, and Allocating, and each of its listed points
-/// lies at its listed position. Otherwise false, and `s` is unchanged.
+/// True exactly where that is enabled: `r` is a route, and Allocating, each of its listed and
+/// protecting points lies at its position, each of its protecting boards is Closed, and no Locked
+/// route has its source among its protecting boards. Otherwise false, and `s` is unchanged.
 pub fn step_lock(plant: &Plant, s: &mut State, r: u32) -> bool
     requires { HasShape plant.now s.old }
     ensures answer { result ≡ is_some (after_lock plant.now s.old r) }
@@ -206,8 +226,8 @@ pub fn step_release(plant: &Plant, s: &mut State, r: u32) -> bool
     release(plant, s, r)
 }
 
-/// Finishes route `r`: the locks of its last path section and of its overlap become Free, `seen` and
-/// `rel` become 0, and the route becomes Free.
+/// Finishes route `r`: the locks of its last path section, of its overlap and of its protecting
+/// points become Free, `seen` and `rel` become 0, and the route becomes Free.
 ///
 /// True exactly where that is enabled: `r` is a route, and Occupied, and both `seen` and `rel + 1`
 /// are the length of its path. Otherwise false, and `s` is unchanged.
@@ -218,4 +238,18 @@ pub fn step_finish(plant: &Plant, s: &mut State, r: u32) -> bool
     ensures shape { HasShape plant.now s.new }
 {
     finish(plant, s, r)
+}
+
+/// Cancels route `r`: it becomes Free, and where it was Allocating, the locks of its path, overlap
+/// and protecting points become Free. Where its points are commanded stays as it is.
+///
+/// True exactly where that is enabled: `r` is a route, and Marked or Allocating. Otherwise false,
+/// and `s` is unchanged.
+pub fn step_cancel(plant: &Plant, s: &mut State, r: u32) -> bool
+    requires { HasShape plant.now s.old }
+    ensures answer { result ≡ is_some (after_cancel plant.now s.old r) }
+    ensures next { s.new ≡ unwrap_or (after_cancel plant.now s.old r) s.old }
+    ensures shape { HasShape plant.now s.new }
+{
+    cancel(plant, s, r)
 }

@@ -9,3 +9,9 @@ pub mod Added
 pub mod Satisfied
 pub mod Logs
 pub mod Asserted
+pub mod SetVariables
+pub mod Learning
+pub mod LogsGrow
+pub mod Measure
+pub mod Covering
+pub mod Leading

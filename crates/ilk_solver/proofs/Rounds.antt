@@ -2,7 +2,7 @@
 use Rattle.std.proofs.Common.{◌≡◌, ◌+◌, ◌≤◌, ℕ, true, inl, inr, List, [], ◌∷◌, ◌++◌, length, take, Some, refl, sym, ap, ◌∙◌, subst, arith, length-append}
 use Rattle.std.specs.Prelude.{IsSomeAnd}
 use Rattle.std.specs.List.{slice_get}
-use Rattle.std.proofs.lemmas.List.{take-append-le, length-take, length-map}
+use Rattle.std.proofs.lemmas.List.{take-append-le, length-take}
 use Rattle.std.proofs.lemmas.Option.{slice_get_within}
 use Rattle.std.proofs.Math.Seq.{take-length, take-append_seam}
 use Rattle.ilk_base.proofs.Lists.{slice_get-push_cases}
@@ -11,10 +11,8 @@ use Rattle.ilk_trail.specs.declared.entry.Entry.{Entry}
 use Rattle.ilk_trail.specs.Trail.{assigned, level_of}
 use Rattle.ilk_trail.specs.Laws.{lits_of}
 use Rattle.ilk_trail.proofs.Levels.{last_level-push}
-use Rattle.ilk_trail.proofs.Literals.{count_of_vars}
 use Rattle.ilk_clauses.specs.Reasons.{is_reason}
 use Rattle.ilk_solver.specs.Propagated.{IsPropagated}
-use Rattle.ilk_solver.specs.View.{ViewLists, IsView}
 
 pub propagated-start : (cs : List (List Literal)) (es : List Entry) → IsPropagated cs es es
 propagated-start cs es = record {
@@ -50,14 +48,6 @@ propagated-push cs old new l c p r =
             subst P (sym all) (subst Q q.1 r))
       ];
     }
-
--- a view has at most one entry for each variable
-pub few-entries : (view : ViewLists) → IsView view → length view.trail.entries ≤ view.trail.vars + 1
-few-entries view k =
-    let t = k.trail in
-    let m = count_of_vars view.trail.vars (lits_of view.trail.entries) t.within t.once in
-    let n : length (lits_of view.trail.entries) ≡ length view.trail.entries = simp length-map in
-    omega (arith, m, n)
 
 pub entries-push : (es : List Entry) (l : Literal) (c : ℕ) → length (assigned es l c) ≡ length es + 1
 entries-push es l c = simp length-append

@@ -1,13 +1,16 @@
 -- Where every variable is set and no clause is false, the values satisfy the clauses.
-use Rattle.std.proofs.Common.{◌≡◌, ◌+◌, ◌<◌, ◌≤◌, ◌&&◌, ℕ, Bool, true, false, not, zero, suc, inl, inr, List, [], ◌∷◌, Option, Some, None, refl, sym, ap, ◌∙◌, arith}
+use Rattle.std.proofs.Common.{◌≡◌, ◌+◌, ◌<◌, ◌≤◌, ◌&&◌, ℕ, Bool, true, false, not, zero, suc, inl, inr, List, [], ◌∷◌, take, drop, Option, Some, None, refl, sym, ap, ◌∙◌, arith}
 use Rattle.std.specs.Prelude.{unwrap_or, is_none}
 use Rattle.std.specs.Bool.{beq}
+use Rattle.std.specs.List.{list_all}
 use Rattle.std.proofs.lemmas.Bool.{and_parts, and_from, cases_Bool, not-true, or_left, or_right, true≢false}
 use Rattle.std.proofs.lemmas.Bool.Decides.{eqb_tells}
-use Rattle.std.proofs.lemmas.List.FromFn.{get_or-map-range_with_len}
+use Rattle.std.proofs.lemmas.List.{take-append-drop}
+use Rattle.std.proofs.lemmas.List.Folds.{list_all-append}
+use Rattle.std.proofs.lemmas.List.FromFn.{get_or-map-range_with_len, length-map-range_with_len}
 use Rattle.ilk_base.specs.Option.{is_some_and}
 use Rattle.ilk_cnf.specs.Literal.{Literal, plus, vars_differ}
-use Rattle.ilk_cnf.specs.Formula.{clause_in, clauses_in, lit_in}
+use Rattle.ilk_cnf.specs.Formula.{Formula, IsFormula, clause_in, clauses_in, lit_in}
 use Rattle.ilk_cnf.specs.Truth.{is_true, some_true, satisfies, value}
 use Rattle.ilk_log.specs.Propagation.{is_closed, is_false, is_falsified, unit_of}
 use Rattle.ilk_trail.specs.declared.entry.Entry.{Entry}
@@ -15,8 +18,9 @@ use Rattle.ilk_trail.specs.Trail.{value_of_literal}
 use Rattle.ilk_trail.specs.Laws.{lits_of}
 use Rattle.ilk_trail.proofs.Literals.{lit_in-parts}
 use Rattle.ilk_clauses.proofs.Values.{value-none, value-tells}
-use Rattle.ilk_solver.specs.View.{ViewLists}
+use Rattle.ilk_solver.specs.View.{ViewLists, IsView}
 use Rattle.ilk_solver.specs.Assigned.{assignment_of, AllSet}
+use Rattle.ilk_solver.specs.Answered.{IsSolution}
 
 -- the value of a variable whose literal is true
 value-plus : (es : List Entry) (l : Literal) → value_of_literal es l ≡ Some true → value_of_literal es (plus l.var) ≡ Some l.positive
@@ -77,3 +81,18 @@ satisfied view (c ∷ cs) d s h k =
     let q = and_parts (not (is_falsified set c) && is_none (unit_of set c)) (is_closed cs set) k in
     let open_clause = not-true (is_falsified set c) (and_parts (not (is_falsified set c)) (is_none (unit_of set c)) q.0).0 in
     and_from (some_true (assignment_of view) c) (satisfies (assignment_of view) cs) (true-clause view c d s p.0 open_clause) (satisfied view cs d s p.1 q.1)
+
+-- so they are a solution of the first of the clauses
+pub solution : (f : Formula) (n : ℕ) (view : ViewLists) → IsFormula f → IsView view → view.trail.vars ≡ f.vars → AllSet view → is_closed f.clauses (lits_of view.trail.entries) ≡ true → IsSolution (record { vars = f.vars; clauses = take n f.clauses }) (assignment_of view)
+solution f n view k w same s h =
+    let es = view.trail.entries in
+    let g : ℕ → Bool = λ v. unwrap_or (value_of_literal es (plus (v + 1))) false in
+    let inside : clauses_in view.trail.vars f.clauses ≡ true = ap (λ (m : ℕ). clauses_in m f.clauses) same ∙ k.within in
+    let all = satisfied view f.clauses w.trail.once s inside h in
+    record {
+      values = length-map-range_with_len g 0 view.trail.vars ∙ same;
+      satisfies = front (some_true (assignment_of view)) n f.clauses all;
+    }
+  where
+    front : (test : List Literal → Bool) (n : ℕ) (cs : List (List Literal)) → list_all test cs ≡ true → list_all test (take n cs) ≡ true
+    front test n cs h = (and_parts (list_all test (take n cs)) (list_all test (drop n cs)) (sym (list_all-append test (take n cs) (drop n cs)) ∙ ap (list_all test) (take-append-drop n cs) ∙ h)).0

@@ -5,4 +5,7 @@ pub mod Levels
 pub mod Search
 pub mod Held
 pub mod Assigned
+pub mod Learned
 pub mod Answered
+pub mod Heaviest
+pub mod Heavier

@@ -1,16 +1,22 @@
 //! The search for an assignment that satisfies a formula.
 //!
-//! A `Solver` is made by `new` of a formula, a `Picker` and a `Restart`, and `propagate` sets what the
-//! clauses force. It has its clauses by number, the steps so far, and a `View`: the trail and the
-//! weights of the variables. The view is what a `Picker` is shown when the next decision is due; a
-//! `Restart` is asked after each learned clause whether the search goes back to its start.
+//! A `Solver` is made by `new` of a formula, a `Picker` and a `Restart`, and `solve` takes it to an
+//! `Outcome`: an answer, and the log of the clauses that were learned on the way. `specs/Answered` says
+//! what each answer means, and what every log has. `propagate` alone sets what the clauses force.
+//!
+//! A search has its clauses by number, the steps so far, and a `View`: the trail and the weights of the
+//! variables. The view is what a `Picker` is shown when the next decision is due; a `Restart` is asked
+//! after each learned clause whether the search goes back to its start.
 //!
 //! `specs/Search` says what a search keeps between two calls: each forced entry has its reason, each
-//! level below the current one is closed (`specs/Levels`), and the weights count the steps.
+//! level below the current one is closed (`specs/Levels`), and the weights count the steps. That is why
+//! a learned clause is fresh, and why at most 3^n - 1 of them can be learned over n variables.
 //! `specs/Propagated` says what propagation adds. It scans all clauses; only `propagation` knows that.
 #![tactic(auto)]
 
+mod answer;
 mod assigned;
+mod heavier;
 mod picker;
 mod propagation;
 mod restart;
@@ -18,6 +24,7 @@ mod search;
 mod solver;
 mod view;
 
+pub use answer::{Answer, Outcome};
 pub use picker::Picker;
 pub use restart::Restart;
 pub use solver::Solver;

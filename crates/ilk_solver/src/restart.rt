@@ -1,4 +1,4 @@
-ghost use Rattle.std.specs.Prelude.{◌≡◌};
+ghost use Rattle.std.specs.Prelude.{◌≡◌, ◌≤◌};
 
 /// When a search goes back to its start: a function of the number of steps so far that have a
 /// literal. It is asked after each of them.
@@ -17,8 +17,15 @@ impl Restart {
         Restart { asks }
     }
 
+    // The level to go back to after so many steps: the start where a restart is due, and else `level`.
+    pub(crate) fn level_after(&self, steps: u64, level: u64) -> u64
+        ensures { result ≤ level }
+    {
+        if self.is_due(steps) { 0 } else { level }
+    }
+
     // Whether the search is to go back to its start after so many steps.
-    pub(crate) fn is_due(&self, steps: u64) -> bool
+    fn is_due(&self, steps: u64) -> bool
         ensures { post self.now.asks steps result }
     {
         (self.asks)(steps)

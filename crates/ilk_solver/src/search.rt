@@ -1,18 +1,25 @@
-ghost use Rattle.std.specs.Prelude.{◌≡◌, ◌≤◌, [], ◌∷◌, false, IfNone, IfOk, IfSome, IsTrue};
+ghost use Rattle.std.specs.Prelude.{◌≡◌, ◌≤◌, ◌<◌, ◌+◌, [], ◌∷◌, false, true, IfNone, IfOk, IfSome, IsTrue};
 ghost use Rattle.ilk_clauses.specs.Reasons.{is_conflict};
 ghost use Rattle.ilk_cnf.specs.Formula.{clause_in, lit_in};
 ghost use Rattle.ilk_cnf.specs.Literal.{vars_differ};
+ghost use Rattle.ilk_log.specs.Derived.{is_derived};
 ghost use Rattle.ilk_log.specs.Propagation.{is_closed};
 ghost use Rattle.ilk_trail.specs.Trail.{decided, level_of, up_to};
-ghost use Rattle.ilk_trail.specs.Laws.{is_set, lits_of};
+ghost use Rattle.ilk_trail.specs.Laws.{IsTrail, is_set, lits_of};
 ghost use Rattle.ilk_solver.specs.Propagated.{IsPropagated};
 ghost use Rattle.ilk_solver.specs.Search.{IsAdded, IsSearch, all_clauses, new_search, with_trail};
+ghost use Rattle.ilk_solver.specs.View.{IsView};
 ghost use Rattle.ilk_solver.specs.Levels.{LevelsClosed};
+ghost use Rattle.ilk_solver.specs.Assigned.{AllSet, SomeUnset};
+ghost use Rattle.ilk_solver.specs.Learned.{IsLearned, IsLonger};
+ghost use Rattle.ilk_solver.specs.Answered.{IsSolution};
 
+use crate::assigned::assignment;
 use crate::propagation::propagate;
 use crate::view::View;
 use ilk_clauses::Clauses;
-use ilk_cnf::{Cnf, Lit};
+use ilk_cnf::{Assignment, Cnf, Lit};
+use ilk_learn::{Learned, learn, refute};
 use ilk_log::{Log, Step};
 use std::alloc::{AllocError, Global};
 use std::marker::Model;
@@ -58,7 +65,9 @@ impl Search {
     pub fn view(&self) -> &View
         ensures view { result.now ≡ self.now.view }
         ensures search { IsSearch self.now }
+        ensures lists { IsView self.now.view }
     {
+        let _ = self.view.vars();
         &self.view
     }
 
@@ -118,6 +127,76 @@ impl Search {
             log,
             view,
         })
+    }
+
+    // Whether every variable has a value.
+    pub fn is_complete(&self) -> bool
+        ensures yes { result ≡ true → AllSet self.now.view }
+        ensures no { result ≡ false → SomeUnset self.now.view }
+    {
+        self.view.is_complete()
+    }
+
+    // The current level.
+    pub fn level(&self) -> u64
+        ensures level { result ≡ level_of self.now.view.trail.entries }
+        ensures few { result ≤ self.now.formula.vars }
+        ensures trail { IsTrail self.now.view.trail }
+    {
+        let _ = self.view.vars();
+        self.view.trail().level()
+    }
+
+    // The assignment that the trail tells, where every variable has a value and propagation is at its
+    // end.
+    pub fn assignment(&self, alloc: Global) -> Result<Assignment, AllocError>
+        requires set { AllSet self.now.view }
+        requires closed { IsTrue (is_closed (all_clauses self.now) (lits_of self.now.view.trail.entries)) }
+        ensures { IfOk result (λ a. IsSolution self.now.formula a) }
+    {
+        let _ = self.view.vars();
+        let _ = self.clauses.count();
+        assignment(alloc, &self.view)
+    }
+
+    // What clause `conflict` teaches, whose literals are all false above level 0.
+    pub fn learn(&self, alloc: Global, conflict: u64) -> Result<Learned, AllocError>
+        requires conflict { IsTrue (is_conflict (all_clauses self.now) (lits_of self.now.view.trail.entries) conflict) }
+        requires level { 0 < level_of self.now.view.trail.entries }
+        ensures { IfOk result (λ l. IsLearned self.now l.step l.level) }
+    {
+        let _ = self.view.vars();
+        learn(alloc, &self.clauses, self.view.trail(), conflict)
+    }
+
+    // The empty clause, where all literals of clause `conflict` are false at level 0.
+    pub fn refute(&self, alloc: Global, conflict: u64) -> Result<Step, AllocError>
+        requires conflict { IsTrue (is_conflict (all_clauses self.now) (lits_of self.now.view.trail.entries) conflict) }
+        requires level { level_of self.now.view.trail.entries ≡ 0 }
+        ensures derived { IfOk result (λ s. IsTrue (is_derived self.now.formula.vars (all_clauses self.now) s)) }
+        ensures empty { IfOk result (λ s. s.clause ≡ []) }
+    {
+        let _ = self.view.vars();
+        refute(alloc, &self.clauses, self.view.trail(), conflict)
+    }
+
+    // Goes back to `level`, where the clause that was learned is open still, and adds it.
+    pub fn take_up(mut self, learned: Learned, level: u64) -> Result<Search, AllocError>
+        requires learned { IsLearned self learned.step learned.level }
+        requires level { level ≤ learned.level }
+        ensures { IfOk result (λ s. IsLonger self learned.step s) }
+    {
+        let _ = self.level();
+        self.back_to(level);
+        self.add(learned.step)
+    }
+
+    // The steps.
+    pub fn into_log(self) -> Log
+        ensures { result ≡ self.log }
+    {
+        let Search { log, .. } = self;
+        log
     }
 }
 

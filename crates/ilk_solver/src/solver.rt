@@ -1,22 +1,25 @@
-ghost use Rattle.std.specs.Prelude.{◌≡◌, IfNone, IfOk, IfSome, IsTrue};
+ghost use Rattle.std.specs.Prelude.{◌≡◌, [], IfNone, IfOk, IfSome, IsTrue};
 ghost use Rattle.ilk_clauses.specs.Reasons.{is_conflict};
 ghost use Rattle.ilk_log.specs.Propagation.{is_closed};
 ghost use Rattle.ilk_trail.specs.Laws.{lits_of};
+ghost use Rattle.ilk_solver.specs.Answered.{IsAnswer, IsLog};
 ghost use Rattle.ilk_solver.specs.Propagated.{IsPropagated};
 ghost use Rattle.ilk_solver.specs.Search.{all_clauses, new_search, with_trail};
 
+use crate::answer::{Answer, Outcome};
 use crate::picker::Picker;
 use crate::restart::Restart;
 use crate::search::Search;
 use ilk_cnf::Cnf;
 use std::alloc::{AllocError, Global};
 
-/// A search, with what chooses its decisions and its restarts.
+/// A search that has no step yet, with what chooses its decisions and its restarts.
 #[derive(Drop)]
 pub struct Solver {
     search: Search,
     picker: Picker,
     restart: Restart,
+    ghost unstarted: { search.log ≡ [] },
 }
 
 impl Solver {
@@ -41,9 +44,64 @@ impl Solver {
     pub fn propagate(&mut self) -> Option<u64>
         ensures conflict { IfSome result (λ c. IsTrue (is_conflict (all_clauses self.old.search) (lits_of self.new.search.view.trail.entries) c)) }
         ensures closed { IfNone result (IsTrue (is_closed (all_clauses self.old.search) (lits_of self.new.search.view.trail.entries))) }
-        ensures same { self.new ≡ record self.old { search = with_trail self.old.search self.new.search.view.trail.entries } }
+        ensures search { self.new.search ≡ with_trail self.old.search self.new.search.view.trail.entries }
+        ensures picker { self.new.picker ≡ self.old.picker }
+        ensures restart { self.new.restart ≡ self.old.restart }
         ensures propagated { IsPropagated (all_clauses self.old.search) self.old.search.view.trail.entries self.new.search.view.trail.entries }
     {
         self.search.propagate()
+    }
+
+    /// Searches for an assignment that satisfies the formula, over at most `budget` steps that have a
+    /// literal. Each step is the clause that a conflict teaches. Over n variables a budget of 3^n
+    /// always suffices.
+    ///
+    /// After each such step the restart is asked, with the number of them so far, whether the search
+    /// goes back to its start.
+    pub fn solve(self, alloc: Global, budget: u64) -> Result<Outcome, AllocError>
+        ensures log { IfOk result (λ o. IsLog self.search.formula budget o.log) }
+        ensures answer { IfOk result (λ o. IsAnswer self.search.formula budget o.answer o.log) }
+    {
+        let Solver {
+            mut search,
+            picker,
+            restart,
+        } = self;
+        let mut steps = 0;
+        'rounds: loop {
+            match search.propagate() {
+                None => {
+                    if search.is_complete() {
+                        let assignment = search.assignment(alloc)?;
+                        return Ok(Outcome {
+                            answer: Answer::Sat(assignment),
+                            log: search.into_log(),
+                        });
+                    }
+                    search.decide(picker.pick(search.view()));
+                }
+                Some(conflict) => {
+                    if search.level() == 0 {
+                        let last = search.refute(alloc, conflict)?;
+                        let mut log = search.into_log();
+                        log.push(last)?;
+                        return Ok(Outcome {
+                            answer: Answer::Unsat,
+                            log,
+                        });
+                    }
+                    let learned = search.learn(alloc, conflict)?;
+                    if steps == budget {
+                        return Ok(Outcome {
+                            answer: Answer::Spent,
+                            log: search.into_log(),
+                        });
+                    }
+                    steps += 1;
+                    let level = restart.level_after(steps, learned.level);
+                    search = search.take_up(learned, level)?;
+                }
+            }
+        }
     }
 }

@@ -1,10 +1,13 @@
-ghost use Rattle.std.specs.Prelude.{◌≡◌, ◌≤◌, ◌<◌, ◌+◌, ◌^◌, ◌-◌, ℕ, [], false, length, not, replicate, slice_index, if◌then◌else◌, IfOk, IsTrue};
+ghost use Rattle.std.specs.Prelude.{◌≡◌, ◌≤◌, ◌<◌, ◌+◌, ◌^◌, ◌-◌, ℕ, [], false, true, length, not, replicate, slice_index, if◌then◌else◌, IfNone, IfOk, IfSome, IsTrue};
 ghost use Rattle.ilk_cnf.specs.Formula.{clause_in, lit_in};
 ghost use Rattle.ilk_cnf.specs.Literal.{has_var, vars_differ};
 ghost use Rattle.ilk_trail.specs.Trail.{assigned, decided, level_of, up_to, value_of_literal};
 ghost use Rattle.ilk_trail.specs.Laws.{is_set};
+ghost use Rattle.ilk_solver.specs.Assigned.{AllSet, SomeUnset};
+ghost use Rattle.ilk_solver.specs.Heaviest.{IsHeaviest};
 ghost use Rattle.ilk_solver.specs.View.{IsView, weight_of, with_entries};
 
+use crate::heavier::heavier;
 use ilk_cnf::Lit;
 use ilk_trail::Trail;
 use std::alloc::{AllocError, Global};
@@ -19,6 +22,7 @@ pub struct View {
 }
 
 impl Model for View {
+    ghost use Rattle.ilk_solver.specs.Heaviest.{IsHeaviest};
     ghost use Rattle.ilk_solver.specs.View.{IsView, ViewLists};
 
     ghost Value = { ViewLists };
@@ -71,11 +75,47 @@ impl View {
         self.weights[v as usize - 1]
     }
 
+    /// The unset variable of the greatest weight, the least one at a tie; `None` where every variable
+    /// has a value.
+    pub fn heaviest(&self) -> Option<u64>
+        ensures some { IfSome result (λ v. IsHeaviest self.now v) }
+        ensures none { IfNone result (AllSet self.now) }
+    {
+        match self.heaviest_by_scan() {
+            0 => None,
+            v => Some(v),
+        }
+    }
+
+    // The same by a look at each variable, where 0 stands for none.
+    fn heaviest_by_scan(&self) -> u64
+        ensures some { 0 < result → IsHeaviest self.now result }
+        ensures none { result ≡ 0 → AllSet self.now }
+    {
+        let _ = self.vars();
+        let mut best = 0;
+        for v in 0..self.vars() {
+            if self.unset(v + 1) {
+                best = heavier(self.weights.as_slice(), best, v + 1);
+            }
+        }
+        best
+    }
+
     // The trail.
     pub(crate) fn trail(&self) -> &Trail
         ensures { result.now ≡ self.now.trail }
     {
         &self.trail
+    }
+
+    // Whether every variable has a value.
+    pub(crate) fn is_complete(&self) -> bool
+        ensures yes { result ≡ true → AllSet self.now }
+        ensures no { result ≡ false → SomeUnset self.now }
+    {
+        let _ = self.vars();
+        self.trail.count() == self.vars()
     }
 
     // Adds `l` at the current level, forced by clause `reason`.

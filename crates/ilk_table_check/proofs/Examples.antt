@@ -7,7 +7,7 @@ use Rattle.ilk_plant.specs.Name.{Name}
 use Rattle.ilk_plant.specs.TableRules.{table_rules_broken}
 use Rattle.ilk_plant.specs.declared.broken.Broken.{Broken}
 use Rattle.ilk_plant.specs.declared.broken.Rule.{Rule}
-use Rattle.ilk_plant.specs.declared.broken.Rule.TheVariants.{R1, R2, R3, R4, R5, R6, C3, C5, C6, C7}
+use Rattle.ilk_plant.specs.declared.broken.Rule.TheVariants.{R1, R2, R3, R4, R5, R6, R7, R8, C3, C5, C6, C7, C8}
 use Rattle.ilk_plant.specs.declared.draft.KindDraft.TheVariants.{Linear, Point}
 use Rattle.ilk_plant.specs.declared.draft.ListedDraft.{ListedDraft}
 use Rattle.ilk_plant.specs.declared.draft.NetDraft.{NetDraft}
@@ -29,6 +29,8 @@ route name source destination path points conflicts = record {
   overlap = [];
   points = points;
   conflicts = conflicts;
+  protecting_points = [];
+  protecting_boards = [];
 }
 
 at : Rule → ℕ → Broken
@@ -88,6 +90,14 @@ station_table points conflicts = record {
 first_conflicts : List Name
 first_conflicts = codes "r2" ∷ codes "r5" ∷ codes "r7" ∷ codes "r8" ∷ []
 
+-- the routes of the station, the first with these protecting points and boards
+protected_table : List ListedDraft → List Name → TableDraft
+protected_table points boards = record { routes = protect (station_table (plus (codes "p1")) first_conflicts).routes }
+  where
+    protect : List RouteDraft → List RouteDraft
+    protect [] = []
+    protect (r ∷ rest) = record r { protecting_points = points; protecting_boards = boards } ∷ rest
+
 -- the line breaks no rule
 line-table : table_rules_broken line line_table ≡ []
 unfolding line line_table linear route
@@ -134,6 +144,26 @@ station-conflicts = refl
 station-points : table_rules_broken station (station_table (plus (codes "t1")) first_conflicts) ++ table_rules_broken station (station_table (plus (codes "p2")) first_conflicts) ++ table_rules_broken station (station_table (plus (codes "p1") ++ minus (codes "p1")) first_conflicts) ≡ at R4 0 ∷ at R4 0 ∷ at R4 0 ∷ []
 unfolding station station_table linear route plus minus first_conflicts at
 station-points = refl
+
+-- a protecting point of the path, one that is no point section, and one twice
+station-protecting_points : table_rules_broken station (protected_table (plus (codes "p1")) []) ++ table_rules_broken station (protected_table (plus (codes "t1")) []) ++ table_rules_broken station (protected_table (minus (codes "p2") ++ minus (codes "p2")) []) ≡ at R7 0 ∷ at R7 0 ∷ at R7 0 ∷ []
+unfolding station station_table protected_table linear route plus minus first_conflicts at
+station-protecting_points = refl
+
+-- a protecting board that is the source, one that is not there, and one twice
+station-protecting_boards : table_rules_broken station (protected_table [] (codes "m1" ∷ [])) ++ table_rules_broken station (protected_table [] (codes "m9" ∷ [])) ++ table_rules_broken station (protected_table [] (codes "m3" ∷ codes "m3" ∷ [])) ≡ at R8 0 ∷ at R8 0 ∷ at R8 0 ∷ []
+unfolding station station_table protected_table linear route plus minus first_conflicts at
+station-protecting_boards = refl
+
+-- a route that shares its protecting point with routes that it doesn't list
+station-shared_point : column_rules_broken (numbered station (protected_table (minus (codes "p2")) [])) ≡ at_pair C6 0 2 ∷ at_pair C6 0 3 ∷ at_pair C6 0 5 ∷ []
+unfolding station station_table protected_table linear route plus minus first_conflicts at_pair
+station-shared_point = refl
+
+-- a route whose protecting board is the source of a route that it doesn't list
+station-closed_board : column_rules_broken (numbered station (protected_table [] (codes "m3" ∷ []))) ≡ at_pair C8 0 2 ∷ []
+unfolding station station_table protected_table linear route plus minus first_conflicts at_pair
+station-closed_board = refl
 
 -- everything wrong with a route on a line
 wrong_table : TableDraft

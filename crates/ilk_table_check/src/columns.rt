@@ -1,17 +1,18 @@
-ghost use Rattle.std.specs.Prelude.{◌≡◌, ◌==◌, ◌<◌, IfOk, OnOk, ◌++◌, length};
+ghost use Rattle.std.specs.Prelude.{◌≡◌, ◌==◌, ◌||◌, ◌<◌, IfOk, OnOk, ◌++◌, false, length, map, slice_index_or};
 ghost use Rattle.std.specs.List.{list_any};
 ghost use Rattle.ilk_plant.specs.Broken.{broken_at, broken_at_pairs, places_of};
 ghost use Rattle.ilk_plant.specs.Network.{has_section};
-ghost use Rattle.ilk_plant.specs.TableRules.{count_in_plant, sections_of};
-ghost use Rattle.ilk_plant.specs.ColumnRules.{breaks_columns, breaks_columns_at_pair, column_rule_broken, column_rules_broken, lists, share_section, is_border_without_board};
-ghost use Rattle.ilk_table_check.specs.Columns.{pairs_of};
+ghost use Rattle.ilk_plant.specs.TableRules.{count_in_plant, protecting_points_of, sections_locked_for};
+ghost use Rattle.ilk_plant.specs.ColumnRules.{breaks_columns, breaks_columns_at_pair, column_rule_broken, column_rules_broken, is_kept_closed_by, lists, share_section, is_border_without_board};
+ghost use Rattle.ilk_table_check.specs.Columns.{locked_flags, pairs_of};
 
+use crate::listed::is_listed;
 use crate::ways::{overlap_leads_on, path_ends_at_board, path_leads_on, points_are_set};
-use ilk_plant::{Broken, Places, Plant, Route, Row, Rule, has_section, push_if};
+use ilk_plant::{Broken, Listed, Places, Plant, Route, Row, Rule, has_section, push_if};
 use std::alloc::{AllocError, Global};
 
 // The rules of the columns, in order.
-const COLUMN_RULES: [Rule; 7] = [
+const COLUMN_RULES: [Rule; 8] = [
     Rule::C1,
     Rule::C2,
     Rule::C3,
@@ -19,6 +20,7 @@ const COLUMN_RULES: [Rule; 7] = [
     Rule::C5,
     Rule::C6,
     Rule::C7,
+    Rule::C8,
 ];
 
 // Whether a route lists route `j` as a conflict.
@@ -36,29 +38,92 @@ fn lists(plant: &Plant, i: u32, j: u32) -> bool
     route_lists(plant.route(i), j)
 }
 
-// Whether a route has section `x` in its path or overlap.
+// Whether a route has section `x` in its path, its overlap or its protecting points.
 fn has_in_route(route: &Route, x: u32) -> bool
-    ensures { result ≡ has_section x (sections_of route.now) }
+    ensures { result ≡ has_section x (sections_locked_for route.now) }
 {
-    has_section(&route.path, x) || has_section(&route.overlap, x)
+    has_section(&route.path, x)
+        || has_section(&route.overlap, x)
+        || is_listed(x, route.protecting_points.as_slice())
 }
 
-// Whether a route has one of these sections in its path or overlap.
-fn has_one_of(route: &Route, sections: &Row<u32>) -> bool
-    ensures { result ≡ list_any (λ x. has_section x (sections_of route.now)) sections.now }
-{
-    sections.as_slice().iter().any(|x| has_in_route(route, *x))
-}
-
-// Whether routes `i` and `j` have one same section in path or overlap.
-fn share_section(plant: &Plant, i: u32, j: u32) -> bool
-    requires first { i < length plant.now.routes }
-    requires second { j < length plant.now.routes }
-    ensures { result ≡ share_section plant.now i j }
+// For each section, whether route `i` has it in its path, its overlap or its protecting points.
+fn locked_flags(alloc: Global, plant: &Plant, i: u32) -> Result<Row<bool>, AllocError>
+    requires { i < length plant.now.routes }
+    ensures { IfOk result (λ locked. locked ≡ locked_flags plant.now i) }
 {
     let route = plant.route(i);
+    let mut locked = Row::new(alloc);
+    for x in 0..plant.sections() {
+        locked.push(has_in_route(route, x))?;
+    }
+    Ok(locked)
+}
+
+// Flag `x`; false where there is none.
+fn flag_at(flags: &[bool], x: u32) -> bool
+    ensures { result ≡ slice_index_or flags.now x false }
+{
+    match flags.get(x as usize) {
+        Some(flag) => *flag,
+        None => false,
+    }
+}
+
+// Whether one of these sections has its flag.
+fn any_flagged(flags: &[bool], sections: &[u32]) -> bool
+    ensures { result ≡ list_any (λ x. slice_index_or flags.now x false) sections.now }
+{
+    sections.iter().any(|x| flag_at(flags, *x))
+}
+
+// Whether one of these points has its flag.
+fn any_point_flagged(flags: &[bool], points: &[Listed]) -> bool
+    ensures { result ≡ list_any (λ x. slice_index_or flags.now x false) (map (λ listed. listed.point) points.now) }
+{
+    points
+        .iter()
+        .map(|listed| listed.point)
+        .any(|x| flag_at(flags, x))
+}
+
+// Whether one of the sections of a route's path, overlap or protecting points has its flag.
+fn any_of_route_flagged(flags: &[bool], route: &Route) -> bool
+    ensures { result ≡ ((list_any (λ x. slice_index_or flags.now x false) route.now.path
+        || list_any (λ x. slice_index_or flags.now x false) route.now.overlap)
+        || list_any (λ x. slice_index_or flags.now x false) (protecting_points_of route.now)) }
+{
+    any_flagged(flags, route.path.as_slice())
+        || any_flagged(flags, route.overlap.as_slice())
+        || any_point_flagged(flags, route.protecting_points.as_slice())
+}
+
+// Whether routes `i` and `j` have one same section in path, overlap or protecting points.
+// `locked` has what is locked for route `i`.
+fn share_section(plant: &Plant, locked: &[bool], i: u32, j: u32) -> bool
+    requires first { i < length plant.now.routes }
+    requires second { j < length plant.now.routes }
+    requires locked { locked.now ≡ locked_flags plant.now i }
+    ensures { result ≡ share_section plant.now i j }
+{
     let other = plant.route(j);
-    has_one_of(route, &other.path) || has_one_of(route, &other.overlap)
+    any_of_route_flagged(locked, other)
+}
+
+// Whether a route has board `m` among its protecting boards.
+fn keeps_closed(route: &Route, m: u32) -> bool
+    ensures { result ≡ list_any (λ n. n == m) route.now.protecting_boards }
+{
+    route.protecting_boards.as_slice().iter().any(|n| *n == m)
+}
+
+// Whether the source of route `j` is a protecting board of route `i`.
+fn is_kept_closed_by(plant: &Plant, i: u32, j: u32) -> bool
+    requires first { i < length plant.now.routes }
+    requires second { j < length plant.now.routes }
+    ensures { result ≡ is_kept_closed_by plant.now i j }
+{
+    keeps_closed(plant.route(i), plant.route(j).source)
 }
 
 // Whether section `x` is a border without a board in its inward direction.
@@ -98,15 +163,18 @@ fn breaks(plant: &Plant, rule: Rule, i: u32) -> bool
     }
 }
 
-// Whether a rule is broken at the pair of routes `i` and `j`.
-fn breaks_at_pair(plant: &Plant, rule: Rule, i: u32, j: u32) -> bool
+// Whether a rule is broken at the pair of routes `i` and `j`. `locked` has what is locked for
+// route `i`.
+fn breaks_at_pair(plant: &Plant, locked: &[bool], rule: Rule, i: u32, j: u32) -> bool
     requires first { i < length plant.now.routes }
     requires second { j < length plant.now.routes }
+    requires locked { locked.now ≡ locked_flags plant.now i }
     ensures { result ≡ breaks_columns_at_pair plant.now rule i j }
 {
     match rule {
         Rule::C5 => lists(plant, i, j) && !lists(plant, j, i),
-        Rule::C6 => i < j && !lists(plant, i, j) && share_section(plant, i, j),
+        Rule::C6 => i < j && !lists(plant, i, j) && share_section(plant, locked, i, j),
+        Rule::C8 => is_kept_closed_by(plant, i, j) && !lists(plant, i, j),
         _ => false,
     }
 }
@@ -129,6 +197,7 @@ fn push_places(found: &mut Row<Broken>, plant: &Plant, rule: Rule) -> Result<(),
 
 // Adds the pairs whose first is route `i` at which a rule of two places is broken.
 fn push_pairs_of(
+    alloc: Global,
     found: &mut Row<Broken>,
     plant: &Plant,
     rule: Rule,
@@ -137,45 +206,60 @@ fn push_pairs_of(
     requires { i < length plant.now.routes }
     ensures { OnOk result (found.new ≡ found.old ++ pairs_of rule (length plant.now.routes) i (breaks_columns_at_pair plant.now rule i)) }
 {
+    let locked = locked_flags(alloc, plant, i)?;
     for j in 0..plant.routes() {
         let entry = Broken {
             rule,
             first: i,
             second: Some(j),
         };
-        push_if(found, breaks_at_pair(plant, rule, i, j), entry)?;
+        push_if(
+            found,
+            breaks_at_pair(plant, locked.as_slice(), rule, i, j),
+            entry,
+        )?;
     }
     Ok(())
 }
 
 // Adds the pairs of routes at which a rule of two places is broken.
-fn push_pairs(found: &mut Row<Broken>, plant: &Plant, rule: Rule) -> Result<(), AllocError>
+fn push_pairs(
+    alloc: Global,
+    found: &mut Row<Broken>,
+    plant: &Plant,
+    rule: Rule,
+) -> Result<(), AllocError>
     ensures { OnOk result (found.new ≡ found.old ++ broken_at_pairs rule (length plant.now.routes) (breaks_columns_at_pair plant.now rule)) }
 {
     for i in 0..plant.routes() {
-        push_pairs_of(found, plant, rule, i)?;
+        push_pairs_of(alloc, found, plant, rule, i)?;
     }
     Ok(())
 }
 
 // Adds a rule at each of its places at which it is broken.
-fn push_rule(found: &mut Row<Broken>, plant: &Plant, rule: Rule) -> Result<(), AllocError>
+fn push_rule(
+    alloc: Global,
+    found: &mut Row<Broken>,
+    plant: &Plant,
+    rule: Rule,
+) -> Result<(), AllocError>
     ensures { OnOk result (found.new ≡ found.old ++ column_rule_broken plant.now rule) }
 {
     match rule.places() {
-        Places::RoutePairs => push_pairs(found, plant, rule),
+        Places::RoutePairs => push_pairs(alloc, found, plant, rule),
         _ => push_places(found, plant, rule),
     }
 }
 
-/// All broken rules of the columns of a plant's table of routes, C1 to C7, in the order of the
+/// All broken rules of the columns of a plant's table of routes, C1 to C8, in the order of the
 /// rules, then of the first place, then of the second. The only refusal is want of memory.
 pub fn check_columns(alloc: Global, plant: &Plant) -> Result<Row<Broken>, AllocError>
     ensures { IfOk result (λ found. found ≡ column_rules_broken plant.now) }
 {
     let mut found = Row::new(alloc);
     for rule in &COLUMN_RULES {
-        push_rule(&mut found, plant, *rule)?;
+        push_rule(alloc, &mut found, plant, *rule)?;
     }
     Ok(found)
 }

@@ -1,6 +1,6 @@
-//! The static checks of a table of routes: its rules (R) over the drafts (`check_table`), and
-//! the rules of its columns (C) over the plant (`check_columns`), which is made between the
-//! two. Each gives the whole list of the rules that are broken, each at every place, in order.
+//! The static checks of a table of routes: its rules (R) over the drafts (`check_table`, or
+//! `check_numbered_table` where they are numbered already), and the rules of its columns (C) over
+//! the plant (`check_columns`), which is made between the two. Each gives the whole list of the rules that are broken, each at every place, in order.
 #![tactic(auto)]
 
 mod columns;
@@ -11,4 +11,4 @@ mod tests;
 mod ways;
 
 pub use columns::check_columns;
-pub use table::check_table;
+pub use table::{check_numbered_table, check_table};

@@ -1,10 +1,10 @@
-ghost use Rattle.std.specs.Prelude.{◌≡◌, ◌==◌, ◌&&◌, ◌<◌, ◌++◌, IfOk, OnOk, length, map};
+ghost use Rattle.std.specs.Prelude.{◌≡◌, ◌==◌, ◌&&◌, ◌<◌, ◌++◌, IfOk, OnOk, length, map, not};
 ghost use Rattle.std.specs.List.{list_all, list_any};
 ghost use Rattle.ilk_plant.specs.Broken.{broken_at, places_of};
 ghost use Rattle.ilk_plant.specs.Network.{has_section};
 ghost use Rattle.ilk_plant.specs.Limits.{HasLimits};
 ghost use Rattle.ilk_plant.specs.Plant.{is_point_section};
-ghost use Rattle.ilk_plant.specs.TableRules.{breaks_table, count_in_plant, has_conflicts_once, has_destination_or_none, has_points_once, has_sections_once, is_other_route, is_section, points_of, routes_broken, sections_of, table_rules_broken};
+ghost use Rattle.ilk_plant.specs.TableRules.{breaks_table, count_in_plant, has_conflicts_once, has_destination_or_none, has_points_once, has_protecting_boards_once, has_protecting_points_once, has_sections_once, is_board, is_other_route, is_section, points_of, protecting_points_of, routes_broken, sections_of, table_rules_broken};
 ghost use Rattle.ilk_plant.specs.Once.{none_twice};
 
 use crate::listed::is_listed;
@@ -12,7 +12,16 @@ use ilk_plant::{Broken, Listed, NetDraft, Numbered, Route, Row, Rule, TableDraft
 use std::alloc::{AllocError, Global};
 
 // The rules of the table, in order.
-const TABLE_RULES: [Rule; 6] = [Rule::R1, Rule::R2, Rule::R3, Rule::R4, Rule::R5, Rule::R6];
+const TABLE_RULES: [Rule; 8] = [
+    Rule::R1,
+    Rule::R2,
+    Rule::R3,
+    Rule::R4,
+    Rule::R5,
+    Rule::R6,
+    Rule::R7,
+    Rule::R8,
+];
 
 // Whether the numbers have this one.
 fn is_among(x: u32, numbers: &[u32]) -> bool
@@ -139,6 +148,56 @@ fn has_conflicts_once(plant: &Numbered, i: u32, route: &Route) -> bool
     are_other_routes(plant, i, &route.conflicts) && none_twice(route.conflicts.as_slice())
 }
 
+// Whether `x` is a point section in neither path nor overlap of a route.
+fn is_point_apart(plant: &Numbered, route: &Route, x: u32) -> bool
+    ensures { result ≡ (is_point_section plant.now x && not (has_section x (sections_of route.now))) }
+{
+    plant.is_point_section(x) && !is_among_both(x, route.path.as_slice(), route.overlap.as_slice())
+}
+
+// Whether each protecting point is a point section in neither path nor overlap.
+fn are_points_apart(plant: &Numbered, route: &Route) -> bool
+    ensures { result ≡ list_all (λ x. is_point_section plant.now x && not (has_section x (sections_of route.now))) (protecting_points_of route.now) }
+{
+    let points = route.protecting_points.as_slice();
+    points
+        .iter()
+        .map(|listed| listed.point)
+        .all(|x| is_point_apart(plant, route, x))
+}
+
+// Whether each protecting point is a point section in neither path nor overlap, and none is listed
+// twice.
+fn has_protecting_points_once(plant: &Numbered, route: &Route) -> bool
+    ensures { result ≡ has_protecting_points_once plant.now route.now }
+{
+    are_points_apart(plant, route) && none_listed_twice(route.protecting_points.as_slice())
+}
+
+// Whether `m` is the number of a board other than the source.
+fn is_other_board(plant: &Numbered, source: u32, m: u32) -> bool
+    ensures { result ≡ (is_board plant.now m && not (m == source)) }
+{
+    plant.is_board(m) && m != source
+}
+
+// Whether each protecting board is a board other than the source.
+fn are_other_boards(plant: &Numbered, route: &Route) -> bool
+    ensures { result ≡ list_all (λ m. is_board plant.now m && not (m == route.now.source)) route.now.protecting_boards }
+{
+    let boards = route.protecting_boards.as_slice();
+    boards
+        .iter()
+        .all(|m| is_other_board(plant, route.source, *m))
+}
+
+// Whether each protecting board is a board other than the source, and none is listed twice.
+fn has_protecting_boards_once(plant: &Numbered, route: &Route) -> bool
+    ensures { result ≡ has_protecting_boards_once plant.now route.now }
+{
+    are_other_boards(plant, route) && none_twice(route.protecting_boards.as_slice())
+}
+
 // Whether a rule of the table is broken at its place `i`.
 fn breaks_table(plant: &Numbered, rule: Rule, i: u32) -> bool
     requires { i < count_in_plant plant.now (places_of rule) }
@@ -151,6 +210,8 @@ fn breaks_table(plant: &Numbered, rule: Rule, i: u32) -> bool
         Rule::R4 => !has_points_once(plant, plant.route(i)),
         Rule::R5 => !has_destination_or_none(plant, plant.route(i).destination),
         Rule::R6 => !has_conflicts_once(plant, i, plant.route(i)),
+        Rule::R7 => !has_protecting_points_once(plant, plant.route(i)),
+        Rule::R8 => !has_protecting_boards_once(plant, plant.route(i)),
         _ => false,
     }
 }
@@ -171,22 +232,9 @@ fn push_rule(found: &mut Row<Broken>, plant: &Numbered, rule: Rule) -> Result<()
     Ok(())
 }
 
-// The broken rules of a numbered table, in the order of the rules and then of the routes.
-fn broken_routes(alloc: Global, plant: &Numbered) -> Result<Row<Broken>, AllocError>
-    ensures { IfOk result (λ found. found ≡ routes_broken plant.now) }
-{
-    let mut found = Row::new(alloc);
-    for rule in &TABLE_RULES {
-        push_rule(&mut found, plant, *rule)?;
-    }
-    Ok(found)
-}
-
-/// All broken rules of a table of routes, R1 to R6, in the order of the rules and then of the
-/// routes. A name stands for the first section, board or route that has it. The network has 1 to
-/// 128 sections and the table at most 128 routes, each with 1 to 32 sections in its path, at most 8
-/// in its overlap, at most 40 points and at most 128 conflicts, and each text in both is a name. The
-/// only refusal is want of memory.
+/// All broken rules of a table of routes, R1 to R8, in the order of the rules and then of the
+/// routes. A name stands for the first section, board or route that has it. Network and table are
+/// within the limits. The only refusal is want of memory.
 pub fn check_table(
     alloc: Global,
     net: &NetDraft,
@@ -196,5 +244,16 @@ pub fn check_table(
     ensures { IfOk result (λ found. found ≡ table_rules_broken net.now table.now) }
 {
     let plant = Numbered::of(alloc, net, table)?;
-    broken_routes(alloc, &plant)
+    check_numbered_table(alloc, &plant)
+}
+
+/// The same, of drafts that are numbered already.
+pub fn check_numbered_table(alloc: Global, plant: &Numbered) -> Result<Row<Broken>, AllocError>
+    ensures { IfOk result (λ found. found ≡ routes_broken plant.now) }
+{
+    let mut found = Row::new(alloc);
+    for rule in &TABLE_RULES {
+        push_rule(&mut found, plant, *rule)?;
+    }
+    Ok(found)
 }

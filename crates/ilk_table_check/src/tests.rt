@@ -72,6 +72,8 @@ fn route(
         overlap: Row::new(alloc),
         points: Row::new(alloc),
         conflicts: row_of(alloc, conflict)?,
+        protecting_points: Row::new(alloc),
+        protecting_boards: Row::new(alloc),
     })
 }
 

@@ -33,7 +33,7 @@ abbrev pub linear : Name → Option Name → Option Name → Option Name → Opt
 linear name down up board_down board_up = record { name = name; kind = Linear down up board_down board_up }
 
 abbrev pub route : Name → Name → Name → RouteDraft
-route name source section = record { name = name; source = source; destination = None; path = section ∷ []; overlap = []; points = []; conflicts = [] }
+route name source section = record { name = name; source = source; destination = None; path = section ∷ []; overlap = []; points = []; conflicts = []; protecting_points = []; protecting_boards = [] }
 
 -- the line with no board and no route
 abbrev pub bare_value : Data

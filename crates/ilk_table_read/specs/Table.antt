@@ -11,20 +11,21 @@ use Rattle.ilk_net_read.specs.declared.fault.FormFault.{FormFault}
 use Rattle.ilk_net_read.specs.declared.fault.Place.TheVariants.{Route}
 use Rattle.ilk_net_read.specs.Fault.{broken, checked, or_fault}
 use Rattle.ilk_net_read.specs.Network.{document_of, in_order, network_of, value_of}
+use Rattle.ilk_net_read.specs.declared.version.Version.{Version}
 use Rattle.ilk_table_read.specs.Route.{as_route}
 
--- route i: F3 where the value isn't one, then F5, its names, then F6, its lists
-abbrev pub route_of : ℕ → Data → Result RouteDraft FormFault
-route_of i d = do
-  found ← or_fault (broken F3 (Route i)) (as_route d)
+-- route i: F3 where the value isn't one of this version, then F5, its names, then F6, its lists
+abbrev pub route_of : Version → ℕ → Data → Result RouteDraft FormFault
+route_of version i d = do
+  found ← or_fault (broken F3 (Route i)) (as_route version d)
   route ← checked route_has_names (broken F5 (Route i)) found
   checked route_has_limits (broken F6 (Route i)) route
 
--- the table: the document, then the routes in order
+-- the table: the document, then the routes of its version in order
 abbrev pub table_of : Data → Result TableDraft FormFault
 table_of d = do
   document ← document_of d
-  routes ← in_order route_of 0 document.routes
+  routes ← in_order (route_of document.version) 0 document.routes
   Ok (record { routes = routes })
 
 -- the two drafts of a configuration of these bytes, or the one fault: the first rule that is broken of

@@ -17,12 +17,12 @@ pub fn boarded_line_is_read()
     ensures { drafts_of boarded_text ≡ Ok (boarded_net, boarded_table) }
 {}
 
-/// A text that is no JSON breaks F2, an object without members F3, a version other than 1 F4, also
+/// A text that is no JSON breaks F2, an object without members F3, a version other than 1 and 2 F4, also
 /// where the number of sections isn't right, and no section F6.
 pub fn first_faults()
     ensures text { drafts_of (codes "[") ≡ Err (broken F2 Document) }
     ensures members { drafts_of (codes "{}") ≡ Err (broken F3 Document) }
-    ensures version { drafts_of (codes "{\"version\":2,\"sections\":[],\"routes\":[]}")
+    ensures version { drafts_of (codes "{\"version\":3,\"sections\":[],\"routes\":[]}")
         ≡ Err (broken F4 Document) }
     ensures sections { drafts_of (codes "{\"version\":1,\"sections\":[],\"routes\":[]}")
         ≡ Err (broken F6 Document) }

@@ -1,5 +1,5 @@
 //! Reads the table of routes of a configuration, and refuses the first rule of its form that is
-//! broken. `read_table` reads the routes of a document that is right; `read_drafts` reads a whole
+//! broken. `read_table` reads the document and its routes; `read_drafts` reads a whole
 //! configuration, its network first.
 #![tactic(auto)]
 

@@ -1,4 +1,4 @@
-//! The points that a route lists.
+//! The points that a route lists, and those that protect it.
 
 ghost use Rattle.std.specs.Prelude.{◌≡◌};
 ghost use Rattle.serde_json.specs.View.{view, items_view};
@@ -41,11 +41,15 @@ fn all_listed(alloc: Global, values: &[Value]) -> Result<Row<ListedDraft>, KindE
     Ok(points)
 }
 
-/// The member `points`, which must be an array of points with positions.
-pub(crate) fn points_at(alloc: Global, value: &Value) -> Result<Row<ListedDraft>, KindError>
-    ensures { Reads result (route.points_at (view value.now)) }
+/// The member of this name, which must be an array of points with positions.
+pub(crate) fn points_at(
+    alloc: Global,
+    value: &Value,
+    name: &str,
+) -> Result<Row<ListedDraft>, KindError>
+    ensures { Reads result (route.points_at name.now (view value.now)) }
 {
-    match array_at(value, "points") {
+    match array_at(value, name) {
         Some(values) => all_listed(alloc, values),
         None => Err(KindError::WrongKind),
     }

@@ -1,37 +1,79 @@
 //! The routes.
 
-ghost use Rattle.std.specs.Prelude.{◌≡◌, ◌&&◌, nat_le, true, IfOk};
+ghost use Rattle.std.specs.Prelude.{◌≡◌, ◌&&◌, codes, nat_le, true, IfOk};
 ghost use Rattle.std.specs.List.{list_all};
 ghost use Rattle.serde_json.specs.View.{view};
 ghost use Rattle.ilk_plant.specs.Limits.{route_has_limits, route_has_names};
 ghost use Rattle.ilk_plant.specs.Name as name;
 ghost use Rattle.ilk_net_read.specs.Fault.{Gives, Reads};
+ghost use Rattle.ilk_net_read.specs.Member as member;
 ghost use Rattle.ilk_table_read.specs.Route as spec;
 ghost use Rattle.ilk_table_read.specs.Table as table;
 
 use crate::listed::points_at;
 use ilk_net_read::{
-    Form, FormError, KindError, Place, broken, has_members, is_name, is_name_if_given, lies_within,
-    optional_text_at, text_at, texts_at,
+    Form, FormError, KindError, Place, Version, broken, has_members, is_name, is_name_if_given,
+    lies_within, optional_text_at, text_at, texts_at,
 };
-use ilk_plant::{ListedDraft, MAX_CONFLICTS, MAX_OVERLAP, MAX_PATH, MAX_POINTS, RouteDraft, Text};
+use ilk_plant::{
+    ListedDraft, MAX_CONFLICTS, MAX_OVERLAP, MAX_PATH, MAX_POINTS, MAX_PROTECTING_BOARDS,
+    MAX_PROTECTING_POINTS, RouteDraft, Row, Text,
+};
 use serde_json::Value;
 use std::alloc::Global;
 
-/// How many members a route has.
-pub(crate) const ROUTE_MEMBERS: usize = 7;
+/// How many members a route has in version 1.
+pub(crate) const MEMBERS_IN_FIRST: usize = 7;
 
-fn route(alloc: Global, value: &Value) -> Result<RouteDraft, KindError>
-    ensures { Reads result (spec.as_route (view value.now)) }
+/// How many members a route has in version 2.
+pub(crate) const MEMBERS_IN_SECOND: usize = 9;
+
+fn route_members(version: Version) -> usize
+    ensures { result ≡ spec.route_members version }
+{
+    match version {
+        Version::First => MEMBERS_IN_FIRST,
+        Version::Second => MEMBERS_IN_SECOND,
+    }
+}
+
+fn protecting_points(
+    alloc: Global,
+    version: Version,
+    value: &Value,
+) -> Result<Row<ListedDraft>, KindError>
+    ensures { Reads result
+        (spec.since_second version (spec.points_at (codes "protecting_points") (view value.now))) }
+{
+    match version {
+        Version::First => Ok(Row::new(alloc)),
+        Version::Second => points_at(alloc, value, "protecting_points"),
+    }
+}
+
+fn protecting_boards(alloc: Global, version: Version, value: &Value) -> Result<Row<Text>, KindError>
+    ensures { Reads result
+        (spec.since_second version (member.texts_at (codes "protecting_boards") (view value.now))) }
+{
+    match version {
+        Version::First => Ok(Row::new(alloc)),
+        Version::Second => texts_at(alloc, value, "protecting_boards"),
+    }
+}
+
+fn route(alloc: Global, version: Version, value: &Value) -> Result<RouteDraft, KindError>
+    ensures { Reads result (spec.as_route version (view value.now)) }
 {
     let name = text_at(alloc, value, "name")?;
     let source = text_at(alloc, value, "source")?;
     let destination = optional_text_at(alloc, value, "destination")?;
     let path = texts_at(alloc, value, "path")?;
     let overlap = texts_at(alloc, value, "overlap")?;
-    let points = points_at(alloc, value)?;
+    let points = points_at(alloc, value, "points")?;
     let conflicts = texts_at(alloc, value, "conflicts")?;
-    if !has_members(value, ROUTE_MEMBERS) {
+    let protecting_points = protecting_points(alloc, version, value)?;
+    let protecting_boards = protecting_boards(alloc, version, value)?;
+    if !has_members(value, route_members(version)) {
         return Err(KindError::WrongKind);
     }
     Ok(RouteDraft {
@@ -42,6 +84,8 @@ fn route(alloc: Global, value: &Value) -> Result<RouteDraft, KindError>
         overlap,
         points,
         conflicts,
+        protecting_points,
+        protecting_boards,
     })
 }
 
@@ -67,6 +111,8 @@ fn has_names(route: &RouteDraft) -> bool
         && are_names(route.overlap.as_slice())
         && points_are_names(route.points.as_slice())
         && are_names(route.conflicts.as_slice())
+        && points_are_names(route.protecting_points.as_slice())
+        && are_names(route.protecting_boards.as_slice())
 }
 
 fn has_limits(route: &RouteDraft) -> bool
@@ -76,16 +122,23 @@ fn has_limits(route: &RouteDraft) -> bool
         && route.overlap.len() <= MAX_OVERLAP
         && route.points.len() <= MAX_POINTS
         && route.conflicts.len() <= MAX_CONFLICTS
+        && route.protecting_points.len() <= MAX_PROTECTING_POINTS
+        && route.protecting_boards.len() <= MAX_PROTECTING_BOARDS
 }
 
-/// The route of this number, from its value.
-pub(crate) fn route_of(alloc: Global, number: u32, value: &Value) -> Result<RouteDraft, FormError>
-    ensures exact { Gives result (table.route_of number (view value.now)) }
+/// The route of this number, from its value in a document of this version.
+pub(crate) fn route_of(
+    alloc: Global,
+    version: Version,
+    number: u32,
+    value: &Value,
+) -> Result<RouteDraft, FormError>
+    ensures exact { Gives result (table.route_of version number (view value.now)) }
     ensures limits { IfOk result (λ draft. route_has_limits draft ≡ true) }
     ensures named { IfOk result (λ draft. route_has_names draft ≡ true) }
 {
     let place = Place::Route(number);
-    let draft = match route(alloc, value) {
+    let draft = match route(alloc, version, value) {
         Ok(draft) => draft,
         Err(error) => return Err(error.at(place)),
     };

@@ -8,6 +8,14 @@ const BARE: &str = r#"{"version":1,
   {"name":"b","kind":"linear","down":"a","up":null,"board_down":null,"board_up":null}],
  "routes":[]}"#;
 
+const PROTECTED: &str = r#"{"version":2,
+ "sections":[
+  {"name":"a","kind":"linear","down":null,"up":"b","board_down":null,"board_up":"m1"},
+  {"name":"b","kind":"linear","down":"a","up":null,"board_down":"m2","board_up":null}],
+ "routes":[
+  {"name":"r1","source":"m1","destination":null,"path":["b"],"overlap":[],"points":[],"conflicts":["r2"],
+   "protecting_points":[{"point":"p","position":"minus"}],"protecting_boards":["m2","m3"]}]}"#;
+
 const ROUTED: &str = r#"{"version":1,
  "sections":[
   {"name":"a","kind":"linear","down":null,"up":"b","board_down":null,"board_up":"m1"},
@@ -28,6 +36,19 @@ fn drafts(rt: HostRuntime) -> Result<(), Fail> {
         assert_eq!(rt; route.source.as_str(), "m1");
         assert_eq!(rt; route.points.len(), 1);
         assert_eq!(rt; route.conflicts.len(), 1);
+    }
+    Ok(())
+}
+
+#[test]
+fn protection(rt: HostRuntime) -> Result<(), Fail> {
+    let (_net, table) = read_drafts(rt.alloc(), PROTECTED.as_bytes())
+        .ok()
+        .ok_or("the form is right")?;
+    assert_eq!(rt; table.routes.len(), 1);
+    if let Some(route) = table.routes.as_slice().first() {
+        assert_eq!(rt; route.protecting_points.len(), 1);
+        assert_eq!(rt; route.protecting_boards.len(), 2);
     }
     Ok(())
 }
@@ -73,8 +94,12 @@ fn first_faults(rt: HostRuntime) {
             fault(Form::F4, document),
         ),
         (
-            r#"{"version":2,"sections":[],"routes":[]}"#,
+            r#"{"version":3,"sections":[],"routes":[]}"#,
             fault(Form::F4, document),
+        ),
+        (
+            r#"{"version":2,"sections":[],"routes":[]}"#,
+            fault(Form::F6, document),
         ),
         (
             r#"{"version":1,"sections":[],"routes":[1]}"#,

@@ -1,5 +1,5 @@
 -- What is answered to a configuration, and to what is read beside it.
-use Rattle.std.specs.Prelude.{ℕ, ◌≡◌, ◌++◌, Bool, false, Option, Some, None, IfSome, Result, Ok, Err, List, [], ◌∷◌, length, flat_map, nat_lt, is_ok, option_and_then, option_map, if◌then◌else◌}
+use Rattle.std.specs.Prelude.{ℕ, ◌≡◌, ◌++◌, Bool, true, false, Option, Some, None, IfSome, Result, Ok, Err, List, [], ◌∷◌, length, flat_map, nat_lt, is_ok, option_and_then, option_map, if◌then◌else◌}
 use Rattle.ilk_plant.specs.Plant.{PlantLists}
 use Rattle.ilk_plant.specs.Draft.{numbered}
 use Rattle.ilk_plant.specs.declared.broken.Broken.{Broken}
@@ -69,10 +69,6 @@ abbrev pub check_reply : Result PlantLists Refusals → Reply
 check_reply (Ok p) = reply Good clean_line
 check_reply (Err refusals) = reply IsRefused (refusal_line refusals.first ++ broken_lines refusals.rest)
 
--- what check answers to a configuration of these bytes
-abbrev pub check_answer : Columns → List ℕ → Reply
-check_answer columns conf = check_reply (plant_of columns conf)
-
 -- the reply to what a replay shows: only a hazard is good
 abbrev pub seen_reply : PlantLists → Seen → Reply
 seen_reply p (NotARun at) = reply Rejected (not_a_run_line at)
@@ -94,25 +90,35 @@ abbrev pub replay_reply : Result PlantLists Refusals → Option (List ℕ) → O
 replay_reply (Err refusals) extra = Some (refused refusals.first)
 replay_reply (Ok p) extra = option_map (run_reply p) extra
 
--- what replay answers to a configuration of these bytes, and to the run text, where that is told
-abbrev pub replay_answer : Columns → List ℕ → Option (List ℕ) → Option Reply
-replay_answer columns conf extra = replay_reply (plant_of columns conf) extra
+-- whether a command asks the columns
+abbrev pub command_columns : Command → Columns
+command_columns (Check columns) = columns
+command_columns (Replay columns run) = columns
+
+-- what a command replies to the plant, or to all that the configuration is refused with, and to what is read beside it, where that is told
+abbrev pub command_reply : Command → Result PlantLists Refusals → Option (List ℕ) → Option Reply
+command_reply (Check columns) found extra = Some (check_reply found)
+command_reply (Replay columns run) found extra = replay_reply found extra
+
+-- whether a command reads more than the configuration, once that gave a plant
+abbrev pub takes_extra : Command → Bool
+takes_extra (Check columns) = false
+takes_extra (Replay columns run) = true
 
 -- what a command answers to the configuration and to what is read beside it, where it is told what the command reads
 abbrev pub command_answer : Command → Option (List ℕ) → Option (List ℕ) → Option Reply
-command_answer (Check columns) conf extra = option_map (check_answer columns) conf
-command_answer (Replay columns run) conf extra = option_and_then (λ c. replay_answer columns c extra) conf
+command_answer command conf extra = option_and_then (λ c. command_reply command (plant_of (command_columns command) c) extra) conf
 
 -- what is answered where the words of the command line give this command, or none
 abbrev pub answer : Option Command → Option (List ℕ) → Option (List ℕ) → Option Reply
 answer None conf extra = Some (reply Usage [])
 answer (Some command) conf extra = command_answer command conf extra
 
--- whether more is read than the configuration, where that can be told: replay reads more where there is a plant
+-- whether more is read than the configuration, where that can be told: by some commands, where there is a plant
 abbrev pub reads_extra : Option Command → Option (List ℕ) → Option Bool
 reads_extra None conf = Some false
-reads_extra (Some (Check columns)) conf = Some false
-reads_extra (Some (Replay columns run)) conf = option_map (λ c. is_ok (plant_of columns c)) conf
+reads_extra (Some command) conf =
+    if takes_extra command then option_map (λ c. is_ok (plant_of (command_columns command) c)) conf else Some false
 
 -- this reply is the answer, where that is told
 abbrev pub IsKnownAs : Option Reply → Reply → Type 0

@@ -1,5 +1,5 @@
 ghost use Rattle.std.specs.Prelude.{◌≡◌, IfOk, IfSome, Err, is_ok};
-ghost use Rattle.ilk_io.specs.Faults.{Rose};
+ghost use Rattle.ilk_io.specs.Faults.{RoseByOne};
 ghost use Rattle.ilk_table_read.specs.Table.{drafts_of};
 ghost use Rattle.ilk_top.specs.Answer.{plant_of, plant_of_drafts};
 ghost use Rattle.ilk_top.specs.Outside.{ReadWithin, RisesOnlyAt};
@@ -31,14 +31,14 @@ fn plant_of(
 }
 
 /// Reads a configuration to its end, and makes its plant, or finds all that it is refused with.
-/// ReadFault comes at the first fault of the source, so only where its count rose.
+/// ReadFault comes at the first fault of the source, which is not called again.
 pub fn read_plant<C: Source>(
     alloc: Global,
     columns: Columns,
     conf: &mut C,
 ) -> Result<Result<Plant, Refusals>, NoReply>
     ensures ok { IfOk result (λ found. IfSome (C.left conf.old) (λ c. found ≡ plant_of columns c)) }
-    ensures fault { result ≡ Err NoReply.ReadFault → Rose (C.faults conf.old) (C.faults conf.new) }
+    ensures fault { result ≡ Err NoReply.ReadFault → RoseByOne (C.faults conf.old) (C.faults conf.new) }
     ensures faults { RisesOnlyAt (result ≡ Err NoReply.ReadFault) (C.faults conf.old) (C.faults conf.new) }
     ensures read { ReadWithin MAX_CONFIGURATION (is_ok result) (C.left conf.old) (C.left conf.new) }
 {

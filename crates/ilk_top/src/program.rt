@@ -1,7 +1,7 @@
-ghost use Rattle.std.specs.Prelude.{◌≡◌, ◌≢◌, ◌⊎◌, ◌↔◌, IfOk, IsTrue, Err, Some, None, false, is_ok, map, string_bytes};
-ghost use Rattle.ilk_io.specs.Faults.{Rose};
+ghost use Rattle.std.specs.Prelude.{◌≡◌, ◌≢◌, ◌⊎◌, ◌↔◌, ◌&&◌, IfOk, IsTrue, Err, Some, None, false, is_ok, map, string_bytes};
+ghost use Rattle.ilk_io.specs.Faults.{RoseByOne};
 ghost use Rattle.ilk_words.specs.Words.{command_of};
-ghost use Rattle.ilk_top.specs.Answer.{IsKnownAs, answer, command_answer, reads_extra};
+ghost use Rattle.ilk_top.specs.Answer.{IsKnownAs, answer, command_answer, command_columns, command_reply, reads_extra, takes_extra};
 ghost use Rattle.ilk_top.specs.Outside.{ReadWhereNeeded, ReadWithin, RisesOnlyAt, Tells};
 ghost use Rattle.ilk_top.specs.Status.{is_reply, is_told};
 ghost use Rattle.ilk_top.specs.declared.limits.TheConstants.{MAX_CONFIGURATION, MAX_RUN_TEXT};
@@ -9,13 +9,42 @@ ghost use Rattle.ilk_top.specs.declared.limits.TheConstants.{MAX_CONFIGURATION, 
 use crate::check_stage::check_reply;
 use crate::plant_stage::read_plant;
 use crate::replay_stage::replay_reply;
-use crate::{NoReply, Reply, Status};
+use crate::{NoReply, Refusals, Reply, Status};
 use ilk_io::{Sink, Source, write_all};
-use ilk_words::{Command, read_words};
+use ilk_plant::Plant;
+use ilk_words::{Columns, Command, read_words};
 use std::alloc::Global;
 
+// Whether the command asks the columns.
+fn command_columns(command: &Command) -> Columns
+    ensures { result ≡ command_columns command.now }
+{
+    match command {
+        Command::Check { columns } | Command::Replay { columns, .. } => *columns,
+    }
+}
+
+// The reply to what the configuration gave; a command that reads more reads it where there is a plant.
+fn command_reply<D: Source>(
+    alloc: Global,
+    command: &Command,
+    found: &Result<Plant, Refusals>,
+    extra: &mut D,
+) -> Result<Reply, NoReply>
+    ensures ok { IfOk result (IsKnownAs (command_reply command.now found.now (D.left extra.old))) }
+    ensures answer { IfOk result (λ made. IsTrue (is_reply made.status)) }
+    ensures fault { result ≡ Err NoReply.ReadFault → RoseByOne (D.faults extra.old) (D.faults extra.new) }
+    ensures faults { RisesOnlyAt (result ≡ Err NoReply.ReadFault) (D.faults extra.old) (D.faults extra.new) }
+    ensures read { ReadWhereNeeded D.left (Some (takes_extra command.now && is_ok found.now)) MAX_RUN_TEXT (is_ok result) extra.old extra.new }
+{
+    match command {
+        Command::Check { .. } => Ok(check_reply(alloc, found)?),
+        Command::Replay { .. } => replay_reply(alloc, found, extra),
+    }
+}
+
 // Reads what the command reads, and finds the reply.
-fn command_reply<C: Source, D: Source>(
+fn command_answer<C: Source, D: Source>(
     alloc: Global,
     command: &Command,
     conf: &mut C,
@@ -24,23 +53,15 @@ fn command_reply<C: Source, D: Source>(
     ensures ok { IfOk result (IsKnownAs (command_answer command.now (C.left conf.old) (D.left extra.old))) }
     ensures answer { IfOk result (λ made. IsTrue (is_reply made.status)) }
     ensures read_fault { result ≡ Err NoReply.ReadFault
-        → (Rose (C.faults conf.old) (C.faults conf.new) × (extra.new ≡ extra.old))
-        ⊎ ((C.faults conf.new ≡ C.faults conf.old) × Rose (D.faults extra.old) (D.faults extra.new)) }
+        → (RoseByOne (C.faults conf.old) (C.faults conf.new) × (extra.new ≡ extra.old))
+        ⊎ ((C.faults conf.new ≡ C.faults conf.old) × RoseByOne (D.faults extra.old) (D.faults extra.new)) }
     ensures conf_faults { RisesOnlyAt (result ≡ Err NoReply.ReadFault) (C.faults conf.old) (C.faults conf.new) }
     ensures extra_faults { RisesOnlyAt (result ≡ Err NoReply.ReadFault) (D.faults extra.old) (D.faults extra.new) }
     ensures conf_read { ReadWithin MAX_CONFIGURATION (is_ok result) (C.left conf.old) (C.left conf.new) }
     ensures extra_read { ReadWhereNeeded D.left (reads_extra (Some command.now) (C.left conf.old)) MAX_RUN_TEXT (is_ok result) extra.old extra.new }
 {
-    match command {
-        Command::Check { columns } => {
-            let found = read_plant(alloc, *columns, conf)?;
-            Ok(check_reply(alloc, &found)?)
-        }
-        Command::Replay { columns, .. } => {
-            let found = read_plant(alloc, *columns, conf)?;
-            replay_reply(alloc, &found, extra)
-        }
-    }
+    let found = read_plant(alloc, command_columns(command), conf)?;
+    command_reply(alloc, command, &found, extra)
 }
 
 // Writes the report of a reply. WriteFault where the sink failed, which then gained a prefix.
@@ -48,7 +69,7 @@ fn tell<O: Sink>(reply: &Reply, out: &mut O) -> Status
     requires { IsTrue (is_reply reply.now.status) }
     ensures answer { Tells (Some reply.now) result (O.written out.old) (O.written out.new) }
     ensures told { IsTrue (is_told result) }
-    ensures fault { result ≡ Status.WriteFault → Rose (O.faults out.old) (O.faults out.new) }
+    ensures fault { result ≡ Status.WriteFault → RoseByOne (O.faults out.old) (O.faults out.new) }
     ensures faults { RisesOnlyAt (result ≡ Status.WriteFault) (O.faults out.old) (O.faults out.new) }
 {
     match write_all(out, reply.report.as_str().as_bytes()) {
@@ -67,9 +88,9 @@ fn perform<C: Source, D: Source, O: Sink>(
 ) -> Status
     ensures answer { Tells (answer (Some command.now) (C.left conf.old) (D.left extra.old)) result (O.written out.old) (O.written out.new) }
     ensures read_fault { result ≡ Status.ReadFault
-        → (Rose (C.faults conf.old) (C.faults conf.new) × (extra.new ≡ extra.old))
-        ⊎ ((C.faults conf.new ≡ C.faults conf.old) × Rose (D.faults extra.old) (D.faults extra.new)) }
-    ensures write_fault { result ≡ Status.WriteFault → Rose (O.faults out.old) (O.faults out.new) }
+        → (RoseByOne (C.faults conf.old) (C.faults conf.new) × (extra.new ≡ extra.old))
+        ⊎ ((C.faults conf.new ≡ C.faults conf.old) × RoseByOne (D.faults extra.old) (D.faults extra.new)) }
+    ensures write_fault { result ≡ Status.WriteFault → RoseByOne (O.faults out.old) (O.faults out.new) }
     ensures conf_faults { RisesOnlyAt (result ≡ Status.ReadFault) (C.faults conf.old) (C.faults conf.new) }
     ensures extra_faults { RisesOnlyAt (result ≡ Status.ReadFault) (D.faults extra.old) (D.faults extra.new) }
     ensures out_faults { RisesOnlyAt (result ≡ Status.WriteFault) (O.faults out.old) (O.faults out.new) }
@@ -78,7 +99,7 @@ fn perform<C: Source, D: Source, O: Sink>(
     ensures conf_read { ReadWithin MAX_CONFIGURATION (is_told result) (C.left conf.old) (C.left conf.new) }
     ensures extra_read { ReadWhereNeeded D.left (reads_extra (Some command.now) (C.left conf.old)) MAX_RUN_TEXT (is_told result) extra.old extra.new }
 {
-    match command_reply(alloc, command, conf, extra) {
+    match command_answer(alloc, command, conf, extra) {
         Ok(reply) => tell(&reply, out),
         Err(NoReply::ReadFault) => Status::ReadFault,
         Err(NoReply::OutOfMemory) => Status::OutOfMemory,
@@ -90,7 +111,7 @@ fn perform<C: Source, D: Source, O: Sink>(
 /// is written to `cert` yet.
 ///
 /// All memory is taken before the first write. A fault of a source is answered ReadFault and one
-/// of the sink WriteFault, each at once.
+/// of the sink WriteFault, each at the first call that failed.
 pub fn run<C: Source, D: Source, O: Sink, L: Sink>(
     alloc: Global,
     words: &Vec<String>,
@@ -103,11 +124,11 @@ pub fn run<C: Source, D: Source, O: Sink, L: Sink>(
     ensures answer { let asked = command_of (map string_bytes words.now.items) in
         Tells (answer asked (C.left conf.old) (D.left extra.old)) result (O.written out.old) (O.written out.new) }
 
-    // a fault comes at once, and only where a count rose; a count that rose is told as a fault
+    // with a read fault exactly one call of one source failed, and with a write fault exactly one of the sink, so that nothing is called again after it; a count that rose is told as a fault
     ensures read_fault { result ≡ Status.ReadFault
-        → (Rose (C.faults conf.old) (C.faults conf.new) × (extra.new ≡ extra.old))
-        ⊎ ((C.faults conf.new ≡ C.faults conf.old) × Rose (D.faults extra.old) (D.faults extra.new)) }
-    ensures write_fault { result ≡ Status.WriteFault → Rose (O.faults out.old) (O.faults out.new) }
+        → (RoseByOne (C.faults conf.old) (C.faults conf.new) × (extra.new ≡ extra.old))
+        ⊎ ((C.faults conf.new ≡ C.faults conf.old) × RoseByOne (D.faults extra.old) (D.faults extra.new)) }
+    ensures write_fault { result ≡ Status.WriteFault → RoseByOne (O.faults out.old) (O.faults out.new) }
     ensures conf_faults { RisesOnlyAt (result ≡ Status.ReadFault) (C.faults conf.old) (C.faults conf.new) }
     ensures extra_faults { RisesOnlyAt (result ≡ Status.ReadFault) (D.faults extra.old) (D.faults extra.new) }
     ensures out_faults { RisesOnlyAt (result ≡ Status.WriteFault) (O.faults out.old) (O.faults out.new) }

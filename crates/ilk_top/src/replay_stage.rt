@@ -1,5 +1,5 @@
 ghost use Rattle.std.specs.Prelude.{◌≡◌, IfOk, IfSome, IsTrue, Err, Some, is_ok};
-ghost use Rattle.ilk_io.specs.Faults.{Rose};
+ghost use Rattle.ilk_io.specs.Faults.{RoseByOne};
 ghost use Rattle.ilk_top.specs.Answer.{IsKnownAs, replay_reply, run_reply, seen_reply, tale_reply};
 ghost use Rattle.ilk_top.specs.Outside.{ReadWhereNeeded, ReadWithin, RisesOnlyAt};
 ghost use Rattle.ilk_top.specs.Status.{is_reply};
@@ -45,11 +45,11 @@ fn text_reply(alloc: Global, plant: &Plant, text: &[u8]) -> Result<Reply, AllocE
 }
 
 // Reads a run text to its end, and replays it over the plant. Refused where it is longer than the
-// limit; ReadFault only where the source's count rose.
+// limit; ReadFault at the first fault of the source.
 fn run_reply<D: Source>(alloc: Global, plant: &Plant, extra: &mut D) -> Result<Reply, NoReply>
     ensures ok { IfOk result (λ made. IfSome (D.left extra.old) (λ x. made ≡ run_reply plant.now x)) }
     ensures answer { IfOk result (λ made. IsTrue (is_reply made.status)) }
-    ensures fault { result ≡ Err NoReply.ReadFault → Rose (D.faults extra.old) (D.faults extra.new) }
+    ensures fault { result ≡ Err NoReply.ReadFault → RoseByOne (D.faults extra.old) (D.faults extra.new) }
     ensures faults { RisesOnlyAt (result ≡ Err NoReply.ReadFault) (D.faults extra.old) (D.faults extra.new) }
     ensures read { ReadWithin MAX_RUN_TEXT (is_ok result) (D.left extra.old) (D.left extra.new) }
 {
@@ -76,7 +76,7 @@ pub fn replay_reply<D: Source>(
 ) -> Result<Reply, NoReply>
     ensures ok { IfOk result (IsKnownAs (replay_reply found.now (D.left extra.old))) }
     ensures answer { IfOk result (λ made. IsTrue (is_reply made.status)) }
-    ensures fault { result ≡ Err NoReply.ReadFault → Rose (D.faults extra.old) (D.faults extra.new) }
+    ensures fault { result ≡ Err NoReply.ReadFault → RoseByOne (D.faults extra.old) (D.faults extra.new) }
     ensures faults { RisesOnlyAt (result ≡ Err NoReply.ReadFault) (D.faults extra.old) (D.faults extra.new) }
     ensures read { ReadWhereNeeded D.left (Some (is_ok found.now)) MAX_RUN_TEXT (is_ok result) extra.old extra.new }
 {

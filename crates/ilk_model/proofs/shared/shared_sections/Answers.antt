@@ -1,18 +1,6 @@
-use Rattle.std.proofs.Common.{◌≡◌, ◌<◌, ◌∙◌, ap, get_or, ℕ}
-use Rattle.std.specs.Int.{bit_at}
-use Rattle.ilk_plant.specs.Network.{has_section}
-use Rattle.ilk_plant.specs.declared.state.Train.{Train}
-use Rattle.ilk_model.proofs.SharedSections.{bit, seen_after, shared_after}
+use Rattle.ilk_model.specs.Hazard.{is_two}
+use Rattle.ilk_model.proofs.SharedSections.{shared_exact}
 use Rattle.ilk_model.proofs.shared.shared_sections.Goals as goal
 
-pub loop-train-preserved : goal.loop-train-preserved
-loop-train-preserved c =
-    let trains = c.as_slice-train-items.result.now in
-    let i = c.loop-train.train-index in
-    let train = c.train-item.result in
-    let own : (x : ℕ) → x < 128 → bit_at c.sections_of-body.result x ≡ bit (has_section x (get_or trains i train).body) =
-    λ x below. c.sections_of-body.ensures x below ∙ ap (λ (t : Train). bit (has_section x t.body)) c.train-item.is in
-    record {
-      seen = λ x below. seen_after (λ (t : Train). has_section x t.body) trains i train c.loop-train-test.true x c.loop-train.seen c.loop-train.shared c.sections_of-body.result (c.loop-train.invariant.seen x below) (c.loop-train.invariant.shared x below) (own x below);
-      shared = λ x below. shared_after (λ (t : Train). has_section x t.body) trains i train c.loop-train-test.true x c.loop-train.seen c.loop-train.shared c.sections_of-body.result (c.loop-train.invariant.seen x below) (c.loop-train.invariant.shared x below) (own x below);
-    }
+pub returns : goal.returns
+returns c = shared_exact _ (is_two c.args.s.now) c.shared_from.ensures c.shared_from-2.ensures

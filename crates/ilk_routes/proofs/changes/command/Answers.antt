@@ -18,7 +18,7 @@ loop-listed-preserved c =
       rest = rw c.command_point.ensures.points (with_commands-after p points _ (drop (i + 1) xs) ∙ ap (with_commands p points) (sym split) ∙ c.loop-listed.invariant.rest);
     }
 
-pub returns : goal.returns
-returns c =
+pub returns-clause-points : goal.returns-clause-points
+returns-clause-points c =
     let none = drop_all c.loop-listed.listed-index c.as_slice-listed-items.result.now (grind (arith, common_steps)) in
     sym (with_commands-none c.args.plant.now c.loop-listed.points) ∙ ap (with_commands c.args.plant.now c.loop-listed.points) (sym none) ∙ c.loop-listed.invariant.rest

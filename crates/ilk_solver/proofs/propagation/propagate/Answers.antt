@@ -3,7 +3,8 @@ use Rattle.ilk_trail.specs.declared.entry.Entry.{Entry}
 use Rattle.ilk_trail.specs.Trail.{assigned}
 use Rattle.ilk_solver.specs.Propagated.{IsPropagated}
 use Rattle.ilk_solver.specs.View.{ViewLists, with_entries}
-use Rattle.ilk_solver.proofs.Rounds.{propagated-push, few-entries, entries-push}
+use Rattle.ilk_solver.proofs.Rounds.{propagated-push, entries-push}
+use Rattle.ilk_solver.proofs.SetVariables.{few-entries}
 use Rattle.ilk_solver.proofs.propagation.propagate.Goals as goal
 
 pub rounds-smaller : goal.rounds-smaller

@@ -5,5 +5,5 @@ use Rattle.ilk_table_check.proofs.table.check_table.Goals as goal
 
 pub returns : goal.returns
 returns c =
-    let P : PlantLists → Type 0 = λ p. IfOk c.broken_routes.result (λ found. found ≡ routes_broken p) in
-    subst P c.in_ok-plant.ensures c.broken_routes.ensures
+    let P : PlantLists → Type 0 = λ p. IfOk c.check_numbered_table.result (λ found. found ≡ routes_broken p) in
+    subst P c.in_ok-plant.ensures c.check_numbered_table.ensures

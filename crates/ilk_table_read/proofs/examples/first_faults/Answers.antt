@@ -20,8 +20,8 @@ returns-clause-members c = rw (value_of-read (codes "{}") (object no_members) (a
 pub returns-clause-version : goal.returns-clause-version
 unfolding serde_json_on_literals bare
 returns-clause-version c =
-    let text = codes "{\"version\":2,\"sections\":[],\"routes\":[]}" in
-    rw (value_of-read text (bare 2) (ascii text refl) refl) refl
+    let text = codes "{\"version\":3,\"sections\":[],\"routes\":[]}" in
+    rw (value_of-read text (bare 3) (ascii text refl) refl) refl
 
 pub returns-clause-sections : goal.returns-clause-sections
 unfolding serde_json_on_literals bare

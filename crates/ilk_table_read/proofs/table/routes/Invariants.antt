@@ -9,7 +9,7 @@ use Rattle.ilk_table_read.proofs.table.routes.Given as goal
 
 abbrev pub invariant-loop-i : goal.invariant-loop-i
 invariant-loop-i l = record {
-  rest : with_front l.routes (in_order route_of l.i (items_view (drop l.i l.values))) ≡ in_order route_of 0 (items_view l.values);
+  rest : with_front l.routes (in_order (route_of l.version) l.i (items_view (drop l.i l.values))) ≡ in_order (route_of l.version) 0 (items_view l.values);
   count : length l.routes ≡ l.i;
   limits : list_all route_has_limits l.routes ≡ true;
   named : list_all route_has_names l.routes ≡ true;

@@ -9,5 +9,4 @@ read-tells g c = record {
   kept = untold-kept c.result;
   failed = c.ensures.failed;
   unraised = c.ensures.unraised;
-  counted = c.ensures.counted;
 }

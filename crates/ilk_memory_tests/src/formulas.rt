@@ -1,0 +1,108 @@
+ghost use Rattle.std.specs.Prelude.{◌≡◌, IfOk, IsTrue};
+ghost use Rattle.ilk_cnf.specs.Formula.{clause_in};
+
+use ilk_base::{Row, Text};
+use ilk_cnf::{Clause, Cnf, Lit, all_of, any_of, opposites};
+use ilk_copy::add_copy;
+use ilk_forms::first_violated;
+use ilk_ints::one_of;
+use std::alloc::{AllocError, Global};
+use std::test::Fail;
+
+// A formula of three variables.
+fn formula(alloc: Global) -> Result<Cnf, AllocError>
+    ensures { IfOk result (λ cnf. cnf.vars ≡ 3) }
+{
+    let mut cnf = Cnf::new(alloc);
+    let _ = cnf.fresh()?;
+    let _ = cnf.fresh()?;
+    let _ = cnf.fresh()?;
+    Ok(cnf)
+}
+
+// Demands that one of the literals is true, and how many clauses that makes.
+fn demanded(alloc: Global, lits: &[Lit]) -> Result<u64, AllocError>
+    requires { IsTrue (clause_in 3 lits.now) }
+{
+    let mut cnf = formula(alloc)?;
+    cnf.add_lits(lits)?;
+    Ok(cnf.clauses())
+}
+
+// Each call that makes something of literals, over these.
+fn made_of(alloc: Global, lits: &[Lit]) -> Result<(), AllocError>
+    requires { IsTrue (clause_in 3 lits.now) }
+{
+    let _ = opposites(alloc, lits)?;
+    let mut cnf = formula(alloc)?;
+    let _ = all_of(alloc, &mut cnf, lits)?;
+    let mut cnf = formula(alloc)?;
+    let _ = any_of(alloc, &mut cnf, lits)?;
+    let mut cnf = formula(alloc)?;
+    first_violated(alloc, &mut cnf, lits)
+}
+
+#[test]
+fn literals(rt: HostRuntime) -> Result<(), Fail> {
+    let alloc = rt.alloc();
+    let p = Lit::new(1, true);
+    let q = Lit::new(2, false);
+    let r = Lit::new(3, true);
+    assert_eq!(rt; demanded(alloc, &[])?, 1);
+    assert_eq!(rt; demanded(alloc, &[p])?, 1);
+    assert_eq!(rt; demanded(alloc, &[p, q, r, p])?, 1);
+    assert_eq!(rt; demanded(alloc, &[p, q, p.negated()])?, 0);
+    made_of(alloc, &[])?;
+    made_of(alloc, &[p])?;
+    made_of(alloc, &[p, q, r])?;
+    made_of(alloc, &[p, q, p.negated()])?;
+    Ok(())
+}
+
+#[test]
+fn clauses(rt: HostRuntime) -> Result<(), Fail> {
+    let alloc = rt.alloc();
+    let mut clause = Clause::new(alloc);
+    one_of(&mut formula(alloc)?, &clause)?;
+    clause.push(Lit::new(1, true))?;
+    one_of(&mut formula(alloc)?, &clause)?;
+    clause.push(Lit::new(2, false))?;
+    one_of(&mut formula(alloc)?, &clause)?;
+    clause.push(Lit::new(3, true))?;
+    one_of(&mut formula(alloc)?, &clause)?;
+    formula(alloc)?.add(clause)?;
+    Ok(())
+}
+
+// Adds a copy of variables of 1, 2, 3, 5 and 8 values: how many variables it has.
+fn copied(alloc: Global) -> Result<u64, AllocError> {
+    let mut ranges = Row::new(alloc);
+    ranges.push(1)?;
+    ranges.push(2)?;
+    ranges.push(3)?;
+    ranges.push(5)?;
+    ranges.push(8)?;
+    let mut cnf = Cnf::new(alloc);
+    let table = add_copy(alloc, &mut cnf, &ranges)?;
+    Ok(table.len())
+}
+
+#[test]
+fn copies(rt: HostRuntime) -> Result<(), Fail> {
+    assert_eq!(rt; copied(rt.alloc())?, 5);
+    Ok(())
+}
+
+#[test]
+fn rows_and_texts(rt: HostRuntime) -> Result<(), Fail> {
+    let alloc = rt.alloc();
+    let mut row = Row::new(alloc);
+    assert_eq!(rt; row.copy(alloc)?.len(), 0);
+    row.push(7)?;
+    assert_eq!(rt; row.copy(alloc)?.as_slice(), [7].as_slice());
+    for word in ["", "plant"] {
+        let text = Text::of(String::from_str(alloc, word)?);
+        assert_eq!(rt; text.copy(alloc)?.as_str(), word);
+    }
+    Ok(())
+}

@@ -1,0 +1,62 @@
+use ilk_arena::Arena;
+use ilk_base::Row;
+use ilk_cnf::Lit;
+use ilk_log::{Step, read_step, write_step};
+use std::alloc::{AllocError, Global};
+use std::test::Fail;
+
+// The line of the step without literals and hints.
+fn empty_line(alloc: Global) -> Result<Vec<u8>, AllocError> {
+    let step = Step {
+        clause: Row::new(alloc),
+        hints: Row::new(alloc),
+    };
+    write_step(alloc, &step)
+}
+
+// The line of a step with two literals and two hints.
+fn full_line(alloc: Global) -> Result<Vec<u8>, AllocError> {
+    let mut clause = Row::new(alloc);
+    clause.push(Lit::new(12, true))?;
+    clause.push(Lit::new(3, false))?;
+    let mut hints = Row::new(alloc);
+    hints.push(1)?;
+    hints.push(400)?;
+    write_step(alloc, &Step { clause, hints })
+}
+
+#[test]
+fn lines_of_steps(rt: HostRuntime) -> Result<(), Fail> {
+    let alloc = rt.alloc();
+    assert_eq!(rt; empty_line(alloc)?.as_slice(), b"step 0 0".as_slice());
+    assert_eq!(rt;
+        full_line(alloc)?.as_slice(),
+        b"step 12 -3 0 1 400 0".as_slice()
+    );
+    for (line, is_step) in [
+        ("step 0 0", true),
+        ("step 12 -3 0 1 400 0", true),
+        ("", false),
+        ("steps 0 0", false),
+        ("step", false),
+        ("step 0", false),
+        ("step 1 x 0 0", false),
+        ("step 1 0 x 0", false),
+        ("step 0 0 0", false),
+    ] {
+        let step = read_step(alloc, line.as_bytes())?;
+        assert_eq!(rt; step.is_some(), is_step, "at {line}");
+    }
+    Ok(())
+}
+
+#[test]
+fn arenas(rt: HostRuntime) -> Result<(), Fail> {
+    let alloc = rt.alloc();
+    for vars in [0, 5] {
+        let mut arena = Arena::new(alloc, vars)?;
+        arena.reserve(0)?;
+        arena.reserve(100)?;
+    }
+    Ok(())
+}

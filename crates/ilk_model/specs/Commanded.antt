@@ -1,0 +1,25 @@
+-- Where points are commanded.
+use Rattle.std.specs.Prelude.{ℕ, Bool, true, false, Option, Some, slice_get}
+use Rattle.ilk_base.specs.Option.{◌>>=◌, is_some_and}
+use Rattle.ilk_plant.specs.Plant.{PlantLists, point_number}
+use Rattle.ilk_plant.specs.declared.network.Position.{Position}
+use Rattle.ilk_plant.specs.declared.network.Position.TheVariants.{Plus, Minus}
+use Rattle.ilk_plant.specs.declared.state.State.{State}
+use Rattle.ilk_plant.specs.declared.table.Listed.{Listed}
+
+-- whether two positions are one
+abbrev pub same_position : Position → Position → Bool
+same_position Plus Plus = true
+same_position Minus Minus = true
+same_position a b = false
+
+-- where the point on section x is commanded; none where x is no point
+abbrev pub command_of : PlantLists → State → ℕ → Option Position
+command_of p s x = do
+  n ← point_number p x
+  point ← slice_get s.points n
+  Some point.to
+
+-- whether a listed point is commanded to its listed position
+abbrev pub is_commanded_as_listed : PlantLists → State → Listed → Bool
+is_commanded_as_listed p s listed = is_some_and (command_of p s listed.point) (λ to. same_position to listed.at)

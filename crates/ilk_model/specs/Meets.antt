@@ -1,0 +1,23 @@
+-- The invariant: what a state has that has the shape, no hazard, and breaks no family.
+use Rattle.std.specs.Prelude.{ℕ, ◌-◌, ◌≡◌, Bool, None, List, [], ◌∷◌, IsTrue, slice_get}
+use Rattle.std.specs.List.{list_all}
+use Rattle.ilk_base.specs.Option.{is_some_and}
+use Rattle.ilk_plant.specs.Plant.{PlantLists}
+use Rattle.ilk_plant.specs.Shape.{HasShape}
+use Rattle.ilk_plant.specs.declared.state.State.{State}
+use Rattle.ilk_model.specs.Families.{keeps_v1, keeps_v2, keeps_v3, keeps_v4, keeps_v5, keeps_v6, keeps_v7, keeps_v8, keeps_v9}
+use Rattle.ilk_model.specs.Hazard.{hazard}
+
+-- the families in order, V1 first
+abbrev pub families : List (PlantLists → State → Bool)
+families = keeps_v1 ∷ keeps_v2 ∷ keeps_v3 ∷ keeps_v4 ∷ keeps_v5 ∷ keeps_v6 ∷ keeps_v7 ∷ keeps_v8 ∷ keeps_v9 ∷ []
+
+-- whether s keeps family VJ, for j from 1 to 9
+abbrev pub keeps : PlantLists → State → ℕ → Bool
+keeps p s j = is_some_and (slice_get families (j - 1)) (λ keeps_it. keeps_it p s)
+
+-- s has the shape, has no hazard, and keeps all nine families
+pub record Meets (p : PlantLists) (s : State) : Type 0 where
+  pub shape : HasShape p s
+  pub no_hazard : hazard p s ≡ None
+  pub families_kept : IsTrue (list_all (λ keeps_it. keeps_it p s) families)
