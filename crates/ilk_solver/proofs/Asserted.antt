@@ -99,8 +99,10 @@ addable es (l ∷ (m ∷ c)) n climb d a b top =
     let first = eqb-true (level_at es l) (level_of es) three.1 in
     let second = eqb-true (level_at es m) high one.1 in
     let under = ltb-true high (level_of es) two.1 in
-    let rest = (and_parts (is_false (lits_of es) l) (is_falsified (lits_of es) (m ∷ c)) three.0).1 in
-    (unset-below es n l d (omega (arith, b, first, under)), elim (below_or_past n high) [
-      | inl q ↦ inl (unset-below es n m d (omega (arith, q, second)))
-      | inr q ↦ inr (rest-false es (m ∷ c) n d rest q, second-now es m n climb d (omega (arith, second, q, b)) top)
-    ])
+    let rest = (and_parts (is_false (lits_of es) l) (is_falsified (lits_of es) (m ∷ c)) three.0).1 in (
+      unset-below es n l d (omega (arith, b, first, under)),
+      elim (below_or_past n high) [
+        | inl q ↦ inl (unset-below es n m d (omega (arith, q, second)))
+        | inr q ↦ inr (rest-false es (m ∷ c) n d rest q, second-now es m n climb d (omega (arith, second, q, b)) top)
+      ],
+    )

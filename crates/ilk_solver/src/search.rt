@@ -57,11 +57,13 @@ impl Search {
         let view = View::new(alloc, cnf.vars())?;
         let clauses = copied(alloc, cnf)?;
         let given = clauses.count();
+        let queue = Queue::new();
+        let log = Log::new(alloc);
         Ok(Search {
             clauses,
-            queue: Queue::new(),
+            queue,
             given,
-            log: Log::new(alloc),
+            log,
             view,
         })
     }

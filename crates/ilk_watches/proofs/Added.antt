@@ -93,14 +93,21 @@ new-covered a es h s r sp (l ∷ (m ∷ ls)) ka kb fresh known le ok =
         | inl q ↦ not-made es i e l ok.0 t (sym (opposite-opposite e.lit) ∙ ap opposite q)
         | inr q ↦ not-made es i e m u t (sym (opposite-opposite e.lit) ∙ ap opposite q)
       ]))
-      | inr f ↦ inr (omega (arith, new.number, le), (l, m, record {
-        watches = λ p w. new-watches a l m ls r sp p ka fresh w;
-        others_false = (let own : same_lit l l ≡ true = same-lit l in
-            let rest : is_falsified (lits_of es) (others l (l ∷ (m ∷ ls))) ≡ true = rw own (falsified-others (lits_of es) l (m ∷ ls) f.0) in
-            ap (λ (c : List Literal). is_falsified (lits_of es) (others l c)) new.literals ∙ rest);
-        recent = f.1;
-        possible = λ i e b t. not-made es i e l ok.0 t;
-      }))
+      | inr f ↦ inr (
+        omega (arith, new.number, le),
+        (
+          l,
+          m,
+          record {
+            watches = λ p w. new-watches a l m ls r sp p ka fresh w;
+            others_false = (let own : same_lit l l ≡ true = same-lit l in
+                let rest : is_falsified (lits_of es) (others l (l ∷ (m ∷ ls))) ≡ true = rw own (falsified-others (lits_of es) l (m ∷ ls) f.0) in
+                ap (λ (c : List Literal). is_falsified (lits_of es) (others l c)) new.literals ∙ rest);
+            recent = f.1;
+            possible = λ i e b t. not-made es i e l ok.0 t;
+          },
+        ),
+      )
     ]
 
 -- an old clause
@@ -109,12 +116,19 @@ old-covered a es h s r sp c clause q ka kb known ne =
     let same = old-same a clause r sp c ka kb known in
     elim (q.watched c known) [
       | inl v ↦ inl (λ i e l b t w1 w2 apart. v i e l b t (chains-old a clause r sp c (opposite e.lit) ne w1) (chains-old a clause r sp c l ne w2) apart)
-      | inr m ↦ inr (omega (arith, m.0, same.number), (m.1.0, m.1.1, record {
-        watches = λ l w. m.1.2.watches l (chains-old a clause r sp c l ne w);
-        others_false = ap (λ (ls : List Literal). is_falsified (lits_of es) (others m.1.0 ls)) same.literals ∙ m.1.2.others_false;
-        recent = m.1.2.recent;
-        possible = m.1.2.possible;
-      }))
+      | inr m ↦ inr (
+        omega (arith, m.0, same.number),
+        (
+          m.1.0,
+          m.1.1,
+          record {
+            watches = λ l w. m.1.2.watches l (chains-old a clause r sp c l ne w);
+            others_false = ap (λ (ls : List Literal). is_falsified (lits_of es) (others m.1.0 ls)) same.literals ∙ m.1.2.others_false;
+            recent = m.1.2.recent;
+            possible = m.1.2.possible;
+          },
+        ),
+      )
     ]
 
 grown : (a : ArenaLists) (es : List Entry) (h s r sp : ℕ) (clause : List Literal) → IsQueue a es h s → IsClauses a → IsClauses (added a clause r sp) → stands_in r a.references ≡ false → IsAddable es clause → IsQueue (added a clause r sp) es h s

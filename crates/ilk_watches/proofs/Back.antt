@@ -42,19 +42,19 @@ lower a es h s k n q cl climb low closed le fits same = record {
   head_in = fits;
   settled_in = q.settled_in;
   queued = λ i e b t. absurd (
-    let w = slice_get_within (up_to k es) i e t in
-    let here = same (omega (arith, b, w)) in
-    let now = q.queued i e (omega (arith, b, here)) (at-kept (up_to k es) es i e (front-kept k es climb) t) in
-    let level = up-level k es i e t in
-    omega (arith, now, level, low));
+      let w = slice_get_within (up_to k es) i e t in
+      let here = same (omega (arith, b, w)) in
+      let now = q.queued i e (omega (arith, b, here)) (at-kept (up_to k es) es i e (front-kept k es climb) t) in
+      let level = up-level k es i e t in
+      omega (arith, now, level, low));
   watched = λ c known. elim (q.watched c known) [
     | inl v ↦ inl (covered-back a es h n k c climb le v)
     | inr m ↦ inl (forced-back a es h n k c m.1.0 m.1.1 climb le low m.1.2)
   ];
   short = λ c known few b.
-    (let r = by-reference a c cl known in
-    let o : is_open (lits_of (up_to k es)) (clause_at a.clauses r.index) ≡ true = list_all-slice_get (is_open (lits_of (up_to k es))) a.clauses r.index (clause_at a.clauses r.index) closed (clause-there a.clauses r.index r.within) in
-    short-satisfied (up_to k es) (literals_of a c) b (ap (is_open (lits_of (up_to k es))) (sym r.literals) ∙ o));
+      (let r = by-reference a c cl known in
+      let o : is_open (lits_of (up_to k es)) (clause_at a.clauses r.index) ≡ true = list_all-slice_get (is_open (lits_of (up_to k es))) a.clauses r.index (clause_at a.clauses r.index) closed (clause-there a.clauses r.index r.within) in
+      short-satisfied (up_to k es) (literals_of a c) b (ap (is_open (lits_of (up_to k es))) (sym r.literals) ∙ o));
 }
 
 -- the levels above k are taken off, below which propagation is at its end

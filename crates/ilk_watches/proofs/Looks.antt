@@ -117,18 +117,18 @@ queue-unit a es h s l k cl d w look =
     let possible = left-open set clause l (lone-open set _ l u).1 in
     let p = propagated-one a.clauses es l s r in
     queue-next a es (assigned es l s) h s k w p (λ c known n.
-      (let ls = at-number a c s cl known n in
-      let inside : has_lit l (literals_of a c) ≡ true = ap (has_lit l) ls ∙ has in
-      record {
-        covered = elim (k.watched c known) [
-          | inl v ↦ covered-more a es (assigned es l s) h c p.kept k.head_in v
-          | inr m ↦ (let x = m.1.0 in
-              let same : l ≡ x = others-only set (literals_of a c) x l m.1.2.others_false inside possible in
-              let t : is_true_at (assigned es l s) (level_of es) x ≡ true = ap (is_true_at (assigned es l s) (level_of es)) (sym same) ∙ true-pushed es e (level_of es) (omega arith) in
-              forced-covered a es (assigned es l s) h c x m.1.1 m.1.2 p.kept k.head_in t)
-        ];
-        short = λ b. satisfied-by (assigned es l s) (literals_of a c) l inside (pushed-true es e);
-      }))
+    (let ls = at-number a c s cl known n in
+    let inside : has_lit l (literals_of a c) ≡ true = ap (has_lit l) ls ∙ has in
+    record {
+      covered = elim (k.watched c known) [
+        | inl v ↦ covered-more a es (assigned es l s) h c p.kept k.head_in v
+        | inr m ↦ (let x = m.1.0 in
+            let same : l ≡ x = others-only set (literals_of a c) x l m.1.2.others_false inside possible in
+            let t : is_true_at (assigned es l s) (level_of es) x ≡ true = ap (is_true_at (assigned es l s) (level_of es)) (sym same) ∙ true-pushed es e (level_of es) (omega arith) in
+            forced-covered a es (assigned es l s) h c x m.1.1 m.1.2 p.kept k.head_in t)
+      ];
+      short = λ b. satisfied-by (assigned es l s) (literals_of a c) l inside (pushed-true es e);
+    }))
 
 -- it is neither a unit nor false
 pub queue-open : (a : ArenaLists) (es : List Entry) (h s : ℕ) → IsQueue a es h s → IsClauses a → climbs 0 es ≡ true → s < length a.clauses → look_of (lits_of es) (clause_at a.clauses s) ≡ Open → IsQueue a es h (s + 1)
@@ -136,16 +136,16 @@ queue-open a es h s k cl climb w look =
     let set = lits_of es in
     let o = open-told set (clause_at a.clauses s) look in
     queue-next a es es h s k w (propagated-start a.clauses es) (λ c known n.
-      (let ls = at-number a c s cl known n in
-      let open_it : is_open set (literals_of a c) ≡ true = ap (is_open set) ls ∙ o in
-      let differ : vars_differ (literals_of a c) ≡ true = ap vars_differ ls ∙ differ-at a s cl w in
-      record {
-        covered = elim (k.watched c known) [
-          | inl v ↦ v
-          | inr m ↦ (let x = m.1.0 in
-              let true_now = open-true set (literals_of a c) x differ m.1.2.others_false open_it in
-              let t : is_true_at es (level_of es) x ≡ true = ap (λ (xs : List Entry). has_lit x (lits_of xs)) (up_to-all 0 (level_of es) es climb (omega arith)) ∙ true_now in
-              forced-covered a es es h c x m.1.1 m.1.2 (take-length es) k.head_in t)
-        ];
-        short = λ b. short-satisfied es (literals_of a c) b open_it;
-      }))
+    (let ls = at-number a c s cl known n in
+    let open_it : is_open set (literals_of a c) ≡ true = ap (is_open set) ls ∙ o in
+    let differ : vars_differ (literals_of a c) ≡ true = ap vars_differ ls ∙ differ-at a s cl w in
+    record {
+      covered = elim (k.watched c known) [
+        | inl v ↦ v
+        | inr m ↦ (let x = m.1.0 in
+            let true_now = open-true set (literals_of a c) x differ m.1.2.others_false open_it in
+            let t : is_true_at es (level_of es) x ≡ true = ap (λ (xs : List Entry). has_lit x (lits_of xs)) (up_to-all 0 (level_of es) es climb (omega arith)) ∙ true_now in
+            forced-covered a es es h c x m.1.1 m.1.2 (take-length es) k.head_in t)
+      ];
+      short = λ b. short-satisfied es (literals_of a c) b open_it;
+    }))

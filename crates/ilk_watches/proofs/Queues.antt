@@ -63,10 +63,10 @@ queue-walked a b es fs h n s k v p same le m = record {
   ];
   watched = λ c known. inl (v c known);
   short = λ c known few b2.
-    (let ls = literals-same a b c same in
-    let number = number-same a b c same.references in
-    let there : stands_in c a.references ≡ true = ap (stands_in c) (sym same.references) ∙ known in
-    ap (is_satisfied fs) ls ∙ satisfied-kept es fs (literals_of a c) p.kept (k.short c there (omega (arith, few, number)) (omega (arith, b2, ap length ls))));
+      (let ls = literals-same a b c same in
+      let number = number-same a b c same.references in
+      let there : stands_in c a.references ≡ true = ap (stands_in c) (sym same.references) ∙ known in
+      ap (is_satisfied fs) ls ∙ satisfied-kept es fs (literals_of a c) p.kept (k.short c there (omega (arith, few, number)) (omega (arith, b2, ap length ls))));
 }
 
 -- the queue is empty
@@ -88,11 +88,11 @@ queue-decided a es h s l k cl all here =
       head_in = omega (arith, here, more);
       settled_in = k.settled_in;
       queued = λ i x b t.
-        (let w = slice_get_within (decided es l) i x t in
-        let last : i ≡ length es = omega (arith, w, more, b, here) in
-        let z : Some x ≡ Some e = sym t ∙ ap (slice_get (decided es l)) last ∙ end-of es e in
-        let same : x ≡ e = cc in
-        ap (λ (y : Entry). y.level) same ∙ sym (last_level-push 0 es e));
+          (let w = slice_get_within (decided es l) i x t in
+          let last : i ≡ length es = omega (arith, w, more, b, here) in
+          let z : Some x ≡ Some e = sym t ∙ ap (slice_get (decided es l)) last ∙ end-of es e in
+          let same : x ≡ e = cc in
+          ap (λ (y : Entry). y.level) same ∙ sym (last_level-push 0 es e));
       watched = λ c known. inl (covered-more a es (decided es l) h c kept k.head_in (v c known));
       short = λ c known le n. satisfied-kept es (decided es l) (literals_of a c) kept (k.short c known le n);
     }

@@ -68,13 +68,7 @@ fn find_between(
 }
 
 // The first such literal from `start` on and around.
-fn find_around(
-    clauses: &Clauses,
-    trail: &Trail,
-    c: u64,
-    other: Lit,
-    start: u64,
-) -> Option<u64>
+fn find_around(clauses: &Clauses, trail: &Trail, c: u64, other: Lit, start: u64) -> Option<u64>
     requires known { IsTrue (stands_in c clauses.now.references) }
     requires vars { trail.now.vars ≡ clauses.now.vars }
     requires trail { IsTrail trail.now }
@@ -141,13 +135,7 @@ fn replace_watch(
 
 // Visits the clause at reference `c`, which stands right after `before`, or first, in the chain of `f`,
 // which is false.
-fn visit(
-    clauses: &mut Clauses,
-    trail: &mut Trail,
-    before: Option<u64>,
-    c: u64,
-    f: Lit,
-) -> Visited
+fn visit(clauses: &mut Clauses, trail: &mut Trail, before: Option<u64>, c: u64, f: Lit) -> Visited
     requires vars { trail.old.vars ≡ clauses.old.vars }
     requires within { IsTrue (lit_in clauses.old.vars f) }
     requires denied { IsTrue (is_false_by (lits_of trail.old.entries) f) }

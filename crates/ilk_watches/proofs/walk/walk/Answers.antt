@@ -311,7 +311,7 @@ returns-clause-walked c =
     let within : lit_in a.vars f ≡ true = ap (λ (m : ℕ). lit_in m f) v.same.vars ∙ within0 in
     let none : c.chain.at ≡ None = no-some c.chain.at c.in_default.not-Some in
     let level : (e : Entry) → slice_get es n ≡ Some e → (opposite e.lit ≡ f) × (e.level ≡ level_of es) = λ e s. (let same : e ≡ at.entry = (let z : Some e ≡ Some at.entry = sym s ∙ stands in cc) in
-        (ap (λ (x : Entry). opposite x.lit) same ∙ fe, ap (λ (x : Entry). x.level) same ∙ c.requires.queued at.entry at.stands ∙ sym v.propagated.level)) in
+    (ap (λ (x : Entry). opposite x.lit) same ∙ fe, ap (λ (x : Entry). x.level) same ∙ c.requires.queued at.entry at.stands ∙ sym v.propagated.level)) in
     walk-end a es n f v.walk.passed (all-passed a es n f c.chain.before c.chain.at v.walk none) c.level-2.ensures.is_trail.climbing level
   where
     no-some : (o : Option ℕ) → ((x : ℕ) → o ≡ Some x → ⊥) → o ≡ None

@@ -12,11 +12,11 @@ use Rattle.ilk_solver.proofs.search.Search.new.Goals as goal
 
 pub invariant_of-result : goal.invariant_of-result
 invariant_of-result c =
-    let a = c.in_ok-clauses.field-0 in
-    let view = c.in_ok-view.field-0 in
+    let a = c.in_ok-clauses.clauses in
+    let view = c.in_ok-view.view in
     let f = formula_of a in
     let given = c.count-given.result in
-    let log = c.new-2.result in
+    let log = c.new-log.result in
     let V : ℕ → ViewLists = λ n. record { trail = record { vars = n; entries = [] }; weights = replicate n 0 } in
     let vars : c.vars.result ≡ f.vars = c.vars.ensures.count ∙ ap (λ (x : Formula). x.vars) (sym c.in_ok-clauses.ensures) in
     let view_is : view ≡ V f.vars = c.in_ok-view.ensures ∙ ap V vars in
@@ -24,8 +24,8 @@ invariant_of-result c =
     let L : List Step → Type 0 = λ l. HoldsSearch f given l (V f.vars) in
     let S : ViewLists → Type 0 = λ v. HoldsSearch f given log v in
     let Q : Queue → Type 0 = λ q. IsQueue a [] q.head q.settled in
-    let E : ViewLists → Type 0 = λ v. IsQueue a v.trail.entries c.new.result.head c.new.result.settled in
+    let E : ViewLists → Type 0 = λ v. IsQueue a v.trail.entries c.new-queue.result.head c.new-queue.result.settled in
     record {
-      search = subst S (sym view_is) (subst L (sym c.new-2.ensures) (subst G (sym c.count-given.ensures.count) (held-start f)));
-      queue = subst E (sym view_is) (subst Q (sym c.new.ensures) (queue-start a));
+      search = subst S (sym view_is) (subst L (sym c.new-log.ensures) (subst G (sym c.count-given.ensures.count) (held-start f)));
+      queue = subst E (sym view_is) (subst Q (sym c.new-queue.ensures) (queue-start a));
     }

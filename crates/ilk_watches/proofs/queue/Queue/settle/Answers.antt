@@ -63,8 +63,8 @@ looks-preserved c =
             propagated = subst P (sym made) (propagated-push a.clauses old.entries es l s v.propagated f.0);
           })
       | in-Open w ↦ record {
-          trail = w.trail-is ∙ v.trail ∙ ap (λ (xs : List Entry). record old { entries = xs }) (sym (ap (λ (t : TrailList). t.entries) w.trail-is));
-          queue = subst Q (sym w.trail-is) (queue-open a es h s v.queue c.count.ensures.clauses c.look_at.ensures.trail.climbing within (sym w.in-Open.ensures.look));
-          propagated = subst P (sym w.trail-is) v.propagated;
-        }
+        trail = w.trail-is ∙ v.trail ∙ ap (λ (xs : List Entry). record old { entries = xs }) (sym (ap (λ (t : TrailList). t.entries) w.trail-is));
+        queue = subst Q (sym w.trail-is) (queue-open a es h s v.queue c.count.ensures.clauses c.look_at.ensures.trail.climbing within (sym w.in-Open.ensures.look));
+        propagated = subst P (sym w.trail-is) v.propagated;
+      }
     ]
