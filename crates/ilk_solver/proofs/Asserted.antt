@@ -1,5 +1,5 @@
 -- A clause that is asserting is open on the levels below the one that it goes back to.
-use Rattle.std.proofs.Common.{◌≡◌, ◌&&◌, ◌<◌, ◌≤◌, ℕ, true, false, not, inl, inr, eqb, List, [], ◌∷◌, Some, refl, sym, ap, ◌∙◌, subst, arith}
+use Rattle.std.proofs.Common.{◌≡◌, ◌&&◌, ◌<◌, ◌≤◌, ℕ, true, false, not, inl, inr, eqb, List, [], ◌∷◌, refl, sym, ap, ◌∙◌, subst, arith}
 use Rattle.std.specs.Prelude.{nat_le, nat_lt, is_none}
 use Rattle.std.proofs.lemmas.Bool.{and_parts, cases_Bool, eqb-true, ltb-true, not-true, or_parts, or_from}
 use Rattle.std.proofs.lemmas.Bool.Decides.{eqb_tells, nat_tests}
@@ -12,9 +12,7 @@ use Rattle.ilk_clauses.proofs.Values.{no_lit}
 use Rattle.ilk_learn.specs.Levels.{level_at, is_current, highest_level}
 use Rattle.ilk_learn.specs.Asserting.{back_level, begins_at, is_asserting}
 use Rattle.ilk_solver.specs.Levels.{LevelsClosed}
-use Rattle.std.specs.List.{slice_get}
 use Rattle.ilk_base.proofs.Ranges.{below_or_past}
-use Rattle.ilk_cnf.specs.Literal.{has_lit}
 use Rattle.ilk_trail.specs.Laws.{climbs}
 use Rattle.ilk_learn.proofs.Derived.{false-at, false-from}
 use Rattle.ilk_learn.proofs.Fresh.{has-up_to}
