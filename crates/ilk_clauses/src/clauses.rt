@@ -1,50 +1,58 @@
-ghost use Rattle.std.specs.Prelude.{◌≡◌, ◌≤◌, ◌<◌, ◌^◌, ◌++◌, ◌∷◌, [], length, slice_get, Some, IfOk, OnOk, OnErr, IsTrue};
-ghost use Rattle.ilk_cnf.specs.Formula.{clause_in, grown, lit_in, IsFormula};
+ghost use Rattle.std.specs.Prelude.{◌≡◌, ◌≤◌, ◌<◌, ◌^◌, [], false, length, slice_get, Some, IfOk, IfSome, OnOk, OnErr, IsTrue};
+ghost use Rattle.ilk_cnf.specs.Formula.{clause_in, lit_in, IsFormula};
 ghost use Rattle.ilk_cnf.specs.Literal.{vars_differ};
+ghost use Rattle.ilk_arena.specs.Arena.{chain_of, follows, literals_of, rewatched, set_beside, stands_in};
 ghost use Rattle.ilk_clauses.specs.Reasons.{clause_at};
+ghost use Rattle.ilk_clauses.specs.Chained.{formula_of, IsClauses, IsClauseAdded};
 
-use ilk_cnf::{Lit, Lits};
+use ilk_arena::Arena;
+use ilk_cnf::Lit;
 use std::alloc::{AllocError, Global};
 use std::marker::Model;
 
 /// Clauses over the variables 1 to `vars`, by number.
 #[derive(Drop)]
 pub struct Clauses {
-    vars: u64,
-    lists: Vec<Lits>,
+    arena: Arena,
+    // by number: where the clause stands in the arena
+    references: Vec<u64>,
 }
 
 impl Model for Clauses {
-    ghost use Rattle.ilk_cnf.specs.Formula.{Formula, IsFormula};
+    ghost use Rattle.ilk_arena.specs.Arena.{ArenaLists};
+    ghost use Rattle.ilk_clauses.specs.Held.{HoldsClauses};
 
-    ghost Value = { Formula };
+    ghost Value = { ArenaLists };
 
-    ghost view = { λ c. record { vars = c.vars; clauses = c.lists.items } };
+    ghost view = { λ c. c.arena };
 
-    ghost invariant = { λ c. IsFormula (record { vars = c.vars; clauses = c.lists.items }) };
+    ghost invariant = { λ c. HoldsClauses c.arena c.references.items };
 }
 
 impl Clauses {
     /// No clause, over the variables 1 to `vars`.
-    pub fn new(alloc: Global, vars: u64) -> Clauses
+    pub fn new(alloc: Global, vars: u64) -> Result<Clauses, AllocError>
         requires { vars ≤ 2 ^ 62 }
-        ensures { result ≡ record { vars = vars; clauses = [] } }
+        ensures { IfOk result (λ c. formula_of c ≡ record { vars = vars; clauses = [] }) }
     {
-        Clauses {
-            vars,
-            lists: Vec::new(alloc),
-        }
+        Ok(Clauses {
+            arena: Arena::new(alloc, vars)?,
+            references: Vec::new(alloc),
+        })
     }
 
-    /// Adds a clause at the end. Its number is how many there were.
+    /// Adds a clause at the end. Its number is how many there were, and it watches its first two
+    /// literals, if it has two.
     pub fn add(&mut self, clause: &[Lit]) -> Result<(), AllocError>
         requires within { IsTrue (clause_in self.old.vars clause.now) }
         requires differ { IsTrue (vars_differ clause.now) }
-        ensures ok { OnOk result (self.new ≡ grown self.old self.old.vars (clause.now ∷ [])) }
-        ensures err { OnErr result (self.new ≡ self.old) }
+        ensures ok { OnOk result (IsClauseAdded self.old clause.now self.new) }
+        ensures err { OnErr result (self.new ≡ record self.old { spare = self.new.spare }) }
     {
-        let list = list_of(*self.lists.allocator(), clause)?;
-        self.lists.push(list)?;
+        self.arena.reserve(clause.len() as u64 + 8)?;
+        self.references.reserve(1)?;
+        let reference = self.arena.add(clause);
+        self.references.push(reference).unwrap();
         Ok(())
     }
 
@@ -53,15 +61,16 @@ impl Clauses {
         ensures count { result ≡ self.now.vars }
         ensures numbered { result ≤ 2 ^ 62 }
     {
-        self.vars
+        self.arena.vars()
     }
 
     /// How many clauses there are.
     pub fn count(&self) -> u64
         ensures count { result ≡ length self.now.clauses }
-        ensures formula { IsFormula self.now }
+        ensures formula { IsFormula (formula_of self.now) }
+        ensures clauses { IsClauses self.now }
     {
-        self.lists.len() as u64
+        self.references.len() as u64
     }
 
     /// How many literals clause `c` has.
@@ -69,7 +78,7 @@ impl Clauses {
         requires { c < length self.now.clauses }
         ensures { result ≡ length (clause_at self.now.clauses c) }
     {
-        self.lists[c as usize].len()
+        self.arena.length(self.references[c as usize])
     }
 
     /// Literal `i` of clause `c`.
@@ -79,17 +88,38 @@ impl Clauses {
         ensures literal { slice_get (clause_at self.now.clauses c) i ≡ Some result }
         ensures within { IsTrue (lit_in self.now.vars result) }
     {
-        *self.lists[c as usize].at(i)
+        self.arena.literal(self.references[c as usize], i)
     }
-}
 
-// The same literals.
-fn list_of(alloc: Global, lits: &[Lit]) -> Result<Lits, AllocError>
-    ensures { IfOk result (λ list. list ≡ lits.now) }
-{
-    let mut list = Lits::new(alloc);
-    for lit in lits {
-        list.push(*lit)?;
+    /// The clauses by reference, with their chains.
+    #[inline(always)]
+    pub fn arena(&self) -> &Arena
+        ensures arena { result.now ≡ self.now }
+        ensures clauses { IsClauses self.now }
+    {
+        &self.arena
     }
-    Ok(list)
+
+    /// Sets the cursor of the clause at reference `c`.
+    #[inline(always)]
+    pub fn set_cursor(&mut self, c: u64, i: u64)
+        requires known { IsTrue (stands_in c self.old.references) }
+        requires within { i ≤ length (literals_of self.old c) }
+        ensures { self.new ≡ record self.old { cursors = set_beside c self.old.references self.old.cursors i } }
+    {
+        self.arena.set_cursor(c, i);
+    }
+
+    /// Moves the watch of the clause at reference `c` from `from` to its literal `to`, which it
+    /// doesn't watch: see `Arena`.
+    #[inline(always)]
+    pub fn rewatch(&mut self, before: Option<u64>, c: u64, from: Lit, to: u64)
+        requires within { IsTrue (lit_in self.old.vars from) }
+        requires follows { IsTrue (follows before c (chain_of self.old from)) }
+        requires to_in { to < length (literals_of self.old c) }
+        requires unwatched { IfSome (slice_get (literals_of self.old c) to) (λ l. stands_in c (chain_of self.old l) ≡ false) }
+        ensures { IfSome (slice_get (literals_of self.old c) to) (λ l. self.new ≡ rewatched self.old c from l) }
+    {
+        self.arena.rewatch(before, c, from, to);
+    }
 }

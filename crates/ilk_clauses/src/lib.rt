@@ -1,15 +1,16 @@
 //! The clauses of a search, by number: first those of the formula, then each that was learned.
 //!
 //! A clause's number is its place in the list, from 0. The reasons of a trail are such numbers; a
-//! hint of the log, which counts from 1, is the number and 1. Contracts see a formula (`ilk_cnf`),
-//! and how the clauses are kept shows in no call.
+//! hint of the log, which counts from 1, is the number and 1. All clauses stand in one arena
+//! (`ilk_arena`), with a row of their references by number; contracts see the lists of the arena.
+//!
+//! A clause is added by `add`, and read by number through `length` and `literal`. A walk along a chain
+//! goes by reference, through `arena`; it moves a watch by `rewatch`, and a cursor by `set_cursor`.
 //!
 //! `specs/Reasons` says what the entries of a trail owe to the clauses: which clause forces a
-//! literal, and which is a conflict.
+//! literal, and which is a conflict. `specs/Chained` says what is so of the clauses of every search.
 #![tactic(auto)]
 
-mod arena_clauses;
 mod clauses;
 
-pub use arena_clauses::ArenaClauses;
 pub use clauses::Clauses;

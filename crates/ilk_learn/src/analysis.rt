@@ -2,6 +2,7 @@
 
 ghost use Rattle.std.specs.Prelude.{◌≡◌, ◌-◌, ◌<◌, false, [], ◌∷◌, ◌++◌, find, reverse, IfOk, IsTrue};
 ghost use Rattle.std.specs.Bool.{◌==◌};
+ghost use Rattle.ilk_clauses.specs.Chained.{formula_of};
 ghost use Rattle.ilk_clauses.specs.Reasons.{is_conflict, HasReasons};
 ghost use Rattle.ilk_cnf.specs.Literal.{opposite};
 ghost use Rattle.ilk_cnf.specs.Formula.{clause_in};
@@ -88,7 +89,7 @@ fn analysed(
     trail: &Trail,
     conflict: u64,
 ) -> Result<Step, AllocError>
-    requires { IsConflict clauses.now trail.now conflict }
+    requires { IsConflict (formula_of clauses.now) trail.now conflict }
     ensures { IfOk result (λ s. s ≡ learned clauses.now.clauses trail.now.entries conflict) }
 {
     let mut hand = started(alloc, clauses, trail, conflict)?;
@@ -108,7 +109,7 @@ fn started(
     trail: &Trail,
     conflict: u64,
 ) -> Result<Hand, AllocError>
-    requires { IsConflict clauses.now trail.now conflict }
+    requires { IsConflict (formula_of clauses.now) trail.now conflict }
     ensures { IfOk result (λ h. Keeps trail.now h (conflict_step clauses.now.clauses conflict)) }
 {
     let _count = clauses.count();

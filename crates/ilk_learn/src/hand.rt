@@ -1,6 +1,7 @@
 //! The clause in hand while it is resolved with the reasons of entries.
 
 ghost use Rattle.std.specs.Prelude.{◌≡◌, ◌+◌, ◌-◌, ◌<◌, ◌^◌, true, false, [], ◌∷◌, ◌++◌, List, Some, length, slice_index_or, IfOk, OnOk, IsTrue};
+ghost use Rattle.ilk_clauses.specs.Chained.{formula_of};
 ghost use Rattle.ilk_clauses.specs.Reasons.{clause_at, HasReasons};
 ghost use Rattle.ilk_cnf.specs.Literal.{Literal, has_var};
 ghost use Rattle.ilk_cnf.specs.Formula.{lit_in};
@@ -144,7 +145,7 @@ impl Hand {
         trail: &Trail,
         conflict: u64,
     ) -> Result<Option<Lit>, AllocError>
-        requires conflict { IsConflict clauses.now trail.now conflict }
+        requires conflict { IsConflict (formula_of clauses.now) trail.now conflict }
         requires held { Keeps trail.now self.old (conflict_step clauses.now.clauses conflict) }
         ensures { IfOk result (λ point. Reached trail.now clauses.now.clauses conflict self.new point) }
     {

@@ -1,5 +1,5 @@
 -- A clause that is asserting is open on the levels below the one that it goes back to.
-use Rattle.std.proofs.Common.{◌≡◌, ◌&&◌, ◌<◌, ◌≤◌, ℕ, true, false, not, inl, inr, eqb, List, [], ◌∷◌, refl, sym, subst, arith}
+use Rattle.std.proofs.Common.{◌≡◌, ◌&&◌, ◌<◌, ◌≤◌, ℕ, true, false, not, inl, inr, eqb, List, [], ◌∷◌, refl, sym, ap, ◌∙◌, subst, arith}
 use Rattle.std.specs.Prelude.{nat_le, nat_lt, is_none}
 use Rattle.std.proofs.lemmas.Bool.{and_parts, cases_Bool, eqb-true, ltb-true, not-true, or_parts, or_from}
 use Rattle.std.proofs.lemmas.Bool.Decides.{eqb_tells, nat_tests}
@@ -12,7 +12,15 @@ use Rattle.ilk_clauses.proofs.Values.{no_lit}
 use Rattle.ilk_learn.specs.Levels.{level_at, is_current, highest_level}
 use Rattle.ilk_learn.specs.Asserting.{back_level, begins_at, is_asserting}
 use Rattle.ilk_solver.specs.Levels.{LevelsClosed}
-use Rattle.ilk_solver.proofs.ClosedLevels.{up_to-twice}
+use Rattle.ilk_base.proofs.Ranges.{below_or_past}
+use Rattle.ilk_trail.specs.Laws.{climbs}
+use Rattle.ilk_learn.proofs.Derived.{false-at, false-from}
+use Rattle.ilk_learn.proofs.Fresh.{has-up_to}
+use Rattle.ilk_learn.proofs.Highest.{below-highest}
+use Rattle.ilk_learn.proofs.Latest.{level-entry}
+use Rattle.ilk_watches.specs.Watched.{FalseOnlyNow, IsAddable}
+use Rattle.ilk_watches.proofs.Entries.{at-kept}
+use Rattle.ilk_watches.proofs.Prefixes.{front-kept, up_to-twice}
 
 -- fewer entries have fewer variables
 none-fewer : (es : List Entry) (k v : ℕ) → has_var v (lits_of es) ≡ false → has_var v (lits_of (up_to k es)) ≡ false
@@ -64,3 +72,35 @@ asserting-open es (l ∷ (m ∷ c)) n d a b top = λ k low.
     let below : k < n = omega (arith, top, low) in
     let P : List Entry → Type 0 = λ xs. is_closed ((l ∷ (m ∷ c)) ∷ []) (lits_of xs) ≡ true in
     subst P (sym (up_to-twice k n es (omega (arith, below)))) (two-open (lits_of (up_to k es)) l m c (open-below es k l d (omega (arith, below, b, first, under))) (open-below es k m d (omega (arith, below, b, second))))
+
+-- what stays false where the search goes back to the highest level of the others
+rest-false : (es : List Entry) (ls : List Literal) (n : ℕ) → vars_differ (lits_of es) ≡ true → is_falsified (lits_of es) ls ≡ true → highest_level es ls ≤ n → is_falsified (lits_of (up_to n es)) ls ≡ true
+rest-false es ls n d f h = false-from (lits_of (up_to n es)) ls (λ x s.
+    (let low = below-highest es ls x s in
+    has-up_to n es (opposite x) d (false-at (lits_of es) ls x f s) (omega (arith, low, h))))
+
+-- the entry that makes the second literal false is of that level
+second-now : (es : List Entry) (m : Literal) (n : ℕ) → climbs 0 es ≡ true → vars_differ (lits_of es) ≡ true → level_at es m ≡ n → level_of (up_to n es) ≡ n → FalseOnlyNow (up_to n es) m
+second-now es m n climb d at top = λ i e s q.
+    (let old = at-kept (up_to n es) es i e (front-kept n es climb) s in
+    sym (level-entry es i e d old) ∙ ap (level_at es) q ∙ at ∙ sym top)
+
+-- an asserting clause may be added where the search goes back
+pub addable : (es : List Entry) (c : List Literal) (n : ℕ) → climbs 0 es ≡ true → vars_differ (lits_of es) ≡ true → is_asserting es c ≡ true → n ≤ back_level es c → level_of (up_to n es) ≡ n → IsAddable (up_to n es) c
+addable es [] n climb d a b top = tt
+addable es (l ∷ []) n climb d a b top = tt
+addable es (l ∷ (m ∷ c)) n climb d a b top =
+    let high = highest_level es (m ∷ c) in
+    let one = and_parts (is_falsified (lits_of es) (l ∷ (m ∷ c)) && is_current es l && nat_lt high (level_of es)) (begins_at es high (m ∷ c)) a in
+    let two = and_parts (is_falsified (lits_of es) (l ∷ (m ∷ c)) && is_current es l) (nat_lt high (level_of es)) one.0 in
+    let three = and_parts (is_falsified (lits_of es) (l ∷ (m ∷ c))) (is_current es l) two.0 in
+    let first = eqb-true (level_at es l) (level_of es) three.1 in
+    let second = eqb-true (level_at es m) high one.1 in
+    let under = ltb-true high (level_of es) two.1 in
+    let rest = (and_parts (is_false (lits_of es) l) (is_falsified (lits_of es) (m ∷ c)) three.0).1 in (
+      unset-below es n l d (omega (arith, b, first, under)),
+      elim (below_or_past n high) [
+        | inl q ↦ inl (unset-below es n m d (omega (arith, q, second)))
+        | inr q ↦ inr (rest-false es (m ∷ c) n d rest q, second-now es m n climb d (omega (arith, second, q, b)) top)
+      ],
+    )

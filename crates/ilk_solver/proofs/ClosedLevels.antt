@@ -17,7 +17,8 @@ use Rattle.ilk_trail.specs.Laws.{climbs, is_level_next, lits_of}
 use Rattle.ilk_trail.proofs.Levels.{last_level-push, next-level, up_to-above, up_to-all}
 use Rattle.ilk_clauses.specs.Reasons.{HasReasons, is_reason}
 use Rattle.ilk_clauses.proofs.Forced.{reasons-front, reasons-push}
-use Rattle.ilk_solver.specs.Propagated.{IsPropagated}
+use Rattle.ilk_watches.specs.Propagated.{IsPropagated}
+use Rattle.ilk_watches.proofs.Prefixes.{up_to-twice}
 use Rattle.ilk_solver.specs.Levels.{LevelsClosed}
 
 below_or_at : (k n : ℕ) → k < n + 1 → (k < n) ⊎ (k ≡ n)
@@ -112,17 +113,6 @@ pub reasons-back : (cs : List (List Literal)) (es : List Entry) (m : ℕ) → cl
 reasons-back cs es m c h =
     let P : List Entry → Type 0 = λ xs. HasReasons cs xs in
     reasons-front cs (up_to m es) (above_level m es) (subst P (sym (up_to-front 0 m es c)) h)
-
-pub up_to-twice : (k m : ℕ) (es : List Entry) → k ≤ m → up_to k (up_to m es) ≡ up_to k es
-up_to-twice k m [] h = refl
-up_to-twice k m (x ∷ es) h =
-    elim (cases_Bool (nat_le x.level m)) [
-      | inl t ↦ elim (cases_Bool (nat_le x.level k)) [
-        | inl s ↦ rw (t, s) (ap (λ ys. x ∷ ys) (up_to-twice k m es h))
-        | inr s ↦ rw (t, s) (up_to-twice k m es h)
-      ]
-      | inr t ↦ (let s : nat_le x.level k ≡ false = grind (arith, nat_tests) in rw (t, s) (up_to-twice k m es h))
-    ]
 
 pub closed-back : (cs : List (List Literal)) (es : List Entry) (m : ℕ) → m ≤ level_of es → level_of (up_to m es) ≡ m → LevelsClosed cs es → LevelsClosed cs (up_to m es)
 closed-back cs es m le top h = λ k b.

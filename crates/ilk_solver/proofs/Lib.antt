@@ -1,6 +1,3 @@
-pub mod Scan
-pub mod Finding
-pub mod Rounds
 pub mod Unset
 pub mod ClosedLevels
 pub mod Searches

@@ -11,9 +11,11 @@ use Rattle.ilk_log.specs.Propagation.{is_closed}
 use Rattle.ilk_trail.specs.declared.entry.Entry.{Entry}
 use Rattle.ilk_trail.specs.Trail.{decided, level_of, up_to}
 use Rattle.ilk_trail.specs.Laws.{climbs, lits_of}
+use Rattle.ilk_arena.specs.Arena.{ArenaLists}
+use Rattle.ilk_clauses.specs.Chained.{SameClauses, formula_of}
 use Rattle.ilk_clauses.specs.Reasons.{HasReasons}
 use Rattle.ilk_clauses.proofs.Forced.{reasons-none}
-use Rattle.ilk_solver.specs.Propagated.{IsPropagated}
+use Rattle.ilk_watches.specs.Propagated.{IsPropagated}
 use Rattle.ilk_solver.specs.Levels.{LevelsClosed}
 use Rattle.ilk_solver.specs.View.{ViewLists, with_entries}
 use Rattle.ilk_solver.specs.Search.{all_clauses}
@@ -79,3 +81,7 @@ held-start cs = record {
 -- one clause more of a formula is copied
 pub copied-more : (f : Formula) (c : ℕ) (x : List Literal) → c < length f.clauses → slice_get f.clauses c ≡ Some x → take c f.clauses ++ x ∷ [] ≡ take (c + 1) f.clauses
 copied-more f c x h e = sym (take_more f.clauses c x h ∙ ap (λ y. take c f.clauses ++ y ∷ []) (get_or_from_slice_get f.clauses c x x e))
+
+-- the same clauses as a formula
+pub formula-same : (a b : ArenaLists) → SameClauses a b → formula_of b ≡ formula_of a
+formula-same a b s = ap (λ (n : ℕ). let f : Formula = record { vars = n; clauses = b.clauses } in f) s.vars ∙ ap (λ (cs : List (List Literal)). let f : Formula = record { vars = a.vars; clauses = cs } in f) s.clauses

@@ -2,6 +2,9 @@
 use Rattle.std.specs.Prelude.{ℕ, ◌≡◌, ◌≤◌, List, length, take}
 use Rattle.ilk_cnf.specs.Formula.{Formula}
 use Rattle.ilk_log.specs.declared.step.Step.{Step}
+use Rattle.ilk_arena.specs.Arena.{ArenaLists}
+use Rattle.ilk_clauses.specs.Chained.{formula_of}
+use Rattle.ilk_watches.specs.Watched.{IsQueue}
 use Rattle.ilk_solver.specs.View.{ViewLists}
 use Rattle.ilk_solver.specs.Search.{SearchLists, IsSearch, all_clauses}
 
@@ -13,3 +16,8 @@ pub record HoldsSearch (clauses : Formula) (given : ℕ) (log : List Step) (view
   pub first : given ≤ length clauses.clauses
   pub laid : clauses.clauses ≡ all_clauses (search_of clauses given log view)
   pub search : IsSearch (search_of clauses given log view)
+
+-- the same over the arena of the clauses, with how far propagation has come
+pub record HoldsWatched (clauses : ArenaLists) (head settled given : ℕ) (log : List Step) (view : ViewLists) : Type 0 where
+  pub search : HoldsSearch (formula_of clauses) given log view
+  pub queue : IsQueue clauses view.trail.entries head settled

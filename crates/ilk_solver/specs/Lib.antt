@@ -1,6 +1,4 @@
 pub mod View
-pub mod Look
-pub mod Propagated
 pub mod Levels
 pub mod Search
 pub mod Held

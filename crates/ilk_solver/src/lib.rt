@@ -11,14 +11,14 @@
 //! `specs/Search` says what a search keeps between two calls: each forced entry has its reason, each
 //! level below the current one is closed (`specs/Levels`), and the weights count the steps. That is why
 //! a learned clause is fresh, and why at most 3^n - 1 of them can be learned over n variables.
-//! `specs/Propagated` says what propagation adds. It scans all clauses; only `propagation` knows that.
+//! Propagation goes along chains of watching clauses (`ilk_watches`), and how far it has come is kept
+//! beside the clauses.
 #![tactic(auto)]
 
 mod answer;
 mod assigned;
 mod heavier;
 mod picker;
-mod propagation;
 mod restart;
 mod search;
 mod solver;

@@ -1,12 +1,14 @@
 ghost use Rattle.std.specs.Prelude.{◌≡◌, ◌≤◌, ◌<◌, ◌+◌, [], ◌∷◌, false, true, IfNone, IfOk, IfSome, IsTrue};
 ghost use Rattle.ilk_clauses.specs.Reasons.{is_conflict};
+ghost use Rattle.ilk_clauses.specs.Chained.{formula_of};
+ghost use Rattle.ilk_watches.specs.Watched.{IsAddable};
 ghost use Rattle.ilk_cnf.specs.Formula.{clause_in, lit_in};
 ghost use Rattle.ilk_cnf.specs.Literal.{vars_differ};
 ghost use Rattle.ilk_log.specs.Derived.{is_derived};
 ghost use Rattle.ilk_log.specs.Propagation.{is_closed};
 ghost use Rattle.ilk_trail.specs.Trail.{decided, level_of, up_to};
 ghost use Rattle.ilk_trail.specs.Laws.{IsTrail, is_set, lits_of};
-ghost use Rattle.ilk_solver.specs.Propagated.{IsPropagated};
+ghost use Rattle.ilk_watches.specs.Propagated.{IsPropagated};
 ghost use Rattle.ilk_solver.specs.Search.{IsAdded, IsSearch, all_clauses, new_search, with_trail};
 ghost use Rattle.ilk_solver.specs.View.{IsView};
 ghost use Rattle.ilk_solver.specs.Levels.{LevelsClosed};
@@ -15,20 +17,21 @@ ghost use Rattle.ilk_solver.specs.Learned.{IsLearned, IsLonger};
 ghost use Rattle.ilk_solver.specs.Answered.{IsSolution};
 
 use crate::assigned::assignment;
-use crate::propagation::propagate;
 use crate::view::View;
 use ilk_clauses::Clauses;
 use ilk_cnf::{Assignment, Cnf, Lit};
 use ilk_learn::{Learned, learn, refute};
 use ilk_log::{Log, Step};
+use ilk_watches::Queue;
 use std::alloc::{AllocError, Global};
 use std::marker::Model;
 
-// A search without what chooses for it: the clauses of the formula and of the steps, how many are the
-// formula's, the steps, and the view.
+// A search without what chooses for it: the clauses of the formula and of the steps, how far these were
+// propagated, how many are the formula's, the steps, and the view.
 #[derive(Drop)]
 pub struct Search {
     clauses: Clauses,
+    queue: Queue,
     given: u64,
     log: Log,
     view: View,
@@ -36,13 +39,14 @@ pub struct Search {
 
 impl Model for Search {
     ghost use Rattle.ilk_solver.specs.Search.{SearchLists};
-    ghost use Rattle.ilk_solver.specs.Held.{search_of, HoldsSearch};
+    ghost use Rattle.ilk_clauses.specs.Chained.{formula_of};
+    ghost use Rattle.ilk_solver.specs.Held.{search_of, HoldsWatched};
 
     ghost Value = { SearchLists };
 
-    ghost view = { λ s. search_of s.clauses s.given s.log s.view };
+    ghost view = { λ s. search_of (formula_of s.clauses) s.given s.log s.view };
 
-    ghost invariant = { λ s. HoldsSearch s.clauses s.given s.log s.view };
+    ghost invariant = { λ s. HoldsWatched s.clauses s.queue.head s.queue.settled s.given s.log s.view };
 }
 
 impl Search {
@@ -53,10 +57,13 @@ impl Search {
         let view = View::new(alloc, cnf.vars())?;
         let clauses = copied(alloc, cnf)?;
         let given = clauses.count();
+        let queue = Queue::new();
+        let log = Log::new(alloc);
         Ok(Search {
             clauses,
+            queue,
             given,
-            log: Log::new(alloc),
+            log,
             view,
         })
     }
@@ -79,7 +86,8 @@ impl Search {
         ensures same { self.new ≡ with_trail self.old self.new.view.trail.entries }
         ensures propagated { IsPropagated (all_clauses self.old) self.old.view.trail.entries self.new.view.trail.entries }
     {
-        propagate(&self.clauses, &mut self.view)
+        let _ = self.view.vars();
+        self.view.propagate(&mut self.queue, &mut self.clauses)
     }
 
     // Opens the next level with `l`, where propagation is at its end.
@@ -90,7 +98,7 @@ impl Search {
         ensures { self.new ≡ with_trail self.old (decided self.old.view.trail.entries l) }
     {
         let _ = self.view.vars();
-        self.view.decide(l);
+        self.view.decide(&mut self.queue, &mut self.clauses, l);
     }
 
     // Takes off the levels above `level`.
@@ -100,29 +108,36 @@ impl Search {
         ensures level { level_of self.new.view.trail.entries ≡ level }
     {
         let _ = self.view.vars();
+        let _ = self.clauses.count();
         self.view.back_to(level);
+        self.queue.back_to(self.view.trail());
     }
 
-    // Adds a step, whose clause is neither false nor a unit at any level below the current one.
+    // Adds a step, whose clause is neither false nor a unit at any level below the current one, and may
+    // force its first literal alone.
     pub fn add(self, step: Step) -> Result<Search, AllocError>
         requires within { IsTrue (clause_in self.formula.vars step.clause) }
         requires differ { IsTrue (vars_differ step.clause) }
         requires closed { LevelsClosed (step.clause ∷ []) self.view.trail.entries }
+        requires addable { IsAddable self.view.trail.entries step.clause }
         ensures { IfOk result (λ s. IsAdded self step s) }
     {
         let Search {
             mut clauses,
+            queue,
             given,
             mut log,
             mut view,
         } = self;
         let _ = view.vars();
+        let _ = clauses.arena();
         clauses.add(step.clause.as_slice())?;
         let _ = clauses.count();
         view.count(step.clause.as_slice());
         log.push(step)?;
         Ok(Search {
             clauses,
+            queue,
             given,
             log,
             view,
@@ -202,9 +217,9 @@ impl Search {
 
 // The clauses of a formula.
 fn copied(alloc: Global, cnf: &Cnf) -> Result<Clauses, AllocError>
-    ensures { IfOk result (λ clauses. clauses ≡ cnf.now) }
+    ensures { IfOk result (λ clauses. formula_of clauses ≡ cnf.now) }
 {
-    let mut clauses = Clauses::new(alloc, cnf.vars());
+    let mut clauses = Clauses::new(alloc, cnf.vars())?;
     for c in 0..cnf.clauses() {
         clauses.add(cnf.clause(c + 1).as_slice())?;
     }

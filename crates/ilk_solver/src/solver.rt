@@ -3,7 +3,7 @@ ghost use Rattle.ilk_clauses.specs.Reasons.{is_conflict};
 ghost use Rattle.ilk_log.specs.Propagation.{is_closed};
 ghost use Rattle.ilk_trail.specs.Laws.{lits_of};
 ghost use Rattle.ilk_solver.specs.Answered.{IsAnswer, IsLog};
-ghost use Rattle.ilk_solver.specs.Propagated.{IsPropagated};
+ghost use Rattle.ilk_watches.specs.Propagated.{IsPropagated};
 ghost use Rattle.ilk_solver.specs.Search.{all_clauses, new_search, with_trail};
 
 use crate::answer::{Answer, Outcome};

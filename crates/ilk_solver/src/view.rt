@@ -1,15 +1,22 @@
 ghost use Rattle.std.specs.Prelude.{◌≡◌, ◌≤◌, ◌<◌, ◌+◌, ◌^◌, ◌-◌, ℕ, [], false, true, length, not, replicate, slice_index, if◌then◌else◌, IfNone, IfOk, IfSome, IsTrue};
 ghost use Rattle.ilk_cnf.specs.Formula.{clause_in, lit_in};
 ghost use Rattle.ilk_cnf.specs.Literal.{has_var, vars_differ};
-ghost use Rattle.ilk_trail.specs.Trail.{assigned, decided, level_of, up_to, value_of_literal};
-ghost use Rattle.ilk_trail.specs.Laws.{is_set};
+ghost use Rattle.ilk_trail.specs.Trail.{decided, level_of, up_to, value_of_literal};
+ghost use Rattle.ilk_trail.specs.Laws.{is_set, lits_of};
+ghost use Rattle.ilk_log.specs.Propagation.{is_closed};
+ghost use Rattle.ilk_clauses.specs.Reasons.{is_conflict};
+ghost use Rattle.ilk_clauses.specs.Chained.{SameClauses};
+ghost use Rattle.ilk_watches.specs.Propagated.{IsPropagated};
+ghost use Rattle.ilk_watches.specs.Watched.{IsQueue};
 ghost use Rattle.ilk_solver.specs.Assigned.{AllSet, SomeUnset};
 ghost use Rattle.ilk_solver.specs.Heaviest.{IsHeaviest};
 ghost use Rattle.ilk_solver.specs.View.{IsView, weight_of, with_entries};
 
 use crate::heavier::heavier;
+use ilk_clauses::Clauses;
 use ilk_cnf::Lit;
 use ilk_trail::Trail;
+use ilk_watches::Queue;
 use std::alloc::{AllocError, Global};
 use std::marker::Model;
 
@@ -118,23 +125,35 @@ impl View {
         self.trail.count() == self.vars()
     }
 
-    // Adds `l` at the current level, forced by clause `reason`.
-    pub(crate) fn assign(&mut self, l: Lit, reason: u64)
-        requires within { IsTrue (lit_in self.old.trail.vars l) }
-        requires unset { is_set self.old.trail.entries l.var ≡ false }
-        ensures { self.new ≡ with_entries self.old (assigned self.old.trail.entries l reason) }
+    // Sets what the clauses force until nothing is left to set, or answers a clause that is false. It
+    // takes no memory.
+    pub(crate) fn propagate(&mut self, queue: &mut Queue, clauses: &mut Clauses) -> Option<u64>
+        requires vars { self.old.trail.vars ≡ clauses.old.vars }
+        requires queued { IsQueue clauses.old self.old.trail.entries queue.old.head queue.old.settled }
+        ensures conflict { IfSome result (λ c. IsTrue (is_conflict clauses.old.clauses (lits_of self.new.trail.entries) c)) }
+        ensures closed { IfNone result (IsTrue (is_closed clauses.old.clauses (lits_of self.new.trail.entries))) }
+        ensures entries { self.new ≡ with_entries self.old self.new.trail.entries }
+        ensures propagated { IsPropagated clauses.old.clauses self.old.trail.entries self.new.trail.entries }
+        ensures queued { IsQueue clauses.new self.new.trail.entries queue.new.head queue.new.settled }
+        ensures same { SameClauses clauses.old clauses.new }
     {
-        self.trail.assign(l, reason);
+        let found = queue.propagate(clauses, &mut self.trail);
         let _ = self.trail.level();
+        found
     }
 
-    // Opens the next level with `l`.
-    pub(crate) fn decide(&mut self, l: Lit)
+    // Opens the next level with `l`, where propagation is at its end.
+    pub(crate) fn decide(&mut self, queue: &mut Queue, clauses: &mut Clauses, l: Lit)
+        requires vars { self.old.trail.vars ≡ clauses.old.vars }
+        requires queued { IsQueue clauses.old self.old.trail.entries queue.old.head queue.old.settled }
         requires within { IsTrue (lit_in self.old.trail.vars l) }
         requires unset { is_set self.old.trail.entries l.var ≡ false }
-        ensures { self.new ≡ with_entries self.old (decided self.old.trail.entries l) }
+        requires closed { IsTrue (is_closed clauses.old.clauses (lits_of self.old.trail.entries)) }
+        ensures entries { self.new ≡ with_entries self.old (decided self.old.trail.entries l) }
+        ensures queued { IsQueue clauses.new self.new.trail.entries queue.new.head queue.new.settled }
+        ensures same { SameClauses clauses.old clauses.new }
     {
-        self.trail.decide(l);
+        queue.decide(clauses, &mut self.trail, l);
         let _ = self.trail.level();
     }
 

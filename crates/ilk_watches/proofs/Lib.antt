@@ -2,7 +2,7 @@ pub mod Entries
 pub mod Covers
 pub mod Propagations
 pub mod Others
-pub mod Scan
+pub mod Scanned
 pub mod Walks
 pub mod Finding
 pub mod Satisfied

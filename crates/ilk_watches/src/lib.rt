@@ -14,12 +14,14 @@
 //! propagated, the other watch is true at the level of that entry, so that it stays true until the
 //! entry is taken off. It is kept when levels are taken off (`proofs/Back`) and when a clause is added
 //! (`proofs/Added`), and it holds where nothing is set (`proofs/Start`). `specs/Propagated` says what
-//! propagation adds to a trail.
+//! propagation adds to a trail. `propagate_by_scan` is the plain body of the same contract.
 #![tactic(auto)]
 
 mod look;
 mod queue;
+mod scan;
 mod walk;
 
 pub use look::{Look, look_at};
 pub use queue::Queue;
+pub use scan::propagate_by_scan;

@@ -3,7 +3,7 @@ ghost use Rattle.ilk_clauses.specs.Reasons.{clause_at};
 ghost use Rattle.ilk_trail.specs.Laws.{lits_of, IsTrail};
 ghost use Rattle.ilk_watches.specs.Look.{look_of};
 
-use ilk_clauses::ArenaClauses;
+use ilk_clauses::Clauses;
 use ilk_cnf::Lit;
 use ilk_trail::Trail;
 
@@ -16,7 +16,7 @@ pub enum Look {
 }
 
 /// What clause `c` is.
-pub fn look_at(clauses: &ArenaClauses, trail: &Trail, c: u64) -> Look
+pub fn look_at(clauses: &Clauses, trail: &Trail, c: u64) -> Look
     requires clause { c < length clauses.now.clauses }
     requires vars { trail.now.vars ≡ clauses.now.vars }
     ensures look { result ≡ look_of (lits_of trail.now.entries) (clause_at clauses.now.clauses c) }

@@ -10,7 +10,7 @@ ghost use Rattle.ilk_watches.specs.Watched.{IsQueue};
 
 use crate::look::{Look, look_at};
 use crate::walk::walk;
-use ilk_clauses::ArenaClauses;
+use ilk_clauses::Clauses;
 use ilk_cnf::Lit;
 use ilk_trail::Trail;
 
@@ -35,7 +35,7 @@ impl Queue {
 
     /// Sets what the clauses force until nothing is left to set, or answers the number of a clause that
     /// is false. It takes no memory.
-    pub fn propagate(&mut self, clauses: &mut ArenaClauses, trail: &mut Trail) -> Option<u64>
+    pub fn propagate(&mut self, clauses: &mut Clauses, trail: &mut Trail) -> Option<u64>
         requires vars { trail.old.vars ≡ clauses.old.vars }
         requires queue { IsQueue clauses.old trail.old.entries self.old.head self.old.settled }
         ensures conflict { IfSome result (λ c. IsTrue (is_conflict clauses.old.clauses (lits_of trail.new.entries) c)) }
@@ -53,7 +53,7 @@ impl Queue {
     }
 
     // Looks at the clauses that were not looked at yet, and sets what they force.
-    fn settle(&mut self, clauses: &ArenaClauses, trail: &mut Trail) -> Option<u64>
+    fn settle(&mut self, clauses: &Clauses, trail: &mut Trail) -> Option<u64>
         requires vars { trail.old.vars ≡ clauses.now.vars }
         requires queue { IsQueue clauses.now trail.old.entries self.old.head self.old.settled }
         ensures conflict { IfSome result (λ c. IsTrue (is_conflict clauses.now.clauses (lits_of trail.new.entries) c)) }
@@ -74,7 +74,7 @@ impl Queue {
     }
 
     // Propagates the entries that are queued.
-    fn run(&mut self, clauses: &mut ArenaClauses, trail: &mut Trail) -> Option<u64>
+    fn run(&mut self, clauses: &mut Clauses, trail: &mut Trail) -> Option<u64>
         requires vars { trail.old.vars ≡ clauses.old.vars }
         requires queue { IsQueue clauses.old trail.old.entries self.old.head self.old.settled }
         requires settled { self.old.settled ≡ length clauses.old.clauses }
@@ -99,7 +99,7 @@ impl Queue {
     }
 
     /// Opens the next level with `l`, where propagation is at its end.
-    pub fn decide(&mut self, clauses: &mut ArenaClauses, trail: &mut Trail, l: Lit)
+    pub fn decide(&mut self, clauses: &mut Clauses, trail: &mut Trail, l: Lit)
         requires vars { trail.old.vars ≡ clauses.old.vars }
         requires queue { IsQueue clauses.old trail.old.entries self.old.head self.old.settled }
         requires within { IsTrue (lit_in trail.old.vars l) }

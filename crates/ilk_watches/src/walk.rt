@@ -12,7 +12,7 @@ ghost use Rattle.ilk_watches.specs.Propagated.{IsPropagated};
 ghost use Rattle.ilk_watches.specs.Watched.{AllCovered};
 ghost use Rattle.ilk_watches.specs.Visits.{IsReplaced, IsVisited, MayWatchAt, NoneMayWatch};
 
-use ilk_clauses::ArenaClauses;
+use ilk_clauses::Clauses;
 use ilk_cnf::Lit;
 use ilk_trail::Trail;
 
@@ -43,7 +43,7 @@ fn is_false(trail: &Trail, l: Lit) -> bool
 // The first literal of the clause at reference `c`, from `from` on and before `to`, that may be watched
 // beside `other`.
 fn find_between(
-    clauses: &ArenaClauses,
+    clauses: &Clauses,
     trail: &Trail,
     c: u64,
     other: Lit,
@@ -68,7 +68,7 @@ fn find_between(
 }
 
 // The first such literal from `start` on and around.
-fn find_around(clauses: &ArenaClauses, trail: &Trail, c: u64, other: Lit, start: u64) -> Option<u64>
+fn find_around(clauses: &Clauses, trail: &Trail, c: u64, other: Lit, start: u64) -> Option<u64>
     requires known { IsTrue (stands_in c clauses.now.references) }
     requires vars { trail.now.vars ≡ clauses.now.vars }
     requires trail { IsTrail trail.now }
@@ -84,7 +84,7 @@ fn find_around(clauses: &ArenaClauses, trail: &Trail, c: u64, other: Lit, start:
 }
 
 // Such a literal, where there is one.
-fn find_watch(clauses: &mut ArenaClauses, trail: &Trail, c: u64, other: Lit) -> Option<u64>
+fn find_watch(clauses: &mut Clauses, trail: &Trail, c: u64, other: Lit) -> Option<u64>
     requires known { IsTrue (stands_in c clauses.old.references) }
     requires vars { trail.now.vars ≡ clauses.old.vars }
     requires trail { IsTrail trail.now }
@@ -106,7 +106,7 @@ fn find_watch(clauses: &mut ArenaClauses, trail: &Trail, c: u64, other: Lit) -> 
 // Moves the watch of the clause at reference `c` from `f`, which is false, to a literal that isn't, where
 // there is one beside `other`, its other watch.
 fn replace_watch(
-    clauses: &mut ArenaClauses,
+    clauses: &mut Clauses,
     trail: &Trail,
     before: Option<u64>,
     c: u64,
@@ -135,13 +135,7 @@ fn replace_watch(
 
 // Visits the clause at reference `c`, which stands right after `before`, or first, in the chain of `f`,
 // which is false.
-fn visit(
-    clauses: &mut ArenaClauses,
-    trail: &mut Trail,
-    before: Option<u64>,
-    c: u64,
-    f: Lit,
-) -> Visited
+fn visit(clauses: &mut Clauses, trail: &mut Trail, before: Option<u64>, c: u64, f: Lit) -> Visited
     requires vars { trail.old.vars ≡ clauses.old.vars }
     requires within { IsTrue (lit_in clauses.old.vars f) }
     requires denied { IsTrue (is_false_by (lits_of trail.old.entries) f) }
@@ -177,7 +171,7 @@ fn visit(
 
 // Visits the clauses in the chain of the literal that entry `head` makes false. It sets what they force,
 // or answers the number of a clause that is false.
-pub fn walk(clauses: &mut ArenaClauses, trail: &mut Trail, head: u64) -> Option<u64>
+pub fn walk(clauses: &mut Clauses, trail: &mut Trail, head: u64) -> Option<u64>
     requires vars { trail.old.vars ≡ clauses.old.vars }
     requires head { head < length trail.old.entries }
     requires queued { (e : Entry) → slice_get trail.old.entries head ≡ Some e → e.level ≡ level_of trail.old.entries }

@@ -3,7 +3,7 @@ use Rattle.ilk_clauses.specs.Reasons.{clause_at}
 use Rattle.ilk_trail.specs.Trail.{TrailList, value_of_literal}
 use Rattle.ilk_watches.specs.declared.look.Look.TheVariants.{Conflict, Unit}
 use Rattle.std.specs.Option.{option_map_or}
-use Rattle.ilk_watches.proofs.Scan.{scan, scan-is, scan-true, scan-false, scan-second, scan-first, scan-end}
+use Rattle.ilk_watches.proofs.Scanned.{scan, scan-is, scan-true, scan-false, scan-second, scan-first, scan-end}
 use Rattle.ilk_watches.proofs.look.look_at.Goals as goal
 use Rattle.ilk_watches.proofs.look.look_at.Goals.{in-Some+else-value, in-None+else-is_some}
 

@@ -1,6 +1,6 @@
 use Rattle.std.proofs.Common.{◌≡◌, drop, None}
 use Rattle.ilk_clauses.specs.Reasons.{clause_at}
-use Rattle.ilk_watches.proofs.Scan.{scan}
+use Rattle.ilk_watches.proofs.Scanned.{scan}
 use Rattle.ilk_watches.proofs.look.look_at.Given as goal
 
 abbrev pub invariant-loop-i : goal.invariant-loop-i

@@ -1,3 +1,4 @@
+use Rattle.std.proofs.Common.{arith}
 use Rattle.ilk_arena.proofs.Readings.{vars-are}
 use Rattle.ilk_arena.proofs.arena.Arena.vars.Goals as goal
 

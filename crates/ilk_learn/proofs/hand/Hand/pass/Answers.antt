@@ -1,19 +1,20 @@
 use Rattle.std.proofs.Common.{◌≡◌, get_or, ◌∙◌, arith, true, false}
+use Rattle.ilk_clauses.specs.Chained.{formula_of}
 use Rattle.ilk_learn.proofs.Holding.{both-ok, mark-read, within-marks, reason-known, keeps-same, keeps-resolved}
 use Rattle.ilk_learn.proofs.hand.Hand.pass.Goals as goal
 
 pub resolve-requires-clause-known : goal.resolve-requires-clause-known
 resolve-requires-clause-known c =
-    (reason-known c.args.clauses.now c.args.trail.now c.args.lit.var c.in-Some.reason c.count-count.ensures.formula c.requires.vars c.requires.reasons c.requires.set c.in-Some.ensures).0
+    (reason-known (formula_of c.args.clauses.now) c.args.trail.now c.args.lit.var c.in-Some.reason c.count-count.ensures.formula c.requires.vars c.requires.reasons c.requires.set c.in-Some.ensures).0
 
 pub resolve-requires-clause-numbered : goal.resolve-requires-clause-numbered
 resolve-requires-clause-numbered c =
-    let known = (reason-known c.args.clauses.now c.args.trail.now c.args.lit.var c.in-Some.reason c.count-count.ensures.formula c.requires.vars c.requires.reasons c.requires.set c.in-Some.ensures).0 in
+    let known = (reason-known (formula_of c.args.clauses.now) c.args.trail.now c.args.lit.var c.in-Some.reason c.count-count.ensures.formula c.requires.vars c.requires.reasons c.requires.set c.in-Some.ensures).0 in
     omega (arith, known, c.count-count.ensures.count)
 
 pub resolve-requires-clause-set : goal.resolve-requires-clause-set
 resolve-requires-clause-set c =
-    (reason-known c.args.clauses.now c.args.trail.now c.args.lit.var c.in-Some.reason c.count-count.ensures.formula c.requires.vars c.requires.reasons c.requires.set c.in-Some.ensures).1
+    (reason-known (formula_of c.args.clauses.now) c.args.trail.now c.args.lit.var c.in-Some.reason c.count-count.ensures.formula c.requires.vars c.requires.reasons c.requires.set c.in-Some.ensures).1
 
 pub returns-in-Some : goal.returns-in-Some
 returns-in-Some c =

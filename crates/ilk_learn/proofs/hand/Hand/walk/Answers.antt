@@ -7,6 +7,7 @@ use Rattle.ilk_trail.specs.declared.entry.Entry.{Entry}
 use Rattle.ilk_trail.specs.Trail.{entry_of}
 use Rattle.ilk_trail.specs.Laws.{is_set}
 use Rattle.ilk_trail.proofs.Entries.{set-at}
+use Rattle.ilk_clauses.specs.Chained.{formula_of}
 use Rattle.ilk_learn.specs.Levels.{is_current}
 use Rattle.ilk_learn.specs.Learning.{is_implication_point}
 use Rattle.ilk_learn.specs.Hand.{Reached}
@@ -16,10 +17,10 @@ use Rattle.ilk_learn.proofs.hand.Hand.walk.Goals as goal
 
 pub loop-i-init : goal.loop-i-init
 loop-i-init c =
-    let P : ℕ → Type 0 = λ n. Far c.args.clauses.now c.args.trail.now c.args.self.now c.args.conflict n in
+    let P : ℕ → Type 0 = λ n. Far (formula_of c.args.clauses.now) c.args.trail.now c.args.self.now c.args.conflict n in
     record {
       low = omega (arith, c.count-i.ensures.count);
-      far = subst P (sym c.count-i.ensures.count) (far-start c.args.clauses.now c.args.trail.now c.args.self.now c.args.conflict c.count-clauses.ensures.formula c.count-i.ensures.is_trail c.requires.conflict c.requires.held);
+      far = subst P (sym c.count-i.ensures.count) (far-start (formula_of c.args.clauses.now) c.args.trail.now c.args.self.now c.args.conflict c.count-clauses.ensures.formula c.count-i.ensures.is_trail c.requires.conflict c.requires.held);
     }
 
 pub is_point-requires-clause-within : goal.is_point-requires-clause-within
@@ -30,7 +31,7 @@ is_point-requires-clause-within c =
 
 pub returns-then-is_point : goal.returns-then-is_point
 returns-then-is_point c =
-    let f = c.args.clauses.now in
+    let f = (formula_of c.args.clauses.now) in
     let t = c.args.trail.now in
     let i = c.loop-i.i - 1 in
     let k = c.loop-i.invariant.far in
@@ -57,11 +58,11 @@ pass-requires-clause-current c = λ _. (let t = c.args.trail.now in
     let i = c.loop-i.i - 1 in
     let x = mapped-Some (λ (e : Entry). e.lit) (slice_get t.entries i) c.at-lit.result c.at-lit.ensures in
     let q : c.loop-i.i ≡ suc i = omega arith in
-    ap (is_current t.entries) (sym x.2) ∙ entry-current c.args.clauses.now t c.loop-i.self c.args.conflict c.loop-i.i i x.0 c.count-i.ensures.is_trail c.loop-i.invariant.far q x.1)
+    ap (is_current t.entries) (sym x.2) ∙ entry-current (formula_of c.args.clauses.now) t c.loop-i.self c.args.conflict c.loop-i.i i x.0 c.count-i.ensures.is_trail c.loop-i.invariant.far q x.1)
 
 pub loop-i-preserved : goal.loop-i-preserved
 loop-i-preserved c =
-    let f = c.args.clauses.now in
+    let f = (formula_of c.args.clauses.now) in
     let t = c.args.trail.now in
     let i = c.loop-i.i - 1 in
     let k = c.loop-i.invariant.far in
@@ -78,5 +79,5 @@ loop-i-preserved c =
 pub returns : goal.returns
 returns c =
     let n : c.loop-i.i ≡ 0 = omega (arith, c.loop-i-test.false) in
-    let P : ℕ → Type 0 = λ m. Far c.args.clauses.now c.args.trail.now c.loop-i.self c.args.conflict m in
-    far-end c.args.clauses.now c.args.trail.now c.loop-i.self c.args.conflict (subst P n c.loop-i.invariant.far)
+    let P : ℕ → Type 0 = λ m. Far (formula_of c.args.clauses.now) c.args.trail.now c.loop-i.self c.args.conflict m in
+    far-end (formula_of c.args.clauses.now) c.args.trail.now c.loop-i.self c.args.conflict (subst P n c.loop-i.invariant.far)
