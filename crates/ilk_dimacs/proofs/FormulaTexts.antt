@@ -1,0 +1,29 @@
+-- The texts of small formulas.
+use Rattle.std.proofs.Common.{◌≡◌, [], ◌∷◌, ◌++◌, refl, ap, ◌∙◌, arith}
+use Rattle.std.specs.Prelude.{codes}
+use Rattle.std.specs.Fmt.{decimal}
+use Rattle.std.proofs.lemmas.Fmt.{decimal_digit}
+use Rattle.ilk_cnf.specs.Literal.{minus, plus}
+use Rattle.ilk_cnf.specs.Formula.{Formula}
+use Rattle.ilk_lines.specs.Lines.{Bytes}
+use Rattle.ilk_lines.specs.Written.{line_of, text_of}
+use Rattle.ilk_dimacs.specs.DimacsText.{dimacs_text}
+
+abbrev of_four : Formula
+of_four = record { vars = 2; clauses = (plus 1 ∷ plus 2 ∷ []) ∷ (plus 1 ∷ minus 2 ∷ []) ∷ (minus 1 ∷ plus 2 ∷ []) ∷ (minus 1 ∷ minus 2 ∷ []) ∷ [] }
+
+-- its text, where the decimals of 1, 2 and 4 are these
+abbrev four_with : Bytes → Bytes → Bytes → Bytes
+four_with one two four = text_of (line_of (codes "p" ∷ codes "cnf" ∷ two ∷ four ∷ []) ∷ line_of (one ∷ two ∷ codes "0" ∷ []) ∷ line_of (one ∷ (45 ∷ two) ∷ codes "0" ∷ []) ∷ line_of ((45 ∷ one) ∷ two ∷ codes "0" ∷ []) ∷ line_of ((45 ∷ one) ∷ (45 ∷ two) ∷ codes "0" ∷ []) ∷ [])
+
+pub four_clauses : dimacs_text of_four ≡ codes "p cnf 2 4\n1 2 0\n1 -2 0\n-1 2 0\n-1 -2 0\n"
+four_clauses =
+    ap (λ (one : Bytes). four_with one (decimal 2) (decimal 4)) (decimal_digit 1 (omega arith)) ∙ ap (λ (two : Bytes). four_with (codes "1") two (decimal 4)) (decimal_digit 2 (omega arith)) ∙ ap (λ (four : Bytes). four_with (codes "1") (codes "2") four) (decimal_digit 4 (omega arith))
+
+pub empty_clause : dimacs_text (record { vars = 0; clauses = [] ∷ [] }) ≡ codes "p cnf 0 1\n0\n"
+empty_clause =
+    let text : Bytes → Bytes → Bytes = λ none one. text_of (line_of (codes "p" ∷ codes "cnf" ∷ none ∷ one ∷ []) ∷ codes "0" ∷ []) in
+    ap (λ (none : Bytes). text none (decimal 1)) (decimal_digit 0 (omega arith)) ∙ ap (text (codes "0")) (decimal_digit 1 (omega arith))
+
+pub no_clause : dimacs_text (record { vars = 0; clauses = [] }) ≡ codes "p cnf 0 0\n"
+no_clause = ap (λ (none : Bytes). text_of (line_of (codes "p" ∷ codes "cnf" ∷ none ∷ none ∷ []) ∷ [])) (decimal_digit 0 (omega arith))

@@ -1,0 +1,16 @@
+use Rattle.std.proofs.Common.{ℕ, Some, ap, arith, sym, ◌∙◌}
+use Rattle.std.specs.Global.{Vec}
+use Rattle.ilk_dimacs.specs.DimacsText.{header_words}
+use Rattle.ilk_dimacs.proofs.Lines.{fed, lines_grow, text_is}
+use Rattle.ilk_dimacs.proofs.write.write_dimacs.Goals as goal
+
+pub loop-i-preserved : goal.loop-i-preserved
+loop-i-preserved c =
+    let f = c.args.cnf.now in
+    let clause = c.as_slice.result.now in
+    let at = c.clause.ensures.clause ∙ ap Some (sym c.as_slice.ensures.items) in
+    lines_grow (fed (header_words f)) f.clauses c.loop-i.i clause _ _ at c.loop-i.invariant c.in_ok-push_clause.ensures
+
+pub returns : goal.returns
+returns c =
+    ap (λ (v : Vec ℕ). v.items) c.into_bytes.ensures.value ∙ text_is c.args.cnf.now c.loop-i.i _ (omega (arith, c.loop-i-test.false, c.clauses-i-end.ensures.count)) c.loop-i.invariant
