@@ -14,6 +14,3 @@ mod examples;
 mod write;
 
 pub use write::write_dimacs;
-
-#[cfg(test)]
-mod tests;
