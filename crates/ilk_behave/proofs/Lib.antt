@@ -1,0 +1,13 @@
+pub mod Located
+pub mod Pushed
+pub mod RuleCounts
+pub mod Tests
+pub mod Tools
+pub mod Values
+pub mod Writing
+pub mod Occupancies
+pub mod RouteSteps
+pub mod ReleaseSteps
+pub mod AllocateSteps
+pub mod PointSteps
+pub mod EnterSteps

@@ -1,0 +1,56 @@
+-- Lists of forms and of rules to which one more, or those of one more thing, were added.
+use Rattle.std.proofs.Common.{◌≡◌, ℕ, zero, suc, ◌+◌, ◌<◌, Some, None, Option, List, [], ◌∷◌, ◌++◌, length, map, slice_get, refl, sym, ◌∙◌, ap, arith, append_assoc}
+use Rattle.std.specs.List.{flat_map, range_with_len}
+use Rattle.std.specs.Option.{option_to_list}
+use Rattle.std.proofs.lemmas.Grind.{flat_map-append}
+use Rattle.std.proofs.lemmas.List.{map-append}
+use Rattle.std.proofs.lemmas.List.Folds.{flat_map-map}
+use Rattle.ilk_base.proofs.Ranges.{grows_all, range-suc}
+use Rattle.ilk_ir.specs.Form.{tree_of}
+use Rattle.ilk_ir.specs.Tree.{Tree}
+use Rattle.ilk_ir.specs.declared.form.Form.{Form}
+use Rattle.ilk_plant.specs.Network.{beside}
+use Rattle.ilk_plant.specs.Plant.{PlantLists, next_to}
+use Rattle.ilk_plant.specs.declared.network.Dir.{Dir}
+use Rattle.ilk_plant.specs.declared.network.Dir.TheVariants.{Up, Down}
+use Rattle.ilk_plant.specs.declared.network.Section.{Section}
+use Rattle.ilk_plant.specs.declared.network.Section.TheVariants.{Linear, Point}
+
+-- the forms of the numbers from k on, and one more
+pub pushed_form : (f : ℕ → Tree) (k n : ℕ) (now next : List Form) (form : Form) → map tree_of now ≡ map f (range_with_len k n) → next ≡ now ++ form ∷ [] → tree_of form ≡ f (k + n) → map tree_of next ≡ map f (range_with_len k (n + 1))
+pushed_form f k n now next form sofar grown is =
+    ap (map tree_of) grown ∙ map-append tree_of now (form ∷ []) ∙ ap (λ ts. ts ++ tree_of form ∷ []) sofar ∙ ap (λ t. map f (range_with_len k n) ++ t ∷ []) is
+    ∙ sym (ap (map f) (ap (range_with_len k) one ∙ range-suc k n) ∙ map-append f (range_with_len k n) ((k + n) ∷ []))
+  where
+    one : n + 1 ≡ suc n
+    one = omega arith
+
+-- what is made of the first numbers, and of one more
+pub made_more : {E R : Type 0} (rules : E → List R) (event : ℕ → E) (n : ℕ) (start now next : List R) (e : E) → now ≡ start ++ flat_map rules (map event (range_with_len 0 n)) → next ≡ now ++ rules e → e ≡ event n → next ≡ start ++ flat_map rules (map event (range_with_len 0 (n + 1)))
+made_more rules event n start now next e sofar grown is =
+    grows_all (λ k. rules (event k)) n start now next (sofar ∙ ap (λ rs. start ++ rs) (flat_map-map rules event (range_with_len 0 n))) (grown ∙ ap (λ v. now ++ rules v) is)
+    ∙ ap (λ rs. start ++ rs) (sym (flat_map-map rules event (range_with_len 0 (n + 1))))
+
+-- at most two sections lie on one side of a section
+pub two_beside : (section : Section) (d : Dir) → beside section d ≡ option_to_list (slice_get (beside section d) 0) ++ option_to_list (slice_get (beside section d) 1)
+two_beside (Linear None up b c) Down = refl
+two_beside (Linear (Some y) up b c) Down = refl
+two_beside (Linear down None b c) Up = refl
+two_beside (Linear down (Some y) b c) Up = refl
+two_beside (Point stem plus minus Up) Up = refl
+two_beside (Point stem plus minus Up) Down = refl
+two_beside (Point stem plus minus Down) Up = refl
+two_beside (Point stem plus minus Down) Down = refl
+
+pub two_next : (p : PlantLists) (x : ℕ) (d : Dir) → next_to p x d ≡ option_to_list (slice_get (next_to p x d) 0) ++ option_to_list (slice_get (next_to p x d) 1)
+two_next p x d = by_section (slice_get p.sections x) refl
+  where
+    by_section : (o : Option Section) → slice_get p.sections x ≡ o → next_to p x d ≡ option_to_list (slice_get (next_to p x d) 0) ++ option_to_list (slice_get (next_to p x d) 1)
+    by_section None e = rw e refl
+    by_section (Some section) e = rw e (two_beside section d)
+
+pub two_pushed : {R : Type 0} (f : ℕ → List R) (p : PlantLists) (x : ℕ) (d : Dir) (start one two : List R) → one ≡ start ++ flat_map f (option_to_list (slice_get (next_to p x d) 0)) → two ≡ one ++ flat_map f (option_to_list (slice_get (next_to p x d) 1)) → two ≡ start ++ flat_map f (next_to p x d)
+two_pushed f p x d start one two first second =
+    second ∙ ap (λ rs. rs ++ flat_map f (option_to_list (slice_get (next_to p x d) 1))) first
+    ∙ append_assoc start (flat_map f (option_to_list (slice_get (next_to p x d) 0))) (flat_map f (option_to_list (slice_get (next_to p x d) 1)))
+    ∙ ap (λ rs. start ++ rs) (sym (flat_map-append f (option_to_list (slice_get (next_to p x d) 0)) (option_to_list (slice_get (next_to p x d) 1))) ∙ ap (flat_map f) (sym (two_next p x d)))

@@ -1,0 +1,8 @@
+use Rattle.std.proofs.Common.{◌≡◌, ◌++◌, drop, map}
+use Rattle.std.specs.List.{flat_map}
+use Rattle.ilk_behave.specs.Settings as settings
+use Rattle.ilk_behave.proofs.settings.push_commands.Given as goal
+
+abbrev pub invariant-loop-listed : goal.invariant-loop-listed
+invariant-loop-listed l =
+    l.sets ++ flat_map (settings.commanded l.plant) (drop l.listed-index l.listed-items) ≡ l.initial.sets ++ flat_map (settings.commanded l.plant) l.listed-items

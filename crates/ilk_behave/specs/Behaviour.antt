@@ -1,0 +1,48 @@
+-- The behaviour of a plant as a finite system: for each event its rules, in the order of the events.
+use Rattle.std.specs.Prelude.{ℕ, Option, List, [], ◌∷◌, ◌++◌, length, map, flat_map, slice_get}
+use Rattle.std.specs.List.{range_with_len}
+use Rattle.ilk_ir.specs.System.{RuleTree, SystemTree}
+use Rattle.ilk_plant.specs.Plant.{PlantLists}
+use Rattle.ilk_model.specs.declared.event.Event.{Event}
+use Rattle.ilk_model.specs.declared.event.Event.TheVariants.{Mark, Allocate, Lock, Sense, Release, Finish, Throw, Settle, Enter, Head, Tail, Leave, Cancel}
+use Rattle.ilk_layout.specs.Variables.{ranges_of_plant}
+use Rattle.ilk_behave.specs.PointRules.{rules_of_settle, rules_of_throw}
+use Rattle.ilk_behave.specs.RouteRules.{rules_of_allocate, rules_of_cancel, rules_of_finish, rules_of_lock, rules_of_mark, rules_of_release, rules_of_sense}
+use Rattle.ilk_behave.specs.TrainRules.{rules_of_enter, rules_of_head, rules_of_leave, rules_of_tail}
+
+-- the events of a kind, one for each of so many routes or sections
+abbrev pub events_up_to : ℕ → (ℕ → Event) → List Event
+events_up_to count kind = map kind (range_with_len 0 count)
+
+-- the events of a plant: for each kind of event, one for each route or for each section
+abbrev pub events_of : PlantLists → List Event
+events_of p =
+    flat_map (events_up_to (length p.routes)) (Mark ∷ Allocate ∷ Lock ∷ Sense ∷ Release ∷ Finish ∷ [])
+    ++ flat_map (events_up_to (length p.sections)) (Throw ∷ Settle ∷ Enter ∷ Head ∷ Tail ∷ Leave ∷ [])
+    ++ events_up_to (length p.routes) Cancel
+
+abbrev pub rules_of : PlantLists → Event → List RuleTree
+rules_of p (Mark r) = rules_of_mark p r
+rules_of p (Allocate r) = rules_of_allocate p r
+rules_of p (Lock r) = rules_of_lock p r
+rules_of p (Sense r) = rules_of_sense p r
+rules_of p (Release r) = rules_of_release p r
+rules_of p (Finish r) = rules_of_finish p r
+rules_of p (Throw x) = rules_of_throw p x
+rules_of p (Settle x) = rules_of_settle p x
+rules_of p (Enter x) = rules_of_enter p x
+rules_of p (Head x) = rules_of_head p x
+rules_of p (Tail x) = rules_of_tail p x
+rules_of p (Leave x) = rules_of_leave p x
+rules_of p (Cancel r) = rules_of_cancel p r
+
+abbrev pub system_of : PlantLists → SystemTree
+system_of p = record { ranges = ranges_of_plant p; rules = flat_map (rules_of p) (events_of p) }
+
+-- for each rule of these events its event
+abbrev pub events_of_rules : PlantLists → List Event → List Event
+events_of_rules p events = flat_map (λ event. map (λ rule. event) (rules_of p event)) events
+
+-- the event of the rule with number i; none where there is no such rule
+abbrev pub event_of_rule : PlantLists → ℕ → Option Event
+event_of_rule p i = slice_get (events_of_rules p (events_of p)) i

@@ -1,0 +1,8 @@
+pub mod Conditions
+pub mod Settings
+pub mod RouteRules
+pub mod PointRules
+pub mod TrainRules
+pub mod Behaviour
+pub mod Kinds
+pub mod Steps

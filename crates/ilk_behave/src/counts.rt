@@ -1,0 +1,119 @@
+ghost use Rattle.std.specs.Prelude.{◌≡◌, ◌≤◌, ◌<◌, ◌+◌, Some, filter, length, not, slice_get};
+ghost use Rattle.ilk_motion.specs.Trains.{has_neighbour};
+ghost use Rattle.ilk_plant.specs.Plant.{next_to};
+ghost use Rattle.ilk_plant.specs.declared.network.Dir.TheVariants.{Up, Down};
+ghost use Rattle.ilk_behave.specs.Behaviour.{rules_of};
+ghost use Rattle.ilk_behave.specs.Kinds.{IsNumbered};
+ghost use Rattle.ilk_behave.specs.PointRules.{rules_of_throw};
+ghost use Rattle.ilk_behave.specs.RouteRules.{rules_of_cancel, rules_of_finish, rules_of_release, rules_of_sense};
+ghost use Rattle.ilk_behave.specs.TrainRules.{both_directions};
+
+use ilk_model::Event;
+use ilk_plant::{Dir, Plant, Section};
+
+// How many sections are next to section `x` on side `d`.
+fn neighbours(plant: &Plant, x: u32, d: Dir) -> u32
+    requires { x < length plant.now.sections }
+    ensures count { result ≡ length (next_to plant.now x d) }
+    ensures few { result ≤ 2 }
+{
+    if plant.neighbour(x, d, 1).is_some() {
+        2
+    } else if plant.neighbour(x, d, 0).is_some() {
+        1
+    } else {
+        0
+    }
+}
+
+// How many sections are next to section `x`.
+fn all_neighbours(plant: &Plant, x: u32) -> u32
+    requires { x < length plant.now.sections }
+    ensures count { result ≡ length (next_to plant.now x Up) + length (next_to plant.now x Down) }
+    ensures few { result ≤ 4 }
+{
+    neighbours(plant, x, Dir::Up) + neighbours(plant, x, Dir::Down)
+}
+
+// On how many sides section `x` has no neighbour.
+fn open_ends(section: &Section) -> u32
+    ensures { result ≡ length (filter (λ d. not (has_neighbour section.now d)) both_directions) }
+{
+    let up = if section.beside(Dir::Up, 0).is_some() {
+        0
+    } else {
+        1
+    };
+    let down = if section.beside(Dir::Down, 0).is_some() {
+        0
+    } else {
+        1
+    };
+    up + down
+}
+
+// How many rules an event of a point has.
+fn point_rule_count(plant: &Plant, x: u32) -> u32
+    requires { x < length plant.now.sections }
+    ensures { result ≡ length (rules_of_throw plant.now x) }
+{
+    match plant.point_number(x) {
+        Some(_) => 2,
+        None => 0,
+    }
+}
+
+// How many rules sense of route `r` has.
+fn sense_rule_count(plant: &Plant, r: u32) -> u32
+    requires { r < length plant.now.routes }
+    ensures { result ≡ length (rules_of_sense plant.now r) }
+{
+    let route = plant.route(r);
+    route.path.len() as u32
+}
+
+// How many rules release of route `r` has.
+fn release_rule_count(plant: &Plant, r: u32) -> u32
+    requires { r < length plant.now.routes }
+    ensures { result ≡ length (rules_of_release plant.now r) }
+{
+    let route = plant.route(r);
+    route.path.len() as u32 - 1
+}
+
+// How many rules finish of route `r` has.
+fn finish_rule_count(plant: &Plant, r: u32) -> u32
+    requires { r < length plant.now.routes }
+    ensures { result ≡ length (rules_of_finish plant.now r) }
+{
+    let _route = plant.route(r);
+    1
+}
+
+// How many rules cancel of route `r` has.
+fn cancel_rule_count(plant: &Plant, r: u32) -> u32
+    requires { r < length plant.now.routes }
+    ensures { result ≡ length (rules_of_cancel plant.now r) }
+{
+    let _route = plant.route(r);
+    2
+}
+
+/// How many rules an event of the plant has.
+pub fn rule_count(plant: &Plant, event: Event) -> u32
+    requires { IsNumbered plant.now event }
+    ensures { result ≡ length (rules_of plant.now event) }
+{
+    match event {
+        Event::Mark(_) | Event::Allocate(_) | Event::Lock(_) => 1,
+        Event::Sense(r) => sense_rule_count(plant, r),
+        Event::Release(r) => release_rule_count(plant, r),
+        Event::Finish(r) => finish_rule_count(plant, r),
+        Event::Throw(x) | Event::Settle(x) => point_rule_count(plant, x),
+        Event::Enter(x) => if plant.border(x).is_some() { 1 } else { 0 },
+        Event::Head(x) => 4 * all_neighbours(plant, x),
+        Event::Tail(x) => 2 * all_neighbours(plant, x),
+        Event::Leave(x) => open_ends(plant.section(x)),
+        Event::Cancel(r) => cancel_rule_count(plant, r),
+    }
+}

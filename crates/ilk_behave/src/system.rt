@@ -1,0 +1,76 @@
+ghost use Rattle.std.specs.Prelude.{◌≡◌, ◌++◌, map, IfOk, OnOk};
+ghost use Rattle.ilk_ir.specs.System.{rule_tree, system_tree};
+ghost use Rattle.ilk_behave.specs.Behaviour.{rules_of, system_of};
+ghost use Rattle.std.specs.List.{flat_map};
+ghost use Rattle.ilk_behave.specs.Behaviour.{events_of};
+ghost use Rattle.ilk_behave.specs.Kinds.{IsNumbered, events_of_kind};
+
+use crate::kinds::{KINDS, Kind};
+use crate::point_rules::{push_settle, push_throw};
+use crate::route_rules::{
+    push_allocate, push_cancel, push_finish, push_lock, push_mark, push_release, push_sense,
+};
+use crate::train_rules::{push_enter, push_head, push_leave, push_tail};
+use ilk_ir::{Rules, System};
+use ilk_layout::ranges;
+use ilk_model::Event;
+use ilk_plant::{Plant, Row};
+use std::alloc::{AllocError, Global};
+
+// Adds the rules of an event.
+fn push_rules_of(
+    alloc: Global,
+    rules: &mut Rules,
+    plant: &Plant,
+    event: Event,
+) -> Result<(), AllocError>
+    requires { IsNumbered plant.now event }
+    ensures { OnOk result (map rule_tree rules.new ≡ map rule_tree rules.old ++ rules_of plant.now event) }
+{
+    match event {
+        Event::Mark(r) => push_mark(alloc, rules, plant, r),
+        Event::Allocate(r) => push_allocate(alloc, rules, plant, r),
+        Event::Lock(r) => push_lock(alloc, rules, plant, r),
+        Event::Sense(r) => push_sense(alloc, rules, plant, r),
+        Event::Release(r) => push_release(alloc, rules, plant, r),
+        Event::Finish(r) => push_finish(alloc, rules, plant, r),
+        Event::Throw(x) => push_throw(alloc, rules, plant, x),
+        Event::Settle(x) => push_settle(alloc, rules, plant, x),
+        Event::Enter(x) => push_enter(alloc, rules, plant, x),
+        Event::Head(x) => push_head(alloc, rules, plant, x),
+        Event::Tail(x) => push_tail(alloc, rules, plant, x),
+        Event::Leave(x) => push_leave(alloc, rules, plant, x),
+        Event::Cancel(r) => push_cancel(alloc, rules, plant, r),
+    }
+}
+
+// Adds the rules of all events of a kind.
+fn push_kind(alloc: Global, rules: &mut Rules, plant: &Plant, kind: Kind) -> Result<(), AllocError>
+    ensures { OnOk result (map rule_tree rules.new ≡ map rule_tree rules.old ++ flat_map (rules_of plant.now) (events_of_kind plant.now kind)) }
+{
+    for number in 0..kind.count(plant) {
+        push_rules_of(alloc, rules, plant, kind.event(plant, number))?;
+    }
+    Ok(())
+}
+
+// The rules of all events, in their order.
+fn all_rules(alloc: Global, plant: &Plant) -> Result<Rules, AllocError>
+    ensures { IfOk result (λ rules. map rule_tree rules ≡ flat_map (rules_of plant.now) (events_of plant.now)) }
+{
+    let mut rules = Row::new(alloc);
+    for kind in &KINDS {
+        push_kind(alloc, &mut rules, plant, *kind)?;
+    }
+    Ok(rules)
+}
+
+/// The behaviour of a plant as a finite system. The only refusal is want of memory.
+pub fn behaviour(alloc: Global, plant: &Plant) -> Result<System, AllocError>
+    ensures { IfOk result (λ made. system_tree made ≡ system_of plant.now) }
+{
+    Ok(System {
+        ranges: ranges(alloc, plant)?,
+        rules: all_rules(alloc, plant)?,
+    })
+}
