@@ -51,17 +51,17 @@ abbrev pub events_of_kinds : PlantLists → List Kind → List Event
 events_of_kinds p kinds = flat_map (events_of_kind p) kinds
 
 -- whether the event has the number of a route, or of a section
-abbrev pub IsNumbered : PlantLists → Event → Type 0
-IsNumbered p (event.Mark n) = n < length p.routes
-IsNumbered p (event.Allocate n) = n < length p.routes
-IsNumbered p (event.Lock n) = n < length p.routes
-IsNumbered p (event.Sense n) = n < length p.routes
-IsNumbered p (event.Release n) = n < length p.routes
-IsNumbered p (event.Finish n) = n < length p.routes
-IsNumbered p (event.Throw n) = n < length p.sections
-IsNumbered p (event.Settle n) = n < length p.sections
-IsNumbered p (event.Enter n) = n < length p.sections
-IsNumbered p (event.Head n) = n < length p.sections
-IsNumbered p (event.Tail n) = n < length p.sections
-IsNumbered p (event.Leave n) = n < length p.sections
-IsNumbered p (event.Cancel n) = n < length p.routes
+abbrev pub HasNumber : PlantLists → Event → Type 0
+HasNumber p (event.Mark n) = n < length p.routes
+HasNumber p (event.Allocate n) = n < length p.routes
+HasNumber p (event.Lock n) = n < length p.routes
+HasNumber p (event.Sense n) = n < length p.routes
+HasNumber p (event.Release n) = n < length p.routes
+HasNumber p (event.Finish n) = n < length p.routes
+HasNumber p (event.Throw n) = n < length p.sections
+HasNumber p (event.Settle n) = n < length p.sections
+HasNumber p (event.Enter n) = n < length p.sections
+HasNumber p (event.Head n) = n < length p.sections
+HasNumber p (event.Tail n) = n < length p.sections
+HasNumber p (event.Leave n) = n < length p.sections
+HasNumber p (event.Cancel n) = n < length p.routes

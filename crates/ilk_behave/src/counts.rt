@@ -3,7 +3,7 @@ ghost use Rattle.ilk_motion.specs.Trains.{has_neighbour};
 ghost use Rattle.ilk_plant.specs.Plant.{next_to};
 ghost use Rattle.ilk_plant.specs.declared.network.Dir.TheVariants.{Up, Down};
 ghost use Rattle.ilk_behave.specs.Behaviour.{rules_of};
-ghost use Rattle.ilk_behave.specs.Kinds.{IsNumbered};
+ghost use Rattle.ilk_behave.specs.Kinds.{HasNumber};
 ghost use Rattle.ilk_behave.specs.PointRules.{rules_of_throw};
 ghost use Rattle.ilk_behave.specs.RouteRules.{rules_of_cancel, rules_of_finish, rules_of_release, rules_of_sense};
 ghost use Rattle.ilk_behave.specs.TrainRules.{both_directions};
@@ -101,7 +101,7 @@ fn cancel_rule_count(plant: &Plant, r: u32) -> u32
 
 /// How many rules an event of the plant has.
 pub fn rule_count(plant: &Plant, event: Event) -> u32
-    requires { IsNumbered plant.now event }
+    requires { HasNumber plant.now event }
     ensures { result ≡ length (rules_of plant.now event) }
 {
     match event {

@@ -3,7 +3,7 @@ ghost use Rattle.ilk_ir.specs.System.{rule_tree, system_tree};
 ghost use Rattle.ilk_behave.specs.Behaviour.{rules_of, system_of};
 ghost use Rattle.std.specs.List.{flat_map};
 ghost use Rattle.ilk_behave.specs.Behaviour.{events_of};
-ghost use Rattle.ilk_behave.specs.Kinds.{IsNumbered, events_of_kind};
+ghost use Rattle.ilk_behave.specs.Kinds.{HasNumber, events_of_kind};
 
 use crate::kinds::{KINDS, Kind};
 use crate::point_rules::{push_settle, push_throw};
@@ -24,7 +24,7 @@ fn push_rules_of(
     plant: &Plant,
     event: Event,
 ) -> Result<(), AllocError>
-    requires { IsNumbered plant.now event }
+    requires { HasNumber plant.now event }
     ensures { OnOk result (map rule_tree rules.new ≡ map rule_tree rules.old ++ rules_of plant.now event) }
 {
     match event {

@@ -18,7 +18,7 @@ use Rattle.ilk_plant.specs.declared.state.State.{State}
 use Rattle.ilk_plant.specs.declared.state.Train.{Train}
 use Rattle.ilk_model.specs.Hazard.{is_hazardous, is_wrong, strays}
 use Rattle.ilk_layout.specs.Occupancy.{occupancy_of, taken_by, taken_by_any}
-use Rattle.ilk_layout.specs.Standing.{is_vacant, is_wrong_between, is_wrong_under, section_before, with_train_on}
+use Rattle.ilk_layout.specs.Standing.{has_no_train, is_wrong_between, is_wrong_under, section_before, with_train_on}
 use Rattle.ilk_layout.specs.declared.values.Occupancy.TheVariants.{Crash}
 use Rattle.ilk_layout.proofs.Bodies.{has-at, pair-at, pair-has}
 
@@ -159,9 +159,9 @@ occupancy-more p s ts t x =
         let before : 0 < count_by (has_x x) ts = count-some (has_x x) ts some in
         let two : nat_lt 1 (count_by (has_x x) (ts ++ t ∷ [])) ≡ true = (let more : 1 < count_by (has_x x) (ts ++ t ∷ []) = omega (arith, count, one, before) in grind (arith, nat_tests)) in
         let found = find-some (has_x x) ts some in
-        let taken : is_vacant (occupancy_of p (with_trains s ts) x) ≡ false = not_vacant (is_hazardous p (with_trains s ts) x) found.0 (find (has_x x) ts) found.1 in
+        let taken : has_no_train (occupancy_of p (with_trains s ts) x) ≡ false = not_vacant (is_hazardous p (with_trains s ts) x) found.0 (find (has_x x) ts) found.1 in
         rw (two, has, taken) refl
       where
-        not_vacant : (b : Bool) (u : Train) (o : Option Train) → o ≡ Some u → is_vacant (cond b Crash (taken_by_any x o)) ≡ false
+        not_vacant : (b : Bool) (u : Train) (o : Option Train) → o ≡ Some u → has_no_train (cond b Crash (taken_by_any x o)) ≡ false
         not_vacant true u o e = refl
         not_vacant false u o e = rw e refl

@@ -15,10 +15,10 @@ use Rattle.ilk_layout.specs.Occupancy.{taken_by}
 use Rattle.ilk_layout.specs.declared.values.Occupancy.{Occupancy}
 use Rattle.ilk_layout.specs.declared.values.Occupancy.TheVariants.{Vacant, Taken, Crash}
 
-abbrev pub is_vacant : Occupancy → Bool
-is_vacant Vacant = true
-is_vacant (Taken d tail head) = false
-is_vacant Crash = false
+abbrev pub has_no_train : Occupancy → Bool
+has_no_train Vacant = true
+has_no_train (Taken d tail head) = false
+has_no_train Crash = false
 
 -- whether the section before or after is y
 abbrev pub is_beside : ℕ → Option ℕ → Option ℕ → Bool
@@ -46,7 +46,7 @@ section_before body i = if i == 0 then None else slice_get body (i - 1)
 -- the occupancy of the section at place i of a train's body, which had this one before
 abbrev pub after_taking : PlantLists → State → Train → ℕ → ℕ → Occupancy → Occupancy
 after_taking p s train x i before =
-    if is_vacant before && not (is_wrong_between p s x (section_before train.body i) (slice_get train.body (i + 1)))
+    if has_no_train before && not (is_wrong_between p s x (section_before train.body i) (slice_get train.body (i + 1)))
     then Taken train.dir (i == 0) (i + 1 == length train.body)
     else Crash
 
@@ -63,7 +63,7 @@ is_wrong_under p s x body = by_section (slice_get p.sections x)
 abbrev pub with_train_on : PlantLists → State → Train → List ℕ → ℕ → Occupancy → Occupancy
 with_train_on p s train gone x before =
     if has_section x gone
-    then (if is_vacant before && not (is_wrong_under p s x train.body) then taken_by x train else Crash)
+    then (if has_no_train before && not (is_wrong_under p s x train.body) then taken_by x train else Crash)
     else before
 
 -- the occupancies, each changed by what the train does to its section

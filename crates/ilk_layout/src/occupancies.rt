@@ -2,7 +2,7 @@ ghost use Rattle.std.specs.Prelude.{◌≡◌, ◌<◌, ◌+◌, IsTrue, Some, l
 ghost use Rattle.std.specs.List.{range_with_len};
 ghost use Rattle.ilk_plant.specs.Shape.{HasShape, is_body};
 ghost use Rattle.ilk_layout.specs.Occupancy.{occupancy_of};
-ghost use Rattle.ilk_layout.specs.Standing.{AreWithTrainOn, after_taking, is_beside, is_vacant, is_wrong_between, section_before};
+ghost use Rattle.ilk_layout.specs.Standing.{AreWithTrainOn, after_taking, is_beside, has_no_train, is_wrong_between, section_before};
 
 use crate::values::Occupancy;
 use ilk_base::Row;
@@ -10,7 +10,7 @@ use ilk_plant::{Lie, Plant, Section, State, Train, lie_of};
 use std::alloc::{AllocError, Global};
 
 fn is_vacant(occupancy: Occupancy) -> bool
-    ensures { result ≡ is_vacant occupancy }
+    ensures { result ≡ has_no_train occupancy }
 {
     occupancy == Occupancy::Vacant
 }

@@ -14,6 +14,6 @@ pub record IsLearned (s : SearchLists) (step : Step) (level : ℕ) : Type 0 wher
   pub back : level ≡ back_level s.view.trail.entries step.clause
 
 -- the same formula, and one step more in the log
-pub record IsLonger (old : SearchLists) (step : Step) (new : SearchLists) : Type 0 where
+pub record HasOneStepMore (old : SearchLists) (step : Step) (new : SearchLists) : Type 0 where
   pub formula : new.formula ≡ old.formula
   pub log : new.log ≡ old.log ++ step ∷ []

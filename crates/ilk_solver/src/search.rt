@@ -13,7 +13,7 @@ ghost use Rattle.ilk_solver.specs.Search.{IsAdded, IsSearch, all_clauses, new_se
 ghost use Rattle.ilk_solver.specs.View.{IsView};
 ghost use Rattle.ilk_solver.specs.Levels.{LevelsClosed};
 ghost use Rattle.ilk_solver.specs.Assigned.{AllSet, SomeUnset};
-ghost use Rattle.ilk_solver.specs.Learned.{IsLearned, IsLonger};
+ghost use Rattle.ilk_solver.specs.Learned.{IsLearned, HasOneStepMore};
 ghost use Rattle.ilk_solver.specs.Answered.{IsSolution};
 
 use crate::assigned::assignment;
@@ -199,7 +199,7 @@ impl Search {
     pub fn take_up(mut self, learned: Learned, level: u64) -> Result<Search, AllocError>
         requires learned { IsLearned self learned.step learned.level }
         requires level { level ≤ learned.level }
-        ensures { IfOk result (λ s. IsLonger self learned.step s) }
+        ensures { IfOk result (λ s. HasOneStepMore self learned.step s) }
     {
         let _ = self.level();
         self.back_to(level);

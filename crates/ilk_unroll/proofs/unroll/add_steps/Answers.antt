@@ -1,13 +1,13 @@
 use Rattle.std.proofs.Common.{◌≡◌, ℕ, ◌∙◌, ◌+◌, ◌-◌, ◌++◌, ◌∷◌, [], List, drop, map, length, ap, sym, arith}
 use Rattle.std.specs.List.{list_all}
-use Rattle.std.proofs.lemmas.List.{append-nil, length-map}
+use Rattle.std.proofs.lemmas.List.{append-nil, drop_more, length-map}
+use Rattle.std.proofs.lemmas.Option.{slice_get_within, get_or_from_slice_get}
 use Rattle.ilk_cnf.specs.Part.{with_part}
 use Rattle.ilk_cnf.specs.Formula.{Formula}
 use Rattle.ilk_ir.specs.System.{rule_tree, rule_valid, system_tree}
 use Rattle.ilk_copy.specs.declared.copy.Column.{Column}
 use Rattle.ilk_step.specs.declared.choice.Choice.{Choice}
 use Rattle.ilk_step.specs.Step.{step_part}
-use Rattle.ilk_step.proofs.FrameSteps.{drop_from}
 use Rattle.ilk_unroll.specs.Query.{steps_part}
 use Rattle.ilk_unroll.specs.Tables.{tables_in, step_choices}
 use Rattle.ilk_unroll.proofs.CopiesLaw.{within-at, ranges-at, tables_in-more}
@@ -47,8 +47,8 @@ loop-i-preserved c =
     let before : i - 1 + 1 ≡ i = omega arith in
     let after : i + 1 - 1 ≡ i = omega arith in
     let rest = drop (i + 1) all in
-    let there : drop i all ≡ next ∷ rest = drop_from all i next c.at-in-loop-i.ensures in
-    let split : drop (i - 1) all ≡ now ∷ next ∷ rest = drop_from all (i - 1) now c.at.ensures ∙ ap (λ (k : ℕ). now ∷ drop k all) before ∙ ap (λ (ts : List (List Column)). now ∷ ts) there in
+    let there : drop i all ≡ next ∷ rest = drop_more all i next (slice_get_within all i next c.at-in-loop-i.ensures) ∙ ap (λ (y : List Column). y ∷ rest) (get_or_from_slice_get all i next next c.at-in-loop-i.ensures) in
+    let split : drop (i - 1) all ≡ now ∷ next ∷ rest = drop_more all (i - 1) now (slice_get_within all (i - 1) now c.at.ensures) ∙ ap (λ (y : List Column). y ∷ drop (i - 1 + 1) all) (get_or_from_slice_get all (i - 1) now now c.at.ensures) ∙ ap (λ (k : ℕ). now ∷ drop k all) before ∙ ap (λ (ts : List (List Column)). now ∷ ts) there in
     let seen : next ∷ rest ≡ drop (i + 1 - 1) all = sym there ∙ ap (λ (k : ℕ). drop k all) (sym after) in
     let made = c.in_ok-choice.ensures.made in
     let long : length s.rules ≡ length rules = sym (length-map s.rules rule_tree) in
