@@ -44,7 +44,7 @@ impl Kind {
     pub fn event(self, plant: &Plant, number: u32) -> Event
         requires { number < kinds.count_of_kind plant.now self }
         ensures event { result ≡ kinds.event_of_kind self number }
-        ensures numbered { kinds.IsNumbered plant.now result }
+        ensures numbered { kinds.HasNumber plant.now result }
     {
         match self {
             Kind::Mark => Event::Mark(number),
