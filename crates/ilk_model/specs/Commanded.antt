@@ -14,12 +14,12 @@ same_position Minus Minus = true
 same_position a b = false
 
 -- where the point on section x is commanded; none where x is no point
-abbrev pub command_of : PlantLists → State → ℕ → Option Position
-command_of p s x = do
+abbrev pub commanded_position : PlantLists → State → ℕ → Option Position
+commanded_position p s x = do
   n ← point_number p x
   point ← slice_get s.points n
   Some point.to
 
 -- whether a listed point is commanded to its listed position
 abbrev pub is_commanded_as_listed : PlantLists → State → Listed → Bool
-is_commanded_as_listed p s listed = is_some_and (command_of p s listed.point) (λ to. same_position to listed.at)
+is_commanded_as_listed p s listed = is_some_and (commanded_position p s listed.point) (λ to. same_position to listed.at)
