@@ -10,3 +10,4 @@ pub mod Fronts
 pub mod Ascii
 pub mod Once
 pub mod Results
+pub mod ListTests

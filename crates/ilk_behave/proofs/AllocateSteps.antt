@@ -1,16 +1,15 @@
 -- allocate and lock, by their rules.
-use Rattle.std.proofs.Common.{◌≡◌, ℕ, ◌+◌, ◌<◌, ◌==◌, Bool, true, false, not, ◌&&◌, ◌||◌, Option, Some, None, All, List, [], ◌∷◌, ◌++◌, length, map, filter, set, slice_get, refl, sym, ◌∙◌, ap, arith}
+use Rattle.std.proofs.Common.{◌≡◌, ℕ, ◌<◌, Bool, true, false, not, ◌&&◌, ◌||◌, Option, Some, None, List, [], ◌∷◌, ◌++◌, length, map, set, slice_get, refl, sym, ◌∙◌, ap, arith}
 use Rattle.std.specs.List.{flat_map, list_all, list_any, range_with_len}
 use Rattle.std.proofs.lemmas.List.Folds.{list_all-append, list_all-map}
-use Rattle.std.proofs.lemmas.Option.{slice_get_within}
-use Rattle.ilk_base.specs.Option.{◌>>=◌, is_some_and}
+use Rattle.ilk_base.specs.Option.{is_some_and}
 use Rattle.ilk_base.proofs.Lists.{item_at}
 use Rattle.ilk_base.proofs.Ranges.{passing_within}
 use Rattle.ilk_ir.specs.Tree.{Tree, negation, tree_holds}
 use Rattle.ilk_ir.specs.System.{set_all}
 use Rattle.ilk_ir.specs.declared.system.Setting.{Setting}
 use Rattle.ilk_ir.proofs.Trees.{all_of-holds}
-use Rattle.ilk_plant.specs.Plant.{IsPlant, IsRouteOf, PlantLists, point_number}
+use Rattle.ilk_plant.specs.Plant.{IsPlant, PlantLists, point_number}
 use Rattle.ilk_plant.specs.Shape.{HasShape}
 use Rattle.ilk_plant.specs.State.{has_lock, is_clear, is_occupied, lie_of}
 use Rattle.ilk_plant.specs.TableRules.{sections_locked_for}
@@ -20,7 +19,6 @@ use Rattle.ilk_plant.specs.declared.state.Hold.TheVariants.{Free as FreeLock, Lo
 use Rattle.ilk_plant.specs.declared.state.Mode.TheVariants.{Marked, Allocating, Locked}
 use Rattle.ilk_plant.specs.declared.state.RouteState.{RouteState}
 use Rattle.ilk_plant.specs.declared.state.State.{State}
-use Rattle.ilk_plant.specs.declared.table.Listed.{Listed}
 use Rattle.ilk_plant.specs.declared.table.Route.{Route}
 use Rattle.ilk_plant.proofs.PointNumbers.{point_number-below}
 use Rattle.ilk_plant.proofs.Shapes.{fits_path-counts, fits_path-from_counts}
@@ -35,14 +33,15 @@ use Rattle.ilk_routes.proofs.Locks.{length-with_locks}
 use Rattle.ilk_layout.specs.Image.{image_of, occupancy_values}
 use Rattle.ilk_layout.specs.Variables.{board_var}
 use Rattle.ilk_layout.proofs.Writes.{board-written, image_with, mode-written}
-use Rattle.ilk_behave.specs.Conditions.{board_is, clear_at, lie_is, lies_at_listed, mode_is, unclaimed}
+use Rattle.ilk_conditions.specs.Conditions.{board_is, lie_is, lies_at_listed, mode_is}
+use Rattle.ilk_behave.specs.Guards.{clear_at, unclaimed}
 use Rattle.ilk_behave.specs.RouteRules.{protectors, rules_of_allocate, rules_of_lock}
 use Rattle.ilk_behave.specs.Settings.{board_becomes, commanded, locks_become, mode_becomes, rule}
-use Rattle.ilk_behave.specs.Steps.{StepAs, can_fire}
+use Rattle.ilk_behave.specs.Steps.{StepAs}
 use Rattle.ilk_behave.proofs.RouteSteps.{and-end, locked-known, state-of}
-use Rattle.ilk_behave.proofs.Tests.{all-at, filtered-none, list_all-alike, list_all-flat_map, list_all-not}
+use Rattle.ilk_base.proofs.ListTests.{all-at, filtered-none, list_all-alike, list_all-flat_map, list_all-not}
 use Rattle.ilk_behave.proofs.Tools.{no_rules, rule_step}
-use Rattle.ilk_behave.proofs.Values.{at-holds, board-holds, has_mode-holds, lies-test, lock-holds, mode-holds, vacant-holds}
+use Rattle.ilk_conditions.proofs.Values.{at-holds, board-holds, has_mode-holds, lies-test, lock-holds, mode-holds, vacant-holds}
 use Rattle.ilk_behave.proofs.Writing.{by_image, commanded-lies, commands-written, locks-written, same-occupancies, set_all-append, with_lists, with_route}
 
 module _ (p : PlantLists) (plant : IsPlant p) (s : State) (shape : HasShape p s) (calm : hazard p s ≡ None) where

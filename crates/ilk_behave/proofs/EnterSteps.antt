@@ -1,8 +1,8 @@
 -- enter and leave, by their rules.
-use Rattle.std.proofs.Common.{◌≡◌, ℕ, zero, suc, ◌+◌, ◌<◌, ◌≤◌, ◌==◌, Bool, true, false, not, ◌&&◌, ◌||◌, cond, count_by, filter, find, position, Option, Some, None, List, [], ◌∷◌, ◌++◌, length, map, nat_lt, remove, set, slice_get, inl, inr, ◌⊎◌, refl, sym, ◌∙◌, ap, arith, is_some}
-use Rattle.std.specs.List.{list_any, position_or_len, range_with_len}
+use Rattle.std.proofs.Common.{◌≡◌, ℕ, zero, suc, ◌+◌, ◌<◌, ◌≤◌, ◌==◌, Bool, true, false, not, ◌&&◌, ◌||◌, cond, count_by, filter, find, position, Option, Some, None, List, [], ◌∷◌, ◌++◌, length, map, nat_lt, remove, set, slice_get, inl, inr, refl, sym, ◌∙◌, ap, arith, is_some}
+use Rattle.std.specs.List.{list_any, position_or_len}
 use borrow.Author.Tests.{ltb-true}
-use Rattle.std.proofs.lemmas.Bool.{cases_Bool, cases_eq, eq-eqb, eqb-true, false≢true, ltb-false, ne_eqb, or_parts}
+use Rattle.std.proofs.lemmas.Bool.{cases_Bool, eq-eqb, eqb-true, false≢true, ltb-false, ne_eqb, or_parts}
 use Rattle.std.proofs.lemmas.Bool.Decides.{nat_tests}
 use Rattle.std.proofs.lemmas.List.Sums.{sum_by-cons}
 use Rattle.std.proofs.lemmas.Option.{cond_some, none-some, same_Some, slice_get_within}
@@ -12,7 +12,7 @@ use Rattle.ilk_base.proofs.Positions.{is_some-position, position-at}
 use Rattle.ilk_base.proofs.Tested.{list_any-from}
 use Rattle.ilk_ir.specs.Tree.{tree_holds}
 use Rattle.ilk_ir.specs.System.{RuleTree, set_all}
-use Rattle.ilk_plant.specs.Network.{has_section, inward}
+use Rattle.ilk_plant.specs.Network.{has_section}
 use Rattle.ilk_plant.specs.Plant.{IsPlant, PlantLists, border}
 use Rattle.ilk_plant.specs.Shape.{HasShape}
 use Rattle.ilk_plant.specs.Sound.{NeverReturns}
@@ -26,24 +26,24 @@ use Rattle.ilk_plant.specs.declared.state.State.{State}
 use Rattle.ilk_plant.specs.declared.state.Train.{Train}
 use Rattle.ilk_motion.specs.Body.{is_only, stands_on, train_on}
 use Rattle.ilk_motion.specs.Trains.{after_enter, after_leave, has_neighbour}
-use Rattle.ilk_model.specs.Hazard.{hazard, is_hazardous, is_two, is_wrong, strays}
+use Rattle.ilk_model.specs.Hazard.{hazard, is_two, is_wrong, strays}
 use Rattle.ilk_layout.specs.Image.{image_of, occupancy_values}
-use Rattle.ilk_layout.specs.Occupancy.{occupancy_of, taken_by}
-use Rattle.ilk_layout.specs.Standing.{is_wrong_under, with_train_on}
+use Rattle.ilk_layout.specs.Occupancy.{occupancy_of}
+use Rattle.ilk_layout.specs.Standing.{is_wrong_under}
 use Rattle.ilk_layout.specs.Values.{occupancy_value}
 use Rattle.ilk_layout.specs.Variables.{occupancy_var}
 use Rattle.ilk_layout.specs.declared.values.Occupancy.{Occupancy}
 use Rattle.ilk_layout.specs.declared.values.Occupancy.TheVariants.{Vacant, Taken, Crash}
 use Rattle.ilk_layout.proofs.Trains.{count-none, find-none, has_x, occupancy-more, strays-has, with_trains, wrong-none}
 use Rattle.ilk_layout.proofs.Writes.{image_with, occupancy-written}
-use Rattle.ilk_behave.specs.Conditions.{lock_is, no_train_at, occupancy_is}
+use Rattle.ilk_conditions.specs.Conditions.{lock_is, no_train_at, occupancy_is}
 use Rattle.ilk_behave.specs.Settings.{occupancy_becomes, rule}
 use Rattle.ilk_behave.specs.Steps.{StepAs, can_fire}
 use Rattle.ilk_behave.specs.TrainRules.{leave_rule, rules_of_enter, rules_of_leave}
 use Rattle.ilk_layout.proofs.Calm.{calm-at, occupancy-in, taken-in}
 use Rattle.ilk_behave.proofs.Occupancies.{set-range}
 use Rattle.ilk_behave.proofs.Tools.{no_rules, none_step, rule_step, rules_step}
-use Rattle.ilk_behave.proofs.Values.{lock-holds, occupancy-holds, vacant-holds}
+use Rattle.ilk_conditions.proofs.Values.{lock-holds, occupancy-holds, vacant-holds}
 use Rattle.ilk_behave.proofs.Writing.{by_image}
 
 -- where trains change the occupancy of x alone, one write does it

@@ -1,9 +1,7 @@
 pub mod Located
 pub mod Pushed
 pub mod RuleCounts
-pub mod Tests
 pub mod Tools
-pub mod Values
 pub mod Writing
 pub mod Occupancies
 pub mod RouteSteps

@@ -1,10 +1,9 @@
 -- How the occupancies of sections change where points move.
-use Rattle.std.proofs.Common.{◌≡◌, ℕ, zero, suc, ◌+◌, ◌<◌, ◌≤◌, Bool, true, false, cond, count_by, Option, Some, None, List, [], ◌∷◌, length, map, set, slice_get, take, inl, inr, ◌⊎◌, refl, sym, ◌∙◌, ap, arith, ◌||◌}
-use Rattle.std.specs.List.{list_any, range_with_len}
-use Rattle.std.proofs.lemmas.Bool.{cases_eq, or_parts}
+use Rattle.std.proofs.Common.{◌≡◌, ℕ, zero, suc, ◌+◌, ◌<◌, ◌≤◌, Bool, true, false, cond, count_by, Option, Some, None, List, [], ◌∷◌, length, map, set, slice_get, take, inl, inr, ◌⊎◌, refl, sym, ◌∙◌, ap, arith}
+use Rattle.std.specs.List.{range_with_len}
+use Rattle.std.proofs.lemmas.Bool.{cases_eq}
 use Rattle.std.proofs.lemmas.List.Sums.{sum_by-cons}
-use Rattle.std.proofs.lemmas.Option.{cond_some, same_Some, slice_get_within}
-use Rattle.ilk_base.specs.Option.{◌>>=◌, only_if}
+use Rattle.std.proofs.lemmas.Option.{cond_some, same_Some}
 use Rattle.ilk_base.proofs.Lists.{item_at, slice_get-set_other}
 use Rattle.ilk_base.proofs.Options.{bind_some}
 use Rattle.ilk_base.proofs.Ranges.{map-range-congr}
@@ -17,11 +16,11 @@ use Rattle.ilk_plant.specs.declared.network.Section.TheVariants.{Linear, Point}
 use Rattle.ilk_plant.specs.declared.state.PointState.{PointState}
 use Rattle.ilk_plant.specs.declared.state.State.{State}
 use Rattle.ilk_plant.proofs.PointNumbers.{point_number-below}
-use Rattle.ilk_model.specs.Hazard.{is_hazardous, is_two, is_wrong}
+use Rattle.ilk_model.specs.Hazard.{is_wrong}
 use Rattle.ilk_layout.specs.Image.{occupancy_values}
 use Rattle.ilk_layout.specs.Occupancy.{occupancy_of}
 use Rattle.ilk_layout.specs.Values.{occupancy_value}
-use Rattle.ilk_layout.proofs.Trains.{has_x, wrong-none}
+use Rattle.ilk_layout.proofs.Trains.{wrong-none}
 
 -- a list of what a function gives for numbers, after a write to one of them
 pub set-range : (f g : ℕ → ℕ) (n a i : ℕ) → i < n → ((y : ℕ) → a ≤ y → y < a + n → (y ≡ a + i → ⊥) → g y ≡ f y) → set (map f (range_with_len a n)) i (g (a + i)) ≡ map g (range_with_len a n)

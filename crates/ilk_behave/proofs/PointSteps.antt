@@ -1,15 +1,13 @@
 -- throw and settle, by their rules.
-use Rattle.std.proofs.Common.{◌≡◌, ℕ, ◌<◌, ◌==◌, Bool, true, false, not, ◌&&◌, ◌||◌, Option, Some, None, List, [], ◌∷◌, ◌++◌, length, set, slice_get, refl, sym, ◌∙◌, ap, arith, length-set}
-use Rattle.std.specs.List.{list_any}
+use Rattle.std.proofs.Common.{◌≡◌, ℕ, ◌==◌, Bool, true, false, not, ◌&&◌, ◌||◌, Option, Some, None, List, [], ◌∷◌, ◌++◌, set, slice_get, refl, sym, ◌∙◌, ap, length-set}
 use Rattle.std.proofs.lemmas.Bool.{and_parts, or_parts}
 use Rattle.std.proofs.lemmas.Option.{same_Some, slice_get_within}
 use Rattle.ilk_base.proofs.Lists.{slice_get-set_same}
 use Rattle.ilk_base.proofs.Truth.{or-true}
-use Rattle.ilk_base.specs.Option.{only_if}
 use Rattle.ilk_ir.specs.Tree.{Tree, tree_holds}
 use Rattle.ilk_ir.specs.System.{set_all}
 use Rattle.ilk_ir.specs.declared.system.Setting.{Setting}
-use Rattle.ilk_plant.specs.Network.{has_section, is_point}
+use Rattle.ilk_plant.specs.Network.{is_point}
 use Rattle.ilk_plant.specs.Plant.{IsPlant, PlantLists, point_number}
 use Rattle.ilk_plant.specs.Shape.{HasShape}
 use Rattle.ilk_plant.specs.State.{is_occupied, lie_of}
@@ -30,14 +28,14 @@ use Rattle.ilk_layout.specs.Values.{lie_value, occupancy_value, position_value}
 use Rattle.ilk_layout.specs.Variables.{occupancy_var}
 use Rattle.ilk_layout.specs.declared.values.Occupancy.TheVariants.{Crash}
 use Rattle.ilk_layout.proofs.Writes.{at-written, image_with, occupancy-written}
-use Rattle.ilk_behave.specs.Conditions.{at_is, no_train_at, to_is, train_at}
+use Rattle.ilk_conditions.specs.Conditions.{at_is, no_train_at, to_is, train_at}
 use Rattle.ilk_behave.specs.PointRules.{lies_elsewhere, rules_of_settle, rules_of_throw}
 use Rattle.ilk_behave.specs.Settings.{at_becomes, occupancy_becomes, rule}
 use Rattle.ilk_behave.specs.Steps.{StepAs, can_fire}
 use Rattle.ilk_layout.proofs.Calm.{calm-at}
 use Rattle.ilk_behave.proofs.Occupancies.{numbered-section, occupancies-alone, occupancies-set, point-of, with_point}
 use Rattle.ilk_behave.proofs.Tools.{no_rules, two_rules_step}
-use Rattle.ilk_behave.proofs.Values.{at-holds, to-holds, vacant-holds}
+use Rattle.ilk_conditions.proofs.Values.{at-holds, to-holds, vacant-holds}
 use Rattle.ilk_behave.proofs.Writing.{by_image, with_lists}
 
 module _ (p : PlantLists) (plant : IsPlant p) (s : State) (shape : HasShape p s) (calm : hazard p s ≡ None) where

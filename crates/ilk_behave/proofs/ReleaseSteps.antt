@@ -1,10 +1,10 @@
 -- release and finish, by their rules.
-use Rattle.std.proofs.Common.{◌≡◌, ℕ, zero, suc, ◌+◌, ◌-◌, ◌<◌, ◌≤◌, ◌==◌, Bool, true, false, not, ◌&&◌, Option, Some, None, List, [], ◌∷◌, ◌++◌, length, map, set, slice_get, take, refl, sym, ◌∙◌, ap, subst, arith, inl, inr, ◌⊎◌, nat_le, length-set}
-use Rattle.std.specs.List.{enumerate_from, last_or, list_any, range_with_len}
-use Rattle.std.proofs.lemmas.Bool.{cases_Bool, eq-eqb, ne_eqb, false≢true}
+use Rattle.std.proofs.Common.{◌≡◌, ℕ, zero, suc, ◌+◌, ◌-◌, ◌<◌, ◌≤◌, ◌==◌, Bool, true, false, not, ◌&&◌, Option, Some, None, List, [], ◌∷◌, length, map, set, slice_get, take, refl, sym, ◌∙◌, ap, subst, arith, inl, inr, nat_le, length-set}
+use Rattle.std.specs.List.{enumerate_from, last_or, range_with_len}
+use Rattle.std.proofs.lemmas.Bool.{cases_Bool, eq-eqb, ne_eqb}
 use Rattle.std.proofs.lemmas.Bool.Decides.{nat_tests}
 use Rattle.std.proofs.lemmas.List.{set-set}
-use Rattle.std.proofs.lemmas.Option.{none-some, slice_get_past, slice_get_within}
+use Rattle.std.proofs.lemmas.Option.{none-some, slice_get_within}
 use Rattle.ilk_base.specs.Option.{◌>>=◌, only_if}
 use Rattle.ilk_base.proofs.Lists.{item_at, slice_get-set_same}
 use Rattle.ilk_base.proofs.Ranges.{below_or_past}
@@ -13,7 +13,7 @@ use Rattle.ilk_ir.specs.Tree.{tree_holds}
 use Rattle.ilk_ir.specs.System.{RuleTree, set_all}
 use Rattle.ilk_ir.proofs.Trees.{any_of-holds}
 use Rattle.ilk_plant.specs.ColumnRules.{all_but_last}
-use Rattle.ilk_plant.specs.Plant.{IsPlant, IsRouteOf, PlantLists}
+use Rattle.ilk_plant.specs.Plant.{IsPlant, PlantLists}
 use Rattle.ilk_plant.specs.Shape.{HasShape}
 use Rattle.ilk_plant.specs.State.{has_lock, is_occupied}
 use Rattle.ilk_plant.specs.declared.state.Hold.TheVariants.{Free as FreeLock, Used as UsedLock}
@@ -31,14 +31,14 @@ use Rattle.ilk_routes.proofs.Locks.{length-with_locks, with_locks-first}
 use Rattle.ilk_layout.specs.Image.{image_of, occupancy_values}
 use Rattle.ilk_layout.specs.Variables.{mode_var, rel_var, seen_var}
 use Rattle.ilk_layout.proofs.Writes.{image_with, lock-written, mode-written, rel-written, seen-written}
-use Rattle.ilk_behave.specs.Conditions.{mode_is, rel_is, seen_is}
+use Rattle.ilk_conditions.specs.Conditions.{mode_is, rel_is, seen_is}
 use Rattle.ilk_behave.specs.RouteRules.{finish_rule, release_rule, rules_of_finish, rules_of_release, seen_from}
 use Rattle.ilk_behave.specs.Settings.{locks_become, mode_becomes, rel_becomes, rules_for, seen_becomes}
 use Rattle.ilk_behave.specs.Steps.{StepAs, can_fire}
 use Rattle.ilk_behave.proofs.RouteSteps.{beside-known, state-of}
-use Rattle.ilk_behave.proofs.Tests.{all-at, counted-from, last-at, list_any-alike}
+use Rattle.ilk_base.proofs.ListTests.{all-at, counted-from, last-at, list_any-alike}
 use Rattle.ilk_behave.proofs.Tools.{no_rules, place_steps, rule_step}
-use Rattle.ilk_behave.proofs.Values.{lock-holds, mode-holds, rel-holds, seen-holds, vacant-holds}
+use Rattle.ilk_conditions.proofs.Values.{lock-holds, mode-holds, rel-holds, seen-holds, vacant-holds}
 use Rattle.ilk_behave.proofs.Writing.{by_image, locks-written, set_all-append, with_lists, with_route}
 
 -- what stands before an index stands in the list up to there

@@ -1,22 +1,17 @@
 -- The events of routes, by their rules.
-use Rattle.std.proofs.Common.{◌≡◌, ℕ, ◌+◌, ◌-◌, ◌<◌, ◌≤◌, ◌==◌, Bool, true, false, not, ◌&&◌, ◌||◌, Option, Some, None, All, List, [], ◌∷◌, ◌++◌, length, map, filter, set, slice_get, take, refl, sym, ◌∙◌, ap, arith, cond, inl, inr, ◌⊎◌, nat_le, length-set}
-use Rattle.std.specs.List.{enumerate_from, flat_map, last_or, list_all, list_any, range_with_len}
-use Rattle.std.proofs.lemmas.Bool.{and_parts, cases_Bool, cases_eq, eq-eqb, eqb-true, false≢true, ne_eqb}
-use Rattle.std.proofs.lemmas.Bool.Decides.{nat_tests}
+use Rattle.std.proofs.Common.{◌≡◌, ℕ, ◌+◌, ◌<◌, ◌==◌, Bool, true, false, not, ◌&&◌, ◌||◌, Option, Some, None, [], ◌∷◌, ◌++◌, length, map, set, slice_get, refl, sym, ◌∙◌, ap, arith, cond, length-set}
+use Rattle.std.proofs.lemmas.Bool.{eq-eqb, ne_eqb}
 use Rattle.std.proofs.lemmas.List.{set-set}
 use Rattle.std.proofs.lemmas.List.Elements.{All-append, All-map}
-use Rattle.std.proofs.lemmas.List.Folds.{list_all-append, list_all-map}
-use Rattle.std.proofs.lemmas.Option.{same_Some, slice_get_within}
-use Rattle.ilk_base.specs.Option.{◌>>=◌, is_some_and, only_if}
+use Rattle.std.proofs.lemmas.Option.{slice_get_within}
 use Rattle.ilk_base.proofs.Lists.{item_at, slice_get-set_same}
-use Rattle.ilk_ir.specs.Tree.{Tree, all_of, any_of, negation, tree_holds, trees}
-use Rattle.ilk_ir.specs.System.{RuleTree, set_all}
-use Rattle.ilk_ir.proofs.Trees.{all_of-holds, any_of-holds}
+use Rattle.ilk_ir.specs.Tree.{any_of, tree_holds, trees}
+use Rattle.ilk_ir.specs.System.{set_all}
 use Rattle.ilk_plant.specs.Plant.{IsPlant, IsRouteOf, PlantLists}
-use Rattle.ilk_plant.specs.Shape.{HasShape, fits_path}
-use Rattle.ilk_plant.specs.State.{has_lock, is_clear, is_occupied}
+use Rattle.ilk_plant.specs.Shape.{HasShape}
+use Rattle.ilk_plant.specs.State.{has_lock, is_occupied}
 use Rattle.ilk_plant.specs.TableRules.{sections_locked_for}
-use Rattle.ilk_plant.specs.declared.state.Aspect.TheVariants.{Closed, Open}
+use Rattle.ilk_plant.specs.declared.state.Aspect.TheVariants.{Closed}
 use Rattle.ilk_plant.specs.declared.state.Hold.TheVariants.{Free as FreeLock, Locked as LockedLock, Used as UsedLock}
 use Rattle.ilk_plant.specs.declared.state.Mode.{Mode}
 use Rattle.ilk_plant.specs.declared.state.Mode.TheVariants.{Free, Marked, Allocating, Locked, Occupied}
@@ -26,21 +21,20 @@ use Rattle.ilk_plant.specs.declared.table.Listed.{Listed}
 use Rattle.ilk_plant.specs.declared.table.Route.{Route}
 use Rattle.ilk_plant.proofs.Shapes.{fits_path-counts, fits_path-from_counts}
 use Rattle.ilk_model.specs.Hazard.{hazard}
-use Rattle.ilk_routes.specs.Claims.{sections_beside, wanted_points}
+use Rattle.ilk_routes.specs.Claims.{sections_beside}
 use Rattle.ilk_routes.specs.Locks.{with_locks}
-use Rattle.ilk_routes.specs.Modes.{is_claimed, same_mode}
-use Rattle.ilk_routes.specs.Routes.{after_cancel, after_mark, after_sense, can_claim}
-use Rattle.ilk_routes.proofs.Locks.{length-with_locks}
+use Rattle.ilk_routes.specs.Modes.{same_mode}
+use Rattle.ilk_routes.specs.Routes.{after_cancel, after_mark, after_sense}
 use Rattle.ilk_layout.specs.Image.{image_of, occupancy_values}
-use Rattle.ilk_layout.proofs.Writes.{board-written, image_with, lock-written, mode-written, rel-written, seen-written}
-use Rattle.ilk_behave.specs.Conditions.{clear_at, mode_is, unclaimed}
+use Rattle.ilk_layout.proofs.Writes.{board-written, image_with, lock-written, mode-written, seen-written}
+use Rattle.ilk_conditions.specs.Conditions.{mode_is}
 use Rattle.ilk_behave.specs.RouteRules.{rules_of_cancel, rules_of_mark, rules_of_sense, sense_rule}
 use Rattle.ilk_layout.specs.Variables.{mode_var, seen_var}
 use Rattle.ilk_behave.specs.Settings.{board_becomes, locks_become, mode_becomes, rule}
 use Rattle.ilk_behave.specs.Steps.{StepAs, can_fire}
-use Rattle.ilk_behave.proofs.Tests.{all-at}
+use Rattle.ilk_base.proofs.ListTests.{all-at}
 use Rattle.ilk_behave.proofs.Tools.{no_rules, place_steps, rule_step, two_rules_step}
-use Rattle.ilk_behave.proofs.Values.{lock-holds, mode-holds, seen-holds, vacant-holds}
+use Rattle.ilk_conditions.proofs.Values.{lock-holds, mode-holds, seen-holds, vacant-holds}
 use Rattle.ilk_behave.proofs.Writing.{by_image, locks-written, with_lists, with_route}
 
 pub and-end : (b : Bool) → (b && true) ≡ b

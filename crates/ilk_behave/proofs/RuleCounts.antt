@@ -1,5 +1,5 @@
 -- How many rules the events of routes have.
-use Rattle.std.proofs.Common.{◌≡◌, ℕ, ◌-◌, ◌<◌, ◌≤◌, Option, Some, None, List, [], ◌∷◌, length, map, slice_get, take, refl, ◌∙◌, arith}
+use Rattle.std.proofs.Common.{◌≡◌, ℕ, ◌-◌, ◌<◌, Some, None, List, length, map, slice_get, take, refl, ◌∙◌, arith}
 use Rattle.std.specs.List.{enumerate_from, last_or}
 use Rattle.std.proofs.lemmas.List.{length-map, length-take-le}
 use Rattle.std.proofs.lemmas.List.FromFn.{length-enumerate_from}

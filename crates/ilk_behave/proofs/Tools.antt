@@ -9,7 +9,7 @@ use Rattle.ilk_plant.specs.Plant.{PlantLists}
 use Rattle.ilk_plant.specs.declared.state.State.{State}
 use Rattle.ilk_layout.specs.Image.{image_of}
 use Rattle.ilk_behave.specs.Steps.{StepAs, can_fire}
-use Rattle.ilk_behave.proofs.Tests.{made-at, one-place}
+use Rattle.ilk_base.proofs.ListTests.{made-at, one-place}
 
 some-if : (b : Bool) (t : State) → b ≡ is_some (only_if b t)
 some-if true t = refl

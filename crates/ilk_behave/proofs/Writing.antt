@@ -1,9 +1,9 @@
 -- What several settings together do to the image of a state.
-use Rattle.std.proofs.Common.{◌≡◌, ℕ, zero, suc, ◌<◌, Bool, true, false, ◌||◌, Option, Some, None, option_map, unwrap_or, List, [], ◌∷◌, ◌++◌, length, map, set, slice_get, refl, sym, ◌∙◌, ap, arith, length-set, inl, inr}
-use Rattle.std.specs.List.{flat_map, list_any, range_with_len}
-use Rattle.std.proofs.lemmas.Option.{same_Some, slice_get_within}
+use Rattle.std.proofs.Common.{◌≡◌, ℕ, suc, ◌<◌, true, Option, Some, None, option_map, unwrap_or, List, [], ◌∷◌, ◌++◌, length, set, slice_get, refl, sym, ◌∙◌, ap, arith, length-set, inl, inr}
+use Rattle.std.specs.List.{flat_map}
+use Rattle.std.proofs.lemmas.Option.{same_Some}
 use Rattle.ilk_base.specs.Option.{◌>>=◌}
-use Rattle.ilk_base.proofs.Lists.{item_at, slice_get_set, slice_get-set_same}
+use Rattle.ilk_base.proofs.Lists.{item_at, slice_get_set}
 use Rattle.ilk_base.proofs.Ranges.{map-range-congr}
 use Rattle.ilk_ir.specs.System.{set_all}
 use Rattle.ilk_ir.specs.declared.system.Setting.{Setting}
@@ -14,7 +14,6 @@ use Rattle.ilk_plant.specs.declared.network.Section.{Section}
 use Rattle.ilk_plant.specs.declared.network.Section.TheVariants.{Linear, Point}
 use Rattle.ilk_plant.specs.declared.state.Aspect.{Aspect}
 use Rattle.ilk_plant.specs.declared.state.Hold.{Hold}
-use Rattle.ilk_plant.specs.declared.state.Lie.{Lie}
 use Rattle.ilk_plant.specs.declared.state.PointState.{PointState}
 use Rattle.ilk_plant.specs.declared.state.RouteState.{RouteState}
 use Rattle.ilk_plant.specs.declared.state.State.{State}
@@ -24,18 +23,15 @@ use Rattle.ilk_plant.proofs.PointNumbers.{point_number-below}
 use Rattle.ilk_model.specs.Hazard.{is_hazardous, is_wrong}
 use Rattle.ilk_routes.specs.Lies.{listed_position, with_commands}
 use Rattle.ilk_routes.specs.Locks.{with_locks}
-use Rattle.ilk_routes.proofs.Commands.{length-with_commands, with_commands-first, with_commands-no_point, with_commands-none}
-use Rattle.ilk_routes.proofs.Locks.{length-with_locks, with_locks-first, with_locks-none}
+use Rattle.ilk_routes.proofs.Commands.{with_commands-first, with_commands-no_point, with_commands-none}
+use Rattle.ilk_routes.proofs.Locks.{with_locks-first, with_locks-none}
 use Rattle.ilk_routes.proofs.Numbered.{slice_get-map_numbered}
-use Rattle.ilk_layout.specs.Image.{image_of, occupancy_values, point_values, route_values}
+use Rattle.ilk_layout.specs.Image.{image_of, occupancy_values}
 use Rattle.ilk_layout.specs.Occupancy.{occupancy_of}
-use Rattle.ilk_layout.specs.Values.{aspect_value, hold_value, occupancy_value, position_value}
+use Rattle.ilk_layout.specs.Values.{occupancy_value}
 use Rattle.ilk_layout.proofs.Writes.{image_with, lock-written, to-written}
+use Rattle.ilk_conditions.proofs.Values.{image-is}
 use Rattle.ilk_behave.specs.Settings.{commanded, locks_become, to_becomes}
-
--- the image of a state, its lists one after another
-pub image-is : (p : PlantLists) (s : State) → image_of p s ≡ image_with s (occupancy_values p s)
-image-is p s = refl
 
 pub by_image : (p : PlantLists) (s t : State) (sets : List Setting) → set_all (image_with s (occupancy_values p s)) sets ≡ image_with t (occupancy_values p t) → set_all (image_of p s) sets ≡ image_of p t
 by_image p s t sets h = ap (λ values. set_all values sets) (image-is p s) ∙ h ∙ sym (image-is p t)

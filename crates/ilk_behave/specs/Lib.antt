@@ -1,4 +1,4 @@
-pub mod Conditions
+pub mod Guards
 pub mod Settings
 pub mod RouteRules
 pub mod PointRules

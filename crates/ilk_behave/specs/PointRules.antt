@@ -7,7 +7,7 @@ use Rattle.ilk_plant.specs.declared.network.Position.TheVariants.{Plus, Minus}
 use Rattle.ilk_plant.specs.declared.state.Lie.TheVariants.{Plus as LiesPlus, Minus as LiesMinus, Moving}
 use Rattle.ilk_routes.specs.Lies.{lie_in}
 use Rattle.ilk_layout.specs.declared.values.Occupancy.TheVariants.{Crash}
-use Rattle.ilk_behave.specs.Conditions.{at_is, train_at, to_is, no_train_at}
+use Rattle.ilk_conditions.specs.Conditions.{at_is, train_at, to_is, no_train_at}
 use Rattle.ilk_behave.specs.Settings.{at_becomes, occupancy_becomes, rule, rules_for}
 
 -- the point with number n doesn't move, and doesn't lie where it is commanded

@@ -1,10 +1,9 @@
 -- The rules of the seven events of routes. Each has a condition for each of the words of the event's row in the table
 -- of events, and then sets what the row changes.
-use Rattle.std.specs.Prelude.{ℕ, ◌+◌, ◌-◌, Option, None, List, [], ◌∷◌, ◌++◌, ◌==◌, length, map, filter, flat_map, slice_get, if◌then◌else◌}
+use Rattle.std.specs.Prelude.{ℕ, ◌+◌, ◌-◌, None, List, [], ◌∷◌, ◌++◌, ◌==◌, length, map, filter, flat_map, slice_get, if◌then◌else◌}
 use Rattle.std.specs.List.{enumerate_from, last_or, range_with_len}
 use Rattle.ilk_ir.specs.System.{RuleTree}
 use Rattle.ilk_ir.specs.Tree.{Tree, any_of, negation, trees}
-use Rattle.ilk_ir.specs.declared.system.Setting.{Setting}
 use Rattle.ilk_plant.specs.ColumnRules.{all_but_last}
 use Rattle.ilk_plant.specs.Plant.{PlantLists}
 use Rattle.ilk_plant.specs.TableRules.{sections_locked_for}
@@ -14,7 +13,8 @@ use Rattle.ilk_plant.specs.declared.state.Mode.TheVariants.{Free, Marked, Alloca
 use Rattle.ilk_plant.specs.declared.table.Route.{Route}
 use Rattle.ilk_routes.specs.Boards.{protects_by}
 use Rattle.ilk_routes.specs.Claims.{sections_beside, wanted_points}
-use Rattle.ilk_behave.specs.Conditions.{board_is, clear_at, lies_at_listed, lock_is, mode_is, train_at, rel_is, seen_is, unclaimed, no_train_at}
+use Rattle.ilk_conditions.specs.Conditions.{board_is, lies_at_listed, lock_is, mode_is, train_at, rel_is, seen_is, no_train_at}
+use Rattle.ilk_behave.specs.Guards.{clear_at, unclaimed}
 use Rattle.ilk_behave.specs.Settings.{board_becomes, commanded, lock_becomes, locks_become, mode_becomes, rel_becomes, rule, rules_for, seen_becomes}
 
 -- mark r: r is Free; r is Marked

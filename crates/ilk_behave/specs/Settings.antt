@@ -1,5 +1,5 @@
 -- What rules set.
-use Rattle.std.specs.Prelude.{ℕ, Option, Some, None, List, [], ◌∷◌, map}
+use Rattle.std.specs.Prelude.{ℕ, Option, Some, None, List, [], map}
 use Rattle.std.specs.Option.{option_to_list}
 use Rattle.ilk_ir.specs.System.{RuleTree}
 use Rattle.ilk_ir.specs.Tree.{Tree, all_of, trees}

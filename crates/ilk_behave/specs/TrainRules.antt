@@ -10,7 +10,8 @@ use Rattle.ilk_plant.specs.declared.state.Hold.TheVariants.{Free as FreeLock}
 use Rattle.ilk_motion.specs.Trains.{has_neighbour}
 use Rattle.ilk_layout.specs.declared.values.Occupancy.{Occupancy}
 use Rattle.ilk_layout.specs.declared.values.Occupancy.TheVariants.{Vacant, Taken, Crash}
-use Rattle.ilk_behave.specs.Conditions.{leads_towards, lock_is, occupancy_is, passable, takes_from, no_train_at}
+use Rattle.ilk_conditions.specs.Conditions.{lock_is, occupancy_is, no_train_at}
+use Rattle.ilk_behave.specs.Guards.{leads_towards, passable, takes_from}
 use Rattle.ilk_behave.specs.Settings.{board_closes, occupancy_becomes, rule, rules_for}
 
 abbrev pub both_directions : List Dir

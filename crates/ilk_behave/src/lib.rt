@@ -14,9 +14,9 @@
 //! step as it does (`specs/Steps`) is told, event by event, by the functions `mark_steps` and so on.
 #![tactic(auto)]
 
-mod conditions;
 mod counts;
 mod events;
+mod guards;
 mod kinds;
 mod laws;
 mod point_rules;
@@ -24,7 +24,6 @@ mod route_rules;
 mod settings;
 mod system;
 mod train_rules;
-mod variables;
 
 pub use events::event_of;
 pub use laws::{

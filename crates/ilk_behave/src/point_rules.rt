@@ -6,12 +6,12 @@ ghost use Rattle.ilk_ir.specs.Tree.{any_of, negation, trees};
 ghost use Rattle.ilk_plant.specs.declared.state.Lie.TheVariants.{Moving};
 ghost use Rattle.ilk_routes.specs.Lies.{lie_in};
 ghost use Rattle.ilk_layout.specs.declared.values.Occupancy.TheVariants.{Crash};
-ghost use Rattle.ilk_behave.specs.Conditions as conditions;
+ghost use Rattle.ilk_conditions.specs.Conditions as conditions;
 ghost use Rattle.ilk_behave.specs.PointRules as definitions;
 ghost use Rattle.ilk_behave.specs.Settings as settings;
 
-use crate::conditions::{at_is, lie_in, negated, no_train_at, to_is, train_at};
 use crate::settings::{at_becomes, occupancy_becomes, push_rule};
+use ilk_conditions::{at_is, lie_in, negated, no_train_at, to_is, train_at};
 use ilk_ir::{Form, Rules};
 use ilk_layout::Occupancy;
 use ilk_plant::{Lie, Plant, Position, Row};

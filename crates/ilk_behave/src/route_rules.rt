@@ -11,18 +11,17 @@ ghost use Rattle.ilk_plant.specs.declared.state.Hold.TheVariants.{Free as FreeLo
 ghost use Rattle.ilk_plant.specs.declared.state.Mode.TheVariants.{Free, Marked, Allocating, Locked, Occupied};
 ghost use Rattle.ilk_routes.specs.Boards.{protects_by};
 ghost use Rattle.ilk_routes.specs.Claims.{sections_beside, wanted_points};
-ghost use Rattle.ilk_behave.specs.Conditions as conditions;
+ghost use Rattle.ilk_conditions.specs.Conditions as conditions;
+ghost use Rattle.ilk_behave.specs.Guards as guards;
 ghost use Rattle.ilk_behave.specs.Settings as settings;
 ghost use Rattle.ilk_behave.specs.RouteRules as definitions;
 
-use crate::conditions::{
-    board_is, lock_is, mode_is, negated, no_train_at, push_clear, push_lies, push_points_clear,
-    push_unclaimed, rel_is, seen_is, train_at,
-};
+use crate::guards::{push_clear, push_lies, push_points_clear, push_unclaimed};
 use crate::settings::{
     board_becomes, lock_becomes, mode_becomes, push_commands, push_locks_become,
     push_point_locks_become, push_rule, rel_becomes, seen_becomes,
 };
+use ilk_conditions::{board_is, lock_is, mode_is, negated, no_train_at, rel_is, seen_is, train_at};
 use ilk_ir::{Form, Rules, Sets};
 use ilk_plant::{Aspect, Hold, Mode, Plant, Route, Row};
 use std::alloc::{AllocError, Global};
@@ -49,7 +48,7 @@ fn allocate_forms(
 ) -> Result<Vec<Form>, AllocError>
     requires known { r < length plant.now.routes }
     requires route { IsRouteOf plant.now route.now }
-    ensures { IfOk result (λ forms. map tree_of forms.items ≡ conditions.mode_is r Marked ∷ flat_map conditions.unclaimed route.now.conflicts ++ flat_map (conditions.clear_at plant.now) (sections_locked_for route.now)) }
+    ensures { IfOk result (λ forms. map tree_of forms.items ≡ conditions.mode_is r Marked ∷ flat_map guards.unclaimed route.now.conflicts ++ flat_map (guards.clear_at plant.now) (sections_locked_for route.now)) }
 {
     let mut forms = Vec::new(alloc);
     forms.push(mode_is(plant, r, Mode::Marked))?;

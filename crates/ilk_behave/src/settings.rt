@@ -4,7 +4,7 @@ ghost use Rattle.ilk_ir.specs.System.{rule_tree};
 ghost use Rattle.ilk_plant.specs.Plant.{point_count};
 ghost use Rattle.ilk_behave.specs.Settings as settings;
 
-use crate::variables::{
+use ilk_conditions::{
     at_var, board_var, lock_var, mode_var, occupancy_var, rel_var, seen_var, to_var,
 };
 use ilk_ir::{Form, Rule, Rules, Sets, Setting};

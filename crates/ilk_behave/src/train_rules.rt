@@ -9,11 +9,9 @@ ghost use Rattle.ilk_layout.specs.declared.values.Occupancy.TheVariants.{Crash, 
 ghost use Rattle.ilk_behave.specs.Settings as settings;
 ghost use Rattle.ilk_behave.specs.TrainRules as definitions;
 
-use crate::conditions::{
-    lock_is, no_train_at, occupancy_is, push_leads_towards, push_not_takes_from, push_passable,
-    push_takes_from, train_at,
-};
+use crate::guards::{push_leads_towards, push_not_takes_from, push_passable, push_takes_from};
 use crate::settings::{occupancy_becomes, push_board_closes, push_rule};
+use ilk_conditions::{lock_is, no_train_at, occupancy_is, train_at};
 use ilk_ir::{Form, Rules, Sets};
 use ilk_layout::Occupancy;
 use ilk_plant::{Dir, Hold, Plant, Row, Section};

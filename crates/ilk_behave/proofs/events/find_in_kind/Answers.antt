@@ -1,6 +1,6 @@
-use Rattle.std.proofs.Common.{◌≡◌, ◌∙◌, ap, arith, length}
+use Rattle.std.proofs.Common.{◌∙◌, ap, arith, length}
 use Rattle.ilk_behave.specs.Behaviour.{rules_of}
-use Rattle.ilk_behave.specs.Kinds.{event_of_kind, events_of_kind}
+use Rattle.ilk_behave.specs.Kinds.{events_of_kind}
 use Rattle.ilk_behave.proofs.Located.{left_found, left_kind, left_next, left_past}
 use Rattle.ilk_behave.proofs.events.find_in_kind.Goals as goal
 

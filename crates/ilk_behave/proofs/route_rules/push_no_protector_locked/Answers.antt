@@ -4,7 +4,7 @@ use Rattle.ilk_ir.specs.Form.{tree_of}
 use Rattle.ilk_ir.specs.Tree.{negation}
 use Rattle.ilk_plant.specs.declared.state.Mode.TheVariants.{Locked}
 use Rattle.ilk_routes.specs.Boards.{protects_by}
-use Rattle.ilk_behave.specs.Conditions.{mode_is}
+use Rattle.ilk_conditions.specs.Conditions.{mode_is}
 use Rattle.ilk_behave.proofs.route_rules.push_no_protector_locked.Goals as goal
 
 pub loop-q-preserved : goal.loop-q-preserved

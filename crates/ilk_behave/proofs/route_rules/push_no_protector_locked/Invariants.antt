@@ -1,10 +1,10 @@
-use Rattle.std.proofs.Common.{◌≡◌, ◌++◌, drop, filter, map}
+use Rattle.std.proofs.Common.{◌≡◌, ◌++◌, filter, map}
 use Rattle.std.specs.List.{range_with_len}
 use Rattle.ilk_ir.specs.Tree.{negation}
 use Rattle.ilk_ir.specs.Form.{tree_of}
 use Rattle.ilk_plant.specs.declared.state.Mode.TheVariants.{Locked}
 use Rattle.ilk_routes.specs.Boards.{protects_by}
-use Rattle.ilk_behave.specs.Conditions as conditions
+use Rattle.ilk_conditions.specs.Conditions as conditions
 use Rattle.ilk_behave.proofs.route_rules.push_no_protector_locked.Given as goal
 
 abbrev pub invariant-loop-q : goal.invariant-loop-q

@@ -1,6 +1,4 @@
-use Rattle.std.proofs.Common.{map}
-use Rattle.ilk_ir.specs.Form.{tree_of}
-use Rattle.ilk_behave.specs.Conditions.{seen_is}
+use Rattle.ilk_conditions.specs.Conditions.{seen_is}
 use Rattle.ilk_behave.proofs.Pushed.{pushed_form}
 use Rattle.ilk_behave.proofs.route_rules.seen_from.Goals as goal
 

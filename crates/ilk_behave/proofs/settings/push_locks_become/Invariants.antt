@@ -1,4 +1,4 @@
-use Rattle.std.proofs.Common.{◌≡◌, ◌++◌, drop, map}
+use Rattle.std.proofs.Common.{◌≡◌, ◌++◌, drop}
 use Rattle.ilk_behave.specs.Settings as settings
 use Rattle.ilk_behave.proofs.settings.push_locks_become.Given as goal
 

@@ -1,4 +1,4 @@
-use Rattle.std.proofs.Common.{◌∙◌, arith, map}
+use Rattle.std.proofs.Common.{arith, map}
 use Rattle.std.specs.List.{flat_map}
 use Rattle.ilk_base.proofs.FlatMaps.{flat_map-grows}
 use Rattle.ilk_ir.specs.System.{rule_tree}

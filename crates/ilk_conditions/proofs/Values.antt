@@ -1,16 +1,15 @@
 -- What the parts of guards ask of a state, by its image.
-use Rattle.std.proofs.Common.{◌≡◌, ℕ, ◌+◌, ◌<◌, ◌==◌, Bool, true, false, not, ◌&&◌, ◌||◌, Option, Some, None, List, length, map, slice_get, refl, inl, inr, sym, ◌∙◌, ap, arith}
-use Rattle.std.specs.List.{list_any, range_with_len}
+use Rattle.std.proofs.Common.{◌≡◌, ℕ, ◌<◌, ◌==◌, Bool, true, false, not, Some, None, length, slice_get, refl, inl, inr, sym, ◌∙◌, ap, arith}
+use Rattle.std.specs.List.{range_with_len}
 use Rattle.std.proofs.lemmas.Bool.{cases_Bool}
 use Rattle.std.proofs.lemmas.Option.{slice_get-map}
 use Rattle.ilk_base.specs.Option.{is_some_and}
 use Rattle.ilk_base.proofs.Lists.{item_at}
 use Rattle.ilk_base.proofs.Ranges.{range-at}
 use Rattle.ilk_ir.specs.Tree.{has_value, tree_holds}
-use Rattle.ilk_plant.specs.Network.{has_section}
-use Rattle.ilk_plant.specs.Plant.{PlantLists, point_number}
+use Rattle.ilk_plant.specs.Plant.{PlantLists}
 use Rattle.ilk_plant.specs.Shape.{HasShape}
-use Rattle.ilk_plant.specs.State.{has_lock, is_occupied, lie_of, same_hold}
+use Rattle.ilk_plant.specs.State.{has_lock, is_occupied, same_hold}
 use Rattle.ilk_plant.specs.declared.network.Dir.{Dir}
 use Rattle.ilk_plant.specs.declared.network.Dir.TheVariants.{Up, Down}
 use Rattle.ilk_plant.specs.declared.network.Position.{Position}
@@ -37,12 +36,11 @@ use Rattle.ilk_layout.specs.Occupancy.{is_first, occupancy_of, taken_by}
 use Rattle.ilk_layout.specs.Values.{aspect_value, hold_value, lie_value, mode_value, occupancy_value, position_value}
 use Rattle.ilk_layout.specs.Variables.{occupancy_var}
 use Rattle.ilk_layout.specs.declared.values.Occupancy.{Occupancy}
-use Rattle.ilk_layout.specs.declared.values.Occupancy.TheVariants.{Vacant, Taken, Crash}
+use Rattle.ilk_layout.specs.declared.values.Occupancy.TheVariants.{Vacant, Taken}
 use Rattle.ilk_layout.proofs.Calm.{calm-at}
 use Rattle.ilk_layout.proofs.Trains.{find-none, find-some, has_x}
 use Rattle.ilk_layout.proofs.Writes.{at-at, board-at, image_with, lock-at, mode-at, occupancy-at, rel-at, seen-at, to-at}
-use Rattle.ilk_behave.proofs.Writing.{image-is}
-use Rattle.ilk_behave.specs.Conditions.{at_is, board_is, lie_is, lock_is, mode_is, no_train_at, occupancy_is, rel_is, seen_is, to_is}
+use Rattle.ilk_conditions.specs.Conditions.{at_is, board_is, lock_is, mode_is, no_train_at, occupancy_is, rel_is, seen_is, to_is}
 
 -- values are numbered apart
 
@@ -102,6 +100,10 @@ pub moving-test : (a : Lie) → (lie_value a == lie_value Moving) ≡ is_moving 
 moving-test LiesPlus = refl
 moving-test LiesMinus = refl
 moving-test Moving = refl
+
+-- the image of a state, its lists one after another
+pub image-is : (p : PlantLists) (s : State) → image_of p s ≡ image_with s (occupancy_values p s)
+image-is p s = refl
 
 -- the value at a number
 has-value : (p : PlantLists) (s : State) (v c x : ℕ) → slice_get (image_with s (occupancy_values p s)) v ≡ Some x → has_value (image_of p s) v c ≡ (x == c)

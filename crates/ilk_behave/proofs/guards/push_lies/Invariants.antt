@@ -1,7 +1,7 @@
 use Rattle.std.proofs.Common.{◌≡◌, ◌++◌, drop, map}
 use Rattle.ilk_ir.specs.Form.{tree_of}
-use Rattle.ilk_behave.specs.Conditions as conditions
-use Rattle.ilk_behave.proofs.conditions.push_lies.Given as goal
+use Rattle.ilk_conditions.specs.Conditions as conditions
+use Rattle.ilk_behave.proofs.guards.push_lies.Given as goal
 
 abbrev pub invariant-loop-listed : goal.invariant-loop-listed
 invariant-loop-listed l =
