@@ -91,7 +91,7 @@ path_is_occupied : ends_in line_with_boards (Enter 1 ∷ Mark 0 ∷ Allocate 0 �
 path_is_occupied = refl
 
 -- a station: a border, a point that faces up, two tracks, a point that faces down, a border
-abbrev station : PlantLists
+abbrev pub station : PlantLists
 station = record {
   sections =
       Linear None (Some 1) None (Some 0)

@@ -1,21 +1,36 @@
 -- Sections as bits: those of a body, and those that two or more trains have.
-use Rattle.std.proofs.Common.{◌≡◌, ◌≢◌, ℕ, ◌+◌, ◌-◌, ◌*◌, ◌%◌, ◌^◌, ◌<◌, ◌≤◌, Bool, true, false, ◌==◌, ◌&&◌, ◌||◌, cond, List, [], ◌∷◌, count_by, get_or, length, max, min, nat_lt, take, refl, sym, ap, ◌∙◌, arith, subst}
+use Rattle.std.proofs.Common.{◌≡◌, ◌≢◌, ℕ, zero, suc, ◌+◌, ◌-◌, ◌*◌, ◌%◌, ◌^◌, ◌<◌, ◌≤◌, Bool, true, false, ◌==◌, ◌&&◌, ◌||◌, cond, List, count_by, get_or, length, max, min, nat_lt, take, refl, sym, ap, ◌∙◌, arith, subst}
 use Rattle.std.specs.Int.{bit_at, w128}
 use Rattle.std.specs.Int.Bits.{bit_and, bit_or}
 use Rattle.std.proofs.Math.Bool.{or-false}
 use Rattle.std.proofs.lemmas.Bool.Decides.{Decides-eqb, nat_tests}
-use Rattle.std.proofs.lemmas.List.{take_more}
-use Rattle.std.proofs.lemmas.List.Folds.{list_any-append}
 use Rattle.std.proofs.lemmas.List.Sums.{count_by_more_no, count_by_more_yes}
-use Rattle.std.proofs.lemmas.Nat.Bits.{bit_at_above, bit_at_and, bit_at_or, bit_at_set_other, bit_at_set_same}
+use Rattle.std.proofs.lemmas.Nat.Bits.{bit_at_above, bit_at_and, bit_at_or, bit_at_set_other, bit_at_set_same, bit_at-lt}
 use Rattle.ilk_base.proofs.Truth.{or-true}
-use Rattle.ilk_plant.specs.Network.{has_section}
 use Rattle.ilk_model.specs.Shared.{is_shared}
 use Rattle.ilk_model.specs.declared.shared.SharedSections.{SharedSections}
 
 -- the bit of a test
 abbrev pub bit : Bool → ℕ
 bit b = cond b 1 0
+
+pub bit-test : (b : Bool) → (bit b == 1) ≡ b
+bit-test true = refl
+bit-test false = refl
+
+-- a bit tells whether it is 1
+pub bit-own : (bits x : ℕ) → bit_at bits x ≡ bit (bit_at bits x == 1)
+bit-own bits x = by_value (bit_at bits x) (bit_at-lt bits x)
+  where
+    by_value : (b : ℕ) → b < 2 → b ≡ bit (b == 1)
+    by_value zero small = refl
+    by_value (suc zero) small = refl
+    by_value (suc (suc b)) small = absurd (omega arith)
+
+-- a bit of a list with one more item
+pub bit_more : (bits new x : ℕ) (had this : Bool) → bit_at bits x ≡ bit had → bit_at new x ≡ bit ((bit_at bits x == 1) || this) → bit_at new x ≡ bit (had || this)
+bit_more bits new x had this before more =
+    more ∙ ap (λ b. bit ((b == 1) || this)) before ∙ ap (λ b. bit (b || this)) (bit-test had)
 
 -- one more section is set
 pub bit_set : (bits y x : ℕ) (h : Bool) → y < 128 → bit_at bits x ≡ bit h → bit_at (bit_or bits (1 * 2 ^ y % 2 ^ 128)) x ≡ bit (h || (y == x))
@@ -35,17 +50,15 @@ bit_kept bits y x h past below e =
     let differs : (y == x) ≡ false = grind (arith, nat_tests) in
     e ∙ ap bit (sym (or-false h)) ∙ ap (λ b. bit (h || b)) (sym differs)
 
--- the sections of a list with one more
-pub has_more : (x : ℕ) (sections : List ℕ) (i d : ℕ) → i < length sections → has_section x (take (i + 1) sections) ≡ (has_section x (take i sections) || (get_or sections i d == x))
-has_more x sections i d within =
-    ap (has_section x) (take_more sections i d within) ∙ list_any-append (λ y. y == x) (take i sections) (get_or sections i d ∷ [])
-    ∙ ap (λ b. has_section x (take i sections) || b) (or-false (get_or sections i d == x))
-
 max_bits : (a b : Bool) → max (bit a) (bit b) ≡ bit (a || b)
 max_bits true true = refl
 max_bits true false = refl
 max_bits false true = refl
 max_bits false false = refl
+
+-- the bits of two lists together
+pub bit_either : (left right x : ℕ) (a b : Bool) → bit_at left x ≡ bit a → bit_at right x ≡ bit b → bit_at (bit_or left right) x ≡ bit (a || b)
+bit_either left right x a b own other = bit_at_or left right x ∙ (λ j. max (own j) (other j)) ∙ max_bits a b
 
 min_bits : (a b : Bool) → min (bit a) (bit b) ≡ bit (a && b)
 min_bits true true = refl
@@ -95,10 +108,6 @@ module _ {T : Type 0} (has : T → Bool) (trains : List T) (i : ℕ) (d : T) (wi
 -- a number below 2 ^ 128 has no bit from there on
 pub no_bit_past : (bits x : ℕ) → bits < 2 ^ 128 → 128 ≤ x → false ≡ (bit_at bits x == 1)
 no_bit_past bits x small past = sym (ap (λ b. b == 1) (bit_at_above bits 128 x small past))
-
-bit-test : (b : Bool) → (bit b == 1) ≡ b
-bit-test true = refl
-bit-test false = refl
 
 -- where the low and the high bits are exact, all are
 pub shared_exact : (shared : SharedSections) (two : ℕ → Bool) → ((x : ℕ) → x < 128 → bit_at shared.low x ≡ bit (two (0 + x))) → ((x : ℕ) → x < 128 → bit_at shared.high x ≡ bit (two (128 + x))) → (x : ℕ) → x < 256 → is_shared shared x ≡ two x

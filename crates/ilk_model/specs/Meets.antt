@@ -1,6 +1,6 @@
 -- The invariant: what a state has that has the shape, no hazard, and breaks no family.
-use Rattle.std.specs.Prelude.{ℕ, ◌-◌, ◌≡◌, Bool, None, List, [], ◌∷◌, IsTrue, slice_get}
-use Rattle.std.specs.List.{list_all}
+use Rattle.std.specs.Prelude.{ℕ, ◌-◌, ◌≡◌, Bool, not, Option, None, List, [], ◌∷◌, IsTrue, find, length, slice_get}
+use Rattle.std.specs.List.{list_all, range_with_len}
 use Rattle.ilk_base.specs.Option.{is_some_and}
 use Rattle.ilk_plant.specs.Plant.{PlantLists}
 use Rattle.ilk_plant.specs.Shape.{HasShape}
@@ -15,6 +15,10 @@ families = keeps_v1 ∷ keeps_v2 ∷ keeps_v3 ∷ keeps_v4 ∷ keeps_v5 ∷ keep
 -- whether s keeps family VJ, for j from 1 to 9
 abbrev pub keeps : PlantLists → State → ℕ → Bool
 keeps p s j = is_some_and (slice_get families (j - 1)) (λ keeps_it. keeps_it p s)
+
+-- the number of the least family that s doesn't keep; none where it keeps all nine
+abbrev pub least_broken : PlantLists → State → Option ℕ
+least_broken p s = find (λ j. not (keeps p s j)) (range_with_len 1 (length families))
 
 -- s has the shape, has no hazard, and keeps all nine families
 pub record Meets (p : PlantLists) (s : State) : Type 0 where

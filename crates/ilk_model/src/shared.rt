@@ -1,17 +1,18 @@
-ghost use Rattle.std.specs.Prelude.{ℕ, ◌≡◌, ◌==◌, ◌+◌, ◌<◌, if◌then◌else◌};
+ghost use Rattle.std.specs.Prelude.{ℕ, ◌≡◌, ◌==◌, ◌||◌, ◌+◌, ◌<◌, if◌then◌else◌};
 ghost use Rattle.std.specs.Int.{bit_at};
 ghost use Rattle.ilk_plant.specs.Network.{has_section};
 ghost use Rattle.ilk_model.specs.Hazard.{is_two};
 ghost use Rattle.ilk_model.specs.Shared.{is_shared};
 
-use ilk_plant::{Row, State};
+use ilk_plant::State;
 
-/// The sections that two or more trains have in their bodies, as bits: bit `x` of `low` for section
-/// `x`, below 128, and bit `x` of `high` for section 128 + `x`, below 256.
+/// The sections that two or more have, trains in their bodies or routes that hold them, as bits:
+/// bit `x` of `low` for section `x`, below 128, and bit `x` of `high` for section 128 + `x`, below
+/// 256.
 #[derive(Clone, Copy)]
 pub(crate) struct SharedSections {
-    low: u128,
-    high: u128,
+    pub(crate) low: u128,
+    pub(crate) high: u128,
 }
 
 // The place of section `y` among the 128 sections from `from` on, or 128 where it is none of them.
@@ -25,16 +26,21 @@ fn place_of(y: u32, from: u32) -> u32
     if place < 128 { place } else { 128 }
 }
 
-// The sections of a body, as bits: bit `x` for section `from` + `x`, for `x` below 128.
-fn sections_of(body: &Row<u32>, from: u32) -> u128
-    ensures { (x : ℕ) → x < 128 → bit_at result x ≡ (if has_section (from + x) body.now then 1 else 0) }
+/// These bits, and that of section `y`: bit `x` for section `from` + `x`, for `x` below 128.
+pub(crate) fn with_section(bits: u128, y: u32, from: u32) -> u128
+    ensures { (x : ℕ) → x < 128 → bit_at result x ≡ (if bit_at bits x == 1 || y == from + x then 1 else 0) }
+{
+    let place = place_of(y, from);
+    if place < 128 { bits | 1 << place } else { bits }
+}
+
+/// The sections of a list, as bits: bit `x` for section `from` + `x`, for `x` below 128.
+pub(crate) fn sections_of(sections: &[u32], from: u32) -> u128
+    ensures { (x : ℕ) → x < 128 → bit_at result x ≡ (if has_section (from + x) sections.now then 1 else 0) }
 {
     let mut bits: u128 = 0;
-    for y in body.as_slice() {
-        let place = place_of(*y, from);
-        if place < 128 {
-            bits |= 1 << place;
-        }
+    for y in sections {
+        bits = with_section(bits, *y, from);
     }
     bits
 }
@@ -47,7 +53,7 @@ fn shared_from(s: &State, from: u32) -> u128
     let mut seen: u128 = 0;
     let mut shared: u128 = 0;
     for train in s.trains.as_slice() {
-        let body = sections_of(&train.body, from);
+        let body = sections_of(train.body.as_slice(), from);
         shared |= seen & body;
         seen |= body;
     }

@@ -1,0 +1,45 @@
+//! The nine families of the invariant together: the least that a state breaks.
+ghost use Rattle.std.specs.Prelude.{◌≡◌};
+ghost use Rattle.ilk_plant.specs.Shape.{HasShape};
+ghost use Rattle.ilk_model.specs.Meets.{least_broken};
+
+use crate::held::keeps_v2;
+use crate::route_families::{keeps_v1, keeps_v3, keeps_v4, keeps_v5, keeps_v6, keeps_v9};
+use crate::train_families::{keeps_v7, keeps_v8};
+use ilk_plant::{Plant, State};
+
+/// The number of the least family of the invariant, 1 to 9, that a state breaks. None where it keeps
+/// all nine.
+pub fn broken_family(plant: &Plant, s: &State) -> Option<u8>
+    requires { HasShape plant.now s.now }
+    ensures { result ≡ least_broken plant.now s.now }
+{
+    if !keeps_v1(plant, s) {
+        return Some(1);
+    }
+    if !keeps_v2(plant, s) {
+        return Some(2);
+    }
+    if !keeps_v3(plant, s) {
+        return Some(3);
+    }
+    if !keeps_v4(plant, s) {
+        return Some(4);
+    }
+    if !keeps_v5(plant, s) {
+        return Some(5);
+    }
+    if !keeps_v6(plant, s) {
+        return Some(6);
+    }
+    if !keeps_v7(plant, s) {
+        return Some(7);
+    }
+    if !keeps_v8(plant, s) {
+        return Some(8);
+    }
+    if !keeps_v9(plant, s) {
+        return Some(9);
+    }
+    None
+}
