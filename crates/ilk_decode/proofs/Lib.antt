@@ -1,0 +1,5 @@
+pub mod Mapped
+pub mod Tails
+pub mod Chased
+pub mod Same
+pub mod Examples

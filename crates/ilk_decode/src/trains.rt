@@ -1,0 +1,105 @@
+ghost use Rattle.std.specs.Prelude.{◌≡◌, ◌∷◌, ◌++◌, IfOk, OnOk, length, option_to_list};
+ghost use Rattle.ilk_layout.specs.Decoded.{chase};
+ghost use Rattle.ilk_decode.specs.Read.{next_in_body, tail_direction, train_with_tail, trains_by_tails};
+
+use ilk_base::Row;
+use ilk_layout::Occupancy;
+use ilk_motion::ahead;
+use ilk_plant::{Dir, Plant, State, Train};
+use std::alloc::{AllocError, Global};
+
+// The section after `x` in the body of its train: the one ahead. None where its head is at `x`, or
+// no train is there.
+fn next_in_body(plant: &Plant, s: &State, occupancies: &[Occupancy], x: u32) -> Option<u32>
+    ensures { result ≡ next_in_body plant.now s.now occupancies.now x }
+{
+    match occupancies.get(x as usize) {
+        Some(
+            Occupancy::Taken {
+                dir,
+                head: false,
+                ..
+            },
+        ) => ahead(plant, s, x, *dir),
+        _ => None,
+    }
+}
+
+// The body of the train with its tail at this section, from there to its head.
+fn body_from(
+    alloc: Global,
+    plant: &Plant,
+    s: &State,
+    occupancies: &[Occupancy],
+    tail: u32,
+) -> Result<Row<u32>, AllocError>
+    ensures { IfOk result (λ body. body ≡ tail ∷ chase (length plant.now.sections) (next_in_body plant.now s.now occupancies.now) tail) }
+{
+    let mut body = Row::new(alloc);
+    body.push(tail)?;
+    let mut x = tail;
+    for step in 0..plant.sections() {
+        match next_in_body(plant, s, occupancies, x) {
+            None => return Ok(body),
+            Some(next) => {
+                body.push(next)?;
+                x = next;
+            }
+        }
+    }
+    Ok(body)
+}
+
+// The direction of the train with its tail at section `x`, if there is one.
+fn tail_direction(occupancies: &[Occupancy], x: u32) -> Option<Dir>
+    ensures { result ≡ tail_direction occupancies.now x }
+{
+    match occupancies.get(x as usize) {
+        Some(
+            Occupancy::Taken {
+                dir,
+                tail: true,
+                ..
+            },
+        ) => Some(*dir),
+        _ => None,
+    }
+}
+
+// Adds the train with its tail at section `x`, if there is one.
+fn push_train(
+    alloc: Global,
+    plant: &Plant,
+    s: &State,
+    occupancies: &[Occupancy],
+    trains: &mut Row<Train>,
+    x: u32,
+) -> Result<(), AllocError>
+    ensures { OnOk result (trains.new ≡ trains.old ++ option_to_list (train_with_tail plant.now s.now occupancies.now x)) }
+{
+    match tail_direction(occupancies, x) {
+        None => Ok(()),
+        Some(dir) => {
+            let body = body_from(alloc, plant, s, occupancies, x)?;
+            trains.push(Train { dir, body })?;
+            Ok(())
+        }
+    }
+}
+
+/// The trains, in the order of their tails, where the points lie as in this state and the sections
+/// are occupied so.
+pub(crate) fn trains_by_tails(
+    alloc: Global,
+    plant: &Plant,
+    s: &State,
+    occupancies: &[Occupancy],
+) -> Result<Row<Train>, AllocError>
+    ensures { IfOk result (λ trains. trains ≡ trains_by_tails plant.now s.now occupancies.now) }
+{
+    let mut trains = Row::new(alloc);
+    for x in 0..plant.sections() {
+        push_train(alloc, plant, s, occupancies, &mut trains, x)?;
+    }
+    Ok(trains)
+}
