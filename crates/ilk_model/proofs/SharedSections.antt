@@ -4,9 +4,11 @@ use Rattle.std.specs.Int.{bit_at, w128}
 use Rattle.std.specs.Int.Bits.{bit_and, bit_or}
 use Rattle.std.proofs.Math.Bool.{or-false}
 use Rattle.std.proofs.lemmas.Bool.Decides.{Decides-eqb, nat_tests}
+use Rattle.std.proofs.lemmas.List.Folds.{list_any_more}
 use Rattle.std.proofs.lemmas.List.Sums.{count_by_more_no, count_by_more_yes}
 use Rattle.std.proofs.lemmas.Nat.Bits.{bit_at_above, bit_at_and, bit_at_or, bit_at_set_other, bit_at_set_same, bit_at-lt}
 use Rattle.ilk_base.proofs.Truth.{or-true}
+use Rattle.ilk_plant.specs.Network.{has_section}
 use Rattle.ilk_model.specs.Shared.{is_shared}
 use Rattle.ilk_model.specs.declared.shared.SharedSections.{SharedSections}
 
@@ -49,6 +51,10 @@ pub bit_kept : (bits y x : ℕ) (h : Bool) → 128 ≤ y → x < 128 → bit_at 
 bit_kept bits y x h past below e =
     let differs : (y == x) ≡ false = grind (arith, nat_tests) in
     e ∙ ap bit (sym (or-false h)) ∙ ap (λ b. bit (h || b)) (sym differs)
+
+-- the sections of a list with one more
+pub has_more : (x : ℕ) (sections : List ℕ) (i d : ℕ) → i < length sections → has_section x (take (i + 1) sections) ≡ (has_section x (take i sections) || (get_or sections i d == x))
+has_more x sections i d within = list_any_more (λ y. y == x) sections i d within
 
 max_bits : (a b : Bool) → max (bit a) (bit b) ≡ bit (a || b)
 max_bits true true = refl

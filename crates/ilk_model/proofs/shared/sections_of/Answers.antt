@@ -1,6 +1,5 @@
 use Rattle.std.proofs.Common.{◌+◌, ◌==◌, ◌∙◌, ap, get_or, sym}
-use Rattle.std.proofs.lemmas.List.Folds.{list_any_more}
-use Rattle.ilk_model.proofs.SharedSections.{bit, bit_more}
+use Rattle.ilk_model.proofs.SharedSections.{bit, bit_more, has_more}
 use Rattle.ilk_model.proofs.shared.sections_of.Goals as goal
 
 pub loop-y-preserved : goal.loop-y-preserved
@@ -8,4 +7,4 @@ loop-y-preserved c x below =
     let items = c.args.sections.now in
     let i = c.loop-y.y-index in
     bit_more c.loop-y.bits c.with_section-bits.result x _ (get_or items i 0 == c.args.from + x) (c.loop-y.invariant x below) (c.with_section-bits.ensures x below)
-    ∙ ap bit (sym (list_any_more (λ y. y == c.args.from + x) items i 0 c.loop-y-test.true))
+    ∙ ap bit (sym (has_more (c.args.from + x) items i 0 c.loop-y-test.true))
