@@ -1,5 +1,5 @@
 -- That what guards ask is valid over the ranges of a plant: each variable has a range, and each value is below it.
-use Rattle.std.proofs.Common.{◌≡◌, ℕ, zero, suc, ◌+◌, ◌*◌, ◌^◌, ◌<◌, ◌≤◌, true, false, nat_lt, Option, Some, None, List, [], ◌∷◌, ◌++◌, length, replicate, slice_get, refl, sym, ◌∙◌, ap, arith}
+use Rattle.std.proofs.Common.{◌≡◌, ℕ, zero, suc, ◌+◌, ◌*◌, ◌<◌, ◌≤◌, true, false, nat_lt, Option, Some, None, List, [], ◌∷◌, ◌++◌, length, replicate, slice_get, refl, sym, ◌∙◌, ap, arith}
 use Rattle.std.specs.List.{flat_map, list_all}
 use Rattle.std.proofs.lemmas.Bool.{and_from}
 use Rattle.std.proofs.lemmas.Bool.Decides.{nat_tests}
@@ -26,7 +26,7 @@ use Rattle.ilk_plant.specs.declared.table.Route.{Route}
 use Rattle.ilk_plant.proofs.PointNumbers.{point_number-below}
 use Rattle.ilk_routes.specs.Lies.{lie_in}
 use Rattle.ilk_layout.specs.Values.{aspect_value, hold_value, lie_value, mode_value, occupancy_value, position_value}
-use Rattle.ilk_layout.specs.Variables.{at_var, board_var, lock_var, mode_var, occupancy_var, points_ranges, ranges_of_plant, rel_var, route_ranges, seen_var, to_var}
+use Rattle.ilk_layout.specs.Variables.{at_var, board_var, lock_var, occupancy_var, points_ranges, ranges_of_plant, route_ranges, to_var}
 use Rattle.ilk_layout.specs.declared.values.Occupancy.{Occupancy}
 use Rattle.ilk_layout.specs.declared.values.Occupancy.TheVariants.{Vacant, Taken, Crash}
 use Rattle.ilk_layout.proofs.Parts.{get-fifth, get-first, get-fourth, get-second, get-third}
