@@ -9,3 +9,11 @@ pub mod ReleaseSteps
 pub mod AllocateSteps
 pub mod PointSteps
 pub mod EnterSteps
+pub mod SetOnce
+pub mod RulesValid
+pub mod LocksOnce
+pub mod RouteRulesValid
+pub mod PathRulesValid
+pub mod TrainRulesValid
+pub mod RuleBounds
+pub mod SystemValid

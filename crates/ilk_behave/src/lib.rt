@@ -11,19 +11,24 @@
 //! `behaviour` makes the system of a plant, and `event_of` tells which event a rule belongs to. An
 //! event has a rule for each case that its change depends on: for each place of a path, for each
 //! section to which a train may go on, and for whether a crash comes of it. That the rules of an event
-//! step as it does (`specs/Steps`) is told, event by event, by the functions `mark_steps` and so on.
+//! step as it does (`specs/Steps`) is told, event by event, by the functions `mark_steps` and so on;
+//! that the system is valid by `system_is_valid`, and that an event has few rules by
+//! `few_rules_of_events`.
 #![tactic(auto)]
 
 mod counts;
 mod events;
 mod guards;
+mod heads;
 mod kinds;
 mod laws;
+mod passage_rules;
 mod point_rules;
 mod route_rules;
 mod settings;
 mod system;
 mod train_rules;
+mod validity;
 
 pub use events::event_of;
 pub use laws::{
@@ -31,3 +36,4 @@ pub use laws::{
     release_steps, sense_steps, settle_steps, throw_steps,
 };
 pub use system::behaviour;
+pub use validity::{MAX_EVENT_RULES, few_rules_of_events, system_is_valid};

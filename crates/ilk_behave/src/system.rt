@@ -1,16 +1,17 @@
-ghost use Rattle.std.specs.Prelude.{◌≡◌, ◌++◌, map, IfOk, OnOk};
-ghost use Rattle.ilk_ir.specs.System.{rule_tree, system_tree};
+ghost use Rattle.std.specs.Prelude.{◌≡◌, ◌++◌, map, IfOk, IsTrue, OnOk};
+ghost use Rattle.ilk_ir.specs.System.{rule_tree, system_tree, system_valid};
 ghost use Rattle.ilk_behave.specs.Behaviour.{rules_of, system_of};
 ghost use Rattle.std.specs.List.{flat_map};
 ghost use Rattle.ilk_behave.specs.Behaviour.{events_of};
 ghost use Rattle.ilk_behave.specs.Kinds.{HasNumber, events_of_kind};
 
+use crate::heads::push_head;
 use crate::kinds::{KINDS, Kind};
+use crate::passage_rules::{push_finish, push_release, push_sense};
 use crate::point_rules::{push_settle, push_throw};
-use crate::route_rules::{
-    push_allocate, push_cancel, push_finish, push_lock, push_mark, push_release, push_sense,
-};
-use crate::train_rules::{push_enter, push_head, push_leave, push_tail};
+use crate::route_rules::{push_allocate, push_cancel, push_lock, push_mark};
+use crate::train_rules::{push_enter, push_leave, push_tail};
+use crate::validity::system_is_valid;
 use ilk_ir::{Rules, System};
 use ilk_layout::ranges;
 use ilk_model::Event;
@@ -67,8 +68,10 @@ fn all_rules(alloc: Global, plant: &Plant) -> Result<Rules, AllocError>
 
 /// The behaviour of a plant as a finite system. The only refusal is want of memory.
 pub fn behaviour(alloc: Global, plant: &Plant) -> Result<System, AllocError>
-    ensures { IfOk result (λ made. system_tree made ≡ system_of plant.now) }
+    ensures system { IfOk result (λ made. system_tree made ≡ system_of plant.now) }
+    ensures valid { IsTrue (system_valid (system_of plant.now)) }
 {
+    system_is_valid(plant);
     Ok(System {
         ranges: ranges(alloc, plant)?,
         rules: all_rules(alloc, plant)?,

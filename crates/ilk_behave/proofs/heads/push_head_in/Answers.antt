@@ -3,7 +3,7 @@ use Rattle.std.specs.List.{flat_map}
 use Rattle.ilk_ir.specs.System.{rule_tree}
 use Rattle.ilk_behave.specs.TrainRules.{head_rules}
 use Rattle.ilk_behave.proofs.Pushed.{two_pushed}
-use Rattle.ilk_behave.proofs.train_rules.push_head_in.Goals as goal
+use Rattle.ilk_behave.proofs.heads.push_head_in.Goals as goal
 
 pub returns : goal.returns
 returns c =

@@ -2,7 +2,7 @@ use Rattle.std.proofs.Common.{◌≡◌, ◌++◌, drop, map}
 use Rattle.std.specs.List.{enumerate_from}
 use Rattle.ilk_ir.specs.System.{rule_tree}
 use Rattle.ilk_behave.specs.RouteRules.{sense_rule}
-use Rattle.ilk_behave.proofs.route_rules.push_sense.Given as goal
+use Rattle.ilk_behave.proofs.passage_rules.push_sense.Given as goal
 
 abbrev pub invariant-loop-k : goal.invariant-loop-k
 invariant-loop-k l =

@@ -1,6 +1,6 @@
 use Rattle.ilk_conditions.specs.Conditions.{seen_is}
 use Rattle.ilk_behave.proofs.Pushed.{pushed_form}
-use Rattle.ilk_behave.proofs.route_rules.seen_from.Goals as goal
+use Rattle.ilk_behave.proofs.passage_rules.seen_from.Goals as goal
 
 pub loop-more-preserved : goal.loop-more-preserved
 loop-more-preserved c =

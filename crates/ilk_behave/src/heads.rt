@@ -1,0 +1,203 @@
+ghost use Rattle.std.specs.Prelude.{◌≡◌, ◌<◌, ◌++◌, ◌∷◌, [], Some, true, false, length, map, flat_map, slice_get, IfOk, OnOk};
+ghost use Rattle.std.specs.Option.{option_to_list};
+ghost use Rattle.ilk_ir.specs.Form.{tree_of};
+ghost use Rattle.ilk_ir.specs.System.{rule_tree};
+ghost use Rattle.ilk_ir.specs.Tree.{any_of, negation, trees};
+ghost use Rattle.ilk_plant.specs.Plant.{next_to};
+ghost use Rattle.ilk_layout.specs.declared.values.Occupancy.TheVariants.{Crash, Taken};
+ghost use Rattle.ilk_behave.specs.Settings as settings;
+ghost use Rattle.ilk_behave.specs.TrainRules as definitions;
+
+use crate::guards::{push_leads_towards, push_not_takes_from, push_passable, push_takes_from};
+use crate::settings::{occupancy_becomes, push_board_closes, push_rule};
+use ilk_conditions::{no_train_at, occupancy_is, train_at};
+use ilk_ir::{Form, Rules, Sets};
+use ilk_layout::Occupancy;
+use ilk_plant::{Dir, Plant, Row};
+use std::alloc::{AllocError, Global};
+
+// What head asks of `x` for a train in direction `d` that goes on to `y`.
+fn may_go_on(
+    alloc: Global,
+    plant: &Plant,
+    x: u32,
+    d: Dir,
+    y: u32,
+    tail: bool,
+) -> Result<Vec<Form>, AllocError>
+    requires { x < length plant.now.sections }
+    ensures { IfOk result (λ forms. map tree_of forms.items ≡ definitions.may_go_on plant.now x d y tail) }
+{
+    let train = Occupancy::Taken {
+        dir: d,
+        tail,
+        head: true,
+    };
+    let mut forms = Vec::new(alloc);
+    forms.push(occupancy_is(plant, x, train))?;
+    push_passable(&mut forms, plant, x, d)?;
+    push_leads_towards(&mut forms, plant, x, d, y)?;
+    Ok(forms)
+}
+
+// What head sets for a train in direction `d` that goes on from `x` to `y`, which then has this
+// occupancy.
+fn gone_on(
+    alloc: Global,
+    plant: &Plant,
+    x: u32,
+    d: Dir,
+    y: u32,
+    tail: bool,
+    there: Occupancy,
+) -> Result<Sets, AllocError>
+    requires here { x < length plant.now.sections }
+    requires ahead { y < length plant.now.sections }
+    ensures { IfOk result (λ sets. sets ≡ definitions.gone_on plant.now x d y tail there) }
+{
+    let left = Occupancy::Taken {
+        dir: d,
+        tail,
+        head: false,
+    };
+    let mut sets = Row::new(alloc);
+    sets.push(occupancy_becomes(plant, x, left))?;
+    sets.push(occupancy_becomes(plant, y, there))?;
+    push_board_closes(&mut sets, plant, x, d)?;
+    Ok(sets)
+}
+
+// Adds that `y` is free for a train that comes from `x` in direction `d`.
+fn push_free_from(
+    alloc: Global,
+    forms: &mut Vec<Form>,
+    plant: &Plant,
+    x: u32,
+    d: Dir,
+    y: u32,
+) -> Result<(), AllocError>
+    requires { y < length plant.now.sections }
+    ensures { OnOk result (map tree_of forms.new.items ≡ map tree_of forms.old.items ++ definitions.free_from plant.now x d y) }
+{
+    forms.push(no_train_at(plant, y))?;
+    push_takes_from(alloc, forms, plant, x, d, y)
+}
+
+// `y` isn't free for a train that comes from `x` in direction `d`.
+fn not_free_from(alloc: Global, plant: &Plant, x: u32, d: Dir, y: u32) -> Result<Form, AllocError>
+    requires { y < length plant.now.sections }
+    ensures { IfOk result (λ form. tree_of form ≡ any_of (trees (map negation (definitions.free_from plant.now x d y)))) }
+{
+    let mut forms = Vec::new(alloc);
+    forms.push(train_at(alloc, plant, y)?)?;
+    push_not_takes_from(alloc, &mut forms, plant, x, d, y)?;
+    Ok(Form::Or(forms))
+}
+
+// Adds the rule of head where `y` is free for the train.
+fn push_head_free(
+    alloc: Global,
+    rules: &mut Rules,
+    plant: &Plant,
+    x: u32,
+    d: Dir,
+    y: u32,
+    tail: bool,
+) -> Result<(), AllocError>
+    requires here { x < length plant.now.sections }
+    requires there { y < length plant.now.sections }
+    ensures { OnOk result (map rule_tree rules.new ≡ map rule_tree rules.old ++ settings.rule (definitions.may_go_on plant.now x d y tail ++ definitions.free_from plant.now x d y) (definitions.gone_on plant.now x d y tail (Taken d false true)) ∷ []) }
+{
+    let mut forms = may_go_on(alloc, plant, x, d, y, tail)?;
+    push_free_from(alloc, &mut forms, plant, x, d, y)?;
+    let there = Occupancy::Taken {
+        dir: d,
+        tail: false,
+        head: true,
+    };
+    let sets = gone_on(alloc, plant, x, d, y, tail, there)?;
+    push_rule(rules, forms, sets)
+}
+
+// Adds the rule of head where a crash at `y` comes of it.
+fn push_head_crash(
+    alloc: Global,
+    rules: &mut Rules,
+    plant: &Plant,
+    x: u32,
+    d: Dir,
+    y: u32,
+    tail: bool,
+) -> Result<(), AllocError>
+    requires here { x < length plant.now.sections }
+    requires there { y < length plant.now.sections }
+    ensures { OnOk result (map rule_tree rules.new ≡ map rule_tree rules.old ++ settings.rule (definitions.may_go_on plant.now x d y tail ++ any_of (trees (map negation (definitions.free_from plant.now x d y))) ∷ []) (definitions.gone_on plant.now x d y tail Crash) ∷ []) }
+{
+    let mut forms = may_go_on(alloc, plant, x, d, y, tail)?;
+    forms.push(not_free_from(alloc, plant, x, d, y)?)?;
+    let sets = gone_on(alloc, plant, x, d, y, tail, Occupancy::Crash)?;
+    push_rule(rules, forms, sets)
+}
+
+// Adds the rules of head for trains in direction `d` that go on from `x` to `y`.
+fn push_head_to(
+    alloc: Global,
+    rules: &mut Rules,
+    plant: &Plant,
+    x: u32,
+    d: Dir,
+    y: u32,
+) -> Result<(), AllocError>
+    requires here { x < length plant.now.sections }
+    requires there { y < length plant.now.sections }
+    ensures { OnOk result (map rule_tree rules.new ≡ map rule_tree rules.old ++ flat_map (definitions.head_rules plant.now x d y) (true ∷ false ∷ [])) }
+{
+    push_head_free(alloc, rules, plant, x, d, y, true)?;
+    push_head_crash(alloc, rules, plant, x, d, y, true)?;
+    push_head_free(alloc, rules, plant, x, d, y, false)?;
+    push_head_crash(alloc, rules, plant, x, d, y, false)
+}
+
+// Adds the rules of head for trains in direction `d` that go on to entry `i` of the sections next to
+// `x`, if there is one.
+fn push_head_at(
+    alloc: Global,
+    rules: &mut Rules,
+    plant: &Plant,
+    x: u32,
+    d: Dir,
+    i: u32,
+) -> Result<(), AllocError>
+    requires { x < length plant.now.sections }
+    ensures { OnOk result (map rule_tree rules.new ≡ map rule_tree rules.old ++ flat_map (λ y. flat_map (definitions.head_rules plant.now x d y) (true ∷ false ∷ [])) (option_to_list (slice_get (next_to plant.now x d) i))) }
+{
+    if let Some(y) = plant.neighbour(x, d, i) {
+        push_head_to(alloc, rules, plant, x, d, y)?;
+    }
+    Ok(())
+}
+
+// Adds the rules of head for trains in direction `d`.
+fn push_head_in(
+    alloc: Global,
+    rules: &mut Rules,
+    plant: &Plant,
+    x: u32,
+    d: Dir,
+) -> Result<(), AllocError>
+    requires { x < length plant.now.sections }
+    ensures { OnOk result (map rule_tree rules.new ≡ map rule_tree rules.old ++ flat_map (λ y. flat_map (definitions.head_rules plant.now x d y) (true ∷ false ∷ [])) (next_to plant.now x d)) }
+{
+    push_head_at(alloc, rules, plant, x, d, 0)?;
+    push_head_at(alloc, rules, plant, x, d, 1)?;
+    Ok(())
+}
+
+/// Adds the rules of head for section `x`: in each direction, to each section next to it.
+pub fn push_head(alloc: Global, rules: &mut Rules, plant: &Plant, x: u32) -> Result<(), AllocError>
+    requires { x < length plant.now.sections }
+    ensures { OnOk result (map rule_tree rules.new ≡ map rule_tree rules.old ++ definitions.rules_of_head plant.now x) }
+{
+    push_head_in(alloc, rules, plant, x, Dir::Up)?;
+    push_head_in(alloc, rules, plant, x, Dir::Down)
+}
