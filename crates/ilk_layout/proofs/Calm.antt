@@ -110,7 +110,7 @@ body-beside p train k x y h at next = beside_in train.dir train.body h at next
     beside_in d (a ∷ rest) h at next = next-beside p d a rest k x y (body-parts p d a rest h).1 at next
 
 -- what stands in a list of one
-only-one : (x y : ℕ) → has_section x (y ∷ []) ≡ true → y ≡ x
+pub only-one : (x y : ℕ) → has_section x (y ∷ []) ≡ true → y ≡ x
 only-one x y h = elim (or_cases (y == x) false h) [ inl e ↦ eqb-true y x e | inr e ↦ absurd (false≢true e) ]
 
 module _ (p : PlantLists) (plant : IsPlant p) (never : NeverReturns p) (s : State) (shape : HasShape p s) (calm : hazard p s ≡ None) where
@@ -162,7 +162,7 @@ module _ (p : PlantLists) (plant : IsPlant p) (never : NeverReturns p) (s : Stat
       by_hazard false h = by_found (find (has_x x) s.trains) refl h
 
   -- where a point lies
-  lie-known : (x stem plus minus : ℕ) (faces : Dir) → slice_get p.sections x ≡ Some (Point stem plus minus faces) → (l : Lie) × (lie_of p s x ≡ Some l)
+  pub lie-known : (x stem plus minus : ℕ) (faces : Dir) → slice_get p.sections x ≡ Some (Point stem plus minus faces) → (l : Lie) × (lie_of p s x ≡ Some l)
   lie-known x stem plus minus faces at =
       let n = count_by is_point (take x p.sections) in
       let less : n < point_count p = count_by-take-lt is_point p.sections x (Point stem plus minus faces) at refl in
@@ -178,7 +178,7 @@ module _ (p : PlantLists) (plant : IsPlant p) (never : NeverReturns p) (s : Stat
       list_any-none (λ (train : Train). strays x plus minus (lie_of p s x) train.body) s.trains i t none at
 
   -- of two neighbours in a body, each is the section to which the other leads
-  led-on : (i : ℕ) (t : Train) (x y : ℕ) (d : Dir) → slice_get s.trains i ≡ Some t → x < length p.sections → has_section y (next_to p x d) ≡ true → has_pair x y t.body ≡ true → ahead_by p (lie_of p s) x d ≡ Some y
+  pub led-on : (i : ℕ) (t : Train) (x y : ℕ) (d : Dir) → slice_get s.trains i ≡ Some t → x < length p.sections → has_section y (next_to p x d) ≡ true → has_pair x y t.body ≡ true → ahead_by p (lie_of p s) x d ≡ Some y
   led-on i t x y d at within beside_it pair = by_section (slice_get p.sections x) refl d beside_it
     where
       of_option : (o : Option ℕ) → has_section y (option_to_list o) ≡ true → o ≡ Some y

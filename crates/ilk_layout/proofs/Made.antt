@@ -41,7 +41,7 @@ use Rattle.ilk_layout.proofs.Tracks.{IsTaken, demands, onward-is, same_taken, st
 use Rattle.ilk_layout.proofs.Trains.{has_x}
 
 -- the three neighbours of a point differ
-legs-differ : (p : PlantLists) → IsPlant p → (x stem plus minus : ℕ) (faces : Dir) → slice_get p.sections x ≡ Some (Point stem plus minus faces) → (plus ≡ minus → ⊥) × (stem ≡ minus → ⊥) × (stem ≡ plus → ⊥)
+pub legs-differ : (p : PlantLists) → IsPlant p → (x stem plus minus : ℕ) (faces : Dir) → slice_get p.sections x ≡ Some (Point stem plus minus faces) → (plus ≡ minus → ⊥) × (stem ≡ minus → ⊥) × (stem ≡ plus → ⊥)
 legs-differ p plant x stem plus minus Up at =
     let once : none_twice (stem ∷ plus ∷ minus ∷ []) ≡ true = rw at at (plant.neighbours_once x) in
     let places = none_twice-places (stem ∷ plus ∷ minus ∷ []) once in
@@ -52,7 +52,7 @@ legs-differ p plant x stem plus minus Down at =
     (λ e. absurd (let one = places 0 1 minus (ap Some e) refl in omega arith), λ e. absurd (let one = places 2 1 minus (ap Some e) refl in omega arith), λ e. absurd (let one = places 2 0 plus (ap Some e) refl in omega arith))
 
 -- a point leads to no leg at which it doesn't lie
-other-leg : (p : PlantLists) → IsPlant p → (lie : ℕ → Option Lie) (x stem plus minus : ℕ) (faces d : Dir) → slice_get p.sections x ≡ Some (Point stem plus minus faces) → ((lie x ≡ Some Plus) → ahead_by p lie x d ≡ Some minus → ⊥) × ((lie x ≡ Some Minus) → ahead_by p lie x d ≡ Some plus → ⊥)
+pub other-leg : (p : PlantLists) → IsPlant p → (lie : ℕ → Option Lie) (x stem plus minus : ℕ) (faces d : Dir) → slice_get p.sections x ≡ Some (Point stem plus minus faces) → ((lie x ≡ Some Plus) → ahead_by p lie x d ≡ Some minus → ⊥) × ((lie x ≡ Some Minus) → ahead_by p lie x d ≡ Some plus → ⊥)
 other-leg p plant lie x stem plus minus faces d at =
     let apart = legs-differ p plant x stem plus minus faces at in
     (λ l e. plus-only faces d (lie x) l apart (ap (option_and_then (λ section. leads_to section d (lie x))) (sym at) ∙ e), λ l e. minus-only faces d (lie x) l apart (ap (option_and_then (λ section. leads_to section d (lie x))) (sym at) ∙ e))
