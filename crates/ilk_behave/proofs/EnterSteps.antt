@@ -96,7 +96,7 @@ none-counted f (z ∷ xs) none =
     ]
 
 -- the position of the first that passes is of an item
-position-some : {X : Type 0} (f : X → Bool) (xs : List X) (i : ℕ) → position f xs ≡ Some i → (x : X) × (slice_get xs i ≡ Some x)
+pub position-some : {X : Type 0} (f : X → Bool) (xs : List X) (i : ℕ) → position f xs ≡ Some i → (x : X) × (slice_get xs i ≡ Some x)
 position-some f xs i e =
     let parts = cond_some (nat_lt (position_or_len f xs) (length xs)) (position_or_len f xs) i e in
     let test : nat_lt (position_or_len f xs) (length xs) ≡ true = parts.0 in

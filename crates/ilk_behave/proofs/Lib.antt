@@ -17,3 +17,8 @@ pub mod PathRulesValid
 pub mod TrainRulesValid
 pub mod RuleBounds
 pub mod SystemValid
+pub mod Moved
+pub mod Fired
+pub mod TailSteps
+pub mod HeadMoved
+pub mod HeadSteps

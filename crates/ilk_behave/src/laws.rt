@@ -78,6 +78,22 @@ pub fn enter_steps(plant: &Plant)
     plant.is_of_drafts();
 }
 
+/// The rules of head step as it does.
+pub fn head_steps(plant: &Plant)
+    ensures { (x : ℕ) → AlwaysStepAs plant.now (event.Head x) }
+{
+    plant.is_sound();
+    plant.is_of_drafts();
+}
+
+/// The rules of tail step as it does.
+pub fn tail_steps(plant: &Plant)
+    ensures { (x : ℕ) → AlwaysStepAs plant.now (event.Tail x) }
+{
+    plant.is_sound();
+    plant.is_of_drafts();
+}
+
 /// The rules of leave step as it does.
 pub fn leave_steps(plant: &Plant)
     ensures { (x : ℕ) → AlwaysStepAs plant.now (event.Leave x) }

@@ -32,8 +32,8 @@ mod validity;
 
 pub use events::event_of;
 pub use laws::{
-    allocate_steps, cancel_steps, enter_steps, finish_steps, leave_steps, lock_steps, mark_steps,
-    release_steps, sense_steps, settle_steps, throw_steps,
+    allocate_steps, cancel_steps, enter_steps, finish_steps, head_steps, leave_steps, lock_steps,
+    mark_steps, release_steps, sense_steps, settle_steps, tail_steps, throw_steps,
 };
 pub use system::behaviour;
 pub use validity::{MAX_EVENT_RULES, few_rules_of_events, system_is_valid};

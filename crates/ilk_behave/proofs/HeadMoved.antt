@@ -1,0 +1,293 @@
+-- A train whose head goes on to the next section: what follows, and its image.
+use Rattle.std.proofs.Common.{◌≡◌, ℕ, zero, suc, ◌+◌, ◌<◌, ◌==◌, Bool, true, false, ◌||◌, count_by, map, position, set, Option, Some, None, List, [], ◌∷◌, ◌++◌, length, length-append, slice_get, inl, inr, ◌⊎◌, refl, sym, ◌∙◌, ap, arith}
+use Rattle.std.specs.List.{list_all}
+use Rattle.std.specs.Option.{option_to_list}
+use Rattle.std.proofs.lemmas.Bool.{cases_Bool, cases_eq, eq-eqb, false≢true, ltb-false, ne_eqb, or_cases, or_from, or_left, or_parts, or_right}
+use Rattle.std.proofs.lemmas.Bool.Decides.{nat_tests}
+use Rattle.std.proofs.lemmas.List.Folds.{list_any-append}
+use Rattle.std.proofs.lemmas.Option.{same_Some, slice_get_past, slice_get_within}
+use Rattle.ilk_base.specs.Option.{◌>>=◌, is_some_and, only_if}
+use Rattle.ilk_base.proofs.Lists.{at-before, at-past, item_at, slice_get-set_other}
+use Rattle.ilk_base.proofs.Ranges.{below_or_past}
+use Rattle.ilk_base.proofs.Tested.{list_all-slice_get, list_any-at, list_any-none}
+use Rattle.ilk_base.proofs.Truth.{not-true}
+use Rattle.ilk_ir.specs.System.{set_all}
+use Rattle.ilk_plant.specs.Network.{has_section}
+use Rattle.ilk_plant.specs.Plant.{IsPlant, PlantLists, board_of}
+use Rattle.ilk_plant.specs.Shape.{HasShape, is_body}
+use Rattle.ilk_plant.specs.Sound.{NeverReturns}
+use Rattle.ilk_plant.specs.State.{is_occupied, lie_of}
+use Rattle.ilk_plant.specs.declared.network.Dir.{Dir}
+use Rattle.ilk_plant.specs.declared.network.Section.{Section}
+use Rattle.ilk_plant.specs.declared.network.Section.TheVariants.{Linear, Point}
+use Rattle.ilk_plant.specs.declared.state.Aspect.TheVariants.{Closed}
+use Rattle.ilk_plant.specs.declared.state.Lie.{Lie}
+use Rattle.ilk_plant.specs.declared.state.Lie.TheVariants.{Plus as LiesPlus, Minus as LiesMinus, Moving}
+use Rattle.ilk_plant.specs.declared.state.State.{State}
+use Rattle.ilk_plant.specs.declared.state.Train.{Train}
+use Rattle.ilk_motion.specs.Ahead.{ahead}
+use Rattle.ilk_motion.specs.Body.{has_head, with_new_head}
+use Rattle.ilk_motion.specs.Trains.{after_head, may_pass, with_board_closed, with_train}
+use Rattle.ilk_motion.proofs.Shape.{after_head-shape, ahead-next_to}
+use Rattle.ilk_model.specs.Hazard.{hazard, is_hazardous, is_two, is_wrong}
+use Rattle.ilk_layout.specs.Image.{image_of}
+use Rattle.ilk_layout.specs.Occupancy.{occupancy_of}
+use Rattle.ilk_layout.specs.Standing.{is_wrong_between, is_wrong_under, section_before}
+use Rattle.ilk_layout.specs.Values.{occupancy_value}
+use Rattle.ilk_layout.specs.Variables.{occupancy_var}
+use Rattle.ilk_layout.specs.declared.values.Occupancy.{Occupancy}
+use Rattle.ilk_layout.specs.declared.values.Occupancy.TheVariants.{Taken, Crash}
+use Rattle.ilk_layout.proofs.Bodies.{before-suc, has-at, last-at, last-has, place-of}
+use Rattle.ilk_layout.proofs.Calm.{alone, body-of, calm-at, only-one}
+use Rattle.ilk_layout.proofs.Changes.{image-board, image-two, occupied}
+use Rattle.ilk_layout.proofs.Made.{other-leg}
+use Rattle.ilk_layout.proofs.Orders.{count-one}
+use Rattle.ilk_layout.proofs.Plants.{body-known, body-once}
+use Rattle.ilk_layout.proofs.Trains.{has_x, with_trains, wrong-at, wrong-has}
+use Rattle.ilk_behave.specs.Settings.{board_becomes, board_closes}
+use Rattle.ilk_behave.specs.TrainRules.{gone_on}
+use Rattle.ilk_behave.proofs.Fired.{only-position}
+use Rattle.ilk_behave.proofs.Moved.{kept, now-at, now-there, occupancy-there, right-under, safe-from, some-wrong, still-safe}
+
+-- a body with one more section
+had-before : (z y : ℕ) (body : List ℕ) → (z ≡ y → ⊥) → has_section z (body ++ y ∷ []) ≡ true → has_section z body ≡ true
+had-before z y body apart h =
+    elim (or_cases (has_section z body) (has_section z (y ∷ [])) (sym (list_any-append (λ v. v == z) body (y ∷ [])) ∙ h)) [
+      | inl e ↦ e
+      | inr e ↦ absurd (apart (sym (only-one z y e)))
+    ]
+
+same-place : (body : List ℕ) (y k : ℕ) → k < length body → slice_get (body ++ y ∷ []) k ≡ slice_get body k
+same-place body y k less =
+    let there = item_at body k less in
+    at-before body (y ∷ []) k there.0 there.1 ∙ sym there.1
+
+before-more : (body : List ℕ) (y k z : ℕ) → slice_get body k ≡ Some z → section_before (body ++ y ∷ []) k ≡ section_before body k
+before-more body y zero z at = refl
+before-more body y (suc k) z at =
+    let within = slice_get_within body (suc k) z at in
+    before-suc (body ++ y ∷ []) k ∙ same-place body y k (omega arith) ∙ sym (before-suc body k)
+
+module _ (p : PlantLists) (plant : IsPlant p) (never : NeverReturns p) (s : State) (shape : HasShape p s) (calm : hazard p s ≡ None) where
+  -- a train that goes on to what lies ahead of x isn't wrong on x
+  right-on : (x y : ℕ) (d : Dir) (before : Option ℕ) → ahead p s x d ≡ Some y → is_wrong_between p s x before None ≡ false → is_wrong_between p s x before (Some y) ≡ false
+  right-on x y d before led right = by_section (slice_get p.sections x) refl
+    where
+      by_section : (o : Option Section) → slice_get p.sections x ≡ o → is_wrong_between p s x before (Some y) ≡ false
+      by_section None e = rw e refl
+      by_section (Some (Linear a b c f)) e = rw e refl
+      by_section (Some (Point stem plus minus faces)) e = lies (lie_of p s x) refl
+        where
+          lies : (o : Option Lie) → lie_of p s x ≡ o → is_wrong_between p s x before (Some y) ≡ false
+          lies None f = rw (e, f) refl
+          lies (Some Moving) f = absurd (false≢true (sym (rw (e, f) at right)))
+          lies (Some LiesPlus) f =
+              let none : (is_some_and before (λ z. z == minus) || false) ≡ false = rw (e, f) at right in
+              rw (e, f) (or_from (is_some_and before (λ z. z == minus)) (y == minus) (or_parts (is_some_and before (λ z. z == minus)) false none).0 (ne_eqb y minus (λ same. (other-leg p plant (lie_of p s) x stem plus minus faces d e).0 f (led ∙ ap Some same))))
+          lies (Some LiesMinus) f =
+              let none : (is_some_and before (λ z. z == plus) || false) ≡ false = rw (e, f) at right in
+              rw (e, f) (or_from (is_some_and before (λ z. z == plus)) (y == plus) (or_parts (is_some_and before (λ z. z == plus)) false none).0 (ne_eqb y plus (λ same. (other-leg p plant (lie_of p s) x stem plus minus faces d e).1 f (led ∙ ap Some same))))
+
+  -- the train with its head at x, from where it may go on to y
+  module _ (i k x y : ℕ) (t : Train) (at : slice_get s.trains i ≡ Some t) (place : slice_get t.body k ≡ Some x) (last : k + 1 ≡ length t.body) (led : ahead p s x t.dir ≡ Some y) (open_board : may_pass s (board_of p x t.dir) ≡ true) where
+    body : is_body p t ≡ true
+    body = body-of p plant never s shape calm i t at
+
+    once : (j m v : ℕ) → slice_get t.body j ≡ Some v → slice_get t.body m ≡ Some v → j ≡ m
+    once = body-once p t never body
+
+    within-x : x < length p.sections
+    within-x = body-known p t k x plant body place
+
+    within-y : y < length p.sections
+    within-y = plant.neighbours x y t.dir (ahead-next_to p s x y t.dir led)
+
+    head-first : position (has_head x) s.trains ≡ Some i
+    head-first =
+        only-position (has_head x) s.trains i t at (last-at t.body k x once place ∙ eq-eqb (k + 1) (length t.body) last)
+        (λ j v e h. alone p plant never s shape calm j i x v t e at (last-has x v.body h) (has-at t.body k x place))
+
+    pub head-follows : after_head p s x ≡ Some (with_board_closed (board_of p x t.dir) (with_trains s (set s.trains i (with_new_head y t))))
+    head-follows =
+        ap (λ o. o >>= (λ j. slice_get s.trains j >>= (λ train. ahead p s x train.dir >>= (λ z. only_if (may_pass s (board_of p x train.dir)) (with_board_closed (board_of p x train.dir) (with_train j (with_new_head z train) s)))))) head-first
+        ∙ ap (λ o. o >>= (λ train. ahead p s x train.dir >>= (λ z. only_if (may_pass s (board_of p x train.dir)) (with_board_closed (board_of p x train.dir) (with_train i (with_new_head z train) s))))) at
+        ∙ ap (λ o. o >>= (λ z. only_if (may_pass s (board_of p x t.dir)) (with_board_closed (board_of p x t.dir) (with_train i (with_new_head z t) s)))) led
+        ∙ ap (λ b. only_if b (with_board_closed (board_of p x t.dir) (with_train i (with_new_head y t) s))) open_board
+
+    head-moved : HasShape p (with_trains s (set s.trains i (with_new_head y t)))
+    head-moved =
+        record {
+          routes = shape.routes;
+          points = shape.points;
+          boards = shape.boards;
+          locks = shape.locks;
+          counts = shape.counts;
+          bodies = bodies-of (board_of p x t.dir) (after_head-shape p s (with_board_closed (board_of p x t.dir) (with_trains s (set s.trains i (with_new_head y t)))) x shape head-follows);
+        }
+      where
+        bodies-of : (o : Option ℕ) → HasShape p (with_board_closed o (with_trains s (set s.trains i (with_new_head y t)))) → list_all (is_body p) (set s.trains i (with_new_head y t)) ≡ true
+        bodies-of None h = h.bodies
+        bodies-of (Some m) h = h.bodies
+
+    head-now : slice_get (set s.trains i (with_new_head y t)) i ≡ Some (with_new_head y t)
+    head-now = now-at p plant never s shape calm i t (with_new_head y t) at head-moved
+
+    once-more : (j m v : ℕ) → slice_get (t.body ++ y ∷ []) j ≡ Some v → slice_get (t.body ++ y ∷ []) m ≡ Some v → j ≡ m
+    once-more = body-once p (with_new_head y t) never (list_all-slice_get (is_body p) (set s.trains i (with_new_head y t)) i (with_new_head y t) head-moved.bodies head-now)
+
+    place-y : slice_get (t.body ++ y ∷ []) (length t.body) ≡ Some y
+    place-y =
+        let there : length t.body ≡ length t.body + 0 = omega arith in
+        ap (slice_get (t.body ++ y ∷ [])) there ∙ at-past t.body (y ∷ []) 0 y refl
+
+    longer : length (t.body ++ y ∷ []) ≡ length t.body + 1
+    longer = length-append t.body (y ∷ [])
+
+    -- y isn't in the train's own body
+    not-own : has_section y t.body ≡ false
+    not-own =
+        not-true (has_section y t.body) (λ h.
+        (let own = place-of t.body y h in
+        let less = slice_get_within t.body own.0 y own.1 in
+        let places : own.0 ≡ length t.body = once-more own.0 (length t.body) y (at-before t.body (y ∷ []) own.0 y own.1) place-y in
+        absurd (omega (arith, less, places))))
+
+    apart : x ≡ y → ⊥
+    apart same = false≢true (sym not-own ∙ ap (λ v. has_section v t.body) (sym same) ∙ has-at t.body k x place)
+
+    -- the train is wrong on no section but y
+    right-more : (z : ℕ) → z < length p.sections → (z ≡ y → ⊥) → is_wrong_under p s z (t.body ++ y ∷ []) ≡ false
+    right-more z within not_y =
+        elim (cases_Bool (has_section z t.body)) [
+          | inl has ↦ (let there = place-of t.body z has in at-place there.0 there.1 (cases_eq z x))
+          | inr none ↦ not-true (is_wrong_under p s z (t.body ++ y ∷ [])) (λ h. false≢true (sym none ∙ had-before z y t.body not_y (wrong-has p s z (t.body ++ y ∷ []) h)))
+        ]
+      where
+        right : is_wrong_under p s z t.body ≡ false
+        right = right-under p s i z t (calm-at p s z calm within) at
+
+        at-place : (m : ℕ) → slice_get t.body m ≡ Some z → (z ≡ x) ⊎ (z ≡ x → ⊥) → is_wrong_under p s z (t.body ++ y ∷ []) ≡ false
+        at-place m e (inl same) =
+            let here : slice_get t.body m ≡ Some x = e ∙ ap Some same in
+            let places : m ≡ k = once m k x here place in
+            let none : slice_get t.body (m + 1) ≡ None = slice_get_past t.body (m + 1) (omega (arith, places, last)) in
+            let now : slice_get (t.body ++ y ∷ []) (m + 1) ≡ Some y = (let there : m + 1 ≡ length t.body = omega (arith, places, last) in ap (slice_get (t.body ++ y ∷ [])) there ∙ place-y) in
+            let was : is_wrong_between p s z (section_before t.body m) None ≡ false = ap (is_wrong_between p s z (section_before t.body m)) (sym none) ∙ sym (wrong-at p s t.body m z once e) ∙ right in
+            let on : is_wrong_between p s x (section_before t.body m) (Some y) ≡ false = right-on x y t.dir (section_before t.body m) led (ap (λ v. is_wrong_between p s v (section_before t.body m) None) (sym same) ∙ was) in
+            wrong-at p s (t.body ++ y ∷ []) m z once-more (at-before t.body (y ∷ []) m z e)
+            ∙ ap (λ b. is_wrong_between p s z b (slice_get (t.body ++ y ∷ []) (m + 1))) (before-more t.body y m z e)
+            ∙ ap (is_wrong_between p s z (section_before t.body m)) now
+            ∙ ap (λ v. is_wrong_between p s v (section_before t.body m) (Some y)) same
+            ∙ on
+        at-place m e (inr other) =
+            let less = slice_get_within t.body m z e in
+            let more : m + 1 < length t.body =
+            elim (below_or_past (m + 1) (length t.body)) [
+              | inl within ↦ within
+              | inr beyond ↦ absurd (other (let places : m ≡ k = omega (arith, less, beyond, last) in same_Some z x (sym e ∙ ap (slice_get t.body) places ∙ place)))
+            ] in
+            wrong-at p s (t.body ++ y ∷ []) m z once-more (at-before t.body (y ∷ []) m z e)
+            ∙ ap (λ b. is_wrong_between p s z b (slice_get (t.body ++ y ∷ []) (m + 1))) (before-more t.body y m z e)
+            ∙ ap (is_wrong_between p s z (section_before t.body m)) (same-place t.body y (m + 1) more)
+            ∙ sym (wrong-at p s t.body m z once e)
+            ∙ right
+
+    -- what y is to the longer body
+    wrong-new : is_wrong_under p s y (t.body ++ y ∷ []) ≡ is_wrong_between p s y (Some x) None
+    wrong-new =
+        let long = longer in
+        let past : slice_get (t.body ++ y ∷ []) (length t.body + 1) ≡ None = slice_get_past (t.body ++ y ∷ []) (length t.body + 1) (omega (arith, long)) in
+        let next : length t.body ≡ suc k = omega (arith, last) in
+        let before : section_before (t.body ++ y ∷ []) (length t.body) ≡ Some x = ap (section_before (t.body ++ y ∷ [])) next ∙ before-suc (t.body ++ y ∷ []) k ∙ at-before t.body (y ∷ []) k x place in
+        wrong-at p s (t.body ++ y ∷ []) (length t.body) y once-more place-y
+        ∙ ap (λ b. is_wrong_between p s y b (slice_get (t.body ++ y ∷ []) (length t.body + 1))) before
+        ∙ ap (is_wrong_between p s y (Some x)) past
+
+    has-new : has_section y (t.body ++ y ∷ []) ≡ true
+    has-new = has-at (t.body ++ y ∷ []) (length t.body) y place-y
+
+    -- where y isn't free, that is a crash
+    pub head-crash : (is_occupied s y || is_wrong_between p s y (Some x) None) ≡ true → occupancy_of p (with_trains s (set s.trains i (with_new_head y t))) y ≡ Crash
+    head-crash h = (let bad = hazards in rw bad refl)
+      where
+        gone_on_two : is_occupied s y ≡ true → is_two (with_trains s (set s.trains i (with_new_head y t))) y ≡ true
+        gone_on_two taken =
+            let other : (j : ℕ) × (v : Train) × (slice_get s.trains j ≡ Some v) × (has_section y v.body ≡ true) = list_any-at (has_x y) s.trains taken in
+            let differ : i ≡ other.0 → ⊥ = λ same. (let own : t ≡ other.1 = same_Some t other.1 (sym at ∙ ap (slice_get s.trains) same ∙ other.2) in false≢true (sym not-own ∙ ap (λ (w : Train). has_section y w.body) own ∙ other.3)) in
+            elim (cases_Bool (is_two (with_trains s (set s.trains i (with_new_head y t))) y)) [
+              | inl two ↦ two
+              | inr one ↦ absurd (differ (count-one (has_x y) (set s.trains i (with_new_head y t)) (ltb-false 1 (count_by (has_x y) (set s.trains i (with_new_head y t))) one) i other.0 (with_new_head y t) other.1 head-now (slice_get-set_other s.trains i other.0 (with_new_head y t) differ ∙ other.2) has-new other.3))
+            ]
+
+        hazards : is_hazardous p (with_trains s (set s.trains i (with_new_head y t))) y ≡ true
+        hazards =
+            elim (or_cases (is_occupied s y) (is_wrong_between p s y (Some x) None) h) [
+              | inl taken ↦ or_left (is_two (with_trains s (set s.trains i (with_new_head y t))) y) (is_wrong p (with_trains s (set s.trains i (with_new_head y t))) y) (gone_on_two taken)
+              | inr wrong ↦ or_right (is_two (with_trains s (set s.trains i (with_new_head y t))) y) (is_wrong p (with_trains s (set s.trains i (with_new_head y t))) y) (some-wrong p (with_trains s (set s.trains i (with_new_head y t))) i y (with_new_head y t) head-now (wrong-new ∙ wrong))
+            ]
+
+    -- where it is free, the train's head is there
+    pub head-clear : (is_occupied s y || is_wrong_between p s y (Some x) None) ≡ false → occupancy_of p (with_trains s (set s.trains i (with_new_head y t))) y ≡ Taken t.dir false true
+    head-clear h =
+        let there = occupancy-there p never (with_trains s (set s.trains i (with_new_head y t))) head-moved i (length t.body) y (with_new_head y t) head-now place-y safe in
+        let long = longer in
+        let some = slice_get_within t.body k x place in
+        let first : (length t.body == 0) ≡ false = grind (arith, nat_tests) in
+        let end : (length t.body + 1 == length (t.body ++ y ∷ [])) ≡ true = eq-eqb (length t.body + 1) (length (t.body ++ y ∷ [])) (sym long) in
+        there ∙ ap (λ b. Taken t.dir b (length t.body + 1 == length (t.body ++ y ∷ []))) first ∙ ap (Taken t.dir false) end
+      where
+        parts : (is_occupied s y ≡ false) × (is_wrong_between p s y (Some x) None ≡ false)
+        parts = or_parts (is_occupied s y) (is_wrong_between p s y (Some x) None) h
+
+        none : (j : ℕ) (v : Train) → slice_get s.trains j ≡ Some v → has_section y v.body ≡ false
+        none j v e = list_any-none (has_x y) s.trains j v parts.0 e
+
+        is-own : (j : ℕ) (v : Train) → slice_get (set s.trains i (with_new_head y t)) j ≡ Some v → has_section y v.body ≡ true → i ≡ j
+        is-own j v e has =
+            elim (now-there p plant never s shape calm i t (with_new_head y t) at head-moved j v e) [
+              | inl own ↦ own.0
+              | inr other ↦ absurd (false≢true (sym (none j v other.1) ∙ has))
+            ]
+
+        right : (j : ℕ) (v : Train) → slice_get (set s.trains i (with_new_head y t)) j ≡ Some v → is_wrong_under p s y v.body ≡ false
+        right j v e =
+            elim (now-there p plant never s shape calm i t (with_new_head y t) at head-moved j v e) [
+              | inl own ↦ ap (λ (w : Train). is_wrong_under p s y w.body) (sym own.1) ∙ wrong-new ∙ parts.1
+              | inr other ↦ not-true (is_wrong_under p s y v.body) (λ wrong. false≢true (sym (none j v other.1) ∙ wrong-has p s y v.body wrong))
+            ]
+
+        safe : is_hazardous p (with_trains s (set s.trains i (with_new_head y t))) y ≡ false
+        safe = safe-from p (with_trains s (set s.trains i (with_new_head y t))) y (λ j m v w e f hv hw. sym (is-own j v e hv) ∙ is-own m w f hw) right
+
+    -- x and the others
+    head-left : occupancy_of p (with_trains s (set s.trains i (with_new_head y t))) x ≡ Taken t.dir (k == 0) false
+    head-left =
+        let still = still-safe p plant never s shape calm i t (with_new_head y t) at head-moved x within-x (had-before x y t.body apart) (right-more x within-x apart) in
+        let long = longer in
+        let end : (k + 1 == length (t.body ++ y ∷ [])) ≡ false = ne_eqb (k + 1) (length (t.body ++ y ∷ [])) (λ same. absurd (omega (arith, same, long, last))) in
+        occupancy-there p never (with_trains s (set s.trains i (with_new_head y t))) head-moved i k x (with_new_head y t) head-now (at-before t.body (y ∷ []) k x place) still ∙ ap (Taken t.dir (k == 0)) end
+
+    head-kept : (z : ℕ) → z < length p.sections → (z ≡ x → ⊥) → (z ≡ y → ⊥) → occupancy_of p (with_trains s (set s.trains i (with_new_head y t))) z ≡ occupancy_of p s z
+    head-kept z within not_x not_y =
+        kept p plant never s shape calm i t (with_new_head y t) at head-moved z within refl (had-before z y t.body not_y) (right-more z within not_y) placed
+      where
+        placed : (m : ℕ) → slice_get t.body m ≡ Some z → (j : ℕ) × (slice_get (t.body ++ y ∷ []) j ≡ Some z) × ((j == 0) ≡ (m == 0)) × ((j + 1 == length (t.body ++ y ∷ [])) ≡ (m + 1 == length t.body))
+        placed m e =
+            let less = slice_get_within t.body m z e in
+            let long = longer in
+            let here : (m + 1 == length t.body) ≡ false = ne_eqb (m + 1) (length t.body) (λ f. not_x (let places : m ≡ k = omega (arith, f, last) in same_Some z x (sym e ∙ ap (slice_get t.body) places ∙ place))) in
+            let there : (m + 1 == length (t.body ++ y ∷ [])) ≡ false = ne_eqb (m + 1) (length (t.body ++ y ∷ [])) (λ f. absurd (omega (arith, f, long, less))) in
+            (m, at-before t.body (y ∷ []) m z e, refl, there ∙ sym here)
+
+    closes : (o : Option ℕ) → ((m : ℕ) → o ≡ Some m → m < length p.boards) → set_all (image_of p (with_trains s (set s.trains i (with_new_head y t)))) (map (λ m. board_becomes p m Closed) (option_to_list o)) ≡ image_of p (with_board_closed o (with_trains s (set s.trains i (with_new_head y t))))
+    closes None known = refl
+    closes (Some m) known = image-board p (with_trains s (set s.trains i (with_new_head y t))) head-moved m Closed (known m refl)
+
+    pub head-image : (tail : Bool) (there : Occupancy) → (k == 0) ≡ tail → occupancy_of p (with_trains s (set s.trains i (with_new_head y t))) y ≡ there → set_all (image_of p s) (gone_on p x t.dir y tail there) ≡ image_of p (with_board_closed (board_of p x t.dir) (with_trains s (set s.trains i (with_new_head y t))))
+    head-image tail there begins is =
+        let after = with_trains s (set s.trains i (with_new_head y t)) in
+        let here : occupancy_of p after x ≡ Taken t.dir tail false = head-left ∙ ap (λ b. Taken t.dir b false) begins in
+        ap (λ o. set_all (set (set (image_of p s) (occupancy_var p x) (occupancy_value o)) (occupancy_var p y) (occupancy_value there)) (board_closes p x t.dir)) (sym here)
+        ∙ ap (λ o. set_all (set (set (image_of p s) (occupancy_var p x) (occupied p after x)) (occupancy_var p y) (occupancy_value o)) (board_closes p x t.dir)) (sym is)
+        ∙ ap (λ values. set_all values (board_closes p x t.dir)) (image-two p s shape (set s.trains i (with_new_head y t)) x y within-x within-y apart (λ z within not_x not_y. head-kept z within not_x not_y))
+        ∙ closes (board_of p x t.dir) (λ m e. plant.boards_known x m t.dir e)
