@@ -22,3 +22,4 @@ pub mod Fired
 pub mod TailSteps
 pub mod HeadMoved
 pub mod HeadSteps
+pub mod AllSteps

@@ -2,7 +2,7 @@
 //! proof.
 
 ghost use Rattle.std.specs.Prelude.{ℕ};
-ghost use Rattle.ilk_behave.specs.Steps.{AlwaysStepAs};
+ghost use Rattle.ilk_behave.specs.Steps.{AlwaysStepAs, StepsAs};
 ghost use Rattle.ilk_model.specs.declared.event.Event.TheVariants as event;
 
 use ilk_plant::Plant;
@@ -97,6 +97,14 @@ pub fn tail_steps(plant: &Plant)
 /// The rules of leave step as it does.
 pub fn leave_steps(plant: &Plant)
     ensures { (x : ℕ) → AlwaysStepAs plant.now (event.Leave x) }
+{
+    plant.is_sound();
+    plant.is_of_drafts();
+}
+
+/// The plant's system steps as its events do.
+pub fn system_steps(plant: &Plant)
+    ensures { StepsAs plant.now }
 {
     plant.is_sound();
     plant.is_of_drafts();

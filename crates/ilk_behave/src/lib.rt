@@ -12,8 +12,8 @@
 //! event has a rule for each case that its change depends on: for each place of a path, for each
 //! section to which a train may go on, and for whether a crash comes of it. That the rules of an event
 //! step as it does (`specs/Steps`) is told, event by event, by the functions `mark_steps` and so on;
-//! that the system is valid by `system_is_valid`, and that an event has few rules by
-//! `few_rules_of_events`.
+//! that the whole system does, by the numbers of its rules, is a clause of `behaviour`, and so is that
+//! the system is valid. `few_rules_of_events` tells that an event has few rules.
 #![tactic(auto)]
 
 mod counts;
@@ -33,7 +33,7 @@ mod validity;
 pub use events::event_of;
 pub use laws::{
     allocate_steps, cancel_steps, enter_steps, finish_steps, head_steps, leave_steps, lock_steps,
-    mark_steps, release_steps, sense_steps, settle_steps, tail_steps, throw_steps,
+    mark_steps, release_steps, sense_steps, settle_steps, system_steps, tail_steps, throw_steps,
 };
 pub use system::behaviour;
 pub use validity::{MAX_EVENT_RULES, few_rules_of_events, system_is_valid};

@@ -4,9 +4,11 @@ ghost use Rattle.ilk_behave.specs.Behaviour.{rules_of, system_of};
 ghost use Rattle.std.specs.List.{flat_map};
 ghost use Rattle.ilk_behave.specs.Behaviour.{events_of};
 ghost use Rattle.ilk_behave.specs.Kinds.{HasNumber, events_of_kind};
+ghost use Rattle.ilk_behave.specs.Steps.{StepsAs};
 
 use crate::heads::push_head;
 use crate::kinds::{KINDS, Kind};
+use crate::laws::system_steps;
 use crate::passage_rules::{push_finish, push_release, push_sense};
 use crate::point_rules::{push_settle, push_throw};
 use crate::route_rules::{push_allocate, push_cancel, push_lock, push_mark};
@@ -66,12 +68,15 @@ fn all_rules(alloc: Global, plant: &Plant) -> Result<Rules, AllocError>
     Ok(rules)
 }
 
-/// The behaviour of a plant as a finite system. The only refusal is want of memory.
+/// The behaviour of a plant as a finite system, which is valid and steps as the plant's events do. The
+/// only refusal is want of memory.
 pub fn behaviour(alloc: Global, plant: &Plant) -> Result<System, AllocError>
     ensures system { IfOk result (λ made. system_tree made ≡ system_of plant.now) }
     ensures valid { IsTrue (system_valid (system_of plant.now)) }
+    ensures steps { StepsAs plant.now }
 {
     system_is_valid(plant);
+    system_steps(plant);
     Ok(System {
         ranges: ranges(alloc, plant)?,
         rules: all_rules(alloc, plant)?,

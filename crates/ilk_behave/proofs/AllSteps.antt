@@ -1,0 +1,188 @@
+-- The system steps as the events do, by the numbers of its rules.
+use Rattle.std.proofs.Common.{◌≡◌, ℕ, zero, suc, ◌+◌, ◌-◌, ◌<◌, ◌==◌, true, false, Option, Some, None, option_and_then, option_map, List, [], ◌∷◌, length, map, slice_get, inl, inr, refl, sym, ◌∙◌, ap, arith, is_some}
+use Rattle.std.specs.List.{flat_map, range_with_len}
+use Rattle.std.proofs.lemmas.Bool.{eq-eqb}
+use Rattle.std.proofs.lemmas.Option.{cond_some, same_Some, slice_get-map, slice_get_within}
+use Rattle.ilk_base.specs.Option.{only_if}
+use Rattle.ilk_base.proofs.Lists.{at-before, at-past, item_at}
+use Rattle.ilk_base.proofs.Options.{bind_some}
+use Rattle.ilk_base.proofs.Ranges.{below_or_past, range-at}
+use Rattle.ilk_base.proofs.Tested.{list_any-at, list_any-from}
+use Rattle.ilk_ir.specs.System.{RuleTree, fired, set_all}
+use Rattle.ilk_ir.specs.Tree.{tree_holds}
+use Rattle.ilk_plant.specs.Network.{inward}
+use Rattle.ilk_plant.specs.Plant.{IsPlant, PlantLists, border, next_to, point_number}
+use Rattle.ilk_plant.specs.Sound.{NeverReturns}
+use Rattle.ilk_plant.specs.declared.network.Dir.{Dir}
+use Rattle.ilk_plant.specs.declared.network.Dir.TheVariants.{Up, Down}
+use Rattle.ilk_plant.specs.declared.state.State.{State}
+use Rattle.ilk_model.specs.Event.{next}
+use Rattle.ilk_model.specs.declared.event.Event.{Event}
+use Rattle.ilk_model.specs.declared.event.Event.TheVariants.{Mark, Allocate, Lock, Sense, Release, Finish, Throw, Settle, Enter, Head, Tail, Leave, Cancel}
+use Rattle.ilk_layout.specs.Image.{image_of}
+use Rattle.ilk_layout.specs.Laws.{IsCalm}
+use Rattle.ilk_behave.specs.Behaviour.{events_of, events_of_rules, rules_of, system_of}
+use Rattle.ilk_behave.specs.Kinds.{all_kinds, count_of_kind, event_of_kind, events_of_kind}
+use Rattle.ilk_behave.specs.Settings.{rules_for}
+use Rattle.ilk_behave.specs.Steps.{AlwaysStepAs, SomeRuleGives, RuleGives, StepsAs, can_fire}
+use Rattle.ilk_behave.specs.declared.kinds.Kind.{Kind}
+use Rattle.ilk_behave.specs.declared.kinds.Kind.TheVariants as kind
+use Rattle.ilk_behave.specs.TrainRules.{head_rules, tail_rule}
+use Rattle.ilk_behave.proofs.AllocateSteps.{allocate-steps, lock-steps}
+use Rattle.ilk_behave.proofs.EnterSteps.{enter-steps, leave-steps}
+use Rattle.ilk_behave.proofs.Fired.{has-neighbour-known, in-one}
+use Rattle.ilk_behave.proofs.HeadSteps.{head-steps}
+use Rattle.ilk_behave.proofs.Located.{kinds-events, of_first, of_rest, past-of}
+use Rattle.ilk_behave.proofs.Occupancies.{numbered-section}
+use Rattle.ilk_behave.proofs.PointSteps.{settle-steps, throw-steps}
+use Rattle.ilk_behave.proofs.ReleaseSteps.{finish-steps, release-steps}
+use Rattle.ilk_behave.proofs.RouteSteps.{cancel-steps, mark-steps, sense-steps}
+use Rattle.ilk_behave.proofs.TailSteps.{tail-steps}
+
+event-steps : (p : PlantLists) → IsPlant p → NeverReturns p → (event : Event) → AlwaysStepAs p event
+event-steps p plant never (Mark r) s shape calm = mark-steps p plant s shape calm r
+event-steps p plant never (Allocate r) s shape calm = allocate-steps p plant s shape calm r
+event-steps p plant never (Lock r) s shape calm = lock-steps p plant s shape calm r
+event-steps p plant never (Sense r) s shape calm = sense-steps p plant s shape calm r
+event-steps p plant never (Release r) s shape calm = release-steps p plant s shape calm r
+event-steps p plant never (Finish r) s shape calm = finish-steps p plant s shape calm r
+event-steps p plant never (Throw x) s shape calm = throw-steps p plant s shape calm x
+event-steps p plant never (Settle x) s shape calm = settle-steps p plant s shape calm x
+event-steps p plant never (Enter x) s shape calm = enter-steps p plant never s shape calm x
+event-steps p plant never (Head x) s shape calm = head-steps p plant never s shape calm x
+event-steps p plant never (Tail x) s shape calm = tail-steps p plant never s shape calm x
+event-steps p plant never (Leave x) s shape calm = leave-steps p plant never s shape calm x
+event-steps p plant never (Cancel r) s shape calm = cancel-steps p plant s shape calm r
+
+-- where there are rules for a thing, there is the thing
+thing-of : {A : Type 0} (o : Option A) (rules : A → List RuleTree) (j : ℕ) (rule : RuleTree) → slice_get (rules_for o rules) j ≡ Some rule → (a : A) × (o ≡ Some a)
+thing-of None rules j rule at = cc
+thing-of (Some a) rules j rule at = (a, refl)
+
+-- what stands in the list of one item stands in those of all
+of-one : {X Y : Type 0} (f : X → List Y) (xs : List X) (k : ℕ) (x : X) (j : ℕ) (y : Y) → slice_get xs k ≡ Some x → slice_get (f x) j ≡ Some y → (i : ℕ) × (slice_get (flat_map f xs) i ≡ Some y)
+of-one f [] k x j y at there = cc
+of-one f (z ∷ xs) zero x j y at there = (j, at-before (f z) (flat_map f xs) j y (ap (λ v. slice_get (f v) j) (same_Some z x at) ∙ there))
+of-one f (z ∷ xs) (suc k) x j y at there =
+    let later = of-one f xs k x j y at there in
+    (length (f z) + later.0, at-past (f z) (flat_map f xs) later.0 y later.1)
+
+kind-at : (k : Kind) → (i : ℕ) × (slice_get all_kinds i ≡ Some k)
+kind-at kind.Mark = (0, refl)
+kind-at kind.Allocate = (1, refl)
+kind-at kind.Lock = (2, refl)
+kind-at kind.Sense = (3, refl)
+kind-at kind.Release = (4, refl)
+kind-at kind.Finish = (5, refl)
+kind-at kind.Throw = (6, refl)
+kind-at kind.Settle = (7, refl)
+kind-at kind.Enter = (8, refl)
+kind-at kind.Head = (9, refl)
+kind-at kind.Tail = (10, refl)
+kind-at kind.Leave = (11, refl)
+kind-at kind.Cancel = (12, refl)
+
+-- an event with the number of a route, or of a section, is one of the plant's
+listed : (p : PlantLists) (k : Kind) (n : ℕ) → n < count_of_kind p k → (i : ℕ) × (slice_get (events_of p) i ≡ Some (event_of_kind k n))
+listed p k n within =
+    let place = kind-at k in
+    let here : slice_get (events_of_kind p k) n ≡ Some (event_of_kind k n) = slice_get-map (event_of_kind k) (range_with_len 0 (count_of_kind p k)) n ∙ ap (option_map (event_of_kind k)) (range-at (count_of_kind p k) n within) in
+    let there = of-one (events_of_kind p) all_kinds place.0 k n (event_of_kind k n) place.1 here in
+    (there.0, sym (ap (λ es. slice_get es there.0) (kinds-events p)) ∙ there.1)
+
+point-known : (p : PlantLists) (x n : ℕ) → point_number p x ≡ Some n → x < length p.sections
+point-known p x n e = let section = numbered-section p x n e in slice_get_within p.sections x section.0 section.1
+
+border-known : (p : PlantLists) (x : ℕ) (d : Dir) → border p x ≡ Some d → x < length p.sections
+border-known p x d e = let section = bind_some (slice_get p.sections x) inward d e in slice_get_within p.sections x section.0 section.1
+
+towards-known : (p : PlantLists) → IsPlant p → (x : ℕ) (rules : Dir → ℕ → List RuleTree) (j : ℕ) (rule : RuleTree) → slice_get (flat_map (λ d. flat_map (rules d) (next_to p x d)) (Up ∷ Down ∷ [])) j ≡ Some rule → x < length p.sections
+towards-known p plant x rules j rule at =
+    let one = in-one (λ d. flat_map (rules d) (next_to p x d)) (Up ∷ Down ∷ []) j rule at in
+    let two = in-one (rules one.1) (next_to p x one.1) one.2 rule one.4 in
+    has-neighbour-known p plant x two.1 one.1 (list_any-from (λ y. y == two.1) (next_to p x one.1) two.0 two.1 two.3 (eq-eqb two.1 two.1 refl))
+
+-- an event that has a rule is one of the plant's
+has-rules : (p : PlantLists) → IsPlant p → (event : Event) (j : ℕ) (rule : RuleTree) → slice_get (rules_of p event) j ≡ Some rule → (i : ℕ) × (slice_get (events_of p) i ≡ Some event)
+has-rules p plant (Mark r) j rule at = let route = thing-of (slice_get p.routes r) _ j rule at in listed p kind.Mark r (slice_get_within p.routes r route.0 route.1)
+has-rules p plant (Allocate r) j rule at = let route = thing-of (slice_get p.routes r) _ j rule at in listed p kind.Allocate r (slice_get_within p.routes r route.0 route.1)
+has-rules p plant (Lock r) j rule at = let route = thing-of (slice_get p.routes r) _ j rule at in listed p kind.Lock r (slice_get_within p.routes r route.0 route.1)
+has-rules p plant (Sense r) j rule at = let route = thing-of (slice_get p.routes r) _ j rule at in listed p kind.Sense r (slice_get_within p.routes r route.0 route.1)
+has-rules p plant (Release r) j rule at = let route = thing-of (slice_get p.routes r) _ j rule at in listed p kind.Release r (slice_get_within p.routes r route.0 route.1)
+has-rules p plant (Finish r) j rule at = let route = thing-of (slice_get p.routes r) _ j rule at in listed p kind.Finish r (slice_get_within p.routes r route.0 route.1)
+has-rules p plant (Cancel r) j rule at = let route = thing-of (slice_get p.routes r) _ j rule at in listed p kind.Cancel r (slice_get_within p.routes r route.0 route.1)
+has-rules p plant (Throw x) j rule at = let point = thing-of (point_number p x) _ j rule at in listed p kind.Throw x (point-known p x point.0 point.1)
+has-rules p plant (Settle x) j rule at = let point = thing-of (point_number p x) _ j rule at in listed p kind.Settle x (point-known p x point.0 point.1)
+has-rules p plant (Enter x) j rule at = let edge = thing-of (border p x) _ j rule at in listed p kind.Enter x (border-known p x edge.0 edge.1)
+has-rules p plant (Head x) j rule at = listed p kind.Head x (towards-known p plant x (λ d y. flat_map (head_rules p x d y) (true ∷ false ∷ [])) j rule at)
+has-rules p plant (Tail x) j rule at = listed p kind.Tail x (towards-known p plant x (λ d y. map (tail_rule p x d y) (true ∷ false ∷ [])) j rule at)
+has-rules p plant (Leave x) j rule at = let section = thing-of (slice_get p.sections x) _ j rule at in listed p kind.Leave x (slice_get_within p.sections x section.0 section.1)
+
+-- a rule of an event of these has a number, and that number is the event's
+numbered : (p : PlantLists) (events : List Event) (k : ℕ) (event : Event) (j : ℕ) (rule : RuleTree) → slice_get events k ≡ Some event → slice_get (rules_of p event) j ≡ Some rule → (i : ℕ) × (slice_get (events_of_rules p events) i ≡ Some event) × (slice_get (flat_map (rules_of p) events) i ≡ Some rule)
+numbered p [] k event j rule at there = cc
+numbered p (z ∷ rest) zero event j rule at there =
+    let same = same_Some z event at in
+    let mine : slice_get (rules_of p z) j ≡ Some rule = ap (λ e. slice_get (rules_of p e) j) same ∙ there in
+    (j, of_first p z rest j (slice_get_within (rules_of p z) j rule mine) ∙ ap Some same, at-before (rules_of p z) (flat_map (rules_of p) rest) j rule mine)
+numbered p (z ∷ rest) (suc k) event j rule at there =
+    let later = numbered p rest k event j rule at there in
+    let back : length (rules_of p z) + later.0 - length (rules_of p z) ≡ later.0 = omega arith in
+    (length (rules_of p z) + later.0, of_rest p z rest (length (rules_of p z) + later.0) (omega arith) ∙ ap (slice_get (events_of_rules p rest)) back ∙ later.1, at-past (rules_of p z) (flat_map (rules_of p) rest) later.0 rule later.2)
+
+-- a rule with the number of an event's is a rule of the event
+rule-of : (p : PlantLists) (events : List Event) (i : ℕ) (event : Event) (rule : RuleTree) → slice_get (events_of_rules p events) i ≡ Some event → slice_get (flat_map (rules_of p) events) i ≡ Some rule → (j : ℕ) × (slice_get (rules_of p event) j ≡ Some rule)
+rule-of p [] i event rule at there = cc
+rule-of p (z ∷ rest) i event rule at there =
+    elim (below_or_past i (length (rules_of p z))) [
+      | inl less ↦
+          (let found = item_at (rules_of p z) i less in
+          let same : z ≡ event = same_Some z event (sym (of_first p z rest i less) ∙ at) in
+          let is : found.0 ≡ rule = same_Some found.0 rule (sym (at-before (rules_of p z) (flat_map (rules_of p) rest) i found.0 found.1) ∙ there) in
+          (i, ap (λ e. slice_get (rules_of p e) i) (sym same) ∙ found.1 ∙ ap Some is))
+      | inr more ↦
+          rule-of p rest (i - length (rules_of p z)) event rule (sym (of_rest p z rest i more) ∙ at) (sym (past-of (rules_of p z) (flat_map (rules_of p) rest) i more) ∙ there)
+    ]
+
+-- a rule that gives values is one that can be fired
+record IsGiven (p : PlantLists) (s : State) (event : Event) (values : List ℕ) : Type 0 where
+  pub place : ℕ
+  pub rule : RuleTree
+  pub at : slice_get (rules_of p event) place ≡ Some rule
+  pub fires : can_fire p s rule ≡ true
+  pub is : set_all (image_of p s) rule.sets ≡ values
+
+given : (p : PlantLists) (s : State) (event : Event) (i : ℕ) (values : List ℕ) → RuleGives p s event i values → IsGiven p s event values
+given p s event i values h =
+    let found = bind_some (slice_get (system_of p).rules i) (λ r. fired r (image_of p s)) values h.gives in
+    let fires = cond_some (tree_holds (image_of p s) found.0.guard) (set_all (image_of p s) found.0.sets) values found.2 in
+    let mine = rule-of p (events_of p) i event found.0 h.of_event found.1 in
+    record { place = mine.0; rule = found.0; at = mine.1; fires = fires.0; is = fires.1 }
+
+module _ (p : PlantLists) (plant : IsPlant p) (never : NeverReturns p) where
+  gives-where-enabled : (s : State) (event : Event) → IsCalm p s → is_some (next p s event) ≡ true → SomeRuleGives p s event
+  gives-where-enabled s event calm h =
+      let step = event-steps p plant never event s calm.shape calm.no_hazard in
+      let found : (j : ℕ) × (rule : RuleTree) × (slice_get (rules_of p event) j ≡ Some rule) × (can_fire p s rule ≡ true) = list_any-at (can_fire p s) (rules_of p event) (step.enabled ∙ h) in
+      let listed_at = has-rules p plant event found.0 found.1 found.2 in
+      let number = numbered p (events_of p) listed_at.0 event found.0 found.1 listed_at.1 found.2 in
+      record {
+        number = number.0;
+        values = set_all (image_of p s) found.1.sets;
+        gives = record { of_event = number.1; gives = ap (option_and_then (λ r. fired r (image_of p s))) number.2 ∙ ap (λ b. only_if b (set_all (image_of p s) found.1.sets)) found.3 };
+      }
+
+  enabled-where-given : (s : State) (event : Event) → IsCalm p s → SomeRuleGives p s event → is_some (next p s event) ≡ true
+  enabled-where-given s event calm h =
+      let step = event-steps p plant never event s calm.shape calm.no_hazard in
+      let one = given p s event h.number h.values h.gives in
+      sym step.enabled ∙ list_any-from (can_fire p s) (rules_of p event) one.place one.rule one.at one.fires
+
+  pub steps-as : StepsAs p
+  steps-as = record {
+    enabled = λ s event calm. (gives-where-enabled s event calm, enabled-where-given s event calm);
+    after = λ s t event i values calm e h.
+        (let step = event-steps p plant never event s calm.shape calm.no_hazard in
+        let one = given p s event i values h in
+        sym one.is ∙ step.after t one.place one.rule e one.at one.fires);
+  }
