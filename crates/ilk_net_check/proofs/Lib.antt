@@ -1,4 +1,4 @@
+pub mod MoreFlags
 pub mod Numbered
 pub mod Returning
 pub mod Tables
-pub mod Rows

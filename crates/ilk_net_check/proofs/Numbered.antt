@@ -1,8 +1,6 @@
 -- The rules over numbers are the rules over names.
 use Rattle.std.proofs.Common.{◌≡◌, ℕ, zero, suc, ◌<◌, ◌≤◌, Bool, false, not, ◌&&◌, ◌==◌, Option, List, [], ◌∷◌, length, map, get_or, count_by, ◌⊎◌, inl, inr, refl, sym, ◌∙◌, ap, arith}
-use Rattle.std.specs.List.{list_any, range_with_len}
-use Rattle.std.proofs.lemmas.List.{get_or_past}
-use Rattle.std.proofs.lemmas.List.FromFn.{length-map-range_with_len}
+use Rattle.std.specs.List.{list_any}
 use Rattle.std.proofs.lemmas.Option.{slice_get_past}
 use Rattle.ilk_plant.specs.Name.{Name}
 use Rattle.ilk_plant.specs.Network.{same_direction}
@@ -12,8 +10,9 @@ use Rattle.ilk_plant.specs.declared.draft.NetDraft.{NetDraft}
 use Rattle.ilk_plant.specs.declared.draft.SectionDraft.{SectionDraft}
 use Rattle.ilk_plant.specs.declared.network.Dir.{Dir}
 use Rattle.ilk_net_check.specs.declared.ends.End.{End}
-use Rattle.ilk_net_check.specs.Numbers.{entry, is_next, names, names_no_other, numbered_end, numbered_ends, table, ends_by_number, is_one_sided, leads_up_to, is_named_once}
-use Rattle.ilk_net_check.proofs.Tables.{entry-table}
+use Rattle.ilk_net_check.specs.declared.bits.Flags.{Flags}
+use Rattle.ilk_net_check.specs.Numbers.{IsTable, entry, is_next, names, names_no_other, numbered_end, numbered_ends, ends_by_number, is_one_sided, leads_up_to, is_named_once}
+use Rattle.ilk_net_check.proofs.Tables.{entry_past}
 use Rattle.ilk_base.proofs.Ranges.{below_or_past}
 use Rattle.ilk_base.proofs.Tested.{count_by-map, list_any-map}
 
@@ -69,16 +68,9 @@ module _ (net : NetDraft) (all : List (List End)) (ends_are : all ≡ numbered_a
   leads_here : (n x y : ℕ) → leads_by (is_next all) n x y ≡ leads_by (is_next_up net) n x y
   leads_here n x y = λ i. leads_by (λ u v. next_here u v i) n x y
 
-  pub returns_here : (leads : List (List Bool)) → leads ≡ table (length net.sections) (leads_by (is_next all) (length net.sections)) → (x : ℕ) → entry leads x x ≡ returns net x
-  returns_here leads e x = ap (λ t. entry t x x) e ∙ by_place (below_or_past x (length net.sections))
+  pub returns_here : (leads : List Flags) → length net.sections ≤ 256 → IsTable leads (length net.sections) (leads_by (is_next all) (length net.sections)) → (x : ℕ) → entry leads x x ≡ returns net x
+  returns_here leads few table x = by_place (below_or_past x (length net.sections))
     where
-      by_place : (x < length net.sections) ⊎ (length net.sections ≤ x) → entry (table (length net.sections) (leads_by (is_next all) (length net.sections))) x x ≡ returns net x
-      by_place (inl lt) =
-          entry-table (length net.sections) (leads_by (is_next all) (length net.sections)) x x lt lt ∙ leads_here (length net.sections) x x
-      by_place (inr past) = outside past ∙ sym (no_lead net (length net.sections) x x past)
-        where
-          outside : length net.sections ≤ x → entry (table (length net.sections) (leads_by (is_next all) (length net.sections))) x x ≡ false
-          outside past =
-              let rows : ℕ → List Bool = λ x. map (leads_by (is_next all) (length net.sections) x) (range_with_len 0 (length net.sections)) in
-              let long : length (map rows (range_with_len 0 (length net.sections))) ≤ x = rw (length-map-range_with_len rows 0 (length net.sections)) past in
-              ap (λ row. get_or row x false) (get_or_past (map rows (range_with_len 0 (length net.sections))) x [] long) ∙ get_or_past [] x false (omega arith)
+      by_place : (x < length net.sections) ⊎ (length net.sections ≤ x) → entry leads x x ≡ returns net x
+      by_place (inl lt) = table.entries x x lt (omega (arith, lt, few)) ∙ leads_here (length net.sections) x x
+      by_place (inr past) = entry_past leads x x (omega (arith, past, table.rows)) ∙ sym (no_lead net (length net.sections) x x past)

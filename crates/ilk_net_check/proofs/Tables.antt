@@ -1,29 +1,67 @@
--- Tables of tests over pairs of numbers.
-use Rattle.std.proofs.Common.{◌≡◌, ℕ, suc, ◌<◌, ◌+◌, Bool, false, List, [], map, refl, ◌∙◌, subst, arith}
-use Rattle.std.specs.List.{range_with_len}
-use Rattle.std.proofs.lemmas.List.FromFn.{get_or-map-range_with_len}
+-- Tables of flags over pairs of numbers.
+use Rattle.std.proofs.Common.{◌≡◌, ℕ, zero, suc, ◌<◌, ◌≤◌, ◌+◌, ◌⊎◌, inl, inr, Bool, false, ◌&&◌, ◌||◌, Some, List, [], ◌∷◌, ◌++◌, get_or, length, take, refl, sym, ◌∙◌, ap, arith}
+use Rattle.std.specs.List.{list_any}
+use Rattle.std.proofs.Math.Bool.{or-false}
+use Rattle.std.proofs.Math.Nat.{eq-or-lt_of_le}
+use Rattle.std.proofs.lemmas.List.{take_more}
+use Rattle.std.proofs.lemmas.List.Folds.{list_any-append}
+use Rattle.std.proofs.lemmas.Option.{slice_get_past}
 use Rattle.ilk_plant.specs.NetworkRules.{leads_by}
-use Rattle.ilk_net_check.specs.Numbers.{entry, joined, table}
-use Rattle.ilk_base.proofs.Ranges.{map-range-congr}
+use Rattle.ilk_net_check.specs.Numbers.{IsTable, entry, has_flag, joined}
+use Rattle.ilk_net_check.specs.declared.bits.Flags.{Flags}
 
--- what a table has
-pub entry-table : (n : ℕ) (test : ℕ → ℕ → Bool) (x y : ℕ) → x < n → y < n → entry (table n test) x y ≡ test x y
-entry-table n test x y lx ly =
-    rw (get_or-map-range_with_len (λ x. map (test x) (range_with_len 0 n)) 0 n x x [] lx (omega arith)) (get_or-map-range_with_len (test x) 0 n y y false ly (omega arith))
+-- a table that has one more row
+entry_before : (t : List Flags) (row : Flags) (x y : ℕ) → x < length t → entry (t ++ row ∷ []) x y ≡ entry t x y
+entry_before [] row x y below = absurd (omega (arith, below))
+entry_before (r ∷ t) row zero y below = refl
+entry_before (r ∷ t) row (suc x) y below = entry_before t row x y (omega (arith, below))
 
--- one more number to go by
-pub joined-table : (n k : ℕ) (step : ℕ → ℕ → Bool) → k < n → table n (joined (table n (leads_by step k)) k) ≡ table n (leads_by step (suc k))
-joined-table n k step lk =
-    map-range-congr (λ x. map (joined (table n (leads_by step k)) k x) (range_with_len 0 n)) (λ x. map (leads_by step (suc k) x) (range_with_len 0 n)) 0 n (λ x low high.
-    map-range-congr (joined (table n (leads_by step k)) k x) (leads_by step (suc k) x) 0 n (λ y l h.
-    let xn : x < n = omega arith in
-    let yn : y < n = omega arith in
-    rw (entry-table n (leads_by step k) x y xn yn, entry-table n (leads_by step k) x k xn lk, entry-table n (leads_by step k) k y lk yn) refl))
+entry_last : (t : List Flags) (row : Flags) (y : ℕ) → entry (t ++ row ∷ []) (length t) y ≡ has_flag row y
+entry_last [] row y = refl
+entry_last (r ∷ t) row y = entry_last t row y
+
+length_more : (t : List Flags) (row : Flags) → length (t ++ row ∷ []) ≡ length t + 1
+length_more [] row = refl
+length_more (r ∷ t) row = let more = length_more t row in omega (arith, more)
+
+pub table_more : (t new : List Flags) (row : Flags) (n : ℕ) (test : ℕ → ℕ → Bool) → IsTable t n test → new ≡ t ++ row ∷ [] → ((y : ℕ) → y < 256 → has_flag row y ≡ test n y) → IsTable new (n + 1) test
+table_more t new row n test before is own = record {
+  rows = ap length is ∙ length_more t row ∙ ap (λ m. m + 1) before.rows;
+  entries = λ x y below small. ap (λ s. entry s x y) is ∙ by_place x y small (eq-or-lt_of_le (omega (arith, below)));
+}
+  where
+    by_place : (x y : ℕ) → y < 256 → (x ≡ n) ⊎ (x < n) → entry (t ++ row ∷ []) x y ≡ test x y
+    by_place x y small (inr lower) = entry_before t row x y (omega (arith, lower, before.rows)) ∙ before.entries x y lower small
+    by_place x y small (inl last) =
+        let place : x ≡ length t = last ∙ sym before.rows in
+        ap (λ z. entry (t ++ row ∷ []) z y) place ∙ entry_last t row y ∙ own y small ∙ ap (λ z. test z y) (sym last)
+
+-- one more item passes, or doesn't
+pub any_more : {X : Type 0} (p : X → Bool) (xs : List X) (i : ℕ) (d : X) (before now : Bool) → i < length xs → before ≡ list_any p (take i xs) → now ≡ (before || p (get_or xs i d)) → now ≡ list_any p (take (i + 1) xs)
+any_more p xs i d before now within sofar is =
+    is ∙ ap (λ b. b || p (get_or xs i d)) sofar ∙ ap (λ b. list_any p (take i xs) || b) (sym (or-false (p (get_or xs i d))))
+    ∙ sym (ap (list_any p) (take_more xs i d within) ∙ list_any-append p (take i xs) (get_or xs i d ∷ []))
+
+pub no_rows : (test : ℕ → ℕ → Bool) → IsTable [] 0 test
+no_rows test = record {
+  rows = refl;
+  entries = λ x y below small. absurd (omega (arith, below));
+}
 
 -- a table after one more number to go by
-pub next_table : (n k : ℕ) (step : ℕ → ℕ → Bool) (leads new : List (List Bool)) → k < n → leads ≡ table n (leads_by step k) → new ≡ table n (joined leads k) → new ≡ table n (leads_by step (k + 1))
-next_table n k step leads new lk before after =
-    let P : List (List Bool) → Type 0 = λ t. new ≡ table n (joined t k) in
-    let Q : ℕ → Type 0 = λ m. new ≡ table n (leads_by step m) in
-    let e : suc k ≡ k + 1 = omega arith in
-    subst Q e (subst P before after ∙ joined-table n k step lk)
+pub next_table : (n k : ℕ) (step : ℕ → ℕ → Bool) (leads new : List Flags) → k < n → n ≤ 256 → IsTable leads n (leads_by step k) → IsTable new n (joined leads k) → IsTable new n (leads_by step (k + 1))
+next_table n k step leads new below few before after = record {
+  rows = after.rows;
+  entries = λ x y lx ly.
+      let e : suc k ≡ k + 1 = omega arith in
+      after.entries x y lx ly
+      ∙ (let xy = before.entries x y lx ly in
+      let xk = before.entries x k lx (omega (arith, below, few)) in
+      let ky = before.entries k y below ly in
+      λ i. xy i || (xk i && ky i))
+      ∙ ap (λ m. leads_by step m x y) e;
+}
+
+-- nothing past its last row
+pub entry_past : (t : List Flags) (x y : ℕ) → length t ≤ x → entry t x y ≡ false
+entry_past t x y past = rw (slice_get_past t x past) refl

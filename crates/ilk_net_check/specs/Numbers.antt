@@ -1,16 +1,19 @@
--- Cited by private contracts alone: a network in numbers, with the ends of its sections, and tables of tests over
+-- Cited by private contracts alone: a network in numbers, with the ends of its sections, and tables of flags over
 -- pairs of sections.
-use Rattle.std.specs.Prelude.{ℕ, Bool, false, not, ◌&&◌, ◌||◌, ◌==◌, Option, List, [], length, map, count_by, slice_index_or, ◌≡◌}
-use Rattle.std.specs.List.{list_any, range_with_len}
+use Rattle.std.specs.Prelude.{ℕ, ◌<◌, ◌≤◌, ◌-◌, Bool, not, ◌&&◌, ◌||◌, ◌==◌, Option, List, [], length, map, count_by, slice_get, slice_index_or, ◌≡◌, if◌then◌else◌, nat_lt}
+use Rattle.std.specs.Int.{bit_at}
+use Rattle.std.specs.List.{list_any}
 use Rattle.ilk_plant.specs.NetNames.{IsNamedAs}
 use Rattle.ilk_plant.specs.Name.{Name}
 use Rattle.ilk_plant.specs.Network.{same_direction}
 use Rattle.ilk_plant.specs.NetworkRules.{ends, leads_by, opposite_direction, section_named, End as NamedEnd}
 use Rattle.ilk_base.specs.Option.{is_some_and}
 use Rattle.ilk_plant.specs.declared.draft.KindDraft.{KindDraft}
+use Rattle.ilk_plant.specs.declared.limits.TheConstants.{MAX_SECTIONS}
 use Rattle.ilk_plant.specs.declared.network.Dir.{Dir}
 use Rattle.ilk_plant.specs.declared.network.Dir.TheVariants.{Up}
 use Rattle.ilk_net_check.specs.declared.ends.End.{End}
+use Rattle.ilk_net_check.specs.declared.bits.Flags.{Flags}
 use Rattle.ilk_net_check.specs.declared.rules.Network.{Network}
 
 -- an end with a number for its name
@@ -33,16 +36,21 @@ ends_by_number all x = slice_index_or all x []
 abbrev pub is_next : List (List End) → ℕ → ℕ → Bool
 is_next all x y = list_any (leads_up_to y) (ends_by_number all x)
 
--- a test of each pair of numbers below n
-abbrev pub table : ℕ → (ℕ → ℕ → Bool) → List (List Bool)
-table n test = map (λ x. map (test x) (range_with_len 0 n)) (range_with_len 0 n)
+-- whether number y has its flag: among the low bits below 128, and among the high ones from there on
+abbrev pub has_flag : Flags → ℕ → Bool
+has_flag flags y = if nat_lt y 128 then bit_at flags.low y == 1 else bit_at flags.high (y - 128) == 1
 
--- what a table has for x and y; false outside of it
-abbrev pub entry : List (List Bool) → ℕ → ℕ → Bool
-entry t x y = slice_index_or (slice_index_or t x []) y false
+-- what a table has for x and y; false where it has no row x
+abbrev pub entry : List Flags → ℕ → ℕ → Bool
+entry t x y = is_some_and (slice_get t x) (λ row. has_flag row y)
+
+-- a table with n rows, each with a flag for each number below 256 that passes the test
+pub record IsTable (t : List Flags) (n : ℕ) (test : ℕ → ℕ → Bool) : Type 0 where
+  pub rows : length t ≡ n
+  pub entries : (x y : ℕ) → x < n → y < 256 → entry t x y ≡ test x y
 
 -- whether a table has x and y, or both x and k and k and y
-abbrev pub joined : List (List Bool) → ℕ → ℕ → ℕ → Bool
+abbrev pub joined : List Flags → ℕ → ℕ → ℕ → Bool
 joined t k x y = entry t x y || (entry t x k && entry t k y)
 
 -- whether an end names section x
@@ -66,4 +74,5 @@ is_one_sided all x end =
 pub record IsNumbered (network : Network) : Type 0 where
   pub names : IsNamedAs network.names.now network.net.now
   pub ends : network.ends ≡ map (λ section. numbered_ends (section_named network.net.now) section.kind) network.net.now.sections
-  pub leads : network.leads ≡ table (length network.net.now.sections) (leads_by (is_next network.ends) (length network.net.now.sections))
+  pub few : length network.net.now.sections ≤ MAX_SECTIONS
+  pub leads : IsTable network.leads (length network.net.now.sections) (leads_by (is_next network.ends) (length network.net.now.sections))

@@ -3,10 +3,11 @@
 //! names, where they are made already.
 //!
 //! The definitions speak of names and of walks of any length. The checks number the names once, and
-//! find where walks lead by a table that grows by one section at a time, which is proved to be the
-//! same.
+//! find where walks lead by a table of bits that grows by one section at a time, which is proved to be
+//! the same.
 #![tactic(auto)]
 
+mod bits;
 mod ends;
 mod examples;
 mod kinds;

@@ -8,6 +8,7 @@ ghost use Rattle.ilk_net_check.specs.Numbers.{IsNumbered};
 ghost use Rattle.ilk_plant.specs.declared.broken.Rule.TheVariants.{N7};
 ghost use Rattle.ilk_plant.specs.declared.limits.TheConstants.{MAX_SECTIONS};
 
+use crate::bits::Flags;
 use crate::ends::{End, all_ends, ends_by_number};
 use crate::kinds::{has_board_to_nowhere, has_no_neighbour, repeats_neighbour};
 use crate::neighbours::{is_not_named_back, names_no_other};
@@ -34,7 +35,7 @@ struct Network<'a> {
     net: &'a NetDraft,
     names: &'a NetNames,
     ends: Row<Row<End>>,
-    leads: Row<Row<bool>>,
+    leads: Row<Flags>,
 }
 
 impl<'a> Network<'a> {

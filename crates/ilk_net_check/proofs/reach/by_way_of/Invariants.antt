@@ -1,8 +1,5 @@
-use Rattle.std.proofs.Common.{◌≡◌, map}
-use Rattle.std.specs.List.{range_with_len}
-use Rattle.ilk_net_check.specs.Numbers.{joined}
+use Rattle.ilk_net_check.specs.Numbers.{IsTable, joined}
 use Rattle.ilk_net_check.proofs.reach.by_way_of.Given as goal
 
 abbrev pub invariant-loop-x : goal.invariant-loop-x
-invariant-loop-x l =
-    l.made ≡ map (λ x. map (joined l.leads l.k x) (range_with_len 0 l.count)) (range_with_len 0 l.x)
+invariant-loop-x l = IsTable l.made l.x (joined l.leads l.k)
