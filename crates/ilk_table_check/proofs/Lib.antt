@@ -1,2 +1,4 @@
 mod Examples
+pub mod Flagged
 pub mod Shared
+pub mod Twice

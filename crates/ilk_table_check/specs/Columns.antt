@@ -1,7 +1,9 @@
--- Cited by private contracts alone: the pairs of routes with one first route, and the sections that are locked for it.
-use Rattle.std.specs.Prelude.{ℕ, Bool, List, Some, map, filter, length, slice_get}
+-- Cited by private contracts alone: the pairs of routes with one first route, the routes that it lists, and the
+-- sections that are locked for it.
+use Rattle.std.specs.Prelude.{ℕ, Bool, false, List, Some, map, filter, length, slice_get, slice_index_or}
 use Rattle.std.specs.List.{range_with_len}
 use Rattle.ilk_base.specs.Option.{is_some_and}
+use Rattle.ilk_plant.specs.ColumnRules.{lists}
 use Rattle.ilk_plant.specs.Network.{has_section}
 use Rattle.ilk_plant.specs.Plant.{PlantLists}
 use Rattle.ilk_plant.specs.TableRules.{sections_locked_for}
@@ -12,6 +14,18 @@ use Rattle.ilk_plant.specs.declared.broken.Rule.{Rule}
 abbrev pub pairs_of : Rule → ℕ → ℕ → (ℕ → Bool) → List Broken
 pairs_of rule n i is_broken =
     map (λ j. record { rule = rule; first = i; second = Some j }) (filter is_broken (range_with_len 0 n))
+
+-- for each route, whether route i lists it as a conflict
+abbrev pub conflict_flags : PlantLists → ℕ → List Bool
+conflict_flags p i = map (lists p i) (range_with_len 0 (length p.routes))
+
+-- for each pair of routes, whether the first lists the second as a conflict
+abbrev pub all_conflict_flags : PlantLists → List (List Bool)
+all_conflict_flags p = map (conflict_flags p) (range_with_len 0 (length p.routes))
+
+-- whether route i lists route j, by flags of pairs
+abbrev pub lists_by_flags : List (List Bool) → ℕ → ℕ → Bool
+lists_by_flags listed i j = is_some_and (slice_get listed i) (λ flags. slice_index_or flags j false)
 
 -- for each section, whether it is locked for route i
 abbrev pub locked_flags : PlantLists → ℕ → List Bool

@@ -1,14 +1,13 @@
 ghost use Rattle.std.specs.Prelude.{◌≡◌, ◌==◌, ◌||◌, ◌<◌, IfOk, OnOk, ◌++◌, false, length, map, slice_index_or};
 ghost use Rattle.std.specs.List.{list_any};
 ghost use Rattle.ilk_plant.specs.Broken.{broken_at, broken_at_pairs, places_of};
-ghost use Rattle.ilk_plant.specs.Network.{has_section};
-ghost use Rattle.ilk_plant.specs.TableRules.{count_in_plant, protecting_points_of, sections_locked_for};
+ghost use Rattle.ilk_plant.specs.TableRules.{count_in_plant, protecting_points_of};
 ghost use Rattle.ilk_plant.specs.ColumnRules.{breaks_columns, breaks_columns_at_pair, column_rule_broken, column_rules_broken, is_kept_closed_by, lists, share_section, is_border_without_board};
-ghost use Rattle.ilk_table_check.specs.Columns.{locked_flags, pairs_of};
+ghost use Rattle.ilk_table_check.specs.Columns.{all_conflict_flags, conflict_flags, lists_by_flags, locked_flags, pairs_of};
 
-use crate::listed::is_listed;
+use crate::flags::{flag_at, flags_of, row_of, set_flags, set_points};
 use crate::ways::{overlap_leads_on, path_ends_at_board, path_leads_on, points_are_set};
-use ilk_plant::{Broken, Listed, Places, Plant, Route, Row, Rule, has_section, push_if};
+use ilk_plant::{Broken, Listed, Places, Plant, Route, Row, Rule, push_if};
 use std::alloc::{AllocError, Global};
 
 // The rules of the columns, in order.
@@ -23,28 +22,46 @@ const COLUMN_RULES: [Rule; 8] = [
     Rule::C8,
 ];
 
-// Whether a route lists route `j` as a conflict.
-fn route_lists(route: &Route, j: u32) -> bool
-    ensures { result ≡ list_any (λ r. r == j) route.now.conflicts }
-{
-    route.conflicts.as_slice().iter().any(|r| *r == j)
-}
-
-// Whether route `i` lists route `j` as a conflict.
-fn lists(plant: &Plant, i: u32, j: u32) -> bool
+// For each route, whether route `i` lists it as a conflict.
+fn conflict_flags(alloc: Global, plant: &Plant, i: u32) -> Result<Row<bool>, AllocError>
     requires { i < length plant.now.routes }
-    ensures { result ≡ lists plant.now i j }
+    ensures { IfOk result (λ made. made ≡ conflict_flags plant.now i) }
 {
-    route_lists(plant.route(i), j)
+    let count = plant.routes();
+    let flags = flags_of(alloc, count, plant.route(i).conflicts.as_slice())?;
+    row_of(alloc, flags.as_slice(), count)
 }
 
-// Whether a route has section `x` in its path, its overlap or its protecting points.
-fn has_in_route(route: &Route, x: u32) -> bool
-    ensures { result ≡ has_section x (sections_locked_for route.now) }
+// For each pair of routes, whether the first lists the second as a conflict.
+fn all_conflict_flags(alloc: Global, plant: &Plant) -> Result<Row<Row<bool>>, AllocError>
+    ensures { IfOk result (λ made. made ≡ all_conflict_flags plant.now) }
 {
-    has_section(&route.path, x)
-        || has_section(&route.overlap, x)
-        || is_listed(x, route.protecting_points.as_slice())
+    let mut made = Row::new(alloc);
+    for i in 0..plant.routes() {
+        made.push(conflict_flags(alloc, plant, i)?)?;
+    }
+    Ok(made)
+}
+
+// Whether flag `j` of row `i` is set; false where there is none.
+fn lists_by_flags(listed: &Row<Row<bool>>, i: u32, j: u32) -> bool
+    ensures { result ≡ lists_by_flags listed.now i j }
+{
+    match listed.as_slice().get(i as usize) {
+        Some(flags) => flag_at(flags.as_slice(), j),
+        None => false,
+    }
+}
+
+// Whether route `i` lists route `j` as a conflict. `listed` has which routes list which; the plant
+// is there for the contract alone.
+fn lists(_plant: &Plant, listed: &Row<Row<bool>>, i: u32, j: u32) -> bool
+    requires first { i < length _plant.now.routes }
+    requires second { j < length _plant.now.routes }
+    requires listed { listed.now ≡ all_conflict_flags _plant.now }
+    ensures { result ≡ lists _plant.now i j }
+{
+    lists_by_flags(listed, i, j)
 }
 
 // For each section, whether route `i` has it in its path, its overlap or its protecting points.
@@ -53,21 +70,11 @@ fn locked_flags(alloc: Global, plant: &Plant, i: u32) -> Result<Row<bool>, Alloc
     ensures { IfOk result (λ locked. locked ≡ locked_flags plant.now i) }
 {
     let route = plant.route(i);
-    let mut locked = Row::new(alloc);
-    for x in 0..plant.sections() {
-        locked.push(has_in_route(route, x))?;
-    }
-    Ok(locked)
-}
-
-// Flag `x`; false where there is none.
-fn flag_at(flags: &[bool], x: u32) -> bool
-    ensures { result ≡ slice_index_or flags.now x false }
-{
-    match flags.get(x as usize) {
-        Some(flag) => *flag,
-        None => false,
-    }
+    let count = plant.sections();
+    let mut locked = flags_of(alloc, count, route.path.as_slice())?;
+    set_flags(&mut locked, route.overlap.as_slice());
+    set_points(&mut locked, route.protecting_points.as_slice());
+    row_of(alloc, locked.as_slice(), count)
 }
 
 // Whether one of these sections has its flag.
@@ -163,18 +170,26 @@ fn breaks(plant: &Plant, rule: Rule, i: u32) -> bool
     }
 }
 
-// Whether a rule is broken at the pair of routes `i` and `j`. `locked` has what is locked for
-// route `i`.
-fn breaks_at_pair(plant: &Plant, locked: &[bool], rule: Rule, i: u32, j: u32) -> bool
+// Whether a rule is broken at the pair of routes `i` and `j`. `listed` has which routes list which,
+// and `locked` what is locked for route `i`.
+fn breaks_at_pair(
+    plant: &Plant,
+    listed: &Row<Row<bool>>,
+    locked: &[bool],
+    rule: Rule,
+    i: u32,
+    j: u32,
+) -> bool
     requires first { i < length plant.now.routes }
     requires second { j < length plant.now.routes }
+    requires listed { listed.now ≡ all_conflict_flags plant.now }
     requires locked { locked.now ≡ locked_flags plant.now i }
     ensures { result ≡ breaks_columns_at_pair plant.now rule i j }
 {
     match rule {
-        Rule::C5 => lists(plant, i, j) && !lists(plant, j, i),
-        Rule::C6 => i < j && !lists(plant, i, j) && share_section(plant, locked, i, j),
-        Rule::C8 => is_kept_closed_by(plant, i, j) && !lists(plant, i, j),
+        Rule::C5 => lists(plant, listed, i, j) && !lists(plant, listed, j, i),
+        Rule::C6 => i < j && !lists(plant, listed, i, j) && share_section(plant, locked, i, j),
+        Rule::C8 => is_kept_closed_by(plant, i, j) && !lists(plant, listed, i, j),
         _ => false,
     }
 }
@@ -200,10 +215,12 @@ fn push_pairs_of(
     alloc: Global,
     found: &mut Row<Broken>,
     plant: &Plant,
+    listed: &Row<Row<bool>>,
     rule: Rule,
     i: u32,
 ) -> Result<(), AllocError>
-    requires { i < length plant.now.routes }
+    requires first { i < length plant.now.routes }
+    requires listed { listed.now ≡ all_conflict_flags plant.now }
     ensures { OnOk result (found.new ≡ found.old ++ pairs_of rule (length plant.now.routes) i (breaks_columns_at_pair plant.now rule i)) }
 {
     let locked = locked_flags(alloc, plant, i)?;
@@ -215,7 +232,7 @@ fn push_pairs_of(
         };
         push_if(
             found,
-            breaks_at_pair(plant, locked.as_slice(), rule, i, j),
+            breaks_at_pair(plant, listed, locked.as_slice(), rule, i, j),
             entry,
         )?;
     }
@@ -231,8 +248,9 @@ fn push_pairs(
 ) -> Result<(), AllocError>
     ensures { OnOk result (found.new ≡ found.old ++ broken_at_pairs rule (length plant.now.routes) (breaks_columns_at_pair plant.now rule)) }
 {
+    let listed = all_conflict_flags(alloc, plant)?;
     for i in 0..plant.routes() {
-        push_pairs_of(alloc, found, plant, rule, i)?;
+        push_pairs_of(alloc, found, plant, &listed, rule, i)?;
     }
     Ok(())
 }

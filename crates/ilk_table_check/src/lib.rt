@@ -4,6 +4,7 @@
 #![tactic(auto)]
 
 mod columns;
+mod flags;
 mod listed;
 mod table;
 #[cfg(test)]

@@ -7,8 +7,11 @@ ghost use Rattle.ilk_plant.specs.Plant.{is_point_section};
 ghost use Rattle.ilk_plant.specs.TableRules.{breaks_table, count_in_plant, has_conflicts_once, has_destination_or_none, has_points_once, has_protecting_boards_once, has_protecting_points_once, has_sections_once, is_board, is_other_route, is_section, points_of, protecting_points_of, routes_broken, sections_of, table_rules_broken};
 ghost use Rattle.ilk_plant.specs.Once.{none_twice};
 
+use crate::flags::none_twice_below;
 use crate::listed::is_listed;
-use ilk_plant::{Broken, Listed, NetDraft, Numbered, Route, Row, Rule, TableDraft, push_if};
+use ilk_plant::{
+    Broken, Listed, NetDraft, Numbered, Places, Route, Row, Rule, TableDraft, push_if,
+};
 use std::alloc::{AllocError, Global};
 
 // The rules of the table, in order.
@@ -142,10 +145,23 @@ fn are_other_routes(plant: &Numbered, i: u32, routes: &Row<u32>) -> bool
 }
 
 // Whether each conflict of route `i` is another route, and none is listed twice.
-fn has_conflicts_once(plant: &Numbered, i: u32, route: &Route) -> bool
-    ensures { result ≡ has_conflicts_once plant.now i route.now }
+#[tactic(auto, using(crate::proofs::Twice::others_below))]
+fn has_conflicts_once(
+    alloc: Global,
+    plant: &Numbered,
+    i: u32,
+    route: &Route,
+) -> Result<bool, AllocError>
+    ensures { IfOk result (λ once. once ≡ has_conflicts_once plant.now i route.now) }
 {
-    are_other_routes(plant, i, &route.conflicts) && none_twice(route.conflicts.as_slice())
+    if !are_other_routes(plant, i, &route.conflicts) {
+        return Ok(false);
+    }
+    none_twice_below(
+        alloc,
+        plant.count(Places::Routes),
+        route.conflicts.as_slice(),
+    )
 }
 
 // Whether `x` is a point section in neither path nor overlap of a route.
@@ -199,25 +215,30 @@ fn has_protecting_boards_once(plant: &Numbered, route: &Route) -> bool
 }
 
 // Whether a rule of the table is broken at its place `i`.
-fn breaks_table(plant: &Numbered, rule: Rule, i: u32) -> bool
+fn breaks_table(alloc: Global, plant: &Numbered, rule: Rule, i: u32) -> Result<bool, AllocError>
     requires { i < count_in_plant plant.now (places_of rule) }
-    ensures { result ≡ breaks_table plant.now rule i }
+    ensures { IfOk result (λ broken. broken ≡ breaks_table plant.now rule i) }
 {
     match rule {
-        Rule::R1 => plant.is_named_before(i),
-        Rule::R2 => !plant.is_board(plant.route(i).source),
-        Rule::R3 => !has_sections_once(plant, plant.route(i)),
-        Rule::R4 => !has_points_once(plant, plant.route(i)),
-        Rule::R5 => !has_destination_or_none(plant, plant.route(i).destination),
-        Rule::R6 => !has_conflicts_once(plant, i, plant.route(i)),
-        Rule::R7 => !has_protecting_points_once(plant, plant.route(i)),
-        Rule::R8 => !has_protecting_boards_once(plant, plant.route(i)),
-        _ => false,
+        Rule::R1 => Ok(plant.is_named_before(i)),
+        Rule::R2 => Ok(!plant.is_board(plant.route(i).source)),
+        Rule::R3 => Ok(!has_sections_once(plant, plant.route(i))),
+        Rule::R4 => Ok(!has_points_once(plant, plant.route(i))),
+        Rule::R5 => Ok(!has_destination_or_none(plant, plant.route(i).destination)),
+        Rule::R6 => Ok(!has_conflicts_once(alloc, plant, i, plant.route(i))?),
+        Rule::R7 => Ok(!has_protecting_points_once(plant, plant.route(i))),
+        Rule::R8 => Ok(!has_protecting_boards_once(plant, plant.route(i))),
+        _ => Ok(false),
     }
 }
 
 // Adds a rule of the table at each of its places at which it is broken.
-fn push_rule(found: &mut Row<Broken>, plant: &Numbered, rule: Rule) -> Result<(), AllocError>
+fn push_rule(
+    alloc: Global,
+    found: &mut Row<Broken>,
+    plant: &Numbered,
+    rule: Rule,
+) -> Result<(), AllocError>
     ensures { OnOk result (found.new ≡ found.old
         ++ broken_at rule (count_in_plant plant.now (places_of rule)) (breaks_table plant.now rule)) }
 {
@@ -227,7 +248,7 @@ fn push_rule(found: &mut Row<Broken>, plant: &Numbered, rule: Rule) -> Result<()
             first: i,
             second: None,
         };
-        push_if(found, breaks_table(plant, rule, i), entry)?;
+        push_if(found, breaks_table(alloc, plant, rule, i)?, entry)?;
     }
     Ok(())
 }
@@ -253,7 +274,7 @@ pub fn check_numbered_table(alloc: Global, plant: &Numbered) -> Result<Row<Broke
 {
     let mut found = Row::new(alloc);
     for rule in &TABLE_RULES {
-        push_rule(&mut found, plant, *rule)?;
+        push_rule(alloc, &mut found, plant, *rule)?;
     }
     Ok(found)
 }

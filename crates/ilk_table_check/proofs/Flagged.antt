@@ -1,0 +1,94 @@
+-- Flags of numbers: one more flag, the flags of a list, and rows of flags.
+use Rattle.std.proofs.Common.{◌≡◌, ◌≢◌, ℕ, ◌+◌, ◌<◌, ◌≤◌, Bool, true, false, ◌==◌, ◌||◌, Some, List, [], ◌∷◌, ◌++◌, get_or, length, map, option_map, set, slice_get, take, refl, sym, ◌∙◌, ap, arith, subst}
+use Rattle.std.specs.List.{list_any, range_with_len}
+use Rattle.std.proofs.Math.Bool.{or-false, or_assoc}
+use Rattle.std.proofs.lemmas.Bool.Decides.{Decides-eqb, nat_tests}
+use Rattle.std.proofs.lemmas.List.{get_or-map, get_or-set_other, get_or-set_same, length-map, take_more}
+use Rattle.std.proofs.lemmas.List.Folds.{list_any-append}
+use Rattle.std.proofs.lemmas.List.FromFn.{get_or-map-range_with_len}
+use Rattle.std.proofs.lemmas.Option.{slice_get-map}
+use Rattle.ilk_base.proofs.Ranges.{map-range-congr, range-at}
+use Rattle.ilk_base.proofs.Truth.{or-true}
+use Rattle.ilk_base.specs.Option.{is_some_and}
+use Rattle.ilk_plant.specs.ColumnRules.{lists}
+use Rattle.ilk_plant.specs.Network.{has_section}
+use Rattle.ilk_plant.specs.Plant.{PlantLists}
+use Rattle.ilk_plant.specs.TableRules.{protecting_points_of, sections_locked_for}
+use Rattle.ilk_plant.specs.declared.table.Listed.{Listed}
+use Rattle.ilk_plant.specs.declared.table.Route.{Route}
+use Rattle.ilk_table_check.specs.Columns.{all_conflict_flags, conflict_flags, lists_by_flags, locked_flags}
+
+-- one flag is set
+pub flag_set : (flags : List Bool) (x y : ℕ) → y < length flags → get_or (set flags x true) y false ≡ (get_or flags y false || (x == y))
+flag_set flags x y below = by_test (x == y) refl
+  where
+    by_test : (b : Bool) → (x == y) ≡ b → get_or (set flags x true) y false ≡ (get_or flags y false || b)
+    by_test true e =
+        let same : x ≡ y = (Decides-eqb x y).0 e in
+        let P : ℕ → Type 0 = λ z. get_or (set flags z true) y false ≡ true in
+        subst P (sym same) (get_or-set_same flags y true false below) ∙ sym (or-true (get_or flags y false))
+    by_test false e =
+        let other : y ≢ x = λ equal. (let wrong : (x == y) ≡ true = (Decides-eqb x y).1 (sym equal) in absurd (cc)) in
+        get_or-set_other flags x y true false other ∙ sym (or-false (get_or flags y false))
+
+-- no flag to set there
+pub flag_past : (flags : List Bool) (x y : ℕ) → length flags ≤ x → y < length flags → get_or flags y false ≡ (get_or flags y false || (x == y))
+flag_past flags x y past below =
+    let differs : (x == y) ≡ false = grind (arith, nat_tests) in
+    sym (or-false (get_or flags y false)) ∙ ap (λ b. get_or flags y false || b) (sym differs)
+
+-- the flags of a list, as it grows by one
+pub flags_more : (numbers : List ℕ) (i d y : ℕ) (a b c : Bool) → i < length numbers → b ≡ (a || has_section y (take i numbers)) → c ≡ (b || (get_or numbers i d == y)) → c ≡ (a || has_section y (take (i + 1) numbers))
+flags_more numbers i d y a b c within before after =
+    after ∙ ap (λ t. t || (get_or numbers i d == y)) before ∙ or_assoc a (has_section y (take i numbers)) (get_or numbers i d == y)
+    ∙ ap (λ t. a || t) (sym grown)
+  where
+    grown : has_section y (take (i + 1) numbers) ≡ (has_section y (take i numbers) || (get_or numbers i d == y))
+    grown =
+        ap (has_section y) (take_more numbers i d within) ∙ list_any-append (λ x. x == y) (take i numbers) (get_or numbers i d ∷ [])
+        ∙ ap (λ t. has_section y (take i numbers) || t) (or-false (get_or numbers i d == y))
+
+-- the flags of the points of a list, as it grows by one
+pub points_more : (points : List Listed) (i : ℕ) (d : Listed) (y : ℕ) (a b c : Bool) → i < length points → b ≡ (a || has_section y (take i (map (λ listed. listed.point) points))) → c ≡ (b || ((get_or points i d).point == y)) → c ≡ (a || has_section y (take (i + 1) (map (λ listed. listed.point) points)))
+points_more points i d y a b c within before after =
+    let point : Listed → ℕ = λ listed. listed.point in
+    let item : get_or (map point points) i d.point ≡ (get_or points i d).point = get_or-map point points i d d.point within in
+    flags_more (map point points) i d.point y a b c (omega (arith, within, length-map points point)) before (after ∙ ap (λ n. b || (n == y)) (sym item))
+
+-- a row of flags that tell what a test does
+row_tells : (flags : List Bool) (test : ℕ → Bool) (n : ℕ) → ((y : ℕ) → y < n → get_or flags y false ≡ test y) → map (λ x. get_or flags x false) (range_with_len 0 n) ≡ map test (range_with_len 0 n)
+row_tells flags test n same =
+    map-range-congr (λ x. get_or flags x false) test 0 n (λ y low high. same y (omega (arith, high)))
+
+-- the routes that a route lists
+pub listed-row : (p : PlantLists) (i n : ℕ) (route : Route) (flags slice : List Bool) (numbers : List ℕ) → n ≡ length p.routes → slice ≡ flags → numbers ≡ route.conflicts → slice_get p.routes i ≡ Some route → ((y : ℕ) → y < n → get_or flags y false ≡ has_section y numbers) → map (λ x. get_or slice x false) (range_with_len 0 n) ≡ conflict_flags p i
+listed-row p i n route flags slice numbers whole same own at tell =
+    row_tells slice (lists p i) n (λ y below. ap (λ l. get_or l y false) same ∙ tell y below ∙ ap (has_section y) own ∙ rw at refl)
+    ∙ ap (λ m. map (lists p i) (range_with_len 0 m)) whole
+
+-- the sections that are locked for a route
+pub locked-row : (p : PlantLists) (i n : ℕ) (route : Route) (first second third slice : List Bool) (path overlap : List ℕ) (points : List Listed) → n ≡ length p.sections → slice ≡ third → path ≡ route.path → overlap ≡ route.overlap → points ≡ route.protecting_points → slice_get p.routes i ≡ Some route → length first ≡ n → length second ≡ length first → ((y : ℕ) → y < n → get_or first y false ≡ has_section y path) → ((y : ℕ) → y < length first → get_or second y false ≡ (get_or first y false || has_section y overlap)) → ((y : ℕ) → y < length second → get_or third y false ≡ (get_or second y false || has_section y (map (λ listed. listed.point) points))) → map (λ x. get_or slice x false) (range_with_len 0 n) ≡ locked_flags p i
+locked-row p i n route first second third slice path overlap points whole same own_path own_overlap own_points at one two by_path by_overlap by_points =
+    row_tells slice test n (λ y below. ap (λ l. get_or l y false) same ∙ tell y below ∙ sym (joined y) ∙ rw at refl)
+    ∙ ap (λ m. map test (range_with_len 0 m)) whole
+  where
+    test : ℕ → Bool
+    test x = is_some_and (slice_get p.routes i) (λ r. has_section x (sections_locked_for r))
+
+    joined : (y : ℕ) → has_section y (sections_locked_for route) ≡ ((has_section y route.path || has_section y route.overlap) || has_section y (protecting_points_of route))
+    joined y =
+        list_any-append (λ x. x == y) (route.path ++ route.overlap) (protecting_points_of route)
+        ∙ ap (λ b. b || has_section y (protecting_points_of route)) (list_any-append (λ x. x == y) route.path route.overlap)
+
+    tell : (y : ℕ) → y < n → get_or third y false ≡ ((has_section y route.path || has_section y route.overlap) || has_section y (protecting_points_of route))
+    tell y below =
+        by_points y (omega (arith, below, one, two))
+        ∙ ap (λ b. b || has_section y (map (λ listed. listed.point) points)) (by_overlap y (omega (arith, below, one)) ∙ ap (λ b. b || has_section y overlap) (by_path y below))
+        ∙ (λ j. (has_section y (own_path j) || has_section y (own_overlap j)) || has_section y (map (λ listed. listed.point) (own_points j)))
+
+-- which route lists which, by the flags of all pairs
+pub lists-flagged : (p : PlantLists) (listed : List (List Bool)) (i j : ℕ) → listed ≡ all_conflict_flags p → i < length p.routes → j < length p.routes → lists_by_flags listed i j ≡ lists p i j
+lists-flagged p listed i j is first second =
+    let row : slice_get listed i ≡ Some (conflict_flags p i) =
+    ap (λ l. slice_get l i) is ∙ slice_get-map (conflict_flags p) (range_with_len 0 (length p.routes)) i ∙ ap (option_map (conflict_flags p)) (range-at (length p.routes) i first) in
+    rw row (get_or-map-range_with_len (lists p i) 0 (length p.routes) j j false second (omega arith))
