@@ -40,8 +40,8 @@ use Rattle.ilk_conditions.specs.Conditions.{lock_is, no_train_at, occupancy_is}
 use Rattle.ilk_behave.specs.Settings.{occupancy_becomes, rule}
 use Rattle.ilk_behave.specs.Steps.{StepAs, can_fire}
 use Rattle.ilk_behave.specs.TrainRules.{leave_rule, rules_of_enter, rules_of_leave}
+use Rattle.ilk_layout.proofs.Changes.{table-one}
 use Rattle.ilk_layout.proofs.Calm.{calm-at, occupancy-in, taken-in}
-use Rattle.ilk_behave.proofs.Occupancies.{set-range}
 use Rattle.ilk_behave.proofs.Tools.{no_rules, none_step, rule_step, rules_step}
 use Rattle.ilk_conditions.proofs.Values.{lock-holds, occupancy-holds, vacant-holds}
 use Rattle.ilk_behave.proofs.Writing.{by_image}
@@ -49,10 +49,8 @@ use Rattle.ilk_behave.proofs.Writing.{by_image}
 -- where trains change the occupancy of x alone, one write does it
 pub one-written : (p : PlantLists) (s : State) (trains : List Train) (x : ℕ) → HasShape p s → x < length p.sections → ((y : ℕ) → (y ≡ x → ⊥) → occupancy_of p (with_trains s trains) y ≡ occupancy_of p s y) → set (image_with s (occupancy_values p s)) (occupancy_var p x) (occupancy_value (occupancy_of p (with_trains s trains) x)) ≡ image_with (with_trains s trains) (occupancy_values p (with_trains s trains))
 one-written p s trains x shape within others =
-    let here : 0 + x ≡ x = omega arith in
     occupancy-written p s (occupancy_values p s) shape x (occupancy_value (occupancy_of p (with_trains s trains) x))
-    ∙ ap (λ j. image_with s (set (occupancy_values p s) x (occupancy_value (occupancy_of p (with_trains s trains) j)))) (sym here)
-    ∙ ap (image_with s) (set-range (λ y. occupancy_value (occupancy_of p s y)) (λ y. occupancy_value (occupancy_of p (with_trains s trains) y)) (length p.sections) 0 x within (λ y low high apart. ap occupancy_value (others y (λ same. apart (omega (arith, same))))))
+    ∙ ap (image_with s) (table-one (λ y. occupancy_value (occupancy_of p s y)) (λ y. occupancy_value (occupancy_of p (with_trains s trains) y)) (length p.sections) x within (λ y less apart. ap occupancy_value (others y apart)))
 
 -- where no train has a section, it is vacant
 pub vacant-as : (p : PlantLists) (s : State) (x : ℕ) → is_occupied s x ≡ false → occupancy_of p s x ≡ Vacant

@@ -1,6 +1,7 @@
 -- The events of rules, one event after another.
 use Rattle.std.proofs.Common.{◌≡◌, ℕ, suc, ◌+◌, ◌-◌, ◌<◌, ◌≤◌, Some, None, List, [], ◌∷◌, ◌++◌, drop, drop-cons, get_or, length, map, slice_get, subst, take, refl, sym, ◌∙◌, ap, arith, append_assoc, append-nil, length-append}
 use Rattle.std.specs.List.{flat_map, range_with_len}
+use Rattle.std.proofs.lemmas.Grind.{flat_map-append}
 use Rattle.std.proofs.lemmas.List.{drop_all, length-map, take_all}
 use Rattle.std.proofs.lemmas.Option.{slice_get-map, slice_get_within}
 use Rattle.ilk_base.proofs.Lists.{at-before, item_at}
@@ -23,12 +24,8 @@ past-of xs ys i beyond =
     let there : i ≡ length xs + (i - length xs) = omega arith in
     ap (slice_get (xs ++ ys)) there ∙ past xs ys (i - length xs)
 
-flat_map-joined : {X Y : Type 0} (f : X → List Y) (xs ys : List X) → flat_map f (xs ++ ys) ≡ flat_map f xs ++ flat_map f ys
-flat_map-joined f [] ys = refl
-flat_map-joined f (x ∷ xs) ys = ap (λ zs. f x ++ zs) (flat_map-joined f xs ys) ∙ sym (append_assoc (f x) (flat_map f xs) (flat_map f ys))
-
 pub joined : (p : PlantLists) (xs ys : List Event) → events_of_rules p (xs ++ ys) ≡ events_of_rules p xs ++ events_of_rules p ys
-joined p xs ys = flat_map-joined (λ event. map (λ rule. event) (rules_of p event)) xs ys
+joined p xs ys = flat_map-append (λ event. map (λ rule. event) (rules_of p event)) xs ys
 
 -- there are as many as there are rules
 pub as_many : (p : PlantLists) (events : List Event) → length (events_of_rules p events) ≡ length (flat_map (rules_of p) events)
@@ -172,4 +169,4 @@ all-made p n made past_all is =
     nested : (kinds : List Kind) → flat_map (λ kind. flat_map (rules_of p) (events_of_kind p kind)) kinds ≡ flat_map (rules_of p) (events_of_kinds p kinds)
     nested [] = refl
     nested (kind ∷ kinds) =
-        ap (λ rs. flat_map (rules_of p) (events_of_kind p kind) ++ rs) (nested kinds) ∙ sym (flat_map-joined (rules_of p) (events_of_kind p kind) (events_of_kinds p kinds))
+        ap (λ rs. flat_map (rules_of p) (events_of_kind p kind) ++ rs) (nested kinds) ∙ sym (flat_map-append (rules_of p) (events_of_kind p kind) (events_of_kinds p kinds))

@@ -1,6 +1,5 @@
 -- How the occupancies of sections change where points move.
-use Rattle.std.proofs.Common.{◌≡◌, ℕ, zero, suc, ◌+◌, ◌<◌, ◌≤◌, Bool, true, false, cond, count_by, Option, Some, None, List, [], ◌∷◌, length, map, set, slice_get, take, inl, inr, ◌⊎◌, refl, sym, ◌∙◌, ap, arith}
-use Rattle.std.specs.List.{range_with_len}
+use Rattle.std.proofs.Common.{◌≡◌, ℕ, zero, suc, ◌<◌, true, false, cond, count_by, Option, Some, None, List, [], ◌∷◌, length, set, slice_get, take, inl, inr, ◌⊎◌, refl, sym, ◌∙◌, ap, arith}
 use Rattle.std.proofs.lemmas.Bool.{cases_eq}
 use Rattle.std.proofs.lemmas.List.Sums.{sum_by-cons}
 use Rattle.std.proofs.lemmas.Option.{cond_some, same_Some}
@@ -12,31 +11,14 @@ use Rattle.ilk_plant.specs.Plant.{PlantLists, point_number}
 use Rattle.ilk_plant.specs.Shape.{HasShape}
 use Rattle.ilk_plant.specs.State.{is_occupied, lie_of}
 use Rattle.ilk_plant.specs.declared.network.Section.{Section}
-use Rattle.ilk_plant.specs.declared.network.Section.TheVariants.{Linear, Point}
 use Rattle.ilk_plant.specs.declared.state.PointState.{PointState}
 use Rattle.ilk_plant.specs.declared.state.State.{State}
 use Rattle.ilk_plant.proofs.PointNumbers.{point_number-below}
-use Rattle.ilk_model.specs.Hazard.{is_wrong}
 use Rattle.ilk_layout.specs.Image.{occupancy_values}
 use Rattle.ilk_layout.specs.Occupancy.{occupancy_of}
 use Rattle.ilk_layout.specs.Values.{occupancy_value}
+use Rattle.ilk_layout.proofs.Changes.{occupancy-kept, table-one}
 use Rattle.ilk_layout.proofs.Trains.{wrong-none}
-
--- a list of what a function gives for numbers, after a write to one of them
-pub set-range : (f g : ℕ → ℕ) (n a i : ℕ) → i < n → ((y : ℕ) → a ≤ y → y < a + n → (y ≡ a + i → ⊥) → g y ≡ f y) → set (map f (range_with_len a n)) i (g (a + i)) ≡ map g (range_with_len a n)
-set-range f g zero a i h k = absurd (omega arith)
-set-range f g (suc n) a zero h k =
-    let here : a + 0 ≡ a = omega arith in
-    let rest : map f (range_with_len (a + 1) n) ≡ map g (range_with_len (a + 1) n) = map-range-congr f g (a + 1) n (λ y low high. sym (k y (omega arith) (omega arith) (λ z. absurd (omega arith)))) in
-    ap (λ j. g j ∷ map f (range_with_len (a + 1) n)) here ∙ ap (λ l. g a ∷ l) rest
-set-range f g (suc n) a (suc i) h k =
-    let here : f a ≡ g a = sym (k a (omega arith) (omega arith) (λ z. absurd (omega arith))) in
-    let z : a + suc i ≡ a + 1 + i = omega arith in
-    let rest : set (map f (range_with_len (a + 1) n)) i (g (a + 1 + i)) ≡ map g (range_with_len (a + 1) n) = set-range f g n (a + 1) i (omega arith) (λ y low high d. k y (omega arith) (omega arith) (λ w. d (omega arith))) in
-    ap (λ j. f a ∷ set (map f (range_with_len (a + 1) n)) i (g j)) z ∙ ap (λ l. f a ∷ l) rest ∙ ap (λ v. v ∷ map g (range_with_len (a + 1) n)) here
-
-one-if : Bool → ℕ
-one-if b = cond b 1 0
 
 -- points are numbered apart
 same-count : (xs : List Section) (i j : ℕ) (a b : Section) → slice_get xs i ≡ Some a → slice_get xs j ≡ Some b → is_point a ≡ true → is_point b ≡ true → count_by is_point (take i xs) ≡ count_by is_point (take j xs) → i ≡ j
@@ -90,17 +72,9 @@ module _ (p : PlantLists) (s : State) (x n : ℕ) (point : PointState) (number :
           let other = slice_get-set_other s.points n m point (λ same. apart (number-once p y x n (e ∙ ap Some (sym same)) number)) in
           rw (e, other) refl
 
-  wrong-other : (y : ℕ) → (y ≡ x → ⊥) → is_wrong p (with_point s n point) y ≡ is_wrong p s y
-  wrong-other y apart = by_section (slice_get p.sections y) refl
-    where
-      by_section : (o : Option Section) → slice_get p.sections y ≡ o → is_wrong p (with_point s n point) y ≡ is_wrong p s y
-      by_section None e = rw e refl
-      by_section (Some (Linear a b c d)) e = rw e refl
-      by_section (Some (Point stem plus minus faces)) e = (let lies = lie-other y apart in rw (e, lies) refl)
-
   -- where a point changes, other sections stay occupied as they are
   pub occupancy-other : (y : ℕ) → (y ≡ x → ⊥) → occupancy_of p (with_point s n point) y ≡ occupancy_of p s y
-  occupancy-other y apart = (let wrong = wrong-other y apart in rw wrong refl)
+  occupancy-other y apart = occupancy-kept p s (with_point s n point) y refl (lie-other y apart)
 
   -- and that on which the point is, if no train is on it
   pub occupancy-alone : is_occupied s x ≡ false → occupancy_of p (with_point s n point) x ≡ occupancy_of p s x
@@ -120,6 +94,4 @@ module _ (p : PlantLists) (s : State) (x n : ℕ) (point : PointState) (number :
   -- only that section's occupancy changes
   pub occupancies-set : x < length p.sections → set (occupancy_values p s) x (occupancy_value (occupancy_of p (with_point s n point) x)) ≡ occupancy_values p (with_point s n point)
   occupancies-set within =
-      let here : 0 + x ≡ x = omega arith in
-      ap (λ j. set (occupancy_values p s) x (occupancy_value (occupancy_of p (with_point s n point) j))) (sym here)
-      ∙ set-range (λ y. occupancy_value (occupancy_of p s y)) (λ y. occupancy_value (occupancy_of p (with_point s n point) y)) (length p.sections) 0 x within (λ y low high apart. ap occupancy_value (occupancy-other y (λ same. apart (omega (arith, same)))))
+      table-one (λ y. occupancy_value (occupancy_of p s y)) (λ y. occupancy_value (occupancy_of p (with_point s n point) y)) (length p.sections) x within (λ y less apart. ap occupancy_value (occupancy-other y apart))

@@ -24,7 +24,7 @@ use Rattle.ilk_behave.specs.RouteRules.{finish_rule, release_rule, rules_of_fini
 use Rattle.ilk_behave.specs.Settings.{board_becomes, lock_becomes, locks_become, mode_becomes, rel_becomes, rules_for, seen_becomes}
 use Rattle.ilk_behave.proofs.LocksOnce.{last_locks-once, locks-fit}
 use Rattle.ilk_behave.proofs.RouteSteps.{beside-known}
-use Rattle.ilk_behave.proofs.RulesValid.{all-append, all-cons, all-map, fits, is_valid, is_valid_rule, one-valid, rule-valid}
+use Rattle.ilk_behave.proofs.RulesValid.{all-append, all-cons, all-map, fits, is_valid, is_valid_rule, one_rule-valid, rule-valid}
 use Rattle.ilk_behave.proofs.SetOnce.{SetOnce, once-append}
 use Rattle.ilk_layout.proofs.Made.{all-pass}
 
@@ -151,7 +151,7 @@ module _ (p : PlantLists) (plant : IsPlant p) where
       by_last : (route : Route) → slice_get p.routes r ≡ Some route → (o : Option ℕ) → last_or None route.path ≡ o → list_all (is_valid_rule p) (rules_for o (λ x. finish_rule p r route x ∷ [])) ≡ true
       by_last route e None f = refl
       by_last route e (Some x) f =
-          one-valid p (finish_rule p r route x) (elim (last-at None route.path x f) [
+          one_rule-valid p (finish_rule p r route x) (elim (last-at None route.path x f) [
             | inl none ↦ cc
             | inr found ↦ finish_rule-valid r route found.0 x e found.1
           ])

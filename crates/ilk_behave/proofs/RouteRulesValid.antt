@@ -23,7 +23,7 @@ use Rattle.ilk_behave.specs.RouteRules.{protectors, rules_of_allocate, rules_of_
 use Rattle.ilk_behave.specs.Settings.{board_becomes, commanded, lock_becomes, locks_become, mode_becomes, rule}
 use Rattle.ilk_behave.proofs.LocksOnce.{all_locks-once, commands-elsewhere, commands-fit, locks-elsewhere, locks-fit, wanted-once}
 use Rattle.ilk_behave.proofs.RouteSteps.{locked-known}
-use Rattle.ilk_behave.proofs.RulesValid.{all-append, all-cons, all-flat_map, all-map, fits, is_valid, is_valid_rule, one-valid, rule-valid, two-valid}
+use Rattle.ilk_behave.proofs.RulesValid.{all-append, all-cons, all-flat_map, all-map, fits, is_valid, is_valid_rule, one_rule-valid, rule-valid, two_rules-valid}
 use Rattle.ilk_behave.proofs.SetOnce.{SetElsewhere, once-append}
 
 module _ (p : PlantLists) (plant : IsPlant p) where
@@ -36,7 +36,7 @@ module _ (p : PlantLists) (plant : IsPlant p) where
           let within = slice_get_within p.routes r route e in
           let conditions : List Tree = mode_is r Free ∷ [] in
           let sets : List Setting = mode_becomes r Marked ∷ [] in
-          rw e (one-valid p (rule conditions sets) (rule-valid p conditions sets
+          rw e (one_rule-valid p (rule conditions sets) (rule-valid p conditions sets
           (all-cons (is_valid p) (mode_is r Free) [] (mode_is-valid p r Free within) refl)
           (all-cons (fits p) (mode_becomes r Marked) [] (mode_is-valid p r Marked within) refl)
           (tt, tt)))
@@ -57,7 +57,7 @@ module _ (p : PlantLists) (plant : IsPlant p) where
           let allocating : List Tree = mode_is r Allocating ∷ [] in
           let first : List Setting = mode_becomes r Free ∷ [] in
           let second : List Setting = mode_becomes r Free ∷ locks_become p (sections_locked_for route) FreeLock in
-          rw e (two-valid p (rule marked first) (rule allocating second)
+          rw e (two_rules-valid p (rule marked first) (rule allocating second)
           (rule-valid p marked first
           (all-cons (is_valid p) (mode_is r Marked) [] (mode_is-valid p r Marked within) refl)
           (all-cons (fits p) (mode_becomes r Free) [] (mode_is-valid p r Free within) refl)
@@ -80,7 +80,7 @@ module _ (p : PlantLists) (plant : IsPlant p) where
           let commands : List Setting = flat_map (commanded p) (wanted_points route) in
           let conditions : List Tree = mode_is r Marked ∷ flat_map unclaimed route.conflicts ++ flat_map (clear_at p) (sections_locked_for route) in
           let sets : List Setting = mode_becomes r Allocating ∷ locks_become p (sections_locked_for route) LockedLock ++ flat_map (commanded p) (wanted_points route) in
-          rw e (one-valid p (rule conditions sets) (rule-valid p conditions sets
+          rw e (one_rule-valid p (rule conditions sets) (rule-valid p conditions sets
           (all-append (is_valid p) (mode_is r Marked ∷ flat_map unclaimed route.conflicts) (flat_map (clear_at p) (sections_locked_for route))
           (all-cons (is_valid p) (mode_is r Marked) (flat_map unclaimed route.conflicts) (mode_is-valid p r Marked within)
           (all-flat_map (is_valid p) unclaimed route.conflicts (λ i q at. unclaimed-valid q (all-at (λ q. q < length p.routes) route.conflicts i q of.conflicts at))))
@@ -123,7 +123,7 @@ module _ (p : PlantLists) (plant : IsPlant p) where
           let free : List Tree = map (λ q. negation (mode_is q Locked)) (protectors p route.source) in
           let conditions : List Tree = mode_is r Allocating ∷ ((lies ++ boards) ++ free) in
           let sets : List Setting = mode_becomes r Locked ∷ board_becomes p route.source Open ∷ [] in
-          rw e (one-valid p (rule conditions sets) (rule-valid p conditions sets
+          rw e (one_rule-valid p (rule conditions sets) (rule-valid p conditions sets
           (all-cons (is_valid p) (mode_is r Allocating) ((lies ++ boards) ++ free) (mode_is-valid p r Allocating within)
           (all-append (is_valid p) (lies ++ boards) free
           (all-append (is_valid p) lies boards

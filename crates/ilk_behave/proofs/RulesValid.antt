@@ -41,8 +41,8 @@ pub rule-valid : (p : PlantLists) (conditions : List Tree) (sets : List Setting)
 rule-valid p conditions sets h k once =
     and_from (tree_valid (ranges_of_plant p) (rule conditions sets).guard && list_all (fits p) sets) (sets_apart sets) (and_from (tree_valid (ranges_of_plant p) (rule conditions sets).guard) (list_all (fits p) sets) (all_of-valid (ranges_of_plant p) conditions ∙ h) k) (set_once-apart sets once)
 
-pub one-valid : (p : PlantLists) (r : RuleTree) → is_valid_rule p r ≡ true → list_all (is_valid_rule p) (r ∷ []) ≡ true
-one-valid p r h = all-cons (is_valid_rule p) r [] h refl
+pub one_rule-valid : (p : PlantLists) (r : RuleTree) → is_valid_rule p r ≡ true → list_all (is_valid_rule p) (r ∷ []) ≡ true
+one_rule-valid p r h = all-cons (is_valid_rule p) r [] h refl
 
-pub two-valid : (p : PlantLists) (r q : RuleTree) → is_valid_rule p r ≡ true → is_valid_rule p q ≡ true → list_all (is_valid_rule p) (r ∷ q ∷ []) ≡ true
-two-valid p r q h k = all-cons (is_valid_rule p) r (q ∷ []) h (one-valid p q k)
+pub two_rules-valid : (p : PlantLists) (r q : RuleTree) → is_valid_rule p r ≡ true → is_valid_rule p q ≡ true → list_all (is_valid_rule p) (r ∷ q ∷ []) ≡ true
+two_rules-valid p r q h k = all-cons (is_valid_rule p) r (q ∷ []) h (one_rule-valid p q k)

@@ -31,7 +31,7 @@ use Rattle.ilk_behave.specs.PointRules.{lies_elsewhere, rules_of_settle, rules_o
 use Rattle.ilk_behave.specs.Settings.{at_becomes, board_becomes, board_closes, occupancy_becomes, rule}
 use Rattle.ilk_behave.specs.TrainRules.{both_directions, free_from, gone_on, head_rules, leave_rule, may_go_on, rules_of_enter, rules_of_head, rules_of_leave, rules_of_tail, tail_rule}
 use Rattle.ilk_behave.proofs.Occupancies.{numbered-section}
-use Rattle.ilk_behave.proofs.RulesValid.{all-append, all-cons, all-flat_map, all-map, fits, is_valid, is_valid_rule, one-valid, rule-valid, two-valid}
+use Rattle.ilk_behave.proofs.RulesValid.{all-append, all-cons, all-flat_map, all-map, fits, is_valid, is_valid_rule, one_rule-valid, rule-valid, two_rules-valid}
 use Rattle.ilk_behave.proofs.SetOnce.{SetElsewhere, SetOnce}
 
 module _ (p : PlantLists) (plant : IsPlant p) where
@@ -66,7 +66,7 @@ module _ (p : PlantLists) (plant : IsPlant p) where
           let elsewhere : List Tree = lies_elsewhere p n in
           let moves : List Setting = at_becomes p n Moving ∷ [] in
           let crashes : List Setting = at_becomes p n Moving ∷ occupancy_becomes p x Crash ∷ [] in
-          rw e (two-valid p (rule (elsewhere ++ no_train_at p x ∷ []) moves) (rule (elsewhere ++ train_at p x ∷ []) crashes)
+          rw e (two_rules-valid p (rule (elsewhere ++ no_train_at p x ∷ []) moves) (rule (elsewhere ++ train_at p x ∷ []) crashes)
           (rule-valid p (elsewhere ++ no_train_at p x ∷ []) moves
           (all-append (is_valid p) elsewhere (no_train_at p x ∷ []) (lies_elsewhere-valid n less) (all-cons (is_valid p) (no_train_at p x) [] (no_train_at-valid p x inside) refl))
           (all-cons (fits p) (at_becomes p n Moving) [] (at_is-valid p n Moving less) refl)
@@ -101,7 +101,7 @@ module _ (p : PlantLists) (plant : IsPlant p) where
       by_inward inside (Some d) e =
           let conditions : List Tree = no_train_at p x ∷ lock_is p x FreeLock ∷ [] in
           let sets : List Setting = occupancy_becomes p x (Taken d true true) ∷ [] in
-          rw e (one-valid p (rule conditions sets) (rule-valid p conditions sets
+          rw e (one_rule-valid p (rule conditions sets) (rule-valid p conditions sets
           (all-cons (is_valid p) (no_train_at p x) (lock_is p x FreeLock ∷ []) (no_train_at-valid p x inside) (all-cons (is_valid p) (lock_is p x FreeLock) [] (lock_is-valid p x FreeLock inside) refl))
           (all-cons (fits p) (occupancy_becomes p x (Taken d true true)) [] (occupancy_is-valid p x (Taken d true true) inside) refl)
           (tt, tt)))
@@ -201,7 +201,7 @@ module _ (p : PlantLists) (plant : IsPlant p) where
       let may : List Tree = may_go_on p x d y tail in
       let free : List Tree = free_from p x d y in
       let not_free : Tree = any_of (trees (map negation free)) in
-      two-valid p (rule (may ++ free) (gone_on p x d y tail (Taken d false true))) (rule (may ++ not_free ∷ []) (gone_on p x d y tail Crash))
+      two_rules-valid p (rule (may ++ free) (gone_on p x d y tail (Taken d false true))) (rule (may ++ not_free ∷ []) (gone_on p x d y tail Crash))
       (rule-valid p (may ++ free) (gone_on p x d y tail (Taken d false true))
       (all-append (is_valid p) may free (may_go_on-valid x d y tail next.0) (free_from-valid x d y next.1))
       (gone_on-fits x d y tail (Taken d false true) next)

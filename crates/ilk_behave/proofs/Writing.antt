@@ -10,8 +10,6 @@ use Rattle.ilk_ir.specs.declared.system.Setting.{Setting}
 use Rattle.ilk_plant.specs.Plant.{PlantLists, point_number}
 use Rattle.ilk_plant.specs.Shape.{HasShape, fits_path}
 use Rattle.ilk_plant.specs.State.{lie_of}
-use Rattle.ilk_plant.specs.declared.network.Section.{Section}
-use Rattle.ilk_plant.specs.declared.network.Section.TheVariants.{Linear, Point}
 use Rattle.ilk_plant.specs.declared.state.Aspect.{Aspect}
 use Rattle.ilk_plant.specs.declared.state.Hold.{Hold}
 use Rattle.ilk_plant.specs.declared.state.PointState.{PointState}
@@ -20,7 +18,6 @@ use Rattle.ilk_plant.specs.declared.state.State.{State}
 use Rattle.ilk_plant.specs.declared.table.Listed.{Listed}
 use Rattle.ilk_plant.specs.declared.table.Route.{Route}
 use Rattle.ilk_plant.proofs.PointNumbers.{point_number-below}
-use Rattle.ilk_model.specs.Hazard.{is_hazardous, is_wrong}
 use Rattle.ilk_routes.specs.Lies.{listed_position, with_commands}
 use Rattle.ilk_routes.specs.Locks.{with_locks}
 use Rattle.ilk_routes.proofs.Commands.{with_commands-first, with_commands-no_point, with_commands-none}
@@ -29,6 +26,7 @@ use Rattle.ilk_routes.proofs.Numbered.{slice_get-map_numbered}
 use Rattle.ilk_layout.specs.Image.{image_of, occupancy_values}
 use Rattle.ilk_layout.specs.Occupancy.{occupancy_of}
 use Rattle.ilk_layout.specs.Values.{occupancy_value}
+use Rattle.ilk_layout.proofs.Changes.{occupancy-kept}
 use Rattle.ilk_layout.proofs.Writes.{image_with, lock-written, to-written}
 use Rattle.ilk_conditions.proofs.Values.{image-is}
 use Rattle.ilk_behave.specs.Settings.{commanded, locks_become, to_becomes}
@@ -103,18 +101,10 @@ commands-written p s occupancies (listed ∷ rest) shape =
 -- where points lie as before, the same trains have the same occupancies
 pub same-occupancies : (p : PlantLists) (s : State) (routes : List RouteState) (points : List PointState) (boards : List Aspect) (locks : List Hold) → ((x : ℕ) → lie_of p (record s { points = points }) x ≡ lie_of p s x) → occupancy_values p (record s { routes = routes; points = points; boards = boards; locks = locks }) ≡ occupancy_values p s
 same-occupancies p s routes points boards locks same =
-    map-range-congr (λ x. occupancy_value (occupancy_of p t x)) (λ x. occupancy_value (occupancy_of p s x)) 0 (length p.sections) (λ x above below. (let hazards = same-hazards x in rw hazards refl))
+    map-range-congr (λ x. occupancy_value (occupancy_of p t x)) (λ x. occupancy_value (occupancy_of p s x)) 0 (length p.sections) (λ x above below. ap occupancy_value (occupancy-kept p s t x refl (same x)))
   where
     t : State
     t = record s { routes = routes; points = points; boards = boards; locks = locks }
-
-    same-wrong : (x : ℕ) (o : Option Section) → slice_get p.sections x ≡ o → is_wrong p (record s { routes = routes; points = points; boards = boards; locks = locks }) x ≡ is_wrong p s x
-    same-wrong x None e = rw e refl
-    same-wrong x (Some (Linear a b c d)) e = rw e refl
-    same-wrong x (Some (Point stem plus minus faces)) e = (let lies = same x in rw (e, lies) refl)
-
-    same-hazards : (x : ℕ) → is_hazardous p (record s { routes = routes; points = points; boards = boards; locks = locks }) x ≡ is_hazardous p s x
-    same-hazards x = (let wrong = same-wrong x (slice_get p.sections x) refl in rw wrong refl)
 
 -- commands leave where points lie
 pub commanded-lies : (p : PlantLists) (s : State) (entries : List Listed) (x : ℕ) → lie_of p (record s { points = with_commands p s.points entries }) x ≡ lie_of p s x
