@@ -1,5 +1,5 @@
 -- Tables of flags over pairs of numbers.
-use Rattle.std.proofs.Common.{◌≡◌, ℕ, zero, suc, ◌<◌, ◌≤◌, ◌+◌, ◌⊎◌, inl, inr, Bool, false, ◌&&◌, ◌||◌, Some, List, [], ◌∷◌, ◌++◌, get_or, length, take, refl, sym, ◌∙◌, ap, arith}
+use Rattle.std.proofs.Common.{◌≡◌, ℕ, zero, suc, ◌<◌, ◌≤◌, ◌+◌, ◌⊎◌, inl, inr, Bool, false, ◌&&◌, ◌||◌, List, [], ◌∷◌, ◌++◌, get_or, length, take, refl, sym, ◌∙◌, ap, arith}
 use Rattle.std.specs.List.{list_any}
 use Rattle.std.proofs.Math.Bool.{or-false}
 use Rattle.std.proofs.Math.Nat.{eq-or-lt_of_le}
@@ -41,12 +41,6 @@ pub any_more : {X : Type 0} (p : X → Bool) (xs : List X) (i : ℕ) (d : X) (be
 any_more p xs i d before now within sofar is =
     is ∙ ap (λ b. b || p (get_or xs i d)) sofar ∙ ap (λ b. list_any p (take i xs) || b) (sym (or-false (p (get_or xs i d))))
     ∙ sym (ap (list_any p) (take_more xs i d within) ∙ list_any-append p (take i xs) (get_or xs i d ∷ []))
-
-pub no_rows : (test : ℕ → ℕ → Bool) → IsTable [] 0 test
-no_rows test = record {
-  rows = refl;
-  entries = λ x y below small. absurd (omega (arith, below));
-}
 
 -- a table after one more number to go by
 pub next_table : (n k : ℕ) (step : ℕ → ℕ → Bool) (leads new : List Flags) → k < n → n ≤ 256 → IsTable leads n (leads_by step k) → IsTable new n (joined leads k) → IsTable new n (leads_by step (k + 1))
