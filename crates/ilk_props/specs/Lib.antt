@@ -1,0 +1,4 @@
+pub mod HazardForm
+pub mod WellformedForm
+pub mod StartForm
+pub mod Laws

@@ -1,0 +1,10 @@
+-- That values are the image of the start, as a form: each variable has the value that it has there.
+use Rattle.std.specs.Prelude.{map}
+use Rattle.std.specs.List.{enumerate_from}
+use Rattle.ilk_ir.specs.Tree.{Tree, all_of, is, trees}
+use Rattle.ilk_plant.specs.Plant.{PlantLists}
+use Rattle.ilk_plant.specs.Start.{start}
+use Rattle.ilk_layout.specs.Image.{image_of}
+
+abbrev pub start_tree : PlantLists → Tree
+start_tree p = all_of (trees (map (λ place. is place.0 place.1) (enumerate_from 0 (image_of p (start p)))))

@@ -1,0 +1,42 @@
+ghost use Rattle.std.specs.Prelude.{◌≡◌, ◌<◌, length, IfOk};
+ghost use Rattle.ilk_ir.specs.Form.{tree_of};
+ghost use Rattle.ilk_props.specs.HazardForm as forms;
+ghost use Rattle.ilk_props.specs.Laws.{HoldsAtHazards, IsOverPlant};
+
+use ilk_conditions::occupancy_is;
+use ilk_ir::Form;
+use ilk_layout::Occupancy;
+use ilk_plant::Plant;
+use std::alloc::{AllocError, Global};
+
+/// A hazard stands at section `x`.
+pub(crate) fn crash_at(plant: &Plant, x: u32) -> Form
+    requires { x < length plant.now.sections }
+    ensures { tree_of result ≡ forms.crash_at plant.now x }
+{
+    occupancy_is(plant, x, Occupancy::Crash)
+}
+
+// Some section's occupancy is crash.
+fn some_crash(alloc: Global, plant: &Plant) -> Result<Form, AllocError>
+    ensures { IfOk result (λ form. tree_of form ≡ forms.hazard_tree plant.now) }
+{
+    let mut sections = Vec::new(alloc);
+    for x in 0..plant.sections() {
+        sections.push(crash_at(plant, x))?;
+    }
+    Ok(Form::Or(sections))
+}
+
+/// The form of hazards: some section's occupancy is crash. The only refusal is want of memory.
+pub fn hazard_form(alloc: Global, plant: &Plant) -> Result<Form, AllocError>
+    ensures form { IfOk result (λ form. tree_of form ≡ forms.hazard_tree plant.now) }
+
+    // It is over the plant's variables and their ranges.
+    ensures valid { IsOverPlant plant.now (forms.hazard_tree plant.now) }
+
+    // Of the image of a state with shape it holds exactly where the state has a hazard.
+    ensures holds { HoldsAtHazards plant.now }
+{
+    some_crash(alloc, plant)
+}

@@ -1,0 +1,64 @@
+ghost use Rattle.std.specs.Prelude.{◌≡◌, ◌<◌, ◌^◌, length, map, IfOk};
+ghost use Rattle.std.specs.List.{enumerate_from};
+ghost use Rattle.ilk_ir.specs.Form.{tree_of};
+ghost use Rattle.ilk_ir.specs.Tree.{all_of, is, trees};
+ghost use Rattle.ilk_props.specs.Laws.{HoldsAtStart, IsOverPlant};
+ghost use Rattle.ilk_props.specs.StartForm as forms;
+
+use ilk_ir::{Form, Values};
+use ilk_layout::image;
+use ilk_plant::{Plant, start_state};
+use std::alloc::{AllocError, Global};
+
+// Variable `v` has the value.
+fn value_is(v: u64, value: u8) -> Form
+    requires { v < 2 ^ 32 }
+    ensures { tree_of result ≡ is v value }
+{
+    Form::Is(v as u32, value)
+}
+
+// For each variable, that it has its value among these.
+fn each_is(alloc: Global, values: &Values) -> Result<Vec<Form>, AllocError>
+    requires { length values.now < 2 ^ 32 }
+    ensures { IfOk result (λ forms. map tree_of forms.items ≡ map (λ place. is place.0 place.1) (enumerate_from 0 values.now)) }
+{
+    let mut each = Vec::new(alloc);
+    for v in 0..values.len() {
+        each.push(value_is(v, *values.at(v)))?;
+    }
+    Ok(each)
+}
+
+// All variables have their values among these.
+fn all_are(alloc: Global, values: &Values) -> Result<Form, AllocError>
+    requires { length values.now < 2 ^ 32 }
+    ensures { IfOk result (λ form. tree_of form ≡ all_of (trees (map (λ place. is place.0 place.1) (enumerate_from 0 values.now)))) }
+{
+    Ok(Form::And(each_is(alloc, values)?))
+}
+
+// Each variable has the value that it has in the image of the start.
+#[tactic(auto, using(crate::proofs::StartHolds::few_variables))]
+fn all_are_as_at_start(alloc: Global, plant: &Plant) -> Result<Form, AllocError>
+    ensures { IfOk result (λ form. tree_of form ≡ forms.start_tree plant.now) }
+{
+    plant.is_sound();
+    let start = start_state(alloc, plant)?;
+    let values = image(alloc, plant, &start)?;
+    all_are(alloc, &values)
+}
+
+/// The form of the start: each variable has the value that it has in the image of the start. The only
+/// refusal is want of memory.
+pub fn start_form(alloc: Global, plant: &Plant) -> Result<Form, AllocError>
+    ensures form { IfOk result (λ form. tree_of form ≡ forms.start_tree plant.now) }
+
+    // It is over the plant's variables and their ranges.
+    ensures valid { IsOverPlant plant.now (forms.start_tree plant.now) }
+
+    // Of values in range it holds exactly where they are the image of the start.
+    ensures holds { HoldsAtStart plant.now }
+{
+    all_are_as_at_start(alloc, plant)
+}
