@@ -1,0 +1,105 @@
+-- What was asked for a safe verdict has the refutations that show it.
+use Rattle.std.proofs.Common.{◌≡◌, ℕ, zero, suc, ◌+◌, Bool, true, false, cond, List, [], ◌∷◌, ◌++◌, map, Option, Some, None, refl, sym, ap, ◌∙◌, subst, append_assoc, arith, inl, inr, ◌⊎◌, All}
+use Rattle.std.specs.List.{range_with_len, flat_map}
+use Rattle.std.proofs.lemmas.List.{append-nil, map-append}
+use Rattle.std.proofs.lemmas.List.Elements.{All-nil, All-cons, All-head, All-tail}
+use Rattle.ilk_base.proofs.Ranges.{listed_all-more}
+use Rattle.ilk_ir.specs.System.{SystemTree}
+use Rattle.ilk_log.specs.declared.step.Step.{Step as LogStep}
+use Rattle.ilk_unroll.specs.declared.queries.Wanted.{Wanted}
+use Rattle.ilk_unroll.specs.declared.queries.Wanted.TheVariants.{Hazard, Breach as BreachQuery, Step}
+use Rattle.ilk_unroll.specs.Goal.{GoalTree}
+use Rattle.ilk_induct.specs.declared.verdict.Asked.{Asked}
+use Rattle.ilk_induct.specs.Asked.{round, rounds, queries_to, IsRefuted, IsPassed, HasPassed, AreAsked}
+use Rattle.ilk_induct.specs.Certified.{is_step_query, without_early_steps, base_queries, certified_queries, IsCertified}
+
+-- queries without step queries
+abbrev base_of : List Wanted → List Wanted
+base_of [] = []
+base_of (q ∷ qs) = cond (is_step_query q) (base_of qs) (q ∷ base_of qs)
+
+base_of-append : (qs rs : List Wanted) → base_of (qs ++ rs) ≡ base_of qs ++ base_of rs
+base_of-append [] rs = refl
+base_of-append (Hazard n ∷ qs) rs = ap (λ (us : List Wanted). Hazard n ∷ us) (base_of-append qs rs)
+base_of-append (BreachQuery n ∷ qs) rs = ap (λ (us : List Wanted). BreachQuery n ∷ us) (base_of-append qs rs)
+base_of-append (Step n ∷ qs) rs = base_of-append qs rs
+
+base_of-round : (n : ℕ) → base_of (round n) ≡ base_queries n
+base_of-round zero = refl
+base_of-round (suc n) = refl
+
+base_of-rounds : (n : ℕ) → base_of (rounds n) ≡ flat_map base_queries (range_with_len 0 n)
+base_of-rounds zero = refl
+base_of-rounds (suc n) =
+    let one : suc n ≡ n + 1 = omega arith in
+    ap (λ (k : ℕ). base_of (rounds k)) one
+    ∙ ap base_of (listed_all-more round n)
+    ∙ base_of-append (rounds n) (round n)
+    ∙ ap (λ (us : List Wanted). us ++ base_of (round n)) (base_of-rounds n)
+    ∙ ap (λ (us : List Wanted). flat_map base_queries (range_with_len 0 n) ++ us) (base_of-round n)
+    ∙ sym (listed_all-more base_queries n)
+    ∙ ap (λ (k : ℕ). flat_map base_queries (range_with_len 0 k)) (sym one)
+
+-- the asked ones before the last, without the step queries among them
+abbrev bases : List Asked → List Asked
+bases [] = []
+bases (a ∷ asked) = cond (is_step_query a.query) (bases asked) (a ∷ bases asked)
+
+without-early : (before : List Asked) (last : Asked) → without_early_steps (before ++ last ∷ []) ≡ bases before ++ last ∷ []
+without-early [] last = refl
+without-early (a ∷ []) last = by_case (is_step_query a.query)
+  where
+    by_case : (b : Bool) → cond b (last ∷ []) (a ∷ last ∷ []) ≡ cond b [] (a ∷ []) ++ last ∷ []
+    by_case true = refl
+    by_case false = refl
+without-early (a ∷ b ∷ before) last = by_case (is_step_query a.query) (without_early_steps ((b ∷ before) ++ last ∷ [])) (bases (b ∷ before)) (without-early (b ∷ before) last)
+  where
+    by_case : (c : Bool) (rest more : List Asked) → rest ≡ more ++ last ∷ [] → cond c rest (a ∷ rest) ≡ cond c more (a ∷ more) ++ last ∷ []
+    by_case true rest more e = e
+    by_case false rest more e = ap (λ (us : List Asked). a ∷ us) e
+
+bases-queries : (asked : List Asked) → map (λ (a : Asked). a.query) (bases asked) ≡ base_of (map (λ (a : Asked). a.query) asked)
+bases-queries [] = refl
+bases-queries (a ∷ asked) = by_case (is_step_query a.query) (bases asked) (base_of (map (λ (x : Asked). x.query) asked)) (bases-queries asked)
+  where
+    by_case : (c : Bool) (rest : List Asked) (more : List Wanted) → map (λ (x : Asked). x.query) rest ≡ more → map (λ (x : Asked). x.query) (cond c rest (a ∷ rest)) ≡ cond c more (a.query ∷ more)
+    by_case true rest more e = e
+    by_case false rest more e = ap (λ (us : List Wanted). a.query ∷ us) e
+
+-- while no breach is found, what has passed and isn't a step query is refuted
+base-refuted : (s : SystemTree) (g : GoalTree) (q : Wanted) (log : List LogStep) → is_step_query q ≡ false → IsPassed s g None q log → IsRefuted s g q log
+base-refuted s g (Hazard n) log base h = h
+base-refuted s g (BreachQuery n) log base h = elim h [ inl refuted ↦ refuted | inr found ↦ absurd (none n found.0) ]
+  where
+    none : (n : ℕ) → None ≡ Some n → ⊥
+    none n e = cc
+base-refuted s g (Step n) log base h = absurd cc
+
+bases-refuted : (s : SystemTree) (g : GoalTree) (last : Asked) (before : List Asked) → IsRefuted s g last.query last.log → All (HasPassed s g None) before → All (λ (a : Asked). IsRefuted s g a.query a.log) (bases before ++ last ∷ [])
+bases-refuted s g last [] r h = All-cons (λ (a : Asked). IsRefuted s g a.query a.log) last [] r (All-nil (λ (a : Asked). IsRefuted s g a.query a.log))
+bases-refuted s g last (a ∷ before) r h = by_case (is_step_query a.query) refl (bases-refuted s g last before r (All-tail (HasPassed s g None) a before h))
+  where
+    by_case : (c : Bool) → is_step_query a.query ≡ c → All (λ (x : Asked). IsRefuted s g x.query x.log) (bases before ++ last ∷ []) → All (λ (x : Asked). IsRefuted s g x.query x.log) (cond c (bases before) (a ∷ bases before) ++ last ∷ [])
+    by_case true e rest = rest
+    by_case false e rest = All-cons (λ (x : Asked). IsRefuted s g x.query x.log) a (bases before ++ last ∷ []) (base-refuted s g a.query a.log e (All-head (HasPassed s g None) a before h)) rest
+
+-- all together
+pub certified : (s : SystemTree) (g : GoalTree) (depth k : ℕ) (asked : List Asked) (last : Asked) → AreAsked s g depth None asked last → last.query ≡ Step k → IsRefuted s g last.query last.log → IsCertified s g k asked
+certified s g depth k asked last are is refuted =
+    let query : Asked → Wanted = λ a. a.query in
+    let split = ap without_early_steps are.split ∙ without-early are.before last in
+    let all : base_of (map query asked) ≡ base_of (queries_to None (Step k)) = ap base_of (are.order ∙ ap (queries_to None) is) in
+    let whole : base_of (map query asked) ≡ base_of (map query are.before) ++ base_of (query last ∷ []) = ap (λ (xs : List Asked). base_of (map query xs)) are.split ∙ ap base_of (map-append query are.before (last ∷ [])) ∙ base_of-append (map query are.before) (query last ∷ []) in
+    let none : base_of (query last ∷ []) ≡ [] = ap (λ (q : Wanted). base_of (q ∷ [])) is in
+    let front : base_of (map query are.before) ≡ base_of (map query asked) = sym (append-nil (base_of (map query are.before))) ∙ ap (λ (us : List Wanted). base_of (map query are.before) ++ us) (sym none) ∙ sym whole in
+    let rounds_are : base_of (queries_to None (Step k)) ≡ flat_map base_queries (range_with_len 0 (k + 1)) =
+    base_of-append (rounds k) (Hazard k ∷ BreachQuery k ∷ Step k ∷ [])
+    ∙ ap (λ (us : List Wanted). us ++ base_queries k) (base_of-rounds k)
+    ∙ sym (listed_all-more base_queries k) in
+    record {
+      queries = ap (map query) split
+          ∙ map-append query (bases are.before) (last ∷ [])
+          ∙ ap (λ (us : List Wanted). us ++ query last ∷ []) (bases-queries are.before ∙ front ∙ all ∙ rounds_are)
+          ∙ ap (λ (q : Wanted). flat_map base_queries (range_with_len 0 (k + 1)) ++ q ∷ []) is;
+      refuted = subst (λ (xs : List Asked). All (λ (a : Asked). IsRefuted s g a.query a.log) xs) (sym split) (bases-refuted s g last are.before refuted are.passed);
+    }

@@ -1,0 +1,254 @@
+-- What follows a query that was answered keeps what is so of the asking, and ends it rightly.
+use Rattle.std.proofs.Common.{◌≡◌, ℕ, zero, suc, ◌+◌, ◌-◌, ◌*◌, ◌≤◌, ◌<◌, Bool, true, false, cond, List, [], ◌∷◌, ◌++◌, length, Option, Some, None, refl, sym, ap, ◌∙◌, subst, arith, nat_lt, inl, inr, ◌⊎◌}
+use Rattle.std.specs.List.{list_all}
+use Rattle.std.proofs.lemmas.Bool.{and_from, and_parts, le-leb, lt-ltb, ltb-true}
+use Rattle.std.proofs.lemmas.Bool.Decides.{nat_tests}
+use Rattle.std.proofs.lemmas.List.Elements.{All-nil}
+use Rattle.std.proofs.Math.Nat.{eq-or-lt_of_le}
+use Rattle.ilk_ir.specs.System.{SystemTree, rule_valid, system_valid}
+use Rattle.ilk_solver.specs.Answered.{IsLog}
+use Rattle.ilk_unroll.specs.Query.{query_formula}
+use Rattle.ilk_log.specs.declared.step.Step.{Step as LogStep}
+use Rattle.ilk_unroll.specs.declared.queries.Wanted.{Wanted}
+use Rattle.ilk_unroll.specs.declared.queries.Wanted.TheVariants.{Hazard, Breach as BreachQuery, Step}
+use Rattle.ilk_unroll.specs.declared.reading.Trace.{Trace}
+use Rattle.ilk_unroll.specs.Goal.{GoalTree, step_count, wanted_valid}
+use Rattle.ilk_induct.specs.declared.ask.Reply.{Reply}
+use Rattle.ilk_induct.specs.declared.ask.Reply.TheVariants.{Run, Refuted, GivenUp}
+use Rattle.ilk_induct.specs.declared.due.Due.{Due}
+use Rattle.ilk_induct.specs.declared.due.Due.TheVariants.{Unbroken, Broken}
+use Rattle.ilk_induct.specs.declared.due.Next.{Next}
+use Rattle.ilk_induct.specs.declared.due.Next.TheVariants.{Ask, End}
+use Rattle.ilk_induct.specs.declared.verdict.Asked.{Asked}
+use Rattle.ilk_induct.specs.declared.verdict.Verdict.TheVariants.{Safe, Unsafe, Breach, NotInductive, Spent}
+use Rattle.ilk_induct.specs.Evidence.{HasRun}
+use Rattle.ilk_induct.specs.Right.{IsRun, IsRight}
+use Rattle.ilk_induct.specs.Asked.{queries_to, IsRefuted, IsLogOf, HasPassed, conflicts_of, all_conflicts}
+use Rattle.ilk_induct.specs.Due.{asked_with, IsReply, due_query, due_breach, after_breach, after, IsKnown, IsFoundBreach, IsInOrder, IsDue, IsEnd, IsNext, still_due}
+use Rattle.ilk_induct.proofs.Demands.{wanted-parts}
+use Rattle.ilk_induct.proofs.Induction.{forever}
+use Rattle.ilk_induct.proofs.Orders.{to-breach, to-step, to-hazard, to-hazard-after, more-conflicts, asked-to, go-on, found-to, go-on-found, all-conflicts}
+
+-- what is so below n, and at n
+below-more : (P : ℕ → Type 0) (n : ℕ) → ((m : ℕ) → m < n → P m) → P n → (m : ℕ) → m < n + 1 → P m
+below-more P n below at m less =
+    elim (eq-or-lt_of_le (let le : m ≤ n = omega arith in le)) [ inl e ↦ subst P (sym e) at | inr lt ↦ below m lt ]
+
+hazard-valid : (depth n : ℕ) → depth ≤ 16 → n < depth → wanted_valid (Hazard (n + 1)) ≡ true
+hazard-valid depth n few less = le-leb (n + 1) 16 (omega arith)
+
+steps-of : (s : SystemTree) (g : GoalTree) (q : Wanted) (t : Trace) → IsRun s g q t → length t.rules ≡ step_count q
+steps-of s g q t run = (wanted-parts s g q t.first t.rules run).many
+
+few : (total rest conflicts : ℕ) → total + rest ≡ conflicts → total ≤ conflicts
+few total rest conflicts h = omega (arith, h)
+
+-- a hazard is reached
+endangered : (s : SystemTree) (g : GoalTree) (depth conflicts : ℕ) (breach : Option ℕ) (n : ℕ) (t : Trace) (log : List LogStep) (asked : List Asked) (left rest : ℕ) → IsInOrder s g depth conflicts breach (Hazard n) asked left → ((m : ℕ) → m < n → ¬ HasRun s g (Hazard m)) → IsLogOf s g (asked_with (Hazard n) log) → conflicts_of log + rest ≡ left → IsRun s g (Hazard n) t → IsEnd s g depth conflicts (Unsafe t) (asked ++ asked_with (Hazard n) log ∷ [])
+endangered s g depth conflicts breach n t log asked left rest d none logged count run =
+    let a = asked_with (Hazard n) log in
+    let e : length t.rules ≡ n = steps-of s g (Hazard n) t run in
+    let same : IsRun s g (Hazard (length t.rules)) t = subst (λ (k : ℕ). IsRun s g (Hazard k) t) (sym e) run in
+    let within = d.within in
+    record {
+      right = inl (record { hazard = record { within = omega (arith, e, within); so = (t.first, t.rules, same); least = λ m less. none m (omega (arith, e, less)) } }, same);
+      lasts = tt;
+      queries = (breach, (a, asked-to s g depth conflicts breach a asked left d logged, ap Hazard (sym e)));
+      few = few (all_conflicts (asked ++ a ∷ [])) rest conflicts (more-conflicts asked a left rest conflicts d.counted count);
+    }
+
+-- no hazard query up to the depth has a run, and the breach that was found is the verdict
+breach-end : (s : SystemTree) (g : GoalTree) (depth : ℕ) (t : Trace) → length t.rules ≤ depth → IsKnown s g (depth + 1) (length t.rules) 0 → IsRun s g (BreachQuery (length t.rules)) t → IsRight s g depth (Breach t)
+breach-end s g depth t within known run =
+    (record { no_hazard = λ m le. known.no_hazard m (omega arith); breach = record { within = within; so = (t.first, t.rules, run); least = known.no_breach } }, run)
+
+-- after a breach, a hazard query is refuted
+after-broken : (s : SystemTree) (g : GoalTree) (depth conflicts n : ℕ) (t : Trace) (log : List LogStep) (asked : List Asked) (left rest : ℕ) → depth ≤ 16 → IsInOrder s g depth conflicts (Some (length t.rules)) (Hazard n) asked left → IsFoundBreach s g n t → IsLogOf s g (asked_with (Hazard n) log) → conflicts_of log + rest ≡ left → IsRefuted s g (Hazard n) log → ¬ HasRun s g (Hazard n) → IsNext s g depth conflicts (3 * (depth - n) + 2) (after_breach depth n t) (asked ++ asked_with (Hazard n) log ∷ []) rest
+after-broken s g depth conflicts n t log asked left rest low d found logged count refuted none = by_case (nat_lt n depth) refl
+  where
+    no_hazard : (m : ℕ) → m < n + 1 → ¬ HasRun s g (Hazard m)
+    no_hazard = below-more (λ m. ¬ HasRun s g (Hazard m)) n found.known.no_hazard none
+
+    by_case : (b : Bool) → nat_lt n depth ≡ b → IsNext s g depth conflicts (3 * (depth - n) + 2) (cond b (Ask (Broken (n + 1) t)) (End (Breach t))) (asked ++ asked_with (Hazard n) log ∷ []) rest
+    by_case true e =
+        let a = asked_with (Hazard n) log in
+        let less : n < depth = grind (arith, nat_tests) in
+        let later = found.later in (
+          record {
+            in_order = go-on s g depth conflicts (Some (length t.rules)) a (Hazard (n + 1)) asked left rest d logged refuted count (to-hazard-after (length t.rules) n (Hazard n) refl (omega arith)) (hazard-valid depth n low less) (omega arith);
+            known = record { known = record { no_hazard = no_hazard; no_breach = found.known.no_breach; runs = found.known.runs }; run = found.run; later = omega arith };
+          },
+          omega arith,
+        )
+    by_case false e =
+        let a = asked_with (Hazard n) log in
+        let least : depth ≤ n = grind (arith, nat_tests) in
+        let within = d.within in
+        let same : n ≡ depth = omega arith in
+        let later = found.later in
+        record {
+          right = inl (breach-end s g depth t (omega arith) (record { no_hazard = λ m less. no_hazard m (omega arith); no_breach = found.known.no_breach; runs = found.known.runs }) found.run);
+          lasts = tt;
+          queries = (a, asked-to s g depth conflicts (Some (length t.rules)) a asked left d logged, (same, refuted));
+          few = few (all_conflicts (asked ++ a ∷ [])) rest conflicts (more-conflicts asked a left rest conflicts d.counted count);
+        }
+
+-- a breach is found
+broke-at : (s : SystemTree) (g : GoalTree) (depth conflicts : ℕ) (t : Trace) (log : List LogStep) (asked : List Asked) (left rest : ℕ) → depth ≤ 16 → IsInOrder s g depth conflicts None (BreachQuery (length t.rules)) asked left → IsKnown s g (length t.rules + 1) (length t.rules) (length t.rules) → IsLogOf s g (asked_with (BreachQuery (length t.rules)) log) → conflicts_of log + rest ≡ left → IsRun s g (BreachQuery (length t.rules)) t → IsNext s g depth conflicts (3 * (depth - length t.rules) + 1) (after_breach depth (length t.rules) t) (asked ++ asked_with (BreachQuery (length t.rules)) log ∷ []) rest
+broke-at s g depth conflicts t log asked left rest low d known logged count run = by_case (nat_lt (length t.rules) depth) refl
+  where
+    has : HasRun s g (BreachQuery (length t.rules))
+    has = (t.first, t.rules, run)
+
+    by_case : (c : Bool) → nat_lt (length t.rules) depth ≡ c → IsNext s g depth conflicts (3 * (depth - length t.rules) + 1) (cond c (Ask (Broken (length t.rules + 1) t)) (End (Breach t))) (asked ++ asked_with (BreachQuery (length t.rules)) log ∷ []) rest
+    by_case true e =
+        let less : length t.rules < depth = grind (arith, nat_tests) in (
+          record {
+            in_order = go-on-found s g depth conflicts (length t.rules) log asked left rest d logged has count (hazard-valid depth (length t.rules) low less) (omega arith);
+            known = record { known = record { no_hazard = known.no_hazard; no_breach = known.no_breach; runs = λ m pos none. absurd (omega (arith, none)) }; run = run; later = omega arith };
+          },
+          omega arith,
+        )
+    by_case false e =
+        let a = asked_with (BreachQuery (length t.rules)) log in
+        let least : depth ≤ length t.rules = grind (arith, nat_tests) in
+        let within = d.within in
+        let same : length t.rules ≡ depth = omega (arith, least, within) in
+        record {
+          right = inl (breach-end s g depth t (omega (arith, within)) (record { no_hazard = λ m below. known.no_hazard m (omega (arith, same, below)); no_breach = known.no_breach; runs = λ m pos none. absurd (omega (arith, none)) }) run);
+          lasts = tt;
+          queries = (a, found-to s g depth conflicts (length t.rules) log asked left d logged has, (same, inr (refl, has)));
+          few = few (all_conflicts (asked ++ a ∷ [])) rest conflicts (more-conflicts asked a left rest conflicts d.counted count);
+        }
+
+broke : (s : SystemTree) (g : GoalTree) (depth conflicts n : ℕ) (t : Trace) (log : List LogStep) (asked : List Asked) (left rest : ℕ) → depth ≤ 16 → length t.rules ≡ n → IsInOrder s g depth conflicts None (BreachQuery n) asked left → IsKnown s g (n + 1) n n → IsLogOf s g (asked_with (BreachQuery n) log) → conflicts_of log + rest ≡ left → IsRun s g (BreachQuery n) t → IsNext s g depth conflicts (3 * (depth - n) + 1) (after_breach depth n t) (asked ++ asked_with (BreachQuery n) log ∷ []) rest
+broke s g depth conflicts n t log asked left rest low size =
+    subst (λ (k : ℕ). IsInOrder s g depth conflicts None (BreachQuery k) asked left → IsKnown s g (k + 1) k k → IsLogOf s g (asked_with (BreachQuery k) log) → conflicts_of log + rest ≡ left → IsRun s g (BreachQuery k) t → IsNext s g depth conflicts (3 * (depth - k) + 1) (after_breach depth k t) (asked ++ asked_with (BreachQuery k) log ∷ []) rest) size (broke-at s g depth conflicts t log asked left rest low)
+
+-- a step query asks for some step
+some-step : (n : ℕ) → wanted_valid (Step n) ≡ true → 0 < n
+some-step n h = ltb-true 0 n (and_parts _ _ h).0
+
+-- a step query has a run
+left-invariant : (s : SystemTree) (g : GoalTree) (depth conflicts n : ℕ) (t : Trace) (log : List LogStep) (asked : List Asked) (left rest : ℕ) → depth ≤ 16 → IsInOrder s g depth conflicts None (Step n) asked left → IsKnown s g (n + 1) (n + 1) n → IsLogOf s g (asked_with (Step n) log) → conflicts_of log + rest ≡ left → IsRun s g (Step n) t → IsNext s g depth conflicts (3 * (depth - n)) (cond (nat_lt n depth) (Ask (Unbroken (Hazard (n + 1)))) (End (NotInductive t))) (asked ++ asked_with (Step n) log ∷ []) rest
+left-invariant s g depth conflicts n t log asked left rest low d known logged count run = by_case (nat_lt n depth) refl
+  where
+    has : HasRun s g (Step n)
+    has = (t.first, t.rules, run)
+
+    runs : (m : ℕ) → m < n + 1 → 0 < m → HasRun s g (Step m)
+    runs = below-more (λ m. 0 < m → HasRun s g (Step m)) n (λ m less pos. known.runs m pos less) (λ pos. has)
+
+    by_case : (c : Bool) → nat_lt n depth ≡ c → IsNext s g depth conflicts (3 * (depth - n)) (cond c (Ask (Unbroken (Hazard (n + 1)))) (End (NotInductive t))) (asked ++ asked_with (Step n) log ∷ []) rest
+    by_case true e =
+        let a = asked_with (Step n) log in
+        let less : n < depth = grind (arith, nat_tests) in (
+          record {
+            in_order = go-on s g depth conflicts None a (Hazard (n + 1)) asked left rest d logged has count (to-hazard n (some-step n d.valid)) (hazard-valid depth n low less) (omega arith);
+            known = record { no_hazard = known.no_hazard; no_breach = known.no_breach; runs = λ m pos below. runs m below pos };
+          },
+          omega arith,
+        )
+    by_case false e =
+        let a = asked_with (Step n) log in
+        let least : depth ≤ n = grind (arith, nat_tests) in
+        let within = d.within in
+        let same : n ≡ depth = omega (arith, least, within) in
+        record {
+          right = inl (
+            record {
+              no_hazard = λ m le. known.no_hazard m (omega (arith, same, le));
+              no_breach = λ m le. known.no_breach m (omega (arith, same, le));
+              no_induction = λ m le inducts. inducts.1 (runs m (omega (arith, same, le)) inducts.0);
+            },
+            subst (λ (k : ℕ). IsRun s g (Step k) t) same run,
+          );
+          lasts = tt;
+          queries = (a, asked-to s g depth conflicts None a asked left d logged, ap Step same);
+          few = few (all_conflicts (asked ++ a ∷ [])) rest conflicts (more-conflicts asked a left rest conflicts d.counted count);
+        }
+
+-- a step query has none
+carried : (s : SystemTree) (g : GoalTree) (depth conflicts n : ℕ) (log : List LogStep) (asked : List Asked) (left rest : ℕ) → list_all (rule_valid s.ranges) s.rules ≡ true → IsInOrder s g depth conflicts None (Step n) asked left → IsKnown s g (n + 1) (n + 1) n → IsLogOf s g (asked_with (Step n) log) → conflicts_of log + rest ≡ left → IsRefuted s g (Step n) log → ¬ HasRun s g (Step n) → IsEnd s g depth conflicts (Safe n) (asked ++ asked_with (Step n) log ∷ [])
+carried s g depth conflicts n log asked left rest rules d known logged count refuted none =
+    let a = asked_with (Step n) log in
+    let ever = forever s g n rules (λ m le. known.no_hazard m (omega (arith, le))) (λ m le. known.no_breach m (omega (arith, le))) none in
+    record {
+      right = inl (record {
+        no_hazard = λ m le. (ever m).0;
+        no_breach = λ m le. (ever m).1;
+        induction = record { within = d.within; so = (some-step n d.valid, none); least = λ m less inducts. inducts.1 (known.runs m inducts.0 less) };
+      });
+      lasts = ever;
+      queries = (a, asked-to s g depth conflicts None a asked left d logged, (refl, refuted));
+      few = few (all_conflicts (asked ++ a ∷ [])) rest conflicts (more-conflicts asked a left rest conflicts d.counted count);
+    }
+
+-- a search is given up
+given-up : (s : SystemTree) (g : GoalTree) (depth conflicts : ℕ) (due : Due) (log : List LogStep) (asked : List Asked) (left rest : ℕ) → IsDue s g depth conflicts due asked left → IsLogOf s g (asked_with (due_query due) log) → conflicts_of log + rest ≡ left → IsReply s g (due_query due) left GivenUp log → IsEnd s g depth conflicts Spent (asked ++ asked_with (due_query due) log ∷ [])
+given-up s g depth conflicts due log asked left rest d logged count spent =
+    let a = asked_with (due_query due) log in
+    let total = more-conflicts asked a left rest conflicts d.in_order.counted count in
+    let all = all-conflicts log spent.unfinished in
+    let steps = spent.steps in
+    record {
+      right = inr refl;
+      lasts = tt;
+      queries = ((due_breach due, (a, asked-to s g depth conflicts (due_breach due) a asked left d.in_order logged, record { unfinished = spent.unfinished; stuck = spent.stuck })), omega (arith, total, all, steps, count));
+      few = few (all_conflicts (asked ++ a ∷ [])) rest conflicts total;
+    }
+
+-- a hazard query has no run, and a breach query
+no-hazard : (s : SystemTree) (g : GoalTree) (depth conflicts n : ℕ) (log : List LogStep) (asked : List Asked) (left rest : ℕ) → IsInOrder s g depth conflicts None (Hazard n) asked left → IsKnown s g n n n → IsLogOf s g (asked_with (Hazard n) log) → conflicts_of log + rest ≡ left → IsRefuted s g (Hazard n) log → ¬ HasRun s g (Hazard n) → IsDue s g depth conflicts (Unbroken (BreachQuery n)) (asked ++ asked_with (Hazard n) log ∷ []) rest
+no-hazard s g depth conflicts n log asked left rest d known logged count refuted none =
+    record {
+      in_order = go-on s g depth conflicts None (asked_with (Hazard n) log) (BreachQuery n) asked left rest d logged refuted count (to-breach n) d.valid d.within;
+      known = record { no_hazard = below-more (λ m. ¬ HasRun s g (Hazard m)) n known.no_hazard none; no_breach = known.no_breach; runs = known.runs };
+    }
+
+no-breach : (s : SystemTree) (g : GoalTree) (depth conflicts n : ℕ) (log : List LogStep) (asked : List Asked) (left rest : ℕ) → IsInOrder s g depth conflicts None (BreachQuery (suc n)) asked left → IsKnown s g (suc n + 1) (suc n) (suc n) → IsLogOf s g (asked_with (BreachQuery (suc n)) log) → conflicts_of log + rest ≡ left → IsRefuted s g (BreachQuery (suc n)) log → ¬ HasRun s g (BreachQuery (suc n)) → IsDue s g depth conflicts (Unbroken (Step (suc n))) (asked ++ asked_with (BreachQuery (suc n)) log ∷ []) rest
+no-breach s g depth conflicts n log asked left rest d known logged count refuted none =
+    record {
+      in_order = go-on s g depth conflicts None (asked_with (BreachQuery (suc n)) log) (Step (suc n)) asked left rest d logged (inl refuted) count (to-step (suc n)) (and_from (nat_lt 0 (suc n)) (wanted_valid (BreachQuery (suc n))) (lt-ltb 0 (suc n) (omega arith)) d.valid) d.within;
+      known = record { no_hazard = known.no_hazard; no_breach = below-more (λ m. ¬ HasRun s g (BreachQuery m)) (suc n) known.no_breach none; runs = known.runs };
+    }
+
+no-breach-at-start : (s : SystemTree) (g : GoalTree) (depth conflicts : ℕ) (log : List LogStep) (asked : List Asked) (left rest : ℕ) → 0 < depth → IsInOrder s g depth conflicts None (BreachQuery 0) asked left → IsKnown s g 1 0 0 → IsLogOf s g (asked_with (BreachQuery 0) log) → conflicts_of log + rest ≡ left → IsRefuted s g (BreachQuery 0) log → ¬ HasRun s g (BreachQuery 0) → IsDue s g depth conflicts (Unbroken (Hazard 1)) (asked ++ asked_with (BreachQuery 0) log ∷ []) rest
+no-breach-at-start s g depth conflicts log asked left rest deep d known logged count refuted none =
+    record {
+      in_order = go-on s g depth conflicts None (asked_with (BreachQuery 0) log) (Hazard 1) asked left rest d logged (inl refuted) count refl refl (omega (arith, deep));
+      known = record { no_hazard = known.no_hazard; no_breach = below-more (λ m. ¬ HasRun s g (BreachQuery m)) 0 known.no_breach none; runs = λ m pos less. absurd (omega (arith, pos, less)) };
+    }
+
+-- all together
+pub follows : (s : SystemTree) (g : GoalTree) (depth conflicts : ℕ) (due : Due) (reply : Reply) (log : List LogStep) (asked : List Asked) (left rest : ℕ) → list_all (rule_valid s.ranges) s.rules ≡ true → 0 < depth → depth ≤ 16 → IsDue s g depth conflicts due asked left → IsLogOf s g (asked_with (due_query due) log) → conflicts_of log + rest ≡ left → IsReply s g (due_query due) left reply log → IsNext s g depth conflicts (still_due depth due) (after depth due reply) (asked ++ asked_with (due_query due) log ∷ []) rest
+follows s g depth conflicts (Unbroken (Hazard n)) (Run t) log asked left rest rules deep low d logged count r = endangered s g depth conflicts None n t log asked left rest d.in_order d.known.no_hazard logged count r
+follows s g depth conflicts (Unbroken (BreachQuery n)) (Run t) log asked left rest rules deep low d logged count r = broke s g depth conflicts n t log asked left rest low (steps-of s g (BreachQuery n) t r) d.in_order d.known logged count r
+follows s g depth conflicts (Unbroken (Step n)) (Run t) log asked left rest rules deep low d logged count r = left-invariant s g depth conflicts n t log asked left rest low d.in_order d.known logged count r
+follows s g depth conflicts (Broken n breach) (Run t) log asked left rest rules deep low d logged count r = endangered s g depth conflicts (Some (length breach.rules)) n t log asked left rest d.in_order d.known.known.no_hazard logged count r
+follows s g depth conflicts (Unbroken (Hazard n)) Refuted log asked left rest rules deep low d logged count r = (no-hazard s g depth conflicts n log asked left rest d.in_order d.known logged count r.0 r.1, omega arith)
+follows s g depth conflicts (Unbroken (BreachQuery zero)) Refuted log asked left rest rules deep low d logged count r = (no-breach-at-start s g depth conflicts log asked left rest deep d.in_order d.known logged count r.0 r.1, omega arith)
+follows s g depth conflicts (Unbroken (BreachQuery (suc n))) Refuted log asked left rest rules deep low d logged count r = (no-breach s g depth conflicts n log asked left rest d.in_order d.known logged count r.0 r.1, omega arith)
+follows s g depth conflicts (Unbroken (Step n)) Refuted log asked left rest rules deep low d logged count r = carried s g depth conflicts n log asked left rest rules d.in_order d.known logged count r.0 r.1
+follows s g depth conflicts (Broken n t) Refuted log asked left rest rules deep low d logged count r = after-broken s g depth conflicts n t log asked left rest low d.in_order d.known logged count r.0 r.1
+follows s g depth conflicts due GivenUp log asked left rest rules deep low d logged count r = given-up s g depth conflicts due log asked left rest d logged count r
+
+-- at the start the first hazard query is due
+pub first-due : (s : SystemTree) (g : GoalTree) (depth conflicts : ℕ) → IsDue s g depth conflicts (Unbroken (Hazard 0)) [] conflicts
+first-due s g depth conflicts =
+    record {
+      in_order = record { order = refl; valid = refl; within = omega arith; found = tt; passed = All-nil (HasPassed s g None); logs = All-nil (IsLogOf s g); counted = omega arith };
+      known = record { no_hazard = λ m less. absurd (omega (arith, less)); no_breach = λ m less. absurd (omega (arith, less)); runs = λ m pos less. absurd (omega (arith, less)) };
+    }
+
+-- one turn: a query is asked, its conflicts are counted, and what follows is looked up
+pub turned : (s : SystemTree) (g : GoalTree) (depth conflicts : ℕ) (due : Due) (q : Wanted) (reply : Reply) (log : List LogStep) (asked new : List Asked) (left count rest : ℕ) (next : Next) → system_valid s ≡ true → 0 < depth → depth ≤ 16 → IsDue s g depth conflicts due asked left → q ≡ due_query due → IsLog (query_formula s g q) left log → IsReply s g q left reply log → count ≡ conflicts_of log → rest ≡ left - count → new ≡ asked ++ asked_with q log ∷ [] → next ≡ after depth due reply → IsNext s g depth conflicts (still_due depth due) next new rest
+turned s g depth conflicts due q reply log asked new left count rest next valid deep low d same is_log says counted rested grown is_next =
+    let good = subst (λ (u : Wanted). IsLog (query_formula s g u) left log) same is_log in
+    let said = subst (λ (u : Wanted). IsReply s g u left reply log) same says in
+    let logged : IsLogOf s g (asked_with (due_query due) log) = record { derived = good.derived; fresh = good.fresh } in
+    let most = good.few in
+    let sum : conflicts_of log + rest ≡ left = omega (arith, most, counted, rested) in
+    let main = follows s g depth conflicts due reply log asked left rest (and_parts _ _ valid).1 deep low d logged sum said in
+    let to = subst (λ (n : Next). IsNext s g depth conflicts (still_due depth due) n (asked ++ asked_with (due_query due) log ∷ []) rest) (sym is_next) main in
+    subst (λ (xs : List Asked). IsNext s g depth conflicts (still_due depth due) next xs rest) (sym (grown ∙ ap (λ (u : Wanted). asked ++ asked_with u log ∷ []) same)) to

@@ -1,0 +1,59 @@
+-- A run at one of its value lists: what is before it and what is after it are runs.
+use Rattle.std.proofs.Common.{◌≡◌, ℕ, zero, suc, ◌+◌, ◌≤◌, ◌<◌, List, [], ◌∷◌, length, take, drop, slice_get, Option, Some, refl, sym, ap, ◌∙◌, arith}
+use Rattle.std.specs.Prelude.{option_map, option_and_then}
+use Rattle.std.proofs.lemmas.Option.{same_Some}
+use Rattle.ilk_base.proofs.Options.{mapped-Some, bind_some}
+use Rattle.ilk_ir.specs.System.{SystemTree, fired_at}
+use Rattle.ilk_unroll.specs.Run.{run_from}
+
+-- the values with number j, with the run up to them and the run from them
+pub record IsMiddle (s : SystemTree) (first rules : List ℕ) (run : List (List ℕ)) (j : ℕ) : Type 0 where
+  pub values : List ℕ
+  pub at : slice_get run j ≡ Some values
+  pub before : run_from s first (take j rules) ≡ Some (take (suc j) run)
+  pub after : run_from s values (drop j rules) ≡ Some (drop j run)
+
+-- a run begins with its first values
+begins : (s : SystemTree) (first rules : List ℕ) (run : List (List ℕ)) → run_from s first rules ≡ Some run → (rest : List (List ℕ)) × (first ∷ rest ≡ run)
+begins s first [] run is = ([], same_Some (first ∷ []) run is)
+begins s first (rule ∷ rules) run is =
+    let outer = mapped-Some (λ (u : List (List ℕ)). first ∷ u) (option_and_then (λ next. run_from s next rules) (fired_at s rule first)) run is in
+    (outer.0, outer.2)
+
+pub middle : (s : SystemTree) (rules first : List ℕ) (run : List (List ℕ)) (j : ℕ) → j ≤ length rules → run_from s first rules ≡ Some run → IsMiddle s first rules run j
+middle s rules first run zero h is =
+    let b = begins s first rules run is in
+    record {
+      values = first;
+      at = ap (λ (u : List (List ℕ)). slice_get u 0) (sym b.1);
+      before = ap (λ (u : List (List ℕ)). Some (take 1 u)) b.1;
+      after = is;
+    }
+middle s [] first run (suc j) h is = absurd (omega arith)
+middle s (rule ∷ rules) first run (suc j) h is =
+    let outer = mapped-Some (λ (u : List (List ℕ)). first ∷ u) (option_and_then (λ next. run_from s next rules) (fired_at s rule first)) run is in
+    let inner = bind_some (fired_at s rule first) (λ next. run_from s next rules) outer.0 outer.1 in
+    let m = middle s rules inner.0 outer.0 j (omega arith) inner.2 in
+    let e : first ∷ outer.0 ≡ run = outer.2 in
+    record {
+      values = m.values;
+      at = ap (λ (u : List (List ℕ)). slice_get u (suc j)) (sym e) ∙ m.at;
+      before = ap (λ (o : Option (List ℕ)). option_map (λ u. first ∷ u) (option_and_then (λ xs. run_from s xs (take j rules)) o)) inner.1
+          ∙ ap (λ (o : Option (List (List ℕ))). option_map (λ u. first ∷ u) o) m.before
+          ∙ ap (λ (u : List (List ℕ)). Some (take (suc (suc j)) u)) e;
+      after = m.after ∙ ap (λ (u : List (List ℕ)). Some (drop (suc j) u)) e;
+    }
+
+-- what stands in the rest of a list, and in the list up to a number
+pub get-dropped : {X : Type 0} (xs : List X) (m i : ℕ) → slice_get (drop m xs) i ≡ slice_get xs (m + i)
+get-dropped xs zero i = let e : i ≡ 0 + i = omega arith in ap (slice_get xs) e
+get-dropped [] (suc m) i = let e : suc m + i ≡ suc (m + i) = omega arith in sym (ap (slice_get []) e)
+get-dropped (x ∷ xs) (suc m) i =
+    let e : suc m + i ≡ suc (m + i) = omega arith in
+    get-dropped xs m i ∙ sym (ap (slice_get (x ∷ xs)) e)
+
+pub get-taken : {X : Type 0} (xs : List X) (m i : ℕ) → i < m → slice_get (take m xs) i ≡ slice_get xs i
+get-taken xs zero i h = absurd (omega arith)
+get-taken [] (suc m) i h = refl
+get-taken (x ∷ xs) (suc m) zero h = refl
+get-taken (x ∷ xs) (suc m) (suc i) h = get-taken xs m i (omega arith)

@@ -1,0 +1,140 @@
+-- The order of queries, one query more.
+use Rattle.std.proofs.Common.{◌≡◌, ℕ, zero, suc, ◌+◌, ◌-◌, ◌≤◌, ◌<◌, Bool, true, false, not, cond, List, [], ◌∷◌, ◌++◌, length, map, count_by, Option, Some, None, refl, sym, ap, ◌∙◌, subst, arith, append_assoc, inl, inr, All}
+use Rattle.std.specs.Prelude.{IfSome}
+use Rattle.std.specs.List.{range_with_len, sum_by}
+use Rattle.std.proofs.lemmas.Bool.{and_parts, false≢true}
+use Rattle.std.proofs.lemmas.List.{append-nil, map-append}
+use Rattle.std.proofs.lemmas.List.Elements.{All-push, All-weaker}
+use Rattle.std.proofs.lemmas.List.Sums.{sum_by-append, sum_by-cons}
+use Rattle.ilk_base.proofs.Ranges.{listed_all-more, range-suc}
+use Rattle.ilk_ir.specs.System.{SystemTree}
+use Rattle.ilk_log.specs.declared.step.Step.{Step as LogStep}
+use Rattle.ilk_log.specs.Derived.{is_empty}
+use Rattle.ilk_solver.specs.Answered.{none_empty}
+use Rattle.ilk_unroll.specs.declared.queries.Wanted.{Wanted}
+use Rattle.ilk_unroll.specs.declared.queries.Wanted.TheVariants.{Hazard, Breach as BreachQuery, Step}
+use Rattle.ilk_unroll.specs.Goal.{GoalTree, step_count, wanted_valid}
+use Rattle.ilk_induct.specs.declared.verdict.Asked.{Asked}
+use Rattle.ilk_induct.specs.Evidence.{HasRun}
+use Rattle.ilk_induct.specs.Asked.{round, rounds, queries_to, IsLogOf, IsPassed, HasPassed, conflicts_of, all_conflicts, AreAsked}
+use Rattle.ilk_induct.specs.Due.{asked_with, IsInOrder}
+
+-- the queries up to the next
+
+pub to-breach : (n : ℕ) → queries_to None (Hazard n) ++ BreachQuery n ∷ [] ≡ queries_to None (BreachQuery n)
+to-breach n = append_assoc (rounds n) (Hazard n ∷ []) (BreachQuery n ∷ [])
+
+pub to-step : (n : ℕ) → queries_to None (BreachQuery n) ++ Step n ∷ [] ≡ queries_to None (Step n)
+to-step n = append_assoc (rounds n) (Hazard n ∷ BreachQuery n ∷ []) (Step n ∷ [])
+
+pub to-hazard : (n : ℕ) → 0 < n → queries_to None (Step n) ++ Hazard (n + 1) ∷ [] ≡ queries_to None (Hazard (n + 1))
+to-hazard zero pos = absurd (omega arith)
+to-hazard (suc n) pos = ap (λ (qs : List Wanted). qs ++ Hazard (suc n + 1) ∷ []) (sym (listed_all-more round (suc n)))
+
+-- those up to the breach that was found
+pub to-found : (n : ℕ) → queries_to None (BreachQuery n) ≡ queries_to (Some n) (BreachQuery n)
+to-found n =
+    let none : n - n ≡ 0 = omega arith in
+    sym (append-nil (rounds n ++ Hazard n ∷ BreachQuery n ∷ [])) ∙ ap (λ (k : ℕ). (rounds n ++ Hazard n ∷ BreachQuery n ∷ []) ++ map Hazard (range_with_len (n + 1) k)) (sym none)
+
+-- and after it
+pub to-hazard-after : (b n : ℕ) (q : Wanted) → step_count q ≡ n → b ≤ n → queries_to (Some b) q ++ Hazard (n + 1) ∷ [] ≡ queries_to (Some b) (Hazard (n + 1))
+to-hazard-after b n q e le =
+    let front = rounds b ++ Hazard b ∷ BreachQuery b ∷ [] in
+    let more : (n + 1) - b ≡ suc (n - b) = omega arith in
+    let last : (b + 1) + (n - b) ≡ n + 1 = omega arith in
+    let grown : map Hazard (range_with_len (b + 1) ((n + 1) - b)) ≡ map Hazard (range_with_len (b + 1) (n - b)) ++ Hazard (n + 1) ∷ [] =
+    ap (λ (k : ℕ). map Hazard (range_with_len (b + 1) k)) more
+    ∙ ap (map Hazard) (range-suc (b + 1) (n - b))
+    ∙ map-append Hazard (range_with_len (b + 1) (n - b)) (((b + 1) + (n - b)) ∷ [])
+    ∙ ap (λ (k : ℕ). map Hazard (range_with_len (b + 1) (n - b)) ++ Hazard k ∷ []) last in
+    ap (λ (k : ℕ). (front ++ map Hazard (range_with_len (b + 1) (k - b))) ++ Hazard (n + 1) ∷ []) e
+    ∙ append_assoc front (map Hazard (range_with_len (b + 1) (n - b))) (Hazard (n + 1) ∷ [])
+    ∙ ap (λ (qs : List Wanted). front ++ qs) (sym grown)
+
+-- with one query more
+
+pub more-queries : (asked : List Asked) (a : Asked) (qs : List Wanted) → map (λ (x : Asked). x.query) asked ++ a.query ∷ [] ≡ qs → map (λ (x : Asked). x.query) (asked ++ a ∷ []) ≡ qs
+more-queries asked a qs h = map-append (λ (x : Asked). x.query) asked (a ∷ []) ∙ h
+
+pub more-conflicts : (asked : List Asked) (a : Asked) (left rest conflicts : ℕ) → all_conflicts asked + left ≡ conflicts → conflicts_of a.log + rest ≡ left → all_conflicts (asked ++ a ∷ []) + rest ≡ conflicts
+more-conflicts asked a left rest conflicts h one =
+    let sum = sum_by-append (λ (x : Asked). conflicts_of x.log) asked (a ∷ []) in
+    let last = sum_by-cons (λ (x : Asked). conflicts_of x.log) a [] in
+    omega (arith, sum, last, h, one)
+
+-- what was asked, up to the query that was due
+pub asked-to : (s : SystemTree) (g : GoalTree) (depth conflicts : ℕ) (breach : Option ℕ) (a : Asked) (asked : List Asked) (left : ℕ) → IsInOrder s g depth conflicts breach a.query asked left → IsLogOf s g a → AreAsked s g depth breach (asked ++ a ∷ []) a
+asked-to s g depth conflicts breach a asked left d log =
+    record {
+      before = asked;
+      split = refl;
+      order = more-queries asked a (queries_to breach a.query) d.order;
+      within = d.within;
+      found = d.found;
+      passed = d.passed;
+      logs = All-push (IsLogOf s g) asked a d.logs log;
+    }
+
+-- the next is due
+pub go-on : (s : SystemTree) (g : GoalTree) (depth conflicts : ℕ) (breach : Option ℕ) (a : Asked) (q : Wanted) (asked : List Asked) (left rest : ℕ) → IsInOrder s g depth conflicts breach a.query asked left → IsLogOf s g a → HasPassed s g breach a → conflicts_of a.log + rest ≡ left → queries_to breach a.query ++ q ∷ [] ≡ queries_to breach q → wanted_valid q ≡ true → step_count q ≤ depth → IsInOrder s g depth conflicts breach q (asked ++ a ∷ []) rest
+go-on s g depth conflicts breach a q asked left rest d log passed count order valid within =
+    record {
+      order = ap (λ (qs : List Wanted). qs ++ q ∷ []) (more-queries asked a (queries_to breach a.query) d.order) ∙ order;
+      valid = valid;
+      within = within;
+      found = d.found;
+      passed = All-push (HasPassed s g breach) asked a d.passed passed;
+      logs = All-push (IsLogOf s g) asked a d.logs log;
+      counted = more-conflicts asked a left rest conflicts d.counted count;
+    }
+
+-- what has passed before a breach was found has passed
+pub passed-after : (s : SystemTree) (g : GoalTree) (b : ℕ) (q : Wanted) (log : List LogStep) → IsPassed s g None q log → IsPassed s g (Some b) q log
+passed-after s g b (Hazard n) log h = h
+passed-after s g b (BreachQuery n) log h = elim h [ inl refuted ↦ inl refuted | inr found ↦ absurd (none n found.0) ]
+  where
+    none : (n : ℕ) → None ≡ Some n → ⊥
+    none n e = cc
+passed-after s g b (Step n) log h = h
+
+pub all-passed-after : (s : SystemTree) (g : GoalTree) (b : ℕ) (asked : List Asked) → All (HasPassed s g None) asked → All (HasPassed s g (Some b)) asked
+all-passed-after s g b asked h = All-weaker (HasPassed s g None) (HasPassed s g (Some b)) (λ a k. passed-after s g b a.query a.log k) asked h
+
+-- what was asked, up to the breach query that has a run
+pub found-to : (s : SystemTree) (g : GoalTree) (depth conflicts n : ℕ) (log : List LogStep) (asked : List Asked) (left : ℕ) → IsInOrder s g depth conflicts None (BreachQuery n) asked left → IsLogOf s g (asked_with (BreachQuery n) log) → HasRun s g (BreachQuery n) → AreAsked s g depth (Some n) (asked ++ asked_with (BreachQuery n) log ∷ []) (asked_with (BreachQuery n) log)
+found-to s g depth conflicts n log asked left d logged has =
+    let a = asked_with (BreachQuery n) log in
+    record {
+      before = asked;
+      split = refl;
+      order = more-queries asked a (queries_to None (BreachQuery n)) d.order ∙ to-found n;
+      within = d.within;
+      found = has;
+      passed = all-passed-after s g n asked d.passed;
+      logs = All-push (IsLogOf s g) asked a d.logs logged;
+    }
+
+-- and the hazard query after it is due
+pub go-on-found : (s : SystemTree) (g : GoalTree) (depth conflicts n : ℕ) (log : List LogStep) (asked : List Asked) (left rest : ℕ) → IsInOrder s g depth conflicts None (BreachQuery n) asked left → IsLogOf s g (asked_with (BreachQuery n) log) → HasRun s g (BreachQuery n) → conflicts_of log + rest ≡ left → wanted_valid (Hazard (n + 1)) ≡ true → n + 1 ≤ depth → IsInOrder s g depth conflicts (Some n) (Hazard (n + 1)) (asked ++ asked_with (BreachQuery n) log ∷ []) rest
+go-on-found s g depth conflicts n log asked left rest d logged has count valid within =
+    let a = asked_with (BreachQuery n) log in
+    let to = found-to s g depth conflicts n log asked left d logged has in
+    record {
+      order = ap (λ (qs : List Wanted). qs ++ Hazard (n + 1) ∷ []) to.order ∙ to-hazard-after n n (BreachQuery n) refl (omega arith);
+      valid = valid;
+      within = within;
+      found = has;
+      passed = All-push (HasPassed s g (Some n)) asked a (all-passed-after s g n asked d.passed) (inr (refl, has));
+      logs = to.logs;
+      counted = more-conflicts asked a left rest conflicts d.counted count;
+    }
+
+-- a log in which each step has a literal
+pub all-conflicts : (log : List LogStep) → none_empty log ≡ true → conflicts_of log ≡ length log
+all-conflicts [] h = refl
+all-conflicts (s ∷ log) h =
+    let parts = and_parts (not (is_empty s.clause)) (none_empty log) h in
+    let rest = all-conflicts log parts.1 in
+    let one : 1 + conflicts_of log ≡ length (s ∷ log) = omega (arith, rest) in
+    sum_by-cons (λ (x : LogStep). cond (not (is_empty x.clause)) 1 0) s log ∙ ap (λ (b : Bool). cond b 1 0 + conflicts_of log) parts.0 ∙ one

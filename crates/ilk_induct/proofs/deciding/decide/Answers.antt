@@ -1,0 +1,39 @@
+use Rattle.std.proofs.Common.{◌≡◌, ◌-◌, refl, subst}
+use Rattle.ilk_ir.specs.System.{system_tree}
+use Rattle.ilk_unroll.specs.Goal.{goal_tree}
+use Rattle.ilk_induct.specs.declared.due.Next.{Next}
+use Rattle.ilk_induct.specs.Due.{IsNext, still_due}
+use Rattle.ilk_induct.proofs.Follows.{turned}
+use Rattle.ilk_induct.proofs.deciding.decide.Goals as goal
+
+pub loop-due-preserved : goal.loop-due-preserved
+loop-due-preserved c =
+    let s = system_tree c.args.system.now in
+    let g = goal_tree c.args.goal.now in
+    let rest = c.loop-due.left - c.conflicts_in-left.result in
+    let next = turned s g c.args.depth c.args.conflicts c.loop-due.due c.query-query.result c.in_ok-reply.field-0.reply c.in_ok-reply.field-0.log c.loop-due.asked c.push.new.self c.loop-due.left c.conflicts_in-left.result rest c.what_follows.result c.requires.system c.requires.some_depth c.requires.depth c.loop-due.invariant c.query-query.ensures c.in_ok-reply.ensures.log c.in_ok-reply.ensures.reply c.conflicts_in-left.ensures refl c.in_ok-push.ensures.ok c.what_follows.ensures in
+    (subst (λ (n : Next). IsNext s g c.args.depth c.args.conflicts (still_due c.args.depth c.loop-due.due) n c.push.new.self rest) c.in-Ask.is next).0
+
+pub returns-in-End-clause-right : goal.returns-in-End-clause-right
+returns-in-End-clause-right c =
+    let s = system_tree c.args.system.now in
+    let g = goal_tree c.args.goal.now in
+    let rest = c.loop-due.left - c.conflicts_in-left.result in
+    let next = turned s g c.args.depth c.args.conflicts c.loop-due.due c.query-query.result c.in_ok-reply.field-0.reply c.in_ok-reply.field-0.log c.loop-due.asked c.push.new.self c.loop-due.left c.conflicts_in-left.result rest c.what_follows.result c.requires.system c.requires.some_depth c.requires.depth c.loop-due.invariant c.query-query.ensures c.in_ok-reply.ensures.log c.in_ok-reply.ensures.reply c.conflicts_in-left.ensures refl c.in_ok-push.ensures.ok c.what_follows.ensures in
+    (subst (λ (n : Next). IsNext s g c.args.depth c.args.conflicts (still_due c.args.depth c.loop-due.due) n c.push.new.self rest) c.in-End.is next).right
+
+pub returns-in-End-clause-lasts : goal.returns-in-End-clause-lasts
+returns-in-End-clause-lasts c =
+    let s = system_tree c.args.system.now in
+    let g = goal_tree c.args.goal.now in
+    let rest = c.loop-due.left - c.conflicts_in-left.result in
+    let next = turned s g c.args.depth c.args.conflicts c.loop-due.due c.query-query.result c.in_ok-reply.field-0.reply c.in_ok-reply.field-0.log c.loop-due.asked c.push.new.self c.loop-due.left c.conflicts_in-left.result rest c.what_follows.result c.requires.system c.requires.some_depth c.requires.depth c.loop-due.invariant c.query-query.ensures c.in_ok-reply.ensures.log c.in_ok-reply.ensures.reply c.conflicts_in-left.ensures refl c.in_ok-push.ensures.ok c.what_follows.ensures in
+    (subst (λ (n : Next). IsNext s g c.args.depth c.args.conflicts (still_due c.args.depth c.loop-due.due) n c.push.new.self rest) c.in-End.is next).lasts
+
+pub returns-in-End-clause-asked : goal.returns-in-End-clause-asked
+returns-in-End-clause-asked c =
+    let s = system_tree c.args.system.now in
+    let g = goal_tree c.args.goal.now in
+    let rest = c.loop-due.left - c.conflicts_in-left.result in
+    let next = turned s g c.args.depth c.args.conflicts c.loop-due.due c.query-query.result c.in_ok-reply.field-0.reply c.in_ok-reply.field-0.log c.loop-due.asked c.push.new.self c.loop-due.left c.conflicts_in-left.result rest c.what_follows.result c.requires.system c.requires.some_depth c.requires.depth c.loop-due.invariant c.query-query.ensures c.in_ok-reply.ensures.log c.in_ok-reply.ensures.reply c.conflicts_in-left.ensures refl c.in_ok-push.ensures.ok c.what_follows.ensures in
+    (subst (λ (n : Next). IsNext s g c.args.depth c.args.conflicts (still_due c.args.depth c.loop-due.due) n c.push.new.self rest) c.in-End.is next).queries

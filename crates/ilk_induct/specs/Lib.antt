@@ -1,0 +1,5 @@
+pub mod Evidence
+pub mod Right
+pub mod Asked
+pub mod Due
+pub mod Certified

@@ -1,0 +1,86 @@
+ghost use Rattle.std.specs.Prelude.{◌≡◌, IfOk, IsTrue, count_by};
+ghost use Rattle.ilk_ir.specs.System.{system_tree, system_valid};
+ghost use Rattle.ilk_solver.specs.Answered.{IsLog};
+ghost use Rattle.ilk_unroll.specs.Goal.{goal_tree, goal_valid, wanted_valid};
+ghost use Rattle.ilk_unroll.specs.Query.{query_formula};
+ghost use Rattle.ilk_induct.specs.Asked.{conflicts_of};
+ghost use Rattle.ilk_induct.specs.Due.{IsReply};
+
+use crate::pick::{decision, is_restart_due};
+use ilk_ir::System;
+use ilk_log::{Log, refutations_refute};
+use ilk_solver::{Answer, Outcome, Picker, Restart, Solver};
+use ilk_unroll::{Goal, Trace, Wanted, query, read_back};
+use std::alloc::{AllocError, Global};
+
+/// What comes of a query.
+#[derive(Drop)]
+pub enum Reply {
+    /// A run that it asks for.
+    Run(Trace),
+    /// There is none.
+    Refuted,
+    /// The search for one was given up.
+    GivenUp,
+}
+
+/// What came of a query, and the log of its search.
+#[derive(Drop)]
+pub struct Replied {
+    /// What came of it.
+    pub reply: Reply,
+    /// The steps of the search.
+    pub log: Log,
+}
+
+/// How many steps have a literal.
+pub fn conflicts_in(log: &Log) -> u64
+    ensures { result ≡ conflicts_of log.now }
+{
+    let mut count = 0;
+    for step in log.as_slice() {
+        if step.clause.len() != 0 {
+            count += 1;
+        }
+    }
+    count
+}
+
+/// Asks one query, by a search that takes at most `budget` conflicts.
+pub fn ask(
+    alloc: Global,
+    system: &System,
+    goal: &Goal,
+    q: Wanted,
+    budget: u64,
+) -> Result<Replied, AllocError>
+    requires system { IsTrue (system_valid (system_tree system.now)) }
+    requires goal { IsTrue (goal_valid system.now.ranges (goal_tree goal.now)) }
+    requires wanted { IsTrue (wanted_valid q) }
+    ensures log { IfOk result (λ r. IsLog (query_formula (system_tree system.now) (goal_tree goal.now) q) budget r.log) }
+    ensures reply { IfOk result (λ r. IsReply (system_tree system.now) (goal_tree goal.now) q budget r.reply r.log) }
+{
+    let cnf = query(alloc, system, goal, q)?;
+    refutations_refute();
+    let picker = Picker::new(decision);
+    let restart = Restart::new(is_restart_due);
+    let solver = Solver::new(alloc, &cnf, picker, restart)?;
+    let Outcome { answer, log } = solver.solve(alloc, budget)?;
+    match answer {
+        Answer::Sat(a) => {
+            let trace = read_back(alloc, system, goal, q, &a)?;
+            Ok(Replied {
+                reply: Reply::Run(trace),
+                log,
+            })
+        }
+        Answer::Unsat => Ok(Replied {
+            reply: Reply::Refuted,
+            log,
+        }),
+        Answer::Spent => Ok(Replied {
+            reply: Reply::GivenUp,
+            log,
+        }),
+    }
+}

@@ -1,0 +1,89 @@
+ghost use Rattle.std.specs.Prelude.{◌≡◌};
+ghost use Rattle.ilk_induct.specs.Due.{due_query, after, after_breach, after_none, after_run};
+
+use crate::ask::Reply;
+use crate::verdict::Verdict;
+use ilk_unroll::{Trace, Wanted};
+
+/// The query that is due.
+#[derive(Drop)]
+pub enum Due {
+    /// This one, while no breach was found.
+    Unbroken(Wanted),
+    /// After the run broke a family, the hazard query for runs of so many steps.
+    Broken(u32, Trace),
+}
+
+impl Due {
+    /// The query.
+    pub fn query(&self) -> Wanted
+        ensures { result ≡ due_query self.now }
+    {
+        match self {
+            Due::Unbroken(q) => *q,
+            Due::Broken(n, _) => Wanted::Hazard(*n),
+        }
+    }
+}
+
+/// What follows once a query was answered.
+#[derive(Drop)]
+pub enum Next {
+    /// Another query.
+    Ask(Due),
+    /// The verdict.
+    End(Verdict),
+}
+
+// What follows a breach by this run, after the hazard query for n steps.
+fn next_after_breach(depth: u32, n: u32, breach: Trace) -> Next
+    ensures { result ≡ after_breach depth n breach }
+{
+    if n < depth {
+        Next::Ask(Due::Broken(n + 1, breach))
+    } else {
+        Next::End(Verdict::Breach(breach))
+    }
+}
+
+// What follows where the query has this run.
+fn next_after_run(depth: u32, due: Due, trace: Trace) -> Next
+    ensures { result ≡ after_run depth due trace }
+{
+    match due {
+        Due::Unbroken(Wanted::Hazard(_)) => Next::End(Verdict::Unsafe(trace)),
+        Due::Unbroken(Wanted::Breach(n)) => next_after_breach(depth, n, trace),
+        Due::Unbroken(Wanted::Step(n)) => {
+            if n < depth {
+                Next::Ask(Due::Unbroken(Wanted::Hazard(n + 1)))
+            } else {
+                Next::End(Verdict::NotInductive(trace))
+            }
+        }
+        Due::Broken(_, _) => Next::End(Verdict::Unsafe(trace)),
+    }
+}
+
+// What follows where the query has no run.
+fn next_after_none(depth: u32, due: Due) -> Next
+    ensures { result ≡ after_none depth due }
+{
+    match due {
+        Due::Unbroken(Wanted::Hazard(n)) => Next::Ask(Due::Unbroken(Wanted::Breach(n))),
+        Due::Unbroken(Wanted::Breach(0)) => Next::Ask(Due::Unbroken(Wanted::Hazard(1))),
+        Due::Unbroken(Wanted::Breach(n)) => Next::Ask(Due::Unbroken(Wanted::Step(n))),
+        Due::Unbroken(Wanted::Step(k)) => Next::End(Verdict::Safe { k }),
+        Due::Broken(n, breach) => next_after_breach(depth, n, breach),
+    }
+}
+
+/// What follows a query, by what came of it.
+pub fn what_follows(depth: u32, due: Due, reply: Reply) -> Next
+    ensures { result ≡ after depth due reply }
+{
+    match reply {
+        Reply::Run(trace) => next_after_run(depth, due, trace),
+        Reply::Refuted => next_after_none(depth, due),
+        Reply::GivenUp => Next::End(Verdict::Spent),
+    }
+}
