@@ -58,3 +58,15 @@ lie_is p x lie = of_point (point_number p x)
 -- a listed point lies at its listed position
 abbrev pub lies_at_listed : PlantLists → Listed → Tree
 lies_at_listed p listed = lie_is p listed.point (lie_in listed.at)
+
+-- the point on section x is commanded so; nothing is where x is no point
+abbrev pub commanded_is : PlantLists → ℕ → Position → Tree
+commanded_is p x position = of_point (point_number p x)
+  where
+    of_point : Option ℕ → Tree
+    of_point None = no
+    of_point (Some n) = to_is p n position
+
+-- a listed point is commanded to its listed position
+abbrev pub commanded_at_listed : PlantLists → Listed → Tree
+commanded_at_listed p listed = commanded_is p listed.point listed.at

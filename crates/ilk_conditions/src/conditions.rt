@@ -128,3 +128,20 @@ pub fn lies_at_listed(plant: &Plant, listed: &Listed) -> Form
 {
     lie_is(plant, listed.point, lie_in(listed.at))
 }
+
+/// The point on section `x` is commanded so. Where `x` is no point, nothing is.
+pub fn commanded_is(plant: &Plant, x: u32, position: Position) -> Form
+    ensures { tree_of result ≡ conditions.commanded_is plant.now x position }
+{
+    match point_on(plant, x) {
+        None => Form::No,
+        Some(n) => to_is(plant, n, position),
+    }
+}
+
+/// A listed point is commanded to its listed position.
+pub fn commanded_at_listed(plant: &Plant, listed: &Listed) -> Form
+    ensures { tree_of result ≡ conditions.commanded_at_listed plant.now listed.now }
+{
+    commanded_is(plant, listed.point, listed.at)
+}

@@ -1,0 +1,293 @@
+-- V2 and V3 as conditions hold of the image of a state exactly where the state keeps them.
+use Rattle.std.proofs.Common.{◌≡◌, ℕ, zero, suc, ◌+◌, ◌<◌, ◌≤◌, ◌==◌, Bool, true, false, not, ◌&&◌, ◌||◌, cond, Some, List, [], ◌∷◌, ◌++◌, drop, filter, length, map, nat_le, nat_lt, slice_get, take, inl, inr, refl, sym, ◌∙◌, ap, arith}
+use Rattle.std.specs.Prelude.{if◌then◌else◌}
+use Rattle.std.specs.List.{enumerate_from, flat_map, list_all, range_with_len}
+use Rattle.std.proofs.lemmas.Bool.{and_parts, cases_Bool, cases_eq, eq-eqb, eqb-true, or_cases, or_left, or_right}
+use Rattle.std.proofs.lemmas.Bool.Decides.{nat_tests}
+use Rattle.std.proofs.lemmas.List.Folds.{list_all-append, list_all-map}
+use Rattle.std.proofs.lemmas.Option.{same_Some}
+use Rattle.ilk_base.specs.Each.{each_below}
+use Rattle.ilk_base.proofs.Lists.{item_at, take-at}
+use Rattle.ilk_base.proofs.ListTests.{all-at, list_all-alike, list_all-flat_map}
+use Rattle.ilk_base.proofs.Once.{EachOnce}
+use Rattle.ilk_base.proofs.Ranges.{below_or_past, passing_within, range-at, range_within}
+use Rattle.ilk_base.proofs.Tested.{list_all-slice_get}
+use Rattle.ilk_ir.specs.Tree.{negation, tree_holds}
+use Rattle.ilk_plant.specs.Network.{has_section}
+use Rattle.ilk_plant.specs.Plant.{IsPlant, IsRouteOf, PlantLists}
+use Rattle.ilk_plant.specs.Shape.{HasShape}
+use Rattle.ilk_plant.specs.State.{has_lock}
+use Rattle.ilk_plant.specs.TableRules.{sections_locked_for}
+use Rattle.ilk_plant.specs.declared.state.Hold.TheVariants.{Locked as LockedLock, Used as UsedLock}
+use Rattle.ilk_plant.specs.declared.state.RouteState.{RouteState}
+use Rattle.ilk_plant.specs.declared.state.State.{State}
+use Rattle.ilk_plant.specs.declared.table.Listed.{Listed}
+use Rattle.ilk_plant.specs.declared.table.Route.{Route}
+use Rattle.std.proofs.lemmas.List.Elements.{All-append, All-map}
+use Rattle.ilk_routes.specs.Claims.{sections_beside}
+use Rattle.ilk_model.specs.Families.{has_its_locks, keeps_v2, keeps_v3, lock_on_path}
+use Rattle.ilk_model.specs.Holding.{each_place, holds_section, holds_sections, is_kept_on_path, route_holds}
+use Rattle.ilk_layout.specs.Image.{image_of}
+use Rattle.ilk_conditions.specs.Conditions.{lock_is}
+use Rattle.ilk_conditions.proofs.Values.{lock-holds}
+use Rattle.ilk_invs.specs.Held.{holding_section, is_holding, rel_below, seen_below}
+use Rattle.ilk_invs.specs.HoldFamilies.{held_once, holders, lock_at_place, locked_for, may_hold, none_before, route_holding, v2_tree, v3_tree}
+use Rattle.ilk_invs.specs.Parts.{each_of, of_each_place, of_each_route}
+use Rattle.ilk_invs.proofs.HeldLaws.{below-next, holding_section-holds, is_holding-holds, rel_below-holds, seen_below-holds}
+use Rattle.ilk_invs.proofs.PartLaws.{and-end, each-place, each-route, each_of-holds, state_of_route, where-holds}
+use Rattle.ilk_invs.proofs.PointLaws.{kept-has}
+use Rattle.ilk_invs.proofs.Sections.{locked_for as sections_of_route}
+use Rattle.ilk_invs.proofs.Tests.{enumerated, enumerated-at, list_all-each, same_test}
+
+-- the sections beside a route's path are sections
+pub beside-known : (p : PlantLists) (route : Route) → IsRouteOf p route → (i x : ℕ) → slice_get (sections_beside route) i ≡ Some x → x < length p.sections
+beside-known p route of i x at =
+    all-at (λ x. x < length p.sections) (sections_beside route) i x (All-append (λ x. x < length p.sections) route.overlap (map (λ listed. listed.point) route.protecting_points) of.overlap (All-map (λ x. x < length p.sections) (λ (listed : Listed). listed.point) route.protecting_points of.protecting_points)) at
+
+-- numbers of a range that pass a test: each stands once, and each that passes stands there
+passing-above : (test : ℕ → Bool) (a n i x : ℕ) → slice_get (filter test (range_with_len a n)) i ≡ Some x → a ≤ x
+passing-above test a zero i x at = cc
+passing-above test a (suc n) i x at = by_test (test a) i at (λ j here. passing-above test (a + 1) n j x here)
+  where
+    by_test : (b : Bool) (j : ℕ) → slice_get (cond b (a ∷ filter test (range_with_len (a + 1) n)) (filter test (range_with_len (a + 1) n))) j ≡ Some x → ((k : ℕ) → slice_get (filter test (range_with_len (a + 1) n)) k ≡ Some x → a + 1 ≤ x) → a ≤ x
+    by_test true zero here later = let same : a ≡ x = same_Some a x here in omega (arith, same)
+    by_test true (suc j) here later = let below = later j here in omega (arith, below)
+    by_test false j here later = let below = later j here in omega (arith, below)
+
+pub passing-once : (test : ℕ → Bool) (a n : ℕ) → EachOnce (filter test (range_with_len a n))
+passing-once test a zero i j x at also = cc
+passing-once test a (suc n) i j x at also = by_test (test a) i j at also (λ k l one two. passing-once test (a + 1) n k l x one two)
+  where
+    by_test : (b : Bool) (i j : ℕ) → slice_get (cond b (a ∷ filter test (range_with_len (a + 1) n)) (filter test (range_with_len (a + 1) n))) i ≡ Some x → slice_get (cond b (a ∷ filter test (range_with_len (a + 1) n)) (filter test (range_with_len (a + 1) n))) j ≡ Some x
+        → ((k l : ℕ) → slice_get (filter test (range_with_len (a + 1) n)) k ≡ Some x → slice_get (filter test (range_with_len (a + 1) n)) l ≡ Some x → k ≡ l) → i ≡ j
+    by_test true zero zero at also later = refl
+    by_test true zero (suc j) at also later =
+        let same : a ≡ x = same_Some a x at in
+        let above = passing-above test (a + 1) n j x also in
+        absurd (omega (arith, same, above))
+    by_test true (suc i) zero at also later =
+        let same : a ≡ x = same_Some a x also in
+        let above = passing-above test (a + 1) n i x at in
+        absurd (omega (arith, same, above))
+    by_test true (suc i) (suc j) at also later = ap suc (later i j at also)
+    by_test false i j at also later = later i j at also
+
+pub filter-place : {X : Type 0} (test : X → Bool) (xs : List X) (k : ℕ) (x : X) → slice_get xs k ≡ Some x → test x ≡ true → (i : ℕ) × (slice_get (filter test xs) i ≡ Some x)
+filter-place test [] k x at h = cc
+filter-place {X} test (y ∷ xs) zero x at h =
+    let same : y ≡ x = same_Some y x at in
+    let here : test y ≡ true = ap test same ∙ h in
+    (zero, rw here at)
+filter-place {X} test (y ∷ xs) (suc k) x at h =
+    let later = filter-place test xs k x at h in
+    elim (cases_Bool (test y)) [
+      | inl here ↦ (suc later.0, rw here later.1)
+      | inr away ↦ (later.0, rw away later.1)
+    ]
+
+taken-before : {X : Type 0} (n : ℕ) (xs : List X) (k : ℕ) (x : X) → slice_get (take n xs) k ≡ Some x → (k < n) × (slice_get xs k ≡ Some x)
+taken-before zero [] k x at = cc
+taken-before zero (y ∷ xs) k x at = cc
+taken-before (suc n) [] k x at = cc
+taken-before (suc n) (y ∷ xs) zero x at = (omega arith, at)
+taken-before (suc n) (y ∷ xs) (suc k) x at =
+    let rest = taken-before n xs k x at in
+    let less = rest.0 in
+    (omega (arith, less), rest.1)
+
+past-first : {X : Type 0} (xs : List X) (k : ℕ) (x : X) → slice_get (drop 1 xs) k ≡ Some x → slice_get xs (1 + k) ≡ Some x
+past-first [] k x at = cc
+past-first (y ∷ xs) k x at = let sum : 1 + k ≡ suc k = omega arith in ap (slice_get (y ∷ xs)) sum ∙ at
+
+before-first : {X : Type 0} (xs : List X) (k : ℕ) (x : X) → slice_get xs (suc k) ≡ Some x → slice_get (drop 1 xs) k ≡ Some x
+before-first [] k x at = cc
+before-first (y ∷ xs) k x at = at
+
+not-both : (a b : Bool) → not (a && b) ≡ true → a ≡ true → not b ≡ true
+not-both true b h e = h
+not-both false b h e = cc
+
+if-holds : (a b : Bool) → (if a then b else true) ≡ true → a ≡ true → b ≡ true
+if-holds true b h e = h
+if-holds false b h e = cc
+
+from-if : (a b : Bool) → (a ≡ true → b ≡ true) → (if a then b else true) ≡ true
+from-if true b f = f refl
+from-if false b f = refl
+
+not-true-false : (a : Bool) → not a ≡ true → a ≡ true → ⊥
+not-true-false true h e = cc
+not-true-false false h e = cc
+
+module _ (p : PlantLists) (plant : IsPlant p) (s : State) (shape : HasShape p s) where
+  -- the lock of a path section
+  lock_place-holds : (r : ℕ) (now : RouteState) (i x : ℕ) → slice_get s.routes r ≡ Some now → x < length p.sections → list_all (tree_holds (image_of p s)) (lock_at_place p r i x) ≡ (not (nat_le now.rel i) || has_lock s x (lock_on_path now i))
+  lock_place-holds r now i x at within =
+      let rel = rel_below-holds p s shape r now (i + 1) at ∙ below-next now.rel i in
+      let seen : tree_holds (image_of p s) (seen_below r (i + 1)) ≡ not (nat_lt i now.seen) = seen_below-holds p s shape r now (i + 1) at ∙ below-next now.seen i ∙ turned now.seen i in
+      joined (tree_holds (image_of p s) (rel_below r (i + 1))) (tree_holds (image_of p s) (seen_below r (i + 1))) (tree_holds (image_of p s) (lock_is p x LockedLock)) (tree_holds (image_of p s) (lock_is p x UsedLock)) (nat_le now.rel i) (nat_lt i now.seen) (has_lock s x LockedLock) (has_lock s x UsedLock) rel seen (lock-holds p s shape x LockedLock within) (lock-holds p s shape x UsedLock within)
+      ∙ ap (λ v. not (nat_le now.rel i) || v) (chosen (nat_lt i now.seen) refl)
+    where
+      turned : (a b : ℕ) → nat_le a b ≡ not (nat_lt b a)
+      turned a b = grind (arith, nat_tests)
+
+      chosen : (b : Bool) → nat_lt i now.seen ≡ b → (if b then has_lock s x UsedLock else has_lock s x LockedLock) ≡ has_lock s x (lock_on_path now i)
+      chosen true e = rw e refl
+      chosen false e = rw e refl
+
+      cases : (a b l u : Bool) → ((not a || (not (not b) || (l || false))) && ((not a || (not b || (u || false))) && true)) ≡ (not a || (if b then u else l))
+      cases true true l true = refl
+      cases true true l false = refl
+      cases true false true u = refl
+      cases true false false u = refl
+      cases false b l u = refl
+
+      joined : (a c l u a2 b l2 u2 : Bool) → a ≡ a2 → c ≡ not b → l ≡ l2 → u ≡ u2 → ((not a || (not c || (l || false))) && ((not a || (c || (u || false))) && true)) ≡ (not a2 || (if b then u2 else l2))
+      joined a c l u a2 b l2 u2 one two three four =
+          ap (λ v. ((not v || (not c || (l || false))) && ((not v || (c || (u || false))) && true))) one
+          ∙ ap (λ v. ((not a2 || (not v || (l || false))) && ((not a2 || (v || (u || false))) && true))) two
+          ∙ ap (λ v. ((not a2 || (not (not b) || (v || false))) && ((not a2 || (not b || (u || false))) && true))) three
+          ∙ ap (λ v. ((not a2 || (not (not b) || (l2 || false))) && ((not a2 || (not b || (v || false))) && true))) four
+          ∙ cases a2 b l2 u2
+
+  locked_for-holds : (r : ℕ) (route : Route) (now : RouteState) → slice_get p.routes r ≡ Some route → slice_get s.routes r ≡ Some now → list_all (tree_holds (image_of p s)) (locked_for p r route ∷ []) ≡ (if holds_sections now then has_its_locks s route now else true)
+  locked_for-holds r route now known at =
+      let of = plant.routes_known r route known in
+      let places = each-place (image_of p s) route (lock_at_place p r) (λ i x. not (nat_le now.rel i) || has_lock s x (lock_on_path now i)) (λ i x found. lock_place-holds r now i x at (all-at (λ x. x < length p.sections) route.path i x of.path found)) in
+      let beside = list_all-map (tree_holds (image_of p s)) (λ x. lock_is p x LockedLock) (sections_beside route) ∙ list_all-alike (λ x. tree_holds (image_of p s) (lock_is p x LockedLock)) (λ x. has_lock s x LockedLock) (sections_beside route) (λ i x found. lock-holds p s shape x LockedLock (beside-known p route of i x found)) in
+      and-end (tree_holds (image_of p s) (locked_for p r route))
+      ∙ where-holds (image_of p s) (is_holding r) (each_of (of_each_place route (lock_at_place p r) ++ map (λ x. lock_is p x LockedLock) (sections_beside route))) (holds_sections now) (has_its_locks s route now) (is_holding-holds p s shape r now at)
+      (each_of-holds (image_of p s) (of_each_place route (lock_at_place p r) ++ map (λ x. lock_is p x LockedLock) (sections_beside route))
+      ∙ list_all-append (tree_holds (image_of p s)) (of_each_place route (lock_at_place p r)) (map (λ x. lock_is p x LockedLock) (sections_beside route))
+      ∙ ap (λ v. v && list_all (tree_holds (image_of p s)) (map (λ x. lock_is p x LockedLock) (sections_beside route))) places
+      ∙ ap (λ v. each_place route (λ i x. not (nat_le now.rel i) || has_lock s x (lock_on_path now i)) && v) beside)
+
+  pub v3-law : tree_holds (image_of p s) (v3_tree p) ≡ keeps_v3 p s
+  v3-law =
+      each_of-holds (image_of p s) (of_each_route p (λ r route. locked_for p r route ∷ []))
+      ∙ each-route p s shape (image_of p s) (λ r route. locked_for p r route ∷ []) (λ route now. if holds_sections now then has_its_locks s route now else true) locked_for-holds
+
+  -- whether a route holds a section
+  route_holding-holds : (x r : ℕ) → r < length p.routes → tree_holds (image_of p s) (each_of (route_holding p x r)) ≡ route_holds p s r x
+  route_holding-holds x r within =
+      let route = item_at p.routes r within in
+      let now = state_of_route p s shape r route.0 route.1 in
+      rw (route.1, now.1) (and-end (tree_holds (image_of p s) (holding_section r route.0 x)) ∙ holding_section-holds p s shape r route.0 now.0 x now.1)
+
+  not_holding-holds : (x r : ℕ) → r < length p.routes → list_all (λ t. not (tree_holds (image_of p s) t)) (route_holding p x r) ≡ not (route_holds p s r x)
+  not_holding-holds x r within =
+      let route = item_at p.routes r within in
+      let now = state_of_route p s shape r route.0 route.1 in
+      rw (route.1, now.1) (and-end (not (tree_holds (image_of p s) (holding_section r route.0 x))) ∙ ap not (holding_section-holds p s shape r route.0 now.0 x now.1))
+
+  none_before-holds : (x : ℕ) (before : List ℕ) (r : ℕ) → r < length p.routes → ((i q : ℕ) → slice_get before i ≡ Some q → q < length p.routes) → tree_holds (image_of p s) (none_before p x before r) ≡ (if route_holds p s r x then list_all (λ q. not (route_holds p s q x)) before else true)
+  none_before-holds x before r within known =
+      where-holds (image_of p s) (each_of (route_holding p x r)) (each_of (map negation (flat_map (route_holding p x) before))) (route_holds p s r x) (list_all (λ q. not (route_holds p s q x)) before) (route_holding-holds x r within)
+      (each_of-holds (image_of p s) (map negation (flat_map (route_holding p x) before))
+      ∙ list_all-map (tree_holds (image_of p s)) negation (flat_map (route_holding p x) before)
+      ∙ list_all-flat_map (λ t. not (tree_holds (image_of p s) t)) (route_holding p x) before
+      ∙ list_all-alike (λ q. list_all (λ t. not (tree_holds (image_of p s) t)) (route_holding p x q)) (λ q. not (route_holds p s q x)) before (λ i q found. not_holding-holds x q (known i q found)))
+
+  holder-known : (x i r : ℕ) → slice_get (holders p x) i ≡ Some r → r < length p.routes
+  holder-known x i r at = let less = passing_within (may_hold p x) 0 (length p.routes) i r at in omega (arith, less)
+
+  before-known : (x n i q : ℕ) → slice_get (take n (holders p x)) i ≡ Some q → q < length p.routes
+  before-known x n i q at = holder-known x i q (taken-before n (holders p x) i q at).1
+
+  -- a route that holds a section may hold it
+  may-hold : (x r : ℕ) → r < length p.routes → route_holds p s r x ≡ true → may_hold p x r ≡ true
+  may-hold x r within h =
+      let route = item_at p.routes r within in
+      let now = state_of_route p s shape r route.0 route.1 in
+      let holds : holds_section x route.0 now.0 ≡ true = (rw (route.1, now.1) at h) in
+      rw route.1 (locked route.0 now.0 (and_parts (holds_sections now.0) (has_section x (sections_beside route.0) || is_kept_on_path route.0 now.0 x) holds).1)
+    where
+      locked : (route : Route) (now : RouteState) → (has_section x (sections_beside route) || is_kept_on_path route now x) ≡ true → has_section x (sections_locked_for route) ≡ true
+      locked route now e =
+          sections_of_route x route ∙ elim (or_cases (has_section x (sections_beside route)) (is_kept_on_path route now x) e) [
+            | inl beside ↦ or_right (has_section x route.path) (has_section x (sections_beside route)) beside
+            | inr kept ↦ or_left (has_section x route.path) (has_section x (sections_beside route)) (kept-has route now x kept)
+          ]
+
+  -- of two holders, the later one's condition speaks of the earlier one
+  two-holders : (x i j r q : ℕ) → list_all (tree_holds (image_of p s)) (held_once p x) ≡ true → i < j → slice_get (holders p x) i ≡ Some r → slice_get (holders p x) j ≡ Some q → route_holds p s r x ≡ true → route_holds p s q x ≡ true → ⊥
+  two-holders x i zero r q all less at also one two = omega (arith, less)
+  two-holders x i (suc j) r q all less at also one two =
+      let place = enumerated-at 1 (drop 1 (holders p x)) j q (before-first (holders p x) j q also) in
+      let sum : 1 + j ≡ suc j = omega arith in
+      let each = sym (list_all-map (tree_holds (image_of p s)) (λ place. none_before p x (take place.0 (holders p x)) place.1) (enumerate_from 1 (drop 1 (holders p x)))) ∙ all in
+      let this : tree_holds (image_of p s) (none_before p x (take (1 + j) (holders p x)) q) ≡ true = list_all-slice_get (λ place. tree_holds (image_of p s) (none_before p x (take place.0 (holders p x)) place.1)) (enumerate_from 1 (drop 1 (holders p x))) j (1 + j, q) each place in
+      let says = sym (none_before-holds x (take (1 + j) (holders p x)) q (holder-known x (suc j) q also) (before-known x (1 + j))) ∙ this in
+      let none = if-holds (route_holds p s q x) (list_all (λ q. not (route_holds p s q x)) (take (1 + j) (holders p x))) says two in
+      let first = list_all-slice_get (λ q. not (route_holds p s q x)) (take (1 + j) (holders p x)) i r none (take-at (holders p x) i (1 + j) r (omega (arith, less)) at) in
+      not-true-false (route_holds p s r x) first one
+
+  apart_test : ℕ → ℕ → Bool
+  apart_test r q = r == q || each_below (length p.sections) (λ x. not (route_holds p s r x && route_holds p s q x))
+
+  pub v2-law : tree_holds (image_of p s) (v2_tree p) ≡ keeps_v2 p s
+  unfolding apart_test
+  v2-law =
+      each_of-holds (image_of p s) (flat_map (held_once p) (range_with_len 0 (length p.sections)))
+      ∙ list_all-flat_map (tree_holds (image_of p s)) (held_once p) (range_with_len 0 (length p.sections))
+      ∙ same_test (list_all (λ x. list_all (tree_holds (image_of p s)) (held_once p x)) (range_with_len 0 (length p.sections))) (keeps_v2 p s) forth back
+    where
+      forth : list_all (λ x. list_all (tree_holds (image_of p s)) (held_once p x)) (range_with_len 0 (length p.sections)) ≡ true → keeps_v2 p s ≡ true
+      forth h =
+          list_all-each (λ r. each_below (length p.routes) (apart_test r)) (range_with_len 0 (length p.routes)) (λ i r first.
+          list_all-each (apart_test r) (range_with_len 0 (length p.routes)) (λ k q second.
+          of_two r q (range_within (length p.routes) i r first).1 (range_within (length p.routes) k q second).1))
+        where
+          never : (x r q : ℕ) → (r ≡ q → ⊥) → x < length p.sections → r < length p.routes → q < length p.routes → route_holds p s r x ≡ true → route_holds p s q x ≡ true → ⊥
+          never x r q apart inside one_known two_known one two =
+              let all = list_all-slice_get (λ x. list_all (tree_holds (image_of p s)) (held_once p x)) (range_with_len 0 (length p.sections)) x x h (range-at (length p.sections) x inside) in
+              let first = filter-place (may_hold p x) (range_with_len 0 (length p.routes)) r r (range-at (length p.routes) r one_known) (may-hold x r one_known one) in
+              let second = filter-place (may_hold p x) (range_with_len 0 (length p.routes)) q q (range-at (length p.routes) q two_known) (may-hold x q two_known two) in
+              elim (below_or_past first.0 second.0) [
+                | inl less ↦ two-holders x first.0 second.0 r q all less first.1 second.1 one two
+                | inr past ↦
+                    elim (cases_eq first.0 second.0) [
+                      | inl same ↦ apart (same_Some r q (sym first.1 ∙ ap (slice_get (holders p x)) same ∙ second.1))
+                      | inr other ↦ two-holders x second.0 first.0 q r all (omega (arith, past, other)) second.1 first.1 two one
+                    ]
+              ]
+
+          both : (x r q : ℕ) → (r ≡ q → ⊥) → x < length p.sections → r < length p.routes → q < length p.routes → (a b : Bool) → route_holds p s r x ≡ a → route_holds p s q x ≡ b → not (a && b) ≡ true
+          both x r q apart inside one_known two_known true true one two = absurd (never x r q apart inside one_known two_known one two)
+          both x r q apart inside one_known two_known true false one two = refl
+          both x r q apart inside one_known two_known false b one two = refl
+
+          of_two : (r q : ℕ) → r < length p.routes → q < length p.routes → apart_test r q ≡ true
+          of_two r q one_known two_known =
+              elim (cases_eq r q) [
+                | inl same ↦ or_left (r == q) (each_below (length p.sections) (λ x. not (route_holds p s r x && route_holds p s q x))) (eq-eqb r q same)
+                | inr apart ↦
+                    or_right (r == q) (each_below (length p.sections) (λ x. not (route_holds p s r x && route_holds p s q x)))
+                    (list_all-each (λ x. not (route_holds p s r x && route_holds p s q x)) (range_with_len 0 (length p.sections)) (λ i x found.
+                    both x r q apart (range_within (length p.sections) i x found).1 one_known two_known (route_holds p s r x) (route_holds p s q x) refl refl))
+              ]
+
+      back : keeps_v2 p s ≡ true → list_all (λ x. list_all (tree_holds (image_of p s)) (held_once p x)) (range_with_len 0 (length p.sections)) ≡ true
+      back h =
+          list_all-each (λ x. list_all (tree_holds (image_of p s)) (held_once p x)) (range_with_len 0 (length p.sections)) (λ i x found.
+          list_all-map (tree_holds (image_of p s)) (λ place. none_before p x (take place.0 (holders p x)) place.1) (enumerate_from 1 (drop 1 (holders p x)))
+          ∙ list_all-each (λ place. tree_holds (image_of p s) (none_before p x (take place.0 (holders p x)) place.1)) (enumerate_from 1 (drop 1 (holders p x))) (λ k place there.
+          let it = enumerated 1 (drop 1 (holders p x)) k place there in
+          let at = past-first (holders p x) k place.1 it.1 in
+          none_before-holds x (take place.0 (holders p x)) place.1 (holder-known x (1 + k) place.1 at) (before-known x place.0)
+          ∙ from-if (route_holds p s place.1 x) (list_all (λ q. not (route_holds p s q x)) (take place.0 (holders p x))) (λ one.
+          list_all-each (λ q. not (route_holds p s q x)) (take place.0 (holders p x)) (λ j q before.
+          let earlier = taken-before place.0 (holders p x) j q before in
+          earlier-not x (1 + k) j place.1 q (range_within (length p.sections) i x found).1 (let less = earlier.0 in let same = it.0 in omega (arith, less, same)) at earlier.1 one))))
+        where
+          earlier-not : (x k j r q : ℕ) → x < length p.sections → j < k → slice_get (holders p x) k ≡ Some r → slice_get (holders p x) j ≡ Some q → route_holds p s r x ≡ true → not (route_holds p s q x) ≡ true
+          earlier-not x k j r q inside less at before one =
+              let r_known = holder-known x k r at in
+              let q_known = holder-known x j q before in
+              let apart : r ≡ q → ⊥ = (λ same. let places : k ≡ j = passing-once (may_hold p x) 0 (length p.routes) k j q (at ∙ ap Some same) before in omega (arith, less, places)) in
+              let row = list_all-slice_get (λ r. each_below (length p.routes) (apart_test r)) (range_with_len 0 (length p.routes)) r r h (range-at (length p.routes) r r_known) in
+              let pair = list_all-slice_get (apart_test r) (range_with_len 0 (length p.routes)) q q row (range-at (length p.routes) q q_known) in
+              elim (or_cases (r == q) (each_below (length p.sections) (λ x. not (route_holds p s r x && route_holds p s q x))) pair) [
+                | inl same ↦ absurd (apart (eqb-true r q same))
+                | inr each ↦ not-both (route_holds p s r x) (route_holds p s q x) (list_all-slice_get (λ x. not (route_holds p s r x && route_holds p s q x)) (range_with_len 0 (length p.sections)) x x each (range-at (length p.sections) x inside)) one
+              ]

@@ -1,0 +1,11 @@
+pub mod FamilyLaws
+pub mod HeldLaws
+pub mod HoldLaws
+pub mod PartLaws
+pub mod PointLaws
+pub mod Pushed
+pub mod RouteLaws
+pub mod Sections
+pub mod Tests
+pub mod TrainLaws
+pub mod ValidTrees

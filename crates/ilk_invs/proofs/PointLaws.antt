@@ -1,0 +1,108 @@
+-- V6 as a condition holds of the image of a state exactly where the state keeps it.
+use Rattle.std.proofs.Common.{◌≡◌, ℕ, ◌==◌, Bool, true, false, not, ◌&&◌, ◌||◌, map, nat_le, slice_get, Some, refl, sym, ◌∙◌, ap}
+use Rattle.std.specs.Prelude.{if◌then◌else◌}
+use Rattle.std.specs.List.{enumerate_from, list_all}
+use Rattle.std.proofs.lemmas.Bool.{and_parts, false≢true}
+use Rattle.std.proofs.lemmas.List.Folds.{list_all-map}
+use Rattle.ilk_base.proofs.ListTests.{list_all-alike}
+use Rattle.ilk_base.proofs.Tested.{list_any-at, list_any-from}
+use Rattle.ilk_base.proofs.Truth.{not-true}
+use Rattle.ilk_ir.specs.Tree.{tree_holds}
+use Rattle.ilk_plant.specs.Network.{has_section}
+use Rattle.ilk_plant.specs.Plant.{PlantLists}
+use Rattle.ilk_plant.specs.Shape.{HasShape}
+use Rattle.ilk_plant.specs.declared.state.Mode.TheVariants.{Allocating}
+use Rattle.ilk_plant.specs.declared.state.RouteState.{RouteState}
+use Rattle.ilk_plant.specs.declared.state.State.{State}
+use Rattle.ilk_plant.specs.declared.table.Listed.{Listed}
+use Rattle.ilk_plant.specs.declared.table.Route.{Route}
+use Rattle.ilk_routes.specs.Lies.{lies_as_listed}
+use Rattle.ilk_routes.specs.Modes.{same_mode}
+use Rattle.ilk_model.specs.Commanded.{is_commanded_as_listed}
+use Rattle.ilk_model.specs.Families.{is_commanded_for, keeps_v6, lies_for}
+use Rattle.ilk_model.specs.Holding.{is_kept_on_path, is_locked_or_occupied}
+use Rattle.ilk_layout.specs.Image.{image_of}
+use Rattle.ilk_conditions.specs.Conditions.{commanded_at_listed, lies_at_listed, mode_is}
+use Rattle.ilk_conditions.proofs.Listed.{commanded_at_listed-holds, lies_at_listed-holds}
+use Rattle.ilk_conditions.proofs.Values.{mode-holds}
+use Rattle.ilk_invs.specs.Held.{kept_on_path, locked_or_occupied}
+use Rattle.ilk_invs.specs.Parts.{of_each_route}
+use Rattle.ilk_invs.specs.PointFamily.{points_of_path, set_for, v6_tree}
+use Rattle.ilk_invs.proofs.HeldLaws.{kept_on_path-holds, locked_or_occupied-holds}
+use Rattle.ilk_invs.proofs.PartLaws.{each-route, each_of-holds}
+use Rattle.ilk_invs.proofs.Tests.{enumerated, list_all-filter}
+
+-- what a route keeps on its path is on its path
+pub kept-has : (route : Route) (now : RouteState) (x : ℕ) → is_kept_on_path route now x ≡ true → has_section x route.path ≡ true
+kept-has route now x h =
+    let found : (k : ℕ) × (place : ℕ × ℕ) × (slice_get (enumerate_from 0 route.path) k ≡ Some place) × ((nat_le now.rel place.0 && (place.1 == x)) ≡ true) = list_any-at (λ place. nat_le now.rel place.0 && (place.1 == x)) (enumerate_from 0 route.path) h in
+    let it = enumerated 0 route.path found.0 found.1 found.2 in
+    list_any-from (λ y. y == x) route.path found.0 found.1.1 it.1 (and_parts (nat_le now.rel found.1.0) (found.1.1 == x) found.3).1
+
+pub not-kept : (route : Route) (now : RouteState) (x : ℕ) → has_section x route.path ≡ false → is_kept_on_path route now x ≡ false
+not-kept route now x away = not-true (is_kept_on_path route now x) (λ h. false≢true (sym away ∙ kept-has route now x h))
+
+module _ (p : PlantLists) (s : State) (shape : HasShape p s) where
+  set_for-holds : (r : ℕ) (route : Route) (now : RouteState) (listed : Listed) → slice_get s.routes r ≡ Some now → tree_holds (image_of p s) (set_for p r route listed) ≡ ((not (same_mode now.mode Allocating) || is_commanded_as_listed p s listed) && (not (is_locked_or_occupied now && is_kept_on_path route now listed.point) || (is_commanded_as_listed p s listed && lies_as_listed p s listed)))
+  set_for-holds r route now listed at =
+      let mode = mode-holds p s shape r now Allocating at in
+      let either_mode = locked_or_occupied-holds p s shape r now at in
+      let kept = kept_on_path-holds p s shape r route now listed.point at in
+      let commanded = commanded_at_listed-holds p s shape listed in
+      let lies = lies_at_listed-holds p s shape listed in
+      simplified (tree_holds (image_of p s) (mode_is r Allocating)) (tree_holds (image_of p s) (locked_or_occupied r)) (tree_holds (image_of p s) (kept_on_path r route listed.point)) (tree_holds (image_of p s) (commanded_at_listed p listed)) (tree_holds (image_of p s) (lies_at_listed p listed))
+      ∙ ap (λ b. (not b || tree_holds (image_of p s) (commanded_at_listed p listed)) && (not (tree_holds (image_of p s) (locked_or_occupied r) && tree_holds (image_of p s) (kept_on_path r route listed.point)) || (tree_holds (image_of p s) (commanded_at_listed p listed) && tree_holds (image_of p s) (lies_at_listed p listed)))) mode
+      ∙ ap (λ b. (not (same_mode now.mode Allocating) || tree_holds (image_of p s) (commanded_at_listed p listed)) && (not (b && tree_holds (image_of p s) (kept_on_path r route listed.point)) || (tree_holds (image_of p s) (commanded_at_listed p listed) && tree_holds (image_of p s) (lies_at_listed p listed)))) either_mode
+      ∙ ap (λ b. (not (same_mode now.mode Allocating) || tree_holds (image_of p s) (commanded_at_listed p listed)) && (not (is_locked_or_occupied now && b) || (tree_holds (image_of p s) (commanded_at_listed p listed) && tree_holds (image_of p s) (lies_at_listed p listed)))) kept
+      ∙ ap (λ b. (not (same_mode now.mode Allocating) || b) && (not (is_locked_or_occupied now && is_kept_on_path route now listed.point) || (b && tree_holds (image_of p s) (lies_at_listed p listed)))) commanded
+      ∙ ap (λ b. (not (same_mode now.mode Allocating) || is_commanded_as_listed p s listed) && (not (is_locked_or_occupied now && is_kept_on_path route now listed.point) || (is_commanded_as_listed p s listed && b))) lies
+    where
+      simplified : (a m k c l : Bool) → ((not a || (c || false)) && ((not (m && (k && true)) || ((c && (l && true)) || false)) && true)) ≡ ((not a || c) && (not (m && k) || (c && l)))
+      simplified true true true true true = refl
+      simplified true true true true false = refl
+      simplified true true true false l = refl
+      simplified true true false true l = refl
+      simplified true true false false l = refl
+      simplified true false k true l = refl
+      simplified true false k false l = refl
+      simplified false true true true true = refl
+      simplified false true true true false = refl
+      simplified false true true false l = refl
+      simplified false true false c l = refl
+      simplified false false k c l = refl
+
+  -- a listed point, on the path or not
+  point-of : (r : ℕ) (route : Route) (now : RouteState) (listed : Listed) → slice_get s.routes r ≡ Some now → (not (has_section listed.point route.path) || tree_holds (image_of p s) (set_for p r route listed)) ≡ (is_commanded_for p s route now listed && lies_for p s route now listed)
+  point-of r route now listed at = by_path (has_section listed.point route.path) refl
+    where
+      on_path : (a m k c l : Bool) → ((not a || c) && (not (m && k) || (c && l))) ≡ ((if a && true then c else true) && (if m && k then c && l else true))
+      on_path true true true c l = refl
+      on_path true true false c l = refl
+      on_path true false k c l = refl
+      on_path false true true c l = refl
+      on_path false true false c l = refl
+      on_path false false k c l = refl
+
+      off_path : (a m c l : Bool) → true ≡ ((if a && false then c else true) && (if m && false then l else true))
+      off_path true true c l = refl
+      off_path true false c l = refl
+      off_path false true c l = refl
+      off_path false false c l = refl
+
+      by_path : (b : Bool) → has_section listed.point route.path ≡ b → (not (has_section listed.point route.path) || tree_holds (image_of p s) (set_for p r route listed)) ≡ (is_commanded_for p s route now listed && lies_for p s route now listed)
+      by_path true e =
+          rw e (set_for-holds r route now listed at ∙ on_path (same_mode now.mode Allocating) (is_locked_or_occupied now) (is_kept_on_path route now listed.point) (is_commanded_as_listed p s listed) (lies_as_listed p s listed))
+      by_path false e =
+          let none = not-kept route now listed.point e in
+          rw (e, none) (off_path (same_mode now.mode Allocating) (is_locked_or_occupied now) (is_commanded_as_listed p s listed) (is_commanded_as_listed p s listed && lies_as_listed p s listed))
+
+  v6-of : (r : ℕ) (route : Route) (now : RouteState) → slice_get p.routes r ≡ Some route → slice_get s.routes r ≡ Some now → list_all (tree_holds (image_of p s)) (map (set_for p r route) (points_of_path route)) ≡ list_all (λ listed. is_commanded_for p s route now listed && lies_for p s route now listed) route.points
+  v6-of r route now known at =
+      list_all-map (tree_holds (image_of p s)) (set_for p r route) (points_of_path route)
+      ∙ list_all-filter (λ listed. tree_holds (image_of p s) (set_for p r route listed)) (λ listed. has_section listed.point route.path) route.points
+      ∙ list_all-alike (λ listed. not (has_section listed.point route.path) || tree_holds (image_of p s) (set_for p r route listed)) (λ listed. is_commanded_for p s route now listed && lies_for p s route now listed) route.points (λ i listed found. point-of r route now listed at)
+
+  pub v6-law : tree_holds (image_of p s) (v6_tree p) ≡ keeps_v6 p s
+  v6-law =
+      each_of-holds (image_of p s) (of_each_route p (λ r route. map (set_for p r route) (points_of_path route)))
+      ∙ each-route p s shape (image_of p s) (λ r route. map (set_for p r route) (points_of_path route)) (λ route now. list_all (λ listed. is_commanded_for p s route now listed && lies_for p s route now listed) route.points) v6-of

@@ -1,0 +1,87 @@
+-- Tests of lists that conditions are made of: of ranges, of places, of lists of lists.
+use Rattle.std.proofs.Common.{◌≡◌, ℕ, zero, suc, ◌+◌, ◌<◌, ◌==◌, Bool, true, false, not, ◌&&◌, ◌||◌, Some, List, [], ◌∷◌, filter, nat_lt, slice_get, refl, sym, ◌∙◌, ap, arith}
+use Rattle.std.specs.List.{enumerate_from, flat_map, list_all, list_any, range_with_len}
+use Rattle.std.proofs.lemmas.Bool.{eq-eqb, eqb-true, false≢true}
+use Rattle.std.proofs.lemmas.Bool.Decides.{nat_tests}
+use Rattle.std.proofs.lemmas.List.Folds.{list_any-append}
+use Rattle.std.proofs.lemmas.Option.{same_Some}
+use Rattle.ilk_base.proofs.Ranges.{range-at, range_within}
+use Rattle.ilk_base.proofs.Tested.{list_all-slice_get, list_any-at, list_any-from}
+use Rattle.ilk_base.proofs.Truth.{not-true}
+
+-- two tests are one where each passes if the other does
+pub same_test : (a b : Bool) → (a ≡ true → b ≡ true) → (b ≡ true → a ≡ true) → a ≡ b
+same_test true b there back = sym (there refl)
+same_test false b there back = sym (not-true b (λ h. absurd (false≢true (back h))))
+
+pub list_any-flat_map : {X Y : Type 0} (f : Y → Bool) (g : X → List Y) (xs : List X) → list_any f (flat_map g xs) ≡ list_any (λ x. list_any f (g x)) xs
+list_any-flat_map f g [] = refl
+list_any-flat_map f g (x ∷ xs) =
+    list_any-append f (g x) (flat_map g xs) ∙ ap (λ b. list_any f (g x) || b) (list_any-flat_map f g xs)
+
+-- all items pass where the one at each place does
+pub list_all-each : {X : Type 0} (f : X → Bool) (xs : List X) → ((i : ℕ) (x : X) → slice_get xs i ≡ Some x → f x ≡ true) → list_all f xs ≡ true
+list_all-each f [] each = refl
+list_all-each f (x ∷ xs) each =
+    let here : f x ≡ true = each 0 x refl in rw here (list_all-each f xs (λ i y at. each (suc i) y at))
+
+-- no item passes where none does
+pub list_any-never : {X : Type 0} (f : X → Bool) (xs : List X) → ((x : X) → f x ≡ false) → list_any f xs ≡ false
+list_any-never f [] never = refl
+list_any-never f (x ∷ xs) never = let here : f x ≡ false = never x in rw here (list_any-never f xs never)
+
+-- the items that pass one test pass another
+pub list_all-filter : {X : Type 0} (f g : X → Bool) (xs : List X) → list_all f (filter g xs) ≡ list_all (λ x. not (g x) || f x) xs
+list_all-filter f g [] = refl
+list_all-filter f g (x ∷ xs) = by_test (list_all-filter f g xs) (g x) refl
+  where
+    by_test : list_all f (filter g xs) ≡ list_all (λ y. not (g y) || f y) xs → (b : Bool) → g x ≡ b → list_all f (filter g (x ∷ xs)) ≡ list_all (λ y. not (g y) || f y) (x ∷ xs)
+    by_test rest true e = rw e (ap (λ b. f x && b) rest)
+    by_test rest false e = rw e rest
+
+-- a place of an enumerated list, and its item
+pub enumerated : {X : Type 0} (k : ℕ) (xs : List X) (i : ℕ) (place : ℕ × X) → slice_get (enumerate_from k xs) i ≡ Some place → (place.0 ≡ k + i) × (slice_get xs i ≡ Some place.1)
+enumerated k [] i place at = cc
+enumerated k (x ∷ xs) zero place at =
+    let same : (k, x) ≡ place = same_Some (k, x) place at in
+    let sum : k ≡ k + 0 = omega arith in
+    (ap (λ q. q.0) (sym same) ∙ sum, ap (λ q. Some q.1) same)
+enumerated k (x ∷ xs) (suc i) place at =
+    let rest = enumerated (k + 1) xs i place at in
+    let sum : (k + 1) + i ≡ k + suc i = omega arith in
+    (rest.0 ∙ sum, rest.1)
+
+pub enumerated-at : {X : Type 0} (k : ℕ) (xs : List X) (i : ℕ) (x : X) → slice_get xs i ≡ Some x → slice_get (enumerate_from k xs) i ≡ Some (k + i, x)
+enumerated-at k [] i x at = cc
+enumerated-at k (y ∷ xs) zero x at =
+    let same : y ≡ x = same_Some y x at in
+    let sum : k ≡ k + 0 = omega arith in
+    ap (λ z. Some (k, z)) same ∙ ap (λ j. Some (j, x)) sum
+enumerated-at k (y ∷ xs) (suc i) x at =
+    let sum : (k + 1) + i ≡ k + suc i = omega arith in
+    enumerated-at (k + 1) xs i x at ∙ ap (λ j. Some (j, x)) sum
+
+-- one of the numbers below n is c exactly where c is below n
+pub counted-below : (c n : ℕ) → list_any (λ x. c == x) (range_with_len 0 n) ≡ nat_lt c n
+counted-below c n =
+    same_test (list_any (λ x. c == x) (range_with_len 0 n)) (nat_lt c n) (λ h.
+    let found : (k : ℕ) × (x : ℕ) × (slice_get (range_with_len 0 n) k ≡ Some x) × ((c == x) ≡ true) = list_any-at (λ x. c == x) (range_with_len 0 n) h in
+    let below : found.1 < n = (range_within n found.0 found.1 found.2).1 in
+    let same : c ≡ found.1 = eqb-true c found.1 found.3 in
+    let less : c < n = omega (arith, below, same) in
+    grind (arith, nat_tests)) (λ h.
+    let less : c < n = grind (arith, nat_tests) in
+    list_any-from (λ x. c == x) (range_with_len 0 n) c c (range-at n c less) (eq-eqb c c refl))
+
+-- what is asked of each number below n where it is c, is asked of c
+pub asked-at : (test : ℕ → Bool) (c n : ℕ) → c < n → list_all (λ k. not (c == k) || test k) (range_with_len 0 n) ≡ test c
+asked-at test c n within =
+    same_test (list_all (λ k. not (c == k) || test k) (range_with_len 0 n)) (test c) (λ h.
+    let here : (not (c == c) || test c) ≡ true = list_all-slice_get (λ k. not (c == k) || test k) (range_with_len 0 n) c c h (range-at n c within) in
+    let own : (c == c) ≡ true = eq-eqb c c refl in
+    rw own at here) (λ h.
+    list_all-each (λ k. not (c == k) || test k) (range_with_len 0 n) (λ i k at. by_same k h (c == k) refl))
+  where
+    by_same : (k : ℕ) → test c ≡ true → (b : Bool) → (c == k) ≡ b → (not (c == k) || test k) ≡ true
+    by_same k h true e = rw e (ap test (sym (eqb-true c k e)) ∙ h)
+    by_same k h false e = rw e refl

@@ -1,0 +1,34 @@
+-- Which sections a route holds, and how far its path is seen and released, as conditions.
+use Rattle.std.specs.Prelude.{ℕ, ◌+◌, ◌==◌, List, [], ◌∷◌, map, if◌then◌else◌}
+use Rattle.std.specs.List.{range_with_len}
+use Rattle.ilk_ir.specs.Tree.{Tree}
+use Rattle.ilk_plant.specs.Network.{has_section}
+use Rattle.ilk_plant.specs.declared.state.Mode.TheVariants.{Allocating, Locked, Occupied}
+use Rattle.ilk_plant.specs.declared.table.Route.{Route}
+use Rattle.ilk_routes.specs.Claims.{sections_beside}
+use Rattle.ilk_conditions.specs.Conditions.{mode_is, rel_is, seen_is}
+use Rattle.ilk_invs.specs.Parts.{each_of, of_each_place, some_of}
+
+-- of route r fewer than k path sections are seen, or released
+abbrev pub seen_below : ℕ → ℕ → Tree
+seen_below r k = some_of (map (seen_is r) (range_with_len 0 k))
+
+abbrev pub rel_below : ℕ → ℕ → Tree
+rel_below r k = some_of (map (rel_is r) (range_with_len 0 k))
+
+-- route r is Locked or Occupied
+abbrev pub locked_or_occupied : ℕ → Tree
+locked_or_occupied r = some_of (mode_is r Locked ∷ mode_is r Occupied ∷ [])
+
+-- route r is Allocating, Locked or Occupied, so that it holds sections
+abbrev pub is_holding : ℕ → Tree
+is_holding r = some_of (mode_is r Allocating ∷ mode_is r Locked ∷ mode_is r Occupied ∷ [])
+
+-- x is path[i] of route r, with i at least rel
+abbrev pub kept_on_path : ℕ → Route → ℕ → Tree
+kept_on_path r route x = some_of (of_each_place route (λ i y. if y == x then rel_below r (i + 1) ∷ [] else []))
+
+-- route r holds x: it holds sections, and x is beside its path, or path[i] with i at least rel
+abbrev pub holding_section : ℕ → Route → ℕ → Tree
+holding_section r route x =
+    if has_section x (sections_beside route) then is_holding r else each_of (is_holding r ∷ kept_on_path r route x ∷ [])

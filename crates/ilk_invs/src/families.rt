@@ -1,0 +1,66 @@
+ghost use Rattle.std.specs.Prelude.{◌≡◌, ◌≤◌, map, true, IfOk};
+ghost use Rattle.ilk_ir.specs.Form.{tree_of};
+ghost use Rattle.ilk_ir.specs.Tree.{tree_valid};
+ghost use Rattle.ilk_layout.specs.Variables.{ranges_of_plant};
+ghost use Rattle.ilk_invs.specs.FamilyTrees as definitions;
+ghost use Rattle.ilk_invs.specs.Laws.{HoldsAsKept};
+
+use crate::hold_families::{v2_form, v3_form};
+use crate::point_family::v6_form;
+use crate::route_families::{v1_form, v4_form, v5_form, v9_form};
+use crate::train_families::{v7_form, v8_form};
+use ilk_ir::{Form, Forms};
+use ilk_plant::{Plant, Row};
+use std::alloc::{AllocError, Global};
+
+// The form of family V`j`, `j` from 1 to 9.
+fn form_of(alloc: Global, plant: &Plant, j: u8) -> Result<Form, AllocError>
+    requires first { 1 ≤ j }
+    requires last { j ≤ 9 }
+    ensures { IfOk result (λ form. tree_of form ≡ definitions.family_tree plant.now j) }
+{
+    match j {
+        1 => v1_form(alloc, plant),
+        2 => v2_form(alloc, plant),
+        3 => v3_form(alloc, plant),
+        4 => v4_form(alloc, plant),
+        5 => v5_form(alloc, plant),
+        6 => v6_form(alloc, plant),
+        7 => v7_form(alloc, plant),
+        8 => v8_form(alloc, plant),
+        _ => v9_form(alloc, plant),
+    }
+}
+
+/// Family V`j` of the invariant as a form, `j` from 1 to 9. The only refusal is want of memory.
+pub fn family_form(alloc: Global, plant: &Plant, j: u8) -> Result<Form, AllocError>
+    requires first { 1 ≤ j }
+    requires last { j ≤ 9 }
+    ensures tree { IfOk result (λ form. tree_of form ≡ definitions.family_tree plant.now j) }
+
+    // It holds of the image of a state with shape and without hazard exactly where the state keeps VJ.
+    ensures kept { IfOk result (λ form. HoldsAsKept plant.now j (tree_of form)) }
+    ensures valid { IfOk result (λ form. tree_valid (ranges_of_plant plant.now) (tree_of form) ≡ true) }
+{
+    plant.is_sound();
+    plant.is_of_drafts();
+    let form = form_of(alloc, plant, j)?;
+    Ok(form)
+}
+
+/// All nine families as forms, in order. The only refusal is want of memory.
+pub fn family_forms(alloc: Global, plant: &Plant) -> Result<Forms, AllocError>
+    ensures { IfOk result (λ forms. map tree_of forms ≡ definitions.family_trees plant.now) }
+{
+    let mut forms = Row::new(alloc);
+    forms.push(v1_form(alloc, plant)?)?;
+    forms.push(v2_form(alloc, plant)?)?;
+    forms.push(v3_form(alloc, plant)?)?;
+    forms.push(v4_form(alloc, plant)?)?;
+    forms.push(v5_form(alloc, plant)?)?;
+    forms.push(v6_form(alloc, plant)?)?;
+    forms.push(v7_form(alloc, plant)?)?;
+    forms.push(v8_form(alloc, plant)?)?;
+    forms.push(v9_form(alloc, plant)?)?;
+    Ok(forms)
+}

@@ -1,0 +1,136 @@
+ghost use Rattle.std.specs.Prelude.{◌≡◌, ◌<◌, ◌+◌, ◌==◌, ◌++◌, ◌∷◌, [], length, map, if◌then◌else◌, IfOk, OnOk};
+ghost use Rattle.std.specs.List.{list_any};
+ghost use Rattle.ilk_ir.specs.Form.{tree_of};
+ghost use Rattle.ilk_plant.specs.Network.{has_section};
+ghost use Rattle.ilk_plant.specs.Plant.{IsRouteOf};
+ghost use Rattle.ilk_plant.specs.declared.limits.TheConstants.{MAX_PATH};
+ghost use Rattle.ilk_routes.specs.Claims.{sections_beside};
+ghost use Rattle.ilk_invs.specs.Held as definitions;
+
+use ilk_conditions::{mode_is, rel_is, seen_is};
+use ilk_ir::Form;
+use ilk_plant::{Listed, Mode, Plant, Route, Row, has_section};
+use std::alloc::{AllocError, Global};
+
+/// Of route `r` fewer than `k` path sections are seen.
+pub fn seen_below(alloc: Global, plant: &Plant, r: u32, k: u8) -> Result<Form, AllocError>
+    requires { r < length plant.now.routes }
+    ensures { IfOk result (λ form. tree_of form ≡ definitions.seen_below r k) }
+{
+    let mut forms = Vec::new(alloc);
+    for count in 0..k {
+        forms.push(seen_is(plant, r, count))?;
+    }
+    Ok(Form::Or(forms))
+}
+
+/// Of route `r` fewer than `k` path sections are released.
+pub fn rel_below(alloc: Global, plant: &Plant, r: u32, k: u8) -> Result<Form, AllocError>
+    requires { r < length plant.now.routes }
+    ensures { IfOk result (λ form. tree_of form ≡ definitions.rel_below r k) }
+{
+    let mut forms = Vec::new(alloc);
+    for count in 0..k {
+        forms.push(rel_is(plant, r, count))?;
+    }
+    Ok(Form::Or(forms))
+}
+
+/// Route `r` is Locked or Occupied.
+pub fn locked_or_occupied(alloc: Global, plant: &Plant, r: u32) -> Result<Form, AllocError>
+    requires { r < length plant.now.routes }
+    ensures { IfOk result (λ form. tree_of form ≡ definitions.locked_or_occupied r) }
+{
+    let mut forms = Vec::new(alloc);
+    forms.push(mode_is(plant, r, Mode::Locked))?;
+    forms.push(mode_is(plant, r, Mode::Occupied))?;
+    Ok(Form::Or(forms))
+}
+
+/// Route `r` is Allocating, Locked or Occupied.
+pub fn is_holding(alloc: Global, plant: &Plant, r: u32) -> Result<Form, AllocError>
+    requires { r < length plant.now.routes }
+    ensures { IfOk result (λ form. tree_of form ≡ definitions.is_holding r) }
+{
+    let mut forms = Vec::new(alloc);
+    forms.push(mode_is(plant, r, Mode::Allocating))?;
+    forms.push(mode_is(plant, r, Mode::Locked))?;
+    forms.push(mode_is(plant, r, Mode::Occupied))?;
+    Ok(Form::Or(forms))
+}
+
+// Adds that route `r` keeps the section at place `i` of its path, if that is asked.
+fn push_kept_if(
+    alloc: Global,
+    forms: &mut Vec<Form>,
+    plant: &Plant,
+    r: u32,
+    i: u8,
+    is_asked: bool,
+) -> Result<(), AllocError>
+    requires known { r < length plant.now.routes }
+    requires place { i < MAX_PATH }
+    ensures { OnOk result (map tree_of forms.new.items ≡ map tree_of forms.old.items ++ (if is_asked then definitions.rel_below r (i + 1) ∷ [] else [])) }
+{
+    if is_asked {
+        forms.push(rel_below(alloc, plant, r, i + 1)?)?;
+    }
+    Ok(())
+}
+
+/// Section `x` is at a place of the path of route `r` that isn't released.
+pub fn kept_on_path(
+    alloc: Global,
+    plant: &Plant,
+    r: u32,
+    route: &Route,
+    x: u32,
+) -> Result<Form, AllocError>
+    requires known { r < length plant.now.routes }
+    requires route { IsRouteOf plant.now route.now }
+    ensures { IfOk result (λ form. tree_of form ≡ definitions.kept_on_path r route.now x) }
+{
+    let path = route.path.as_slice();
+    let mut forms = Vec::new(alloc);
+    for i in 0..path.len() {
+        push_kept_if(alloc, &mut forms, plant, r, i as u8, path[i] == x)?;
+    }
+    Ok(Form::Or(forms))
+}
+
+// Whether some of these points is on section `x`.
+fn has_point(points: &Row<Listed>, x: u32) -> bool
+    ensures { result ≡ list_any (λ listed. listed.point == x) points.now }
+{
+    points.as_slice().iter().any(|listed| listed.point == x)
+}
+
+/// Whether section `x` is in the overlap of a route, or is one of its protecting points.
+#[tactic(auto, using(crate::proofs::Sections::beside))]
+pub fn is_beside(route: &Route, x: u32) -> bool
+    ensures { result ≡ has_section x (sections_beside route.now) }
+{
+    has_section(&route.overlap, x) || has_point(&route.protecting_points, x)
+}
+
+/// Route `r` holds section `x`.
+pub fn holding_section(
+    alloc: Global,
+    plant: &Plant,
+    r: u32,
+    route: &Route,
+    x: u32,
+) -> Result<Form, AllocError>
+    requires known { r < length plant.now.routes }
+    requires route { IsRouteOf plant.now route.now }
+    ensures { IfOk result (λ form. tree_of form ≡ definitions.holding_section r route.now x) }
+{
+    let holding = is_holding(alloc, plant, r)?;
+    if is_beside(route, x) {
+        return Ok(holding);
+    }
+    let mut forms = Vec::new(alloc);
+    forms.push(holding)?;
+    forms.push(kept_on_path(alloc, plant, r, route, x)?)?;
+    Ok(Form::And(forms))
+}

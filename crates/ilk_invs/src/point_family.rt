@@ -1,0 +1,111 @@
+ghost use Rattle.std.specs.Prelude.{◌≡◌, ◌<◌, ◌++◌, ◌∷◌, [], filter, if◌then◌else◌, length, map, IfOk, OnOk};
+ghost use Rattle.ilk_ir.specs.Form.{tree_of};
+ghost use Rattle.ilk_plant.specs.Network.{has_section};
+ghost use Rattle.ilk_plant.specs.Plant.{IsRouteOf};
+ghost use Rattle.ilk_conditions.specs.Conditions as conditions;
+ghost use Rattle.ilk_invs.specs.Held as held;
+ghost use Rattle.ilk_invs.specs.Parts as parts;
+ghost use Rattle.ilk_invs.specs.PointFamily as definitions;
+
+use crate::held::{kept_on_path, locked_or_occupied};
+use crate::parts::where_holds;
+use ilk_conditions::{commanded_at_listed, lies_at_listed, mode_is};
+use ilk_ir::Form;
+use ilk_plant::{Listed, Mode, Plant, Route, has_section};
+use std::alloc::{AllocError, Global};
+
+/// Route `r` is Locked or Occupied, and keeps section `x` on its path.
+pub fn is_kept(
+    alloc: Global,
+    plant: &Plant,
+    r: u32,
+    route: &Route,
+    x: u32,
+) -> Result<Form, AllocError>
+    requires known { r < length plant.now.routes }
+    requires route { IsRouteOf plant.now route.now }
+    ensures { IfOk result (λ form. tree_of form ≡ parts.each_of (held.locked_or_occupied r ∷ held.kept_on_path r route.now x ∷ [])) }
+{
+    let mut forms = Vec::new(alloc);
+    forms.push(locked_or_occupied(alloc, plant, r)?)?;
+    forms.push(kept_on_path(alloc, plant, r, route, x)?)?;
+    Ok(Form::And(forms))
+}
+
+// A listed point is commanded to its position, and lies there.
+fn is_set(alloc: Global, plant: &Plant, listed: &Listed) -> Result<Form, AllocError>
+    ensures { IfOk result (λ form. tree_of form ≡ parts.each_of (conditions.commanded_at_listed plant.now listed.now ∷ conditions.lies_at_listed plant.now listed.now ∷ [])) }
+{
+    let mut forms = Vec::new(alloc);
+    forms.push(commanded_at_listed(plant, listed))?;
+    forms.push(lies_at_listed(plant, listed))?;
+    Ok(Form::And(forms))
+}
+
+// V6 of route `r` and a listed point of its path.
+fn set_for(
+    alloc: Global,
+    plant: &Plant,
+    r: u32,
+    route: &Route,
+    listed: &Listed,
+) -> Result<Form, AllocError>
+    requires known { r < length plant.now.routes }
+    requires route { IsRouteOf plant.now route.now }
+    ensures { IfOk result (λ form. tree_of form ≡ definitions.set_for plant.now r route.now listed.now) }
+{
+    let allocating = mode_is(plant, r, Mode::Allocating);
+    let kept = is_kept(alloc, plant, r, route, listed.point)?;
+    let mut forms = Vec::new(alloc);
+    forms.push(where_holds(alloc, allocating, commanded_at_listed(plant, listed))?)?;
+    forms.push(where_holds(alloc, kept, is_set(alloc, plant, listed)?)?)?;
+    Ok(Form::And(forms))
+}
+
+// Adds V6 of route `r` and a listed point, if the point is on its path.
+fn push_set_for(
+    alloc: Global,
+    forms: &mut Vec<Form>,
+    plant: &Plant,
+    r: u32,
+    route: &Route,
+    listed: &Listed,
+) -> Result<(), AllocError>
+    requires known { r < length plant.now.routes }
+    requires route { IsRouteOf plant.now route.now }
+    ensures { OnOk result (map tree_of forms.new.items ≡ map tree_of forms.old.items ++ (if has_section listed.now.point route.now.path then definitions.set_for plant.now r route.now listed.now ∷ [] else [])) }
+{
+    if has_section(&route.path, listed.point) {
+        forms.push(set_for(alloc, plant, r, route, listed)?)?;
+    }
+    Ok(())
+}
+
+// Adds V6 of route `r`.
+fn push_points_set(
+    alloc: Global,
+    forms: &mut Vec<Form>,
+    plant: &Plant,
+    r: u32,
+    route: &Route,
+) -> Result<(), AllocError>
+    requires known { r < length plant.now.routes }
+    requires route { IsRouteOf plant.now route.now }
+    ensures { OnOk result (map tree_of forms.new.items ≡ map tree_of forms.old.items ++ map (definitions.set_for plant.now r route.now) (definitions.points_of_path route.now)) }
+{
+    for listed in route.points.as_slice() {
+        push_set_for(alloc, forms, plant, r, route, listed)?;
+    }
+    Ok(())
+}
+
+/// V6 as a form.
+pub fn v6_form(alloc: Global, plant: &Plant) -> Result<Form, AllocError>
+    ensures { IfOk result (λ form. tree_of form ≡ definitions.v6_tree plant.now) }
+{
+    let mut forms = Vec::new(alloc);
+    for r in 0..plant.routes() {
+        push_points_set(alloc, &mut forms, plant, r, plant.route(r))?;
+    }
+    Ok(Form::And(forms))
+}

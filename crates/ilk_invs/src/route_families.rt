@@ -1,0 +1,206 @@
+ghost use Rattle.std.specs.Prelude.{◌≡◌, ◌<◌, ◌≤◌, ◌+◌, ◌==◌, ◌++◌, ◌∷◌, [], All, if◌then◌else◌, length, map, slice_get, IfOk, OnOk};
+ghost use Rattle.std.specs.List.{range_with_len};
+ghost use Rattle.ilk_ir.specs.Form.{tree_of};
+ghost use Rattle.ilk_ir.specs.Tree.{negation};
+ghost use Rattle.ilk_plant.specs.Plant.{IsRouteOf};
+ghost use Rattle.ilk_plant.specs.declared.limits.TheConstants.{MAX_PATH};
+ghost use Rattle.ilk_plant.specs.declared.state.Aspect.TheVariants.{Closed};
+ghost use Rattle.ilk_plant.specs.declared.state.Mode.TheVariants.{Allocating, Locked, Occupied};
+ghost use Rattle.ilk_conditions.specs.Conditions as conditions;
+ghost use Rattle.ilk_invs.specs.Held as held;
+ghost use Rattle.ilk_invs.specs.Parts as parts;
+ghost use Rattle.ilk_invs.specs.RouteFamilies as definitions;
+
+use crate::held::rel_below;
+use crate::parts::where_holds;
+use ilk_conditions::{board_is, mode_is, negated, no_train_at, rel_is, seen_is};
+use ilk_ir::Form;
+use ilk_plant::{Aspect, Mode, Plant, Route};
+use std::alloc::{AllocError, Global};
+
+// Route `r` isn't Occupied, or `k` of its path sections aren't seen, or fewer than `k` are released.
+fn fewer_released(alloc: Global, plant: &Plant, r: u32, k: u8) -> Result<Form, AllocError>
+    requires { r < length plant.now.routes }
+    ensures { IfOk result (λ form. tree_of form ≡ parts.some_of (negation (conditions.mode_is r Occupied) ∷ negation (conditions.seen_is r k) ∷ held.rel_below r k ∷ [])) }
+{
+    let mut forms = Vec::new(alloc);
+    forms.push(negated(alloc, mode_is(plant, r, Mode::Occupied))?)?;
+    forms.push(negated(alloc, seen_is(plant, r, k))?)?;
+    forms.push(rel_below(alloc, plant, r, k)?)?;
+    Ok(Form::Or(forms))
+}
+
+// Adds of each count below `n` that fewer are released than that, where that many are seen.
+fn push_fewer_released(
+    alloc: Global,
+    forms: &mut Vec<Form>,
+    plant: &Plant,
+    r: u32,
+    n: u8,
+) -> Result<(), AllocError>
+    requires { r < length plant.now.routes }
+    ensures { OnOk result (map tree_of forms.new.items ≡ map tree_of forms.old.items ++ map (λ k. parts.some_of (negation (conditions.mode_is r Occupied) ∷ negation (conditions.seen_is r k) ∷ held.rel_below r k ∷ [])) (range_with_len 0 n)) }
+{
+    for k in 0..n {
+        forms.push(fewer_released(alloc, plant, r, k)?)?;
+    }
+    Ok(())
+}
+
+// Route `r` is Occupied, or the other holds.
+fn occupied_or(alloc: Global, plant: &Plant, r: u32, other: Form) -> Result<Form, AllocError>
+    requires { r < length plant.now.routes }
+    ensures { IfOk result (λ form. tree_of form ≡ parts.some_of (conditions.mode_is r Occupied ∷ tree_of other ∷ [])) }
+{
+    let mut forms = Vec::new(alloc);
+    forms.push(mode_is(plant, r, Mode::Occupied))?;
+    forms.push(other)?;
+    Ok(Form::Or(forms))
+}
+
+// V1 of route `r`.
+fn counts_of(alloc: Global, plant: &Plant, r: u32, route: &Route) -> Result<Form, AllocError>
+    requires known { r < length plant.now.routes }
+    requires route { IsRouteOf plant.now route.now }
+    ensures { IfOk result (λ form. tree_of form ≡ definitions.counts_of r route.now) }
+{
+    let mut forms = Vec::new(alloc);
+    forms.push(occupied_or(alloc, plant, r, seen_is(plant, r, 0))?)?;
+    forms.push(occupied_or(alloc, plant, r, rel_is(plant, r, 0))?)?;
+    push_fewer_released(alloc, &mut forms, plant, r, route.path.len() as u8 + 1)?;
+    Ok(Form::And(forms))
+}
+
+/// V1 as a form.
+pub fn v1_form(alloc: Global, plant: &Plant) -> Result<Form, AllocError>
+    ensures { IfOk result (λ form. tree_of form ≡ definitions.v1_tree plant.now) }
+{
+    let mut forms = Vec::new(alloc);
+    for r in 0..plant.routes() {
+        forms.push(counts_of(alloc, plant, r, plant.route(r))?)?;
+    }
+    Ok(Form::And(forms))
+}
+
+/// Adds of each of the sections that it is vacant.
+pub fn push_vacant(forms: &mut Vec<Form>, plant: &Plant, sections: &[u32]) -> Result<(), AllocError>
+    requires { All (λ x. x < length plant.now.sections) sections.now }
+    ensures { OnOk result (map tree_of forms.new.items ≡ map tree_of forms.old.items ++ map (conditions.no_train_at plant.now) sections.now) }
+{
+    for x in sections {
+        forms.push(no_train_at(plant, *x))?;
+    }
+    Ok(())
+}
+
+// V4 of route `r`.
+fn vacant_while_allocating(
+    alloc: Global,
+    plant: &Plant,
+    r: u32,
+    route: &Route,
+) -> Result<Form, AllocError>
+    requires known { r < length plant.now.routes }
+    requires route { IsRouteOf plant.now route.now }
+    ensures { IfOk result (λ form. tree_of form ≡ parts.where_holds (conditions.mode_is r Allocating) (parts.each_of (definitions.path_vacant plant.now route.now))) }
+{
+    let mut forms = Vec::new(alloc);
+    push_vacant(&mut forms, plant, route.path.as_slice())?;
+    where_holds(alloc, mode_is(plant, r, Mode::Allocating), Form::And(forms))
+}
+
+/// V4 as a form.
+pub fn v4_form(alloc: Global, plant: &Plant) -> Result<Form, AllocError>
+    ensures { IfOk result (λ form. tree_of form ≡ definitions.v4_tree plant.now) }
+{
+    let mut forms = Vec::new(alloc);
+    for r in 0..plant.routes() {
+        forms.push(vacant_while_allocating(alloc, plant, r, plant.route(r))?)?;
+    }
+    Ok(Form::And(forms))
+}
+
+// Route `r` is Locked, and each of its path sections is vacant.
+fn is_ready(alloc: Global, plant: &Plant, r: u32, route: &Route) -> Result<Form, AllocError>
+    requires known { r < length plant.now.routes }
+    requires route { IsRouteOf plant.now route.now }
+    ensures { IfOk result (λ form. tree_of form ≡ parts.each_of (conditions.mode_is r Locked ∷ definitions.path_vacant plant.now route.now)) }
+{
+    let mut forms = Vec::new(alloc);
+    forms.push(mode_is(plant, r, Mode::Locked))?;
+    push_vacant(&mut forms, plant, route.path.as_slice())?;
+    Ok(Form::And(forms))
+}
+
+// Adds, if board `m` is the source of route `r`, that the route is Locked and its path vacant.
+fn push_ready_from(
+    alloc: Global,
+    forms: &mut Vec<Form>,
+    plant: &Plant,
+    m: u32,
+    r: u32,
+) -> Result<(), AllocError>
+    requires { r < length plant.now.routes }
+    ensures { OnOk result (map tree_of forms.new.items ≡ map tree_of forms.old.items ++ parts.conditions_for (slice_get plant.now.routes r) (λ route. if route.source == m then parts.each_of (conditions.mode_is r Locked ∷ definitions.path_vacant plant.now route) ∷ [] else [])) }
+{
+    let route = plant.route(r);
+    if route.source == m {
+        forms.push(is_ready(alloc, plant, r, route)?)?;
+    }
+    Ok(())
+}
+
+// V5 of board `m`.
+fn opened_for(alloc: Global, plant: &Plant, m: u32) -> Result<Form, AllocError>
+    requires { m < length plant.now.boards }
+    ensures { IfOk result (λ form. tree_of form ≡ definitions.opened_for plant.now m) }
+{
+    let mut forms = Vec::new(alloc);
+    forms.push(negated(alloc, board_is(plant, m, Aspect::Open))?)?;
+    for r in 0..plant.routes() {
+        push_ready_from(alloc, &mut forms, plant, m, r)?;
+    }
+    Ok(Form::Or(forms))
+}
+
+/// V5 as a form.
+pub fn v5_form(alloc: Global, plant: &Plant) -> Result<Form, AllocError>
+    ensures { IfOk result (λ form. tree_of form ≡ definitions.v5_tree plant.now) }
+{
+    let mut forms = Vec::new(alloc);
+    for m in 0..plant.boards() {
+        forms.push(opened_for(alloc, plant, m)?)?;
+    }
+    Ok(Form::And(forms))
+}
+
+// Adds of each of the boards that it is Closed where route `r` is Locked.
+fn push_closed_while_locked(
+    alloc: Global,
+    forms: &mut Vec<Form>,
+    plant: &Plant,
+    r: u32,
+    boards: &[u32],
+) -> Result<(), AllocError>
+    requires known { r < length plant.now.routes }
+    requires boards { All (λ m. m < length plant.now.boards) boards.now }
+    ensures { OnOk result (map tree_of forms.new.items ≡ map tree_of forms.old.items ++ map (λ m. parts.where_holds (conditions.mode_is r Locked) (conditions.board_is plant.now m Closed)) boards.now) }
+{
+    for m in boards {
+        let locked = mode_is(plant, r, Mode::Locked);
+        forms.push(where_holds(alloc, locked, board_is(plant, *m, Aspect::Closed))?)?;
+    }
+    Ok(())
+}
+
+/// V9 as a form.
+pub fn v9_form(alloc: Global, plant: &Plant) -> Result<Form, AllocError>
+    ensures { IfOk result (λ form. tree_of form ≡ definitions.v9_tree plant.now) }
+{
+    let mut forms = Vec::new(alloc);
+    for r in 0..plant.routes() {
+        let boards = plant.route(r).protecting_boards.as_slice();
+        push_closed_while_locked(alloc, &mut forms, plant, r, boards)?;
+    }
+    Ok(Form::And(forms))
+}

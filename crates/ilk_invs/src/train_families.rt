@@ -1,0 +1,288 @@
+ghost use Rattle.std.specs.Prelude.{◌≡◌, ◌<◌, ◌+◌, ◌==◌, ◌++◌, ◌∷◌, [], All, drop, if◌then◌else◌, length, map, slice_get, IfOk, OnOk};
+ghost use Rattle.ilk_ir.specs.Form.{tree_of};
+ghost use Rattle.ilk_ir.specs.Tree.{negation};
+ghost use Rattle.ilk_plant.specs.Plant.{IsRouteOf};
+ghost use Rattle.ilk_plant.specs.declared.limits.TheConstants.{MAX_PATH};
+ghost use Rattle.ilk_plant.specs.declared.network.Dir.TheVariants.{Up, Down};
+ghost use Rattle.ilk_plant.specs.declared.state.Aspect.TheVariants.{Closed};
+ghost use Rattle.ilk_plant.specs.declared.state.Mode.TheVariants.{Locked, Occupied};
+ghost use Rattle.ilk_layout.specs.declared.values.Occupancy.TheVariants.{Taken};
+ghost use Rattle.ilk_model.specs.Holding.{is_plain, runs_in};
+ghost use Rattle.ilk_conditions.specs.Conditions as conditions;
+ghost use Rattle.ilk_invs.specs.Parts as parts;
+ghost use Rattle.ilk_invs.specs.TrainFamilies as definitions;
+
+use crate::held::seen_below;
+use crate::point_family::is_kept;
+use crate::route_families::push_vacant;
+use ilk_conditions::{board_is, mode_is, negated, occupancy_is};
+use ilk_ir::Form;
+use ilk_layout::Occupancy;
+use ilk_plant::{Aspect, Dir, Mode, Plant, Route, has_section};
+use std::alloc::{AllocError, Global};
+
+// Whether section `x` is plain for a train in direction `d`.
+fn is_plain(plant: &Plant, d: Dir, x: u32) -> bool
+    requires { x < length plant.now.sections }
+    ensures { result ≡ is_plain plant.now d x }
+{
+    plant.board_of(x, d).is_none() && plant.neighbour(x, d, 0).is_some()
+}
+
+// Whether a route runs in direction `d`.
+fn runs_in(plant: &Plant, d: Dir, route: &Route) -> bool
+    requires { IsRouteOf plant.now route.now }
+    ensures { result ≡ runs_in plant.now d route.now }
+{
+    plant.board(route.source).dir == d
+}
+
+// Section `x` is taken by a train in direction `d`, with its tail and its head there or not.
+fn taken_is(plant: &Plant, x: u32, d: Dir, tail: bool, head: bool) -> Form
+    requires { x < length plant.now.sections }
+    ensures { tree_of result ≡ conditions.occupancy_is plant.now x (Taken d tail head) }
+{
+    let taken = Occupancy::Taken { dir: d, tail, head };
+    occupancy_is(plant, x, taken)
+}
+
+// A train in direction `d` has its head at section `x`.
+fn head_at(alloc: Global, plant: &Plant, d: Dir, x: u32) -> Result<Form, AllocError>
+    requires { x < length plant.now.sections }
+    ensures { IfOk result (λ form. tree_of form ≡ definitions.head_at plant.now d x) }
+{
+    let mut forms = Vec::new(alloc);
+    forms.push(taken_is(plant, x, d, false, true))?;
+    forms.push(taken_is(plant, x, d, true, true))?;
+    Ok(Form::Or(forms))
+}
+
+// A train in direction `d` has section `x` in its body.
+fn body_at(alloc: Global, plant: &Plant, d: Dir, x: u32) -> Result<Form, AllocError>
+    requires { x < length plant.now.sections }
+    ensures { IfOk result (λ form. tree_of form ≡ definitions.body_at plant.now d x) }
+{
+    let mut forms = Vec::new(alloc);
+    forms.push(taken_is(plant, x, d, false, false))?;
+    forms.push(taken_is(plant, x, d, false, true))?;
+    forms.push(taken_is(plant, x, d, true, false))?;
+    forms.push(taken_is(plant, x, d, true, true))?;
+    Ok(Form::Or(forms))
+}
+
+// Route `r` is Occupied, or Locked with its source Closed.
+fn may_lead(alloc: Global, plant: &Plant, r: u32, route: &Route) -> Result<Form, AllocError>
+    requires known { r < length plant.now.routes }
+    requires route { IsRouteOf plant.now route.now }
+    ensures { IfOk result (λ form. tree_of form ≡ parts.some_of (conditions.mode_is r Occupied ∷ parts.each_of (conditions.mode_is r Locked ∷ conditions.board_is plant.now route.now.source Closed ∷ []) ∷ [])) }
+{
+    let mut closed = Vec::new(alloc);
+    closed.push(mode_is(plant, r, Mode::Locked))?;
+    closed.push(board_is(plant, route.source, Aspect::Closed))?;
+    let mut forms = Vec::new(alloc);
+    forms.push(mode_is(plant, r, Mode::Occupied))?;
+    forms.push(Form::And(closed))?;
+    Ok(Form::Or(forms))
+}
+
+// Route `r` leads a train with its head at place `i` of its path.
+fn leads_from(
+    alloc: Global,
+    plant: &Plant,
+    r: u32,
+    route: &Route,
+    i: usize,
+) -> Result<Form, AllocError>
+    requires known { r < length plant.now.routes }
+    requires route { IsRouteOf plant.now route.now }
+    requires place { i < length route.now.path }
+    ensures { IfOk result (λ form. tree_of form ≡ definitions.leads_from plant.now r route.now i) }
+{
+    let mut forms = Vec::new(alloc);
+    forms.push(may_lead(alloc, plant, r, route)?)?;
+    forms.push(seen_below(alloc, plant, r, i as u8 + 2)?)?;
+    push_vacant(&mut forms, plant, &route.path.as_slice()[i + 1..])?;
+    Ok(Form::And(forms))
+}
+
+// Adds that route `r` leads a train with its head at place `i` of its path, if that is asked.
+fn push_leads_if(
+    alloc: Global,
+    forms: &mut Vec<Form>,
+    plant: &Plant,
+    r: u32,
+    route: &Route,
+    i: usize,
+    is_asked: bool,
+) -> Result<(), AllocError>
+    requires known { r < length plant.now.routes }
+    requires route { IsRouteOf plant.now route.now }
+    requires place { i < length route.now.path }
+    ensures { OnOk result (map tree_of forms.new.items ≡ map tree_of forms.old.items ++ (if is_asked then definitions.leads_from plant.now r route.now i ∷ [] else [])) }
+{
+    if is_asked {
+        forms.push(leads_from(alloc, plant, r, route, i)?)?;
+    }
+    Ok(())
+}
+
+// Adds of each place of the path of route `r` that has section `x` that the route leads a train with
+// its head there.
+fn push_leads_on_path(
+    alloc: Global,
+    forms: &mut Vec<Form>,
+    plant: &Plant,
+    x: u32,
+    r: u32,
+    route: &Route,
+) -> Result<(), AllocError>
+    requires known { r < length plant.now.routes }
+    requires route { IsRouteOf plant.now route.now }
+    ensures { OnOk result (map tree_of forms.new.items ≡ map tree_of forms.old.items ++ parts.of_each_place route.now (λ i y. if y == x then definitions.leads_from plant.now r route.now i ∷ [] else [])) }
+{
+    let path = route.path.as_slice();
+    for i in 0..path.len() {
+        push_leads_if(alloc, forms, plant, r, route, i, path[i] == x)?;
+    }
+    Ok(())
+}
+
+// Adds that route `r` leads a train with its head at section `x`, if it runs in direction `d`.
+fn push_leads_at(
+    alloc: Global,
+    forms: &mut Vec<Form>,
+    plant: &Plant,
+    d: Dir,
+    x: u32,
+    r: u32,
+) -> Result<(), AllocError>
+    requires { r < length plant.now.routes }
+    ensures { OnOk result (map tree_of forms.new.items ≡ map tree_of forms.old.items ++ parts.conditions_for (slice_get plant.now.routes r) (definitions.leads_at plant.now d x r)) }
+{
+    let route = plant.route(r);
+    if runs_in(plant, d, route) {
+        push_leads_on_path(alloc, forms, plant, x, r, route)?;
+    }
+    Ok(())
+}
+
+// No train in direction `d` has its head at section `x`, or some route leads it.
+fn is_led(alloc: Global, plant: &Plant, d: Dir, x: u32) -> Result<Form, AllocError>
+    requires { x < length plant.now.sections }
+    ensures { IfOk result (λ form. tree_of form ≡ parts.some_of (negation (definitions.head_at plant.now d x) ∷ parts.of_each_route plant.now (definitions.leads_at plant.now d x))) }
+{
+    let head = head_at(alloc, plant, d, x)?;
+    let mut forms = Vec::new(alloc);
+    forms.push(negated(alloc, head)?)?;
+    for r in 0..plant.routes() {
+        push_leads_at(alloc, &mut forms, plant, d, x, r)?;
+    }
+    Ok(Form::Or(forms))
+}
+
+// Adds V7 of section `x` and direction `d`.
+fn push_led_at(
+    alloc: Global,
+    forms: &mut Vec<Form>,
+    plant: &Plant,
+    d: Dir,
+    x: u32,
+) -> Result<(), AllocError>
+    requires { x < length plant.now.sections }
+    ensures { OnOk result (map tree_of forms.new.items ≡ map tree_of forms.old.items ++ definitions.led_at plant.now d x) }
+{
+    if is_plain(plant, d, x) {
+        forms.push(is_led(alloc, plant, d, x)?)?;
+    }
+    Ok(())
+}
+
+// Adds V7 of section `x`.
+fn push_led(alloc: Global, forms: &mut Vec<Form>, plant: &Plant, x: u32) -> Result<(), AllocError>
+    requires { x < length plant.now.sections }
+    ensures { OnOk result (map tree_of forms.new.items ≡ map tree_of forms.old.items ++ (definitions.led_at plant.now Up x ++ definitions.led_at plant.now Down x)) }
+{
+    push_led_at(alloc, forms, plant, Dir::Up, x)?;
+    push_led_at(alloc, forms, plant, Dir::Down, x)
+}
+
+/// V7 as a form.
+pub fn v7_form(alloc: Global, plant: &Plant) -> Result<Form, AllocError>
+    ensures { IfOk result (λ form. tree_of form ≡ definitions.v7_tree plant.now) }
+{
+    let mut forms = Vec::new(alloc);
+    for x in 0..plant.sections() {
+        push_led(alloc, &mut forms, plant, x)?;
+    }
+    Ok(Form::And(forms))
+}
+
+// Adds that route `r` keeps section `x`, if it runs in direction `d` and has `x` in its path.
+fn push_keeps_at(
+    alloc: Global,
+    forms: &mut Vec<Form>,
+    plant: &Plant,
+    d: Dir,
+    x: u32,
+    r: u32,
+) -> Result<(), AllocError>
+    requires { r < length plant.now.routes }
+    ensures { OnOk result (map tree_of forms.new.items ≡ map tree_of forms.old.items ++ parts.conditions_for (slice_get plant.now.routes r) (definitions.keeps_at plant.now d x r)) }
+{
+    let route = plant.route(r);
+    if runs_in(plant, d, route) && has_section(&route.path, x) {
+        forms.push(is_kept(alloc, plant, r, route, x)?)?;
+    }
+    Ok(())
+}
+
+// No train in direction `d` has section `x` in its body, or some route keeps it.
+fn is_kept_by_some(alloc: Global, plant: &Plant, d: Dir, x: u32) -> Result<Form, AllocError>
+    requires { x < length plant.now.sections }
+    ensures { IfOk result (λ form. tree_of form ≡ parts.some_of (negation (definitions.body_at plant.now d x) ∷ parts.of_each_route plant.now (definitions.keeps_at plant.now d x))) }
+{
+    let body = body_at(alloc, plant, d, x)?;
+    let mut forms = Vec::new(alloc);
+    forms.push(negated(alloc, body)?)?;
+    for r in 0..plant.routes() {
+        push_keeps_at(alloc, &mut forms, plant, d, x, r)?;
+    }
+    Ok(Form::Or(forms))
+}
+
+// Adds V8 of section `x` and direction `d`.
+fn push_kept_at(
+    alloc: Global,
+    forms: &mut Vec<Form>,
+    plant: &Plant,
+    d: Dir,
+    x: u32,
+) -> Result<(), AllocError>
+    requires { x < length plant.now.sections }
+    ensures { OnOk result (map tree_of forms.new.items ≡ map tree_of forms.old.items ++ definitions.kept_at plant.now d x) }
+{
+    if is_plain(plant, d, x) {
+        forms.push(is_kept_by_some(alloc, plant, d, x)?)?;
+    }
+    Ok(())
+}
+
+// Adds V8 of section `x`.
+fn push_kept(alloc: Global, forms: &mut Vec<Form>, plant: &Plant, x: u32) -> Result<(), AllocError>
+    requires { x < length plant.now.sections }
+    ensures { OnOk result (map tree_of forms.new.items ≡ map tree_of forms.old.items ++ (definitions.kept_at plant.now Up x ++ definitions.kept_at plant.now Down x)) }
+{
+    push_kept_at(alloc, forms, plant, Dir::Up, x)?;
+    push_kept_at(alloc, forms, plant, Dir::Down, x)
+}
+
+/// V8 as a form.
+pub fn v8_form(alloc: Global, plant: &Plant) -> Result<Form, AllocError>
+    ensures { IfOk result (λ form. tree_of form ≡ definitions.v8_tree plant.now) }
+{
+    let mut forms = Vec::new(alloc);
+    for x in 0..plant.sections() {
+        push_kept(alloc, &mut forms, plant, x)?;
+    }
+    Ok(Form::And(forms))
+}
