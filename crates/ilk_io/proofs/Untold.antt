@@ -1,8 +1,8 @@
--- What the contract of a source asks of one that doesn't tell what is left.
+-- What the contract of a source or a sink asks of one that tells nothing of its bytes.
 use Rattle.std.proofs.Common.{◌≡◌, ℕ, ◌<◌, Option, None, List, Result, Ok, Err, refl}
 use Rattle.std.specs.Prelude.{IfOk, OnErr, ⊤}
 
--- what such a source tells
+-- what it tells
 abbrev pub untold : Option (List ℕ)
 untold = None
 

@@ -8,6 +8,7 @@
 #![tactic(auto)]
 
 mod failed;
+mod file_sink;
 mod file_source;
 mod mem_sink;
 mod mem_source;
@@ -22,6 +23,7 @@ mod unread;
 mod writing;
 
 pub use failed::Failed;
+pub use file_sink::FileSink;
 pub use file_source::FileSource;
 pub use mem_sink::MemSink;
 pub use mem_source::MemSource;

@@ -2,7 +2,7 @@
 ghost use Rattle.std.specs.Prelude.{◌^◌, ◌<◌};
 
 use crate::{
-    Failed, FileSource, MemSink, MemSource, ReadError, Sink, Source, StdSink, StdSource,
+    Failed, FileSink, FileSource, MemSink, MemSource, ReadError, Sink, Source, StdSink, StdSource,
     SteadySink, SteadySource, read_all, write_all,
 };
 use std::alloc::{AllocError, Global};
@@ -156,5 +156,34 @@ fn reads_the_named_file(rt: HostRuntime) -> Result<(), Fail> {
     assert_eq!(rt; first?.as_slice(), b"plant".as_slice());
     assert_eq!(rt; second?.as_slice(), b"route".as_slice());
     assert_eq!(rt; gone.err(), Some(ReadError::Failed));
+    Ok(())
+}
+
+fn write_file<R: Files>(
+    alloc: Global,
+    rt: &R,
+    name: &str,
+    text: &[u8],
+) -> Result<Result<(), Failed>, AllocError> {
+    let mut sink = FileSink::new(rt, String::from_str(alloc, name)?);
+    Ok(write_all(&mut sink, text))
+}
+
+#[test]
+fn writes_the_named_file(rt: HostRuntime) -> Result<(), Fail> {
+    let alloc = rt.alloc();
+    let name = "ilk_io_test_3";
+    make_file(&rt, name, "train")?;
+    let unwritten = FileSink::new(&rt, String::from_str(alloc, name)?);
+    drop(unwritten);
+    let as_it_was = read_file(alloc, &rt, name)??;
+    let answer = write_file(alloc, &rt, name, &BYTES)?;
+    let written = read_file(alloc, &rt, name)??;
+    fs::remove_file(&rt, name)?;
+    let folder = write_file(alloc, &rt, "/", &BYTES)?;
+    assert_eq!(rt; as_it_was.as_slice(), b"train".as_slice());
+    assert_eq!(rt; answer, Ok(()));
+    assert_eq!(rt; written.as_slice(), BYTES.as_slice());
+    assert_eq!(rt; folder, Err(Failed));
     Ok(())
 }
