@@ -1,5 +1,5 @@
 -- What was asked for a safe verdict has the refutations that show it.
-use Rattle.std.proofs.Common.{◌≡◌, ℕ, zero, suc, ◌+◌, Bool, true, false, cond, List, [], ◌∷◌, ◌++◌, map, Option, Some, None, refl, sym, ap, ◌∙◌, subst, append_assoc, arith, inl, inr, ◌⊎◌, All}
+use Rattle.std.proofs.Common.{◌≡◌, ℕ, zero, suc, ◌+◌, Bool, true, false, cond, List, [], ◌∷◌, ◌++◌, map, Some, None, refl, sym, ap, ◌∙◌, subst, arith, inl, inr, All}
 use Rattle.std.specs.List.{range_with_len, flat_map}
 use Rattle.std.proofs.lemmas.List.{append-nil, map-append}
 use Rattle.std.proofs.lemmas.List.Elements.{All-nil, All-cons, All-head, All-tail}
@@ -11,7 +11,7 @@ use Rattle.ilk_unroll.specs.declared.queries.Wanted.TheVariants.{Hazard, Breach 
 use Rattle.ilk_unroll.specs.Goal.{GoalTree}
 use Rattle.ilk_induct.specs.declared.verdict.Asked.{Asked}
 use Rattle.ilk_induct.specs.Asked.{round, rounds, queries_to, IsRefuted, IsPassed, HasPassed, AreAsked}
-use Rattle.ilk_induct.specs.Certified.{is_step_query, without_early_steps, base_queries, certified_queries, IsCertified}
+use Rattle.ilk_induct.specs.Certified.{is_step_query, without_early_steps, base_queries, IsCertified}
 
 -- queries without step queries
 abbrev base_of : List Wanted → List Wanted

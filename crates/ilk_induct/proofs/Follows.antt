@@ -1,5 +1,5 @@
 -- What follows a query that was answered keeps what is so of the asking, and ends it rightly.
-use Rattle.std.proofs.Common.{◌≡◌, ℕ, zero, suc, ◌+◌, ◌-◌, ◌*◌, ◌≤◌, ◌<◌, Bool, true, false, cond, List, [], ◌∷◌, ◌++◌, length, Option, Some, None, refl, sym, ap, ◌∙◌, subst, arith, nat_lt, inl, inr, ◌⊎◌}
+use Rattle.std.proofs.Common.{◌≡◌, ℕ, zero, suc, ◌+◌, ◌-◌, ◌*◌, ◌≤◌, ◌<◌, Bool, true, false, cond, List, [], ◌∷◌, ◌++◌, length, Option, Some, None, refl, sym, ap, ◌∙◌, subst, arith, nat_lt, inl, inr}
 use Rattle.std.specs.List.{list_all}
 use Rattle.std.proofs.lemmas.Bool.{and_from, and_parts, le-leb, lt-ltb, ltb-true}
 use Rattle.std.proofs.lemmas.Bool.Decides.{nat_tests}
@@ -23,7 +23,7 @@ use Rattle.ilk_induct.specs.declared.verdict.Asked.{Asked}
 use Rattle.ilk_induct.specs.declared.verdict.Verdict.TheVariants.{Safe, Unsafe, Breach, NotInductive, Spent}
 use Rattle.ilk_induct.specs.Evidence.{HasRun}
 use Rattle.ilk_induct.specs.Right.{IsRun, IsRight}
-use Rattle.ilk_induct.specs.Asked.{queries_to, IsRefuted, IsLogOf, HasPassed, conflicts_of, all_conflicts}
+use Rattle.ilk_induct.specs.Asked.{IsRefuted, IsLogOf, HasPassed, conflicts_of, all_conflicts}
 use Rattle.ilk_induct.specs.Due.{asked_with, IsReply, due_query, due_breach, after_breach, after, IsKnown, IsFoundBreach, IsInOrder, IsDue, IsEnd, IsNext, still_due}
 use Rattle.ilk_induct.proofs.Demands.{wanted-parts}
 use Rattle.ilk_induct.proofs.Induction.{forever}

@@ -1,4 +1,4 @@
-use Rattle.std.proofs.Common.{◌≡◌, ◌-◌, refl, subst}
+use Rattle.std.proofs.Common.{◌-◌, refl, subst}
 use Rattle.ilk_ir.specs.System.{system_tree}
 use Rattle.ilk_unroll.specs.Goal.{goal_tree}
 use Rattle.ilk_induct.specs.declared.due.Next.{Next}
