@@ -10,8 +10,10 @@ use Rattle.ilk_unroll.specs.declared.queries.Wanted.{Wanted}
 use Rattle.ilk_unroll.specs.declared.queries.Wanted.TheVariants.{Hazard, Breach as BreachQuery, Step}
 use Rattle.ilk_unroll.specs.Goal.{GoalTree}
 use Rattle.ilk_induct.specs.declared.verdict.Asked.{Asked}
-use Rattle.ilk_induct.specs.Asked.{round, rounds, queries_to, IsRefuted, IsPassed, HasPassed, AreAsked}
-use Rattle.ilk_induct.specs.Certified.{is_step_query, without_early_steps, base_queries, IsCertified}
+use Rattle.ilk_induct.specs.declared.verdict.Verdict.{Verdict}
+use Rattle.ilk_induct.specs.declared.verdict.Verdict.TheVariants.{Safe, Unsafe, Breach, NotInductive, Spent}
+use Rattle.ilk_induct.specs.Asked.{round, rounds, queries_to, IsRefuted, IsPassed, HasPassed, AreAsked, IsAskedFor}
+use Rattle.ilk_induct.specs.Certified.{is_step_query, without_early_steps, base_queries, IsCertified, Certifies}
 
 -- queries without step queries
 abbrev base_of : List Wanted → List Wanted
@@ -84,7 +86,7 @@ bases-refuted s g last (a ∷ before) r h = by_case (is_step_query a.query) refl
     by_case false e rest = All-cons (λ (x : Asked). IsRefuted s g x.query x.log) a (bases before ++ last ∷ []) (base-refuted s g a.query a.log e (All-head (HasPassed s g None) a before h)) rest
 
 -- all together
-pub certified : (s : SystemTree) (g : GoalTree) (depth k : ℕ) (asked : List Asked) (last : Asked) → AreAsked s g depth None asked last → last.query ≡ Step k → IsRefuted s g last.query last.log → IsCertified s g k asked
+certified : (s : SystemTree) (g : GoalTree) (depth k : ℕ) (asked : List Asked) (last : Asked) → AreAsked s g depth None asked last → last.query ≡ Step k → IsRefuted s g last.query last.log → IsCertified s g k asked
 certified s g depth k asked last are is refuted =
     let query : Asked → Wanted = λ a. a.query in
     let split = ap without_early_steps are.split ∙ without-early are.before last in
@@ -103,3 +105,10 @@ certified s g depth k asked last are is refuted =
           ∙ ap (λ (q : Wanted). flat_map base_queries (range_with_len 0 (k + 1)) ++ q ∷ []) is;
       refuted = subst (λ (xs : List Asked). All (λ (a : Asked). IsRefuted s g a.query a.log) xs) (sym split) (bases-refuted s g last are.before refuted are.passed);
     }
+
+pub certifies : (s : SystemTree) (g : GoalTree) (depth conflicts : ℕ) (verdict : Verdict) (asked : List Asked) → IsAskedFor s g depth conflicts verdict asked → Certifies s g verdict asked
+certifies s g depth conflicts (Unsafe t) asked h = tt
+certifies s g depth conflicts (Breach t) asked h = tt
+certifies s g depth conflicts (Safe k) asked h = certified s g depth k asked h.0 h.1 h.2.0 h.2.1
+certifies s g depth conflicts (NotInductive t) asked h = tt
+certifies s g depth conflicts Spent asked h = tt

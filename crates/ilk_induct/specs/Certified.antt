@@ -6,6 +6,8 @@ use Rattle.ilk_unroll.specs.declared.queries.Wanted.{Wanted}
 use Rattle.ilk_unroll.specs.declared.queries.Wanted.TheVariants.{Hazard, Breach as BreachQuery, Step}
 use Rattle.ilk_unroll.specs.Goal.{GoalTree}
 use Rattle.ilk_induct.specs.declared.verdict.Asked.{Asked}
+use Rattle.ilk_induct.specs.declared.verdict.Verdict.{Verdict}
+use Rattle.ilk_induct.specs.declared.verdict.Verdict.TheVariants.{Safe, Unsafe, Breach, NotInductive, Spent}
 use Rattle.ilk_induct.specs.Asked.{IsRefuted}
 
 -- whether a query is a step query
@@ -31,3 +33,11 @@ certified_queries k = flat_map base_queries (range_with_len 0 (k + 1)) ++ Step k
 pub record IsCertified (s : SystemTree) (g : GoalTree) (k : ℕ) (asked : List Asked) : Type 0 where
   pub queries : map (λ (a : Asked). a.query) (without_early_steps asked) ≡ certified_queries k
   pub refuted : All (λ (a : Asked). IsRefuted s g a.query a.log) (without_early_steps asked)
+
+-- what was asked for a safe verdict shows it
+abbrev pub Certifies : SystemTree → GoalTree → Verdict → List Asked → Type 0
+Certifies s g (Unsafe t) asked = Unit {0}
+Certifies s g (Breach t) asked = Unit {0}
+Certifies s g (Safe k) asked = IsCertified s g k asked
+Certifies s g (NotInductive t) asked = Unit {0}
+Certifies s g Spent asked = Unit {0}

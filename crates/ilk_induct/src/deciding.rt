@@ -2,6 +2,7 @@ ghost use Rattle.std.specs.Prelude.{◌≡◌, ◌<◌, ◌≤◌, ◌⊎◌, If
 ghost use Rattle.ilk_ir.specs.System.{system_tree, system_valid};
 ghost use Rattle.ilk_unroll.specs.Goal.{goal_tree, goal_valid};
 ghost use Rattle.ilk_induct.specs.Asked.{IsAskedFor, all_conflicts};
+ghost use Rattle.ilk_induct.specs.Certified.{Certifies};
 ghost use Rattle.ilk_induct.specs.Right.{IsRight, Lasts};
 
 use crate::ask::{Replied, ask, conflicts_in};
@@ -36,6 +37,9 @@ pub fn decide(
     // What is safe is so for runs of any length.
     ensures lasts { IfOk result (λ found. Lasts (system_tree system.now) (goal_tree goal.now) found.verdict) }
     ensures asked { IfOk result (λ found. IsAskedFor (system_tree system.now) (goal_tree goal.now) depth conflicts found.verdict found.asked) }
+
+    // Where the verdict is safe, all of these but the step queries before the last are refuted.
+    ensures certified { IfOk result (λ found. Certifies (system_tree system.now) (goal_tree goal.now) found.verdict found.asked) }
     ensures few { IfOk result (λ found. all_conflicts found.asked ≤ conflicts) }
 {
     let mut asked = Row::new(alloc);

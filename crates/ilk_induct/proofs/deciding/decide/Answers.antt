@@ -3,6 +3,7 @@ use Rattle.ilk_ir.specs.System.{system_tree}
 use Rattle.ilk_unroll.specs.Goal.{goal_tree}
 use Rattle.ilk_induct.specs.declared.due.Next.{Next}
 use Rattle.ilk_induct.specs.Due.{IsNext, still_due}
+use Rattle.ilk_induct.proofs.Certified.{certifies}
 use Rattle.ilk_induct.proofs.Follows.{turned}
 use Rattle.ilk_induct.proofs.deciding.decide.Goals as goal
 
@@ -37,3 +38,12 @@ returns-in-End-clause-asked c =
     let rest = c.loop-due.left - c.conflicts_in-left.result in
     let next = turned s g c.args.depth c.args.conflicts c.loop-due.due c.query-query.result c.in_ok-reply.field-0.reply c.in_ok-reply.field-0.log c.loop-due.asked c.push.new.self c.loop-due.left c.conflicts_in-left.result rest c.what_follows.result c.requires.system c.requires.some_depth c.requires.depth c.loop-due.invariant c.query-query.ensures c.in_ok-reply.ensures.log c.in_ok-reply.ensures.reply c.conflicts_in-left.ensures refl c.in_ok-push.ensures.ok c.what_follows.ensures in
     (subst (λ (n : Next). IsNext s g c.args.depth c.args.conflicts (still_due c.args.depth c.loop-due.due) n c.push.new.self rest) c.in-End.is next).queries
+
+pub returns-in-End-clause-certified : goal.returns-in-End-clause-certified
+returns-in-End-clause-certified c =
+    let s = system_tree c.args.system.now in
+    let g = goal_tree c.args.goal.now in
+    let rest = c.loop-due.left - c.conflicts_in-left.result in
+    let next = turned s g c.args.depth c.args.conflicts c.loop-due.due c.query-query.result c.in_ok-reply.field-0.reply c.in_ok-reply.field-0.log c.loop-due.asked c.push.new.self c.loop-due.left c.conflicts_in-left.result rest c.what_follows.result c.requires.system c.requires.some_depth c.requires.depth c.loop-due.invariant c.query-query.ensures c.in_ok-reply.ensures.log c.in_ok-reply.ensures.reply c.conflicts_in-left.ensures refl c.in_ok-push.ensures.ok c.what_follows.ensures in
+    let end = subst (λ (n : Next). IsNext s g c.args.depth c.args.conflicts (still_due c.args.depth c.loop-due.due) n c.push.new.self rest) c.in-End.is next in
+    certifies s g c.args.depth c.args.conflicts c.in-End.verdict c.push.new.self end.queries
