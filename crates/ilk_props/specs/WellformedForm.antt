@@ -55,16 +55,18 @@ train_is_whole p x d side = implies (goes_on_at p x d side) (any_of (trees (map 
 abbrev pub is_still : PlantLists → ℕ → Tree
 is_still p x = implies (train_at p x) (negation (lie_is p x Moving))
 
--- what is asked of section x: no hazard, and under a train no moving point; and of a train there in direction d, that it
--- goes on, ahead or behind, to a next section that has it too
+-- no hazard stands at section x, and under a train no point moves there
 abbrev pub own_demands : PlantLists → ℕ → List Tree
 own_demands p x = negation (crash_at p x) ∷ is_still p x ∷ []
 
+-- a train in direction d at section x goes on, up and down, to sections that have it too
 abbrev pub train_demands : PlantLists → ℕ → Dir → List Tree
 train_demands p x d = train_is_whole p x d Up ∷ train_is_whole p x d Down ∷ []
 
+-- all that is asked of section x
 abbrev pub section_demands : PlantLists → ℕ → List Tree
 section_demands p x = own_demands p x ++ (train_demands p x Up ++ train_demands p x Down)
 
+-- what is asked of each section
 abbrev pub wellformed_tree : PlantLists → Tree
 wellformed_tree p = all_of (trees (flat_map (section_demands p) (range_with_len 0 (length p.sections))))
