@@ -4,6 +4,8 @@
 #[cfg(test)]
 mod assignments;
 #[cfg(test)]
+mod decide_tests;
+#[cfg(test)]
 mod number_tests;
 #[cfg(test)]
 mod query_tests;

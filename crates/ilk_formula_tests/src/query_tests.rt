@@ -9,7 +9,7 @@ use std::alloc::{AllocError, Global};
 use std::test::Fail;
 
 // One variable of two values, and one rule, which sets it from 0 to 1.
-fn switch(alloc: Global) -> Result<System, AllocError>
+pub fn switch(alloc: Global) -> Result<System, AllocError>
     ensures ranges { IfOk result (λ s. s.ranges ≡ 2 ∷ []) }
     ensures valid { IfOk result (λ s. IsTrue (system_valid (system_tree s))) }
 {
@@ -26,7 +26,7 @@ fn switch(alloc: Global) -> Result<System, AllocError>
 }
 
 // It starts at 0, 1 is the hazard, and there is one family, which always holds.
-fn switch_goal(alloc: Global) -> Result<Goal, AllocError>
+pub fn switch_goal(alloc: Global) -> Result<Goal, AllocError>
     ensures { IfOk result (λ g. IsTrue (goal_valid (2 ∷ []) (goal_tree g))) }
 {
     let mut families = Forms::new(alloc);
