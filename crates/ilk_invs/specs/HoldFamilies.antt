@@ -1,6 +1,6 @@
 -- The families that speak of the sections that routes hold, and of their locks: V2 and V3, as conditions on the values of
 -- a plant's variables.
-use Rattle.std.specs.Prelude.{ℕ, ◌+◌, Bool, Option, None, List, [], ◌∷◌, ◌++◌, drop, filter, flat_map, length, map, slice_get, take}
+use Rattle.std.specs.Prelude.{ℕ, ◌+◌, Bool, List, [], ◌∷◌, ◌++◌, drop, filter, flat_map, length, map, slice_get, take}
 use Rattle.std.specs.List.{enumerate_from, range_with_len}
 use Rattle.ilk_base.specs.Option.{is_some_and}
 use Rattle.ilk_ir.specs.Tree.{Tree, negation}

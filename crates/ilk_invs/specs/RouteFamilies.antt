@@ -1,6 +1,6 @@
 -- The families that speak of routes, their path sections and their boards: V1, V4, V5 and V9, as conditions on the
 -- values of a plant's variables.
-use Rattle.std.specs.Prelude.{ℕ, ◌+◌, ◌==◌, List, [], ◌∷◌, flat_map, map, length, if◌then◌else◌}
+use Rattle.std.specs.Prelude.{ℕ, ◌+◌, ◌==◌, List, [], ◌∷◌, map, length, if◌then◌else◌}
 use Rattle.std.specs.List.{range_with_len}
 use Rattle.ilk_ir.specs.Tree.{Tree, negation}
 use Rattle.ilk_plant.specs.Plant.{PlantLists}

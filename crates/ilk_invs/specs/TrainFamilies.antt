@@ -1,6 +1,6 @@
 -- The families that speak of trains: V7 and V8, as conditions on the values of a plant's variables. A train is seen by the
 -- occupancies of its sections.
-use Rattle.std.specs.Prelude.{ℕ, ◌+◌, ◌==◌, ◌&&◌, Bool, true, false, List, [], ◌∷◌, ◌++◌, drop, flat_map, length, map, if◌then◌else◌}
+use Rattle.std.specs.Prelude.{ℕ, ◌+◌, ◌==◌, ◌&&◌, true, false, List, [], ◌∷◌, ◌++◌, drop, flat_map, length, map, if◌then◌else◌}
 use Rattle.std.specs.List.{range_with_len}
 use Rattle.ilk_ir.specs.Tree.{Tree, negation}
 use Rattle.ilk_plant.specs.Network.{has_section}
@@ -14,7 +14,7 @@ use Rattle.ilk_layout.specs.declared.values.Occupancy.TheVariants.{Taken}
 use Rattle.ilk_model.specs.Holding.{is_plain, runs_in}
 use Rattle.ilk_conditions.specs.Conditions.{board_is, mode_is, no_train_at, occupancy_is}
 use Rattle.ilk_invs.specs.Held.{kept_on_path, locked_or_occupied, seen_below}
-use Rattle.ilk_invs.specs.Parts.{each_of, of_each_place, of_each_route, some_of, where_holds}
+use Rattle.ilk_invs.specs.Parts.{each_of, of_each_place, of_each_route, some_of}
 
 -- a train in direction d has its head at x; it has x in its body
 abbrev pub head_at : PlantLists → Dir → ℕ → Tree
