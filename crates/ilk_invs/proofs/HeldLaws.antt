@@ -1,5 +1,6 @@
 -- Which sections a route holds, and how far its path is seen and released, by the image of a state.
 use Rattle.std.proofs.Common.{◌≡◌, ℕ, ◌+◌, ◌==◌, Bool, true, false, ◌&&◌, ◌||◌, Some, [], ◌∷◌, map, nat_le, nat_lt, slice_get, refl, sym, ◌∙◌, ap, arith}
+use Rattle.std.proofs.Math.Bool.{and-true, or-false}
 use Rattle.std.specs.Prelude.{if◌then◌else◌}
 use Rattle.std.specs.List.{range_with_len}
 use Rattle.std.proofs.lemmas.Bool.Decides.{nat_tests}
@@ -21,7 +22,7 @@ use Rattle.ilk_conditions.specs.Conditions.{rel_is, seen_is}
 use Rattle.ilk_conditions.proofs.Values.{mode-holds, rel-holds, seen-holds}
 use Rattle.ilk_invs.specs.Held.{holding_section, is_holding, kept_on_path, locked_or_occupied, rel_below, seen_below}
 use Rattle.ilk_invs.specs.Parts.{of_each_place}
-use Rattle.ilk_invs.proofs.PartLaws.{and-end, any-if, or-end, some-place, some_of-holds}
+use Rattle.ilk_invs.proofs.PartLaws.{any-if, some-place, some_of-holds}
 use Rattle.ilk_invs.proofs.Tests.{counted-below}
 
 pub below-next : (c i : ℕ) → nat_lt c (i + 1) ≡ nat_le c i
@@ -46,14 +47,14 @@ module _ (p : PlantLists) (s : State) (shape : HasShape p s) where
   locked_or_occupied-holds r now at =
       let one = mode-holds p s shape r now Locked at in
       let two = mode-holds p s shape r now Occupied at in
-      rw (one, two) (ap (λ b. same_mode now.mode Locked || b) (or-end (same_mode now.mode Occupied)))
+      rw (one, two) (ap (λ b. same_mode now.mode Locked || b) (or-false (same_mode now.mode Occupied)))
 
   pub is_holding-holds : (r : ℕ) (now : RouteState) → slice_get s.routes r ≡ Some now → tree_holds (image_of p s) (is_holding r) ≡ holds_sections now
   is_holding-holds r now at =
       let one = mode-holds p s shape r now Allocating at in
       let two = mode-holds p s shape r now Locked at in
       let three = mode-holds p s shape r now Occupied at in
-      rw (one, two, three) (ap (λ b. same_mode now.mode Allocating || (same_mode now.mode Locked || b)) (or-end (same_mode now.mode Occupied)))
+      rw (one, two, three) (ap (λ b. same_mode now.mode Allocating || (same_mode now.mode Locked || b)) (or-false (same_mode now.mode Occupied)))
 
   pub kept_on_path-holds : (r : ℕ) (route : Route) (now : RouteState) (x : ℕ) → slice_get s.routes r ≡ Some now → tree_holds (image_of p s) (kept_on_path r route x) ≡ is_kept_on_path route now x
   kept_on_path-holds r route now x at =
@@ -73,8 +74,8 @@ module _ (p : PlantLists) (s : State) (shape : HasShape p s) where
   holding_section-holds r route now x at = by_test (has_section x (sections_beside route)) refl
     where
       by_test : (b : Bool) → has_section x (sections_beside route) ≡ b → tree_holds (image_of p s) (holding_section r route x) ≡ holds_section x route now
-      by_test true e = rw e (is_holding-holds r now at ∙ sym (and-end (holds_sections now)))
+      by_test true e = rw e (is_holding-holds r now at ∙ sym (and-true (holds_sections now)))
       by_test false e =
           let one = is_holding-holds r now at in
           let two = kept_on_path-holds r route now x at in
-          rw e (ap (λ b. b && (tree_holds (image_of p s) (kept_on_path r route x) && true)) one ∙ ap (λ b. holds_sections now && b) (and-end (tree_holds (image_of p s) (kept_on_path r route x)) ∙ two))
+          rw e (ap (λ b. b && (tree_holds (image_of p s) (kept_on_path r route x) && true)) one ∙ ap (λ b. holds_sections now && b) (and-true (tree_holds (image_of p s) (kept_on_path r route x)) ∙ two))

@@ -1,5 +1,6 @@
 -- V2 and V3 as conditions hold of the image of a state exactly where the state keeps them.
 use Rattle.std.proofs.Common.{◌≡◌, ℕ, zero, suc, ◌+◌, ◌<◌, ◌≤◌, ◌==◌, Bool, true, false, not, ◌&&◌, ◌||◌, cond, Some, List, [], ◌∷◌, ◌++◌, drop, filter, length, map, nat_le, nat_lt, slice_get, take, inl, inr, refl, sym, ◌∙◌, ap, arith}
+use Rattle.std.proofs.Math.Bool.{and-true}
 use Rattle.std.specs.Prelude.{if◌then◌else◌}
 use Rattle.std.specs.List.{enumerate_from, flat_map, list_all, range_with_len}
 use Rattle.std.proofs.lemmas.Bool.{and_parts, cases_Bool, cases_eq, eq-eqb, eqb-true, or_cases, or_left, or_right}
@@ -34,9 +35,9 @@ use Rattle.ilk_invs.specs.Held.{holding_section, is_holding, rel_below, seen_bel
 use Rattle.ilk_invs.specs.HoldFamilies.{held_once, holders, lock_at_place, locked_for, may_hold, none_before, route_holding, v2_tree, v3_tree}
 use Rattle.ilk_invs.specs.Parts.{each_of, of_each_place, of_each_route}
 use Rattle.ilk_invs.proofs.HeldLaws.{below-next, holding_section-holds, is_holding-holds, rel_below-holds, seen_below-holds}
-use Rattle.ilk_invs.proofs.PartLaws.{and-end, each-place, each-route, each_of-holds, state_of_route, where-holds}
+use Rattle.ilk_invs.proofs.PartLaws.{each-place, each-route, each_of-holds, state_of_route, where-holds}
 use Rattle.ilk_invs.proofs.PointLaws.{kept-has}
-use Rattle.ilk_invs.proofs.Sections.{locked_for as sections_of_route}
+use Rattle.ilk_invs.proofs.Sections.{sections_of_route}
 use Rattle.ilk_invs.proofs.Tests.{enumerated, enumerated-at, list_all-each, same_test}
 
 -- the sections beside a route's path are sections
@@ -155,7 +156,7 @@ module _ (p : PlantLists) (plant : IsPlant p) (s : State) (shape : HasShape p s)
       let of = plant.routes_known r route known in
       let places = each-place (image_of p s) route (lock_at_place p r) (λ i x. not (nat_le now.rel i) || has_lock s x (lock_on_path now i)) (λ i x found. lock_place-holds r now i x at (all-at (λ x. x < length p.sections) route.path i x of.path found)) in
       let beside = list_all-map (tree_holds (image_of p s)) (λ x. lock_is p x LockedLock) (sections_beside route) ∙ list_all-alike (λ x. tree_holds (image_of p s) (lock_is p x LockedLock)) (λ x. has_lock s x LockedLock) (sections_beside route) (λ i x found. lock-holds p s shape x LockedLock (beside-known p route of i x found)) in
-      and-end (tree_holds (image_of p s) (locked_for p r route))
+      and-true (tree_holds (image_of p s) (locked_for p r route))
       ∙ where-holds (image_of p s) (is_holding r) (each_of (of_each_place route (lock_at_place p r) ++ map (λ x. lock_is p x LockedLock) (sections_beside route))) (holds_sections now) (has_its_locks s route now) (is_holding-holds p s shape r now at)
       (each_of-holds (image_of p s) (of_each_place route (lock_at_place p r) ++ map (λ x. lock_is p x LockedLock) (sections_beside route))
       ∙ list_all-append (tree_holds (image_of p s)) (of_each_place route (lock_at_place p r)) (map (λ x. lock_is p x LockedLock) (sections_beside route))
@@ -172,13 +173,13 @@ module _ (p : PlantLists) (plant : IsPlant p) (s : State) (shape : HasShape p s)
   route_holding-holds x r within =
       let route = item_at p.routes r within in
       let now = state_of_route p s shape r route.0 route.1 in
-      rw (route.1, now.1) (and-end (tree_holds (image_of p s) (holding_section r route.0 x)) ∙ holding_section-holds p s shape r route.0 now.0 x now.1)
+      rw (route.1, now.1) (and-true (tree_holds (image_of p s) (holding_section r route.0 x)) ∙ holding_section-holds p s shape r route.0 now.0 x now.1)
 
   not_holding-holds : (x r : ℕ) → r < length p.routes → list_all (λ t. not (tree_holds (image_of p s) t)) (route_holding p x r) ≡ not (route_holds p s r x)
   not_holding-holds x r within =
       let route = item_at p.routes r within in
       let now = state_of_route p s shape r route.0 route.1 in
-      rw (route.1, now.1) (and-end (not (tree_holds (image_of p s) (holding_section r route.0 x))) ∙ ap not (holding_section-holds p s shape r route.0 now.0 x now.1))
+      rw (route.1, now.1) (and-true (not (tree_holds (image_of p s) (holding_section r route.0 x))) ∙ ap not (holding_section-holds p s shape r route.0 now.0 x now.1))
 
   none_before-holds : (x : ℕ) (before : List ℕ) (r : ℕ) → r < length p.routes → ((i q : ℕ) → slice_get before i ≡ Some q → q < length p.routes) → tree_holds (image_of p s) (none_before p x before r) ≡ (if route_holds p s r x then list_all (λ q. not (route_holds p s q x)) before else true)
   none_before-holds x before r within known =

@@ -1,5 +1,6 @@
 -- What the parts of families ask of a state, by its image: of each route, of each place, where another holds.
 use Rattle.std.proofs.Common.{◌≡◌, ℕ, ◌<◌, Bool, true, false, not, ◌&&◌, ◌||◌, Some, None, List, [], ◌∷◌, length, map, slice_get, refl, ◌∙◌, ap, arith}
+use Rattle.std.proofs.Math.Bool.{and-true, or-false}
 use Rattle.std.specs.Prelude.{if◌then◌else◌}
 use Rattle.std.specs.List.{enumerate_from, list_all, list_any, range_with_len}
 use Rattle.std.proofs.lemmas.List.Folds.{list_all-map}
@@ -22,14 +23,6 @@ use Rattle.ilk_conditions.proofs.Values.{vacant-holds}
 use Rattle.ilk_invs.specs.Parts.{conditions_for, each_of, of_each_place, of_each_route, some_of, where_holds}
 use Rattle.ilk_invs.proofs.Tests.{enumerated, list_any-flat_map}
 
-pub and-end : (b : Bool) → (b && true) ≡ b
-and-end true = refl
-and-end false = refl
-
-pub or-end : (b : Bool) → (b || false) ≡ b
-or-end true = refl
-or-end false = refl
-
 pub then-this : (a b : Bool) → (not a || (b || false)) ≡ (if a then b else true)
 then-this true true = refl
 then-this true false = refl
@@ -47,11 +40,11 @@ where-holds values t u a b one two = rw (one, two) (then-this a b)
 
 -- a condition that is asked or not
 pub all-if : (values : List ℕ) (t : Tree) (b : Bool) → list_all (tree_holds values) (if b then t ∷ [] else []) ≡ (if b then tree_holds values t else true)
-all-if values t true = and-end (tree_holds values t)
+all-if values t true = and-true (tree_holds values t)
 all-if values t false = refl
 
 pub any-if : (values : List ℕ) (t : Tree) (b : Bool) → list_any (tree_holds values) (if b then t ∷ [] else []) ≡ (b && tree_holds values t)
-any-if values t true = or-end (tree_holds values t)
+any-if values t true = or-false (tree_holds values t)
 any-if values t false = refl
 
 -- of the places of a path

@@ -13,8 +13,8 @@ use Rattle.ilk_plant.specs.declared.table.Route.{Route}
 use Rattle.ilk_invs.specs.Parts.{conditions_for}
 
 -- one form for each of the first n numbers, and one more
-pub one_more : (f : ℕ → Tree) (n : ℕ) (start : List Tree) (now next : List Form) (form : Form) → map tree_of now ≡ start ++ map f (range_with_len 0 n) → next ≡ now ++ form ∷ [] → tree_of form ≡ f n → map tree_of next ≡ start ++ map f (range_with_len 0 (n + 1))
-one_more f n start now next form sofar grown is =
+pub one_form_more : (f : ℕ → Tree) (n : ℕ) (start : List Tree) (now next : List Form) (form : Form) → map tree_of now ≡ start ++ map f (range_with_len 0 n) → next ≡ now ++ form ∷ [] → tree_of form ≡ f n → map tree_of next ≡ start ++ map f (range_with_len 0 (n + 1))
+one_form_more f n start now next form sofar grown is =
     ap (map tree_of) grown ∙ map-append tree_of now (form ∷ []) ∙ ap (λ ts. ts ++ tree_of form ∷ []) sofar
     ∙ ap (λ t. (start ++ map f (range_with_len 0 n)) ++ t ∷ []) is
     ∙ append_assoc start (map f (range_with_len 0 n)) (f n ∷ [])

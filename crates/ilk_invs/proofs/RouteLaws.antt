@@ -1,5 +1,6 @@
 -- V1, V4, V5 and V9 as conditions hold of the image of a state exactly where the state keeps them.
 use Rattle.std.proofs.Common.{◌≡◌, ℕ, ◌+◌, ◌<◌, ◌≤◌, ◌==◌, Bool, true, false, not, ◌&&◌, ◌||◌, None, [], ◌∷◌, length, map, nat_le, nat_lt, slice_get, Some, refl, sym, ◌∙◌, ap, arith}
+use Rattle.std.proofs.Math.Bool.{and-true, or-false}
 use Rattle.std.specs.Prelude.{if◌then◌else◌}
 use Rattle.std.specs.List.{list_all, list_any, range_with_len}
 use Rattle.std.proofs.lemmas.Bool.Decides.{nat_tests}
@@ -27,7 +28,7 @@ use Rattle.ilk_invs.specs.Held.{rel_below}
 use Rattle.ilk_invs.specs.Parts.{each_of, of_each_route, some_of, where_holds}
 use Rattle.ilk_invs.specs.RouteFamilies.{counts_of, opened_for, path_vacant, v1_tree, v4_tree, v5_tree, v9_tree}
 use Rattle.ilk_invs.proofs.HeldLaws.{rel_below-holds}
-use Rattle.ilk_invs.proofs.PartLaws.{and-end, any-if, each-route, each_of-holds, or-end, some-route, some_of-holds, vacant-all, where-holds}
+use Rattle.ilk_invs.proofs.PartLaws.{any-if, each-route, each_of-holds, some-route, some_of-holds, vacant-all, where-holds}
 use Rattle.ilk_invs.proofs.Tests.{asked-at, list_all-each}
 
 module _ (p : PlantLists) (plant : IsPlant p) (s : State) (shape : HasShape p s) where
@@ -38,7 +39,7 @@ module _ (p : PlantLists) (plant : IsPlant p) (s : State) (shape : HasShape p s)
     where
       joined : (a b c a2 b2 c2 : Bool) → a ≡ a2 → b ≡ b2 → c ≡ c2 → (not a || (not b || (c || false))) ≡ (not a2 || (not b2 || c2))
       joined a b c a2 b2 c2 one two three =
-          ap (λ v. not v || (not b || (c || false))) one ∙ ap (λ v. not a2 || (not v || (c || false))) two ∙ ap (λ v. not a2 || (not b2 || v)) (or-end c ∙ three)
+          ap (λ v. not v || (not b || (c || false))) one ∙ ap (λ v. not a2 || (not v || (c || false))) two ∙ ap (λ v. not a2 || (not b2 || v)) (or-false c ∙ three)
 
   clauses-hold : (r : ℕ) (route : Route) (now : RouteState) → slice_get p.routes r ≡ Some route → slice_get s.routes r ≡ Some now → list_all (tree_holds (image_of p s)) (map (λ k. some_of (negation (mode_is r Occupied) ∷ negation (seen_is r k) ∷ rel_below r k ∷ [])) (range_with_len 0 (length route.path + 1))) ≡ (not (same_mode now.mode Occupied) || nat_lt now.rel now.seen)
   clauses-hold r route now known at =
@@ -56,7 +57,7 @@ module _ (p : PlantLists) (plant : IsPlant p) (s : State) (shape : HasShape p s)
   v1-of : (r : ℕ) (route : Route) (now : RouteState) → slice_get p.routes r ≡ Some route → slice_get s.routes r ≡ Some now → list_all (tree_holds (image_of p s)) (counts_of r route ∷ []) ≡ (if same_mode now.mode Occupied then nat_lt now.rel now.seen && nat_le now.seen (length route.path) else now.seen == 0 && now.rel == 0)
   v1-of r route now known at =
       let few : nat_le now.seen (length route.path) ≡ true = (fits_within route now (fits_path-counts route now (shape.counts r route now known at)).0) in
-      and-end (tree_holds (image_of p s) (counts_of r route))
+      and-true (tree_holds (image_of p s) (counts_of r route))
       ∙ each_of-holds (image_of p s) (some_of (mode_is r Occupied ∷ seen_is r 0 ∷ []) ∷ some_of (mode_is r Occupied ∷ rel_is r 0 ∷ []) ∷ map (λ k. some_of (negation (mode_is r Occupied) ∷ negation (seen_is r k) ∷ rel_below r k ∷ [])) (range_with_len 0 (length route.path + 1)))
       ∙ joined (tree_holds (image_of p s) (mode_is r Occupied)) (tree_holds (image_of p s) (seen_is r 0)) (tree_holds (image_of p s) (rel_is r 0)) (list_all (tree_holds (image_of p s)) (map (λ k. some_of (negation (mode_is r Occupied) ∷ negation (seen_is r k) ∷ rel_below r k ∷ [])) (range_with_len 0 (length route.path + 1)))) (same_mode now.mode Occupied) (now.seen == 0) (now.rel == 0) (nat_lt now.rel now.seen) (mode-holds p s shape r now Occupied at) (seen-holds p s shape r now 0 at) (rel-holds p s shape r now 0 at) (clauses-hold r route now known at)
       ∙ ap (λ v. if same_mode now.mode Occupied then nat_lt now.rel now.seen && v else now.seen == 0 && now.rel == 0) (sym few)
@@ -108,7 +109,7 @@ module _ (p : PlantLists) (plant : IsPlant p) (s : State) (shape : HasShape p s)
 
   v4-of : hazard p s ≡ None → (r : ℕ) (route : Route) (now : RouteState) → slice_get p.routes r ≡ Some route → slice_get s.routes r ≡ Some now → list_all (tree_holds (image_of p s)) (where_holds (mode_is r Allocating) (each_of (path_vacant p route)) ∷ []) ≡ (if same_mode now.mode Allocating then list_all (is_vacant s) route.path else true)
   v4-of calm r route now known at =
-      and-end (tree_holds (image_of p s) (where_holds (mode_is r Allocating) (each_of (path_vacant p route))))
+      and-true (tree_holds (image_of p s) (where_holds (mode_is r Allocating) (each_of (path_vacant p route))))
       ∙ where-holds (image_of p s) (mode_is r Allocating) (each_of (path_vacant p route)) (same_mode now.mode Allocating) (list_all (is_vacant s) route.path) (mode-holds p s shape r now Allocating at) (each_of-holds (image_of p s) (path_vacant p route) ∙ path_vacant-holds calm r route known)
 
   pub v4-law : hazard p s ≡ None → tree_holds (image_of p s) (v4_tree p) ≡ keeps_v4 p s

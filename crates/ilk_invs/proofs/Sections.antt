@@ -16,13 +16,13 @@ pub of_both : (x : ℕ) (xs ys : List ℕ) → has_section x (xs ++ ys) ≡ (has
 of_both x xs ys = list_any-append (λ y. y == x) xs ys
 
 -- those of the overlap, and the protecting points
-pub beside : (x : ℕ) (route : Route) → has_section x (sections_beside route) ≡ (has_section x route.overlap || list_any (λ (listed : Listed). listed.point == x) route.protecting_points)
-beside x route =
+pub beside_route : (x : ℕ) (route : Route) → has_section x (sections_beside route) ≡ (has_section x route.overlap || list_any (λ (listed : Listed). listed.point == x) route.protecting_points)
+beside_route x route =
     of_both x route.overlap (protecting_points_of route) ∙ ap (λ v. has_section x route.overlap || v) (of_points x route.protecting_points)
 
 -- those of the path, and those beside it
-pub locked_for : (x : ℕ) (route : Route) → has_section x (sections_locked_for route) ≡ (has_section x route.path || has_section x (sections_beside route))
-locked_for x route =
+pub sections_of_route : (x : ℕ) (route : Route) → has_section x (sections_locked_for route) ≡ (has_section x route.path || has_section x (sections_beside route))
+sections_of_route x route =
     of_both x (route.path ++ route.overlap) (protecting_points_of route)
     ∙ ap (λ v. v || has_section x (protecting_points_of route)) (of_both x route.path route.overlap)
     ∙ grouped (has_section x route.path) (has_section x route.overlap) (has_section x (protecting_points_of route))

@@ -1,5 +1,5 @@
 -- Tests of lists that conditions are made of: of ranges, of places, of lists of lists.
-use Rattle.std.proofs.Common.{◌≡◌, ℕ, zero, suc, ◌+◌, ◌<◌, ◌==◌, Bool, true, false, not, ◌&&◌, ◌||◌, Some, List, [], ◌∷◌, filter, nat_lt, slice_get, refl, sym, ◌∙◌, ap, arith}
+use Rattle.std.proofs.Common.{◌≡◌, ℕ, zero, suc, ◌+◌, ◌<◌, ◌==◌, Bool, true, false, not, ◌&&◌, ◌||◌, Some, List, [], ◌∷◌, drop, filter, nat_lt, slice_get, refl, sym, ◌∙◌, ap, arith}
 use Rattle.std.specs.List.{enumerate_from, flat_map, list_all, list_any, range_with_len}
 use Rattle.std.proofs.lemmas.Bool.{eq-eqb, eqb-true, false≢true}
 use Rattle.std.proofs.lemmas.Bool.Decides.{nat_tests}
@@ -85,3 +85,10 @@ asked-at test c n within =
     by_same : (k : ℕ) → test c ≡ true → (b : Bool) → (c == k) ≡ b → (not (c == k) || test k) ≡ true
     by_same k h true e = rw e (ap test (sym (eqb-true c k e)) ∙ h)
     by_same k h false e = rw e refl
+
+-- what is left of a list stands further on in the whole
+pub dropped-at : {X : Type 0} (n : ℕ) (xs : List X) (k : ℕ) (x : X) → slice_get (drop n xs) k ≡ Some x → slice_get xs (n + k) ≡ Some x
+dropped-at zero xs k x at = let sum : 0 + k ≡ k = omega arith in ap (slice_get xs) sum ∙ at
+dropped-at (suc n) [] k x at = cc
+dropped-at (suc n) (y ∷ xs) k x at =
+    let sum : suc n + k ≡ suc (n + k) = omega arith in ap (slice_get (y ∷ xs)) sum ∙ dropped-at n xs k x at

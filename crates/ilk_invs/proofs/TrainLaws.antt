@@ -1,6 +1,7 @@
 -- V7 and V8 as conditions hold of the image of a state without hazard exactly where the state keeps them: a section is in
 -- the body of a train in direction d exactly where its occupancy says so.
 use Rattle.std.proofs.Common.{◌≡◌, ℕ, zero, suc, ◌+◌, ◌<◌, ◌==◌, Bool, true, false, not, ◌&&◌, ◌||◌, Some, None, List, [], ◌∷◌, ◌++◌, drop, length, map, nat_le, nat_lt, slice_get, refl, sym, ◌∙◌, ap, arith}
+use Rattle.std.proofs.Math.Bool.{and-true, or-false}
 use Rattle.std.specs.Prelude.{if◌then◌else◌}
 use Rattle.std.specs.List.{enumerate_from, flat_map, last_or, list_all, list_any, range_with_len}
 use Rattle.std.proofs.lemmas.Bool.{and_parts, and_from, eq-eqb, eqb-true}
@@ -41,9 +42,9 @@ use Rattle.ilk_invs.specs.Held.{kept_on_path, locked_or_occupied, seen_below}
 use Rattle.ilk_invs.specs.Parts.{each_of, of_each_place, of_each_route, some_of}
 use Rattle.ilk_invs.specs.TrainFamilies.{body_at, head_at, keeps_at, kept_at, leads_at, leads_from, led_at, v7_tree, v8_tree}
 use Rattle.ilk_invs.proofs.HeldLaws.{below-next, kept_on_path-holds, locked_or_occupied-holds, seen_below-holds}
-use Rattle.ilk_invs.proofs.PartLaws.{and-end, any-if, each_of-holds, or-end, some-place, some-route, some_of-holds, vacant-all}
+use Rattle.ilk_invs.proofs.PartLaws.{any-if, each_of-holds, some-place, some-route, some_of-holds, vacant-all}
 use Rattle.ilk_invs.proofs.PointLaws.{not-kept}
-use Rattle.ilk_invs.proofs.Tests.{list_all-each, list_any-never, same_test}
+use Rattle.ilk_invs.proofs.Tests.{dropped-at, list_all-each, list_any-never, same_test}
 
 -- whether an occupancy is by a train in direction d; whether it has its head there
 abbrev has_head_in : Dir → Occupancy → Bool
@@ -198,18 +199,13 @@ module _ (p : PlantLists) (plant : IsPlant p) (s : State) (shape : HasShape p s)
       let closed = board-holds p s shape route.source Closed of.source in
       let two : i + 2 ≡ i + 1 + 1 = omega arith in
       let seen : tree_holds (image_of p s) (seen_below r (i + 2)) ≡ nat_le now.seen (i + 1) = seen_below-holds p s shape r now (i + 2) at ∙ ap (nat_lt now.seen) two ∙ below-next now.seen (i + 1) in
-      let vacant = vacant-all p s shape calm (drop (i + 1) route.path) (λ k x found. all-at (λ x. x < length p.sections) route.path ((i + 1) + k) x of.path (later (i + 1) route.path k x found)) in
+      let vacant = vacant-all p s shape calm (drop (i + 1) route.path) (λ k x found. all-at (λ x. x < length p.sections) route.path ((i + 1) + k) x of.path (dropped-at (i + 1) route.path k x found)) in
       each_of-holds (image_of p s) (some_of (mode_is r Occupied ∷ each_of (mode_is r Locked ∷ board_is p route.source Closed ∷ []) ∷ []) ∷ seen_below r (i + 2) ∷ map (no_train_at p) (drop (i + 1) route.path))
       ∙ joined (tree_holds (image_of p s) (mode_is r Occupied)) (tree_holds (image_of p s) (mode_is r Locked)) (tree_holds (image_of p s) (board_is p route.source Closed)) (tree_holds (image_of p s) (seen_below r (i + 2))) (list_all (tree_holds (image_of p s)) (map (no_train_at p) (drop (i + 1) route.path))) _ _ _ _ _ occupied locked closed seen vacant
     where
-      later : (n : ℕ) (xs : List ℕ) (k x : ℕ) → slice_get (drop n xs) k ≡ Some x → slice_get xs (n + k) ≡ Some x
-      later zero xs k x at = (let sum : 0 + k ≡ k = omega arith in ap (slice_get xs) sum ∙ at)
-      later (suc n) [] k x at = cc
-      later (suc n) (y ∷ xs) k x at = (let sum : suc n + k ≡ suc (n + k) = omega arith in ap (slice_get (y ∷ xs)) sum ∙ later n xs k x at)
-
       joined : (a b c d e a2 b2 c2 d2 e2 : Bool) → a ≡ a2 → b ≡ b2 → c ≡ c2 → d ≡ d2 → e ≡ e2 → ((a || ((b && (c && true)) || false)) && (d && e)) ≡ ((a2 || (b2 && c2)) && (d2 && e2))
       joined a b c d e a2 b2 c2 d2 e2 one two three four five =
-          ap (λ v. (a || v) && (d && e)) (or-end (b && (c && true)) ∙ ap (λ v. b && v) (and-end c))
+          ap (λ v. (a || v) && (d && e)) (or-false (b && (c && true)) ∙ ap (λ v. b && v) (and-true c))
           ∙ ap (λ v. (v || (b && c)) && (d && e)) one
           ∙ ap (λ v. (a2 || (v && c)) && (d && e)) two
           ∙ ap (λ v. (a2 || (b2 && v)) && (d && e)) three
@@ -247,7 +243,7 @@ module _ (p : PlantLists) (plant : IsPlant p) (s : State) (shape : HasShape p s)
   keeps_at-holds d x r route now at =
       any-if (image_of p s) (each_of (locked_or_occupied r ∷ kept_on_path r route x ∷ [])) (runs_in p d route && has_section x route.path)
       ∙ ap (λ v. (runs_in p d route && has_section x route.path) && (v && (tree_holds (image_of p s) (kept_on_path r route x) && true))) (locked_or_occupied-holds p s shape r now at)
-      ∙ ap (λ v. (runs_in p d route && has_section x route.path) && (is_locked_or_occupied now && v)) (and-end (tree_holds (image_of p s) (kept_on_path r route x)) ∙ kept_on_path-holds p s shape r route now x at)
+      ∙ ap (λ v. (runs_in p d route && has_section x route.path) && (is_locked_or_occupied now && v)) (and-true (tree_holds (image_of p s) (kept_on_path r route x)) ∙ kept_on_path-holds p s shape r route now x at)
       ∙ by_path (has_section x route.path) refl
     where
       with_path : (a b c : Bool) → ((a && true) && (b && c)) ≡ (a && b && c)
@@ -277,7 +273,7 @@ module _ (p : PlantLists) (plant : IsPlant p) (s : State) (shape : HasShape p s)
   -- one instance
   instance-holds : (t : Tree) (ts : List Tree) (a b plain : Bool) → tree_holds (image_of p s) t ≡ a → list_any (tree_holds (image_of p s)) ts ≡ b → list_all (tree_holds (image_of p s)) (if plain then some_of (negation t ∷ ts) ∷ [] else []) ≡ (if plain then not a || b else true)
   instance-holds t ts a b true one two =
-      and-end (tree_holds (image_of p s) (some_of (negation t ∷ ts))) ∙ some_of-holds (image_of p s) (negation t ∷ ts) ∙ ap (λ v. not v || list_any (tree_holds (image_of p s)) ts) one ∙ ap (λ v. not a || v) two
+      and-true (tree_holds (image_of p s) (some_of (negation t ∷ ts))) ∙ some_of-holds (image_of p s) (negation t ∷ ts) ∙ ap (λ v. not v || list_any (tree_holds (image_of p s)) ts) one ∙ ap (λ v. not a || v) two
   instance-holds t ts a b false one two = refl
 
   led_at-holds : (d : Dir) (x : ℕ) → x < length p.sections → list_all (tree_holds (image_of p s)) (led_at p d x) ≡ (if is_plain p d x then not (has_head_in d (occupancy_of p s x)) || is_led p s d x else true)

@@ -33,7 +33,7 @@ use Rattle.ilk_invs.specs.PointFamily.{points_of_path, set_for, v6_tree}
 use Rattle.ilk_invs.specs.RouteFamilies.{counts_of, opened_for, path_vacant, v1_tree, v4_tree, v5_tree, v9_tree}
 use Rattle.ilk_invs.specs.TrainFamilies.{body_at, head_at, keeps_at, kept_at, leads_at, leads_from, led_at, v7_tree, v8_tree}
 use Rattle.ilk_invs.proofs.HoldLaws.{beside-known}
-use Rattle.ilk_invs.proofs.Tests.{enumerated, list_all-each}
+use Rattle.ilk_invs.proofs.Tests.{dropped-at, enumerated, list_all-each}
 
 module _ (p : PlantLists) (plant : IsPlant p) where
   each_of-valid : (ts : List Tree) → list_all (tree_valid (ranges_of_plant p)) ts ≡ true → tree_valid (ranges_of_plant p) (each_of ts) ≡ true
@@ -223,12 +223,7 @@ module _ (p : PlantLists) (plant : IsPlant p) where
       each_of-valid (some_of (mode_is r Occupied ∷ each_of (mode_is r Locked ∷ board_is p route.source Closed ∷ []) ∷ []) ∷ seen_below r (i + 2) ∷ map (no_train_at p) (drop (i + 1) route.path))
       (more-valid (some_of (mode_is r Occupied ∷ each_of (mode_is r Locked ∷ board_is p route.source Closed ∷ []) ∷ [])) (seen_below r (i + 2) ∷ map (no_train_at p) (drop (i + 1) route.path)) may
       (more-valid (seen_below r (i + 2)) (map (no_train_at p) (drop (i + 1) route.path)) (seen_below-valid r (i + 2) route known (omega (arith, less)))
-      (map-valid (no_train_at p) (drop (i + 1) route.path) (λ k y there. no_train_at-valid p y (path_known r route ((i + 1) + k) y known (later (i + 1) route.path k y there))))))
-    where
-      later : (n : ℕ) (xs : List ℕ) (k x : ℕ) → slice_get (drop n xs) k ≡ Some x → slice_get xs (n + k) ≡ Some x
-      later zero xs k x at = (let sum : 0 + k ≡ k = omega arith in ap (slice_get xs) sum ∙ at)
-      later (suc n) [] k x at = cc
-      later (suc n) (y ∷ xs) k x at = (let sum : suc n + k ≡ suc (n + k) = omega arith in ap (slice_get (y ∷ xs)) sum ∙ later n xs k x at)
+      (map-valid (no_train_at p) (drop (i + 1) route.path) (λ k y there. no_train_at-valid p y (path_known r route ((i + 1) + k) y known (dropped-at (i + 1) route.path k y there))))))
 
   instances-valid : (f : Dir → ℕ → List Tree) → ((d : Dir) (x : ℕ) → x < length p.sections → list_all (tree_valid (ranges_of_plant p)) (f d x) ≡ true) → tree_valid (ranges_of_plant p) (each_of (flat_map (λ x. f Up x ++ f Down x) (range_with_len 0 (length p.sections)))) ≡ true
   instances-valid f each =

@@ -106,7 +106,7 @@ fn has_point(points: &Row<Listed>, x: u32) -> bool
 }
 
 /// Whether section `x` is in the overlap of a route, or is one of its protecting points.
-#[tactic(auto, using(crate::proofs::Sections::beside))]
+#[tactic(auto, using(crate::proofs::Sections::beside_route))]
 pub fn is_beside(route: &Route, x: u32) -> bool
     ensures { result ≡ has_section x (sections_beside route.now) }
 {

@@ -19,7 +19,7 @@ use ilk_plant::{Hold, Listed, Plant, Route, has_section};
 use std::alloc::{AllocError, Global};
 
 // Whether route `r` has section `x` in its path, its overlap or its protecting points.
-#[tactic(auto, using(crate::proofs::Sections::locked_for))]
+#[tactic(auto, using(crate::proofs::Sections::sections_of_route))]
 fn may_hold(plant: &Plant, x: u32, r: u32) -> bool
     requires { r < length plant.now.routes }
     ensures { result ≡ definitions.may_hold plant.now x r }
