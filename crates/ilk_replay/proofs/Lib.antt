@@ -13,3 +13,6 @@ pub mod WholeBack
 pub mod WordTables
 pub mod StateWords
 pub mod Items
+pub mod Subjects
+pub mod StateTexts
+pub mod RunTexts

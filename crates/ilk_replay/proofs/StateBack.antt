@@ -121,10 +121,17 @@ said_train_back d names =
     ∙ ap (λ (o : Option (Bytes × Bytes)). o >>= (λ words. direction_of_word words.0 >>= (λ dir. said_pair dir words.1))) (first_back (direction_word d) names (direction_lacks 32 d refl))
     ∙ ap (λ (o : Option Dir). o >>= (λ dir. said_pair dir names)) (direction_back d)
 
+-- each section of a body is a section of the plant
+pub body_known : (p : PlantLists) → IsPlant p → (d : Dir) (body : List ℕ) → is_body p (record { dir = d; body = body }) ≡ true → All (λ x. x < length p.sections) body
+body_known p plant d [] shape = cc
+body_known p plant d (x ∷ rest) shape =
+    let begins = and_parts (nat_lt x (length p.sections)) (leads_on p d x rest) shape in
+    known_next p plant d x rest (ltb-true x (length p.sections) begins.0) begins.1
+
 body_back : (p : PlantLists) → IsPlant p → HasPlainNames p → (d : Dir) (body : List ℕ) → is_body p (record { dir = d; body = body }) ≡ true → train_told p (train_line p (record { dir = d; body = body })) ≡ Some (record { dir = d; body = body })
 body_back p plant plain d [] shape = cc
 body_back p plant plain d (x ∷ rest) shape =
-    let known : All (λ y. y < length p.sections) (x ∷ rest) = (let begins = and_parts (nat_lt x (length p.sections)) (leads_on p d x rest) shape in let within : x < length p.sections = ltb-true x (length p.sections) begins.0 in known_next p plant d x rest within begins.1) in
+    let known = body_known p plant d (x ∷ rest) shape in
     let names : Bytes = name_of p.section_names x ++ flat_map (λ y. 32 ∷ name_of p.section_names y) rest in
     ap (λ (o : Option (Dir × Bytes)). o >>= (λ said. sections_named p (words_of said.1) >>= train_with p said.0)) (said_train_back d names)
     ∙ ap (λ (ws : List Bytes). sections_named p ws >>= train_with p d) (body_words p plant plain x rest known)

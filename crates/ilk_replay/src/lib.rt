@@ -10,7 +10,8 @@
 //! text tells a run exactly where it is the one that is written for it, and that the bad line that is
 //! named is the first. `specs/Seen` says what a replay shows.
 //!
-//! `read_run` reads a text over a plant, and `replay` does the run that it tells.
+//! `read_run` reads a text over a plant, `write_run` writes one that is read again to the same run, and
+//! `replay` does the run that a text tells.
 #![tactic(auto)]
 
 mod event_line;
@@ -18,12 +19,15 @@ mod examples;
 mod laws;
 mod names;
 mod reading;
+mod run_writing;
 mod seen;
 mod state_line;
 mod state_reading;
+mod state_writing;
 mod told;
 
 pub use laws::texts_are_those_written;
 pub use reading::read_run;
+pub use run_writing::write_run;
 pub use seen::{Seen, replay};
 pub use told::{Tale, Told};

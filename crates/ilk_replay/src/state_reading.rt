@@ -25,8 +25,8 @@ fn numbers_below(alloc: Global, count: u32) -> Result<Row<u32>, AllocError>
 }
 
 #[tactic(auto, using(crate::proofs::Items::listed_more, crate::proofs::Items::listed_same))]
-// The numbers of the point sections, in order.
-fn point_sections(alloc: Global, plant: &Plant) -> Result<Row<u32>, AllocError>
+/// The numbers of the point sections, in order.
+pub(crate) fn point_sections(alloc: Global, plant: &Plant) -> Result<Row<u32>, AllocError>
     ensures { IfOk result (λ numbers. numbers ≡ point_sections plant.now) }
 {
     let mut numbers = Row::new(alloc);

@@ -1,0 +1,157 @@
+ghost use Rattle.std.specs.Prelude.{◌≡◌, ◌<◌, ◌++◌, ◌∷◌, [], All, flat_map, length, string_bytes, OnOk};
+ghost use Rattle.ilk_lines.specs.Reading.{numbers_of};
+ghost use Rattle.ilk_lines.specs.Written.{each_line, text_of};
+ghost use Rattle.ilk_plant.specs.Shape.{HasShape};
+ghost use Rattle.ilk_replay.specs.RunText.{board_line, name_of, point_line, route_line, section_line, state_lines, train_line};
+ghost use Rattle.ilk_replay.specs.StateTold.{point_sections};
+
+use crate::state_reading::point_sections;
+use ilk_base::Worded;
+use ilk_plant::{Aspect, Hold, Plant, PointState, RouteState, Row, State, Train};
+use std::alloc::{AllocError, Global};
+
+// Writes the line of route `r` at the end of a text.
+fn push_route(text: &mut String, plant: &Plant, r: u32, now: &RouteState) -> Result<(), AllocError>
+    requires { r < length plant.now.routes }
+    ensures { OnOk result (string_bytes text.new ≡ string_bytes text.old ++ (route_line plant.now r now.now ++ 10 ∷ [])) }
+{
+    let name = plant.route_name(r);
+    let mode = now.mode.word();
+    write!(text, "route {} {} {} {}\n", name, mode, now.seen, now.rel)
+}
+
+// Writes the line of the point on section `x`.
+fn push_point(text: &mut String, plant: &Plant, x: u32, now: &PointState) -> Result<(), AllocError>
+    requires { x < length plant.now.sections }
+    ensures { OnOk result (string_bytes text.new ≡ string_bytes text.old ++ (point_line plant.now x now.now ++ 10 ∷ [])) }
+{
+    let name = plant.section_name(x);
+    write!(text, "point {} {} {}\n", name, now.at.word(), now.to.word())
+}
+
+// Writes the line of board `m`.
+fn push_board(text: &mut String, plant: &Plant, m: u32, aspect: Aspect) -> Result<(), AllocError>
+    requires { m < length plant.now.boards }
+    ensures { OnOk result (string_bytes text.new ≡ string_bytes text.old ++ (board_line plant.now m aspect ++ 10 ∷ [])) }
+{
+    write!(text, "board {} {}\n", plant.board_name(m), aspect.word())
+}
+
+// Writes the line of section `x`.
+fn push_section(text: &mut String, plant: &Plant, x: u32, lock: Hold) -> Result<(), AllocError>
+    requires { x < length plant.now.sections }
+    ensures { OnOk result (string_bytes text.new ≡ string_bytes text.old ++ (section_line plant.now x lock ++ 10 ∷ [])) }
+{
+    write!(text, "section {} {}\n", plant.section_name(x), lock.word())
+}
+
+// Writes the name of section `x` after a space.
+fn push_name(text: &mut String, plant: &Plant, x: u32) -> Result<(), AllocError>
+    requires { x < length plant.now.sections }
+    ensures { OnOk result (string_bytes text.new ≡ string_bytes text.old ++ 32 ∷ name_of plant.now.section_names x) }
+{
+    write!(text, " {}", plant.section_name(x))
+}
+
+// Writes the names of sections, each after a space.
+fn push_names(text: &mut String, plant: &Plant, body: &[u32]) -> Result<(), AllocError>
+    requires { All (λ x. x < length plant.now.sections) body.now }
+    ensures { OnOk result (string_bytes text.new ≡ string_bytes text.old ++ flat_map (λ x. 32 ∷ name_of plant.now.section_names x) body.now) }
+{
+    for x in body {
+        push_name(text, plant, *x)?;
+    }
+    Ok(())
+}
+
+#[tactic(auto, using(crate::proofs::StateTexts::train_is))]
+// Writes the line of a train.
+fn push_train(text: &mut String, plant: &Plant, train: &Train) -> Result<(), AllocError>
+    requires { All (λ x. x < length plant.now.sections) train.now.body }
+    ensures { OnOk result (string_bytes text.new ≡ string_bytes text.old ++ (train_line plant.now train.now ++ 10 ∷ [])) }
+{
+    write!(text, "train {}", train.dir.word())?;
+    push_names(text, plant, train.body.as_slice())?;
+    text.push_str("\n")
+}
+
+// Writes the lines of routes.
+fn push_routes(text: &mut String, plant: &Plant, routes: &Row<RouteState>) -> Result<(), AllocError>
+    requires { length routes.now ≡ length plant.now.routes }
+    ensures { OnOk result (string_bytes text.new ≡ string_bytes text.old ++ text_of (each_line (route_line plant.now) (numbers_of plant.now.routes) routes.now)) }
+{
+    for r in 0..plant.routes() {
+        push_route(text, plant, r, routes.at(r as u64))?;
+    }
+    Ok(())
+}
+
+// Writes the lines of points, in the order of their sections.
+fn push_points(
+    alloc: Global,
+    text: &mut String,
+    plant: &Plant,
+    points: &Row<PointState>,
+) -> Result<(), AllocError>
+    requires { length points.now ≡ length (point_sections plant.now) }
+    ensures { OnOk result (string_bytes text.new ≡ string_bytes text.old ++ text_of (each_line (point_line plant.now) (point_sections plant.now) points.now)) }
+{
+    let sections = point_sections(alloc, plant)?;
+    for n in 0..sections.len() {
+        push_point(text, plant, *sections.at(n), points.at(n))?;
+    }
+    Ok(())
+}
+
+// Writes the lines of boards.
+fn push_boards(text: &mut String, plant: &Plant, boards: &Row<Aspect>) -> Result<(), AllocError>
+    requires { length boards.now ≡ length plant.now.boards }
+    ensures { OnOk result (string_bytes text.new ≡ string_bytes text.old ++ text_of (each_line (board_line plant.now) (numbers_of plant.now.boards) boards.now)) }
+{
+    for m in 0..plant.boards() {
+        push_board(text, plant, m, *boards.at(m as u64))?;
+    }
+    Ok(())
+}
+
+// Writes the lines of sections.
+fn push_sections(text: &mut String, plant: &Plant, locks: &Row<Hold>) -> Result<(), AllocError>
+    requires { length locks.now ≡ length plant.now.sections }
+    ensures { OnOk result (string_bytes text.new ≡ string_bytes text.old ++ text_of (each_line (section_line plant.now) (numbers_of plant.now.sections) locks.now)) }
+{
+    for x in 0..plant.sections() {
+        push_section(text, plant, x, *locks.at(x as u64))?;
+    }
+    Ok(())
+}
+
+// Writes the lines of trains.
+fn push_trains(text: &mut String, plant: &Plant, trains: &Row<Train>) -> Result<(), AllocError>
+    requires { All (λ train. All (λ x. x < length plant.now.sections) train.body) trains.now }
+    ensures { OnOk result (string_bytes text.new ≡ string_bytes text.old ++ flat_map (λ train. train_line plant.now train ++ 10 ∷ []) trains.now) }
+{
+    for train in trains.as_slice() {
+        push_train(text, plant, train)?;
+    }
+    Ok(())
+}
+
+#[tactic(auto, using(crate::proofs::StateTexts::state_is, crate::proofs::StateTexts::bodies_known, crate::proofs::StateTexts::points_counted))]
+/// Writes the lines of a state at the end of a text.
+pub(crate) fn push_state(
+    alloc: Global,
+    text: &mut String,
+    plant: &Plant,
+    s: &State,
+) -> Result<(), AllocError>
+    requires { HasShape plant.now s.now }
+    ensures { OnOk result (string_bytes text.new ≡ string_bytes text.old ++ text_of (state_lines plant.now s.now)) }
+{
+    plant.is_sound();
+    push_routes(text, plant, &s.routes)?;
+    push_points(alloc, text, plant, &s.points)?;
+    push_boards(text, plant, &s.boards)?;
+    push_sections(text, plant, &s.locks)?;
+    push_trains(text, plant, &s.trains)?;
+    Ok(())
+}
