@@ -1,0 +1,66 @@
+-- The plant's system steps as its events do: what each rule and each event leads to, and that shape lasts.
+use Rattle.std.proofs.Common.{◌≡◌, ℕ, ◌<◌, true, Option, Some, None, List, length, slice_get, refl, ap, ◌∙◌, arith}
+use Rattle.std.specs.Prelude.{is_some}
+use Rattle.std.proofs.lemmas.Bool.{false≢true}
+use Rattle.std.proofs.lemmas.Option.{slice_get_within}
+use Rattle.ilk_base.proofs.Lists.{item_at}
+use Rattle.ilk_base.proofs.Options.{bind_some}
+use Rattle.ilk_ir.specs.System.{fired, fired_at}
+use Rattle.ilk_plant.specs.Plant.{IsPlant, PlantLists}
+use Rattle.ilk_plant.specs.Shape.{HasShape}
+use Rattle.ilk_plant.specs.declared.state.State.{State}
+use Rattle.ilk_motion.proofs.Shape.{after_enter-shape, after_head-shape, after_leave-shape, after_tail-shape}
+use Rattle.ilk_routes.proofs.Shape.{after_allocate-shape, after_cancel-shape, after_finish-shape, after_lock-shape, after_mark-shape, after_release-shape, after_sense-shape, after_settle-shape, after_throw-shape}
+use Rattle.ilk_model.specs.Event.{next}
+use Rattle.ilk_model.specs.declared.event.Event.{Event}
+use Rattle.ilk_model.specs.declared.event.Event.TheVariants.{Mark, Allocate, Lock, Sense, Release, Finish, Throw, Settle, Enter, Head, Tail, Leave, Cancel}
+use Rattle.ilk_layout.specs.Image.{image_of}
+use Rattle.ilk_layout.specs.Laws.{IsCalm}
+use Rattle.ilk_behave.specs.Behaviour.{event_of_rule, events_of, events_of_rules, system_of}
+use Rattle.ilk_behave.specs.Steps.{RuleGives, StepsAs}
+use Rattle.ilk_behave.proofs.Located.{as_many}
+use Rattle.ilk_queries.specs.Lifting.{RulesStep}
+
+-- an event keeps the shape
+next-shape : (p : PlantLists) → IsPlant p → (s t : State) (event : Event) → HasShape p s → next p s event ≡ Some t → HasShape p t
+next-shape p plant s t (Mark r) shape e = after_mark-shape p s t r shape e
+next-shape p plant s t (Allocate r) shape e = after_allocate-shape p s t r shape e
+next-shape p plant s t (Lock r) shape e = after_lock-shape p s t r shape e
+next-shape p plant s t (Sense r) shape e = after_sense-shape p s t r shape e
+next-shape p plant s t (Release r) shape e = after_release-shape p s t r shape e
+next-shape p plant s t (Finish r) shape e = after_finish-shape p s t r shape e
+next-shape p plant s t (Throw x) shape e = after_throw-shape p s t x shape e
+next-shape p plant s t (Settle x) shape e = after_settle-shape p s t x shape e
+next-shape p plant s t (Enter x) shape e = after_enter-shape p s t x shape e
+next-shape p plant s t (Head x) shape e = after_head-shape p s t x shape e
+next-shape p plant s t (Tail x) shape e = after_tail-shape p s t x plant shape e
+next-shape p plant s t (Leave x) shape e = after_leave-shape p s t x shape e
+next-shape p plant s t (Cancel r) shape e = after_cancel-shape p s t r shape e
+
+some-is : {A : Type 0} (o : Option A) → is_some o ≡ true → (x : A) × (o ≡ Some x)
+some-is None e = absurd (false≢true e)
+some-is (Some x) e = (x, refl)
+
+-- a rule that is there has an event
+rule-event : (p : PlantLists) (i : ℕ) (values next : List ℕ) → fired_at (system_of p) i values ≡ Some next → (event : Event) × (event_of_rule p i ≡ Some event)
+rule-event p i values next e =
+    let rule = bind_some (slice_get (system_of p).rules i) (λ r. fired r values) next e in
+    let within : i < length (system_of p).rules = slice_get_within (system_of p).rules i rule.0 rule.1 in
+    let many : length (events_of_rules p (events_of p)) ≡ length (system_of p).rules = as_many p (events_of p) in
+    item_at (events_of_rules p (events_of p)) i (omega (arith, many))
+
+pub rules-step : (p : PlantLists) → IsPlant p → StepsAs p → RulesStep p
+rules-step p plant steps =
+    record {
+      enabled = λ s t event shape none e.
+          (let calm : IsCalm p s = record { shape = shape; no_hazard = none } in
+          let gives = (steps.enabled s event calm).0 (ap is_some e) in
+          (gives.number, gives.gives.of_event, gives.gives.gives ∙ ap Some (steps.after s t event gives.number gives.values calm e gives.gives)));
+      fired = λ s i values shape none e.
+          (let calm : IsCalm p s = record { shape = shape; no_hazard = none } in
+          let of = rule-event p i (image_of p s) values e in
+          let rule : RuleGives p s of.0 i values = record { of_event = of.1; gives = e } in
+          let following = some-is (next p s of.0) ((steps.enabled s of.0 calm).1 (record { number = i; values = values; gives = rule })) in
+          (of.0, following.0, of.1, following.1, steps.after s following.0 of.0 i values calm following.1 rule));
+      keeps_shape = next-shape p plant;
+    }

@@ -1,0 +1,5 @@
+pub mod Walk
+pub mod Asked
+pub mod Lifting
+pub mod Goal
+pub mod Satisfied
