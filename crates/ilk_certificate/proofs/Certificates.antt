@@ -1,0 +1,87 @@
+-- What is written for a verdict is a certificate for it, and its logs have no hint 0.
+use Rattle.std.proofs.Common.{◌≡◌, ℕ, zero, suc, ◌+◌, ◌≤◌, ◌<◌, Bool, true, false, ◌&&◌, List, [], ◌∷◌, ◌++◌, map, Option, Some, None, IsTrue, refl, sym, ap, ◌∙◌, subst, arith, inl, inr, ◌⊎◌, All}
+use Rattle.std.specs.Prelude.{nat_lt}
+use Rattle.std.specs.List.{list_all}
+use Rattle.std.proofs.lemmas.Bool.{and_parts, lt-ltb}
+use Rattle.std.proofs.lemmas.List.Elements.{All-head, All-tail}
+use Rattle.ilk_base.specs.Option.{is_some_and}
+use Rattle.ilk_cnf.specs.Literal.{Literal}
+use Rattle.ilk_ir.specs.System.{SystemTree}
+use Rattle.ilk_log.specs.declared.step.Step.{Step as LogStep}
+use Rattle.ilk_log.specs.Derived.{opposites, ends_false, is_derived, each_derived}
+use Rattle.ilk_log.specs.Propagation.{after_hint}
+use Rattle.ilk_unroll.specs.declared.queries.Wanted.{Wanted}
+use Rattle.ilk_unroll.specs.declared.queries.Wanted.TheVariants.{Step}
+use Rattle.ilk_unroll.specs.Goal.{GoalTree, step_count}
+use Rattle.ilk_unroll.specs.Query.{query_formula}
+use Rattle.ilk_induct.specs.declared.verdict.Asked.{Asked}
+use Rattle.ilk_induct.specs.declared.verdict.Verdict.{Verdict}
+use Rattle.ilk_induct.specs.declared.verdict.Verdict.TheVariants.{Safe, Unsafe, Breach, NotInductive, Spent}
+use Rattle.ilk_induct.specs.Asked.{IsLogOf, AreAsked, IsAskedFor}
+use Rattle.ilk_induct.specs.Certified.{IsCertified, without_early_steps}
+use Rattle.ilk_induct.specs.Right.{IsRight}
+use Rattle.ilk_induct.proofs.Certified.{certifies}
+use Rattle.ilk_certificate.specs.Certificate.{IsCertificate, IsSpentText, IsCertificateFor}
+use Rattle.ilk_certificate.specs.CertificateText.{hints_from_one, all_hints_from_one, certificate_text, spent_text}
+
+from-one : (h : ℕ) → nat_lt 0 (suc h) ≡ true
+from-one h = lt-ltb 0 (suc h) (omega arith)
+
+both : (a b : Bool) → a ≡ true → b ≡ true → (a && b) ≡ true
+both a b p q = rw (p, q) refl
+
+-- hints that end at a false clause are clauses' numbers, and so from 1
+ends-count : (clauses : List (List Literal)) (set : List Literal) (hints : List ℕ) → ends_false clauses set hints ≡ true → list_all (λ h. nat_lt 0 h) hints ≡ true
+ends-count clauses set [] e = cc
+ends-count clauses set (zero ∷ []) e = absurd cc
+ends-count clauses set (suc h ∷ []) e = both (nat_lt 0 (suc h)) true (from-one h) refl
+ends-count clauses set (zero ∷ (k ∷ hints)) e = absurd cc
+ends-count clauses set (suc h ∷ (k ∷ hints)) e = both (nat_lt 0 (suc h)) (list_all (λ h. nat_lt 0 h) (k ∷ hints)) (from-one h) (by_next (after_hint clauses set (suc h)) (λ next. ends-count clauses next (k ∷ hints)) e)
+  where
+    by_next : (o : Option (List Literal)) → ((next : List Literal) → ends_false clauses next (k ∷ hints) ≡ true → list_all (λ h. nat_lt 0 h) (k ∷ hints) ≡ true) → is_some_and o (λ next. ends_false clauses next (k ∷ hints)) ≡ true → list_all (λ h. nat_lt 0 h) (k ∷ hints) ≡ true
+    by_next None count e = absurd cc
+    by_next (Some next) count e = count next e
+
+derived-count : (n : ℕ) (clauses : List (List Literal)) (steps : List LogStep) → each_derived n clauses steps ≡ true → list_all hints_from_one steps ≡ true
+derived-count n clauses [] e = refl
+derived-count n clauses (s ∷ steps) e =
+    let parts = and_parts (is_derived n clauses s) (each_derived n (clauses ++ s.clause ∷ []) steps) e in
+    let here = and_parts _ _ parts.0 in
+    let hints : hints_from_one s ≡ true = ends-count clauses (opposites s.clause) s.hints here.1 in
+    rw hints (derived-count n (clauses ++ s.clause ∷ []) steps parts.1)
+
+logs-count : (s : SystemTree) (g : GoalTree) (asked : List Asked) → All (IsLogOf s g) asked → IsTrue (all_hints_from_one asked)
+logs-count s g [] logs = refl
+logs-count s g (a ∷ asked) logs =
+    let one : IsLogOf s g a = All-head (IsLogOf s g) a asked logs in
+    let here : list_all hints_from_one a.log ≡ true = derived-count (query_formula s g a.query).vars (query_formula s g a.query).clauses a.log one.derived in
+    rw here (logs-count s g asked (All-tail (IsLogOf s g) a asked logs))
+
+-- what was asked for a verdict was asked in order
+pub hints_count : (s : SystemTree) (g : GoalTree) (depth conflicts : ℕ) (verdict : Verdict) (asked : List Asked) → IsAskedFor s g depth conflicts verdict asked → IsTrue (all_hints_from_one asked)
+hints_count s g depth conflicts (Unsafe t) asked h = logs-count s g asked h.1.1.logs
+hints_count s g depth conflicts (Breach t) asked h = logs-count s g asked h.1.logs
+hints_count s g depth conflicts (Safe k) asked h = logs-count s g asked h.1.logs
+hints_count s g depth conflicts (NotInductive t) asked h = logs-count s g asked h.1.logs
+hints_count s g depth conflicts Spent asked h = logs-count s g asked h.0.1.1.logs
+
+safe-certifies : (s : SystemTree) (g : GoalTree) (depth conflicts k : ℕ) (asked : List Asked) → depth ≤ 16 → IsRight s g depth (Safe k) → IsAskedFor s g depth conflicts (Safe k) asked → IsCertificate s g k (certificate_text (Safe k) asked)
+safe-certifies s g depth conflicts k asked deep right h =
+    let all : IsCertified s g k asked = certifies s g depth conflicts (Safe k) asked h in
+    let within : k ≤ depth = subst (λ (q : Wanted). step_count q ≤ depth) h.2.0 h.1.within in
+    record {
+      asked = without_early_steps asked;
+      some = right.induction.so.0;
+      most = omega (arith, deep, within);
+      queries = all.queries;
+      refuted = all.refuted;
+      text = refl;
+    }
+
+pub texts_certify : (s : SystemTree) (g : GoalTree) (depth conflicts : ℕ) (verdict : Verdict) (asked : List Asked) → depth ≤ 16 → IsRight s g depth verdict ⊎ (verdict ≡ Spent) → IsAskedFor s g depth conflicts verdict asked → IsCertificateFor s g depth conflicts verdict (certificate_text verdict asked)
+texts_certify s g depth conflicts (Safe k) asked deep (inl right) h = safe-certifies s g depth conflicts k asked deep right h
+texts_certify s g depth conflicts (Safe k) asked deep (inr spent) h = absurd cc
+texts_certify s g depth conflicts (Unsafe t) asked deep right h = refl
+texts_certify s g depth conflicts (Breach t) asked deep right h = refl
+texts_certify s g depth conflicts (NotInductive t) asked deep right h = refl
+texts_certify s g depth conflicts Spent asked deep right h = record { asked = asked; breach = h.0.0; given_up = h.0.1; counted = h.1; text = ap (λ (n : ℕ). spent_text n asked) h.1 }

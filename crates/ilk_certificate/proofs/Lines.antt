@@ -1,0 +1,72 @@
+-- What is written for the queries is the text of their lines.
+use Rattle.std.proofs.Common.{◌≡◌, ◌≤◌, ℕ, length, take, Bool, true, false, cond, List, [], ◌∷◌, ◌++◌, map, flat_map, refl, sym, ap, ◌∙◌, append_assoc, append-nil}
+use Rattle.std.specs.Prelude.{codes}
+use Rattle.std.proofs.lemmas.List.{take_all}
+use Rattle.std.proofs.lemmas.List.Concat.{flat_map-append}
+use Rattle.ilk_lines.specs.Lines.{Bytes}
+use Rattle.ilk_lines.specs.Written.{text_of}
+use Rattle.ilk_log.specs.declared.step.Step.{Step as LogStep}
+use Rattle.ilk_log.specs.StepText.{step_text}
+use Rattle.ilk_induct.specs.declared.verdict.Asked.{Asked}
+use Rattle.ilk_induct.specs.Certified.{is_step_query, without_early_steps}
+use Rattle.ilk_certificate.specs.CertificateText.{asked_lines, certificate_lines}
+use Rattle.ilk_certificate.specs.Writing.{asked_text, base_text}
+
+-- the line of a step with its line feed
+abbrev pub step_fed : LogStep → Bytes
+step_fed s = step_text s ++ 10 ∷ []
+
+pub steps-fed : (log : List LogStep) → flat_map step_fed log ≡ text_of (map step_text log)
+steps-fed [] = refl
+steps-fed (s ∷ log) = ap (λ (t : Bytes). step_fed s ++ t) (steps-fed log)
+
+text_of-append : (xs ys : List Bytes) → text_of (xs ++ ys) ≡ text_of xs ++ text_of ys
+text_of-append xs ys = flat_map-append (λ (line : Bytes). line ++ 10 ∷ []) xs ys
+
+pub asked-fed : (asked : List Asked) → flat_map asked_text asked ≡ text_of (flat_map asked_lines asked)
+asked-fed [] = refl
+asked-fed (a ∷ asked) = ap (λ (t : Bytes). asked_text a ++ t) (asked-fed asked) ∙ sym (text_of-append (asked_lines a) (flat_map asked_lines asked))
+
+-- the queries but the step queries, and then the last, are those without the step queries before the last
+pub kept-fed : (before : List Asked) (last : Asked) → flat_map base_text before ++ asked_text last ≡ text_of (flat_map asked_lines (without_early_steps (before ++ last ∷ [])))
+kept-fed before last = joined before ∙ asked-fed (without_early_steps (before ++ last ∷ []))
+  where
+    by_case : (a : Asked) (c : Bool) (more : Bytes) (rest : List Asked) → more ++ asked_text last ≡ flat_map asked_text rest → (cond c [] (asked_text a) ++ more) ++ asked_text last ≡ flat_map asked_text (cond c rest (a ∷ rest))
+    by_case a true more rest e = e
+    by_case a false more rest e = append_assoc (asked_text a) more (asked_text last) ∙ ap (λ (t : Bytes). asked_text a ++ t) e
+
+    joined : (before : List Asked) → flat_map base_text before ++ asked_text last ≡ flat_map asked_text (without_early_steps (before ++ last ∷ []))
+    joined [] = sym (append-nil (asked_text last))
+    joined (a ∷ []) = by_case a (is_step_query a.query) [] (last ∷ []) (joined [])
+    joined (a ∷ b ∷ before) = by_case a (is_step_query a.query) (flat_map base_text (b ∷ before)) (without_early_steps ((b ∷ before) ++ last ∷ [])) (joined (b ∷ before))
+
+-- the first two lines, those of the queries and the last are the lines of the certificate
+pub lines-fed : (told : Bytes) (asked : List Asked) → (text_of (codes "irv certificate 3" ∷ told ∷ []) ++ text_of (flat_map asked_lines asked)) ++ (codes "end" ++ 10 ∷ []) ≡ text_of (certificate_lines told asked)
+lines-fed told asked =
+    let first : List Bytes = codes "irv certificate 3" ∷ told ∷ [] in
+    let queries : List Bytes = flat_map asked_lines asked in
+    let last : List Bytes = codes "end" ∷ [] in
+    let fed : text_of last ≡ codes "end" ++ 10 ∷ [] = refl in
+    sym (
+    text_of-append first (queries ++ last)
+    ∙ ap (λ (t : Bytes). text_of first ++ t) (text_of-append queries last)
+    ∙ sym (append_assoc (text_of first) (text_of queries) (text_of last)))
+
+-- where the lines of all steps are written, they are the text of these lines
+pub steps_written : (start : Bytes) (log : List LogStep) (i : ℕ) (now : Bytes) → length log ≤ i → now ≡ start ++ flat_map step_fed (take i log) → now ≡ start ++ text_of (map step_text log)
+steps_written start log i now past sofar =
+    sofar ∙ ap (λ (xs : List LogStep). start ++ flat_map step_fed xs) (take_all i log past) ∙ ap (λ (t : Bytes). start ++ t) (steps-fed log)
+
+-- and so are those of all queries
+pub asked_written : (start : Bytes) (asked : List Asked) (i : ℕ) (now : Bytes) → length asked ≤ i → now ≡ start ++ flat_map asked_text (take i asked) → now ≡ start ++ text_of (flat_map asked_lines asked)
+asked_written start asked i now past sofar =
+    sofar ∙ ap (λ (xs : List Asked). start ++ flat_map asked_text xs) (take_all i asked past) ∙ ap (λ (t : Bytes). start ++ t) (asked-fed asked)
+
+-- and those that are kept, where the last is written too
+pub kept_written : (start : Bytes) (asked before : List Asked) (last : Asked) (mid now : Bytes) → asked ≡ before ++ last ∷ [] → mid ≡ start ++ flat_map base_text before → now ≡ mid ++ asked_text last → now ≡ start ++ text_of (flat_map asked_lines (without_early_steps asked))
+kept_written start asked before last mid now split sofar grown =
+    grown
+    ∙ ap (λ (t : Bytes). t ++ asked_text last) sofar
+    ∙ append_assoc start (flat_map base_text before) (asked_text last)
+    ∙ ap (λ (t : Bytes). start ++ t) (kept-fed before last)
+    ∙ ap (λ (xs : List Asked). start ++ text_of (flat_map asked_lines (without_early_steps xs))) (sym split)

@@ -1,0 +1,6 @@
+use Rattle.std.proofs.Common.{◌≡◌, ◌++◌, take, flat_map}
+use Rattle.ilk_certificate.specs.Writing.{base_text}
+use Rattle.ilk_certificate.proofs.write.push_bases.Given as goal
+
+abbrev pub invariant-loop-query : goal.invariant-loop-query
+invariant-loop-query l = l.text.items ≡ l.initial.text.items ++ flat_map base_text (take l.query-index l.asked)

@@ -1,0 +1,3 @@
+pub mod CertificateText
+pub mod Certificate
+pub mod Writing

@@ -1,0 +1,15 @@
+-- Only private contracts and proofs need this file: what is written for one query.
+use Rattle.std.specs.Prelude.{[], if◌then◌else◌}
+use Rattle.ilk_lines.specs.Lines.{Bytes}
+use Rattle.ilk_lines.specs.Written.{text_of}
+use Rattle.ilk_induct.specs.declared.verdict.Asked.{Asked}
+use Rattle.ilk_induct.specs.Certified.{is_step_query}
+use Rattle.ilk_certificate.specs.CertificateText.{asked_lines}
+
+-- the text of an asked query
+abbrev pub asked_text : Asked → Bytes
+asked_text a = text_of (asked_lines a)
+
+-- that of a query which isn't a step query
+abbrev pub base_text : Asked → Bytes
+base_text a = if is_step_query a.query then [] else asked_text a
