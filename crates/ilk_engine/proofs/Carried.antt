@@ -1,0 +1,71 @@
+-- What a verdict rests on is so of runs of events where it is so of runs of values, if for each query the two exist together.
+use Rattle.std.proofs.Common.{◌≡◌, ℕ, ◌<◌, ◌≤◌, true, arith}
+use Rattle.std.proofs.lemmas.Bool.{and_from, le-leb, lt-ltb}
+use Rattle.ilk_unroll.specs.Goal.{wanted_valid}
+use Rattle.ilk_unroll.specs.declared.queries.Wanted.{Wanted}
+use Rattle.ilk_unroll.specs.declared.queries.Wanted.TheVariants.{Hazard, Breach, Step}
+use Rattle.ilk_induct.specs.Evidence.{IsLeast, IsNever, Endangers, Breaks, Inducts, IsForever}
+use Rattle.ilk_induct.specs.Right.{IsUnsafe, IsBreach, IsSafe, IsNotInductive}
+
+pub step-valid : (n : ℕ) → 0 < n → n ≤ 16 → wanted_valid (Step n) ≡ true
+step-valid n some few = and_from _ _ (lt-ltb 0 n some) (le-leb n 16 few)
+
+-- over two kinds of runs, of which the first exist for each query for which the second do, and the other way round for each
+-- query that may be asked
+module _ (Values Events : Wanted → Type 0) (to : (q : Wanted) → Events q → Values q) (from : (q : Wanted) → wanted_valid q ≡ true → Values q → Events q) where
+  never-endangers : (depth : ℕ) → IsNever depth (Endangers Values) → IsNever depth (Endangers Events)
+  never-endangers depth none n le has = none n le (to (Hazard n) has)
+
+  never-breaks : (depth : ℕ) → IsNever depth (Breaks Values) → IsNever depth (Breaks Events)
+  never-breaks depth none n le has = none n le (to (Breach n) has)
+
+  -- where the invariant carries itself over events, it does over values
+  inducts : (n : ℕ) → n ≤ 16 → Inducts Events n → Inducts Values n
+  inducts n few carries = (carries.0, λ has. carries.1 (from (Step n) (step-valid n carries.0 few) has))
+
+  pub carried-unsafe : (depth h : ℕ) → depth ≤ 16 → IsUnsafe Values depth h → IsUnsafe Events depth h
+  carried-unsafe depth h few is =
+      let within = is.hazard.within in
+      record {
+        hazard = record {
+          within = within;
+          so = from (Hazard h) (le-leb h 16 (omega arith)) is.hazard.so;
+          least = λ m less has. is.hazard.least m less (to (Hazard m) has);
+        };
+      }
+
+  pub carried-breach : (depth b : ℕ) → depth ≤ 16 → IsBreach Values depth b → IsBreach Events depth b
+  carried-breach depth b few is =
+      let within = is.breach.within in
+      record {
+        no_hazard = never-endangers depth is.no_hazard;
+        breach = record {
+          within = within;
+          so = from (Breach b) (le-leb b 16 (omega arith)) is.breach.so;
+          least = λ m less has. is.breach.least m less (to (Breach m) has);
+        };
+      }
+
+  pub carried-safe : (depth i : ℕ) → depth ≤ 16 → IsSafe Values depth i → IsSafe Events depth i
+  carried-safe depth i few is =
+      let within = is.induction.within in
+      record {
+        no_hazard = never-endangers depth is.no_hazard;
+        no_breach = never-breaks depth is.no_breach;
+        induction = record {
+          within = within;
+          so = (is.induction.so.0, λ has. is.induction.so.1 (to (Step i) has));
+          least = λ m less carries. is.induction.least m less (inducts m (omega arith) carries);
+        };
+      }
+
+  pub carried-not : (depth : ℕ) → depth ≤ 16 → IsNotInductive Values depth → IsNotInductive Events depth
+  carried-not depth few is =
+      record {
+        no_hazard = never-endangers depth is.no_hazard;
+        no_breach = never-breaks depth is.no_breach;
+        no_induction = λ n le carries. is.no_induction n le (inducts n (omega arith) carries);
+      }
+
+  pub carried-forever : IsForever Values → IsForever Events
+  carried-forever none n = (λ has. (none n).0 (to (Hazard n) has), λ has. (none n).1 (to (Breach n) has))
