@@ -1,5 +1,5 @@
 -- What is written for a verdict is a certificate for it, and its logs have no hint 0.
-use Rattle.std.proofs.Common.{◌≡◌, ℕ, zero, suc, ◌+◌, ◌≤◌, ◌<◌, Bool, true, false, ◌&&◌, List, [], ◌∷◌, ◌++◌, map, Option, Some, None, IsTrue, refl, sym, ap, ◌∙◌, subst, arith, inl, inr, ◌⊎◌, All}
+use Rattle.std.proofs.Common.{◌≡◌, ℕ, zero, suc, ◌≤◌, Bool, true, ◌&&◌, List, [], ◌∷◌, ◌++◌, Option, Some, None, IsTrue, refl, ap, subst, arith, inl, inr, ◌⊎◌, All}
 use Rattle.std.specs.Prelude.{nat_lt}
 use Rattle.std.specs.List.{list_all}
 use Rattle.std.proofs.lemmas.Bool.{and_parts, lt-ltb}
@@ -11,17 +11,16 @@ use Rattle.ilk_log.specs.declared.step.Step.{Step as LogStep}
 use Rattle.ilk_log.specs.Derived.{opposites, ends_false, is_derived, each_derived}
 use Rattle.ilk_log.specs.Propagation.{after_hint}
 use Rattle.ilk_unroll.specs.declared.queries.Wanted.{Wanted}
-use Rattle.ilk_unroll.specs.declared.queries.Wanted.TheVariants.{Step}
 use Rattle.ilk_unroll.specs.Goal.{GoalTree, step_count}
 use Rattle.ilk_unroll.specs.Query.{query_formula}
 use Rattle.ilk_induct.specs.declared.verdict.Asked.{Asked}
 use Rattle.ilk_induct.specs.declared.verdict.Verdict.{Verdict}
 use Rattle.ilk_induct.specs.declared.verdict.Verdict.TheVariants.{Safe, Unsafe, Breach, NotInductive, Spent}
-use Rattle.ilk_induct.specs.Asked.{IsLogOf, AreAsked, IsAskedFor}
+use Rattle.ilk_induct.specs.Asked.{IsLogOf, IsAskedFor}
 use Rattle.ilk_induct.specs.Certified.{IsCertified, without_early_steps}
 use Rattle.ilk_induct.specs.Right.{IsRight}
 use Rattle.ilk_induct.proofs.Certified.{certifies}
-use Rattle.ilk_certificate.specs.Certificate.{IsCertificate, IsSpentText, IsCertificateFor}
+use Rattle.ilk_certificate.specs.Certificate.{IsCertificate, IsCertificateFor}
 use Rattle.ilk_certificate.specs.CertificateText.{hints_from_one, all_hints_from_one, certificate_text, spent_text}
 
 from-one : (h : ℕ) → nat_lt 0 (suc h) ≡ true
