@@ -1,2 +1,4 @@
 pub mod Right
 pub mod Forever
+pub mod AskedOf
+pub mod Lifted

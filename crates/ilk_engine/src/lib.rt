@@ -2,13 +2,19 @@
 //! a family of the invariant.
 //!
 //! `specs/Right` says which verdict is right, in states and events, and `specs/Forever` what a safe
-//! plant has: each run from the start ends in a state that meets the invariant. A query has a run over
-//! the plant's finite system exactly where the plant has one (`runs_lift`), so what is so of the
-//! system's runs is so of the plant's (`safe_forever`).
+//! plant has: each run from the start ends in a state that meets the invariant. The verdict is found
+//! over the plant's finite system (`ilk_induct`). A query has a run there exactly where the plant has
+//! one (`runs_lift`), so what is so of the system's runs is so of the plant's. `decide` tells the
+//! system's runs as runs of events.
 #![tactic(auto)]
 
+mod deciding;
+mod events;
+mod last;
 mod laws;
+mod lifting;
 mod verdict;
 
+pub use deciding::decide;
 pub use laws::{runs_lift, safe_forever};
 pub use verdict::{Found, Verdict};

@@ -1,0 +1,92 @@
+-- The last state of a run, by its events one after another; and what it has where the run ends in a hazard or a breach.
+use Rattle.std.proofs.Common.{◌≡◌, ℕ, ◌+◌, ◌<◌, Bool, true, false, not, ◌&&◌, Option, Some, None, List, [], ◌∷◌, drop, get_or, length, refl, sym, ap, ◌∙◌}
+use Rattle.std.specs.Prelude.{find, is_some, is_none, option_and_then, slice_get, unwrap_or, ◌-◌}
+use Rattle.std.specs.List.{range_with_len}
+use Rattle.std.proofs.lemmas.Bool.{and_parts, false≢true}
+use Rattle.std.proofs.lemmas.List.{drop_more}
+use Rattle.ilk_base.specs.Option.{◌>>=◌, is_some_and, only_if}
+use Rattle.ilk_base.proofs.Options.{some-and}
+use Rattle.ilk_plant.specs.Plant.{PlantLists}
+use Rattle.ilk_plant.specs.Start.{start}
+use Rattle.ilk_plant.specs.declared.state.State.{State}
+use Rattle.ilk_model.specs.Event.{next}
+use Rattle.ilk_model.specs.Families.{keeps_v1, keeps_v2, keeps_v3, keeps_v4, keeps_v5, keeps_v6, keeps_v7, keeps_v8, keeps_v9}
+use Rattle.ilk_model.specs.Hazard.{hazard}
+use Rattle.ilk_model.specs.Meets.{least_broken}
+use Rattle.ilk_model.specs.Run.{run, step}
+use Rattle.ilk_model.specs.declared.event.Event.{Event}
+use Rattle.ilk_model.specs.declared.hazards.HazardAt.{HazardAt}
+use Rattle.ilk_queries.specs.Asked.{ends_in_breach, ends_in_hazard, keeps_all}
+use Rattle.ilk_engine.specs.Right.{broken_after, hazard_after}
+
+-- the rest of a run goes on from the state after its first event
+pub run-next : (p : PlantLists) (s : State) (event : Event) (rest : List Event) (whole : Option State) → is_some whole ≡ true → run p s (event ∷ rest) ≡ whole → run p (unwrap_or (next p s event) s) rest ≡ whole
+run-next p s event rest whole some is = by_safe (is_none (hazard p s)) refl
+  where
+    by_next : (o : Option State) → is_some (o >>= (λ t. run p t rest)) ≡ true → run p (unwrap_or o s) rest ≡ (o >>= (λ t. run p t rest))
+    by_next None there = absurd (false≢true there)
+    by_next (Some t) there = refl
+
+    by_safe : (b : Bool) → is_none (hazard p s) ≡ b → run p (unwrap_or (next p s event) s) rest ≡ whole
+    by_safe true safe =
+        let free : run p s (event ∷ rest) ≡ (next p s event >>= (λ t. run p t rest)) = ap (λ b. (only_if b s >>= (λ safe. next p safe event)) >>= (λ t. run p t rest)) safe in
+        let there : is_some (next p s event >>= (λ t. run p t rest)) ≡ true = ap is_some (sym free ∙ is) ∙ some in
+        by_next (next p s event) there ∙ sym free ∙ is
+    by_safe false unsafe =
+        let stuck : run p s (event ∷ rest) ≡ None = ap (λ b. (only_if b s >>= (λ safe. next p safe event)) >>= (λ t. run p t rest)) unsafe in
+        absurd (false≢true (ap is_some (sym stuck ∙ is) ∙ some))
+
+-- a run that ends so has a last state
+pub hazard-run : (p : PlantLists) (s : State) (events : List Event) → ends_in_hazard p s events ≡ true → is_some (run p s events) ≡ true
+hazard-run p s events ends = let found = some-and (run p s events) (λ t. is_some (hazard p t)) ends in ap is_some found.1
+
+pub breach-run : (p : PlantLists) (s : State) (events : List Event) → ends_in_breach p s events ≡ true → is_some (run p s events) ≡ true
+breach-run p s events ends = let found = some-and (run p s events) (λ t. is_none (hazard p t) && not (keeps_all p t)) ends in ap is_some found.1
+
+pub hazard-at : (p : PlantLists) (s t : State) (events : List Event) → ends_in_hazard p s events ≡ true → run p s events ≡ Some t → is_some (hazard p t) ≡ true
+hazard-at p s t events ends is = ap (λ (o : Option State). is_some_and o (λ u. is_some (hazard p u))) (sym is) ∙ ends
+
+-- of nine tests of which not all pass, one is the first
+nine : (a b c d e f g h i : Bool) → (a && (b && (c && (d && (e && (f && (g && (h && (i && true))))))))) ≡ false
+    → is_some (find (λ j. not (is_some_and (slice_get (a ∷ b ∷ c ∷ d ∷ e ∷ f ∷ g ∷ h ∷ i ∷ []) (j - 1)) (λ x. x))) (range_with_len 1 9)) ≡ true
+nine false b c d e f g h i fails = refl
+nine true false c d e f g h i fails = refl
+nine true true false d e f g h i fails = refl
+nine true true true false e f g h i fails = refl
+nine true true true true false f g h i fails = refl
+nine true true true true true false g h i fails = refl
+nine true true true true true true false h i fails = refl
+nine true true true true true true true false i fails = refl
+nine true true true true true true true true false fails = refl
+nine true true true true true true true true true fails = absurd (false≢true (sym fails))
+
+least-some : (p : PlantLists) (t : State) → keeps_all p t ≡ false → is_some (least_broken p t) ≡ true
+least-some p t broken = nine (keeps_v1 p t) (keeps_v2 p t) (keeps_v3 p t) (keeps_v4 p t) (keeps_v5 p t) (keeps_v6 p t) (keeps_v7 p t) (keeps_v8 p t) (keeps_v9 p t) broken
+
+not-true : (b : Bool) → not b ≡ true → b ≡ false
+not-true true e = cc
+not-true false e = refl
+
+pub breach-at : (p : PlantLists) (s t : State) (events : List Event) → ends_in_breach p s events ≡ true → run p s events ≡ Some t → is_some (least_broken p t) ≡ true
+breach-at p s t events ends is =
+    let here : (is_none (hazard p t) && not (keeps_all p t)) ≡ true = ap (λ (o : Option State). is_some_and o (λ u. is_none (hazard p u) && not (keeps_all p u))) (sym is) ∙ ends in
+    least-some p t (not-true (keeps_all p t) (and_parts (is_none (hazard p t)) (not (keeps_all p t)) here).1)
+
+-- what the last state has
+pub hazard-there : (p : PlantLists) (events : List Event) (t : State) (at : HazardAt) → run p (start p) events ≡ Some t → hazard p t ≡ Some at → hazard_after p events ≡ Some at
+hazard-there p events t at is has = ap (option_and_then (hazard p)) is ∙ has
+
+pub broken-there : (p : PlantLists) (events : List Event) (t : State) (family : ℕ) → run p (start p) events ≡ Some t → least_broken p t ≡ Some family → broken_after p events ≡ Some family
+broken-there p events t family is has = ap (option_and_then (least_broken p)) is ∙ has
+
+-- over the events of a run, one after another
+pub run-begins : (p : PlantLists) (s : State) (items events : List Event) → s ≡ start p → items ≡ events → run p s (drop 0 items) ≡ run p (start p) events
+run-begins p s items events at same = ap (λ (u : State). run p u items) at ∙ ap (run p (start p)) same
+
+pub run-goes : (p : PlantLists) (s t : State) (items : List Event) (i : ℕ) (d : Event) (whole : Option State) → i < length items → is_some whole ≡ true → t ≡ unwrap_or (next p s (get_or items i d)) s → run p s (drop i items) ≡ whole → run p t (drop (i + 1) items) ≡ whole
+run-goes p s t items i d whole within some goes rest =
+    ap (λ (u : State). run p u (drop (i + 1) items)) goes
+    ∙ run-next p s (get_or items i d) (drop (i + 1) items) whole some (ap (run p s) (sym (drop_more items i d within)) ∙ rest)
+
+pub run-done : (p : PlantLists) (s : State) (items : List Event) (i : ℕ) (whole : Option State) → drop i items ≡ [] → run p s (drop i items) ≡ whole → whole ≡ Some s
+run-done p s items i whole none rest = sym rest ∙ ap (run p s) none
