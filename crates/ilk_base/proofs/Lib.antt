@@ -11,3 +11,4 @@ pub mod Ascii
 pub mod Once
 pub mod Results
 pub mod ListTests
+pub mod Numbered

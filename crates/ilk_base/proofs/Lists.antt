@@ -102,6 +102,13 @@ item_at [] i within = absurd (omega arith)
 item_at (x ∷ xs) zero within = (x, refl)
 item_at (x ∷ xs) (suc i) within = item_at xs i (omega arith)
 
+-- a list of copies has the copied thing at each number below their number
+pub replicate-at : {X : Type 0} (n i : ℕ) (x : X) → i < n → slice_get (replicate n x) i ≡ Some x
+replicate-at n i x less =
+    let long = length-replicate n x in
+    let found = item_at (replicate n x) i (omega arith) in
+    found.1 ∙ ap Some (sym (copied n i x found.0 found.1))
+
 -- lists of one length that agree at each place are equal
 pub list-ext : {A : Type 0} (d : A) (xs ys : List A) → length xs ≡ length ys → ((i : ℕ) → i < length xs → get_or xs i d ≡ get_or ys i d) → xs ≡ ys
 list-ext d [] [] n e = refl

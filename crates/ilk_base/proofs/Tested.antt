@@ -1,10 +1,10 @@
 -- Tests of the items of a list: some pass, all pass, how many pass.
-use Rattle.std.proofs.Common.{◌≡◌, ℕ, zero, suc, Bool, true, false, Some, List, [], ◌∷◌, ◌++◌, map, slice_get, refl, ◌<◌, not, All, length, arith, ◌+◌, ◌||◌, cond, count_by, sym, ◌∙◌, ap, take}
-use Rattle.std.proofs.lemmas.Bool.{and_parts}
+use Rattle.std.proofs.Common.{◌≡◌, ℕ, zero, suc, Bool, true, false, Some, List, [], ◌∷◌, ◌++◌, map, slice_get, refl, ◌<◌, not, All, length, arith, ◌+◌, ◌||◌, cond, count_by, sym, ◌∙◌, ap, take, find, ◌≤◌, inl, inr}
+use Rattle.std.proofs.lemmas.Bool.{and_parts, cases_Bool}
 use Rattle.std.proofs.lemmas.List.Elements.{All-nil, All-cons, recursion_from_All}
 use Rattle.std.proofs.lemmas.List.Folds.{list_all-append, list_any_at}
 use Rattle.std.proofs.lemmas.List.Sums.{count_by_more_yes, sum_by-take-le, sum_by-cons}
-use Rattle.std.proofs.lemmas.Option.{slice_get_within, get_or_from_slice_get}
+use Rattle.std.proofs.lemmas.Option.{slice_get_within, get_or_from_slice_get, same_Some}
 use Rattle.std.specs.List.{AllByRecursion, list_all, list_any, filter, prefix_len}
 use Rattle.ilk_base.proofs.Truth.{not-true}
 
@@ -97,3 +97,73 @@ list_all-from_All {X = X} test xs each = from_each xs (recursion_from_All (λ x.
     from_each : (xs : List X) → AllByRecursion (λ x. test x ≡ true) xs → list_all test xs ≡ true
     from_each [] h = refl
     from_each (x ∷ rest) h = rw h.0 (from_each rest h.1)
+
+-- and where the item at each number does
+pub all-pass : {X : Type 0} (test : X → Bool) (xs : List X) → ((i : ℕ) (x : X) → slice_get xs i ≡ Some x → test x ≡ true) → list_all test xs ≡ true
+all-pass test [] f = refl
+all-pass test (x ∷ xs) f = rw (f zero x refl) (all-pass test xs (λ i y at. f (suc i) y at))
+
+-- some item passes
+pub counted : {X : Type 0} (p : X → Bool) (xs : List X) (i : ℕ) (x : X) → slice_get xs i ≡ Some x → p x ≡ true → 0 < count_by p xs
+counted p [] i x at px = cc
+counted p (z ∷ xs) zero x at px =
+    let first : ◌≡◌ {A = ℕ} (cond (p z) 1 0) 1 = ap (λ b. cond b 1 0) (ap p (same_Some z x at) ∙ px) in
+    let step = sum_by-cons (λ v. cond (p v) 1 0) z xs in
+    omega (arith, first, step)
+counted p (z ∷ xs) (suc i) x at px =
+    let rest = counted p xs i x at px in
+    let step = sum_by-cons (λ v. cond (p v) 1 0) z xs in
+    omega (arith, rest, step)
+
+-- where at most one item passes, those that pass stand at one place
+pub count-one : {X : Type 0} (p : X → Bool) (xs : List X) → count_by p xs ≤ 1 → (i j : ℕ) (x y : X) → slice_get xs i ≡ Some x → slice_get xs j ≡ Some y → p x ≡ true → p y ≡ true → i ≡ j
+count-one p [] few i j x y at also px py = cc
+count-one p (z ∷ xs) few zero zero x y at also px py = refl
+count-one p (z ∷ xs) few zero (suc j) x y at also px py =
+    let first : ◌≡◌ {A = ℕ} (cond (p z) 1 0) 1 = ap (λ b. cond b 1 0) (ap p (same_Some z x at) ∙ px) in
+    let rest = counted p xs j y also py in
+    let step = sum_by-cons (λ v. cond (p v) 1 0) z xs in
+    absurd (omega (arith, few, first, rest, step))
+count-one p (z ∷ xs) few (suc i) zero x y at also px py =
+    let first : ◌≡◌ {A = ℕ} (cond (p z) 1 0) 1 = ap (λ b. cond b 1 0) (ap p (same_Some z y also) ∙ py) in
+    let rest = counted p xs i x at px in
+    let step = sum_by-cons (λ v. cond (p v) 1 0) z xs in
+    absurd (omega (arith, few, first, rest, step))
+count-one p (z ∷ xs) few (suc i) (suc j) x y at also px py =
+    let step = sum_by-cons (λ v. cond (p v) 1 0) z xs in
+    ap suc (count-one p xs (omega (arith, few, step)) i j x y at also px py)
+
+-- and only where at most one passes
+pub few-from_places : {X : Type 0} (p : X → Bool) (xs : List X) → ((i j : ℕ) (x y : X) → slice_get xs i ≡ Some x → slice_get xs j ≡ Some y → p x ≡ true → p y ≡ true → i ≡ j) → count_by p xs ≤ 1
+few-from_places p [] one = omega arith
+few-from_places {X} p (z ∷ xs) one =
+    let step = sum_by-cons (λ v. cond (p v) 1 0) z xs in
+    elim (cases_Bool (p z)) [
+      | inl yes_first ↦
+          (let first : ◌≡◌ {A = ℕ} (cond (p z) 1 0) 1 = ap (λ b. cond b 1 0) yes_first in
+          let none : count_by p xs ≡ 0 = no_other xs (λ i x at px. (let places : zero ≡ suc i = one zero (suc i) z x refl at yes_first px in absurd (omega arith))) in
+          omega (arith, step, first, none))
+      | inr not_first ↦
+          (let first : ◌≡◌ {A = ℕ} (cond (p z) 1 0) 0 = ap (λ b. cond b 1 0) not_first in
+          let rest = few-from_places p xs (λ i j x y at also px py. (let places : suc i ≡ suc j = one (suc i) (suc j) x y at also px py in omega arith)) in
+          omega (arith, step, first, rest))
+    ]
+  where
+    no_other : (ys : List X) → ((i : ℕ) (x : X) → slice_get ys i ≡ Some x → p x ≡ true → ⊥) → count_by p ys ≡ 0
+    no_other [] none = refl
+    no_other (y ∷ ys) none =
+        let step = sum_by-cons (λ v. cond (p v) 1 0) y ys in
+        let rest = no_other ys (λ i x at px. none (suc i) x at px) in
+        elim (cases_Bool (p y)) [
+          | inl px ↦ absurd (none zero y refl px)
+          | inr away ↦ (let first : ◌≡◌ {A = ℕ} (cond (p y) 1 0) 0 = ap (λ b. cond b 1 0) away in omega (arith, step, first, rest))
+        ]
+
+-- what is found stands somewhere, and passes
+pub find-at : {X : Type 0} (p : X → Bool) (xs : List X) (x : X) → find p xs ≡ Some x → (i : ℕ) × (slice_get xs i ≡ Some x) × (p x ≡ true)
+find-at p [] x e = cc
+find-at {X} p (z ∷ xs) x e =
+    elim (cases_Bool (p z)) [
+      | inl here ↦ (let same : Some z ≡ Some x = rw here at e in (zero, same, ap p (sym (same_Some z x same)) ∙ here))
+      | inr later ↦ (let rest : find p xs ≡ Some x = rw later at e in let found = find-at p xs x rest in (suc found.0, found.1, found.2))
+    ]

@@ -4,3 +4,4 @@ pub mod Each
 pub mod Row
 pub mod Once
 pub mod Words
+pub mod Numbered

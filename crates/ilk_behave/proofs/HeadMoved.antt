@@ -9,7 +9,7 @@ use Rattle.std.proofs.lemmas.Option.{same_Some, slice_get_past, slice_get_within
 use Rattle.ilk_base.specs.Option.{◌>>=◌, is_some_and, only_if}
 use Rattle.ilk_base.proofs.Lists.{at-before, at-past, item_at, slice_get-set_other}
 use Rattle.ilk_base.proofs.Ranges.{below_or_past}
-use Rattle.ilk_base.proofs.Tested.{list_all-slice_get, list_any-at, list_any-none}
+use Rattle.ilk_base.proofs.Tested.{count-one, list_all-slice_get, list_any-at, list_any-none}
 use Rattle.ilk_base.proofs.Truth.{not-true}
 use Rattle.ilk_ir.specs.System.{set_all}
 use Rattle.ilk_plant.specs.Network.{has_section}
@@ -41,7 +41,6 @@ use Rattle.ilk_layout.proofs.Bodies.{before-suc, has-at, last-at, last-has, plac
 use Rattle.ilk_layout.proofs.Calm.{alone, body-of, calm-at, only-one}
 use Rattle.ilk_layout.proofs.Changes.{image-board, image-two, occupied}
 use Rattle.ilk_layout.proofs.Made.{other-leg}
-use Rattle.ilk_layout.proofs.Orders.{count-one}
 use Rattle.ilk_layout.proofs.Plants.{body-known, body-once}
 use Rattle.ilk_layout.proofs.Trains.{has_x, with_trains, wrong-at, wrong-has}
 use Rattle.ilk_behave.specs.Settings.{board_becomes, board_closes}

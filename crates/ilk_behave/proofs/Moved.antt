@@ -5,7 +5,7 @@ use Rattle.std.proofs.lemmas.Bool.{cases_Bool, cases_eq, false≢true, ltb-false
 use Rattle.std.proofs.lemmas.Bool.Decides.{nat_tests}
 use Rattle.std.proofs.lemmas.Option.{same_Some, slice_get_within}
 use Rattle.ilk_base.proofs.Lists.{slice_get-set_other, slice_get-set_same}
-use Rattle.ilk_base.proofs.Tested.{list_all-slice_get, list_any-at, list_any-from, list_any-none}
+use Rattle.ilk_base.proofs.Tested.{count-one, few-from_places, find-at, list_all-slice_get, list_any-at, list_any-from, list_any-none}
 use Rattle.ilk_base.proofs.Truth.{not-true}
 use Rattle.ilk_plant.specs.Network.{has_section}
 use Rattle.ilk_plant.specs.Plant.{IsPlant, PlantLists}
@@ -22,7 +22,6 @@ use Rattle.ilk_layout.specs.Standing.{is_wrong_under}
 use Rattle.ilk_layout.specs.declared.values.Occupancy.TheVariants.{Taken}
 use Rattle.ilk_layout.proofs.Bodies.{first-at, has-at, last-at, place-of}
 use Rattle.ilk_layout.proofs.Calm.{alone, calm-at}
-use Rattle.ilk_layout.proofs.Orders.{count-one, few-from_places, find-at}
 use Rattle.ilk_layout.proofs.Plants.{body-once}
 use Rattle.ilk_layout.proofs.Trains.{find-some, has_x, with_trains}
 use Rattle.ilk_behave.proofs.EnterSteps.{vacant-as}

@@ -6,6 +6,7 @@ use Rattle.std.proofs.lemmas.Option.{slice_get_within}
 use Rattle.ilk_base.proofs.ListTests.{all-at, last-at, made-at}
 use Rattle.ilk_base.proofs.Lists.{map-at}
 use Rattle.ilk_base.proofs.Ranges.{range_get}
+use Rattle.ilk_base.proofs.Tested.{all-pass}
 use Rattle.ilk_ir.specs.System.{RuleTree}
 use Rattle.ilk_ir.specs.Tree.{Tree, any_of, trees}
 use Rattle.ilk_ir.specs.declared.system.Setting.{Setting}
@@ -26,7 +27,6 @@ use Rattle.ilk_behave.proofs.LocksOnce.{last_locks-once, locks-fit}
 use Rattle.ilk_behave.proofs.RouteSteps.{beside-known}
 use Rattle.ilk_behave.proofs.RulesValid.{all-append, all-cons, all-map, fits, is_valid, is_valid_rule, one_rule-valid, rule-valid}
 use Rattle.ilk_behave.proofs.SetOnce.{SetOnce, once-append}
-use Rattle.ilk_layout.proofs.Made.{all-pass}
 
 -- what stands at the front of a list stands in it
 taken-at : {X : Type 0} (n : ℕ) (xs : List X) (i : ℕ) (x : X) → slice_get (take n xs) i ≡ Some x → slice_get xs i ≡ Some x

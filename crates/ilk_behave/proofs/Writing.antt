@@ -22,7 +22,7 @@ use Rattle.ilk_routes.specs.Lies.{listed_position, with_commands}
 use Rattle.ilk_routes.specs.Locks.{with_locks}
 use Rattle.ilk_routes.proofs.Commands.{with_commands-first, with_commands-no_point, with_commands-none}
 use Rattle.ilk_routes.proofs.Locks.{with_locks-first, with_locks-none}
-use Rattle.ilk_routes.proofs.Numbered.{slice_get-map_numbered}
+use Rattle.ilk_base.proofs.Numbered.{slice_get-map_numbered}
 use Rattle.ilk_layout.specs.Image.{image_of, occupancy_values}
 use Rattle.ilk_layout.specs.Occupancy.{occupancy_of}
 use Rattle.ilk_layout.specs.Values.{occupancy_value}

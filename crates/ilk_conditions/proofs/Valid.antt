@@ -1,5 +1,5 @@
 -- That what guards ask is valid over the ranges of a plant: each variable has a range, and each value is below it.
-use Rattle.std.proofs.Common.{◌≡◌, ℕ, zero, suc, ◌+◌, ◌*◌, ◌<◌, ◌≤◌, true, false, nat_lt, Option, Some, None, List, [], ◌∷◌, ◌++◌, length, replicate, slice_get, refl, sym, ◌∙◌, ap, arith}
+use Rattle.std.proofs.Common.{◌≡◌, ℕ, zero, suc, ◌+◌, ◌*◌, ◌<◌, ◌≤◌, true, false, nat_lt, Option, Some, None, List, [], ◌∷◌, ◌++◌, length, replicate, slice_get, refl, ◌∙◌, ap, arith}
 use Rattle.std.specs.List.{flat_map, list_all}
 use Rattle.std.proofs.lemmas.Bool.{and_from}
 use Rattle.std.proofs.lemmas.Bool.Decides.{nat_tests}
@@ -7,7 +7,7 @@ use Rattle.std.proofs.lemmas.List.{length-append, length-replicate}
 use Rattle.std.proofs.lemmas.List.Folds.{list_all-append}
 use Rattle.std.proofs.lemmas.Option.{slice_get_within}
 use Rattle.ilk_base.specs.Option.{is_some_and}
-use Rattle.ilk_base.proofs.Lists.{copied, item_at}
+use Rattle.ilk_base.proofs.Lists.{item_at, replicate-at}
 use Rattle.ilk_ir.specs.Tree.{tree_valid, value_valid}
 use Rattle.ilk_plant.specs.Plant.{PlantLists, point_count, point_number}
 use Rattle.ilk_plant.specs.declared.network.Dir.TheVariants.{Up, Down}
@@ -106,12 +106,6 @@ to_range-at (suc n) zero less = refl
 to_range-at (suc n) (suc i) less =
     let next : 2 * suc i + 1 ≡ suc (suc (2 * i + 1)) = omega arith in
     ap (slice_get (points_ranges (suc n))) next ∙ to_range-at n i (omega (arith, less))
-
-pub replicate-at : {X : Type 0} (n i : ℕ) (x : X) → i < n → slice_get (replicate n x) i ≡ Some x
-replicate-at n i x less =
-    let long = length-replicate n x in
-    let found = item_at (replicate n x) i (omega arith) in
-    found.1 ∙ ap Some (sym (copied n i x found.0 found.1))
 
 -- a value below the range at its number is valid
 pub value-valid : (ranges : List ℕ) (v c range : ℕ) → slice_get ranges v ≡ Some range → c < range → value_valid ranges v c ≡ true

@@ -13,8 +13,8 @@ use Rattle.ilk_unroll.specs.declared.queries.Wanted.{Wanted}
 use Rattle.ilk_unroll.specs.declared.queries.Wanted.TheVariants.{Hazard, Breach as BreachQuery, Step}
 use Rattle.ilk_unroll.specs.declared.reading.Trace.{Trace}
 use Rattle.ilk_unroll.specs.Goal.{GoalTree, step_count, wanted_valid}
-use Rattle.ilk_induct.specs.declared.ask.Reply.{Reply}
-use Rattle.ilk_induct.specs.declared.ask.Reply.TheVariants.{Run, Refuted, GivenUp}
+use Rattle.ilk_induct.specs.declared.ask.Response.{Response}
+use Rattle.ilk_induct.specs.declared.ask.Response.TheVariants.{Run, Refuted, GivenUp}
 use Rattle.ilk_induct.specs.declared.due.Due.{Due}
 use Rattle.ilk_induct.specs.declared.due.Due.TheVariants.{Unbroken, Broken}
 use Rattle.ilk_induct.specs.declared.due.Next.{Next}
@@ -24,7 +24,7 @@ use Rattle.ilk_induct.specs.declared.verdict.Verdict.TheVariants.{Safe, Unsafe, 
 use Rattle.ilk_induct.specs.Evidence.{HasRun}
 use Rattle.ilk_induct.specs.Right.{IsRun, IsRight}
 use Rattle.ilk_induct.specs.Asked.{IsRefuted, IsLogOf, HasPassed, conflicts_of, all_conflicts}
-use Rattle.ilk_induct.specs.Due.{asked_with, IsReply, due_query, due_breach, after_breach, after, IsKnown, IsFoundBreach, IsInOrder, IsDue, IsEnd, IsNext, still_due}
+use Rattle.ilk_induct.specs.Due.{asked_with, IsResponse, due_query, due_breach, after_breach, after_response, IsKnown, IsFoundBreach, IsInOrder, IsDue, IsEnd, IsNext, still_due}
 use Rattle.ilk_induct.proofs.Demands.{wanted-parts}
 use Rattle.ilk_induct.proofs.Induction.{forever}
 use Rattle.ilk_induct.proofs.Orders.{to-breach, to-step, to-hazard, to-hazard-after, more-conflicts, asked-to, go-on, found-to, go-on-found, all-conflicts}
@@ -185,7 +185,7 @@ carried s g depth conflicts n log asked left rest rules d known logged count ref
     }
 
 -- a search is given up
-given-up : (s : SystemTree) (g : GoalTree) (depth conflicts : ℕ) (due : Due) (log : List LogStep) (asked : List Asked) (left rest : ℕ) → IsDue s g depth conflicts due asked left → IsLogOf s g (asked_with (due_query due) log) → conflicts_of log + rest ≡ left → IsReply s g (due_query due) left GivenUp log → IsEnd s g depth conflicts Spent (asked ++ asked_with (due_query due) log ∷ [])
+given-up : (s : SystemTree) (g : GoalTree) (depth conflicts : ℕ) (due : Due) (log : List LogStep) (asked : List Asked) (left rest : ℕ) → IsDue s g depth conflicts due asked left → IsLogOf s g (asked_with (due_query due) log) → conflicts_of log + rest ≡ left → IsResponse s g (due_query due) left GivenUp log → IsEnd s g depth conflicts Spent (asked ++ asked_with (due_query due) log ∷ [])
 given-up s g depth conflicts due log asked left rest d logged count spent =
     let a = asked_with (due_query due) log in
     let total = more-conflicts asked a left rest conflicts d.in_order.counted count in
@@ -221,7 +221,7 @@ no-breach-at-start s g depth conflicts log asked left rest deep d known logged c
     }
 
 -- all together
-pub follows : (s : SystemTree) (g : GoalTree) (depth conflicts : ℕ) (due : Due) (reply : Reply) (log : List LogStep) (asked : List Asked) (left rest : ℕ) → list_all (rule_valid s.ranges) s.rules ≡ true → 0 < depth → depth ≤ 16 → IsDue s g depth conflicts due asked left → IsLogOf s g (asked_with (due_query due) log) → conflicts_of log + rest ≡ left → IsReply s g (due_query due) left reply log → IsNext s g depth conflicts (still_due depth due) (after depth due reply) (asked ++ asked_with (due_query due) log ∷ []) rest
+pub follows : (s : SystemTree) (g : GoalTree) (depth conflicts : ℕ) (due : Due) (response : Response) (log : List LogStep) (asked : List Asked) (left rest : ℕ) → list_all (rule_valid s.ranges) s.rules ≡ true → 0 < depth → depth ≤ 16 → IsDue s g depth conflicts due asked left → IsLogOf s g (asked_with (due_query due) log) → conflicts_of log + rest ≡ left → IsResponse s g (due_query due) left response log → IsNext s g depth conflicts (still_due depth due) (after_response depth due response) (asked ++ asked_with (due_query due) log ∷ []) rest
 follows s g depth conflicts (Unbroken (Hazard n)) (Run t) log asked left rest rules deep low d logged count r = endangered s g depth conflicts None n t log asked left rest d.in_order d.known.no_hazard logged count r
 follows s g depth conflicts (Unbroken (BreachQuery n)) (Run t) log asked left rest rules deep low d logged count r = broke s g depth conflicts n t log asked left rest low (steps-of s g (BreachQuery n) t r) d.in_order d.known logged count r
 follows s g depth conflicts (Unbroken (Step n)) (Run t) log asked left rest rules deep low d logged count r = left-invariant s g depth conflicts n t log asked left rest low d.in_order d.known logged count r
@@ -242,13 +242,13 @@ first-due s g depth conflicts =
     }
 
 -- one turn: a query is asked, its conflicts are counted, and what follows is looked up
-pub turned : (s : SystemTree) (g : GoalTree) (depth conflicts : ℕ) (due : Due) (q : Wanted) (reply : Reply) (log : List LogStep) (asked new : List Asked) (left count rest : ℕ) (next : Next) → system_valid s ≡ true → 0 < depth → depth ≤ 16 → IsDue s g depth conflicts due asked left → q ≡ due_query due → IsLog (query_formula s g q) left log → IsReply s g q left reply log → count ≡ conflicts_of log → rest ≡ left - count → new ≡ asked ++ asked_with q log ∷ [] → next ≡ after depth due reply → IsNext s g depth conflicts (still_due depth due) next new rest
-turned s g depth conflicts due q reply log asked new left count rest next valid deep low d same is_log says counted rested grown is_next =
+pub turned : (s : SystemTree) (g : GoalTree) (depth conflicts : ℕ) (due : Due) (q : Wanted) (response : Response) (log : List LogStep) (asked new : List Asked) (left count rest : ℕ) (next : Next) → system_valid s ≡ true → 0 < depth → depth ≤ 16 → IsDue s g depth conflicts due asked left → q ≡ due_query due → IsLog (query_formula s g q) left log → IsResponse s g q left response log → count ≡ conflicts_of log → rest ≡ left - count → new ≡ asked ++ asked_with q log ∷ [] → next ≡ after_response depth due response → IsNext s g depth conflicts (still_due depth due) next new rest
+turned s g depth conflicts due q response log asked new left count rest next valid deep low d same is_log says counted rested grown is_next =
     let good = subst (λ (u : Wanted). IsLog (query_formula s g u) left log) same is_log in
-    let said = subst (λ (u : Wanted). IsReply s g u left reply log) same says in
+    let said = subst (λ (u : Wanted). IsResponse s g u left response log) same says in
     let logged : IsLogOf s g (asked_with (due_query due) log) = record { derived = good.derived; fresh = good.fresh } in
     let most = good.few in
     let sum : conflicts_of log + rest ≡ left = omega (arith, most, counted, rested) in
-    let main = follows s g depth conflicts due reply log asked left rest (and_parts _ _ valid).1 deep low d logged sum said in
+    let main = follows s g depth conflicts due response log asked left rest (and_parts _ _ valid).1 deep low d logged sum said in
     let to = subst (λ (n : Next). IsNext s g depth conflicts (still_due depth due) n (asked ++ asked_with (due_query due) log ∷ []) rest) (sym is_next) main in
     subst (λ (xs : List Asked). IsNext s g depth conflicts (still_due depth due) next xs rest) (sym (grown ∙ ap (λ (u : Wanted). asked ++ asked_with u log ∷ []) same)) to

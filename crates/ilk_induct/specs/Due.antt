@@ -8,8 +8,8 @@ use Rattle.ilk_unroll.specs.declared.queries.Wanted.TheVariants.{Hazard, Breach 
 use Rattle.ilk_unroll.specs.declared.reading.Trace.{Trace}
 use Rattle.ilk_unroll.specs.Goal.{GoalTree, step_count, wanted_valid}
 use Rattle.ilk_unroll.specs.Query.{query_formula}
-use Rattle.ilk_induct.specs.declared.ask.Reply.{Reply}
-use Rattle.ilk_induct.specs.declared.ask.Reply.TheVariants.{Run, Refuted, GivenUp}
+use Rattle.ilk_induct.specs.declared.ask.Response.{Response}
+use Rattle.ilk_induct.specs.declared.ask.Response.TheVariants.{Run, Refuted, GivenUp}
 use Rattle.ilk_induct.specs.declared.due.Due.{Due}
 use Rattle.ilk_induct.specs.declared.due.Due.TheVariants.{Unbroken, Broken}
 use Rattle.ilk_induct.specs.declared.due.Next.{Next}
@@ -21,11 +21,11 @@ use Rattle.ilk_induct.specs.Evidence.{HasRun}
 use Rattle.ilk_induct.specs.Right.{IsRun, IsRight, Lasts}
 use Rattle.ilk_induct.specs.Asked.{queries_to, IsRefuted, IsLogOf, HasPassed, all_conflicts, IsAskedFor}
 
--- what each reply says of its query
-abbrev pub IsReply : SystemTree → GoalTree → Wanted → ℕ → Reply → List LogStep → Type 0
-IsReply s g q budget (Run t) log = IsRun s g q t
-IsReply s g q budget Refuted log = IsRefuted s g q log × ¬ HasRun s g q
-IsReply s g q budget GivenUp log = IsSpent (query_formula s g q) budget log
+-- what each response says of its query
+abbrev pub IsResponse : SystemTree → GoalTree → Wanted → ℕ → Response → List LogStep → Type 0
+IsResponse s g q budget (Run t) log = IsRun s g q t
+IsResponse s g q budget Refuted log = IsRefuted s g q log × ¬ HasRun s g q
+IsResponse s g q budget GivenUp log = IsSpent (query_formula s g q) budget log
 
 -- a query with its log
 abbrev pub asked_with : Wanted → List LogStep → Asked
@@ -59,10 +59,10 @@ after_none depth (Unbroken (BreachQuery (suc n))) = Ask (Unbroken (Step (suc n))
 after_none depth (Unbroken (Step n)) = End (Safe n)
 after_none depth (Broken n breach) = after_breach depth n breach
 
-abbrev pub after : ℕ → Due → Reply → Next
-after depth due (Run t) = after_run depth due t
-after depth due Refuted = after_none depth due
-after depth due GivenUp = End Spent
+abbrev pub after_response : ℕ → Due → Response → Next
+after_response depth due (Run t) = after_run depth due t
+after_response depth due Refuted = after_none depth due
+after_response depth due GivenUp = End Spent
 
 -- what is known by the queries so far: no hazard by fewer than h steps, no breach by fewer than b, and a run of each step
 -- query of fewer than i

@@ -4,7 +4,7 @@ ghost use Rattle.ilk_solver.specs.Answered.{IsLog};
 ghost use Rattle.ilk_unroll.specs.Goal.{goal_tree, goal_valid, wanted_valid};
 ghost use Rattle.ilk_unroll.specs.Query.{query_formula};
 ghost use Rattle.ilk_induct.specs.Asked.{conflicts_of};
-ghost use Rattle.ilk_induct.specs.Due.{IsReply};
+ghost use Rattle.ilk_induct.specs.Due.{IsResponse};
 
 use crate::pick::{decision, is_restart_due};
 use ilk_ir::System;
@@ -15,7 +15,7 @@ use std::alloc::{AllocError, Global};
 
 /// What comes of a query.
 #[derive(Drop)]
-pub enum Reply {
+pub enum Response {
     /// A run that it asks for.
     Run(Trace),
     /// There is none.
@@ -26,9 +26,9 @@ pub enum Reply {
 
 /// What came of a query, and the log of its search.
 #[derive(Drop)]
-pub struct Replied {
+pub struct Searched {
     /// What came of it.
-    pub reply: Reply,
+    pub response: Response,
     /// The steps of the search.
     pub log: Log,
 }
@@ -53,12 +53,12 @@ pub fn ask(
     goal: &Goal,
     q: Wanted,
     budget: u64,
-) -> Result<Replied, AllocError>
+) -> Result<Searched, AllocError>
     requires system { IsTrue (system_valid (system_tree system.now)) }
     requires goal { IsTrue (goal_valid system.now.ranges (goal_tree goal.now)) }
     requires wanted { IsTrue (wanted_valid q) }
     ensures log { IfOk result (λ r. IsLog (query_formula (system_tree system.now) (goal_tree goal.now) q) budget r.log) }
-    ensures reply { IfOk result (λ r. IsReply (system_tree system.now) (goal_tree goal.now) q budget r.reply r.log) }
+    ensures response { IfOk result (λ r. IsResponse (system_tree system.now) (goal_tree goal.now) q budget r.response r.log) }
 {
     let cnf = query(alloc, system, goal, q)?;
     refutations_refute();
@@ -69,17 +69,17 @@ pub fn ask(
     match answer {
         Answer::Sat(a) => {
             let trace = read_back(alloc, system, goal, q, &a)?;
-            Ok(Replied {
-                reply: Reply::Run(trace),
+            Ok(Searched {
+                response: Response::Run(trace),
                 log,
             })
         }
-        Answer::Unsat => Ok(Replied {
-            reply: Reply::Refuted,
+        Answer::Unsat => Ok(Searched {
+            response: Response::Refuted,
             log,
         }),
-        Answer::Spent => Ok(Replied {
-            reply: Reply::GivenUp,
+        Answer::Spent => Ok(Searched {
+            response: Response::GivenUp,
             log,
         }),
     }

@@ -5,7 +5,7 @@ ghost use Rattle.ilk_induct.specs.Asked.{IsAskedFor, all_conflicts};
 ghost use Rattle.ilk_induct.specs.Certified.{Certifies};
 ghost use Rattle.ilk_induct.specs.Right.{IsRight, Lasts};
 
-use crate::ask::{Replied, ask, conflicts_in};
+use crate::ask::{Searched, ask, conflicts_in};
 use crate::due::{Due, Next, what_follows};
 use crate::verdict::{Asked, Found, Verdict};
 use ilk_base::Row;
@@ -47,10 +47,10 @@ pub fn decide(
     let mut due = Due::Unbroken(Wanted::Hazard(0));
     loop {
         let query = due.query();
-        let Replied { reply, log } = ask(alloc, system, goal, query, left)?;
+        let Searched { response, log } = ask(alloc, system, goal, query, left)?;
         left -= conflicts_in(&log);
         asked.push(Asked { query, log })?;
-        match what_follows(depth, due, reply) {
+        match what_follows(depth, due, response) {
             Next::Ask(query) => due = query,
             Next::End(verdict) => return Ok(Found { verdict, asked }),
         }

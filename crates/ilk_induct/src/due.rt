@@ -1,7 +1,7 @@
 ghost use Rattle.std.specs.Prelude.{◌≡◌};
-ghost use Rattle.ilk_induct.specs.Due.{due_query, after, after_breach, after_none, after_run};
+ghost use Rattle.ilk_induct.specs.Due.{due_query, after_response, after_breach, after_none, after_run};
 
-use crate::ask::Reply;
+use crate::ask::Response;
 use crate::verdict::Verdict;
 use ilk_unroll::{Trace, Wanted};
 
@@ -78,12 +78,12 @@ fn next_after_none(depth: u32, due: Due) -> Next
 }
 
 /// What follows a query, by what came of it.
-pub fn what_follows(depth: u32, due: Due, reply: Reply) -> Next
-    ensures { result ≡ after depth due reply }
+pub fn what_follows(depth: u32, due: Due, response: Response) -> Next
+    ensures { result ≡ after_response depth due response }
 {
-    match reply {
-        Reply::Run(trace) => next_after_run(depth, due, trace),
-        Reply::Refuted => next_after_none(depth, due),
-        Reply::GivenUp => Next::End(Verdict::Spent),
+    match response {
+        Response::Run(trace) => next_after_run(depth, due, trace),
+        Response::Refuted => next_after_none(depth, due),
+        Response::GivenUp => Next::End(Verdict::Spent),
     }
 }

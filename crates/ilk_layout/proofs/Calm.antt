@@ -7,7 +7,7 @@ use Rattle.ilk_base.specs.Option.{is_some_and}
 use Rattle.ilk_base.proofs.Lists.{item_at}
 use Rattle.ilk_base.proofs.Options.{bind_some}
 use Rattle.ilk_base.proofs.Ranges.{range-at}
-use Rattle.ilk_base.proofs.Tested.{count_by-take-lt, list_any-from, list_any-none, list_all-slice_get}
+use Rattle.ilk_base.proofs.Tested.{count-one, count_by-take-lt, find-at, list_all-slice_get, list_any-from, list_any-none}
 use Rattle.ilk_plant.specs.Network.{beside, has_section, is_point}
 use Rattle.ilk_plant.specs.NetworkRules.{opposite_direction}
 use Rattle.ilk_plant.specs.Plant.{IsPlant, PlantLists, next_to, point_count, point_number}
@@ -30,7 +30,6 @@ use Rattle.ilk_layout.specs.Occupancy.{occupancy_of}
 use Rattle.ilk_layout.specs.Wellformed.{ahead_by, joined_to}
 use Rattle.ilk_layout.specs.declared.values.Occupancy.TheVariants.{Vacant, Taken, Crash}
 use Rattle.ilk_layout.proofs.Bodies.{first-at, has-at, last-at, pair-has, place-of}
-use Rattle.ilk_layout.proofs.Orders.{count-one, find-at}
 use Rattle.ilk_layout.proofs.Plants.{body-known, body-once, body-parts, joined-from}
 use Rattle.ilk_layout.proofs.Trains.{find-some, has_x}
 

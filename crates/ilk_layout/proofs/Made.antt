@@ -1,6 +1,6 @@
 -- A state made of occupancies that fit: it has the shape, no hazard, and these occupancies.
 use Rattle.std.proofs.Common.{◌≡◌, ℕ, zero, suc, ◌+◌, ◌<◌, Bool, true, false, ◌==◌, count_by, find, option_and_then, Option, Some, None, List, [], ◌∷◌, length, nat_lt, slice_get, inl, inr, refl, sym, ◌∙◌, ap, subst, arith}
-use Rattle.std.specs.List.{list_all, list_any, range_with_len}
+use Rattle.std.specs.List.{list_any, range_with_len}
 use Rattle.std.proofs.lemmas.Bool.{and_from, eqb-false, eqb-true, false_from_ne_true, false≢true, le-ltb, ne_eqb, or_from}
 use Rattle.std.proofs.lemmas.Bool.Decides.{nat_tests}
 use Rattle.std.proofs.lemmas.Option.{none-some, same_Some, slice_get_within}
@@ -8,6 +8,7 @@ use Rattle.ilk_base.specs.Option.{is_some_and}
 use Rattle.ilk_base.proofs.Lists.{item_at}
 use Rattle.ilk_base.proofs.Options.{some-and}
 use Rattle.ilk_base.proofs.Ranges.{range-at, range_within}
+use Rattle.ilk_base.proofs.Tested.{all-pass, few-from_places}
 use Rattle.ilk_plant.specs.Network.{has_section}
 use Rattle.ilk_plant.specs.NetworkRules.{opposite_direction}
 use Rattle.ilk_plant.specs.Once.{none_twice}
@@ -34,7 +35,7 @@ use Rattle.ilk_layout.specs.declared.values.Occupancy.TheVariants.{Vacant, Taken
 use Rattle.ilk_layout.proofs.Bodies.{place-of}
 use Rattle.ilk_layout.proofs.Calm.{no-hazard, occupancy-in, pair-places}
 use Rattle.ilk_layout.proofs.Chains.{IsChain, chain-before, chain-last, chain-walk, chased, first_of, one_first}
-use Rattle.ilk_layout.proofs.Orders.{few-from_places, filter_map-at, filter_map-of}
+use Rattle.ilk_layout.proofs.Orders.{filter_map-at, filter_map-of}
 use Rattle.ilk_layout.proofs.Plants.{joined-parts}
 use Rattle.ilk_layout.proofs.Told.{train-is, trains-once}
 use Rattle.ilk_layout.proofs.Tracks.{IsTaken, demands, onward-is, same_taken, step-forth, tracks, walk-forth}
@@ -76,10 +77,6 @@ none-found test (x ∷ xs) f = rw (f zero x refl) (none-found test xs (λ i y at
 none-any : {X : Type 0} (test : X → Bool) (xs : List X) → ((i : ℕ) (x : X) → slice_get xs i ≡ Some x → test x ≡ false) → list_any test xs ≡ false
 none-any test [] f = refl
 none-any test (x ∷ xs) f = rw (f zero x refl) (none-any test xs (λ i y at. f (suc i) y at))
-
-pub all-pass : {X : Type 0} (test : X → Bool) (xs : List X) → ((i : ℕ) (x : X) → slice_get xs i ≡ Some x → test x ≡ true) → list_all test xs ≡ true
-all-pass test [] f = refl
-all-pass test (x ∷ xs) f = rw (f zero x refl) (all-pass test xs (λ i y at. f (suc i) y at))
 
 module _ (p : PlantLists) (plant : IsPlant p) (never : NeverReturns p) (lie : ℕ → Option Lie) (occupancy : ℕ → Option Occupancy) (fits : (x : ℕ) → x < length p.sections → section_fits p lie occupancy x (occupancy x) ≡ true) where
   abbrev on : ℕ → Option ℕ

@@ -1,9 +1,7 @@
 -- Lists with the same items, in which none stands twice, are permutations of each other.
-use Rattle.std.proofs.Common.{◌≡◌, ℕ, zero, suc, ◌<◌, ◌≤◌, Bool, true, cond, Option, Some, None, List, [], ◌∷◌, IsPermutation, count_by, filter_map, find, remove, slice_get, inl, inr, refl, sym, ◌∙◌, ap, subst, arith}
+use Rattle.std.proofs.Common.{◌≡◌, ℕ, zero, suc, Option, Some, None, List, [], ◌∷◌, IsPermutation, filter_map, remove, slice_get, refl, sym, ◌∙◌, ap, subst, arith}
 use Rattle.std.specs.List.{cons_option}
-use Rattle.std.proofs.lemmas.Bool.{cases_Bool}
 use Rattle.std.proofs.lemmas.List.Sorted.{IsPermutation-cons, IsPermutation-refl, IsPermutation-remove, IsPermutation-sym, IsPermutation-trans}
-use Rattle.std.proofs.lemmas.List.Sums.{sum_by-cons}
 use Rattle.std.proofs.lemmas.Option.{get_or_from_slice_get, same_Some, slice_get_within}
 use Rattle.ilk_base.proofs.Once.{EachOnce}
 
@@ -69,71 +67,6 @@ permuted {X} (x ∷ xs) ys once once_too in_ys in_xs =
     back : (j m : ℕ) (v : X) → slice_get ys j ≡ Some x → slice_get ys (skip j m) ≡ Some v → (k : ℕ) → slice_get (x ∷ xs) k ≡ Some v → (i : ℕ) × (slice_get xs i ≡ Some v)
     back j m v at was zero here = absurd (skip-other j m (once_too (skip j m) j x (was ∙ sym here) at))
     back j m v at was (suc k) here = (k, here)
-
--- some item passes
-pub counted : {X : Type 0} (p : X → Bool) (xs : List X) (i : ℕ) (x : X) → slice_get xs i ≡ Some x → p x ≡ true → 0 < count_by p xs
-counted p [] i x at px = cc
-counted p (z ∷ xs) zero x at px =
-    let first : ◌≡◌ {A = ℕ} (cond (p z) 1 0) 1 = ap (λ b. cond b 1 0) (ap p (same_Some z x at) ∙ px) in
-    let step = sum_by-cons (λ v. cond (p v) 1 0) z xs in
-    omega (arith, first, step)
-counted p (z ∷ xs) (suc i) x at px =
-    let rest = counted p xs i x at px in
-    let step = sum_by-cons (λ v. cond (p v) 1 0) z xs in
-    omega (arith, rest, step)
-
--- where at most one item passes, those that pass stand at one place
-pub count-one : {X : Type 0} (p : X → Bool) (xs : List X) → count_by p xs ≤ 1 → (i j : ℕ) (x y : X) → slice_get xs i ≡ Some x → slice_get xs j ≡ Some y → p x ≡ true → p y ≡ true → i ≡ j
-count-one p [] few i j x y at also px py = cc
-count-one p (z ∷ xs) few zero zero x y at also px py = refl
-count-one p (z ∷ xs) few zero (suc j) x y at also px py =
-    let first : ◌≡◌ {A = ℕ} (cond (p z) 1 0) 1 = ap (λ b. cond b 1 0) (ap p (same_Some z x at) ∙ px) in
-    let rest = counted p xs j y also py in
-    let step = sum_by-cons (λ v. cond (p v) 1 0) z xs in
-    absurd (omega (arith, few, first, rest, step))
-count-one p (z ∷ xs) few (suc i) zero x y at also px py =
-    let first : ◌≡◌ {A = ℕ} (cond (p z) 1 0) 1 = ap (λ b. cond b 1 0) (ap p (same_Some z y also) ∙ py) in
-    let rest = counted p xs i x at px in
-    let step = sum_by-cons (λ v. cond (p v) 1 0) z xs in
-    absurd (omega (arith, few, first, rest, step))
-count-one p (z ∷ xs) few (suc i) (suc j) x y at also px py =
-    let step = sum_by-cons (λ v. cond (p v) 1 0) z xs in
-    ap suc (count-one p xs (omega (arith, few, step)) i j x y at also px py)
-
--- and only where at most one passes
-pub few-from_places : {X : Type 0} (p : X → Bool) (xs : List X) → ((i j : ℕ) (x y : X) → slice_get xs i ≡ Some x → slice_get xs j ≡ Some y → p x ≡ true → p y ≡ true → i ≡ j) → count_by p xs ≤ 1
-few-from_places p [] one = omega arith
-few-from_places {X} p (z ∷ xs) one =
-    let step = sum_by-cons (λ v. cond (p v) 1 0) z xs in
-    elim (cases_Bool (p z)) [
-      | inl yes_first ↦
-          (let first : ◌≡◌ {A = ℕ} (cond (p z) 1 0) 1 = ap (λ b. cond b 1 0) yes_first in
-          let none : count_by p xs ≡ 0 = no_other xs (λ i x at px. (let places : zero ≡ suc i = one zero (suc i) z x refl at yes_first px in absurd (omega arith))) in
-          omega (arith, step, first, none))
-      | inr not_first ↦
-          (let first : ◌≡◌ {A = ℕ} (cond (p z) 1 0) 0 = ap (λ b. cond b 1 0) not_first in
-          let rest = few-from_places p xs (λ i j x y at also px py. (let places : suc i ≡ suc j = one (suc i) (suc j) x y at also px py in omega arith)) in
-          omega (arith, step, first, rest))
-    ]
-  where
-    no_other : (ys : List X) → ((i : ℕ) (x : X) → slice_get ys i ≡ Some x → p x ≡ true → ⊥) → count_by p ys ≡ 0
-    no_other [] none = refl
-    no_other (y ∷ ys) none =
-        let step = sum_by-cons (λ v. cond (p v) 1 0) y ys in
-        let rest = no_other ys (λ i x at px. none (suc i) x at px) in
-        elim (cases_Bool (p y)) [
-          | inl px ↦ absurd (none zero y refl px)
-          | inr away ↦ (let first : ◌≡◌ {A = ℕ} (cond (p y) 1 0) 0 = ap (λ b. cond b 1 0) away in omega (arith, step, first, rest))
-        ]
-
--- what is found stands somewhere, and passes
-pub find-at : {X : Type 0} (p : X → Bool) (xs : List X) (x : X) → find p xs ≡ Some x → (i : ℕ) × (slice_get xs i ≡ Some x) × (p x ≡ true)
-find-at p [] x e = cc
-find-at {X} p (z ∷ xs) x e =
-    elim (cases_Bool (p z)) [
-      | inl here ↦ (let same : Some z ≡ Some x = rw here at e in (zero, same, ap p (sym (same_Some z x same)) ∙ here))
-      | inr later ↦ (let rest : find p xs ≡ Some x = rw later at e in let found = find-at p xs x rest in (suc found.0, found.1, found.2))
-    ]
 
 -- what stands among the values that a function gives for the items of a list
 pub filter_map-at : {X Y : Type 0} (f : X → Option Y) (xs : List X) (i : ℕ) (y : Y) → slice_get (filter_map f xs) i ≡ Some y → (j : ℕ) × (x : X) × (slice_get xs j ≡ Some x) × (f x ≡ Some y)

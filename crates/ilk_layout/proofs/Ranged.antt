@@ -9,7 +9,7 @@ use Rattle.std.proofs.lemmas.Option.{same_Some, slice_get-map, slice_get_past}
 use Rattle.ilk_base.specs.Option.{◌>>=◌}
 use Rattle.ilk_base.proofs.Lists.{item_at, same_by_slice_get}
 use Rattle.ilk_base.proofs.Ranges.{below_or_past, range-at, range_within}
-use Rattle.ilk_base.proofs.Tested.{list_all-slice_get}
+use Rattle.ilk_base.proofs.Tested.{all-pass, find-at, list_all-slice_get}
 use Rattle.ilk_ir.specs.System.{in_ranges}
 use Rattle.ilk_plant.specs.Plant.{IsPlant, PlantLists, point_count}
 use Rattle.ilk_plant.specs.Shape.{HasShape, fits_path}
@@ -40,8 +40,7 @@ use Rattle.ilk_layout.specs.Variables.{occupancy_var, points_ranges, ranges_of_p
 use Rattle.ilk_layout.specs.Wellformed.{is_wellformed, lie_by, occupancy_by, section_fits}
 use Rattle.ilk_layout.specs.declared.values.Occupancy.{Occupancy}
 use Rattle.ilk_layout.specs.declared.values.Occupancy.TheVariants.{Vacant, Taken, Crash}
-use Rattle.ilk_layout.proofs.Made.{all-pass, made-calm, made-occupancy, made-shape}
-use Rattle.ilk_layout.proofs.Orders.{find-at}
+use Rattle.ilk_layout.proofs.Made.{made-calm, made-occupancy, made-shape}
 use Rattle.ilk_layout.proofs.Read.{lie-read, occupancy-read}
 use Rattle.ilk_layout.proofs.Told.{told-fits}
 use Rattle.ilk_layout.proofs.Writes.{image_with, occupancy-at}

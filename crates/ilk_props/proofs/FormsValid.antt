@@ -6,6 +6,7 @@ use Rattle.std.proofs.lemmas.Bool.Decides.{nat_tests}
 use Rattle.std.proofs.lemmas.List.Folds.{list_all-map}
 use Rattle.ilk_base.proofs.ListTests.{list_all-flat_map, made-at}
 use Rattle.ilk_base.proofs.Ranges.{range_within}
+use Rattle.ilk_base.proofs.Tested.{all-pass}
 use Rattle.ilk_ir.specs.System.{in_ranges}
 use Rattle.ilk_ir.specs.Tree.{Tree, any_of, is, no, tree_valid, trees, yes}
 use Rattle.ilk_ir.proofs.Trees.{all_of-valid, any_of-valid}
@@ -22,7 +23,6 @@ use Rattle.ilk_layout.specs.Image.{image_of}
 use Rattle.ilk_layout.specs.Variables.{ranges_of_plant}
 use Rattle.ilk_layout.specs.declared.values.Occupancy.TheVariants.{Taken, Crash}
 use Rattle.ilk_layout.proofs.Bodies.{has-at}
-use Rattle.ilk_layout.proofs.Made.{all-pass}
 use Rattle.ilk_conditions.specs.Conditions.{lie_is}
 use Rattle.ilk_conditions.proofs.Valid.{lie_is-valid, occupancy_is-valid, train_at-valid, value-valid}
 use Rattle.ilk_props.specs.HazardForm.{crash_at, hazard_tree}

@@ -9,6 +9,7 @@ use Rattle.ilk_base.proofs.ListTests.{made-at}
 use Rattle.ilk_base.proofs.Lists.{item_at, same_by_slice_get}
 use Rattle.ilk_base.proofs.Options.{some-and}
 use Rattle.ilk_base.proofs.Ranges.{below_or_past}
+use Rattle.ilk_base.proofs.Tested.{all-pass}
 use Rattle.ilk_ir.specs.System.{in_ranges}
 use Rattle.ilk_ir.specs.Tree.{is, tree_holds}
 use Rattle.ilk_ir.proofs.Trees.{all_of-holds}
@@ -19,7 +20,6 @@ use Rattle.ilk_plant.specs.declared.state.State.{State}
 use Rattle.ilk_plant.proofs.Shapes.{start-shape}
 use Rattle.ilk_layout.specs.Image.{image_of}
 use Rattle.ilk_layout.specs.Variables.{ranges_of_plant}
-use Rattle.ilk_layout.proofs.Made.{all-pass}
 use Rattle.ilk_layout.proofs.Ranged.{image-in_ranges}
 use Rattle.ilk_conditions.proofs.Valid.{length-ranges}
 use Rattle.ilk_props.specs.StartForm.{start_tree}

@@ -8,6 +8,7 @@ use Rattle.std.proofs.lemmas.Option.{same_Some}
 use Rattle.ilk_base.specs.Option.{◌>>=◌, is_some_and}
 use Rattle.ilk_base.proofs.ListTests.{list_all-alike, list_all-flat_map}
 use Rattle.ilk_base.proofs.Ranges.{range_within}
+use Rattle.ilk_base.proofs.Lists.{replicate-at}
 use Rattle.ilk_ir.specs.System.{in_ranges}
 use Rattle.ilk_ir.specs.Tree.{any_of, tree_holds, trees}
 use Rattle.ilk_ir.proofs.Trees.{all_of-holds}
@@ -28,7 +29,7 @@ use Rattle.ilk_layout.specs.declared.values.Occupancy.TheVariants.{Vacant, Taken
 use Rattle.ilk_layout.proofs.Parts.{get-fifth}
 use Rattle.ilk_layout.proofs.Ranged.{wellformed-images}
 use Rattle.ilk_conditions.specs.Conditions.{lie_is}
-use Rattle.ilk_conditions.proofs.Valid.{length-points_ranges, length-route_ranges, replicate-at}
+use Rattle.ilk_conditions.proofs.Valid.{length-points_ranges, length-route_ranges}
 use Rattle.ilk_conditions.proofs.Values.{moving-test}
 use Rattle.ilk_props.specs.HazardForm.{crash_at}
 use Rattle.ilk_props.specs.WellformedForm.{is_still, joined_by_train, section_demands, train_is_whole, wellformed_tree}

@@ -8,7 +8,7 @@ use Rattle.ilk_plant.specs.declared.network.Position.{Position}
 use Rattle.ilk_plant.specs.declared.state.PointState.{PointState}
 use Rattle.ilk_plant.specs.declared.table.Listed.{Listed}
 use Rattle.ilk_routes.specs.Lies.{listed_position, lists_point, with_commands}
-use Rattle.ilk_routes.proofs.Numbered.{length-map_numbered, map_numbered-after, map_numbered-alike, map_numbered-same, map_numbered-set}
+use Rattle.ilk_base.proofs.Numbered.{length-map_numbered, map_numbered-after, map_numbered-alike, map_numbered-same, map_numbered-set}
 
 pub length-with_commands : (p : PlantLists) (points : List PointState) (entries : List Listed) → length (with_commands p points entries) ≡ length points
 length-with_commands p points entries = length-map_numbered _ points

@@ -1,4 +1,3 @@
-pub mod Numbered
 pub mod Locks
 pub mod Commands
 pub mod Shape

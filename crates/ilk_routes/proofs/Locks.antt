@@ -5,7 +5,7 @@ use Rattle.std.proofs.lemmas.List.Folds.{list_any-append}
 use Rattle.ilk_plant.specs.Network.{has_section}
 use Rattle.ilk_plant.specs.declared.state.Hold.{Hold}
 use Rattle.ilk_routes.specs.Locks.{with_locks}
-use Rattle.ilk_routes.proofs.Numbered.{length-map_numbered, map_numbered-after, map_numbered-same, map_numbered-set}
+use Rattle.ilk_base.proofs.Numbered.{length-map_numbered, map_numbered-after, map_numbered-same, map_numbered-set}
 
 pub length-with_locks : (locks : List Hold) (xs : List ℕ) (hold : Hold) → length (with_locks locks xs hold) ≡ length locks
 length-with_locks locks xs hold = length-map_numbered _ locks

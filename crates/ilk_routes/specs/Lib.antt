@@ -1,4 +1,3 @@
-pub mod Numbered
 pub mod Modes
 pub mod Locks
 pub mod Claims

@@ -11,7 +11,7 @@ use Rattle.ilk_plant.specs.declared.state.Lie.TheVariants.{Plus as LiesPlus, Min
 use Rattle.ilk_plant.specs.declared.state.PointState.{PointState}
 use Rattle.ilk_plant.specs.declared.state.State.{State}
 use Rattle.ilk_plant.specs.declared.table.Listed.{Listed}
-use Rattle.ilk_routes.specs.Numbered.{map_numbered}
+use Rattle.ilk_base.specs.Numbered.{map_numbered}
 
 -- whether a point that lies so moves
 abbrev pub is_moving : Lie → Bool

@@ -2,7 +2,7 @@
 use Rattle.std.specs.Prelude.{ℕ, List, if◌then◌else◌}
 use Rattle.ilk_plant.specs.Network.{has_section}
 use Rattle.ilk_plant.specs.declared.state.Hold.{Hold}
-use Rattle.ilk_routes.specs.Numbered.{map_numbered}
+use Rattle.ilk_base.specs.Numbered.{map_numbered}
 
 -- the locks, where each of these sections has this one and all else is as it was
 abbrev pub with_locks : List Hold → List ℕ → Hold → List Hold

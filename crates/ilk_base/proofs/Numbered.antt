@@ -5,7 +5,7 @@ use Rattle.std.proofs.lemmas.List.FromFn.{length-enumerate_from}
 use Rattle.std.proofs.lemmas.List.{length-map}
 use Rattle.std.proofs.lemmas.Option.{slice_get_within}
 use Rattle.std.specs.List.{enumerate_from}
-use Rattle.ilk_routes.specs.Numbered.{map_numbered}
+use Rattle.ilk_base.specs.Numbered.{map_numbered}
 use Rattle.ilk_base.proofs.Lists.{same_by_slice_get, slice_get-set_other, slice_get-set_same}
 
 slice_get-map_from : {X : Type 0} (f : ℕ → X → X) (n : ℕ) (xs : List X) (i : ℕ) → slice_get (map (λ numbered. f numbered.0 numbered.1) (enumerate_from n xs)) i ≡ option_map (f (n + i)) (slice_get xs i)
