@@ -16,3 +16,4 @@ pub mod Items
 pub mod Subjects
 pub mod StateTexts
 pub mod RunTexts
+pub mod Enabled

@@ -1,14 +1,14 @@
 -- What is written for a state is its lines.
-use Rattle.std.proofs.Common.{◌≡◌, ℕ, zero, suc, ◌+◌, ◌<◌, ◌≤◌, Bool, true, false, Some, None, Option, All, List, [], ◌∷◌, ◌++◌, drop, drop-cons, get_or, length, map, flat_map, zip, slice_get, refl, sym, subst, ap, ◌∙◌, arith, append_assoc, append-nil}
-use Rattle.std.specs.Prelude.{IsTrue, codes, nat_lt}
-use Rattle.std.specs.List.{list_all, range_with_len}
+use Rattle.std.proofs.Common.{◌≡◌, ℕ, zero, suc, ◌+◌, ◌<◌, ◌≤◌, true, Some, All, List, [], ◌∷◌, ◌++◌, drop, drop-cons, length, map, flat_map, slice_get, refl, sym, ap, ◌∙◌, arith, append_assoc, append-nil}
+use Rattle.std.specs.Prelude.{codes}
+use Rattle.std.specs.List.{list_all}
 use Rattle.std.proofs.lemmas.Option.{get_or_from_slice_get, slice_get_within}
 use Rattle.ilk_base.proofs.Tested.{All-tested}
 use Rattle.ilk_lines.specs.Lines.{Bytes}
 use Rattle.ilk_lines.specs.Reading.{numbers_of}
 use Rattle.ilk_lines.specs.Written.{each_line, text_of}
 use Rattle.ilk_base.proofs.Ranges.{passing_within}
-use Rattle.ilk_plant.specs.Plant.{PlantLists, is_point_section, point_count}
+use Rattle.ilk_plant.specs.Plant.{PlantLists, is_point_section}
 use Rattle.ilk_plant.specs.Shape.{HasShape, is_body}
 use Rattle.ilk_plant.specs.declared.state.State.{State}
 use Rattle.ilk_plant.specs.declared.state.Train.{Train}

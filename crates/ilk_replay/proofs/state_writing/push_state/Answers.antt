@@ -1,11 +1,11 @@
-use Rattle.std.proofs.Common.{◌≡◌, ◌++◌, ◌∷◌, [], ◌∙◌, List, ℕ, ap, flat_map}
+use Rattle.std.proofs.Common.{◌++◌, ◌∷◌, [], ◌∙◌, ap, flat_map}
 use Rattle.std.specs.Prelude.{string_bytes}
 use Rattle.ilk_lines.specs.Lines.{Bytes}
 use Rattle.ilk_lines.specs.Reading.{numbers_of}
 use Rattle.ilk_lines.specs.Written.{each_line, text_of}
 use Rattle.ilk_replay.proofs.StateTexts.{state_is}
 use Rattle.ilk_replay.proofs.state_writing.push_state.Goals as goal
-use Rattle.ilk_replay.specs.RunText.{board_line, point_line, route_line, section_line, train_line}
+use Rattle.ilk_replay.specs.RunText.{board_line, point_line, section_line, train_line}
 use Rattle.ilk_replay.specs.StateTold.{point_sections}
 
 pub returns : goal.returns
