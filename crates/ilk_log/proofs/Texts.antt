@@ -25,9 +25,9 @@ led-map : {A : Type 0} (f : A → Bytes) (xs : List A) → led (map f xs) ≡ fl
 led-map f [] = refl
 led-map f (x ∷ xs) = ap (λ (t : Bytes). (32 ∷ f x) ++ t) (led-map f xs)
 
--- the text that is put together is the line
-pub text_is : (s : Step) → (((codes "step" ++ flat_map (λ (l : Literal). 32 ∷ lit_word l) s.clause) ++ codes " 0") ++ flat_map (λ (n : ℕ). 32 ∷ decimal n) s.hints) ++ codes " 0" ≡ step_text s
-text_is s =
+-- the text that is put together after what stood there is the line
+pub text_is : (start : Bytes) (s : Step) → ((((start ++ codes "step") ++ flat_map (λ (l : Literal). 32 ∷ lit_word l) s.clause) ++ codes " 0") ++ flat_map (λ (n : ℕ). 32 ∷ decimal n) s.hints) ++ codes " 0" ≡ start ++ step_text s
+text_is start s =
     let c : Bytes = flat_map (λ (l : Literal). 32 ∷ lit_word l) s.clause in
     let h : Bytes = flat_map (λ (n : ℕ). 32 ∷ decimal n) s.hints in
     let w : Bytes = codes "step" in
@@ -37,7 +37,7 @@ text_is s =
     let hints = led-append (map decimal s.hints) (codes "0" ∷ []) in
     let right : line_of (step_words s) ≡ w ++ (c ++ (z ++ (h ++ z))) =
     whole ∙ ap (λ (t : Bytes). w ++ t) (lits ∙ ap (λ (t : Bytes). t ++ led (codes "0" ∷ (map decimal s.hints ++ codes "0" ∷ []))) (led-map lit_word s.clause) ∙ ap (λ (t : Bytes). c ++ (z ++ t)) (hints ∙ ap (λ (t : Bytes). t ++ z) (led-map decimal s.hints))) in
-    regroup w c z h z ∙ sym right
+    regroup start w c z h z ∙ ap (λ (t : Bytes). start ++ t) (sym right)
   where
-    regroup : (a b c d e : List ℕ) → (((a ++ b) ++ c) ++ d) ++ e ≡ a ++ (b ++ (c ++ (d ++ e)))
-    regroup a b c d e = simp append_assoc
+    regroup : (t a b c d e : List ℕ) → ((((t ++ a) ++ b) ++ c) ++ d) ++ e ≡ t ++ (a ++ (b ++ (c ++ (d ++ e))))
+    regroup t a b c d e = simp append_assoc

@@ -6,7 +6,8 @@
 //! and `Derived` in `specs/`). `Fresh` says which clauses propagation alone doesn't give. These
 //! definitions speak of lists of clauses and of numbers alone.
 //!
-//! `write_step` gives the one line of a step, and `read_step` takes exactly these lines.
+//! `write_step` gives the one line of a step, `push_step` writes it at the end of a text, and
+//! `read_step` takes exactly these lines.
 //! Two laws carry the rest: no assignment satisfies a formula that a log refutes
 //! (`refutations_refute`), and over n variables fewer than 3^n derived steps with a literal are fresh
 //! (`fresh_steps_are_few`).
@@ -20,4 +21,4 @@ mod write;
 pub use laws::{fresh_steps_are_few, refutations_refute};
 pub use read::read_step;
 pub use step::{Hints, Log, Step};
-pub use write::write_step;
+pub use write::{push_step, write_step};

@@ -38,15 +38,25 @@ fn push_numbers(text: &mut String, numbers: &[u64]) -> Result<(), AllocError>
 }
 
 #[tactic(auto, using(crate::proofs::Texts::text_is))]
+/// Writes the line of a step, without its line feed, at the end of a text. Where there is no memory
+/// for it, nothing is said of what the text then has.
+pub fn push_step(text: &mut String, step: &Step) -> Result<(), AllocError>
+    requires { IsTrue (list_all (λ h. nat_lt 0 h) step.now.hints) }
+    ensures { OnOk result (string_bytes text.new ≡ string_bytes text.old ++ step_text step.now) }
+{
+    text.push_str("step")?;
+    push_lits(text, step.clause.as_slice())?;
+    text.push_str(" 0")?;
+    push_numbers(text, step.hints.as_slice())?;
+    text.push_str(" 0")
+}
+
 /// The line of a step, without its line feed.
 pub fn write_step(alloc: Global, step: &Step) -> Result<Vec<u8>, AllocError>
     requires { IsTrue (list_all (λ h. nat_lt 0 h) step.now.hints) }
     ensures { IfOk result (λ line. line.items ≡ step_text step.now) }
 {
-    let mut text = String::from_str(alloc, "step")?;
-    push_lits(&mut text, step.clause.as_slice())?;
-    text.push_str(" 0")?;
-    push_numbers(&mut text, step.hints.as_slice())?;
-    text.push_str(" 0")?;
+    let mut text = String::new(alloc);
+    push_step(&mut text, step)?;
     Ok(text.into_bytes())
 }
