@@ -1,5 +1,5 @@
 -- What is written for a verdict is a certificate for it, and its logs have no hint 0.
-use Rattle.std.proofs.Common.{◌≡◌, ℕ, zero, suc, ◌≤◌, Bool, true, ◌&&◌, List, [], ◌∷◌, ◌++◌, Option, Some, None, IsTrue, refl, ap, subst, arith, inl, inr, ◌⊎◌, All}
+use Rattle.std.proofs.Common.{◌≡◌, ℕ, zero, suc, ◌<◌, ◌≤◌, Bool, true, ◌&&◌, List, [], ◌∷◌, ◌++◌, Option, Some, None, IsTrue, refl, ap, subst, arith, All}
 use Rattle.std.specs.Prelude.{nat_lt}
 use Rattle.std.specs.List.{list_all}
 use Rattle.std.proofs.lemmas.Bool.{and_parts, lt-ltb}
@@ -16,12 +16,11 @@ use Rattle.ilk_unroll.specs.Query.{query_formula}
 use Rattle.ilk_induct.specs.declared.verdict.Asked.{Asked}
 use Rattle.ilk_induct.specs.declared.verdict.Verdict.{Verdict}
 use Rattle.ilk_induct.specs.declared.verdict.Verdict.TheVariants.{Safe, Unsafe, Breach, NotInductive, Spent}
-use Rattle.ilk_induct.specs.Asked.{IsLogOf, IsAskedFor}
+use Rattle.ilk_induct.specs.Asked.{IsLogOf, IsAskedFor, all_conflicts}
 use Rattle.ilk_induct.specs.Certified.{IsCertified, without_early_steps}
-use Rattle.ilk_induct.specs.Right.{IsRight}
 use Rattle.ilk_induct.proofs.Certified.{certifies}
-use Rattle.ilk_certificate.specs.Certificate.{IsCertificate, IsCertificateFor}
-use Rattle.ilk_certificate.specs.CertificateText.{hints_from_one, all_hints_from_one, certificate_text, spent_text}
+use Rattle.ilk_certificate.specs.Certificate.{IsCertificate, IsSpentText}
+use Rattle.ilk_certificate.specs.CertificateText.{hints_from_one, all_hints_from_one, safe_text, spent_text}
 
 from-one : (h : ℕ) → nat_lt 0 (suc h) ≡ true
 from-one h = lt-ltb 0 (suc h) (omega arith)
@@ -64,23 +63,20 @@ hints_count s g depth conflicts (Safe k) asked h = logs-count s g asked h.1.logs
 hints_count s g depth conflicts (NotInductive t) asked h = logs-count s g asked h.1.logs
 hints_count s g depth conflicts Spent asked h = logs-count s g asked h.0.1.1.logs
 
-safe-certifies : (s : SystemTree) (g : GoalTree) (depth conflicts k : ℕ) (asked : List Asked) → depth ≤ 16 → IsRight s g depth (Safe k) → IsAskedFor s g depth conflicts (Safe k) asked → IsCertificate s g k (certificate_text (Safe k) asked)
-safe-certifies s g depth conflicts k asked deep right h =
+-- what was asked for a safe verdict, without the step queries before the last, is written as a certificate for it
+pub safe_certifies : (s : SystemTree) (g : GoalTree) (depth conflicts k : ℕ) (asked : List Asked) → depth ≤ 16 → 0 < k → IsAskedFor s g depth conflicts (Safe k) asked → IsCertificate s g k (safe_text k (without_early_steps asked))
+safe_certifies s g depth conflicts k asked deep some h =
     let all : IsCertified s g k asked = certifies s g depth conflicts (Safe k) asked h in
     let within : k ≤ depth = subst (λ (q : Wanted). step_count q ≤ depth) h.2.0 h.1.within in
     record {
       asked = without_early_steps asked;
-      some = right.induction.so.0;
+      some = some;
       most = omega (arith, deep, within);
       queries = all.queries;
       refuted = all.refuted;
       text = refl;
     }
 
-pub texts_certify : (s : SystemTree) (g : GoalTree) (depth conflicts : ℕ) (verdict : Verdict) (asked : List Asked) → depth ≤ 16 → IsRight s g depth verdict ⊎ (verdict ≡ Spent) → IsAskedFor s g depth conflicts verdict asked → IsCertificateFor s g depth conflicts verdict (certificate_text verdict asked)
-texts_certify s g depth conflicts (Safe k) asked deep (inl right) h = safe-certifies s g depth conflicts k asked deep right h
-texts_certify s g depth conflicts (Safe k) asked deep (inr spent) h = absurd cc
-texts_certify s g depth conflicts (Unsafe t) asked deep right h = refl
-texts_certify s g depth conflicts (Breach t) asked deep right h = refl
-texts_certify s g depth conflicts (NotInductive t) asked deep right h = refl
-texts_certify s g depth conflicts Spent asked deep right h = record { asked = asked; breach = h.0.0; given_up = h.0.1; counted = h.1; text = ap (λ (n : ℕ). spent_text n asked) h.1 }
+-- and all that was asked for a spent one
+pub spent_certifies : (s : SystemTree) (g : GoalTree) (depth conflicts : ℕ) (asked : List Asked) → IsAskedFor s g depth conflicts Spent asked → IsSpentText s g depth conflicts (spent_text (all_conflicts asked) asked)
+spent_certifies s g depth conflicts asked h = record { asked = asked; breach = h.0.0; given_up = h.0.1; counted = h.1; text = ap (λ (n : ℕ). spent_text n asked) h.1 }

@@ -1,6 +1,5 @@
 -- What is written for the queries is the text of their lines.
 use Rattle.std.proofs.Common.{◌≡◌, ◌≤◌, ℕ, length, take, Bool, true, false, cond, List, [], ◌∷◌, ◌++◌, map, flat_map, refl, sym, ap, ◌∙◌, append_assoc, append-nil}
-use Rattle.std.specs.Prelude.{codes}
 use Rattle.std.proofs.lemmas.List.{take_all}
 use Rattle.std.proofs.lemmas.List.Concat.{flat_map-append}
 use Rattle.ilk_lines.specs.Lines.{Bytes}
@@ -9,12 +8,8 @@ use Rattle.ilk_log.specs.declared.step.Step.{Step as LogStep}
 use Rattle.ilk_log.specs.StepText.{step_text}
 use Rattle.ilk_induct.specs.declared.verdict.Asked.{Asked}
 use Rattle.ilk_induct.specs.Certified.{is_step_query, without_early_steps}
-use Rattle.ilk_certificate.specs.CertificateText.{asked_lines, certificate_lines}
-use Rattle.ilk_certificate.specs.Writing.{asked_text, base_text}
-
--- the line of a step with its line feed
-abbrev pub step_fed : LogStep → Bytes
-step_fed s = step_text s ++ 10 ∷ []
+use Rattle.ilk_certificate.specs.CertificateText.{asked_lines}
+use Rattle.ilk_certificate.specs.Writing.{asked_text, base_text, step_fed}
 
 pub steps-fed : (log : List LogStep) → flat_map step_fed log ≡ text_of (map step_text log)
 steps-fed [] = refl
@@ -39,18 +34,6 @@ kept-fed before last = joined before ∙ asked-fed (without_early_steps (before 
     joined [] = sym (append-nil (asked_text last))
     joined (a ∷ []) = by_case a (is_step_query a.query) [] (last ∷ []) (joined [])
     joined (a ∷ b ∷ before) = by_case a (is_step_query a.query) (flat_map base_text (b ∷ before)) (without_early_steps ((b ∷ before) ++ last ∷ [])) (joined (b ∷ before))
-
--- the first two lines, those of the queries and the last are the lines of the certificate
-pub lines-fed : (told : Bytes) (asked : List Asked) → (text_of (codes "irv certificate 3" ∷ told ∷ []) ++ text_of (flat_map asked_lines asked)) ++ (codes "end" ++ 10 ∷ []) ≡ text_of (certificate_lines told asked)
-lines-fed told asked =
-    let first : List Bytes = codes "irv certificate 3" ∷ told ∷ [] in
-    let queries : List Bytes = flat_map asked_lines asked in
-    let last : List Bytes = codes "end" ∷ [] in
-    let fed : text_of last ≡ codes "end" ++ 10 ∷ [] = refl in
-    sym (
-    text_of-append first (queries ++ last)
-    ∙ ap (λ (t : Bytes). text_of first ++ t) (text_of-append queries last)
-    ∙ sym (append_assoc (text_of first) (text_of queries) (text_of last)))
 
 -- where the lines of all steps are written, they are the text of these lines
 pub steps_written : (start : Bytes) (log : List LogStep) (i : ℕ) (now : Bytes) → length log ≤ i → now ≡ start ++ flat_map step_fed (take i log) → now ≡ start ++ text_of (map step_text log)

@@ -1,11 +1,9 @@
 -- What a certificate is.
-use Rattle.std.specs.Prelude.{ℕ, ◌≡◌, ◌<◌, ◌≤◌, Option, List, [], map, All}
+use Rattle.std.specs.Prelude.{ℕ, ◌≡◌, ◌<◌, ◌≤◌, Option, List, map, All}
 use Rattle.ilk_ir.specs.System.{SystemTree}
 use Rattle.ilk_lines.specs.Lines.{Bytes}
 use Rattle.ilk_unroll.specs.Goal.{GoalTree}
 use Rattle.ilk_induct.specs.declared.verdict.Asked.{Asked}
-use Rattle.ilk_induct.specs.declared.verdict.Verdict.{Verdict}
-use Rattle.ilk_induct.specs.declared.verdict.Verdict.TheVariants.{Safe, Unsafe, Breach, NotInductive, Spent}
 use Rattle.ilk_induct.specs.Asked.{IsRefuted, EndsWith, IsGivenUp, all_conflicts}
 use Rattle.ilk_induct.specs.Certified.{certified_queries}
 use Rattle.ilk_certificate.specs.CertificateText.{safe_text, spent_text}
@@ -28,11 +26,3 @@ pub record IsSpentText (s : SystemTree) (g : GoalTree) (depth n : ℕ) (bytes : 
   pub given_up : EndsWith s g depth breach (IsGivenUp s g) asked
   pub counted : all_conflicts asked ≡ n
   pub text : bytes ≡ spent_text n asked
-
--- what the certificate for a verdict is; there is none where the verdict has a run
-abbrev pub IsCertificateFor : SystemTree → GoalTree → ℕ → ℕ → Verdict → Bytes → Type 0
-IsCertificateFor s g depth conflicts (Safe k) bytes = IsCertificate s g k bytes
-IsCertificateFor s g depth conflicts (Unsafe t) bytes = bytes ≡ []
-IsCertificateFor s g depth conflicts (Breach t) bytes = bytes ≡ []
-IsCertificateFor s g depth conflicts (NotInductive t) bytes = bytes ≡ []
-IsCertificateFor s g depth conflicts Spent bytes = IsSpentText s g depth conflicts bytes

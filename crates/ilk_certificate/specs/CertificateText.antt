@@ -9,10 +9,6 @@ use Rattle.ilk_log.specs.StepText.{step_text}
 use Rattle.ilk_unroll.specs.declared.queries.Wanted.{Wanted}
 use Rattle.ilk_unroll.specs.declared.queries.Wanted.TheVariants.{Hazard, Breach as BreachQuery, Step}
 use Rattle.ilk_induct.specs.declared.verdict.Asked.{Asked}
-use Rattle.ilk_induct.specs.declared.verdict.Verdict.{Verdict}
-use Rattle.ilk_induct.specs.declared.verdict.Verdict.TheVariants.{Safe, Unsafe, Breach, NotInductive, Spent}
-use Rattle.ilk_induct.specs.Asked.{all_conflicts}
-use Rattle.ilk_induct.specs.Certified.{without_early_steps}
 
 -- the line of a query: what it asks for, and by how many steps
 abbrev pub query_line : Wanted → Bytes
@@ -35,14 +31,6 @@ safe_text k asked = text_of (certificate_lines (line_of (codes "safe" ∷ decima
 -- the text that tells that n conflicts are spent
 abbrev pub spent_text : ℕ → List Asked → Bytes
 spent_text n asked = text_of (certificate_lines (line_of (codes "spent" ∷ decimal n ∷ [])) asked)
-
--- the text for a verdict and what was asked for it; there is none where the verdict has a run
-abbrev pub certificate_text : Verdict → List Asked → Bytes
-certificate_text (Safe k) asked = safe_text k (without_early_steps asked)
-certificate_text (Unsafe t) asked = []
-certificate_text (Breach t) asked = []
-certificate_text (NotInductive t) asked = []
-certificate_text Spent asked = spent_text (all_conflicts asked) asked
 
 -- whether no hint of a step is 0
 abbrev pub hints_from_one : LogStep → Bool

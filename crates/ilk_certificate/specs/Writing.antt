@@ -1,10 +1,16 @@
--- Only private contracts and proofs need this file: what is written for one query.
-use Rattle.std.specs.Prelude.{[], if◌then◌else◌}
+-- Only private contracts and proofs need this file: what is written for one step, and for one query.
+use Rattle.std.specs.Prelude.{[], ◌∷◌, ◌++◌, if◌then◌else◌}
 use Rattle.ilk_lines.specs.Lines.{Bytes}
 use Rattle.ilk_lines.specs.Written.{text_of}
+use Rattle.ilk_log.specs.declared.step.Step.{Step as LogStep}
+use Rattle.ilk_log.specs.StepText.{step_text}
 use Rattle.ilk_induct.specs.declared.verdict.Asked.{Asked}
 use Rattle.ilk_induct.specs.Certified.{is_step_query}
 use Rattle.ilk_certificate.specs.CertificateText.{asked_lines}
+
+-- the line of a step with its line feed
+abbrev pub step_fed : LogStep → Bytes
+step_fed s = step_text s ++ 10 ∷ []
 
 -- the text of an asked query
 abbrev pub asked_text : Asked → Bytes

@@ -1,19 +1,19 @@
-ghost use Rattle.std.specs.Prelude.{ℕ, ◌≡◌, ◌≤◌, ◌⊎◌, List, IsTrue};
+ghost use Rattle.std.specs.Prelude.{ℕ, ◌<◌, ◌≤◌, List, IsTrue};
 ghost use Rattle.ilk_ir.specs.System.{SystemTree};
 ghost use Rattle.ilk_unroll.specs.Goal.{GoalTree};
 ghost use Rattle.ilk_induct.specs.declared.verdict.Asked.{Asked};
 ghost use Rattle.ilk_induct.specs.declared.verdict.Verdict.{Verdict};
-ghost use Rattle.ilk_induct.specs.declared.verdict.Verdict.TheVariants.{Spent};
-ghost use Rattle.ilk_induct.specs.Asked.{IsAskedFor};
-ghost use Rattle.ilk_induct.specs.Right.{IsRight};
-ghost use Rattle.ilk_certificate.specs.Certificate.{IsCertificateFor};
-ghost use Rattle.ilk_certificate.specs.CertificateText.{all_hints_from_one, certificate_text};
+ghost use Rattle.ilk_induct.specs.declared.verdict.Verdict.TheVariants.{Safe, Spent};
+ghost use Rattle.ilk_induct.specs.Asked.{IsAskedFor, all_conflicts};
+ghost use Rattle.ilk_induct.specs.Certified.{without_early_steps};
+ghost use Rattle.ilk_certificate.specs.Certificate.{IsCertificate, IsSpentText};
+ghost use Rattle.ilk_certificate.specs.CertificateText.{all_hints_from_one, safe_text, spent_text};
 
-/// What is written for a right verdict, or for a spent one, and what was asked for it is a
-/// certificate for that verdict. The call does nothing, and tells a proof.
-#[tactic(auto, using(crate::proofs::Certificates::texts_certify))]
+/// What is written of what was asked for a safe verdict, or for a spent one, is a certificate of that.
+/// The call does nothing, and tells a proof.
 pub fn texts_are_certificates()
-    ensures { (s : SystemTree) (g : GoalTree) (depth conflicts : ℕ) (verdict : Verdict) (asked : List Asked) → depth ≤ 16 → IsRight s g depth verdict ⊎ (verdict ≡ Spent) → IsAskedFor s g depth conflicts verdict asked → IsCertificateFor s g depth conflicts verdict (certificate_text verdict asked) }
+    ensures safe { (s : SystemTree) (g : GoalTree) (depth conflicts k : ℕ) (asked : List Asked) → depth ≤ 16 → 0 < k → IsAskedFor s g depth conflicts (Safe k) asked → IsCertificate s g k (safe_text k (without_early_steps asked)) }
+    ensures spent { (s : SystemTree) (g : GoalTree) (depth conflicts : ℕ) (asked : List Asked) → IsAskedFor s g depth conflicts Spent asked → IsSpentText s g depth conflicts (spent_text (all_conflicts asked) asked) }
 {}
 
 /// What was asked for a verdict has no step with a hint 0. The call does nothing, and tells a proof.

@@ -1,13 +1,13 @@
-ghost use Rattle.std.specs.Prelude.{◌≡◌, ◌++◌, ◌∷◌, [], codes, flat_map, IfOk, OnOk, IsTrue};
+ghost use Rattle.std.specs.Prelude.{◌≡◌, ◌++◌, ◌∷◌, [], codes, flat_map, IfOk, OnOk, IsTrue, string_bytes};
 ghost use Rattle.std.specs.Fmt.{decimal};
 ghost use Rattle.ilk_lines.specs.Written.{spaced, text_of};
 ghost use Rattle.ilk_induct.specs.Asked.{all_conflicts, conflicts_of};
 ghost use Rattle.ilk_induct.specs.Certified.{without_early_steps};
-ghost use Rattle.ilk_certificate.specs.CertificateText.{all_hints_from_one, asked_lines, certificate_text, safe_text, spent_text};
+ghost use Rattle.ilk_certificate.specs.CertificateText.{all_hints_from_one, asked_lines, safe_text, spent_text};
 ghost use Rattle.ilk_certificate.specs.Writing.{base_text};
 
-use crate::text::{numbered, push_asked, push_base, push_line};
-use ilk_induct::{Asked, Found, Verdict};
+use crate::text::{push_asked, push_base, push_numbered};
+use ilk_induct::Asked;
 use ilk_log::Step;
 use std::alloc::{AllocError, Global};
 
@@ -36,91 +36,70 @@ fn all_conflicts(asked: &[Asked]) -> u128
 }
 
 // Writes the lines of each query.
-fn push_all(alloc: Global, text: &mut Vec<u8>, asked: &[Asked]) -> Result<(), AllocError>
+fn push_all(text: &mut String, asked: &[Asked]) -> Result<(), AllocError>
     requires { IsTrue (all_hints_from_one asked.now) }
-    ensures { OnOk result (text.new.items ≡ text.old.items ++ text_of (flat_map asked_lines asked.now)) }
+    ensures { OnOk result (string_bytes text.new ≡ string_bytes text.old ++ text_of (flat_map asked_lines asked.now)) }
 {
     for query in asked {
-        push_asked(alloc, text, query)?;
+        push_asked(text, query)?;
     }
     Ok(())
 }
 
 // Writes the lines of each query but the step queries.
-fn push_bases(alloc: Global, text: &mut Vec<u8>, asked: &[Asked]) -> Result<(), AllocError>
+fn push_bases(text: &mut String, asked: &[Asked]) -> Result<(), AllocError>
     requires { IsTrue (all_hints_from_one asked.now) }
-    ensures { OnOk result (text.new.items ≡ text.old.items ++ flat_map base_text asked.now) }
+    ensures { OnOk result (string_bytes text.new ≡ string_bytes text.old ++ flat_map base_text asked.now) }
 {
     for query in asked {
-        push_base(alloc, text, query)?;
+        push_base(text, query)?;
     }
     Ok(())
 }
 
 // Writes the lines of each query but the step queries before the last.
-fn push_kept(alloc: Global, text: &mut Vec<u8>, asked: &[Asked]) -> Result<(), AllocError>
+fn push_kept(text: &mut String, asked: &[Asked]) -> Result<(), AllocError>
     requires { IsTrue (all_hints_from_one asked.now) }
-    ensures { OnOk result (text.new.items ≡ text.old.items ++ text_of (flat_map asked_lines (without_early_steps asked.now))) }
+    ensures { OnOk result (string_bytes text.new ≡ string_bytes text.old ++ text_of (flat_map asked_lines (without_early_steps asked.now))) }
 {
     let Some((last, before)) = asked.split_last() else {
         return Ok(());
     };
-    push_bases(alloc, text, before)?;
-    push_asked(alloc, text, last)?;
+    push_bases(text, before)?;
+    push_asked(text, last)?;
     Ok(())
 }
 
 // The first two lines: the head, and what is told.
-fn begun(alloc: Global, word: &str, number: u128) -> Result<Vec<u8>, AllocError>
-    ensures { IfOk result (λ text. text.items ≡ text_of (codes "irv certificate 3" ∷ spaced word.now (decimal number) ∷ [])) }
+fn begun(alloc: Global, word: &str, number: u128) -> Result<String, AllocError>
+    ensures { IfOk result (λ text. string_bytes text ≡ text_of (codes "irv certificate 3" ∷ spaced word.now (decimal number) ∷ [])) }
 {
-    let mut text = Vec::new(alloc);
-    push_line(&mut text, b"irv certificate 3".as_slice())?;
-    let told = numbered(alloc, word, number)?;
-    push_line(&mut text, told.as_slice())?;
+    let mut text = String::from_str(alloc, "irv certificate 3\n")?;
+    push_numbered(&mut text, word, number)?;
     Ok(text)
 }
 
-// Writes the last line.
-fn push_end(text: &mut Vec<u8>) -> Result<(), AllocError>
-    ensures { OnOk result (text.new.items ≡ text.old.items ++ (codes "end" ++ 10 ∷ [])) }
-{
-    push_line(text, b"end".as_slice())
-}
-
-// The text of a safe verdict.
-fn safe_text(alloc: Global, k: u32, asked: &[Asked]) -> Result<Vec<u8>, AllocError>
-    requires { IsTrue (all_hints_from_one asked.now) }
+/// The text that tells that a system is safe at `k`, by what was asked for that: its lines, each
+/// ended by one line feed. The step queries before the last, which were satisfied, aren't in it. No
+/// hint is 0. No memory for the text is its only error.
+pub fn safe_text(alloc: Global, k: u32, asked: &[Asked]) -> Result<Vec<u8>, AllocError>
+    requires hints { IsTrue (all_hints_from_one asked.now) }
     ensures { IfOk result (λ text. text.items ≡ safe_text k (without_early_steps asked.now)) }
 {
     let mut text = begun(alloc, "safe", k as u128)?;
-    push_kept(alloc, &mut text, asked)?;
-    push_end(&mut text)?;
-    Ok(text)
+    push_kept(&mut text, asked)?;
+    text.push_str("end\n")?;
+    Ok(text.into_bytes())
 }
 
-// The text of a search that was given up.
-fn spent_text(alloc: Global, asked: &[Asked]) -> Result<Vec<u8>, AllocError>
-    requires { IsTrue (all_hints_from_one asked.now) }
+/// The text that tells that all conflicts are spent, by what was asked till then: its lines, each
+/// ended by one line feed. No hint is 0. No memory for the text is its only error.
+pub fn spent_text(alloc: Global, asked: &[Asked]) -> Result<Vec<u8>, AllocError>
+    requires hints { IsTrue (all_hints_from_one asked.now) }
     ensures { IfOk result (λ text. text.items ≡ spent_text (all_conflicts asked.now) asked.now) }
 {
     let mut text = begun(alloc, "spent", all_conflicts(asked))?;
-    push_all(alloc, &mut text, asked)?;
-    push_end(&mut text)?;
-    Ok(text)
-}
-
-/// The text of the certificate for a verdict: its lines, each ended by one line feed. There are none,
-/// and the text is empty, unless the verdict is `Safe` or `Spent`. No hint is 0. No memory for the
-/// text is its only error.
-pub fn certificate(alloc: Global, found: &Found) -> Result<Vec<u8>, AllocError>
-    requires hints { IsTrue (all_hints_from_one found.now.asked) }
-    ensures { IfOk result (λ text. text.items ≡ certificate_text found.now.verdict found.now.asked) }
-{
-    let asked = found.asked.as_slice();
-    match &found.verdict {
-        Verdict::Safe { k } => safe_text(alloc, *k, asked),
-        Verdict::Spent => spent_text(alloc, asked),
-        _ => Ok(Vec::new(alloc)),
-    }
+    push_all(&mut text, asked)?;
+    text.push_str("end\n")?;
+    Ok(text.into_bytes())
 }

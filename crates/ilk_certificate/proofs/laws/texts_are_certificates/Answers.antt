@@ -1,0 +1,8 @@
+use Rattle.ilk_certificate.proofs.Certificates.{safe_certifies, spent_certifies}
+use Rattle.ilk_certificate.proofs.laws.texts_are_certificates.Goals as goal
+
+pub returns-clause-safe : goal.returns-clause-safe
+returns-clause-safe c = safe_certifies
+
+pub returns-clause-spent : goal.returns-clause-spent
+returns-clause-spent c = spent_certifies
