@@ -1,11 +1,20 @@
-use Rattle.std.proofs.Common.{◌-◌, refl, subst}
+use Rattle.std.proofs.Common.{◌-◌, List, refl, subst, sym}
 use Rattle.ilk_ir.specs.System.{system_tree}
 use Rattle.ilk_unroll.specs.Goal.{goal_tree}
+use Rattle.ilk_unroll.specs.declared.queries.Wanted.TheVariants.{Hazard}
 use Rattle.ilk_induct.specs.declared.due.Next.{Next}
-use Rattle.ilk_induct.specs.Due.{IsNext, still_due}
+use Rattle.ilk_induct.specs.declared.due.Due.TheVariants.{Unbroken}
+use Rattle.ilk_induct.specs.declared.verdict.Asked.{Asked}
+use Rattle.ilk_induct.specs.Due.{IsDue, IsNext, still_due}
 use Rattle.ilk_induct.proofs.Certified.{certifies}
-use Rattle.ilk_induct.proofs.Follows.{turned}
+use Rattle.ilk_induct.proofs.Follows.{first-due, turned}
 use Rattle.ilk_induct.proofs.deciding.decide.Goals as goal
+
+pub loop-due-init : goal.loop-due-init
+loop-due-init c =
+    let s = system_tree c.args.system.now in
+    let g = goal_tree c.args.goal.now in
+    subst (λ (xs : List Asked). IsDue s g c.args.depth c.args.conflicts (Unbroken (Hazard 0)) xs c.args.conflicts) (sym c.new-asked.ensures) (first-due s g c.args.depth c.args.conflicts)
 
 pub loop-due-preserved : goal.loop-due-preserved
 loop-due-preserved c =
