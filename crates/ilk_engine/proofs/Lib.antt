@@ -5,3 +5,4 @@ pub mod Fired
 pub mod Ends
 pub mod Verdicts
 pub mod Made
+pub mod Certificates

@@ -13,7 +13,7 @@ use Rattle.ilk_engine.specs.declared.verdict.Verdict.TheVariants.{Safe, Unsafe, 
 abbrev pub IsForeverSafe : PlantLists → Type 0
 IsForeverSafe p = (events : List Event) (t : State) → run p (start p) events ≡ Some t → Meets p t
 
--- what is safe is so for runs of any length
+-- a safe verdict says so of runs of any length; the others say nothing of them
 abbrev pub LastsFor : PlantLists → Verdict → Type 0
 LastsFor p (Safe k) = IsForeverSafe p
 LastsFor p (Unsafe events at) = Unit {0}

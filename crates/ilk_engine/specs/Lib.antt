@@ -1,4 +1,5 @@
 pub mod Right
 pub mod Forever
 pub mod AskedOf
+pub mod CertificateOf
 pub mod Lifted

@@ -1,6 +1,8 @@
-ghost use Rattle.std.specs.Prelude.{◌≡◌, ◌<◌, ◌≤◌, ◌⊎◌, IfOk};
+ghost use Rattle.std.specs.Prelude.{◌≡◌, ◌<◌, ◌≤◌, ◌⊎◌, IfOk, IsTrue};
 ghost use Rattle.ilk_induct.specs.Asked.{all_conflicts};
+ghost use Rattle.ilk_certificate.specs.CertificateText.{all_hints_from_one};
 ghost use Rattle.ilk_engine.specs.AskedOf.{IsAskedOf};
+ghost use Rattle.ilk_engine.specs.CertificateOf.{IsCertificateOf, certificate_text_of};
 ghost use Rattle.ilk_engine.specs.Forever.{LastsFor};
 ghost use Rattle.ilk_engine.specs.Right.{IsRightFor};
 
@@ -29,6 +31,10 @@ pub fn decide(alloc: Global, plant: &Plant, depth: u32, conflicts: u64) -> Resul
     ensures lasts { IfOk result (λ found. LastsFor plant.now found.verdict) }
     ensures asked { IfOk result (λ found. IsAskedOf plant.now depth conflicts found.verdict found.asked) }
     ensures few { IfOk result (λ found. all_conflicts found.asked ≤ conflicts) }
+
+    // What `certificate` writes of the answer is the certificate of its verdict.
+    ensures certified { IfOk result (λ found. IsCertificateOf plant.now depth conflicts found.verdict (certificate_text_of found.verdict found.asked)) }
+    ensures hints { IfOk result (λ found. IsTrue (all_hints_from_one found.asked)) }
 {
     let system = behaviour(alloc, plant)?;
     let goal = goal(alloc, plant)?;

@@ -6,8 +6,12 @@
 //! over the plant's finite system (`ilk_induct`). A query has a run there exactly where the plant has
 //! one (`runs_lift`), so what is so of the system's runs is so of the plant's. `decide` tells the
 //! system's runs as runs of events.
+//!
+//! `certificate` writes the text that shows a verdict of `decide` to others: `specs/CertificateOf` says
+//! what it is.
 #![tactic(auto)]
 
+mod certifying;
 mod deciding;
 mod events;
 mod last;
@@ -15,6 +19,7 @@ mod laws;
 mod lifting;
 mod verdict;
 
+pub use certifying::certificate;
 pub use deciding::decide;
 pub use laws::{runs_lift, safe_forever};
 pub use verdict::{Found, Verdict};
