@@ -1,8 +1,10 @@
 -- What some command lines mean, each computed.
 use Rattle.std.proofs.Common.{◌≡◌, refl, [], ◌∷◌, Some, None, codes}
+use Rattle.std.specs.Fmt.{digits}
 use Rattle.clap.proofs.OnLiterals.{clap_on_literals}
 use Rattle.ilk_words.specs.declared.command.Columns.TheVariants.{Strict, Free}
-use Rattle.ilk_words.specs.declared.command.Command.TheVariants.{Check, Replay}
+use Rattle.ilk_words.specs.declared.command.Command.TheVariants.{Check, Verify, Replay, Export}
+use Rattle.ilk_words.specs.declared.command.QueryKind.TheVariants.{Hazard, Step}
 use Rattle.ilk_words.specs.Line.{app}
 use Rattle.ilk_words.specs.Words.{command_of}
 
@@ -82,7 +84,11 @@ unknown_command : command_of (codes "irv" ∷ codes "prove" ∷ []) ≡ None
 unfolding clap_on_literals app
 unknown_command = refl
 
-unknown_option : command_of (codes "irv" ∷ codes "check" ∷ codes "--depth" ∷ codes "3" ∷ []) ≡ None
+check_with_depth : command_of (codes "irv" ∷ codes "check" ∷ codes "--depth" ∷ codes "3" ∷ []) ≡ None
+unfolding clap_on_literals app
+check_with_depth = refl
+
+unknown_option : command_of (codes "irv" ∷ codes "check" ∷ codes "--limit" ∷ codes "3" ∷ []) ≡ None
 unfolding clap_on_literals app
 unknown_option = refl
 
@@ -93,3 +99,51 @@ help = refl
 short_help : command_of (codes "irv" ∷ codes "check" ∷ codes "-h" ∷ []) ≡ None
 unfolding clap_on_literals app
 short_help = refl
+
+verify_by_default : command_of (codes "irv" ∷ codes "verify" ∷ codes "--cert" ∷ codes "c" ∷ []) ≡ Some (Verify Strict 4 100000 (codes "c"))
+unfolding clap_on_literals app digits
+verify_by_default = refl
+
+verify_with_numbers : command_of (codes "irv" ∷ codes "verify" ∷ codes "--depth" ∷ codes "16" ∷ codes "--conflicts=0" ∷ codes "--cert=c" ∷ []) ≡ Some (Verify Strict 16 0 (codes "c"))
+unfolding clap_on_literals app digits
+verify_with_numbers = refl
+
+verify_with_spellings : command_of (codes "irv" ∷ codes "verify" ∷ codes "--depth" ∷ codes "007" ∷ codes "--conflicts" ∷ codes "+3" ∷ codes "--cert=c" ∷ []) ≡ Some (Verify Strict 7 3 (codes "c"))
+unfolding clap_on_literals app digits
+verify_with_spellings = refl
+
+verify_depth_0 : command_of (codes "irv" ∷ codes "verify" ∷ codes "--depth" ∷ codes "0" ∷ codes "--cert=c" ∷ []) ≡ None
+unfolding clap_on_literals app
+verify_depth_0 = refl
+
+verify_depth_17 : command_of (codes "irv" ∷ codes "verify" ∷ codes "--depth" ∷ codes "17" ∷ codes "--cert=c" ∷ []) ≡ None
+unfolding clap_on_literals app
+verify_depth_17 = refl
+
+verify_alone : command_of (codes "irv" ∷ codes "verify" ∷ []) ≡ None
+unfolding clap_on_literals app digits
+verify_alone = refl
+
+verify_with_run : command_of (codes "irv" ∷ codes "verify" ∷ codes "--cert" ∷ codes "c" ∷ codes "--run" ∷ codes "r" ∷ []) ≡ None
+unfolding clap_on_literals app
+verify_with_run = refl
+
+export_hazard_0 : command_of (codes "irv" ∷ codes "export" ∷ codes "--query" ∷ codes "hazard" ∷ codes "--number" ∷ codes "0" ∷ []) ≡ Some (Export Strict Hazard 0)
+unfolding clap_on_literals app
+export_hazard_0 = refl
+
+export_step_0 : command_of (codes "irv" ∷ codes "export" ∷ codes "--query" ∷ codes "step" ∷ codes "--number" ∷ codes "0" ∷ []) ≡ None
+unfolding clap_on_literals app
+export_step_0 = refl
+
+export_step_1 : command_of (codes "irv" ∷ codes "export" ∷ codes "--query" ∷ codes "step" ∷ codes "--number" ∷ codes "1" ∷ []) ≡ Some (Export Strict Step 1)
+unfolding clap_on_literals app
+export_step_1 = refl
+
+export_minus_0 : command_of (codes "irv" ∷ codes "export" ∷ codes "--query" ∷ codes "breach" ∷ codes "--number=-0" ∷ []) ≡ None
+unfolding clap_on_literals app
+export_minus_0 = refl
+
+export_without_query : command_of (codes "irv" ∷ codes "export" ∷ codes "--number" ∷ codes "0" ∷ []) ≡ None
+unfolding clap_on_literals app
+export_without_query = refl

@@ -1,7 +1,7 @@
 -- What a parse makes of the words doesn't depend on where the texts of its possible values lie.
-use Rattle.std.proofs.Common.{◌≡◌, ◌∙◌, ap, ap₂, ℕ, Bool, true, false, not, ◌&&◌, ◌||◌, List, [], ◌∷◌, length, drop, zero, suc, ◌++◌, unwrap_or, Option, Some, None, is_some, codes, option_map, refl, sym}
+use Rattle.std.proofs.Common.{◌≡◌, ◌∙◌, ap, ap₂, ℕ, Bool, true, false, not, ◌&&◌, ◌||◌, List, [], ◌∷◌, length, drop, zero, suc, ◌++◌, unwrap_or, Option, Some, None, is_some, option_map, refl, sym}
 use Rattle.std.specs.Prelude.{◌==◌, if◌then◌else◌, fold, encode_utf8, slice_get}
-use Rattle.std.specs.List.{list_any}
+use Rattle.std.specs.List.{count_by, list_all, list_any}
 use Rattle.std.specs.Option.{option_map_or}
 use Rattle.std.specs.Str.{bytes_eq, chars}
 use Rattle.std.specs.Borrow.{Bor}
@@ -11,13 +11,16 @@ use Rattle.clap.specs.Facts.{explicit_source, parser_of_value, unwrap_or_range}
 use Rattle.clap.specs.Values.{reading_of, refused_kind, same_text}
 use Rattle.clap.specs.ValueTests.{accepts}
 use Rattle.clap.specs.Kinds.{Kinds, check_kinds, or_else, range_kinds, request_kinds, value_kinds, values_kinds}
-use Rattle.clap.specs.Walk.{Held, Names, Outcome, Row, Rule, Step, Text, Waiting, Walk, done, waits, plain, refused, idle, option, positional, next, trailing, subcommand, value, action_of, after_flag, after_step, arg_by_id, arg_by_index, arg_by_long, arg_by_short, attached_value, bundle, bundle_met, bundle_step, default_rows, finished, flag_met, has_long, has_row, has_short, is_empty, is_pending, long_met, long_or_other, long_word, most_values, nothing_held, option_met, option_word, plain_word, positional_held, pushed, reacted, rows_after, settled, settled_rows, short_met, short_or_plain, short_word, subcommand_met, subcommand_or_other, takes_several, takes_values, to_positional, used, used_as, used_by_id, values_or_missing, walk, walk_from, walked, walked_from, with_default, word_met}
-use Rattle.clap.specs.Simple.{App, Shape, built, filled, filled_from, help_rule, index_after, matches_of, parser_for, with_index}
+use Rattle.clap.specs.Walk.{Held, Names, Outcome, Row, Rule, Step, Text, Waiting, Walk, done, waits, plain, refused, idle, option, positional, next, trailing, subcommand, value, action_of, after_flag, after_step, arg_by_id, arg_by_index, arg_by_long, arg_by_short, attached_value, bundle, bundle_met, bundle_step, default_rows, finished, flag_met, has_long, has_row, has_short, is_early_multiple, is_empty, is_pending, long_met, long_or_other, long_word, most_values, nothing_held, option_met, option_word, plain_word, positional_held, pushed, reacted, rows_after, settled, settled_rows, short_met, short_or_plain, short_word, subcommand_met, subcommand_or_other, takes_several, takes_values, to_positional, used, used_as, used_by_id, values_or_missing, walk, walk_from, walked, walked_from, with_default, word_met}
+use Rattle.clap.specs.Simple.{App, Shape, built, is_ready, filled, filled_from, help_rule, index_after, matches_of, parser_for, with_index}
 use Rattle.clap.specs.Takes.{is_given}
-use Rattle.clap.specs.Faults.{fault_of, action_fault, bundle_fault, bundle_step_fault, check_fault, count_fault, default_fault, defaults_fault, flag_word_fault, flags_fault, level_fault, long_fault, option_fault, other_fault, positional_fault, react_fault, repeat_fault, set_fault, settle_fault, short_fault, step_fault, stray_fault, turn_fault, use_fault, values_fault, walk_fault, word_fault}
+use Rattle.clap.specs.Faults.{fault_of, has_free_rules, action_fault, bundle_fault, bundle_step_fault, check_fault, count_fault, default_fault, defaults_fault, flag_word_fault, flags_fault, level_fault, long_fault, option_fault, other_fault, positional_fault, react_fault, repeat_fault, set_fault, settle_fault, short_fault, step_fault, stray_fault, turn_fault, use_fault, values_fault, walk_fault, word_fault}
 use Rattle.clap.proofs.OnLiterals.{clap_on_literals}
 use Rattle.clap.proofs.FaultLemmas.{leaf_fault}
 use Rattle.clap.proofs.WalkLemmas.{find-map, list_any-map}
+use Rattle.std.proofs.lemmas.List.{map-append}
+use Rattle.std.proofs.lemmas.List.Folds.{list_all-map}
+use Rattle.ilk_base.proofs.Tested.{count_by-map, list_any-map as list_any-map-is}
 use Rattle.clap.specs.declared.builder.action.ArgAction.{ArgAction}
 use Rattle.clap.specs.declared.builder.action.ArgAction.TheVariants.{Set, Append, SetTrue, SetFalse, Count}
 use Rattle.clap.specs.declared.builder.value_parser.Reading.{Reading}
@@ -25,9 +28,11 @@ use Rattle.clap.specs.declared.builder.value_parser.ValueParser.{ValueParser}
 use Rattle.clap.specs.declared.builder.value_parser.ValueParser.TheVariants as parser
 use Rattle.clap.specs.declared.error.kind.ErrorKind.{ErrorKind}
 use Rattle.clap.specs.declared.error.kind.ErrorKind.TheVariants as kind
-use Rattle.clap.specs.Words.{is_simple_and_free, new_app, with_rule}
-use Rattle.ilk_words.specs.Line.{app, command_rule, option_rule}
-use Rattle.ilk_words.specs.Options.{columns_option, held, run_option}
+use Rattle.clap.specs.Words.{AddsArg, app_of, is_simple_and_free, rule_of, with_rule}
+use Rattle.clap.specs.declared.builder.arg.Arg.{Arg}
+use Rattle.clap.specs.declared.builder.command.Command.{Command}
+use Rattle.ilk_words.specs.Line.{app, option_rule, rule_of_option}
+use Rattle.ilk_words.specs.Options.{LineOption, held}
 use Rattle.ilk_words.specs.Places.{with_held_texts, moved_app, moved_rule, moved_rules, moved_shape}
 
 -- ---- one value
@@ -415,21 +420,37 @@ rows_like_ours a words e =
 
 -- ---- the line that the program makes
 
-abbrev pub line_of : Rule → Rule → Rule → App
-line_of command columns run = with_rule (with_rule (with_rule (new_app (codes "irv")) command) columns) run
+-- an argument more
+pub with_argument : (old new : Command) (a : Arg) (line : App) (given : Rule) → AddsArg old a new → a.global ≡ false → moved_rule (rule_of a) ≡ given → moved_app (app_of old) ≡ line → moved_app (app_of new) ≡ with_rule line given
+with_argument old new a line given adds local same e = ap moved_app (adds.shape local)
+    ∙ ap (λ (rules : List Rule). record (app_of old) { top = record (app_of old).top { rules = rules } }) (map-append moved_rule (app_of old).top.rules (rule_of a ∷ []))
+    ∙ ap₂ with_rule e same
 
-pub line_moved : (command columns run : Rule) → moved_rule command ≡ command_rule → moved_rule columns ≡ option_rule columns_option → moved_rule run ≡ option_rule run_option → moved_app (line_of command columns run) ≡ app
+-- an option more
+pub with_option : (old new : Command) (a : Arg) (line : App) (o : LineOption) (values : ValueParser) → AddsArg old a new → a.global ≡ false → moved_rule (rule_of a) ≡ rule_of_option o.name (with_held_texts values) → with_held_texts values ≡ o.values → moved_app (app_of old) ≡ line → moved_app (app_of new) ≡ with_rule line (option_rule o)
+with_option old new a line o values adds local rule same e = with_argument old new a line (option_rule o) adds local (rule ∙ ap (rule_of_option o.name) same) e
+
+ready_as : (s : Shape) → is_ready (moved_shape s) ≡ is_ready s
+ready_as s = ap₂ (λ (simple early : Bool). s.is_plain && simple && not early)
+    (list_all-map (λ (a : Rule). a.is_simple) moved_rule s.rules)
+    (list_any-map-is (is_early_multiple (count_by (λ (a : Rule). is_some a.index) (moved_rules s.rules))) moved_rule s.rules
+    ∙ ap (λ (n : ℕ). list_any (is_early_multiple n) s.rules) (count_by-map (λ (a : Rule). is_some a.index) moved_rule s.rules))
+
+free_as : (s : Shape) → has_free_rules (moved_shape s) ≡ has_free_rules s
+free_as s = list_all-map (λ (a : Rule). a.is_free) moved_rule s.rules
+
+all_simple : (rules : List Rule) → moved_rules rules ≡ app.top.rules → list_all (λ (a : Rule). a.is_simple) rules ≡ true
 unfolding app
-line_moved command columns run e f g = ap₂ (λ (x : App) (r : Rule). with_rule x r) (ap₂ (λ (x y : Rule). with_rule (with_rule (new_app (codes "irv")) x) y) e f) g
+all_simple rules e = sym (list_all-map (λ (a : Rule). a.is_simple) moved_rule rules) ∙ ap (list_all (λ (a : Rule). a.is_simple)) e
 
-any_parsers : (p q r : Option ValueParser) → is_simple_and_free (line_of (record command_rule { parser = p }) (record (option_rule columns_option) { parser = q }) (record (option_rule run_option) { parser = r })) ≡ true
-unfolding clap_on_literals
-any_parsers p q r = refl
-
-but_parser : (a b : Rule) → moved_rule a ≡ b → a ≡ record b { parser = a.parser }
-but_parser a b e = ap (λ (x : Rule). record x { parser = a.parser }) e
-
-pub line_simple : (command columns run : Rule) → moved_rule command ≡ command_rule → moved_rule columns ≡ option_rule columns_option → moved_rule run ≡ option_rule run_option → is_simple_and_free (line_of command columns run) ≡ true
-line_simple command columns run e f g =
-    ap is_simple_and_free (ap₂ (λ (x : App) (r : Rule). with_rule x r) (ap₂ (λ (x y : Rule). with_rule (with_rule (new_app (codes "irv")) x) y) (but_parser command command_rule e) (but_parser columns (option_rule columns_option) f)) (but_parser run (option_rule run_option) g))
-    ∙ any_parsers command.parser columns.parser run.parser
+-- a line like ours is simple and free
+pub simple_like_ours : (a : App) → moved_app a ≡ app → is_simple_and_free a ≡ true
+unfolding clap_on_literals app
+simple_like_ours a e =
+    let rules = a.top.rules in
+    let same : moved_rules rules ≡ app.top.rules = ap (λ (x : App). x.top.rules) e in
+    let top = (built (of_rules rules)).top in
+    let ready : is_ready top ≡ true = sym (ready_as top) ∙ ap is_ready (builds rules same) in
+    let free : has_free_rules top ≡ true = sym (free_as top) ∙ ap has_free_rules (builds rules same) in
+    let simple : list_all (λ (a : Rule). a.is_simple) rules ≡ true = all_simple rules same in
+    ap is_simple_and_free (same_but_rules a e) ∙ rw (simple, ready, free) refl

@@ -1,23 +1,30 @@
 -- The table of commands: what each is called, the options that it takes, and what it is on a line.
 use Rattle.std.specs.Prelude.{Option, Some, List, [], ◌∷◌, codes}
 use Rattle.clap.specs.Words.{Text}
-use Rattle.ilk_base.specs.Option.{◌>>=◌}
+use Rattle.ilk_base.specs.Option.{◌>>=◌, only_if}
 use Rattle.ilk_words.specs.Columns.{columns_of_word}
-use Rattle.ilk_words.specs.Options.{Line, LineOption, columns_option, run_option, value_of_option}
+use Rattle.ilk_words.specs.Options.{Line, LineOption, cert_option, columns_option, conflicts_option, depth_option, number_of_option, number_option, query_option, run_option, value_of_option}
+use Rattle.ilk_words.specs.Queries.{has_number, query_of_word}
 use Rattle.ilk_words.specs.declared.command.Columns.{Columns}
 use Rattle.ilk_words.specs.declared.command.Command.{Command}
-use Rattle.ilk_words.specs.declared.command.Command.TheVariants.{Check, Replay}
+use Rattle.ilk_words.specs.declared.command.Command.TheVariants.{Check, Verify, Replay, Export}
+use Rattle.ilk_words.specs.declared.command.QueryKind.{QueryKind}
 
 pub record LineCommand : Type 0 where
   pub name : Text
   pub options : List LineOption
-  -- the command with its options; none where a needed one is missing
+  -- the command with its options; none where a needed one is missing, or there is no such query
   pub command : Line → Option Command
 
 abbrev pub columns_of : Line → Option Columns
 columns_of line = do
   value ← value_of_option line columns_option
   columns_of_word value
+
+abbrev pub query_of : Line → Option QueryKind
+query_of line = do
+  value ← value_of_option line query_option
+  query_of_word value
 
 abbrev pub check_command : LineCommand
 check_command = record {
@@ -26,6 +33,18 @@ check_command = record {
   command = λ line. do
     columns ← columns_of line
     Some (Check columns);
+}
+
+abbrev pub verify_command : LineCommand
+verify_command = record {
+  name = codes "verify";
+  options = columns_option ∷ depth_option ∷ conflicts_option ∷ cert_option ∷ [];
+  command = λ line. do
+    columns ← columns_of line
+    depth ← number_of_option line depth_option
+    conflicts ← number_of_option line conflicts_option
+    cert ← value_of_option line cert_option
+    Some (Verify columns depth conflicts cert);
 }
 
 abbrev pub replay_command : LineCommand
@@ -38,5 +57,16 @@ replay_command = record {
     Some (Replay columns run);
 }
 
+abbrev pub export_command : LineCommand
+export_command = record {
+  name = codes "export";
+  options = columns_option ∷ query_option ∷ number_option ∷ [];
+  command = λ line. do
+    columns ← columns_of line
+    query ← query_of line
+    number ← number_of_option line number_option
+    only_if (has_number query number) (Export columns query number);
+}
+
 abbrev pub commands : List LineCommand
-commands = check_command ∷ replay_command ∷ []
+commands = check_command ∷ verify_command ∷ replay_command ∷ export_command ∷ []

@@ -1,7 +1,9 @@
 pub mod Columns
+pub mod Queries
 pub mod Options
 pub mod Commands
 pub mod Line
 pub mod Places
 pub mod Words
+pub mod Limits
 pub mod Files

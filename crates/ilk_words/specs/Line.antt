@@ -1,7 +1,8 @@
 -- The command line as `clap` sees it: one simple command, with the tables of commands and options.
 use Rattle.std.specs.Prelude.{true, Some, ◌∷◌, codes, map, fold}
-use Rattle.clap.specs.Words.{App, Rule, new_app, new_rule, with_rule}
+use Rattle.clap.specs.Words.{App, Rule, Text, new_app, new_rule, with_rule}
 use Rattle.clap.specs.declared.builder.ArgAction.TheVariants.{Set}
+use Rattle.clap.specs.declared.builder.value_parser.ValueParser.{ValueParser}
 use Rattle.ilk_words.specs.Commands.{commands}
 use Rattle.ilk_words.specs.Options.{LineOption, one_among, options}
 
@@ -13,12 +14,16 @@ command_rule = record (new_rule (codes "command")) {
   parser = Some (one_among (map (λ c. c.name) commands));
 }
 
-abbrev pub option_rule : LineOption → Rule
-option_rule o = record (new_rule o.name) {
-  long = Some o.name;
+-- an option of this name, which is taken once, with one value of these
+abbrev pub rule_of_option : Text → ValueParser → Rule
+rule_of_option name values = record (new_rule name) {
+  long = Some name;
   action = Some Set;
-  parser = o.values;
+  parser = Some values;
 }
+
+abbrev pub option_rule : LineOption → Rule
+option_rule o = rule_of_option o.name o.values
 
 -- the command line, for `clap`
 unfoldable pub app : App

@@ -1,5 +1,6 @@
 ghost use Rattle.std.specs.Prelude.{◌≡◌};
 ghost use Rattle.ilk_words.specs.Columns.{columns_of_word};
+ghost use Rattle.ilk_words.specs.Queries.{has_number, query_of_word};
 
 use ilk_base::{Text, Worded, value_of_word};
 
@@ -39,11 +40,87 @@ impl Columns {
     }
 }
 
+/// What a query asks for a run to.
+#[derive(Clone, Copy, PartialEq, Eq, Debug)]
+pub enum QueryKind {
+    /// From the start to a hazard.
+    Hazard,
+    /// From the start to a state that breaks a family of the invariant.
+    Breach,
+    /// From any state, through states that keep all families, to a hazard or to one that breaks a
+    /// family.
+    Step,
+}
+
+const HAZARD: &str = "hazard";
+
+const BREACH: &str = "breach";
+
+const STEP: &str = "step";
+
+// The words of all values of `QueryKind`.
+pub(crate) static QUERY_WORDS: [&str; 3] = [HAZARD, BREACH, STEP];
+
+impl Worded for QueryKind {
+    ghost use Rattle.ilk_words.specs.Queries.{query_word};
+
+    ghost word_of = { query_word };
+
+    fn word(self) -> &'static str {
+        match self {
+            QueryKind::Hazard => HAZARD,
+            QueryKind::Breach => BREACH,
+            QueryKind::Step => STEP,
+        }
+    }
+}
+
+impl QueryKind {
+    // The value that has this word. None where it is the word of none.
+    pub(crate) fn of_word(word: &[u8]) -> Option<QueryKind>
+        ensures { result ≡ query_of_word word.now }
+    {
+        value_of_word(
+            &[QueryKind::Hazard, QueryKind::Breach, QueryKind::Step],
+            word,
+        )
+    }
+
+    // Whether there is a query of this kind for runs of this many events.
+    pub(crate) fn has_number(self, number: u32) -> bool
+        ensures { result ≡ has_number self number }
+    {
+        match self {
+            QueryKind::Hazard | QueryKind::Breach => true,
+            QueryKind::Step => 1 <= number,
+        }
+    }
+}
+
 /// What the program is asked to do.
 #[derive(Drop)]
 pub enum Command {
     /// Print every rule that the configuration breaks.
-    Check { columns: Columns },
+    Check {
+        columns: Columns,
+    },
+    /// Decide whether the plant is safe, by runs of up to `depth` events and searches that take at
+    /// most `conflicts` conflicts together. The certificate goes to the file of the name `cert`.
+    Verify {
+        columns: Columns,
+        depth: u32,
+        conflicts: u64,
+        cert: Text,
+    },
     /// Replay the run in the file of the name `run`.
-    Replay { columns: Columns, run: Text },
+    Replay {
+        columns: Columns,
+        run: Text,
+    },
+    /// Print the formula of the query of this kind for runs of `number` events.
+    Export {
+        columns: Columns,
+        query: QueryKind,
+        number: u32,
+    },
 }

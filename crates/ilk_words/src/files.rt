@@ -15,8 +15,8 @@ pub struct FileNames {
 }
 
 /// The names of the files that the words of the command line name, the program's name first. For
-/// replay, `extra` is the value of `--run`; otherwise there is none. `None` exactly where
-/// `read_words` gives `None` for these words.
+/// replay, `extra` is the value of `--run`, and for verify, `cert` that of `--cert`; otherwise there
+/// is none. `None` exactly where `read_words` gives `None` for these words.
 pub fn names_of(alloc: Global, words: &Vec<String>) -> Result<Option<FileNames>, AllocError>
     ensures { IfOk result (λ names. names ≡ files_named (map string_bytes words.now.items)) }
 {
@@ -31,8 +31,16 @@ fn files_of(command: Command) -> FileNames
             extra: None,
             cert: None,
         },
+        Command::Verify { cert, .. } => FileNames {
+            extra: None,
+            cert: Some(cert),
+        },
         Command::Replay { run, .. } => FileNames {
             extra: Some(run),
+            cert: None,
+        },
+        Command::Export { .. } => FileNames {
+            extra: None,
             cert: None,
         },
     }

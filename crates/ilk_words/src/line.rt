@@ -1,40 +1,57 @@
 //! The command line as `clap` reads it. The names of commands and options stand here once; a
-//! further option is one function here and one `arg` of `line_command`.
-ghost use Rattle.std.specs.Prelude.{◌≡◌, IfOk, false, true};
-ghost use Rattle.clap.specs.Words.{app_of, is_simple_and_free, rule_of};
-ghost use Rattle.ilk_words.specs.Line.{app, command_rule, option_rule};
-ghost use Rattle.ilk_words.specs.Options.{columns_option, run_option};
-ghost use Rattle.ilk_words.specs.Places.{moved_app, moved_rule};
+//! further option is its name, a place in `OPTIONS`, and one `arg` of `line_command`.
+ghost use Rattle.std.specs.Prelude.{◌≡◌, IfOk, false};
+ghost use Rattle.clap.specs.Words.{app_of, rule_of};
+ghost use Rattle.ilk_words.specs.Line.{app, command_rule, rule_of_option};
+ghost use Rattle.ilk_words.specs.Options.{columns_option, query_option};
+ghost use Rattle.ilk_words.specs.Places.{moved_app, moved_rule, with_held_texts};
 
-use crate::command::COLUMNS_WORDS;
+use crate::command::{COLUMNS_WORDS, QUERY_WORDS};
+use crate::{MAX_CONFLICTS, MAX_DEPTH, MAX_NUMBER};
+use clap::builder::ValueParser;
 use clap::{Arg, ArgAction};
 use std::alloc::{AllocError, Global};
 
 pub(crate) const CHECK: &str = "check";
 
+pub(crate) const VERIFY: &str = "verify";
+
 pub(crate) const REPLAY: &str = "replay";
 
-static COMMANDS: [&str; 2] = [CHECK, REPLAY];
+pub(crate) const EXPORT: &str = "export";
+
+static COMMANDS: [&str; 4] = [CHECK, VERIFY, REPLAY, EXPORT];
 
 pub(crate) const COLUMNS: &str = "columns";
 
+pub(crate) const DEPTH: &str = "depth";
+
+pub(crate) const CONFLICTS: &str = "conflicts";
+
+pub(crate) const CERT: &str = "cert";
+
 pub(crate) const RUN: &str = "run";
 
+pub(crate) const QUERY: &str = "query";
+
+pub(crate) const NUMBER: &str = "number";
+
 // Every option.
-pub(crate) static OPTIONS: [&str; 2] = [COLUMNS, RUN];
+pub(crate) static OPTIONS: [&str; 7] = [COLUMNS, DEPTH, CONFLICTS, CERT, RUN, QUERY, NUMBER];
 
 // The whole line, whose texts lie where they may.
 pub(crate) fn line_command<'a>(alloc: Global) -> Result<clap::Command<'a>, AllocError>
-    ensures line { IfOk result (λ c. moved_app (app_of c) ≡ app) }
-    ensures simple { IfOk result (λ c. is_simple_and_free (app_of c) ≡ true) }
+    ensures { IfOk result (λ c. moved_app (app_of c) ≡ app) }
 {
-    let command = command_argument(alloc);
-    let columns = columns_argument(alloc);
-    let run = run_argument(alloc);
     clap::Command::new(alloc, "irv")
-        .arg(command)?
-        .arg(columns)?
-        .arg(run)
+        .arg(command_argument(alloc))?
+        .arg(option_argument(alloc, COLUMNS, columns_values()))?
+        .arg(option_argument(alloc, DEPTH, ValueParser::unsigned(1, MAX_DEPTH)))?
+        .arg(option_argument(alloc, CONFLICTS, ValueParser::unsigned(0, MAX_CONFLICTS)))?
+        .arg(option_argument(alloc, CERT, ValueParser::string()))?
+        .arg(option_argument(alloc, RUN, ValueParser::string()))?
+        .arg(option_argument(alloc, QUERY, query_values()))?
+        .arg(option_argument(alloc, NUMBER, ValueParser::unsigned(0, MAX_NUMBER)))
 }
 
 fn command_argument<'a>(alloc: Global) -> Arg<'a>
@@ -47,19 +64,25 @@ fn command_argument<'a>(alloc: Global) -> Arg<'a>
         .value_parser(COMMANDS.as_slice())
 }
 
-fn columns_argument<'a>(alloc: Global) -> Arg<'a>
-    ensures rule { moved_rule (rule_of result) ≡ option_rule columns_option }
+// An option of this name, which is taken once, with one value of these.
+fn option_argument<'a>(alloc: Global, name: &'a str, values: ValueParser<'a>) -> Arg<'a>
+    ensures rule { moved_rule (rule_of result) ≡ rule_of_option name.entry.now (with_held_texts values.entry) }
     ensures local { result.global ≡ false }
 {
-    Arg::new(alloc, COLUMNS)
-        .long(COLUMNS)
+    Arg::new(alloc, name)
+        .long(name)
         .action(ArgAction::Set)
-        .value_parser(COLUMNS_WORDS.as_slice())
+        .value_parser(values)
 }
 
-fn run_argument<'a>(alloc: Global) -> Arg<'a>
-    ensures rule { moved_rule (rule_of result) ≡ option_rule run_option }
-    ensures local { result.global ≡ false }
+fn columns_values<'a>() -> ValueParser<'a>
+    ensures { with_held_texts result ≡ columns_option.values }
 {
-    Arg::new(alloc, RUN).long(RUN).action(ArgAction::Set)
+    ValueParser::Names(COLUMNS_WORDS.as_slice())
+}
+
+fn query_values<'a>() -> ValueParser<'a>
+    ensures { with_held_texts result ≡ query_option.values }
+{
+    ValueParser::Names(QUERY_WORDS.as_slice())
 }

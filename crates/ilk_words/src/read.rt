@@ -1,24 +1,36 @@
 //! What a line means: `chosen` finds the command by its name, and each command has a function that
 //! takes what the line has of its options.
-ghost use Rattle.std.specs.Prelude.{◌≡◌, ◌||◌, IfOk, is_none, map, string_bytes};
+ghost use Rattle.std.specs.Prelude.{◌≡◌, ◌||◌, IfOk, IfSome, IsTrue, is_none, map, string_bytes};
 ghost use Rattle.clap.specs.Words.{first_value, found_of};
 ghost use Rattle.std.specs.List.{list_all, list_any};
 ghost use Rattle.std.specs.Str.{bytes_eq};
-ghost use Rattle.ilk_words.specs.Commands.{check_command, columns_of, replay_command};
+ghost use Rattle.ilk_words.specs.Commands.{check_command, columns_of, export_command, query_of};
+ghost use Rattle.ilk_words.specs.Commands.{replay_command, verify_command};
+ghost use Rattle.ilk_words.specs.Limits.{has_option_limits};
+ghost use Rattle.ilk_words.specs.Options.{conflicts_option, depth_option, number_of_option};
+ghost use Rattle.ilk_words.specs.Options.{number_option};
 ghost use Rattle.ilk_words.specs.Words.{command_of, command_on, has_only, on_line};
 
-use crate::line::{CHECK, COLUMNS, OPTIONS, REPLAY, RUN, line_command};
-use crate::{Columns, Command};
+use crate::line::{
+    CERT, CHECK, COLUMNS, CONFLICTS, DEPTH, EXPORT, NUMBER, OPTIONS, QUERY, REPLAY, RUN, VERIFY,
+    line_command,
+};
+use crate::number::number_between;
+use crate::{
+    Columns, Command, DEFAULT_CONFLICTS, DEFAULT_DEPTH, MAX_CONFLICTS, MAX_DEPTH, MAX_NUMBER,
+    QueryKind,
+};
 use clap::ArgMatches;
 use clap::error::ErrorKind;
 use ilk_base::{Text, Worded};
 use std::alloc::{AllocError, Global};
 
 /// What the words of the command line ask for, the program's name first. `None` where `clap`
-/// refuses them (a request for help is such a refusal), an option isn't the command's, or a needed
-/// one is missing.
+/// refuses them (a request for help is such a refusal), an option isn't the command's, a needed
+/// one is missing, or there is no such query. The numbers of a command are within their limits.
 pub fn read_words(alloc: Global, words: &Vec<String>) -> Result<Option<Command>, AllocError>
-    ensures { IfOk result (λ c. c ≡ command_of (map string_bytes words.now.items)) }
+    ensures command { IfOk result (λ c. c ≡ command_of (map string_bytes words.now.items)) }
+    ensures options { IfOk result (λ c. IfSome c (λ command. IsTrue (has_option_limits command))) }
 {
     match line_command(alloc)?.try_get_matches_from(words.as_slice()) {
         Ok(matches) => chosen(alloc, &matches),
@@ -35,7 +47,9 @@ fn chosen(alloc: Global, matches: &ArgMatches<'_>) -> Result<Option<Command>, Al
 {
     match matches.get_str("command") {
         Some(CHECK) => Ok(check(matches)),
+        Some(VERIFY) => verify(alloc, matches),
         Some(REPLAY) => replay(alloc, matches),
+        Some(EXPORT) => Ok(export(matches)),
         _ => Ok(None),
     }
 }
@@ -51,6 +65,30 @@ fn check(matches: &ArgMatches<'_>) -> Option<Command>
     Some(Command::Check { columns })
 }
 
+// Verify, where its options are on the line and no other is.
+fn verify(alloc: Global, matches: &ArgMatches<'_>) -> Result<Option<Command>, AllocError>
+    ensures { IfOk result (λ c. c ≡ on_line (first_value (found_of matches.now)) verify_command) }
+{
+    if !has_only(matches, &[COLUMNS, DEPTH, CONFLICTS, CERT]) {
+        return Ok(None);
+    }
+    let (Some(columns), Some(depth), Some(conflicts), Some(cert)) = (
+        columns(matches),
+        depth(matches),
+        conflicts(matches),
+        matches.get_str(CERT),
+    ) else {
+        return Ok(None);
+    };
+    let cert = Text::of(String::from_str(alloc, cert)?);
+    Ok(Some(Command::Verify {
+        columns,
+        depth,
+        conflicts,
+        cert,
+    }))
+}
+
 // Replay, where its options are on the line and no other is.
 fn replay(alloc: Global, matches: &ArgMatches<'_>) -> Result<Option<Command>, AllocError>
     ensures { IfOk result (λ c. c ≡ on_line (first_value (found_of matches.now)) replay_command) }
@@ -63,6 +101,26 @@ fn replay(alloc: Global, matches: &ArgMatches<'_>) -> Result<Option<Command>, Al
     };
     let run = Text::of(String::from_str(alloc, run)?);
     Ok(Some(Command::Replay { columns, run }))
+}
+
+// Export, where its options are on the line, no other is, and there is such a query.
+fn export(matches: &ArgMatches<'_>) -> Option<Command>
+    ensures { result ≡ on_line (first_value (found_of matches.now)) export_command }
+{
+    if !has_only(matches, &[COLUMNS, QUERY, NUMBER]) {
+        return None;
+    }
+    let columns = columns(matches)?;
+    let query = query(matches)?;
+    let number = number(matches)?;
+    if !query.has_number(number) {
+        return None;
+    }
+    Some(Command::Export {
+        columns,
+        query,
+        number,
+    })
 }
 
 // Whether no option is on the line but these.
@@ -101,4 +159,39 @@ fn columns(matches: &ArgMatches<'_>) -> Option<Columns>
 {
     let word = matches.get_str(COLUMNS).unwrap_or(Columns::Strict.word());
     Columns::of_word(word.as_bytes())
+}
+
+// The most events of the runs that are asked for: the default, where the line doesn't say.
+fn depth(matches: &ArgMatches<'_>) -> Option<u32>
+    ensures { result ≡ number_of_option (first_value (found_of matches.now)) depth_option }
+{
+    match matches.get_str(DEPTH) {
+        Some(value) => Some(number_between(value, 1, MAX_DEPTH)? as u32),
+        None => Some(DEFAULT_DEPTH as u32),
+    }
+}
+
+// The most conflicts of the searches: the default, where the line doesn't say.
+fn conflicts(matches: &ArgMatches<'_>) -> Option<u64>
+    ensures { result ≡ number_of_option (first_value (found_of matches.now)) conflicts_option }
+{
+    match matches.get_str(CONFLICTS) {
+        Some(value) => number_between(value, 0, MAX_CONFLICTS),
+        None => Some(DEFAULT_CONFLICTS),
+    }
+}
+
+// The kind of the query. None where the line doesn't say.
+fn query(matches: &ArgMatches<'_>) -> Option<QueryKind>
+    ensures { result ≡ query_of (first_value (found_of matches.now)) }
+{
+    QueryKind::of_word(matches.get_str(QUERY)?.as_bytes())
+}
+
+// The number of the query. None where the line doesn't say.
+fn number(matches: &ArgMatches<'_>) -> Option<u32>
+    ensures { result ≡ number_of_option (first_value (found_of matches.now)) number_option }
+{
+    let number = number_between(matches.get_str(NUMBER)?, 0, MAX_NUMBER)?;
+    Some(number as u32)
 }

@@ -17,10 +17,28 @@ fn shown(alloc: Global, line: &str) -> Result<String, AllocError> {
     match read_words(alloc, &words)? {
         None => String::from_str(alloc, "usage"),
         Some(Command::Check { columns }) => format!(in alloc; "check {columns:?}"),
+        Some(
+            Command::Verify {
+                columns,
+                depth,
+                conflicts,
+                cert,
+            },
+        ) => {
+            let cert = cert.into_string();
+            format!(in alloc; "verify {columns:?} {depth} {conflicts} '{cert}'")
+        }
         Some(Command::Replay { columns, run }) => {
             let run = run.into_string();
             format!(in alloc; "replay {columns:?} '{run}'")
         }
+        Some(
+            Command::Export {
+                columns,
+                query,
+                number,
+            },
+        ) => format!(in alloc; "export {columns:?} {query:?} {number}"),
     }
 }
 
@@ -32,7 +50,8 @@ fn shown_name(alloc: Global, name: Option<Text>) -> Result<String, AllocError> {
 }
 
 // The lines are read as the documentation of `clap` 4 says: `ArgAction::Set` refuses a second use,
-// an option may have its value attached by `=`, and after `--` each word is a positional.
+// an option may have its value attached by `=`, and after `--` each word is a positional. A number
+// is read as `u64::from_str` reads it, within its range.
 #[test]
 fn reads_lines(rt: HostRuntime) -> Result<(), Fail> {
     let alloc = rt.alloc();
@@ -46,6 +65,37 @@ fn reads_lines(rt: HostRuntime) -> Result<(), Fail> {
         ("irv check --run r", "usage"),
         ("irv check check", "usage"),
         ("irv check --depth 3", "usage"),
+        ("irv verify", "usage"),
+        ("irv verify --cert c", "verify Strict 4 100000 'c'"),
+        ("irv verify --cert c --cert c", "usage"),
+        ("irv verify --cert c --run r", "usage"),
+        ("irv verify --cert c --depth 0", "usage"),
+        (
+            "irv verify --cert c --depth 1",
+            "verify Strict 1 100000 'c'",
+        ),
+        (
+            "irv verify --cert c --depth 16",
+            "verify Strict 16 100000 'c'",
+        ),
+        ("irv verify --cert c --depth 17", "usage"),
+        (
+            "irv verify --cert c --depth 007",
+            "verify Strict 7 100000 'c'",
+        ),
+        (
+            "irv verify --cert c --depth +3",
+            "verify Strict 3 100000 'c'",
+        ),
+        ("irv verify --cert c --depth 3.0", "usage"),
+        ("irv verify --cert c --depth=", "usage"),
+        ("irv verify --cert c --conflicts 0", "verify Strict 4 0 'c'"),
+        ("irv verify --cert c --conflicts=-0", "usage"),
+        ("irv verify --cert c --conflicts 200001", "usage"),
+        (
+            "irv --columns=free --conflicts=200000 --depth=2 --cert=c verify",
+            "verify Free 2 200000 'c'",
+        ),
         ("irv replay", "usage"),
         ("irv replay --run", "usage"),
         ("irv replay --run r", "replay Strict 'r'"),
@@ -55,6 +105,26 @@ fn reads_lines(rt: HostRuntime) -> Result<(), Fail> {
         ("irv replay --run r --run s", "usage"),
         ("irv --run r -- replay", "replay Strict 'r'"),
         ("irv replay -- --run r", "usage"),
+        ("irv export", "usage"),
+        ("irv export --query hazard", "usage"),
+        ("irv export --number 0", "usage"),
+        (
+            "irv export --query hazard --number 0",
+            "export Strict Hazard 0",
+        ),
+        (
+            "irv export --query breach --number 0",
+            "export Strict Breach 0",
+        ),
+        ("irv export --query step --number 0", "usage"),
+        ("irv export --query step --number 1", "export Strict Step 1"),
+        ("irv export --query Step --number 1", "usage"),
+        ("irv export --query step --number 17", "usage"),
+        (
+            "irv export --query=step --number=16 --columns=free",
+            "export Free Step 16",
+        ),
+        ("irv export --query step --number 1 --depth 4", "usage"),
         ("irv prove", "usage"),
         ("irv --help", "usage"),
         ("irv check -h", "usage"),
@@ -71,13 +141,19 @@ fn names_files(rt: HostRuntime) -> Result<(), Fail> {
     let alloc = rt.alloc();
     let words = words_of(alloc, "irv check --run r")?;
     assert!(rt; names_of(alloc, &words)?.is_none());
-    for (line, want) in [("irv check", "none"), ("irv replay --run r", "r")] {
+    let lines = [
+        ("irv check", "none", "none"),
+        ("irv verify --cert c", "none", "c"),
+        ("irv replay --run r", "r", "none"),
+        ("irv export --query hazard --number 0", "none", "none"),
+    ];
+    for (line, read, written) in lines {
         let words = words_of(alloc, line)?;
         let names = names_of(alloc, &words)?.ok_or("a command")?;
         let extra = shown_name(alloc, names.extra)?;
         let cert = shown_name(alloc, names.cert)?;
-        assert_eq!(rt; extra.as_str(), want, "at {line}");
-        assert_eq!(rt; cert.as_str(), "none", "at {line}");
+        assert_eq!(rt; extra.as_str(), read, "at {line}");
+        assert_eq!(rt; cert.as_str(), written, "at {line}");
     }
     Ok(())
 }

@@ -1,0 +1,109 @@
+-- The numbers of options, and of the commands that have them.
+use Rattle.std.proofs.Common.{◌≡◌, ◌∙◌, ◌≤◌, ℕ, codes, Bool, true, false, ap, refl, sym, subst, List, Some, None, IfSome, zero, suc}
+use Rattle.std.specs.Prelude.{IsTrue, find, slice_get}
+use Rattle.std.specs.List.{list_any}
+use Rattle.std.specs.Str.{bytes_eq}
+use Rattle.std.specs.Fmt.{digits}
+use Rattle.std.specs.Str.Parse.{digits_value, without_leading_plus}
+use Rattle.std.proofs.lemmas.Bool.{le-leb}
+use Rattle.std.proofs.lemmas.Option.{cond_some, same_Some}
+use Rattle.clap.specs.ValueTests.{accepts}
+use Rattle.clap.specs.Words.{IsUnsignedIn}
+use Rattle.clap.specs.declared.builder.value_parser.ValueParser.{ValueParser}
+use Rattle.clap.proofs.ValueTestLemmas.{Accepts-accepts, accepts-Accepts}
+use Rattle.ilk_base.specs.Option.{◌>>=◌, only_if}
+use Rattle.ilk_base.proofs.Options.{IfSome-from, bind_some}
+use Rattle.ilk_base.proofs.Tested.{find-at}
+use Rattle.ilk_words.specs.Commands.{LineCommand, check_command, columns_of, commands, export_command, query_of, replay_command, verify_command}
+use Rattle.ilk_words.specs.Limits.{has_option_limits}
+use Rattle.ilk_words.specs.Options.{Line, LineOption, cert_option, conflicts_option, depth_option, number_between, number_of_option, number_of_value, number_option, run_option, value_of_option}
+use Rattle.ilk_words.specs.Words.{command_on, has_only, on_line}
+use Rattle.ilk_words.specs.declared.command.Command.{Command}
+use Rattle.ilk_words.specs.declared.command.Command.TheVariants.{Check, Verify, Replay, Export}
+use Rattle.ilk_words.specs.declared.limits.TheConstants.{DEFAULT_CONFLICTS, DEFAULT_DEPTH, MAX_CONFLICTS, MAX_DEPTH, MAX_NUMBER}
+
+-- ---- the number that a value writes
+
+pub number_read : (least most : ℕ) (value : List ℕ) → IsUnsignedIn least most value → Some (digits_value 10 (without_leading_plus value)) ≡ number_of_value (number_between least most) value
+number_read least most value h = rw (Accepts-accepts false (number_between least most) value h) refl
+
+pub no_number_read : (least most : ℕ) (value : List ℕ) → (IsUnsignedIn least most value → ⊥) → None ≡ number_of_value (number_between least most) value
+no_number_read least most value h = go (accepts false (number_between least most) value) refl
+  where
+    go : (b : Bool) → accepts false (number_between least most) value ≡ b → None ≡ only_if b (digits_value 10 (without_leading_plus value))
+    go true e = absurd (h (accepts-Accepts false (number_between least most) value e))
+    go false e = refl
+
+-- ---- the limits that a command keeps
+
+number_within : (least most : ℕ) (value : List ℕ) (n : ℕ) → number_of_value (number_between least most) value ≡ Some n → (least ≤ n) × (n ≤ most)
+number_within least most value n e =
+    let taken = cond_some (accepts false (number_between least most) value) (digits_value 10 (without_leading_plus value)) n e in
+    let within = accepts-Accepts false (number_between least most) value taken.0 in
+    subst (λ (x : ℕ). (least ≤ x) × (x ≤ most)) taken.1 (within.2, within.3)
+
+option_within : (line : Line) (o : LineOption) (least most n : ℕ) → o.values ≡ number_between least most → number_of_option line o ≡ Some n → (least ≤ n) × (n ≤ most)
+option_within line o least most n same e =
+    let value = bind_some (value_of_option line o) (number_of_value o.values) n e in
+    number_within least most value.0 n (sym (ap (λ (p : ValueParser). number_of_value p value.0) same) ∙ value.2)
+
+abbrev KeepsLimits : LineCommand → Type 0
+KeepsLimits c = (line : Line) (command : Command) → c.command line ≡ Some command → IsTrue (has_option_limits command)
+
+check_keeps : KeepsLimits check_command
+check_keeps line command e =
+    let columns = bind_some (columns_of line) _ command e in
+    subst (λ (x : Command). IsTrue (has_option_limits x)) (same_Some (Check columns.0) command columns.2) refl
+
+verify_keeps : KeepsLimits verify_command
+verify_keeps line command e =
+    let columns = bind_some (columns_of line) _ command e in
+    let depth = bind_some (number_of_option line depth_option) _ command columns.2 in
+    let conflicts = bind_some (number_of_option line conflicts_option) _ command depth.2 in
+    let cert = bind_some (value_of_option line cert_option) _ command conflicts.2 in
+    let deep = option_within line depth_option 1 MAX_DEPTH depth.0 refl depth.1 in
+    let spent = option_within line conflicts_option 0 MAX_CONFLICTS conflicts.0 refl conflicts.1 in
+    let limits : IsTrue (has_option_limits (Verify columns.0 depth.0 conflicts.0 cert.0)) = rw (le-leb 1 depth.0 deep.0, le-leb depth.0 MAX_DEPTH deep.1, le-leb conflicts.0 MAX_CONFLICTS spent.1) refl in
+    subst (λ (x : Command). IsTrue (has_option_limits x)) (same_Some _ _ cert.2) limits
+
+replay_keeps : KeepsLimits replay_command
+replay_keeps line command e =
+    let columns = bind_some (columns_of line) _ command e in
+    let run = bind_some (value_of_option line run_option) _ command columns.2 in
+    subst (λ (x : Command). IsTrue (has_option_limits x)) (same_Some (Replay columns.0 run.0) command run.2) refl
+
+export_keeps : KeepsLimits export_command
+export_keeps line command e =
+    let columns = bind_some (columns_of line) _ command e in
+    let query = bind_some (query_of line) _ command columns.2 in
+    let number = bind_some (number_of_option line number_option) _ command query.2 in
+    let asked = cond_some _ _ command number.2 in
+    let within = option_within line number_option 0 MAX_NUMBER number.0 refl number.1 in
+    let limits : IsTrue (has_option_limits (Export columns.0 query.0 number.0)) = rw (le-leb number.0 MAX_NUMBER within.1, asked.0) refl in
+    subst (λ (x : Command). IsTrue (has_option_limits x)) asked.1 limits
+
+keeps_limits : (i : ℕ) (c : LineCommand) → slice_get commands i ≡ Some c → KeepsLimits c
+keeps_limits zero c e = subst KeepsLimits (same_Some _ _ e) check_keeps
+keeps_limits (suc zero) c e = subst KeepsLimits (same_Some _ _ e) verify_keeps
+keeps_limits (suc (suc zero)) c e = subst KeepsLimits (same_Some _ _ e) replay_keeps
+keeps_limits (suc (suc (suc zero))) c e = subst KeepsLimits (same_Some _ _ e) export_keeps
+keeps_limits (suc (suc (suc (suc i)))) c e = cc
+
+-- the command that a line gives has the numbers that its options let through
+pub line_limits : (line : Line) → IfSome (command_on line) (λ (command : Command). IsTrue (has_option_limits command))
+line_limits line = IfSome-from (command_on line) (λ (command : Command). IsTrue (has_option_limits command)) (λ command e.
+    let name = bind_some (line (codes "command")) (λ name. find (λ (c : LineCommand). bytes_eq name c.name) commands >>= on_line line) command e in
+    let chosen = bind_some (find (λ (c : LineCommand). bytes_eq name.0 c.name) commands) (on_line line) command name.2 in
+    let place = find-at (λ (c : LineCommand). bytes_eq name.0 c.name) commands chosen.0 chosen.1 in
+    let taken = bind_some (only_if (has_only line (λ option. list_any (λ (o : LineOption). bytes_eq option o.name) chosen.0.options)) chosen.0) (λ c. chosen.0.command line) command chosen.2 in
+    keeps_limits place.0 chosen.0 place.1 line command taken.2)
+
+-- ---- the defaults
+
+pub depth_by_default : (line : Line) → line (codes "depth") ≡ None → Some DEFAULT_DEPTH ≡ number_of_option line depth_option
+unfolding digits
+depth_by_default line none = rw none refl
+
+pub conflicts_by_default : (line : Line) → line (codes "conflicts") ≡ None → Some DEFAULT_CONFLICTS ≡ number_of_option line conflicts_option
+unfolding digits
+conflicts_by_default line none = rw none refl
