@@ -1,5 +1,5 @@
 -- The plant of drafts that are asked in stages.
-use Rattle.std.proofs.Common.{◌≡◌, Option, None, IfOk, Result, Ok, Err, List, [], ◌∷◌, refl, sym, ap, ◌∙◌, subst}
+use Rattle.std.proofs.Common.{◌≡◌, None, IfOk, Result, Ok, Err, List, [], ◌∷◌, refl, sym, ap, ◌∙◌, subst}
 use Rattle.ilk_plant.specs.Plant.{PlantLists}
 use Rattle.ilk_plant.specs.declared.broken.Broken.{Broken}
 use Rattle.ilk_words.specs.declared.command.Columns.{Columns}

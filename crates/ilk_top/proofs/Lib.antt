@@ -1,2 +1,3 @@
 pub mod Ends
 pub mod Checked
+pub mod Written

@@ -1,5 +1,5 @@
 -- What is answered to a configuration, and to what is read beside it.
-use Rattle.std.specs.Prelude.{ℕ, ◌≡◌, ◌++◌, Bool, true, false, Option, Some, None, IfSome, Result, Ok, Err, List, [], ◌∷◌, length, flat_map, nat_lt, is_ok, option_and_then, option_map, if◌then◌else◌}
+use Rattle.std.specs.Prelude.{ℕ, ◌≡◌, ◌++◌, Bool, true, false, Option, Some, None, IfSome, Result, Ok, Err, List, [], ◌∷◌, length, flat_map, nat_lt, is_ok, option_map, if◌then◌else◌}
 use Rattle.ilk_plant.specs.Plant.{PlantLists}
 use Rattle.ilk_plant.specs.Draft.{numbered}
 use Rattle.ilk_plant.specs.declared.broken.Broken.{Broken}
@@ -18,7 +18,9 @@ use Rattle.ilk_replay.specs.declared.told.Tale.{Tale}
 use Rattle.ilk_replay.specs.declared.told.Tale.TheVariants.{Told as IsTold, Bad}
 use Rattle.ilk_words.specs.declared.command.Columns.{Columns}
 use Rattle.ilk_words.specs.declared.command.Command.{Command}
-use Rattle.ilk_words.specs.declared.command.Command.TheVariants.{Check, Replay}
+use Rattle.ilk_words.specs.declared.command.Command.TheVariants.{Check, Verify, Replay, Export}
+use Rattle.ilk_unroll.specs.declared.queries.Wanted.{Wanted}
+use Rattle.ilk_top.specs.Verdicts.{TellsFormula, TellsVerdict, wanted_query}
 use Rattle.ilk_top.specs.Report.{clean_line, hazard_line, no_hazard_line, not_a_run_line, rejected_line}
 use Rattle.ilk_top.specs.Stages.{rules_broken}
 use Rattle.ilk_top.specs.Refusal.{refusal_line}
@@ -30,8 +32,9 @@ use Rattle.ilk_top.specs.declared.status.Status.{Status}
 use Rattle.ilk_top.specs.declared.status.Status.TheVariants.{Good, Refused as IsRefused, Rejected, Usage}
 use Rattle.ilk_top.specs.declared.limits.TheConstants.{MAX_CONFIGURATION, MAX_RUN_TEXT}
 
+-- a reply without a certificate
 abbrev pub reply : Status → List ℕ → Reply
-reply status report = record { status = status; report = report }
+reply status report = record { status = status; report = report; certificate = [] }
 
 abbrev pub refused : Refusal → Reply
 refused refusal = reply IsRefused (refusal_line refusal)
@@ -85,41 +88,61 @@ abbrev pub run_reply : PlantLists → List ℕ → Reply
 run_reply p extra =
     if nat_lt MAX_RUN_TEXT (length extra) then refused (FormRefusal (broken F1 Extra)) else tale_reply p (tale_of p extra)
 
--- the first refusal, or the reply to the run text, where that is told
-abbrev pub replay_reply : Result PlantLists Refusals → Option (List ℕ) → Option Reply
-replay_reply (Err refusals) extra = Some (refused refusals.first)
-replay_reply (Ok p) extra = option_map (run_reply p) extra
+-- a reply is what is answered to a plant and to the run text, where that is told; else it names the first refusal
+abbrev pub AnswersReplay : Result PlantLists Refusals → Option (List ℕ) → Reply → Type 0
+AnswersReplay (Err refusals) extra made = made ≡ refused refusals.first
+AnswersReplay (Ok p) extra made = IfSome extra (λ x. made ≡ run_reply p x)
+
+-- a reply tells the verdict on a plant; else it names the first refusal
+abbrev pub AnswersVerify : ℕ → ℕ → Result PlantLists Refusals → Reply → Type 0
+AnswersVerify depth conflicts (Err refusals) made = made ≡ refused refusals.first
+AnswersVerify depth conflicts (Ok p) made = TellsVerdict p depth conflicts made
+
+-- a reply has the formula of a query over a plant; else it names the first refusal
+abbrev pub AnswersExport : Wanted → Result PlantLists Refusals → Reply → Type 0
+AnswersExport q (Err refusals) made = made ≡ refused refusals.first
+AnswersExport q (Ok p) made = TellsFormula p q made
+
+-- a reply is what a command answers to the plant, or to all that the configuration is refused with, and to what is read beside it, where that is told
+abbrev pub Answers : Command → Result PlantLists Refusals → Option (List ℕ) → Reply → Type 0
+Answers (Check columns) found extra made = made ≡ check_reply found
+Answers (Verify columns depth conflicts cert) found extra made = AnswersVerify depth conflicts found made
+Answers (Replay columns run) found extra made = AnswersReplay found extra made
+Answers (Export columns kind number) found extra made = AnswersExport (wanted_query kind number) found made
 
 -- whether a command asks the columns
 abbrev pub command_columns : Command → Columns
 command_columns (Check columns) = columns
+command_columns (Verify columns depth conflicts cert) = columns
 command_columns (Replay columns run) = columns
+command_columns (Export columns kind number) = columns
 
--- what a command replies to the plant, or to all that the configuration is refused with, and to what is read beside it, where that is told
-abbrev pub command_reply : Command → Result PlantLists Refusals → Option (List ℕ) → Option Reply
-command_reply (Check columns) found extra = Some (check_reply found)
-command_reply (Replay columns run) found extra = replay_reply found extra
+-- a reply is the answer to words that give this command, or none, and to a configuration, where that is told
+abbrev pub IsAnswer : Option Command → Option (List ℕ) → Option (List ℕ) → Reply → Type 0
+IsAnswer None conf extra made = made ≡ reply Usage []
+IsAnswer (Some command) conf extra made = IfSome conf (λ c. Answers command (plant_of (command_columns command) c) extra made)
 
 -- whether a command reads more than the configuration, once that gave a plant
 abbrev pub takes_extra : Command → Bool
 takes_extra (Check columns) = false
+takes_extra (Verify columns depth conflicts cert) = false
 takes_extra (Replay columns run) = true
+takes_extra (Export columns kind number) = false
 
--- what a command answers to the configuration and to what is read beside it, where it is told what the command reads
-abbrev pub command_answer : Command → Option (List ℕ) → Option (List ℕ) → Option Reply
-command_answer command conf extra = option_and_then (λ c. command_reply command (plant_of (command_columns command) c) extra) conf
+-- whether a command writes a certificate
+abbrev pub certifies : Command → Bool
+certifies (Check columns) = false
+certifies (Verify columns depth conflicts cert) = true
+certifies (Replay columns run) = false
+certifies (Export columns kind number) = false
 
--- what is answered where the words of the command line give this command, or none
-abbrev pub answer : Option Command → Option (List ℕ) → Option (List ℕ) → Option Reply
-answer None conf extra = Some (reply Usage [])
-answer (Some command) conf extra = command_answer command conf extra
+-- whether words that give this command, or none, lead to a certificate
+abbrev pub may_certify : Option Command → Bool
+may_certify None = false
+may_certify (Some command) = certifies command
 
 -- whether more is read than the configuration, where that can be told: by some commands, where there is a plant
 abbrev pub reads_extra : Option Command → Option (List ℕ) → Option Bool
 reads_extra None conf = Some false
 reads_extra (Some command) conf =
     if takes_extra command then option_map (λ c. is_ok (plant_of (command_columns command) c)) conf else Some false
-
--- this reply is the answer, where that is told
-abbrev pub IsKnownAs : Option Reply → Reply → Type 0
-IsKnownAs known made = IfSome known (λ a. made ≡ a)

@@ -1,5 +1,6 @@
 -- What a call did to the sources and sinks that it was handed.
-use Rattle.std.specs.Prelude.{◌≡◌, ◌≢◌, ℕ, ◌+◌, ◌≤◌, ◌⊎◌, Bool, true, false, IsTrue, Option, Some, IfSome, List}
+use Rattle.std.specs.Prelude.{◌≡◌, ◌≢◌, ℕ, ◌+◌, ◌≤◌, ◌⊎◌, Bool, true, false, IsTrue, Option, Some, List, []}
+use Rattle.ilk_io.specs.Faults.{RoseByOne}
 use Rattle.ilk_io.specs.Sink.{Adds, AddsPrefix}
 use Rattle.ilk_io.specs.Source.{IsAtEnd, IsLonger, TakesAtMost}
 use Rattle.ilk_top.specs.Status.{is_answer}
@@ -27,7 +28,27 @@ pub record RisesOnlyAt (fault : Type 0) (old new : ℕ) : Type 0 where
   pub counted : old ≤ new
   pub unraised : ¬ fault → new ≡ old
 
--- a sink that ended with this status gained the whole report of the answer, where that is told; after a write fault a prefix
-pub record Tells (known : Option Reply) (status : Status) (old new : Option (List ℕ)) : Type 0 where
-  pub whole : IfSome known (λ a. IsTrue (is_answer status) → (status ≡ a.status) × Adds old new a.report)
-  pub prefix : IfSome known (λ a. status ≡ WriteFault → AddsPrefix old new a.report)
+-- the whole reply was written: the certificate to the one sink, which is as it was where there is none, and the report to the other
+pub record IsWritten {L O : Type 0} (cert_written : L → Option (List ℕ)) (out_written : O → Option (List ℕ)) (made : Reply) (cert_old cert_new : L) (out_old out_new : O) : Type 0 where
+  pub certificate : Adds (cert_written cert_old) (cert_written cert_new) made.certificate
+  pub uncertified : made.certificate ≡ [] → cert_new ≡ cert_old
+  pub report : Adds (out_written out_old) (out_written out_new) made.report
+
+-- writing the certificate failed: its sink gained a prefix of it, and the sink of the report is as it was
+pub record IsCutInCertificate {L O : Type 0} (cert_written : L → Option (List ℕ)) (cert_faults : L → ℕ) (made : Reply) (cert_old cert_new : L) (out_old out_new : O) : Type 0 where
+  pub certificate : AddsPrefix (cert_written cert_old) (cert_written cert_new) made.certificate
+  pub fault : RoseByOne (cert_faults cert_old) (cert_faults cert_new)
+  pub report : out_new ≡ out_old
+
+-- writing the report failed: the certificate is whole, and the sink of the report gained a prefix of that
+pub record IsCutInReport {L O : Type 0} (cert_written : L → Option (List ℕ)) (cert_faults : L → ℕ) (out_written : O → Option (List ℕ)) (out_faults : O → ℕ) (made : Reply) (cert_old cert_new : L) (out_old out_new : O) : Type 0 where
+  pub certificate : Adds (cert_written cert_old) (cert_written cert_new) made.certificate
+  pub uncertified : made.certificate ≡ [] → cert_new ≡ cert_old
+  pub unfailed : cert_faults cert_new ≡ cert_faults cert_old
+  pub report : AddsPrefix (out_written out_old) (out_written out_new) made.report
+  pub fault : RoseByOne (out_faults out_old) (out_faults out_new)
+
+-- where a call ended with this status, the two sinks gained the whole of a reply that is an answer; after a write fault they gained it up to the fault
+pub record Tells {L O : Type 0} (IsAnswer : Reply → Type 0) (cert_written : L → Option (List ℕ)) (cert_faults : L → ℕ) (out_written : O → Option (List ℕ)) (out_faults : O → ℕ) (status : Status) (cert_old cert_new : L) (out_old out_new : O) : Type 0 where
+  pub whole : IsTrue (is_answer status) → (made : Reply) × IsAnswer made × (status ≡ made.status) × IsWritten cert_written out_written made cert_old cert_new out_old out_new
+  pub cut : status ≡ WriteFault → (made : Reply) × IsAnswer made × (IsCutInCertificate cert_written cert_faults made cert_old cert_new out_old out_new ⊎ IsCutInReport cert_written cert_faults out_written out_faults made cert_old cert_new out_old out_new)

@@ -28,8 +28,11 @@ pub fn check_reply(alloc: Global, found: &Result<Plant, Refusals>) -> Result<Rep
     match found {
         Ok(_) => {
             let line = String::from_str(alloc, "clean\n")?;
-            Ok(Reply::of(Status::Good, line))
+            Ok(Reply::of(alloc, Status::Good, line))
         }
-        Err(refusals) => Ok(Reply::of(Status::Refused, refusal_lines(alloc, refusals)?)),
+        Err(refusals) => {
+            let lines = refusal_lines(alloc, refusals)?;
+            Ok(Reply::of(alloc, Status::Refused, lines))
+        }
     }
 }

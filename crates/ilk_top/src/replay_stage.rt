@@ -1,6 +1,6 @@
-ghost use Rattle.std.specs.Prelude.{◌≡◌, IfOk, IfSome, IsTrue, Err, Some, is_ok};
+ghost use Rattle.std.specs.Prelude.{◌≡◌, [], IfOk, IfSome, IsTrue, Err, Some, is_ok};
 ghost use Rattle.ilk_io.specs.Faults.{RoseByOne};
-ghost use Rattle.ilk_top.specs.Answer.{IsKnownAs, replay_reply, run_reply, seen_reply, tale_reply};
+ghost use Rattle.ilk_top.specs.Answer.{AnswersReplay, run_reply, seen_reply, tale_reply};
 ghost use Rattle.ilk_top.specs.Outside.{ReadWhereNeeded, ReadWithin, RisesOnlyAt};
 ghost use Rattle.ilk_top.specs.Status.{is_reply};
 ghost use Rattle.ilk_replay.specs.Told.{tale_of};
@@ -18,25 +18,36 @@ use std::alloc::{AllocError, Global};
 // The reply to what a replay shows.
 fn seen_reply(alloc: Global, plant: &Plant, seen: Seen) -> Result<Reply, AllocError>
     ensures reply { IfOk result (λ made. made ≡ seen_reply plant.now seen) }
+    ensures certificate { IfOk result (λ made. made.certificate ≡ []) }
     ensures answer { IfOk result (λ made. IsTrue (is_reply made.status)) }
 {
     match seen {
-        Seen::NotARun { at } => Ok(Reply::of(Status::Rejected, not_a_run_line(alloc, at)?)),
+        Seen::NotARun { at } => {
+            let line = not_a_run_line(alloc, at)?;
+            Ok(Reply::of(alloc, Status::Rejected, line))
+        }
         Seen::NoHazard => {
             let line = String::from_str(alloc, "no hazard\n")?;
-            Ok(Reply::of(Status::Rejected, line))
+            Ok(Reply::of(alloc, Status::Rejected, line))
         }
-        Seen::Hazard(at) => Ok(Reply::of(Status::Good, hazard_line(alloc, plant, at)?)),
+        Seen::Hazard(at) => {
+            let line = hazard_line(alloc, plant, at)?;
+            Ok(Reply::of(alloc, Status::Good, line))
+        }
     }
 }
 
 // The reply to a run text.
 fn text_reply(alloc: Global, plant: &Plant, text: &[u8]) -> Result<Reply, AllocError>
     ensures reply { IfOk result (λ made. made ≡ tale_reply plant.now (tale_of plant.now text.now)) }
+    ensures certificate { IfOk result (λ made. made.certificate ≡ []) }
     ensures answer { IfOk result (λ made. IsTrue (is_reply made.status)) }
 {
     match read_run(alloc, plant, text)? {
-        Tale::Bad { line } => Ok(Reply::of(Status::Rejected, rejected_line(alloc, line)?)),
+        Tale::Bad { line } => {
+            let line = rejected_line(alloc, line)?;
+            Ok(Reply::of(alloc, Status::Rejected, line))
+        }
         Tale::Told(told) => {
             let seen = replay(alloc, plant, told.first, &told.events)?;
             seen_reply(alloc, plant, seen)
@@ -48,6 +59,7 @@ fn text_reply(alloc: Global, plant: &Plant, text: &[u8]) -> Result<Reply, AllocE
 // limit; ReadFault at the first fault of the source.
 fn run_reply<D: Source>(alloc: Global, plant: &Plant, extra: &mut D) -> Result<Reply, NoReply>
     ensures ok { IfOk result (λ made. IfSome (D.left extra.old) (λ x. made ≡ run_reply plant.now x)) }
+    ensures certificate { IfOk result (λ made. made.certificate ≡ []) }
     ensures answer { IfOk result (λ made. IsTrue (is_reply made.status)) }
     ensures fault { result ≡ Err NoReply.ReadFault → RoseByOne (D.faults extra.old) (D.faults extra.new) }
     ensures faults { RisesOnlyAt (result ≡ Err NoReply.ReadFault) (D.faults extra.old) (D.faults extra.new) }
@@ -74,7 +86,8 @@ pub fn replay_reply<D: Source>(
     found: &Result<Plant, Refusals>,
     extra: &mut D,
 ) -> Result<Reply, NoReply>
-    ensures ok { IfOk result (IsKnownAs (replay_reply found.now (D.left extra.old))) }
+    ensures ok { IfOk result (AnswersReplay found.now (D.left extra.old)) }
+    ensures certificate { IfOk result (λ made. made.certificate ≡ []) }
     ensures answer { IfOk result (λ made. IsTrue (is_reply made.status)) }
     ensures fault { result ≡ Err NoReply.ReadFault → RoseByOne (D.faults extra.old) (D.faults extra.new) }
     ensures faults { RisesOnlyAt (result ≡ Err NoReply.ReadFault) (D.faults extra.old) (D.faults extra.new) }

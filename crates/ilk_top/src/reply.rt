@@ -2,25 +2,28 @@ ghost use Rattle.std.specs.Prelude.{◌≡◌, IfOk, string_bytes};
 ghost use Rattle.ilk_top.specs.Answer.{refused, reply};
 
 use crate::refusal::refusal_line;
-use crate::{Refusal, Status};
-use ilk_plant::Text;
+use crate::{Content, Refusal, Status};
 use std::alloc::{AllocError, Global};
 
-/// What is answered: the status, which is that of no fault, and the report that is printed.
+/// What is answered: the status, which is that of no fault, the report that is printed, and the
+/// certificate that is written.
 #[derive(Drop)]
 pub struct Reply {
     pub status: Status,
-    pub report: Text,
+    pub report: Content,
+    /// Empty where there is none.
+    pub certificate: Content,
 }
 
 impl Reply {
-    /// The reply of this status and this report.
-    pub fn of(status: Status, report: String) -> Reply
+    /// The reply of this status and this report, without a certificate.
+    pub fn of(alloc: Global, status: Status, report: String) -> Reply
         ensures { result ≡ reply status (string_bytes report) }
     {
         Reply {
             status,
-            report: Text::of(report),
+            report: Content::of(report.into_bytes()),
+            certificate: Content::none(alloc),
         }
     }
 
@@ -28,6 +31,7 @@ impl Reply {
     pub fn refused(alloc: Global, refusal: Refusal) -> Result<Reply, AllocError>
         ensures { IfOk result (λ made. made ≡ refused refusal) }
     {
-        Ok(Reply::of(Status::Refused, refusal_line(alloc, refusal)?))
+        let line = refusal_line(alloc, refusal)?;
+        Ok(Reply::of(alloc, Status::Refused, line))
     }
 }

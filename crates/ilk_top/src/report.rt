@@ -1,6 +1,8 @@
 ghost use Rattle.std.specs.Prelude.{◌≡◌, IfOk, string_bytes};
-ghost use Rattle.ilk_top.specs.Report.{hazard_line, not_a_run_line, rejected_line, section_name};
+ghost use Rattle.ilk_top.specs.Report.{hazard_line, hazard_text, not_a_run_line, rejected_line, section_name, unsafe_line};
+ghost use Rattle.ilk_top.specs.Verdicts.{verdict_line};
 
+use ilk_engine::Verdict;
 use ilk_model::HazardAt;
 use ilk_plant::Plant;
 use std::alloc::{AllocError, Global};
@@ -17,19 +19,64 @@ fn section_name(plant: &Plant, x: u32) -> &str
     }
 }
 
-/// The line that names a hazard.
-pub fn hazard_line(alloc: Global, plant: &Plant, hazard: HazardAt) -> Result<String, AllocError>
-    ensures { IfOk result (λ line. string_bytes line ≡ hazard_line plant.now hazard) }
+// A hazard, by its kind and its section.
+fn hazard_text(alloc: Global, plant: &Plant, hazard: HazardAt) -> Result<String, AllocError>
+    ensures { IfOk result (λ text. string_bytes text ≡ hazard_text plant.now hazard) }
 {
     match hazard {
         HazardAt::Two(x) => {
             let name = section_name(plant, x);
-            format!(in alloc; "hazard two {name}\n")
+            format!(in alloc; "two {name}")
         }
         HazardAt::Wrong(x) => {
             let name = section_name(plant, x);
-            format!(in alloc; "hazard wrong {name}\n")
+            format!(in alloc; "wrong {name}")
         }
+    }
+}
+
+/// The line that names a hazard.
+pub fn hazard_line(alloc: Global, plant: &Plant, hazard: HazardAt) -> Result<String, AllocError>
+    ensures { IfOk result (λ line. string_bytes line ≡ hazard_line plant.now hazard) }
+{
+    let text = hazard_text(alloc, plant, hazard)?;
+    format!(in alloc; "hazard {text}\n")
+}
+
+// The line that tells an unsafe verdict, by a run of so many events to this hazard.
+fn unsafe_line(
+    alloc: Global,
+    plant: &Plant,
+    steps: u64,
+    hazard: HazardAt,
+) -> Result<String, AllocError>
+    ensures { IfOk result (λ line. string_bytes line ≡ unsafe_line plant.now steps hazard) }
+{
+    let text = hazard_text(alloc, plant, hazard)?;
+    format!(in alloc; "unsafe steps={steps} hazard={text}\n")
+}
+
+/// The line that tells a verdict, where so many conflicts were given to the searches.
+pub fn verdict_line(
+    alloc: Global,
+    plant: &Plant,
+    conflicts: u64,
+    verdict: &Verdict,
+) -> Result<String, AllocError>
+    ensures { IfOk result (λ line. string_bytes line ≡ verdict_line plant.now conflicts verdict.now) }
+{
+    match verdict {
+        Verdict::Safe { k } => format!(in alloc; "safe k={k}\n"),
+        Verdict::Unsafe { events, hazard } => unsafe_line(alloc, plant, events.len(), *hazard),
+        Verdict::Breach { events, family } => {
+            let steps = events.len();
+            format!(in alloc; "breach steps={steps} family=V{family}\n")
+        }
+        Verdict::NotInductive { events, .. } => {
+            let steps = events.len();
+            format!(in alloc; "not inductive steps={steps}\n")
+        }
+        Verdict::Spent => format!(in alloc; "spent conflicts={conflicts}\n"),
     }
 }
 

@@ -1,10 +1,18 @@
+//! What no clause says: that the answers come where memory is there, and the status of each fault.
+ghost use Rattle.std.specs.Prelude.{◌≡◌, ◌<◌, ◌≤◌, Some, IfOk, OnErr, OnOk, length, take};
+ghost use Rattle.ilk_io.specs.Faults.{RoseByOne};
+ghost use Rattle.ilk_io.specs.Sink.{Adds};
+
 use crate::{Status, run};
-use ilk_io::{MemSink, MemSource, SteadySink};
+use ilk_io::{Failed, MemSink, MemSource, Sink, SteadySink};
 use std::alloc::{AllocError, Global};
 use std::test::Fail;
 
 const TWO_SECTIONS: &str =
     r#"{"version":1,"sections":[{"name":"a","kind":"linear","down":null,"up":"b","board_down":null,"board_up":null},{"name":"b","kind":"linear","down":"a","up":null,"board_down":null,"board_up":null}],"routes":[]}"#;
+
+const LINE_WITH_BOARDS: &str =
+    r#"{"version":1,"sections":[{"name":"a","kind":"linear","down":null,"up":"b","board_down":null,"board_up":"m1"},{"name":"b","kind":"linear","down":"a","up":null,"board_down":"m2","board_up":null}],"routes":[{"name":"r1","source":"m1","destination":null,"path":["b"],"overlap":[],"points":[],"conflicts":[]},{"name":"r2","source":"m2","destination":null,"path":["a"],"overlap":[],"points":[],"conflicts":[]}]}"#;
 
 const TWO_TRAINS: &str = "run 1\nstart\nenter a\nenter b\nhead a\nend\n";
 
@@ -15,10 +23,16 @@ fn source(alloc: Global, text: &str, fails: u64) -> Result<MemSource, AllocError
     Ok(MemSource::new(bytes, fails))
 }
 
-// The words of the command line.
-fn words(alloc: Global) -> Result<Vec<String>, AllocError> {
+// A sink with room for so many bytes, whose call of this number fails.
+fn sink(alloc: Global, room: u64, fails: u64) -> Result<MemSink, AllocError> {
+    let fails = Vec::from_slice(alloc, &[fails])?;
+    MemSink::new(alloc, room, fails)
+}
+
+// The words of a command line.
+fn words(alloc: Global, line: &str) -> Result<Vec<String>, AllocError> {
     let mut words = Vec::new(alloc);
-    for word in ["irv", "replay", "--columns", "free", "--run", "r"] {
+    for word in line.split(' ') {
         words.push(String::from_str(alloc, word)?)?;
     }
     Ok(words)
@@ -27,11 +41,10 @@ fn words(alloc: Global) -> Result<Vec<String>, AllocError> {
 // The status of a replay in which these calls of the sources and of the sink fail, and whether
 // the whole report was written.
 fn replayed(alloc: Global, conf: u64, extra: u64, out: u64) -> Result<(Status, bool), AllocError> {
-    let words = words(alloc)?;
+    let words = words(alloc, "irv replay --columns free --run r")?;
     let mut conf = source(alloc, TWO_SECTIONS, conf)?;
     let mut extra = source(alloc, TWO_TRAINS, extra)?;
-    let fails = Vec::from_slice(alloc, &[out])?;
-    let mut out = MemSink::new(alloc, 100, fails)?;
+    let mut out = sink(alloc, 100, out)?;
     let mut cert = SteadySink::new();
     let status = run(alloc, &words, &mut conf, &mut extra, &mut out, &mut cert);
     Ok((status, out.bytes() == b"hazard two b\n".as_slice()))
@@ -50,6 +63,81 @@ fn faults_have_their_status(rt: HostRuntime) -> Result<(), Fail> {
         let (status, written) = replayed(rt.alloc(), conf, extra, out)?;
         assert_eq!(rt; status, wanted, "at {conf} {extra} {out}");
         assert_eq!(rt; written, whole, "at {conf} {extra} {out}");
+    }
+    Ok(())
+}
+
+// A sink that takes one byte a call.
+#[derive(Drop)]
+struct ByteSink {
+    sink: MemSink,
+}
+
+impl Sink for ByteSink {
+    ghost written = { λ s. Some s.sink.taken };
+
+    ghost faults = { λ s. s.sink.plan.faults };
+
+    fn write(&mut self, piece: &[u8]) -> Result<usize, Failed> {
+        match piece.first_chunk::<1>() {
+            Some(first) => self.sink.write(first),
+            None => self.sink.write(piece),
+        }
+    }
+}
+
+// What a verification leaves in which these calls of the source and of the sinks fail: its
+// status, how many bytes of the certificate were written, and how many of the report.
+fn verified(
+    alloc: Global,
+    conf: u64,
+    cert: u64,
+    out: u64,
+) -> Result<(Status, u64, u64), AllocError> {
+    let words = words(alloc, "irv verify --cert c")?;
+    let mut conf = source(alloc, LINE_WITH_BOARDS, conf)?;
+    let mut extra = source(alloc, "", 0)?;
+    let mut out = ByteSink {
+        sink: sink(alloc, 100, out)?,
+    };
+    let mut cert = ByteSink {
+        sink: sink(alloc, 100000, cert)?,
+    };
+    let status = run(alloc, &words, &mut conf, &mut extra, &mut out, &mut cert);
+    let certificate = cert.sink.bytes().len() as u64;
+    let report = out.sink.bytes();
+    let is_begun = b"safe k=1\n".starts_with(report);
+    Ok((
+        status,
+        certificate,
+        if is_begun { report.len() as u64 } else { 100 },
+    ))
+}
+
+#[test]
+fn verification_fails_at_each_call(rt: HostRuntime) -> Result<(), Fail> {
+    let (status, length, report) = verified(rt.alloc(), 0, 0, 0)?;
+    assert_eq!(rt; status, Status::Good);
+    assert_eq!(rt; report, 9);
+    for conf in 1..3 {
+        let left = verified(rt.alloc(), conf, 0, 0)?;
+        assert_eq!(rt; left, (Status::ReadFault, 0, 0), "at read {conf}");
+    }
+    for out in 1..10 {
+        let left = verified(rt.alloc(), 0, 0, out)?;
+        assert_eq!(rt;
+            left,
+            (Status::WriteFault, length, out - 1),
+            "at write {out}"
+        );
+    }
+    for cert in [1, 2, 3, 19, 20, 21, 100, length] {
+        let left = verified(rt.alloc(), 0, cert, 0)?;
+        assert_eq!(rt;
+            left,
+            (Status::WriteFault, cert.saturating_sub(1), 0),
+            "at byte {cert}"
+        );
     }
     Ok(())
 }

@@ -1,4 +1,5 @@
-//! `irv`: checks a configuration of an interlocking, and replays runs over it.
+//! `irv`: checks a configuration of an interlocking, decides whether it is safe, replays runs over it, and writes
+//! its formulas for other solvers.
 #![tactic(auto)]
 
 ghost use Rattle.std.specs.Prelude.{◌≡◌};
@@ -6,9 +7,9 @@ ghost use Rattle.std.specs.IoError.{error_kind};
 ghost use Rattle.std.specs.Option.{option_copied};
 ghost use Rattle.irv.specs.Edge.{complaint, unread_words};
 
-use ilk_io::{FileSource, StdSink, StdSource, SteadySink, SteadySource};
+use ilk_io::{FileSink, FileSource, Sink, StdSink, StdSource, SteadySink, SteadySource};
 use ilk_plant::Text;
-use ilk_top::{Status, names_of, run};
+use ilk_top::{FileNames, Status, names_of, run};
 use std::alloc::{AllocError, Global};
 use std::process::ExitCode;
 use std::{env, io};
@@ -34,21 +35,39 @@ fn status_of(error: &io::Error) -> Status
     }
 }
 
-// Runs over standard input and output, and the file of this name, if there is one.
-fn run_over(rt: &HostRuntime, words: &Vec<String>, extra: Option<Text>) -> Status {
+// Runs over standard input and output, the sink of the certificate, and the file of this name, if
+// there is one.
+fn run_over<L: Sink>(
+    rt: &HostRuntime,
+    words: &Vec<String>,
+    extra: Option<Text>,
+    cert: &mut L,
+) -> Status {
     let alloc: Global = rt.alloc();
     let mut conf = StdSource::new(rt.reader());
     let mut out = StdSink::new(io::writer(rt));
-    let mut cert = SteadySink::new();
     match extra {
         Some(name) => {
             let mut file = FileSource::new(rt, name.into_string());
-            run(alloc, words, &mut conf, &mut file, &mut out, &mut cert)
+            run(alloc, words, &mut conf, &mut file, &mut out, cert)
         }
         None => {
             let mut nothing = SteadySource::new(Vec::new(alloc));
-            run(alloc, words, &mut conf, &mut nothing, &mut out, &mut cert)
+            run(alloc, words, &mut conf, &mut nothing, &mut out, cert)
         }
+    }
+}
+
+// Runs over the files of these names. That of the certificate is made or emptied where there is
+// something to write to it, and not before.
+fn run_with(rt: &HostRuntime, words: &Vec<String>, names: FileNames) -> Status {
+    let FileNames { extra, cert } = names;
+    match cert {
+        Some(name) => {
+            let mut file = FileSink::new(rt, name.into_string());
+            run_over(rt, words, extra, &mut file)
+        }
+        None => run_over(rt, words, extra, &mut SteadySink::new()),
     }
 }
 
@@ -58,7 +77,7 @@ fn status(rt: &HostRuntime) -> Status {
         Err(status) => return status,
     };
     match names_of(rt.alloc(), &words) {
-        Ok(Some(names)) => run_over(rt, &words, names.extra),
+        Ok(Some(names)) => run_with(rt, &words, names),
         Ok(None) => Status::Usage,
         Err(_) => Status::OutOfMemory,
     }
