@@ -11,4 +11,5 @@ pub mod Learning
 pub mod LogsGrow
 pub mod Measure
 pub mod Covering
-pub mod Leading
+pub mod Trees
+pub mod Orders

@@ -7,3 +7,5 @@ pub mod Learned
 pub mod Answered
 pub mod Heaviest
 pub mod Heavier
+pub mod Tree
+pub mod Order

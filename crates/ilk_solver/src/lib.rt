@@ -13,15 +13,22 @@
 //! a learned clause is fresh, and why at most 3^n - 1 of them can be learned over n variables.
 //! Propagation goes along chains of watching clauses (`ilk_watches`), and how far it has come is kept
 //! beside the clauses.
+//!
+//! A decision asks for the heaviest unset variable. A view has a tree of winners among its unset
+//! variables (`specs/Tree`, `src/tree`), as in a knock-out tournament, and it stands at the top. A
+//! variable that is set stays in the tree until it comes to the top, and is put in again when its entry
+//! is taken off the trail (`src/order`), so that most entries don't touch the tree.
 #![tactic(auto)]
 
 mod answer;
 mod assigned;
 mod heavier;
+mod order;
 mod picker;
 mod restart;
 mod search;
 mod solver;
+mod tree;
 mod view;
 
 pub use answer::{Answer, Outcome};

@@ -10,9 +10,11 @@ ghost use Rattle.ilk_watches.specs.Propagated.{IsPropagated};
 ghost use Rattle.ilk_watches.specs.Watched.{IsQueue};
 ghost use Rattle.ilk_solver.specs.Assigned.{AllSet, SomeUnset};
 ghost use Rattle.ilk_solver.specs.Heaviest.{IsHeaviest};
+ghost use Rattle.ilk_solver.specs.Tree.{IsTree, leaves_of};
 ghost use Rattle.ilk_solver.specs.View.{IsView, weight_of, with_entries};
 
-use crate::heavier::heavier;
+use crate::order::{filled, put_above, settle};
+use crate::tree::count_one;
 use ilk_clauses::Clauses;
 use ilk_cnf::Lit;
 use ilk_trail::Trail;
@@ -26,17 +28,19 @@ use std::marker::Model;
 pub struct View {
     trail: Trail,
     weights: Vec<u64>,
+    // the tree of winners among the unset variables
+    tree: Vec<u64>,
 }
 
 impl Model for View {
-    ghost use Rattle.ilk_solver.specs.Heaviest.{IsHeaviest};
-    ghost use Rattle.ilk_solver.specs.View.{IsView, ViewLists};
+    ghost use Rattle.ilk_solver.specs.Order.{HoldsView};
+    ghost use Rattle.ilk_solver.specs.View.{ViewLists};
 
     ghost Value = { ViewLists };
 
     ghost view = { λ v. record { trail = v.trail; weights = v.weights.items } };
 
-    ghost invariant = { λ v. IsView (record { trail = v.trail; weights = v.weights.items }) };
+    ghost invariant = { λ v. HoldsView (record { trail = v.trail; weights = v.weights.items }) v.tree.items };
 }
 
 impl View {
@@ -47,9 +51,12 @@ impl View {
     {
         let trail = Trail::new(alloc, vars)?;
         let _ = trail.level();
+        let weights = vec![in alloc; 0; vars as usize]?;
+        let tree = filled(alloc, weights.as_slice())?;
         Ok(View {
             trail,
-            weights: vec![in alloc; 0; vars as usize]?,
+            weights,
+            tree,
         })
     }
 
@@ -88,25 +95,12 @@ impl View {
         ensures some { IfSome result (λ v. IsHeaviest self.now v) }
         ensures none { IfNone result (AllSet self.now) }
     {
-        match self.heaviest_by_scan() {
-            0 => None,
-            v => Some(v),
-        }
-    }
-
-    // The same by a look at each variable, where 0 stands for none.
-    fn heaviest_by_scan(&self) -> u64
-        ensures some { 0 < result → IsHeaviest self.now result }
-        ensures none { result ≡ 0 → AllSet self.now }
-    {
         let _ = self.vars();
-        let mut best = 0;
-        for v in 0..self.vars() {
-            if self.unset(v + 1) {
-                best = heavier(self.weights.as_slice(), best, v + 1);
-            }
+        let top = self.tree[1];
+        if top == 0 {
+            return None;
         }
-        best
+        Some(top)
     }
 
     // The trail.
@@ -139,6 +133,7 @@ impl View {
     {
         let found = queue.propagate(clauses, &mut self.trail);
         let _ = self.trail.level();
+        settle(&self.trail, &self.weights, &mut self.tree);
         found
     }
 
@@ -155,6 +150,7 @@ impl View {
     {
         queue.decide(clauses, &mut self.trail, l);
         let _ = self.trail.level();
+        settle(&self.trail, &self.weights, &mut self.tree);
     }
 
     // Takes off the levels above `level`.
@@ -163,8 +159,10 @@ impl View {
         ensures entries { self.new ≡ with_entries self.old (up_to level self.old.trail.entries) }
         ensures level { level_of self.new.trail.entries ≡ level }
     {
+        put_above(&self.trail, &self.weights, &mut self.tree, level);
         self.trail.back_to(level);
         let _ = self.trail.level();
+        settle(&self.trail, &self.weights, &mut self.tree);
     }
 
     // Counts a clause: the weight of each of its variables is 1 more.
@@ -175,18 +173,23 @@ impl View {
         ensures trail { self.new.trail ≡ self.old.trail }
         ensures weights { (v : ℕ) → 0 < v → weight_of self.new v ≡ weight_of self.old v + (if has_var v clause.now then 1 else 0) }
     {
-        count_in(self.weights.as_mut_slice(), clause);
+        count_in(&mut self.weights, &mut self.tree, clause);
+        settle(&self.trail, &self.weights, &mut self.tree);
     }
 }
 
-// Counts a clause: entry v - 1, that of variable v, is 1 more for each of its variables.
-fn count_in(weights: &mut [u64], clause: &[Lit])
+// Counts a clause: entry v - 1, that of variable v, is 1 more for each of its variables. The tree keeps
+// its leaves.
+fn count_in(weights: &mut [u64], tree: &mut [u64], clause: &[Lit])
     requires within { IsTrue (clause_in (length weights.old) clause.now) }
     requires differ { IsTrue (vars_differ clause.now) }
     requires room { (i : ℕ) → slice_index weights.old i + 1 < 2 ^ 64 }
-    ensures { (v : ℕ) → 0 < v → slice_index weights.new (v - 1) ≡ slice_index weights.old (v - 1) + (if has_var v clause.now then 1 else 0) }
+    requires tree { IsTree weights.old tree.old }
+    ensures weights { (v : ℕ) → 0 < v → slice_index weights.new (v - 1) ≡ slice_index weights.old (v - 1) + (if has_var v clause.now then 1 else 0) }
+    ensures tree { IsTree weights.new tree.new }
+    ensures leaves { leaves_of weights.new tree.new ≡ leaves_of weights.old tree.old }
 {
     for lit in clause {
-        weights[lit.var() as usize - 1] += 1;
+        count_one(weights, tree, lit.var());
     }
 }

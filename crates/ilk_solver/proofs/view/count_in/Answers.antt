@@ -10,18 +10,22 @@ use Rattle.ilk_solver.proofs.Weights.{counted-step, differ-drop}
 use Rattle.ilk_solver.proofs.view.count_in.Goals as goal
 
 pub loop-lit-preserved : goal.loop-lit-preserved
-loop-lit-preserved c = λ v from_1.
-    let w = c.loop-lit.weights in
-    let clause = c.args.clause.now in
-    let i = c.loop-lit.lit-index in
-    let l = c.lit-item.result in
-    let within : i < length clause = omega (arith, c.loop-lit-test.true) in
-    let rest = drop (i + 1) clause in
-    let next : drop i clause ≡ l ∷ rest = drop_at clause i l within c.lit-item.is in
-    let differ : vars_differ (l ∷ rest) ≡ true = ap vars_differ (sym next) ∙ differ-drop clause i c.requires.differ in
-    let stands : slice_get clause i ≡ Some l = slice_get-get_or clause i l within ∙ ap Some (sym c.lit-item.is) in
-    let var = lit_in-parts (length c.args.weights.now) l (list_all-slice_get (lit_in (length c.args.weights.now)) clause i l c.requires.within stands) in
-    let room : l.var - 1 < length w = omega (arith, var.0, var.1, c.loop-lit.auto.weights) in
-    let step = counted-step w v l rest differ from_1 var.0 room in
-    let kept = ap (λ (ls : List Literal). get_or w (v - 1) 0 + cond (has_var v ls) 1 0) (sym next) ∙ c.loop-lit.invariant v from_1 in
-    rw (c.var.ensures) (step ∙ kept)
+loop-lit-preserved c = record {
+  weights = λ v from_1.
+      (let w = c.loop-lit.weights in
+      let clause = c.args.clause.now in
+      let i = c.loop-lit.lit-index in
+      let l = c.lit-item.result in
+      let within : i < length clause = omega (arith, c.loop-lit-test.true) in
+      let rest = drop (i + 1) clause in
+      let next : drop i clause ≡ l ∷ rest = drop_at clause i l within c.lit-item.is in
+      let differ : vars_differ (l ∷ rest) ≡ true = ap vars_differ (sym next) ∙ differ-drop clause i c.requires.differ in
+      let stands : slice_get clause i ≡ Some l = slice_get-get_or clause i l within ∙ ap Some (sym c.lit-item.is) in
+      let var = lit_in-parts (length c.args.weights.now) l (list_all-slice_get (lit_in (length c.args.weights.now)) clause i l c.requires.within stands) in
+      let room : l.var - 1 < length w = omega (arith, var.0, var.1, c.loop-lit.auto.weights) in
+      let step = counted-step w v l rest differ from_1 var.0 room in
+      let kept = ap (λ (ls : List Literal). get_or w (v - 1) 0 + cond (has_var v ls) 1 0) (sym next) ∙ c.loop-lit.invariant.weights v from_1 in
+      rw (c.count_one.ensures.weights, c.var.ensures) (step ∙ kept));
+  tree = c.count_one.ensures.tree;
+  leaves = c.count_one.ensures.leaves ∙ c.loop-lit.invariant.leaves;
+}

@@ -9,7 +9,7 @@ use Rattle.ilk_solver.specs.Answered.{IsLog, IsSpent, none_empty}
 use Rattle.ilk_solver.specs.Search.{SearchLists, IsSearch}
 use Rattle.ilk_solver.proofs.Learning.{stuck}
 use Rattle.ilk_solver.proofs.LogsGrow.{log-ended, log-more, moved, none_empty-more, refuted, spent}
-use Rattle.ilk_solver.proofs.Measure.{decided-less, rounds_left}
+use Rattle.ilk_solver.proofs.Measure.{decided-less, learned-less, rounds_left}
 use Rattle.ilk_solver.proofs.SetVariables.{level-few}
 use Rattle.ilk_solver.proofs.solver.Solver.solve.Goals as goal
 
@@ -26,6 +26,18 @@ rounds-smaller-in-None g c =
     let up : level_of next.view.trail.entries ≡ level_of now.view.trail.entries + 1 = ap (λ (x : SearchLists). level_of x.view.trail.entries) c.decide.ensures ∙ last_level-push 0 now.view.trail.entries _ in
     let P : ℕ → Type 0 = λ m. rounds_left m c.args.budget c.rounds.steps (level_of next.view.trail.entries) < rounds_left n c.args.budget c.rounds.steps (level_of old.view.trail.entries) in
     subst P (sym vars) (decided-less n c.args.budget c.rounds.steps (level_of old.view.trail.entries) (level_of next.view.trail.entries) (omega (arith, few, level, same)) (omega (arith, up, level)))
+
+pub rounds-smaller : goal.rounds-smaller
+rounds-smaller g c =
+    let old = c.rounds.search in
+    let now = c.propagate.new.self in
+    let next = c.in_ok-search-in-Some.search in
+    let n = old.formula.vars in
+    let same = ap (λ (x : SearchLists). x.formula.vars) c.in-Some.ensures.same in
+    let vars : next.formula.vars ≡ n = ap (λ (f : Formula). f.vars) c.in_ok-search-in-Some.ensures.formula ∙ same in
+    let level = c.in-Some.ensures.propagated.level in
+    let P : ℕ → Type 0 = λ m. rounds_left m c.args.budget (c.rounds.steps + 1) (level_of next.view.trail.entries) < rounds_left n c.args.budget c.rounds.steps (level_of old.view.trail.entries) in
+    subst P (sym vars) (learned-less n c.args.budget c.rounds.steps (level_of old.view.trail.entries) (level_of next.view.trail.entries) (omega (arith, c.rounds.invariant.within, c.if-steps-budget.false)) (omega (arith, c.level.ensures.few, c.level.ensures.level, level, same)))
 
 pub returns-then-level-eq0-clause-log : goal.returns-then-level-eq0-clause-log
 returns-then-level-eq0-clause-log g c =

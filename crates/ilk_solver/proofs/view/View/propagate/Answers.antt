@@ -1,4 +1,8 @@
-use Rattle.std.proofs.Common.{ap, sym, ◌∙◌, subst}
+use Rattle.std.proofs.Common.{◌≡◌, ℕ, List, length, ap, sym, ◌∙◌, subst, arith}
+use Rattle.ilk_arena.proofs.Readings.{written}
+use Rattle.ilk_trail.specs.Trail.{TrailList}
+use Rattle.ilk_solver.specs.Order.{HoldsView}
+use Rattle.ilk_solver.proofs.Orders.{holds-longer}
 use Rattle.ilk_watches.specs.Propagated.{IsPropagated}
 use Rattle.ilk_watches.specs.Watched.{IsQueue}
 use Rattle.ilk_solver.specs.View.{ViewLists}
@@ -16,3 +20,15 @@ pub returns-clause-propagated : goal.returns-clause-propagated
 returns-clause-propagated c =
     let P : ViewLists → Type 0 = λ v. IsPropagated c.args.clauses.now.clauses v.trail.entries c.propagate-found.new.trail.entries in
     subst P c.self.view_is c.propagate-found.ensures.propagated
+
+pub invariant_of-self : goal.invariant_of-self
+invariant_of-self c =
+    let s = c.self.inside in
+    let now = c.propagate-found.new.trail in
+    let view : ViewLists = record { trail = s.trail; weights = s.weights.items } in
+    let t = c.settle.new.tree in
+    let n : length t ≡ s.tree.len = omega (arith, c.settle.auto.tree, c.deref_mut.ensures.len) in
+    let won = rw c.deref.ensures.value at c.settle.ensures.tree in
+    let kept = rw (c.deref.ensures.value, c.deref_mut.ensures.value) at c.settle.ensures.kept in
+    let P : List ℕ → Type 0 = HoldsView (record { trail = now; weights = s.weights.items }) in
+    subst P (sym (written s.tree.len t s.tree.items n)) (holds-longer view now s.tree.items t c.self.invariant c.level.ensures.is_trail (ap (λ (x : TrailList). x.vars) c.propagate-found.ensures.trail) c.propagate-found.ensures.propagated.kept won kept c.settle.ensures.settled)

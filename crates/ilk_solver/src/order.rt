@@ -1,0 +1,67 @@
+ghost use Rattle.std.specs.Prelude.{◌≡◌, ◌⊎◌, ◌≤◌, ◌<◌, ◌^◌, ℕ, true, false, length, IfOk};
+ghost use Rattle.ilk_trail.specs.Laws.{is_set};
+ghost use Rattle.ilk_solver.specs.Order.{HasAbove, IsSettled, KeepsUnset};
+ghost use Rattle.ilk_solver.specs.Tree.{IsTree, KeepsLeaves, StandsIn};
+
+use crate::tree::write_leaf;
+use ilk_cnf::Lit;
+use ilk_trail::Trail;
+use std::alloc::{AllocError, Global};
+
+// A tree with each variable.
+pub fn filled(alloc: Global, weights: &[u64]) -> Result<Vec<u64>, AllocError>
+    requires { length weights.now ≤ 2 ^ 62 }
+    ensures tree { IfOk result (λ tree. IsTree weights.now tree.items) }
+    ensures each { IfOk result (λ tree. (v : ℕ) → 0 < v → v ≤ length weights.now → StandsIn weights.now tree.items v) }
+{
+    let mut tree = vec![in alloc; 0; 2 * weights.len() + 2]?;
+    for v in 0..weights.len() as u64 {
+        write_leaf(weights, tree.as_mut_slice(), v + 1, v + 1);
+    }
+    Ok(tree)
+}
+
+// Whether `v` is a variable, and set.
+fn is_past(trail: &Trail, v: u64) -> bool
+    requires { v ≤ trail.now.vars }
+    ensures variable { result ≡ true → 0 < v }
+    ensures yes { result ≡ true → is_set trail.now.entries v ≡ true }
+    ensures no { result ≡ false → (v ≡ 0) ⊎ (is_set trail.now.entries v ≡ false) }
+{
+    let _ = trail.level();
+    v != 0 && trail.value(Lit::new(v, true)).is_some()
+}
+
+// Takes set variables off the top.
+pub fn settle(trail: &Trail, weights: &[u64], tree: &mut [u64])
+    requires vars { trail.now.vars ≡ length weights.now }
+    requires tree { IsTree weights.now tree.old }
+    ensures tree { IsTree weights.now tree.new }
+    ensures kept { KeepsUnset trail.now.entries weights.now tree.old tree.new }
+    ensures settled { IsSettled trail.now.entries tree.new }
+{
+    'tops: while is_past(trail, tree[1]) {
+        let top = tree[1];
+        write_leaf(weights, tree, top, 0);
+    }
+}
+
+// Puts the variables of the entries above `level` in.
+pub fn put_above(trail: &Trail, weights: &[u64], tree: &mut [u64], level: u64)
+    requires vars { trail.now.vars ≡ length weights.now }
+    requires tree { IsTree weights.now tree.old }
+    ensures tree { IsTree weights.now tree.new }
+    ensures kept { KeepsLeaves weights.now tree.old tree.new }
+    ensures above { HasAbove trail.now.entries level weights.now tree.new }
+{
+    let mut i = trail.count();
+    'entries: while i > 0 {
+        let lit = trail.at(i - 1);
+        if trail.level_of(lit) <= level {
+            return;
+        }
+        let v = lit.var();
+        write_leaf(weights, tree, v, v);
+        i -= 1;
+    }
+}
