@@ -99,7 +99,17 @@ fn analysed(
         None => Lits::new(alloc),
     };
     let hints = turned(alloc, &hand.hints)?;
-    Ok(Step { clause, hints })
+    fitted(alloc, &clause, &hints)
+}
+
+// The step in memory of just its size: a search keeps many of them.
+fn fitted(alloc: Global, clause: &Lits, hints: &Hints) -> Result<Step, AllocError>
+    ensures { IfOk result (λ s. s ≡ record { clause = clause.now; hints = hints.now }) }
+{
+    Ok(Step {
+        clause: clause.copy(alloc)?,
+        hints: hints.copy(alloc)?,
+    })
 }
 
 // Clause `conflict` in hand.
