@@ -30,6 +30,9 @@ pub fn write_leaf(weights: &[u64], tree: &mut [u64], v: u64, entry: u64)
     ensures leaves { leaves_of weights.now tree.new ≡ slice_set (leaves_of weights.now tree.old) v entry }
 {
     let leaf = weights.len() + 1 + v as usize;
+    if tree[leaf] == entry {
+        return;
+    }
     tree[leaf] = entry;
     replay(weights, tree, leaf as u64 / 2);
 }
