@@ -20,7 +20,7 @@ use Rattle.ilk_words.specs.Options.{Line, LineOption, cert_option, conflicts_opt
 use Rattle.ilk_words.specs.Words.{command_on, has_only, on_line}
 use Rattle.ilk_words.specs.declared.command.Command.{Command}
 use Rattle.ilk_words.specs.declared.command.Command.TheVariants.{Check, Verify, Replay, Export}
-use Rattle.ilk_words.specs.declared.limits.TheConstants.{DEFAULT_CONFLICTS, DEFAULT_DEPTH, MAX_CONFLICTS, MAX_DEPTH, MAX_NUMBER}
+use Rattle.ilk_words.specs.declared.limits.TheConstants.{DEFAULT_SEARCH_CONFLICTS, DEFAULT_DEPTH, MAX_SEARCH_CONFLICTS, MAX_DEPTH, MAX_NUMBER}
 
 -- ---- the number that a value writes
 
@@ -62,8 +62,8 @@ verify_keeps line command e =
     let conflicts = bind_some (number_of_option line conflicts_option) _ command depth.2 in
     let cert = bind_some (value_of_option line cert_option) _ command conflicts.2 in
     let deep = option_within line depth_option 1 MAX_DEPTH depth.0 refl depth.1 in
-    let spent = option_within line conflicts_option 0 MAX_CONFLICTS conflicts.0 refl conflicts.1 in
-    let limits : IsTrue (has_option_limits (Verify columns.0 depth.0 conflicts.0 cert.0)) = rw (le-leb 1 depth.0 deep.0, le-leb depth.0 MAX_DEPTH deep.1, le-leb conflicts.0 MAX_CONFLICTS spent.1) refl in
+    let spent = option_within line conflicts_option 0 MAX_SEARCH_CONFLICTS conflicts.0 refl conflicts.1 in
+    let limits : IsTrue (has_option_limits (Verify columns.0 depth.0 conflicts.0 cert.0)) = rw (le-leb 1 depth.0 deep.0, le-leb depth.0 MAX_DEPTH deep.1, le-leb conflicts.0 MAX_SEARCH_CONFLICTS spent.1) refl in
     subst (λ (x : Command). IsTrue (has_option_limits x)) (same_Some _ _ cert.2) limits
 
 replay_keeps : KeepsLimits replay_command
@@ -104,6 +104,6 @@ pub depth_by_default : (line : Line) → line (codes "depth") ≡ None → Some 
 unfolding digits
 depth_by_default line none = rw none refl
 
-pub conflicts_by_default : (line : Line) → line (codes "conflicts") ≡ None → Some DEFAULT_CONFLICTS ≡ number_of_option line conflicts_option
+pub conflicts_by_default : (line : Line) → line (codes "conflicts") ≡ None → Some DEFAULT_SEARCH_CONFLICTS ≡ number_of_option line conflicts_option
 unfolding digits
 conflicts_by_default line none = rw none refl

@@ -12,7 +12,7 @@ use Rattle.ilk_base.specs.Option.{◌>>=◌, only_if}
 use Rattle.ilk_words.specs.Columns.{all_columns, columns_word}
 use Rattle.ilk_words.specs.Queries.{all_queries, query_word}
 use Rattle.ilk_words.specs.declared.command.Columns.TheVariants.{Strict}
-use Rattle.ilk_words.specs.declared.limits.TheConstants.{DEFAULT_CONFLICTS, DEFAULT_DEPTH, MAX_CONFLICTS, MAX_DEPTH, MAX_NUMBER}
+use Rattle.ilk_words.specs.declared.limits.TheConstants.{DEFAULT_SEARCH_CONFLICTS, DEFAULT_DEPTH, MAX_SEARCH_CONFLICTS, MAX_DEPTH, MAX_NUMBER}
 
 -- a reference, as `clap` holds texts; where a text lies makes no difference to what `clap` reads
 abbrev pub held : {X : Type 0} → X → Bor X
@@ -54,8 +54,8 @@ depth_option = record {
 abbrev pub conflicts_option : LineOption
 conflicts_option = record {
   name = codes "conflicts";
-  values = number_between 0 MAX_CONFLICTS;
-  default = Some (decimal DEFAULT_CONFLICTS);
+  values = number_between 0 MAX_SEARCH_CONFLICTS;
+  default = Some (decimal DEFAULT_SEARCH_CONFLICTS);
 }
 
 abbrev pub cert_option : LineOption

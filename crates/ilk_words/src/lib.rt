@@ -15,7 +15,9 @@ mod read;
 
 pub use command::{Columns, Command, QueryKind};
 pub use files::{FileNames, names_of};
-pub use limits::{DEFAULT_CONFLICTS, DEFAULT_DEPTH, MAX_CONFLICTS, MAX_DEPTH, MAX_NUMBER};
+pub use limits::{
+    DEFAULT_DEPTH, DEFAULT_SEARCH_CONFLICTS, MAX_DEPTH, MAX_NUMBER, MAX_SEARCH_CONFLICTS,
+};
 pub use read::read_words;
 
 #[cfg(test)]

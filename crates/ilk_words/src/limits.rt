@@ -8,10 +8,10 @@ pub const MAX_DEPTH: u64 = 16;
 pub const DEFAULT_DEPTH: u64 = 4;
 
 /// The most conflicts that the searches of `verify` may be let take together.
-pub const MAX_CONFLICTS: u64 = 200000;
+pub const MAX_SEARCH_CONFLICTS: u64 = 200000;
 
 /// The most that they take, where the line doesn't say.
-pub const DEFAULT_CONFLICTS: u64 = 100000;
+pub const DEFAULT_SEARCH_CONFLICTS: u64 = 100000;
 
 /// The most events of the runs that an exported query asks for.
 pub const MAX_NUMBER: u64 = 16;

@@ -7,7 +7,7 @@ ghost use Rattle.ilk_words.specs.Options.{columns_option, query_option};
 ghost use Rattle.ilk_words.specs.Places.{moved_app, moved_rule, with_held_texts};
 
 use crate::command::{COLUMNS_WORDS, QUERY_WORDS};
-use crate::{MAX_CONFLICTS, MAX_DEPTH, MAX_NUMBER};
+use crate::{MAX_DEPTH, MAX_NUMBER, MAX_SEARCH_CONFLICTS};
 use clap::builder::ValueParser;
 use clap::{Arg, ArgAction};
 use std::alloc::{AllocError, Global};
@@ -47,7 +47,11 @@ pub(crate) fn line_command<'a>(alloc: Global) -> Result<clap::Command<'a>, Alloc
         .arg(command_argument(alloc))?
         .arg(option_argument(alloc, COLUMNS, columns_values()))?
         .arg(option_argument(alloc, DEPTH, ValueParser::unsigned(1, MAX_DEPTH)))?
-        .arg(option_argument(alloc, CONFLICTS, ValueParser::unsigned(0, MAX_CONFLICTS)))?
+        .arg(option_argument(
+            alloc,
+            CONFLICTS,
+            ValueParser::unsigned(0, MAX_SEARCH_CONFLICTS),
+        ))?
         .arg(option_argument(alloc, CERT, ValueParser::string()))?
         .arg(option_argument(alloc, RUN, ValueParser::string()))?
         .arg(option_argument(alloc, QUERY, query_values()))?

@@ -17,8 +17,8 @@ use crate::line::{
 };
 use crate::number::number_between;
 use crate::{
-    Columns, Command, DEFAULT_CONFLICTS, DEFAULT_DEPTH, MAX_CONFLICTS, MAX_DEPTH, MAX_NUMBER,
-    QueryKind,
+    Columns, Command, DEFAULT_DEPTH, DEFAULT_SEARCH_CONFLICTS, MAX_DEPTH, MAX_NUMBER,
+    MAX_SEARCH_CONFLICTS, QueryKind,
 };
 use clap::ArgMatches;
 use clap::error::ErrorKind;
@@ -176,8 +176,8 @@ fn conflicts(matches: &ArgMatches<'_>) -> Option<u64>
     ensures { result ≡ number_of_option (first_value (found_of matches.now)) conflicts_option }
 {
     match matches.get_str(CONFLICTS) {
-        Some(value) => number_between(value, 0, MAX_CONFLICTS),
-        None => Some(DEFAULT_CONFLICTS),
+        Some(value) => number_between(value, 0, MAX_SEARCH_CONFLICTS),
+        None => Some(DEFAULT_SEARCH_CONFLICTS),
     }
 }
 
