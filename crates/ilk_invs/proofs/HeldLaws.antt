@@ -1,16 +1,19 @@
 -- Which sections a route holds, and how far its path is seen and released, by the image of a state.
-use Rattle.std.proofs.Common.{◌≡◌, ℕ, ◌+◌, ◌==◌, Bool, true, false, ◌&&◌, ◌||◌, Some, [], ◌∷◌, map, nat_le, nat_lt, slice_get, refl, sym, ◌∙◌, ap, arith}
-use Rattle.std.proofs.Math.Bool.{and-true, or-false}
+use Rattle.std.proofs.Common.{◌≡◌, ℕ, zero, suc, ◌+◌, ◌-◌, ◌<◌, ◌≤◌, ◌==◌, Bool, true, false, ◌&&◌, ◌||◌, Some, List, [], ◌∷◌, drop, inl, inr, length, map, nat_le, nat_lt, not, slice_get, refl, sym, ◌∙◌, ap, arith}
+use Rattle.std.proofs.Math.Bool.{and-true, or-false, or-true}
 use Rattle.std.specs.Prelude.{if◌then◌else◌}
-use Rattle.std.specs.List.{range_with_len}
+use Rattle.std.specs.List.{enumerate_from, flat_map, list_all, list_any, range_with_len}
+use Rattle.std.proofs.lemmas.Bool.{cases_lt}
 use Rattle.std.proofs.lemmas.Bool.Decides.{nat_tests}
-use Rattle.ilk_base.proofs.ListTests.{list_any-alike}
+use Rattle.ilk_base.proofs.ListTests.{list_all-alike, list_all-flat_map, list_any-alike}
 use Rattle.ilk_base.proofs.Tested.{list_any-map}
-use Rattle.ilk_ir.specs.Tree.{tree_holds}
+use Rattle.ilk_ir.specs.Tree.{negation, tree_holds}
 use Rattle.ilk_plant.specs.Network.{has_section}
 use Rattle.ilk_plant.specs.Plant.{PlantLists}
 use Rattle.ilk_plant.specs.Shape.{HasShape}
-use Rattle.ilk_plant.specs.declared.state.Mode.TheVariants.{Allocating, Locked, Occupied}
+use Rattle.ilk_plant.proofs.Shapes.{fits_path-counts}
+use Rattle.ilk_plant.specs.declared.state.Mode.{Mode}
+use Rattle.ilk_plant.specs.declared.state.Mode.TheVariants.{Allocating, Free, Locked, Marked, Occupied}
 use Rattle.ilk_plant.specs.declared.state.RouteState.{RouteState}
 use Rattle.ilk_plant.specs.declared.state.State.{State}
 use Rattle.ilk_plant.specs.declared.table.Route.{Route}
@@ -21,12 +24,61 @@ use Rattle.ilk_layout.specs.Image.{image_of}
 use Rattle.ilk_conditions.specs.Conditions.{rel_is, seen_is}
 use Rattle.ilk_conditions.proofs.Values.{mode-holds, rel-holds, seen-holds}
 use Rattle.ilk_invs.specs.Held.{holding_section, is_holding, kept_on_path, locked_or_occupied, rel_below, seen_below}
-use Rattle.ilk_invs.specs.Parts.{of_each_place}
-use Rattle.ilk_invs.proofs.PartLaws.{any-if, some-place, some_of-holds}
+use Rattle.ilk_invs.proofs.PartLaws.{each_of-holds, some_of-holds}
 use Rattle.ilk_invs.proofs.Tests.{counted-below}
 
 pub below-next : (c i : ℕ) → nat_lt c (i + 1) ≡ nat_le c i
 below-next c i = grind (arith, nat_tests)
+
+-- the places from k on, of a list that is numbered from n on
+rest-has : (k n x : ℕ) (path : List ℕ) → list_any (λ place. nat_le k place.0 && (place.1 == x)) (enumerate_from n path) ≡ has_section x (drop (k - n) path)
+rest-has k n x [] = nothing (k - n)
+  where
+    nothing : (m : ℕ) → false ≡ has_section x (drop m [])
+    nothing zero = refl
+    nothing (suc m) = refl
+rest-has k n x (y ∷ ys) = elim (cases_lt n k) [
+  | inl before ↦
+      (let early : nat_le k n ≡ false = grind (arith, nat_tests) in
+      let further : k - n ≡ suc (k - (n + 1)) = omega arith in
+      ap (λ b. (b && (y == x)) || list_any (λ place. nat_le k place.0 && (place.1 == x)) (enumerate_from (n + 1) ys)) early
+      ∙ rest-has k (n + 1) x ys
+      ∙ sym (ap (λ m. has_section x (drop m (y ∷ ys))) further))
+  | inr here ↦
+      (let late : nat_le k n ≡ true = grind (arith, nat_tests) in
+      let none : k - n ≡ 0 = omega arith in
+      let next : k - (n + 1) ≡ 0 = omega arith in
+      ap (λ b. (b && (y == x)) || list_any (λ place. nat_le k place.0 && (place.1 == x)) (enumerate_from (n + 1) ys)) late
+      ∙ ap (λ b. (y == x) || b) (rest-has k (n + 1) x ys ∙ ap (λ m. has_section x (drop m ys)) next)
+      ∙ sym (ap (λ m. has_section x (drop m (y ∷ ys))) none))
+]
+
+-- of the numbers from n on only k matters, if it is among them
+past-it : (h : ℕ → Bool) (k n count : ℕ) → k < n → list_all (λ c. h c || not (k == c)) (range_with_len n count) ≡ true
+past-it h k n zero less = refl
+past-it h k n (suc count) less =
+    let other : (k == n) ≡ false = grind (arith, nat_tests) in
+    ap (λ b. (h n || not b) && list_all (λ c. h c || not (k == c)) (range_with_len (n + 1) count)) other
+    ∙ ap (λ b. b && list_all (λ c. h c || not (k == c)) (range_with_len (n + 1) count)) (or-true (h n))
+    ∙ past-it h k (n + 1) count (omega arith)
+
+only-at : (h : ℕ → Bool) (k n count : ℕ) → n ≤ k → k < n + count → list_all (λ c. h c || not (k == c)) (range_with_len n count) ≡ h k
+only-at h k n zero low less = absurd (omega arith)
+only-at h k n (suc count) low less = elim (cases_lt n k) [
+  | inl before ↦
+      (let other : (k == n) ≡ false = grind (arith, nat_tests) in
+      ap (λ b. (h n || not b) && list_all (λ c. h c || not (k == c)) (range_with_len (n + 1) count)) other
+      ∙ ap (λ b. b && list_all (λ c. h c || not (k == c)) (range_with_len (n + 1) count)) (or-true (h n))
+      ∙ only-at h k (n + 1) count (omega arith) (omega arith))
+  | inr here ↦
+      (let is : k ≡ n = omega arith in
+      let same : (k == n) ≡ true = grind (arith, nat_tests) in
+      ap (λ b. (h n || not b) && list_all (λ c. h c || not (k == c)) (range_with_len (n + 1) count)) same
+      ∙ ap (λ b. (h n || false) && b) (past-it h k (n + 1) count (omega arith))
+      ∙ and-true (h n || false)
+      ∙ or-false (h n)
+      ∙ ap h (sym is))
+]
 
 module _ (p : PlantLists) (s : State) (shape : HasShape p s) where
   pub seen_below-holds : (r : ℕ) (now : RouteState) (k : ℕ) → slice_get s.routes r ≡ Some now → tree_holds (image_of p s) (seen_below r k) ≡ nat_lt now.seen k
@@ -51,31 +103,41 @@ module _ (p : PlantLists) (s : State) (shape : HasShape p s) where
 
   pub is_holding-holds : (r : ℕ) (now : RouteState) → slice_get s.routes r ≡ Some now → tree_holds (image_of p s) (is_holding r) ≡ holds_sections now
   is_holding-holds r now at =
-      let one = mode-holds p s shape r now Allocating at in
-      let two = mode-holds p s shape r now Locked at in
-      let three = mode-holds p s shape r now Occupied at in
-      rw (one, two, three) (ap (λ b. same_mode now.mode Allocating || (same_mode now.mode Locked || b)) (or-false (same_mode now.mode Occupied)))
-
-  pub kept_on_path-holds : (r : ℕ) (route : Route) (now : RouteState) (x : ℕ) → slice_get s.routes r ≡ Some now → tree_holds (image_of p s) (kept_on_path r route x) ≡ is_kept_on_path route now x
-  kept_on_path-holds r route now x at =
-      some_of-holds (image_of p s) (of_each_place route (λ i y. if y == x then rel_below r (i + 1) ∷ [] else []))
-      ∙ some-place (image_of p s) route (λ i y. if y == x then rel_below r (i + 1) ∷ [] else []) (λ i y. nat_le now.rel i && (y == x)) (λ i y place.
-      any-if (image_of p s) (rel_below r (i + 1)) (y == x)
-      ∙ ap (λ b. (y == x) && b) (rel_below-holds r now (i + 1) at ∙ below-next now.rel i)
-      ∙ turned (y == x) (nat_le now.rel i))
+      let one = mode-holds p s shape r now Free at in
+      let two = mode-holds p s shape r now Marked at in
+      rw (one, two) (neither now.mode)
     where
-      turned : (a b : Bool) → (a && b) ≡ (b && a)
-      turned true true = refl
-      turned true false = refl
-      turned false true = refl
-      turned false false = refl
+      neither : (m : Mode) → (not (same_mode m Free) && (not (same_mode m Marked) && true)) ≡ (same_mode m Allocating || (same_mode m Locked || same_mode m Occupied))
+      neither Free = refl
+      neither Marked = refl
+      neither Allocating = refl
+      neither Locked = refl
+      neither Occupied = refl
 
-  pub holding_section-holds : (r : ℕ) (route : Route) (now : RouteState) (x : ℕ) → slice_get s.routes r ≡ Some now → tree_holds (image_of p s) (holding_section r route x) ≡ holds_section x route now
-  holding_section-holds r route now x at = by_test (has_section x (sections_beside route)) refl
+  pub kept_on_path-holds : (r : ℕ) (route : Route) (now : RouteState) (x : ℕ) → slice_get p.routes r ≡ Some route → slice_get s.routes r ≡ Some now → tree_holds (image_of p s) (kept_on_path r route x) ≡ is_kept_on_path route now x
+  kept_on_path-holds r route now x known at =
+      let few : now.rel ≤ length route.path = (fits_path-counts route now (shape.counts r route now known at)).1 in
+      let counts = range_with_len 0 (length route.path + 1) in
+      each_of-holds (image_of p s) (flat_map (λ c. if rest c then [] else negation (rel_is r c) ∷ []) counts)
+      ∙ list_all-flat_map (tree_holds (image_of p s)) (λ c. if rest c then [] else negation (rel_is r c) ∷ []) counts
+      ∙ list_all-alike (λ c. list_all (tree_holds (image_of p s)) (if rest c then [] else negation (rel_is r c) ∷ [])) (λ c. rest c || not (now.rel == c)) counts (λ i c found. one (rest c) c)
+      ∙ only-at rest now.rel 0 (length route.path + 1) (omega arith) (omega (arith, few))
+      ∙ (let none : now.rel - 0 ≡ now.rel = omega arith in ap (λ k. has_section x (drop k route.path)) (sym none))
+      ∙ sym (rest-has now.rel 0 x route.path)
+    where
+      rest : ℕ → Bool
+      rest c = has_section x (drop c route.path)
+
+      one : (b : Bool) (c : ℕ) → list_all (tree_holds (image_of p s)) (if b then [] else negation (rel_is r c) ∷ []) ≡ (b || not (now.rel == c))
+      one true c = refl
+      one false c = and-true (not (tree_holds (image_of p s) (rel_is r c))) ∙ ap not (rel-holds p s shape r now c at)
+
+  pub holding_section-holds : (r : ℕ) (route : Route) (now : RouteState) (x : ℕ) → slice_get p.routes r ≡ Some route → slice_get s.routes r ≡ Some now → tree_holds (image_of p s) (holding_section r route x) ≡ holds_section x route now
+  holding_section-holds r route now x known at = by_test (has_section x (sections_beside route)) refl
     where
       by_test : (b : Bool) → has_section x (sections_beside route) ≡ b → tree_holds (image_of p s) (holding_section r route x) ≡ holds_section x route now
       by_test true e = rw e (is_holding-holds r now at ∙ sym (and-true (holds_sections now)))
       by_test false e =
           let one = is_holding-holds r now at in
-          let two = kept_on_path-holds r route now x at in
+          let two = kept_on_path-holds r route now x known at in
           rw e (ap (λ b. b && (tree_holds (image_of p s) (kept_on_path r route x) && true)) one ∙ ap (λ b. holds_sections now && b) (and-true (tree_holds (image_of p s) (kept_on_path r route x)) ∙ two))

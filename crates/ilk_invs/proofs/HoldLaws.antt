@@ -173,13 +173,13 @@ module _ (p : PlantLists) (plant : IsPlant p) (s : State) (shape : HasShape p s)
   route_holding-holds x r within =
       let route = item_at p.routes r within in
       let now = state_of_route p s shape r route.0 route.1 in
-      rw (route.1, now.1) (and-true (tree_holds (image_of p s) (holding_section r route.0 x)) ∙ holding_section-holds p s shape r route.0 now.0 x now.1)
+      rw (route.1, now.1) (and-true (tree_holds (image_of p s) (holding_section r route.0 x)) ∙ holding_section-holds p s shape r route.0 now.0 x route.1 now.1)
 
   not_holding-holds : (x r : ℕ) → r < length p.routes → list_all (λ t. not (tree_holds (image_of p s) t)) (route_holding p x r) ≡ not (route_holds p s r x)
   not_holding-holds x r within =
       let route = item_at p.routes r within in
       let now = state_of_route p s shape r route.0 route.1 in
-      rw (route.1, now.1) (and-true (not (tree_holds (image_of p s) (holding_section r route.0 x))) ∙ ap not (holding_section-holds p s shape r route.0 now.0 x now.1))
+      rw (route.1, now.1) (and-true (not (tree_holds (image_of p s) (holding_section r route.0 x))) ∙ ap not (holding_section-holds p s shape r route.0 now.0 x route.1 now.1))
 
   none_before-holds : (x : ℕ) (before : List ℕ) (r : ℕ) → r < length p.routes → ((i q : ℕ) → slice_get before i ≡ Some q → q < length p.routes) → tree_holds (image_of p s) (none_before p x before r) ≡ (if route_holds p s r x then list_all (λ q. not (route_holds p s q x)) before else true)
   none_before-holds x before r within known =

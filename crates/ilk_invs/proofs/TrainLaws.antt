@@ -1,6 +1,6 @@
 -- V7 and V8 as conditions hold of the image of a state without hazard exactly where the state keeps them: a section is in
 -- the body of a train in direction d exactly where its occupancy says so.
-use Rattle.std.proofs.Common.{◌≡◌, ℕ, zero, suc, ◌+◌, ◌<◌, ◌==◌, Bool, true, false, not, ◌&&◌, ◌||◌, Some, None, List, [], ◌∷◌, ◌++◌, drop, length, map, nat_le, nat_lt, slice_get, refl, sym, ◌∙◌, ap, arith}
+use Rattle.std.proofs.Common.{◌≡◌, ℕ, suc, ◌+◌, ◌<◌, ◌==◌, Bool, true, false, not, ◌&&◌, ◌||◌, Some, None, List, [], ◌∷◌, ◌++◌, drop, length, map, nat_le, nat_lt, slice_get, refl, sym, ◌∙◌, ap, arith}
 use Rattle.std.proofs.Math.Bool.{and-true, or-false}
 use Rattle.std.specs.Prelude.{if◌then◌else◌}
 use Rattle.std.specs.List.{enumerate_from, flat_map, last_or, list_all, list_any, range_with_len}
@@ -239,11 +239,11 @@ module _ (p : PlantLists) (plant : IsPlant p) (s : State) (shape : HasShape p s)
   led-holds d x =
       some-route p s shape (image_of p s) (leads_at p d x) (λ route now. some_place route (λ i y. (y == x) && runs_in p d route && (same_mode now.mode Occupied || (same_mode now.mode Locked && has_aspect s route.source Closed)) && nat_le now.seen (i + 1) && list_all (is_vacant s) (drop (i + 1) route.path))) (λ r route now known at. leads_at-holds d x r route now known at)
 
-  keeps_at-holds : (d : Dir) (x r : ℕ) (route : Route) (now : RouteState) → slice_get s.routes r ≡ Some now → list_any (tree_holds (image_of p s)) (keeps_at p d x r route) ≡ (runs_in p d route && is_locked_or_occupied now && is_kept_on_path route now x)
-  keeps_at-holds d x r route now at =
+  keeps_at-holds : (d : Dir) (x r : ℕ) (route : Route) (now : RouteState) → slice_get p.routes r ≡ Some route → slice_get s.routes r ≡ Some now → list_any (tree_holds (image_of p s)) (keeps_at p d x r route) ≡ (runs_in p d route && is_locked_or_occupied now && is_kept_on_path route now x)
+  keeps_at-holds d x r route now known at =
       any-if (image_of p s) (each_of (locked_or_occupied r ∷ kept_on_path r route x ∷ [])) (runs_in p d route && has_section x route.path)
       ∙ ap (λ v. (runs_in p d route && has_section x route.path) && (v && (tree_holds (image_of p s) (kept_on_path r route x) && true))) (locked_or_occupied-holds p s shape r now at)
-      ∙ ap (λ v. (runs_in p d route && has_section x route.path) && (is_locked_or_occupied now && v)) (and-true (tree_holds (image_of p s) (kept_on_path r route x)) ∙ kept_on_path-holds p s shape r route now x at)
+      ∙ ap (λ v. (runs_in p d route && has_section x route.path) && (is_locked_or_occupied now && v)) (and-true (tree_holds (image_of p s) (kept_on_path r route x)) ∙ kept_on_path-holds p s shape r route now x known at)
       ∙ by_path (has_section x route.path) refl
     where
       with_path : (a b c : Bool) → ((a && true) && (b && c)) ≡ (a && b && c)
@@ -268,7 +268,7 @@ module _ (p : PlantLists) (plant : IsPlant p) (s : State) (shape : HasShape p s)
 
   kept-holds : (d : Dir) (x : ℕ) → list_any (tree_holds (image_of p s)) (of_each_route p (keeps_at p d x)) ≡ is_kept_for p s d x
   kept-holds d x =
-      some-route p s shape (image_of p s) (keeps_at p d x) (λ route now. runs_in p d route && is_locked_or_occupied now && is_kept_on_path route now x) (λ r route now known at. keeps_at-holds d x r route now at)
+      some-route p s shape (image_of p s) (keeps_at p d x) (λ route now. runs_in p d route && is_locked_or_occupied now && is_kept_on_path route now x) (λ r route now known at. keeps_at-holds d x r route now known at)
 
   -- one instance
   instance-holds : (t : Tree) (ts : List Tree) (a b plain : Bool) → tree_holds (image_of p s) t ≡ a → list_any (tree_holds (image_of p s)) ts ≡ b → list_all (tree_holds (image_of p s)) (if plain then some_of (negation t ∷ ts) ∷ [] else []) ≡ (if plain then not a || b else true)

@@ -1,5 +1,5 @@
 -- Each family as a condition is valid over the ranges of the plant.
-use Rattle.std.proofs.Common.{◌≡◌, ℕ, suc, zero, ◌+◌, ◌-◌, ◌<◌, ◌≤◌, ◌==◌, Bool, true, false, ◌&&◌, Option, Some, None, List, [], ◌∷◌, ◌++◌, drop, length, map, slice_get, take, unwrap_or, refl, ◌∙◌, ap, arith}
+use Rattle.std.proofs.Common.{◌≡◌, ℕ, ◌+◌, ◌-◌, ◌<◌, ◌≤◌, ◌==◌, Bool, true, false, ◌&&◌, Option, Some, None, List, [], ◌∷◌, ◌++◌, drop, length, map, slice_get, take, unwrap_or, refl, ◌∙◌, ap, arith}
 use Rattle.std.specs.Prelude.{if◌then◌else◌}
 use Rattle.std.specs.List.{enumerate_from, flat_map, list_all, range_with_len}
 use Rattle.std.proofs.lemmas.List.Folds.{list_all-append, list_all-map}
@@ -15,7 +15,7 @@ use Rattle.ilk_plant.specs.declared.network.Dir.{Dir}
 use Rattle.ilk_plant.specs.declared.network.Dir.TheVariants.{Up, Down}
 use Rattle.ilk_plant.specs.declared.state.Aspect.TheVariants.{Open, Closed}
 use Rattle.ilk_plant.specs.declared.state.Hold.TheVariants.{Locked as LockedLock, Used as UsedLock}
-use Rattle.ilk_plant.specs.declared.state.Mode.TheVariants.{Allocating, Locked, Occupied}
+use Rattle.ilk_plant.specs.declared.state.Mode.TheVariants.{Allocating, Free, Locked, Marked, Occupied}
 use Rattle.ilk_plant.specs.declared.table.Listed.{Listed}
 use Rattle.ilk_plant.specs.declared.table.Route.{Route}
 use Rattle.ilk_routes.specs.Claims.{sections_beside}
@@ -100,9 +100,13 @@ module _ (p : PlantLists) (plant : IsPlant p) where
 
   kept_on_path-valid : (r : ℕ) (route : Route) (x : ℕ) → slice_get p.routes r ≡ Some route → tree_valid (ranges_of_plant p) (kept_on_path r route x) ≡ true
   kept_on_path-valid r route x known =
-      some_of-valid (of_each_place route (λ i y. if y == x then rel_below r (i + 1) ∷ [] else [])) (places-valid route (λ i y. if y == x then rel_below r (i + 1) ∷ [] else []) (λ i y at.
-      let less = slice_get_within route.path i y at in
-      if-valid (y == x) (rel_below r (i + 1) ∷ []) (one-valid (rel_below r (i + 1)) (rel_below-valid r (i + 1) route known (omega (arith, less))))))
+      each_of-valid (flat_map (λ c. if has_section x (drop c route.path) then [] else negation (rel_is r c) ∷ []) (range_with_len 0 (length route.path + 1))) (flat_map-valid (λ c. if has_section x (drop c route.path) then [] else negation (rel_is r c) ∷ []) (range_with_len 0 (length route.path + 1)) (λ i c at.
+      let below = (range_within (length route.path + 1) i c at).1 in
+      unless (has_section x (drop c route.path)) (negation (rel_is r c) ∷ []) (one-valid (negation (rel_is r c)) (rel_is-valid p r c route known (omega (arith, below))))))
+    where
+      unless : (b : Bool) (ts : List Tree) → list_all (tree_valid (ranges_of_plant p)) ts ≡ true → list_all (tree_valid (ranges_of_plant p)) (if b then [] else ts) ≡ true
+      unless true ts h = refl
+      unless false ts h = h
 
   locked_or_occupied-valid : (r : ℕ) → r < length p.routes → tree_valid (ranges_of_plant p) (locked_or_occupied r) ≡ true
   locked_or_occupied-valid r within =
@@ -110,7 +114,7 @@ module _ (p : PlantLists) (plant : IsPlant p) where
 
   is_holding-valid : (r : ℕ) → r < length p.routes → tree_valid (ranges_of_plant p) (is_holding r) ≡ true
   is_holding-valid r within =
-      some_of-valid (mode_is r Allocating ∷ mode_is r Locked ∷ mode_is r Occupied ∷ []) (three-valid (mode_is r Allocating) (mode_is r Locked) (mode_is r Occupied) (mode_is-valid p r Allocating within) (mode_is-valid p r Locked within) (mode_is-valid p r Occupied within))
+      each_of-valid (negation (mode_is r Free) ∷ negation (mode_is r Marked) ∷ []) (two-valid (negation (mode_is r Free)) (negation (mode_is r Marked)) (mode_is-valid p r Free within) (mode_is-valid p r Marked within))
 
   is_kept-valid : (r : ℕ) (route : Route) (x : ℕ) → slice_get p.routes r ≡ Some route → tree_valid (ranges_of_plant p) (each_of (locked_or_occupied r ∷ kept_on_path r route x ∷ [])) ≡ true
   is_kept-valid r route x known =

@@ -1,13 +1,14 @@
 ghost use Rattle.std.specs.Prelude.{◌≡◌, ◌<◌, ◌+◌, ◌==◌, ◌++◌, ◌∷◌, [], length, map, if◌then◌else◌, IfOk, OnOk};
 ghost use Rattle.std.specs.List.{list_any};
 ghost use Rattle.ilk_ir.specs.Form.{tree_of};
+ghost use Rattle.ilk_ir.specs.Tree.{negation};
 ghost use Rattle.ilk_plant.specs.Network.{has_section};
 ghost use Rattle.ilk_plant.specs.Plant.{IsRouteOf};
-ghost use Rattle.ilk_plant.specs.declared.limits.TheConstants.{MAX_PATH};
 ghost use Rattle.ilk_routes.specs.Claims.{sections_beside};
+ghost use Rattle.ilk_conditions.specs.Conditions as conditions;
 ghost use Rattle.ilk_invs.specs.Held as definitions;
 
-use ilk_conditions::{mode_is, rel_is, seen_is};
+use ilk_conditions::{mode_is, negated, rel_is, seen_is};
 use ilk_ir::Form;
 use ilk_plant::{Listed, Mode, Plant, Route, Row, has_section};
 use std::alloc::{AllocError, Global};
@@ -47,33 +48,39 @@ pub fn locked_or_occupied(alloc: Global, plant: &Plant, r: u32) -> Result<Form, 
     Ok(Form::Or(forms))
 }
 
-/// Route `r` is Allocating, Locked or Occupied.
+/// Route `r` is neither Free nor Marked. Where it is to hold, or not to, each of the two conditions
+/// is a literal of its own in a formula.
 pub fn is_holding(alloc: Global, plant: &Plant, r: u32) -> Result<Form, AllocError>
     requires { r < length plant.now.routes }
     ensures { IfOk result (λ form. tree_of form ≡ definitions.is_holding r) }
 {
     let mut forms = Vec::new(alloc);
-    forms.push(mode_is(plant, r, Mode::Allocating))?;
-    forms.push(mode_is(plant, r, Mode::Locked))?;
-    forms.push(mode_is(plant, r, Mode::Occupied))?;
-    Ok(Form::Or(forms))
+    forms.push(negated(alloc, mode_is(plant, r, Mode::Free))?)?;
+    forms.push(negated(alloc, mode_is(plant, r, Mode::Marked))?)?;
+    Ok(Form::And(forms))
 }
 
-// Adds that route `r` keeps the section at place `i` of its path, if that is asked.
-fn push_kept_if(
+// Whether section `x` is among these.
+fn is_among(sections: &[u32], x: u32) -> bool
+    ensures { result ≡ has_section x sections.now }
+{
+    sections.iter().any(|y| *y == x)
+}
+
+// Adds that route `r` hasn't released so many sections, unless it keeps the section then.
+fn push_unless_kept(
     alloc: Global,
     forms: &mut Vec<Form>,
     plant: &Plant,
     r: u32,
-    i: u8,
-    is_asked: bool,
+    count: u8,
+    is_kept: bool,
 ) -> Result<(), AllocError>
-    requires known { r < length plant.now.routes }
-    requires place { i < MAX_PATH }
-    ensures { OnOk result (map tree_of forms.new.items ≡ map tree_of forms.old.items ++ (if is_asked then definitions.rel_below r (i + 1) ∷ [] else [])) }
+    requires { r < length plant.now.routes }
+    ensures { OnOk result (map tree_of forms.new.items ≡ map tree_of forms.old.items ++ (if is_kept then [] else negation (conditions.rel_is r count) ∷ [])) }
 {
-    if is_asked {
-        forms.push(rel_below(alloc, plant, r, i + 1)?)?;
+    if !is_kept {
+        forms.push(negated(alloc, rel_is(plant, r, count))?)?;
     }
     Ok(())
 }
@@ -92,10 +99,17 @@ pub fn kept_on_path(
 {
     let path = route.path.as_slice();
     let mut forms = Vec::new(alloc);
-    for i in 0..path.len() {
-        push_kept_if(alloc, &mut forms, plant, r, i as u8, path[i] == x)?;
+    for count in 0..path.len() + 1 {
+        push_unless_kept(
+            alloc,
+            &mut forms,
+            plant,
+            r,
+            count as u8,
+            is_among(&path[count..], x),
+        )?;
     }
-    Ok(Form::Or(forms))
+    Ok(Form::And(forms))
 }
 
 // Whether some of these points is on section `x`.
