@@ -13,9 +13,9 @@ CASES = ROOT / "tests" / "cases"
 
 STANDARD_ERROR = {7: b"irv: usage\n", 8: b"irv: read fault\n",
                   9: b"irv: write fault\n", 10: b"irv: out of memory\n"}
-STATUSES = {0, 5, 6, 7, 8, 9, 10}
+STATUSES = set(range(11))
 KEYS = {"why", "words", "conf", "replace", "replace all", "pad", "file", "folder",
-        "stdout", "stderr", "status", "output", "memory"}
+        "stdout", "stderr", "status", "output", "memory", "verdict", "certificate", "formula"}
 
 
 class CaseError(Exception):
@@ -39,6 +39,10 @@ class Case:
         self.stdout = None
         self.stderr = None
         self.status = None
+        self.verdicts = []
+        self.certificate = None
+        self.has_formula = False
+        self.assignments = None
 
     def copy(self, name, where):
         """The same case under another name, to be changed by later keys."""
@@ -145,6 +149,14 @@ def padded(data, size):
     return data + b" " * (size - len(data))
 
 
+def assignments_of(value):
+    """How many assignments a formula has to have, or none where it may be any formula."""
+    count, _, word = value.partition(" ")
+    if value != "any" and word != "assignments":
+        raise ValueError(f"neither any nor N assignments: {value}")
+    return None if value == "any" else int(count)
+
+
 def apply_key(case, key, value, block):
     """Takes one key of a case file into a case."""
     word, _, rest = key.partition(" ")
@@ -173,13 +185,26 @@ def apply_key(case, key, value, block):
         case.memory_mebibytes = int(value)
     elif key == "output" and value == "full":
         case.output_is_full = True
+    elif key == "verdict":
+        case.verdicts = value.split(" or ")
+    elif key == "certificate":
+        case.certificate = value
+    elif key == "formula":
+        case.has_formula = True
+        case.assignments = assignments_of(value)
     else:
         raise ValueError(f"no such value: {key}: {value}")
 
 
 def finished(case):
-    """The case, refused where it lacks what every case has."""
-    for part in ("why", "words", "conf", "stdout", "status"):
+    """The case, refused where it lacks what every case has. A verdict or a formula says itself what
+    the output and the status are."""
+    parts = ["why", "words", "conf"]
+    if case.verdicts or case.has_formula:
+        case.stdout, case.status = None, None if case.verdicts else 0
+    else:
+        parts += ["stdout", "status"]
+    for part in parts:
         if not getattr(case, part) and getattr(case, part) not in (b"", [], 0):
             raise CaseError(f"{case.where}: {case.name}: no {part}")
     return case

@@ -145,6 +145,50 @@ def made_largest():
                                for name in names], 2)
 
 
+def station_sections(number, count):
+    """The sections of a station: a point, two tracks, a point, and the line behind it."""
+    up_end, down_end = f"l{number - 1}", f"l{number}"
+    names = {letter: f"{letter}{number}" for letter in "ptuq"}
+    tracks = [linear(names[track], names["p"], names["q"], f"{names[track]}D", f"{names[track]}U")
+              for track in "tu"]
+    next_point = f"p{number + 1}" if number < count else "."
+    return [point(names["p"], "up", up_end, names["t"], names["u"]), *tracks,
+            point(names["q"], "down", down_end, names["t"], names["u"]),
+            linear(down_end, names["q"], next_point, f"{down_end}D",
+                   f"{down_end}U" if number < count else ".")]
+
+
+def station_routes(number, count):
+    """The eight routes of a station, without their conflicts: two into it and two out of it for each
+    direction."""
+    before, behind = f"l{number - 1}", f"l{number}"
+    p, q, t, u = (f"{letter}{number}" for letter in "pqtu")
+    up_exit = f"{behind}U" if number < count else "."
+    down_exit = f"{before}D" if number > 1 else "."
+    rows = [(f"{before}U", f"{t}U", p, t, f"{p}=plus"), (f"{before}U", f"{u}U", p, u, f"{p}=minus"),
+            (f"{t}U", up_exit, q, behind, f"{q}=plus"), (f"{u}U", up_exit, q, behind, f"{q}=minus"),
+            (f"{behind}D", f"{t}D", q, t, f"{q}=plus"), (f"{behind}D", f"{u}D", q, u, f"{q}=minus"),
+            (f"{t}D", down_exit, p, before, f"{p}=plus"),
+            (f"{u}D", down_exit, p, before, f"{p}=minus")]
+    return [route([f"s{number}r{place}", "from", source, "to", destination,
+                   "path", first, last, "points", listed_point])
+            for place, (source, destination, first, last, listed_point) in enumerate(rows, 1)]
+
+
+def made_stations(count):
+    """Stations in a row, each a loop of two tracks between two points, joined by single lines. The
+    conflicts of a route are the others that share a section of its path."""
+    sections = [linear("l0", ".", "p1", ".", "l0U")]
+    routes = []
+    for number in range(1, count + 1):
+        sections += station_sections(number, count)
+        routes += station_routes(number, count)
+    for one in routes:
+        one["conflicts"] = [other["name"] for other in routes
+                            if other is not one and set(other["path"]) & set(one["path"])]
+    return document(sections, routes)
+
+
 def made(kind, *words):
     """A configuration of a kind that is too large to write out."""
     if kind == "line":
@@ -157,4 +201,6 @@ def made(kind, *words):
         return made_routes(int(words[0]), words[1])
     if kind == "largest":
         return made_largest()
+    if kind == "stations":
+        return made_stations(int(words[0]))
     raise ValueError(f"nothing made so: {kind}")

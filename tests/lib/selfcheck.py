@@ -3,6 +3,9 @@
 import json
 import re
 
+import answers
+import program
+import trials
 from casefile import EXAMPLES, STATUSES, CaseError
 
 RULES = ["F1", "F2", "F3", "F4", "F5", "F6",
@@ -46,9 +49,25 @@ def check_refusals(case):
         raise CaseError(f"{case.where}: {case.name}: more than one refusal")
 
 
+def check_answer(case):
+    """A verdict is one that verify has, and a formula and a certificate belong to their commands."""
+    for verdict in case.verdicts:
+        if not answers.VERDICT.fullmatch(verdict):
+            raise CaseError(f"{case.where}: {case.name}: no verdict: {verdict!r}")
+    command = "export" if case.has_formula else "verify"
+    due = case.verdicts or case.has_formula or case.certificate
+    if due and command not in case.words:
+        raise CaseError(f"{case.where}: {case.name}: not an answer of {command}")
+    if (case.verdicts or case.certificate) and program.option(case.words, "--cert") is None:
+        raise CaseError(f"{case.where}: {case.name}: no file for the certificate")
+
+
 def check_case(case):
     """A case's status is one that the program has, and its output is one of that status."""
-    if case.status not in STATUSES:
+    check_answer(case)
+    if case.stdout is None:
+        return
+    if case.status not in STATUSES or 0 < case.status < 5:
         raise CaseError(f"{case.where}: {case.name}: no such status: {case.status}")
     if case.status == 5:
         check_refusals(case)
@@ -76,4 +95,5 @@ def check(cases):
         text = path.read_text(encoding="ascii")
         if not (text.startswith("run 1\n") and text.endswith("\nend\n")):
             raise CaseError(f"{path}: no run's text")
-    return f"{len(cases)} cases, {len(plants)} plants and {len(runs)} runs are well formed"
+    return (f"{len(cases)} cases, {len(plants)} plants and {len(runs)} runs are well formed; "
+            f"{trials.check_trials()} certificates are told apart")

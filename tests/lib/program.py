@@ -1,0 +1,46 @@
+"""Calls the built program."""
+
+import os
+import subprocess
+
+TIMEOUT_SECONDS = 20
+
+
+class NoAnswer(Exception):
+    """A call that didn't end, or didn't begin: the message says which."""
+
+
+def call(program, words, conf, folder, memory_mebibytes=None, output_is_full=False):
+    """Calls the program in a folder: its output, its standard error, its status. The configuration
+    is bytes, or none where standard input is to be a folder."""
+    command = [str(program), *words]
+    if memory_mebibytes is not None:
+        limited = f'ulimit -v {memory_mebibytes * 1024} && exec "$0" "$@"'
+        command = ["sh", "-c", limited, *command]
+    options = {"cwd": folder, "stderr": subprocess.PIPE, "timeout": TIMEOUT_SECONDS}
+    output = open("/dev/full", "wb") if output_is_full else subprocess.PIPE
+    source = os.open(folder, os.O_RDONLY) if conf is None else None
+    given = {"input": conf} if source is None else {"stdin": source}
+    try:
+        done = subprocess.run(command, stdout=output, **given, **options)
+    except subprocess.TimeoutExpired as fault:
+        raise NoAnswer(f"no answer within {TIMEOUT_SECONDS} seconds") from fault
+    except OSError as fault:
+        raise NoAnswer(f"the program doesn't start: {fault}") from fault
+    finally:
+        if source is not None:
+            os.close(source)
+        if output_is_full:
+            output.close()
+    return done.stdout or b"", done.stderr, done.returncode
+
+
+def option(words, name, default=None):
+    """The value of an option on a command line, by its last standing there."""
+    value = default
+    for before, word in zip(["", *words], words):
+        if before == name:
+            value = word
+        elif word.startswith(f"{name}="):
+            value = word.partition("=")[2]
+    return value
