@@ -152,7 +152,7 @@ def padded(data, size):
 def assignments_of(value):
     """How many assignments a formula has to have, or none where it may be any formula."""
     count, _, word = value.partition(" ")
-    if value != "any" and word != "assignments":
+    if value != "any" and word != ("assignment" if count == "1" else "assignments"):
         raise ValueError(f"neither any nor N assignments: {value}")
     return None if value == "any" else int(count)
 
