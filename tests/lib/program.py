@@ -3,7 +3,7 @@
 import os
 import subprocess
 
-TIMEOUT_SECONDS = 20
+TIMEOUT_SECONDS = 60
 
 
 class NoAnswer(Exception):
