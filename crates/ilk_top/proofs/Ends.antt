@@ -5,7 +5,7 @@ use Rattle.ilk_io.specs.Sink.{Adds}
 use Rattle.ilk_plant.specs.Plant.{PlantLists}
 use Rattle.ilk_words.specs.declared.command.Columns.{Columns}
 use Rattle.ilk_words.specs.declared.command.Command.{Command}
-use Rattle.ilk_top.specs.Answer.{Answers, IsAnswer, command_columns, plant_of, reads_extra, reply, takes_extra}
+use Rattle.ilk_top.specs.Answer.{Answers, IsAnswerTo, command_columns, plant_of, reads_extra, reply, takes_extra}
 use Rattle.ilk_top.specs.Outside.{ReadWhereNeeded, ReadWithin, Tells}
 use Rattle.ilk_top.specs.Status.{is_answer}
 use Rattle.ilk_top.specs.declared.refusals.Refusals.{Refusals}
@@ -38,7 +38,7 @@ adds-nothing None = refl
 adds-nothing (Some all) = ap Some (sym (append-nil all))
 
 -- words that give no command are answered with a usage error, and nothing is written
-pub Tells-usage : {L O : Type 0} (cert_written : L → Option (List ℕ)) (cert_faults : L → ℕ) (out_written : O → Option (List ℕ)) (out_faults : O → ℕ) (left extra : Option (List ℕ)) (cert : L) (out : O) → Tells (IsAnswer None left extra) cert_written cert_faults out_written out_faults Usage cert cert out out
+pub Tells-usage : {L O : Type 0} (cert_written : L → Option (List ℕ)) (cert_faults : L → ℕ) (out_written : O → Option (List ℕ)) (out_faults : O → ℕ) (left extra : Option (List ℕ)) (cert : L) (out : O) → Tells (IsAnswerTo None left extra) cert_written cert_faults out_written out_faults Usage cert cert out out
 Tells-usage cert_written cert_faults out_written out_faults left extra cert out = record {
   whole = λ h. (
     reply Usage [],
@@ -54,7 +54,7 @@ Tells-usage cert_written cert_faults out_written out_faults left extra cert out 
 }
 
 -- what answers what the configuration gave answers the configuration
-pub answer-known : {E : Type 0} (command : Command) (columns : Columns) (left extra : Option (List ℕ)) (found : Result PlantLists Refusals) (made : Result Reply E) → columns ≡ command_columns command → IfSome left (λ c. found ≡ plant_of columns c) → IfOk made (Answers command found extra) → IfOk made (IsAnswer (Some command) left extra)
+pub answer-known : {E : Type 0} (command : Command) (columns : Columns) (left extra : Option (List ℕ)) (found : Result PlantLists Refusals) (made : Result Reply E) → columns ≡ command_columns command → IfSome left (λ c. found ≡ plant_of columns c) → IfOk made (Answers command found extra) → IfOk made (IsAnswerTo (Some command) left extra)
 answer-known command columns left extra found (Err e) is k known = tt
 answer-known command columns None extra found (Ok made) is k known = tt
 answer-known command columns (Some c) extra found (Ok made) is k known =

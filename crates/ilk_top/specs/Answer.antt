@@ -118,9 +118,9 @@ command_columns (Replay columns run) = columns
 command_columns (Export columns kind number) = columns
 
 -- a reply is the answer to words that give this command, or none, and to a configuration, where that is told
-abbrev pub IsAnswer : Option Command → Option (List ℕ) → Option (List ℕ) → Reply → Type 0
-IsAnswer None conf extra made = made ≡ reply Usage []
-IsAnswer (Some command) conf extra made = IfSome conf (λ c. Answers command (plant_of (command_columns command) c) extra made)
+abbrev pub IsAnswerTo : Option Command → Option (List ℕ) → Option (List ℕ) → Reply → Type 0
+IsAnswerTo None conf extra made = made ≡ reply Usage []
+IsAnswerTo (Some command) conf extra made = IfSome conf (λ c. Answers command (plant_of (command_columns command) c) extra made)
 
 -- whether a command reads more than the configuration, once that gave a plant
 abbrev pub takes_extra : Command → Bool

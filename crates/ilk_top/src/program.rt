@@ -2,7 +2,7 @@ ghost use Rattle.std.specs.Prelude.{◌≡◌, ◌≢◌, ◌⊎◌, ◌↔◌, 
 ghost use Rattle.ilk_io.specs.Faults.{RoseByOne};
 ghost use Rattle.ilk_words.specs.Limits.{has_option_limits};
 ghost use Rattle.ilk_words.specs.Words.{command_of};
-ghost use Rattle.ilk_top.specs.Answer.{Answers, IsAnswer, certifies, command_columns, may_certify, reads_extra, takes_extra};
+ghost use Rattle.ilk_top.specs.Answer.{Answers, IsAnswerTo, certifies, command_columns, may_certify, reads_extra, takes_extra};
 ghost use Rattle.ilk_top.specs.Outside.{ReadWhereNeeded, ReadWithin, RisesOnlyAt, Tells};
 ghost use Rattle.ilk_top.specs.Status.{is_reply, is_told};
 ghost use Rattle.ilk_top.specs.declared.limits.TheConstants.{MAX_CONFIGURATION, MAX_RUN_TEXT};
@@ -65,7 +65,7 @@ fn command_answer<C: Source, D: Source>(
     extra: &mut D,
 ) -> Result<Reply, NoReply>
     requires { IsTrue (has_option_limits command.now) }
-    ensures ok { IfOk result (IsAnswer (Some command.now) (C.left conf.old) (D.left extra.old)) }
+    ensures ok { IfOk result (IsAnswerTo (Some command.now) (C.left conf.old) (D.left extra.old)) }
     ensures certificate { IfOk result (λ made. certifies command.now ≡ false → made.certificate ≡ []) }
     ensures answer { IfOk result (λ made. IsTrue (is_reply made.status)) }
     ensures read_fault { result ≡ Err NoReply.ReadFault
@@ -109,7 +109,7 @@ fn perform<C: Source, D: Source, O: Sink, L: Sink>(
     cert: &mut L,
 ) -> Status
     requires { IsTrue (has_option_limits command.now) }
-    ensures answer { Tells (IsAnswer (Some command.now) (C.left conf.old) (D.left extra.old)) L.written L.faults O.written O.faults result cert.old cert.new out.old out.new }
+    ensures answer { Tells (IsAnswerTo (Some command.now) (C.left conf.old) (D.left extra.old)) L.written L.faults O.written O.faults result cert.old cert.new out.old out.new }
     ensures read_fault { result ≡ Status.ReadFault
         → (RoseByOne (C.faults conf.old) (C.faults conf.new) × (extra.new ≡ extra.old))
         ⊎ ((C.faults conf.new ≡ C.faults conf.old) × RoseByOne (D.faults extra.old) (D.faults extra.new)) }
@@ -146,7 +146,7 @@ pub fn run<C: Source, D: Source, O: Sink, L: Sink>(
 ) -> Status
     // the answer, where the sources that are read tell what is left: its status, its whole certificate and its whole report; after a write fault, which exactly one call of one sink met, these up to the fault
     ensures answer { let asked = command_of (map string_bytes words.now.items) in
-        Tells (IsAnswer asked (C.left conf.old) (D.left extra.old)) L.written L.faults O.written O.faults result cert.old cert.new out.old out.new }
+        Tells (IsAnswerTo asked (C.left conf.old) (D.left extra.old)) L.written L.faults O.written O.faults result cert.old cert.new out.old out.new }
 
     // with a read fault exactly one call of one source failed, so that nothing is called again after it; a count that rose is told as a fault
     ensures read_fault { result ≡ Status.ReadFault
