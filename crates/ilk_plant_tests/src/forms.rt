@@ -1,0 +1,161 @@
+ghost use Rattle.std.specs.Prelude.{◌≡◌};
+ghost use Rattle.ilk_ir.specs.System.{in_ranges};
+
+use crate::plants::image_of;
+use ilk_decode::state_of;
+use ilk_invs::family_forms;
+use ilk_ir::{Form, Forms, Values, holds};
+use ilk_layout::ranges;
+use ilk_model::{broken_family, hazard};
+use ilk_plant::{Plant, State};
+use ilk_props::{hazard_form, start_form, wellformed_form};
+use std::alloc::{AllocError, Global};
+use std::test::Fail;
+
+/// All forms of a plant.
+#[derive(Drop)]
+pub struct PlantForms {
+    pub hazard: Form,
+    pub wellformed: Form,
+    pub start: Form,
+    pub families: Forms,
+}
+
+/// The forms of a plant.
+pub fn forms_of(alloc: Global, plant: &Plant) -> Result<PlantForms, AllocError> {
+    Ok(PlantForms {
+        hazard: hazard_form(alloc, plant)?,
+        wellformed: wellformed_form(alloc, plant)?,
+        start: start_form(alloc, plant)?,
+        families: family_forms(alloc, plant)?,
+    })
+}
+
+// The numbers of the families, from 1, whose forms don't hold.
+fn denied(alloc: Global, families: &Forms, values: &Values) -> Result<Vec<u8>, AllocError> {
+    let mut numbers = Vec::new(alloc);
+    for (form, number) in families.as_slice().iter().zip(1..10) {
+        if !holds(form, values) {
+            numbers.push(number)?;
+        }
+    }
+    Ok(numbers)
+}
+
+// Whether there is a value for each range, below it.
+fn are_in_ranges(values: &[u8], ranges: &[u8]) -> bool
+    ensures { result ≡ in_ranges values.now ranges.now }
+{
+    match values {
+        [] => match ranges {
+            [] => true,
+            [_, ..] => false,
+        },
+        [value, rest @ ..] => match ranges {
+            [] => false,
+            [range, more @ ..] => *value < *range && are_in_ranges(rest, more),
+        },
+    }
+}
+
+/// The state that has this image. None where the values are out of range, or the well-formed form
+/// doesn't hold.
+pub fn decoded(alloc: Global, plant: &Plant, values: &Values) -> Result<Option<State>, AllocError> {
+    let ranges = ranges(alloc, plant)?;
+    let wellformed = wellformed_form(alloc, plant)?;
+    if !are_in_ranges(values.as_slice(), ranges.as_slice()) || !holds(&wellformed, values) {
+        return Ok(None);
+    }
+    Ok(Some(state_of(alloc, plant, values)?))
+}
+
+// Compares the forms of the families with the least family that a state without hazard breaks.
+fn compare_families(
+    alloc: Global,
+    plant: &Plant,
+    forms: &PlantForms,
+    s: &State,
+    values: &Values,
+) -> Result<(), Fail> {
+    if !plant.has_shape(s) {
+        return Err(Fail::new("a state without shape"));
+    }
+    let numbers = denied(alloc, &forms.families, values)?;
+    if numbers.first().copied() == broken_family(plant, s) {
+        Ok(())
+    } else {
+        Err(Fail::new("the families' forms"))
+    }
+}
+
+// Compares a state without hazard with the one that its image is read as.
+fn compare_decoded(alloc: Global, plant: &Plant, values: &Values) -> Result<(), Fail> {
+    match decoded(alloc, plant, values)? {
+        None => Err(Fail::new("an image that isn't well-formed")),
+        Some(read) => compare_image(alloc, plant, &read, values),
+    }
+}
+
+/// Compares values with the image of a state.
+pub fn compare_image(alloc: Global, plant: &Plant, s: &State, values: &Values) -> Result<(), Fail> {
+    let image = image_of(alloc, plant, s)?;
+    if image.as_slice() == values.as_slice() {
+        Ok(())
+    } else {
+        Err(Fail::new("another image"))
+    }
+}
+
+// Compares all forms over the image of a state.
+fn compare_values(
+    alloc: Global,
+    plant: &Plant,
+    forms: &PlantForms,
+    s: &State,
+    values: &Values,
+) -> Result<(), Fail> {
+    let hazardous = is_hazardous(plant, s);
+    if holds(&forms.hazard, values) != hazardous {
+        return Err(Fail::new("the form of hazards"));
+    }
+    if holds(&forms.wellformed, values) == hazardous {
+        return Err(Fail::new("the well-formed form"));
+    }
+    if hazardous {
+        return Ok(());
+    }
+    compare_families(alloc, plant, forms, s, values)?;
+    compare_decoded(alloc, plant, values)
+}
+
+/// Compares all forms over a state's image with what is said of the state, and reads the state back
+/// where it has no hazard.
+pub fn compare_forms(
+    alloc: Global,
+    plant: &Plant,
+    forms: &PlantForms,
+    s: &State,
+) -> Result<(), Fail> {
+    let values = image_of(alloc, plant, s)?;
+    compare_values(alloc, plant, forms, s, &values)
+}
+
+/// Compares the families whose forms don't hold with these.
+pub fn compare_denied(
+    alloc: Global,
+    forms: &PlantForms,
+    values: &Values,
+    families: &[u8],
+) -> Result<(), Fail> {
+    let numbers = denied(alloc, &forms.families, values)?;
+    if numbers.as_slice() == families {
+        Ok(())
+    } else {
+        Err(Fail::new("other families"))
+    }
+}
+
+/// Whether a state has a hazard.
+pub fn is_hazardous(plant: &Plant, s: &State) -> bool {
+    plant.has_shape(s) && hazard(plant, s).is_some()
+}

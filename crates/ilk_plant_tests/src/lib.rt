@@ -1,0 +1,26 @@
+//! Tests of the layers between a plant and its verdict, in a crate of their own: a crate with tests
+//! is proved twice.
+//!
+//! `walk_tests` goes through many states of a plant, and compares each event with the rules of the
+//! plant's system, and each state with the forms over its image. `form_tests` has states that are made
+//! by hand, and values; `decide_tests` has verdicts.
+#![tactic(auto)]
+
+#[cfg(test)]
+mod changes;
+#[cfg(test)]
+mod decide_tests;
+#[cfg(test)]
+mod form_tests;
+#[cfg(test)]
+mod forms;
+#[cfg(test)]
+mod plants;
+#[cfg(test)]
+mod rules;
+#[cfg(test)]
+mod texts;
+#[cfg(test)]
+mod walk_tests;
+#[cfg(test)]
+mod walks;

@@ -1,0 +1,95 @@
+ghost use Rattle.std.specs.Prelude.{◌≡◌, [], IsTrue};
+ghost use Rattle.ilk_plant.specs.Limits.{HasLimits};
+
+use ilk_ir::Values;
+use ilk_layout::image;
+use ilk_model::{Event, apply};
+use ilk_net_check::check_network;
+use ilk_plant::{Broken, NetDraft, Plant, Row, State, TableDraft};
+use ilk_table_check::check_table;
+use ilk_table_read::read_drafts;
+use std::alloc::Global;
+use std::test::Fail;
+
+// Whether no rule is broken.
+fn is_clean(broken: &Row<Broken>) -> bool
+    ensures { IsTrue result → broken.now ≡ [] }
+{
+    match broken.as_slice() {
+        [] => true,
+        _ => false,
+    }
+}
+
+// The plant of drafts that break no rule of the network or of the table.
+fn plant_of_drafts(alloc: Global, net: &NetDraft, table: &TableDraft) -> Result<Plant, Fail>
+    requires { HasLimits net.now table.now }
+{
+    let network = check_network(alloc, net)?;
+    let routes = check_table(alloc, net, table)?;
+    if is_clean(&network) && is_clean(&routes) {
+        Ok(Plant::make(alloc, net, table)?)
+    } else {
+        Err(Fail::new("a rule is broken"))
+    }
+}
+
+/// The plant of a configuration.
+pub fn plant_of(alloc: Global, text: &str) -> Result<Plant, Fail> {
+    match read_drafts(alloc, text.as_bytes()) {
+        Ok((net, table)) => plant_of_drafts(alloc, &net, &table),
+        Err(_) => Err(Fail::new("the form is broken")),
+    }
+}
+
+/// The image of a state.
+pub fn image_of(alloc: Global, plant: &Plant, s: &State) -> Result<Values, Fail> {
+    if !plant.has_shape(s) {
+        return Err(Fail::new("a state without shape"));
+    }
+    Ok(image(alloc, plant, s)?)
+}
+
+/// The state after an event. None where the event isn't enabled.
+pub fn after(alloc: Global, plant: &Plant, s: &State, event: Event) -> Result<Option<State>, Fail> {
+    if !plant.has_shape(s) {
+        return Err(Fail::new("a state without shape"));
+    }
+    let mut next = s.copy(alloc)?;
+    if apply(alloc, plant, &mut next, event)? {
+        Ok(Some(next))
+    } else {
+        Ok(None)
+    }
+}
+
+/// The event of a kind, from 0, with the number of its route or section.
+pub fn event(kind: u32, number: u32) -> Event {
+    match kind {
+        0 => Event::Mark(number),
+        1 => Event::Allocate(number),
+        2 => Event::Lock(number),
+        3 => Event::Sense(number),
+        4 => Event::Release(number),
+        5 => Event::Finish(number),
+        6 => Event::Throw(number),
+        7 => Event::Settle(number),
+        8 => Event::Enter(number),
+        9 => Event::Head(number),
+        10 => Event::Tail(number),
+        11 => Event::Leave(number),
+        _ => Event::Cancel(number),
+    }
+}
+
+/// All events with numbers of routes and sections, and of each kind one with a number that names
+/// nothing.
+pub fn events(alloc: Global, plant: &Plant) -> Result<Vec<Event>, Fail> {
+    let mut all = Vec::new(alloc);
+    for kind in 0..13 {
+        for number in 0..=plant.routes().max(plant.sections()) {
+            all.push(event(kind, number))?;
+        }
+    }
+    Ok(all)
+}

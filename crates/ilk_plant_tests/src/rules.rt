@@ -1,0 +1,101 @@
+use crate::forms::compare_image;
+use crate::plants::{after, image_of};
+use ilk_behave::event_of;
+use ilk_ir::{System, Values, fire};
+use ilk_model::Event;
+use ilk_plant::{Plant, State};
+use std::alloc::Global;
+use std::test::Fail;
+
+// The values after a rule. None where its guard doesn't hold.
+fn fired(
+    alloc: Global,
+    system: &System,
+    before: &Values,
+    rule: u32,
+) -> Result<Option<Values>, Fail> {
+    if u64::from(rule) >= system.rules.len() {
+        return Err(Fail::new("a number that no rule has"));
+    }
+    let mut values = before.copy(alloc)?;
+    if fire(system, &mut values, rule) {
+        Ok(Some(values))
+    } else {
+        Ok(None)
+    }
+}
+
+// Compares values with the image of the state after an event, which is enabled.
+fn compare_next(
+    alloc: Global,
+    plant: &Plant,
+    s: &State,
+    event: Event,
+    values: &Values,
+) -> Result<(), Fail> {
+    match after(alloc, plant, s, event)? {
+        None => Err(Fail::new("a rule of an event that isn't enabled")),
+        Some(next) => compare_image(alloc, plant, &next, values),
+    }
+}
+
+// Compares a rule with its event: where its guard holds the event is enabled, and the values after
+// the rule are the image of the state after the event. Answers the event where the guard holds.
+fn compare_rule(
+    alloc: Global,
+    plant: &Plant,
+    system: &System,
+    s: &State,
+    before: &Values,
+    rule: u32,
+) -> Result<Option<Event>, Fail> {
+    match fired(alloc, system, before, rule)? {
+        None => Ok(None),
+        Some(values) => {
+            let event = event_of(plant, rule).ok_or("a rule of no event")?;
+            compare_next(alloc, plant, s, event, &values)?;
+            Ok(Some(event))
+        }
+    }
+}
+
+// Compares each rule of the system with its event, and answers the events of those that fire.
+fn compare_rules(
+    alloc: Global,
+    plant: &Plant,
+    system: &System,
+    s: &State,
+) -> Result<Vec<Event>, Fail> {
+    let before = image_of(alloc, plant, s)?;
+    let mut enabled = Vec::new(alloc);
+    for rule in 0..u32::try_from(system.rules.len())? {
+        match compare_rule(alloc, plant, system, s, &before, rule)? {
+            None => {}
+            Some(event) => enabled.push(event)?,
+        }
+    }
+    Ok(enabled)
+}
+
+// Whether an event is enabled.
+fn is_enabled(alloc: Global, plant: &Plant, s: &State, event: Event) -> Result<bool, Fail> {
+    Ok(after(alloc, plant, s, event)?.is_some())
+}
+
+/// Compares the plant's system with the events in a state without hazard: each event is enabled
+/// exactly where some rule of it fires, and each of these leads to the image of the next state.
+pub fn compare_events(
+    alloc: Global,
+    plant: &Plant,
+    system: &System,
+    events: &[Event],
+    s: &State,
+) -> Result<(), Fail> {
+    let enabled = compare_rules(alloc, plant, system, s)?;
+    for event in events {
+        if is_enabled(alloc, plant, s, *event)? != enabled.contains(event) {
+            return Err(Fail::new("the rules of an event"));
+        }
+    }
+    Ok(())
+}

@@ -1,0 +1,78 @@
+use crate::changes::Change::{self, Open, Point, Train};
+use crate::changes::changed;
+use crate::plants::plant_of;
+use crate::texts::{bare_line, line, short_route, station};
+use crate::walks::Compared;
+use ilk_plant::Dir::{Down, Up};
+use ilk_plant::Lie::Plus as AtPlus;
+use ilk_plant::Plant;
+use ilk_plant::Position::Minus;
+use std::alloc::Global;
+use std::test::Fail;
+
+// How many states each line has at most.
+const MANY: u32 = 400;
+
+// Compares all states of a line, some of which have a hazard where its table lets trains meet.
+fn all_states(alloc: Global, text: &str, is_unsafe: bool) -> Result<(), Fail> {
+    let plant = plant_of(alloc, text)?;
+    all_states_on(alloc, &plant, is_unsafe)
+}
+
+fn all_states_on(alloc: Global, plant: &Plant, is_unsafe: bool) -> Result<(), Fail> {
+    let compared = Compared::of(alloc, plant)?;
+    let tally = compared.go_breadth_first(alloc, MANY)?;
+    if tally.states >= u64::from(MANY) || (tally.hazards > 0) != is_unsafe {
+        return Err(Fail::new("how many states there are"));
+    }
+    Ok(())
+}
+
+#[test]
+fn all_states_of_lines(rt: HostRuntime) -> Result<(), Fail> {
+    all_states(rt.alloc(), bare_line(), true)?;
+    all_states(rt.alloc(), line(), false)?;
+    all_states(rt.alloc(), short_route(), true)
+}
+
+// Compares some states of a station from the start with these changes on.
+fn some_states(alloc: Global, changes: &[Change], is_unsafe: bool) -> Result<(), Fail> {
+    let plant = plant_of(alloc, station())?;
+    some_states_on(alloc, &plant, changes, is_unsafe)
+}
+
+fn some_states_on(
+    alloc: Global,
+    plant: &Plant,
+    changes: &[Change],
+    is_unsafe: bool,
+) -> Result<(), Fail> {
+    let compared = Compared::of(alloc, plant)?;
+    let first = changed(alloc, plant, changes)?;
+    let tally = compared.go_at_random(alloc, &first, 100)?;
+    if (tally.hazards > 0) != is_unsafe {
+        return Err(Fail::new("whether there are hazards"));
+    }
+    Ok(())
+}
+
+// From the start the walk comes to no hazard.
+#[test]
+fn states_of_stations(rt: HostRuntime) -> Result<(), Fail> {
+    some_states(rt.alloc(), &[], false)
+}
+
+// A train at each end of the station before an open board, and both points are to be thrown.
+const NEAR_HAZARD: [Change; 6] = [
+    Open(0),
+    Open(5),
+    Train(Up, &[0]),
+    Train(Down, &[5]),
+    Point(0, AtPlus, Minus),
+    Point(1, AtPlus, Minus),
+];
+
+#[test]
+fn states_near_hazards(rt: HostRuntime) -> Result<(), Fail> {
+    some_states(rt.alloc(), &NEAR_HAZARD, true)
+}

@@ -1,0 +1,167 @@
+use crate::forms::{PlantForms, compare_forms, forms_of, is_hazardous};
+use crate::plants::{after, events, image_of};
+use crate::rules::compare_events;
+use ilk_behave::behaviour;
+use ilk_ir::{System, Values};
+use ilk_model::{Event, start};
+use ilk_plant::{Plant, State};
+use std::alloc::{AllocError, Global};
+use std::test::Fail;
+
+/// A plant with what is compared at each of its states.
+#[derive(Drop)]
+pub struct Compared<'a> {
+    plant: &'a Plant,
+    forms: PlantForms,
+    system: System,
+    events: Vec<Event>,
+}
+
+/// How many states were compared, and how many of them have a hazard.
+#[derive(Clone, Copy, Drop)]
+pub struct Tally {
+    pub states: u64,
+    pub hazards: u64,
+}
+
+impl<'a> Compared<'a> {
+    /// What is compared of a plant.
+    pub fn of(alloc: Global, plant: &'a Plant) -> Result<Compared<'a>, Fail> {
+        Ok(Compared {
+            plant,
+            forms: forms_of(alloc, plant)?,
+            system: behaviour(alloc, plant)?,
+            events: events(alloc, plant)?,
+        })
+    }
+
+    // Compares the forms with a state, and where it has no hazard the rules with the events.
+    fn compare(&self, alloc: Global, s: &State) -> Result<(), Fail> {
+        compare_forms(alloc, self.plant, &self.forms, s)?;
+        if is_hazardous(self.plant, s) {
+            return Ok(());
+        }
+        compare_events(alloc, self.plant, &self.system, self.events.as_slice(), s)
+    }
+
+    // The states after each event that is enabled; none after a hazard.
+    fn nexts(&self, alloc: Global, s: &State) -> Result<Vec<State>, Fail> {
+        let mut nexts = Vec::new(alloc);
+        if is_hazardous(self.plant, s) {
+            return Ok(nexts);
+        }
+        for event in self.events.as_slice() {
+            match after(alloc, self.plant, s, *event)? {
+                None => {}
+                Some(next) => nexts.push(next)?,
+            }
+        }
+        Ok(nexts)
+    }
+
+    // Compares a state, and counts it.
+    fn tally(&self, alloc: Global, tally: &mut Tally, s: &State) -> Result<(), Fail> {
+        self.compare(alloc, s)?;
+        tally.states = tally.states.saturating_add(1);
+        if is_hazardous(self.plant, s) {
+            tally.hazards = tally.hazards.saturating_add(1);
+        }
+        Ok(())
+    }
+
+    /// Compares the first `bound` states in the order of the number of events to them.
+    pub fn go_breadth_first(&self, alloc: Global, bound: u32) -> Result<Tally, Fail> {
+        let mut tally = Tally {
+            states: 0,
+            hazards: 0,
+        };
+        let mut found = Found::new(alloc);
+        found.add(alloc, self.plant, start(alloc, self.plant)?)?;
+        for i in 0..bound {
+            match found.states.get(i as usize) {
+                None => return Ok(tally),
+                Some(state) => {
+                    let s = state.copy(alloc)?;
+                    self.tally(alloc, &mut tally, &s)?;
+                    found.add_all(alloc, self.plant, self.nexts(alloc, &s)?)?;
+                }
+            }
+        }
+        Ok(tally)
+    }
+
+    /// Compares the states of a walk of so many steps from `first`, each to one of the next states by a
+    /// number that looks random; where there is none it begins again.
+    pub fn go_at_random(&self, alloc: Global, first: &State, steps: u32) -> Result<Tally, Fail> {
+        let mut tally = Tally {
+            states: 0,
+            hazards: 0,
+        };
+        let mut number = 1;
+        let mut s = first.copy(alloc)?;
+        for _ in 0..steps {
+            self.tally(alloc, &mut tally, &s)?;
+            number = scrambled(number);
+            s = match chosen(self.nexts(alloc, &s)?, number) {
+                Some(next) => next,
+                None => first.copy(alloc)?,
+            };
+        }
+        Ok(tally)
+    }
+}
+
+// The number after this one in a row of numbers that look random.
+fn scrambled(number: u64) -> u64 {
+    number
+        .wrapping_mul(6364136223846793005)
+        .wrapping_add(1442695040888963407)
+}
+
+// One of the states, by a number.
+fn chosen(mut states: Vec<State>, number: u64) -> Option<State> {
+    let place = (number >> 33).checked_rem(states.len() as u64)? as usize;
+    if place < states.len() {
+        Some(states.swap_remove(place))
+    } else {
+        None
+    }
+}
+
+// States, no two of which have one image.
+#[derive(Drop)]
+struct Found {
+    states: Vec<State>,
+    images: Vec<Values>,
+}
+
+impl Found {
+    fn new(alloc: Global) -> Found {
+        Found {
+            states: Vec::new(alloc),
+            images: Vec::new(alloc),
+        }
+    }
+
+    // Whether some state has this image.
+    fn has(&self, values: &[u8]) -> bool {
+        self.images.iter().any(|image| image.as_slice() == values)
+    }
+
+    // Adds a state, unless its image is that of another.
+    fn add(&mut self, alloc: Global, plant: &Plant, s: State) -> Result<(), Fail> {
+        let values = image_of(alloc, plant, &s)?;
+        if !self.has(values.as_slice()) {
+            self.images.push(values)?;
+            self.states.push(s)?;
+        }
+        Ok(())
+    }
+
+    fn add_all(&mut self, alloc: Global, plant: &Plant, states: Vec<State>) -> Result<(), Fail> {
+        for s in states {
+            self.add(alloc, plant, s)?;
+        }
+        Ok(())
+    }
+}
