@@ -1,12 +1,12 @@
 -- The system steps as the events do, by the numbers of its rules.
-use Rattle.std.proofs.Common.{◌≡◌, ℕ, zero, suc, ◌+◌, ◌-◌, ◌<◌, ◌==◌, true, false, Option, Some, None, option_and_then, option_map, List, [], ◌∷◌, length, map, slice_get, inl, inr, refl, sym, ◌∙◌, ap, arith, is_some}
-use Rattle.std.specs.List.{flat_map, range_with_len}
+use Rattle.std.proofs.Common.{◌≡◌, ℕ, zero, suc, ◌+◌, ◌-◌, ◌<◌, ◌==◌, true, false, Option, Some, None, option_and_then, List, [], ◌∷◌, length, map, slice_get, inl, inr, refl, sym, ◌∙◌, ap, arith, is_some}
+use Rattle.std.specs.List.{flat_map}
 use Rattle.std.proofs.lemmas.Bool.{eq-eqb}
-use Rattle.std.proofs.lemmas.Option.{cond_some, same_Some, slice_get-map, slice_get_within}
+use Rattle.std.proofs.lemmas.Option.{cond_some, same_Some, slice_get_within}
 use Rattle.ilk_base.specs.Option.{only_if}
 use Rattle.ilk_base.proofs.Lists.{at-before, at-past, item_at}
 use Rattle.ilk_base.proofs.Options.{bind_some}
-use Rattle.ilk_base.proofs.Ranges.{below_or_past, range-at}
+use Rattle.ilk_base.proofs.Ranges.{below_or_past}
 use Rattle.ilk_base.proofs.Tested.{list_any-at, list_any-from}
 use Rattle.ilk_ir.specs.System.{RuleTree, fired, set_all}
 use Rattle.ilk_ir.specs.Tree.{tree_holds}
@@ -22,18 +22,17 @@ use Rattle.ilk_model.specs.declared.event.Event.TheVariants.{Mark, Allocate, Loc
 use Rattle.ilk_layout.specs.Image.{image_of}
 use Rattle.ilk_layout.specs.Laws.{IsCalm}
 use Rattle.ilk_behave.specs.Behaviour.{events_of, events_of_rules, rules_of, system_of}
-use Rattle.ilk_behave.specs.Kinds.{all_kinds, count_of_kind, event_of_kind, events_of_kind}
+use Rattle.ilk_behave.specs.Numbered.{HasNumber}
 use Rattle.ilk_behave.specs.Settings.{rules_for}
 use Rattle.ilk_behave.specs.Steps.{AlwaysStepAs, SomeRuleGives, RuleGives, StepsAs, can_fire}
-use Rattle.ilk_behave.specs.declared.kinds.Kind.{Kind}
-use Rattle.ilk_behave.specs.declared.kinds.Kind.TheVariants as kind
 use Rattle.ilk_behave.specs.TrainRules.{head_rules, tail_rule}
 use Rattle.ilk_behave.proofs.AllocateSteps.{allocate-steps, lock-steps}
 use Rattle.ilk_behave.proofs.EnterSteps.{enter-steps, leave-steps}
 use Rattle.ilk_behave.proofs.Fired.{has-neighbour-known, in-one}
 use Rattle.ilk_behave.proofs.HeadSteps.{head-steps}
-use Rattle.ilk_behave.proofs.Located.{kinds-events, of_first, of_rest, past-of}
+use Rattle.ilk_behave.proofs.Located.{of_first, of_rest, past-of}
 use Rattle.ilk_behave.proofs.Occupancies.{numbered-section}
+use Rattle.ilk_behave.proofs.PlantEvents.{listed}
 use Rattle.ilk_behave.proofs.PointSteps.{settle-steps, throw-steps}
 use Rattle.ilk_behave.proofs.ReleaseSteps.{finish-steps, release-steps}
 use Rattle.ilk_behave.proofs.RouteSteps.{cancel-steps, mark-steps, sense-steps}
@@ -59,37 +58,6 @@ thing-of : {A : Type 0} (o : Option A) (rules : A → List RuleTree) (j : ℕ) (
 thing-of None rules j rule at = cc
 thing-of (Some a) rules j rule at = (a, refl)
 
--- what stands in the list of one item stands in those of all
-of-one : {X Y : Type 0} (f : X → List Y) (xs : List X) (k : ℕ) (x : X) (j : ℕ) (y : Y) → slice_get xs k ≡ Some x → slice_get (f x) j ≡ Some y → (i : ℕ) × (slice_get (flat_map f xs) i ≡ Some y)
-of-one f [] k x j y at there = cc
-of-one f (z ∷ xs) zero x j y at there = (j, at-before (f z) (flat_map f xs) j y (ap (λ v. slice_get (f v) j) (same_Some z x at) ∙ there))
-of-one f (z ∷ xs) (suc k) x j y at there =
-    let later = of-one f xs k x j y at there in
-    (length (f z) + later.0, at-past (f z) (flat_map f xs) later.0 y later.1)
-
-kind-at : (k : Kind) → (i : ℕ) × (slice_get all_kinds i ≡ Some k)
-kind-at kind.Mark = (0, refl)
-kind-at kind.Allocate = (1, refl)
-kind-at kind.Lock = (2, refl)
-kind-at kind.Sense = (3, refl)
-kind-at kind.Release = (4, refl)
-kind-at kind.Finish = (5, refl)
-kind-at kind.Throw = (6, refl)
-kind-at kind.Settle = (7, refl)
-kind-at kind.Enter = (8, refl)
-kind-at kind.Head = (9, refl)
-kind-at kind.Tail = (10, refl)
-kind-at kind.Leave = (11, refl)
-kind-at kind.Cancel = (12, refl)
-
--- an event with the number of a route, or of a section, is one of the plant's
-listed : (p : PlantLists) (k : Kind) (n : ℕ) → n < count_of_kind p k → (i : ℕ) × (slice_get (events_of p) i ≡ Some (event_of_kind k n))
-listed p k n within =
-    let place = kind-at k in
-    let here : slice_get (events_of_kind p k) n ≡ Some (event_of_kind k n) = slice_get-map (event_of_kind k) (range_with_len 0 (count_of_kind p k)) n ∙ ap (option_map (event_of_kind k)) (range-at (count_of_kind p k) n within) in
-    let there = of-one (events_of_kind p) all_kinds place.0 k n (event_of_kind k n) place.1 here in
-    (there.0, sym (ap (λ es. slice_get es there.0) (kinds-events p)) ∙ there.1)
-
 point-known : (p : PlantLists) (x n : ℕ) → point_number p x ≡ Some n → x < length p.sections
 point-known p x n e = let section = numbered-section p x n e in slice_get_within p.sections x section.0 section.1
 
@@ -102,21 +70,21 @@ towards-known p plant x rules j rule at =
     let two = in-one (rules one.1) (next_to p x one.1) one.2 rule one.4 in
     has-neighbour-known p plant x two.1 one.1 (list_any-from (λ y. y == two.1) (next_to p x one.1) two.0 two.1 two.3 (eq-eqb two.1 two.1 refl))
 
--- an event that has a rule is one of the plant's
-has-rules : (p : PlantLists) → IsPlant p → (event : Event) (j : ℕ) (rule : RuleTree) → slice_get (rules_of p event) j ≡ Some rule → (i : ℕ) × (slice_get (events_of p) i ≡ Some event)
-has-rules p plant (Mark r) j rule at = let route = thing-of (slice_get p.routes r) _ j rule at in listed p kind.Mark r (slice_get_within p.routes r route.0 route.1)
-has-rules p plant (Allocate r) j rule at = let route = thing-of (slice_get p.routes r) _ j rule at in listed p kind.Allocate r (slice_get_within p.routes r route.0 route.1)
-has-rules p plant (Lock r) j rule at = let route = thing-of (slice_get p.routes r) _ j rule at in listed p kind.Lock r (slice_get_within p.routes r route.0 route.1)
-has-rules p plant (Sense r) j rule at = let route = thing-of (slice_get p.routes r) _ j rule at in listed p kind.Sense r (slice_get_within p.routes r route.0 route.1)
-has-rules p plant (Release r) j rule at = let route = thing-of (slice_get p.routes r) _ j rule at in listed p kind.Release r (slice_get_within p.routes r route.0 route.1)
-has-rules p plant (Finish r) j rule at = let route = thing-of (slice_get p.routes r) _ j rule at in listed p kind.Finish r (slice_get_within p.routes r route.0 route.1)
-has-rules p plant (Cancel r) j rule at = let route = thing-of (slice_get p.routes r) _ j rule at in listed p kind.Cancel r (slice_get_within p.routes r route.0 route.1)
-has-rules p plant (Throw x) j rule at = let point = thing-of (point_number p x) _ j rule at in listed p kind.Throw x (point-known p x point.0 point.1)
-has-rules p plant (Settle x) j rule at = let point = thing-of (point_number p x) _ j rule at in listed p kind.Settle x (point-known p x point.0 point.1)
-has-rules p plant (Enter x) j rule at = let edge = thing-of (border p x) _ j rule at in listed p kind.Enter x (border-known p x edge.0 edge.1)
-has-rules p plant (Head x) j rule at = listed p kind.Head x (towards-known p plant x (λ d y. flat_map (head_rules p x d y) (true ∷ false ∷ [])) j rule at)
-has-rules p plant (Tail x) j rule at = listed p kind.Tail x (towards-known p plant x (λ d y. map (tail_rule p x d y) (true ∷ false ∷ [])) j rule at)
-has-rules p plant (Leave x) j rule at = let section = thing-of (slice_get p.sections x) _ j rule at in listed p kind.Leave x (slice_get_within p.sections x section.0 section.1)
+-- an event that has a rule has the number of a route, or of a section
+rule-numbered : (p : PlantLists) → IsPlant p → (event : Event) (j : ℕ) (rule : RuleTree) → slice_get (rules_of p event) j ≡ Some rule → HasNumber p event
+rule-numbered p plant (Mark r) j rule at = let route = thing-of (slice_get p.routes r) _ j rule at in slice_get_within p.routes r route.0 route.1
+rule-numbered p plant (Allocate r) j rule at = let route = thing-of (slice_get p.routes r) _ j rule at in slice_get_within p.routes r route.0 route.1
+rule-numbered p plant (Lock r) j rule at = let route = thing-of (slice_get p.routes r) _ j rule at in slice_get_within p.routes r route.0 route.1
+rule-numbered p plant (Sense r) j rule at = let route = thing-of (slice_get p.routes r) _ j rule at in slice_get_within p.routes r route.0 route.1
+rule-numbered p plant (Release r) j rule at = let route = thing-of (slice_get p.routes r) _ j rule at in slice_get_within p.routes r route.0 route.1
+rule-numbered p plant (Finish r) j rule at = let route = thing-of (slice_get p.routes r) _ j rule at in slice_get_within p.routes r route.0 route.1
+rule-numbered p plant (Cancel r) j rule at = let route = thing-of (slice_get p.routes r) _ j rule at in slice_get_within p.routes r route.0 route.1
+rule-numbered p plant (Throw x) j rule at = let point = thing-of (point_number p x) _ j rule at in point-known p x point.0 point.1
+rule-numbered p plant (Settle x) j rule at = let point = thing-of (point_number p x) _ j rule at in point-known p x point.0 point.1
+rule-numbered p plant (Enter x) j rule at = let edge = thing-of (border p x) _ j rule at in border-known p x edge.0 edge.1
+rule-numbered p plant (Head x) j rule at = towards-known p plant x (λ d y. flat_map (head_rules p x d y) (true ∷ false ∷ [])) j rule at
+rule-numbered p plant (Tail x) j rule at = towards-known p plant x (λ d y. map (tail_rule p x d y) (true ∷ false ∷ [])) j rule at
+rule-numbered p plant (Leave x) j rule at = let section = thing-of (slice_get p.sections x) _ j rule at in slice_get_within p.sections x section.0 section.1
 
 -- a rule of an event of these has a number, and that number is the event's
 numbered : (p : PlantLists) (events : List Event) (k : ℕ) (event : Event) (j : ℕ) (rule : RuleTree) → slice_get events k ≡ Some event → slice_get (rules_of p event) j ≡ Some rule → (i : ℕ) × (slice_get (events_of_rules p events) i ≡ Some event) × (slice_get (flat_map (rules_of p) events) i ≡ Some rule)
@@ -164,7 +132,7 @@ module _ (p : PlantLists) (plant : IsPlant p) (never : NeverReturns p) where
   gives-where-enabled s event calm h =
       let step = event-steps p plant never event s calm.shape calm.no_hazard in
       let found : (j : ℕ) × (rule : RuleTree) × (slice_get (rules_of p event) j ≡ Some rule) × (can_fire p s rule ≡ true) = list_any-at (can_fire p s) (rules_of p event) (step.enabled ∙ h) in
-      let listed_at = has-rules p plant event found.0 found.1 found.2 in
+      let listed_at = listed p event (rule-numbered p plant event found.0 found.1 found.2) in
       let number = numbered p (events_of p) listed_at.0 event found.0 found.1 listed_at.1 found.2 in
       record {
         number = number.0;

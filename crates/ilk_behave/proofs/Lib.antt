@@ -1,3 +1,4 @@
+pub mod PlantEvents
 pub mod Located
 pub mod Pushed
 pub mod RuleCounts

@@ -1,11 +1,10 @@
 -- Lists of forms and of rules to which one more, or those of one more thing, were added.
-use Rattle.std.proofs.Common.{◌≡◌, ℕ, suc, ◌+◌, Some, None, Option, List, [], ◌∷◌, ◌++◌, map, slice_get, refl, sym, ◌∙◌, ap, arith, append_assoc}
+use Rattle.std.proofs.Common.{◌≡◌, ℕ, suc, ◌+◌, ◌<◌, Some, None, Option, List, [], ◌∷◌, ◌++◌, get_or, length, map, slice_get, take, refl, sym, ◌∙◌, ap, arith, append_assoc}
 use Rattle.std.specs.List.{flat_map, range_with_len}
 use Rattle.std.specs.Option.{option_to_list}
 use Rattle.std.proofs.lemmas.Grind.{flat_map-append}
-use Rattle.std.proofs.lemmas.List.{map-append}
-use Rattle.std.proofs.lemmas.List.Folds.{flat_map-map}
-use Rattle.ilk_base.proofs.Ranges.{grows_all, range-suc}
+use Rattle.std.proofs.lemmas.List.{flat_map_more, map-append, take_more}
+use Rattle.ilk_base.proofs.Ranges.{range-suc}
 use Rattle.ilk_ir.specs.Form.{tree_of}
 use Rattle.ilk_ir.specs.Tree.{Tree}
 use Rattle.ilk_ir.specs.declared.form.Form.{Form}
@@ -25,11 +24,16 @@ pushed_form f k n now next form sofar grown is =
     one : n + 1 ≡ suc n
     one = omega arith
 
--- what is made of the first numbers, and of one more
-pub made_more : {E R : Type 0} (rules : E → List R) (event : ℕ → E) (n : ℕ) (start now next : List R) (e : E) → now ≡ start ++ flat_map rules (map event (range_with_len 0 n)) → next ≡ now ++ rules e → e ≡ event n → next ≡ start ++ flat_map rules (map event (range_with_len 0 (n + 1)))
-made_more rules event n start now next e sofar grown is =
-    grows_all (λ k. rules (event k)) n start now next (sofar ∙ ap (λ rs. start ++ rs) (flat_map-map rules event (range_with_len 0 n))) (grown ∙ ap (λ v. now ++ rules v) is)
-    ∙ ap (λ rs. start ++ rs) (sym (flat_map-map rules event (range_with_len 0 (n + 1))))
+-- what is made of the first things of a list, and of one more
+pub made_more : {E R : Type 0} (made : E → List R) (things : List E) (n : ℕ) (d : E) (start now next : List R) → n < length things → now ≡ start ++ flat_map made (take n things) → next ≡ now ++ made (get_or things n d) → next ≡ start ++ flat_map made (take (n + 1) things)
+made_more made things n d start now next within sofar grown =
+    grown ∙ ap (λ rs. rs ++ made (get_or things n d)) sofar ∙ flat_map_more made start (take n things) (get_or things n d)
+    ∙ ap (λ es. start ++ flat_map made es) (sym (take_more things n d within))
+
+-- what is made of some things, and of those after them
+pub made_next : {E R : Type 0} (made : E → List R) (before these after : List E) (now next : List R) → after ≡ before ++ these → now ≡ flat_map made before → next ≡ now ++ flat_map made these → next ≡ flat_map made after
+made_next made before these after now next is sofar grown =
+    grown ∙ ap (λ rs. rs ++ flat_map made these) sofar ∙ sym (ap (flat_map made) is ∙ flat_map-append made before these)
 
 -- at most two sections lie on one side of a section
 pub two_beside : (section : Section) (d : Dir) → beside section d ≡ option_to_list (slice_get (beside section d) 0) ++ option_to_list (slice_get (beside section d) 1)

@@ -1,9 +1,9 @@
 -- How many rules an event has at most, and how many rules there are.
-use Rattle.std.proofs.Common.{◌≡◌, ℕ, ◌*◌, ◌≤◌, Bool, true, false, not, Option, Some, None, List, [], ◌∷◌, ◌++◌, cond, filter, length, map, slice_get, refl, ap, arith}
-use Rattle.std.specs.List.{flat_map}
+use Rattle.std.proofs.Common.{◌≡◌, ℕ, ◌*◌, ◌≤◌, Bool, true, false, not, Option, Some, None, List, [], ◌∷◌, ◌++◌, cond, filter, length, map, slice_get, refl, arith}
+use Rattle.std.specs.List.{flat_map, range_with_len}
 use Rattle.std.specs.Option.{option_to_list}
 use Rattle.std.proofs.lemmas.List.{length-append, length-map}
-use Rattle.std.proofs.lemmas.List.FromFn.{length-map-range_with_len}
+use Rattle.std.proofs.lemmas.List.FromFn.{length-range_with_len}
 use Rattle.std.proofs.lemmas.List.Sums.{count_by-le-length, length-filter}
 use Rattle.ilk_ir.specs.System.{RuleTree}
 use Rattle.ilk_plant.specs.Network.{beside, same_direction}
@@ -16,23 +16,19 @@ use Rattle.ilk_plant.specs.declared.table.Route.{Route}
 use Rattle.ilk_model.specs.declared.event.Event.{Event}
 use Rattle.ilk_model.specs.declared.event.Event.TheVariants as event
 use Rattle.ilk_motion.specs.Trains.{has_neighbour}
-use Rattle.ilk_behave.specs.Behaviour.{events_of, rules_of, system_of}
-use Rattle.ilk_behave.specs.Kinds.{all_kinds, count_of_kind, event_of_kind, events_of_kind, events_of_kinds}
+use Rattle.ilk_behave.specs.Behaviour.{events_of, events_of_route, events_of_section, rules_of, system_of}
 use Rattle.ilk_behave.specs.PointRules.{rules_of_settle, rules_of_throw}
 use Rattle.ilk_behave.specs.RouteRules.{rules_of_allocate, rules_of_cancel, rules_of_finish, rules_of_lock, rules_of_mark, rules_of_release, rules_of_sense}
 use Rattle.ilk_behave.specs.TrainRules.{both_directions, head_rules, leave_rule, rules_of_enter, rules_of_head, rules_of_leave, rules_of_tail, tail_rule}
-use Rattle.ilk_behave.specs.declared.kinds.Kind.{Kind}
-use Rattle.ilk_behave.specs.declared.kinds.Kind.TheVariants.{Mark, Allocate, Lock, Sense, Release, Finish, Throw, Settle, Enter, Head, Tail, Leave, Cancel}
-use Rattle.ilk_behave.proofs.Located.{kinds-events}
 use Rattle.ilk_behave.proofs.RuleCounts.{cancel-count, finish-count, release-count, sense-count}
 
--- lists of which each has at most 256 items, one after another
-flat_map-few : {X Y : Type 0} (f : X → List Y) (xs : List X) → ((x : X) → length (f x) ≤ 256) → length (flat_map f xs) ≤ 256 * length xs
-flat_map-few f [] few = omega arith
-flat_map-few f (x ∷ xs) few =
+-- lists of which each has at most so many items, one after another
+flat_map-few : {X Y : Type 0} (f : X → List Y) (most : ℕ) (xs : List X) → ((x : X) → length (f x) ≤ most) → length (flat_map f xs) ≤ most * length xs
+flat_map-few f most [] few = omega arith
+flat_map-few f most (x ∷ xs) few =
     let sum = length-append (f x) (flat_map f xs) in
     let first = few x in
-    let later = flat_map-few f xs few in
+    let later = flat_map-few f most xs few in
     omega (arith, sum, first, later)
 
 module _ (p : PlantLists) (plant : IsPlant p) where
@@ -196,41 +192,19 @@ module _ (p : PlantLists) (plant : IsPlant p) where
   few-rules (event.Leave x) = let few = few-leave x in omega (arith, few)
   few-rules (event.Cancel r) = let few = few-cancel r in omega (arith, few)
 
-  few-of_kind : (kind : Kind) → length (events_of_kind p kind) ≤ 256
-  few-of_kind kind =
-      let made = length-map-range_with_len (event_of_kind kind) 0 (count_of_kind p kind) in
-      let few = counted kind in
-      omega (arith, made, few)
-    where
-      routes : length p.routes ≤ 256
-      routes = plant.few_routes
-
-      sections : length p.sections ≤ 256
-      sections = plant.few_sections
-
-      counted : (kind : Kind) → count_of_kind p kind ≤ 256
-      counted Mark = routes
-      counted Allocate = routes
-      counted Lock = routes
-      counted Sense = routes
-      counted Release = routes
-      counted Finish = routes
-      counted Throw = sections
-      counted Settle = sections
-      counted Enter = sections
-      counted Head = sections
-      counted Tail = sections
-      counted Leave = sections
-      counted Cancel = routes
-
   few-events : length (events_of p) ≤ 256 * 13
   few-events =
-      let few = flat_map-few (events_of_kind p) all_kinds few-of_kind in
-      let same : length (events_of_kinds p all_kinds) ≡ length (events_of p) = ap length (kinds-events p) in
-      omega (arith, few, same)
+      let routes : length p.routes ≤ 256 = plant.few_routes in
+      let sections : length p.sections ≤ 256 = plant.few_sections in
+      let of_routes = flat_map-few events_of_route 7 (range_with_len 0 (length p.routes)) (λ r. omega arith) in
+      let of_sections = flat_map-few events_of_section 6 (range_with_len 0 (length p.sections)) (λ x. omega arith) in
+      let sum = length-append (flat_map events_of_route (range_with_len 0 (length p.routes))) (flat_map events_of_section (range_with_len 0 (length p.sections))) in
+      let as_routes = length-range_with_len 0 (length p.routes) in
+      let as_sections = length-range_with_len 0 (length p.sections) in
+      omega (arith, routes, sections, of_routes, of_sections, sum, as_routes, as_sections)
 
   pub few-in_all : length (system_of p).rules ≤ 256 * 256 * 13
   few-in_all =
-      let few = flat_map-few (rules_of p) (events_of p) few-rules in
+      let few = flat_map-few (rules_of p) 256 (events_of p) few-rules in
       let events = few-events in
       omega (arith, few, events)

@@ -10,16 +10,19 @@ use Rattle.ilk_behave.specs.PointRules.{rules_of_settle, rules_of_throw}
 use Rattle.ilk_behave.specs.RouteRules.{rules_of_allocate, rules_of_cancel, rules_of_finish, rules_of_lock, rules_of_mark, rules_of_release, rules_of_sense}
 use Rattle.ilk_behave.specs.TrainRules.{rules_of_enter, rules_of_head, rules_of_leave, rules_of_tail}
 
--- the events of a kind, one for each of so many routes or sections
-abbrev pub events_up_to : ℕ → (ℕ → Event) → List Event
-events_up_to count kind = map kind (range_with_len 0 count)
+-- the events of route r
+abbrev pub events_of_route : ℕ → List Event
+events_of_route r = Mark r ∷ Allocate r ∷ Lock r ∷ Sense r ∷ Release r ∷ Finish r ∷ Cancel r ∷ []
 
--- the events of a plant: for each kind of event, one for each route or for each section
+-- the events of section x, be it a point or not
+abbrev pub events_of_section : ℕ → List Event
+events_of_section x = Throw x ∷ Settle x ∷ Enter x ∷ Head x ∷ Tail x ∷ Leave x ∷ []
+
+-- the events of a plant: route by route, and then section by section
 abbrev pub events_of : PlantLists → List Event
 events_of p =
-    flat_map (events_up_to (length p.routes)) (Mark ∷ Allocate ∷ Lock ∷ Sense ∷ Release ∷ Finish ∷ [])
-    ++ flat_map (events_up_to (length p.sections)) (Throw ∷ Settle ∷ Enter ∷ Head ∷ Tail ∷ Leave ∷ [])
-    ++ events_up_to (length p.routes) Cancel
+    flat_map events_of_route (range_with_len 0 (length p.routes))
+    ++ flat_map events_of_section (range_with_len 0 (length p.sections))
 
 abbrev pub rules_of : PlantLists → Event → List RuleTree
 rules_of p (Mark r) = rules_of_mark p r

@@ -4,5 +4,5 @@ pub mod RouteRules
 pub mod PointRules
 pub mod TrainRules
 pub mod Behaviour
-pub mod Kinds
+pub mod Numbered
 pub mod Steps

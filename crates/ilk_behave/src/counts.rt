@@ -3,7 +3,7 @@ ghost use Rattle.ilk_motion.specs.Trains.{has_neighbour};
 ghost use Rattle.ilk_plant.specs.Plant.{next_to};
 ghost use Rattle.ilk_plant.specs.declared.network.Dir.TheVariants.{Up, Down};
 ghost use Rattle.ilk_behave.specs.Behaviour.{rules_of};
-ghost use Rattle.ilk_behave.specs.Kinds.{HasNumber};
+ghost use Rattle.ilk_behave.specs.Numbered.{HasNumber};
 ghost use Rattle.ilk_behave.specs.PointRules.{rules_of_throw};
 ghost use Rattle.ilk_behave.specs.RouteRules.{rules_of_cancel, rules_of_finish, rules_of_release, rules_of_sense};
 ghost use Rattle.ilk_behave.specs.TrainRules.{both_directions};

@@ -1,24 +1,53 @@
 ghost use Rattle.std.specs.Prelude.{◌≡◌, ◌↔◌, ◌≤◌, ◌+◌, None, Some, IfErr, IfOk, length, slice_get};
+ghost use Rattle.ilk_behave.specs.Behaviour as behaviour;
 ghost use Rattle.ilk_behave.specs.Behaviour.{event_of_rule, events_of_rules, system_of};
-ghost use Rattle.ilk_behave.specs.Kinds.{events_of_kind};
+ghost use Rattle.ilk_behave.specs.Numbered.{HaveNumbers};
 
 use crate::counts::rule_count;
-use crate::kinds::{KINDS, Kind};
 use ilk_model::Event;
 use ilk_plant::Plant;
 
-// Of the events of a kind, the one to which the rule at this place of theirs belongs; else how many
-// places past their last it is.
-fn find_in_kind(plant: &Plant, kind: Kind, place: u32) -> Result<Event, u32>
-    ensures found { IfOk result (λ event. slice_get (events_of_rules plant.now (events_of_kind plant.now kind)) place ≡ Some event) }
-    ensures past { IfErr result (λ left. place ≡ length (events_of_rules plant.now (events_of_kind plant.now kind)) + left) }
+/// The events of route `r`, in their order.
+pub fn events_of_route(r: u32) -> [Event; 7]
+    ensures { result ≡ behaviour.events_of_route r }
+{
+    [
+        Event::Mark(r),
+        Event::Allocate(r),
+        Event::Lock(r),
+        Event::Sense(r),
+        Event::Release(r),
+        Event::Finish(r),
+        Event::Cancel(r),
+    ]
+}
+
+/// The events of section `x`, in their order; throw and settle too where it is no point.
+pub fn events_of_section(x: u32) -> [Event; 6]
+    ensures { result ≡ behaviour.events_of_section x }
+{
+    [
+        Event::Throw(x),
+        Event::Settle(x),
+        Event::Enter(x),
+        Event::Head(x),
+        Event::Tail(x),
+        Event::Leave(x),
+    ]
+}
+
+// Of these events, the one to which the rule at this place of theirs belongs; else how many places
+// past their last it is.
+fn find_event(plant: &Plant, events: &[Event], place: u32) -> Result<Event, u32>
+    requires { HaveNumbers plant.now events.now }
+    ensures found { IfOk result (λ event. slice_get (events_of_rules plant.now events.now) place ≡ Some event) }
+    ensures past { IfErr result (λ left. place ≡ length (events_of_rules plant.now events.now) + left) }
 {
     let mut left = place;
-    for number in 0..kind.count(plant) {
-        let event = kind.event(plant, number);
-        let count = rule_count(plant, event);
+    for event in events {
+        let count = rule_count(plant, *event);
         if left < count {
-            return Ok(event);
+            return Ok(*event);
         }
         left -= count;
     }
@@ -32,8 +61,14 @@ pub fn event_of(plant: &Plant, rule: u32) -> Option<Event>
     ensures none { (result ≡ None) ↔ (length (system_of plant.now).rules ≤ rule) }
 {
     let mut left = rule;
-    for kind in &KINDS {
-        match find_in_kind(plant, *kind, left) {
+    for r in 0..plant.routes() {
+        match find_event(plant, &events_of_route(r), left) {
+            Ok(event) => return Some(event),
+            Err(rest) => left = rest,
+        }
+    }
+    for x in 0..plant.sections() {
+        match find_event(plant, &events_of_section(x), left) {
             Ok(event) => return Some(event),
             Err(rest) => left = rest,
         }

@@ -5,8 +5,10 @@
 //! event the system has rules whose guards ask of the image what the event asks of the state, and
 //! whose settings change in the image what the event changes. `specs/RouteRules`, `PointRules` and
 //! `TrainRules` have a function for each event, that reads as its row of the table of events;
-//! `specs/Behaviour` joins them to the system. A guard is a conjunction, whose parts are single
-//! values, negations of these, and disjunctions: a search over formulas takes it apart so.
+//! `specs/Behaviour` joins them to the system: route by route, and then section by section, since a
+//! search over formulas is shorter where the rules of one route are next to each other. A guard is a
+//! conjunction, whose parts are single values, negations of these, and disjunctions: a search over
+//! formulas takes it apart so.
 //!
 //! `behaviour` makes the system of a plant, and `event_of` tells which event a rule belongs to. An
 //! event has a rule for each case that its change depends on: for each place of a path, for each
@@ -20,7 +22,6 @@ mod counts;
 mod events;
 mod guards;
 mod heads;
-mod kinds;
 mod laws;
 mod passage_rules;
 mod point_rules;

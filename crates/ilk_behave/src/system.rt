@@ -3,11 +3,11 @@ ghost use Rattle.ilk_ir.specs.System.{rule_tree, system_tree, system_valid};
 ghost use Rattle.ilk_behave.specs.Behaviour.{rules_of, system_of};
 ghost use Rattle.std.specs.List.{flat_map};
 ghost use Rattle.ilk_behave.specs.Behaviour.{events_of};
-ghost use Rattle.ilk_behave.specs.Kinds.{HasNumber, events_of_kind};
+ghost use Rattle.ilk_behave.specs.Numbered.{HasNumber, HaveNumbers};
 ghost use Rattle.ilk_behave.specs.Steps.{StepsAs};
 
+use crate::events::{events_of_route, events_of_section};
 use crate::heads::push_head;
-use crate::kinds::{KINDS, Kind};
 use crate::laws::system_steps;
 use crate::passage_rules::{push_finish, push_release, push_sense};
 use crate::point_rules::{push_settle, push_throw};
@@ -47,23 +47,32 @@ fn push_rules_of(
     }
 }
 
-// Adds the rules of all events of a kind.
-fn push_kind(alloc: Global, rules: &mut Rules, plant: &Plant, kind: Kind) -> Result<(), AllocError>
-    ensures { OnOk result (map rule_tree rules.new ≡ map rule_tree rules.old ++ flat_map (rules_of plant.now) (events_of_kind plant.now kind)) }
+// Adds the rules of these events, one event after another.
+fn push_rules_of_all(
+    alloc: Global,
+    rules: &mut Rules,
+    plant: &Plant,
+    events: &[Event],
+) -> Result<(), AllocError>
+    requires { HaveNumbers plant.now events.now }
+    ensures { OnOk result (map rule_tree rules.new ≡ map rule_tree rules.old ++ flat_map (rules_of plant.now) events.now) }
 {
-    for number in 0..kind.count(plant) {
-        push_rules_of(alloc, rules, plant, kind.event(plant, number))?;
+    for event in events {
+        push_rules_of(alloc, rules, plant, *event)?;
     }
     Ok(())
 }
 
-// The rules of all events, in their order.
+// The rules of all events, in their order: route by route, and then section by section.
 fn all_rules(alloc: Global, plant: &Plant) -> Result<Rules, AllocError>
     ensures { IfOk result (λ rules. map rule_tree rules ≡ flat_map (rules_of plant.now) (events_of plant.now)) }
 {
     let mut rules = Row::new(alloc);
-    for kind in &KINDS {
-        push_kind(alloc, &mut rules, plant, *kind)?;
+    for r in 0..plant.routes() {
+        push_rules_of_all(alloc, &mut rules, plant, &events_of_route(r))?;
+    }
+    for x in 0..plant.sections() {
+        push_rules_of_all(alloc, &mut rules, plant, &events_of_section(x))?;
     }
     Ok(rules)
 }

@@ -1,28 +1,36 @@
-use Rattle.std.proofs.Common.{arith, refl}
-use Rattle.ilk_behave.specs.Kinds.{all_kinds, events_of_kinds}
-use Rattle.ilk_behave.proofs.Located.{event-found, found-within, found_at, left-none, left_kind_next, left_start}
+use Rattle.std.proofs.Common.{◌+◌, arith}
+use Rattle.ilk_behave.proofs.Located.{found-in-route, found-in-section, found-nowhere, past-more, past-routes}
+use Rattle.ilk_behave.proofs.PlantEvents.{events_of_routes, events_of_sections, route-numbered, routes-more, section-numbered, sections-more}
 use Rattle.ilk_behave.proofs.events.event_of.Goals as goal
 
-pub loop-kind-init : goal.loop-kind-init
-loop-kind-init c = left_start c.args.plant.now (events_of_kinds c.args.plant.now all_kinds) c.args.rule
+pub find_event-requires : goal.find_event-requires
+find_event-requires c = route-numbered c.args.plant.now c.loop-r.r c.events_of_route.result (omega arith) c.events_of_route.ensures
 
-pub returns-in-Ok-clause-event : goal.returns-in-Ok-clause-event
-returns-in-Ok-clause-event c =
-    event-found c.args.plant.now c.args.rule c.in-Ok.event (found_at c.args.plant.now (events_of_kinds c.args.plant.now all_kinds) all_kinds c.loop-kind.kind-index _ c.args.rule c.loop-kind.left c.in-Ok.event c.loop-kind-test.true c.in-Ok.ensures.found c.loop-kind.invariant)
+pub returns-in-Ok : goal.returns-in-Ok
+returns-in-Ok c =
+    let found = found-in-route c.args.plant.now c.loop-r.r c.args.rule c.loop-r.left c.events_of_route.result c.in-Ok.event (omega arith) c.events_of_route.ensures c.loop-r.invariant c.in-Ok.ensures.found in
+    record { event = found.0; none = found.1 }
 
-pub returns-in-Ok-clause-none : goal.returns-in-Ok-clause-none
-returns-in-Ok-clause-none c =
-    let within = found-within c.args.plant.now c.args.rule c.in-Ok.event (found_at c.args.plant.now (events_of_kinds c.args.plant.now all_kinds) all_kinds c.loop-kind.kind-index _ c.args.rule c.loop-kind.left c.in-Ok.event c.loop-kind-test.true c.in-Ok.ensures.found c.loop-kind.invariant) in
-    (λ e. cc, λ past. absurd (omega (arith, within, past)))
+pub loop-r-preserved : goal.loop-r-preserved
+loop-r-preserved c =
+    past-more c.args.plant.now (events_of_routes c.loop-r.r) c.events_of_route.result (events_of_routes (c.loop-r.r + 1)) c.args.rule c.loop-r.left c.in-Err.rest (routes-more c.loop-r.r c.events_of_route.result c.events_of_route.ensures) c.loop-r.invariant c.in-Err.ensures.past
 
-pub loop-kind-preserved : goal.loop-kind-preserved
-loop-kind-preserved c =
-    left_kind_next c.args.plant.now (events_of_kinds c.args.plant.now all_kinds) all_kinds c.loop-kind.kind-index _ c.args.rule c.loop-kind.left c.in-Err.rest c.loop-kind-test.true c.in-Err.ensures.past c.loop-kind.invariant
+pub loop-x-init : goal.loop-x-init
+loop-x-init c = past-routes c.args.plant.now c.loop-r.r c.args.rule c.loop-r.left (omega arith) c.loop-r.invariant
 
-pub returns-clause-event : goal.returns-clause-event
-returns-clause-event c = (left-none c.args.plant.now c.loop-kind.kind-index c.args.rule c.loop-kind.left (omega arith) c.loop-kind.invariant).0
+pub find_event-requires-in-loop-x : goal.find_event-requires-in-loop-x
+find_event-requires-in-loop-x c = section-numbered c.args.plant.now c.loop-x.x c.events_of_section.result (omega arith) c.events_of_section.ensures
 
-pub returns-clause-none : goal.returns-clause-none
-returns-clause-none c =
-    let past = (left-none c.args.plant.now c.loop-kind.kind-index c.args.rule c.loop-kind.left (omega arith) c.loop-kind.invariant).1 in
-    (λ e. past, λ h. refl)
+pub returns-in-Ok-find_event : goal.returns-in-Ok-find_event
+returns-in-Ok-find_event c =
+    let found = found-in-section c.args.plant.now c.loop-x.x c.args.rule c.loop-x.left c.events_of_section.result c.in-Ok-find_event.event (omega arith) c.events_of_section.ensures c.loop-x.invariant c.in-Ok-find_event.ensures.found in
+    record { event = found.0; none = found.1 }
+
+pub loop-x-preserved : goal.loop-x-preserved
+loop-x-preserved c =
+    past-more c.args.plant.now (events_of_sections c.args.plant.now c.loop-x.x) c.events_of_section.result (events_of_sections c.args.plant.now (c.loop-x.x + 1)) c.args.rule c.loop-x.left c.in-Err-find_event.rest (sections-more c.args.plant.now c.loop-x.x c.events_of_section.result c.events_of_section.ensures) c.loop-x.invariant c.in-Err-find_event.ensures.past
+
+pub returns : goal.returns
+returns c =
+    let none = found-nowhere c.args.plant.now c.loop-x.x c.args.rule c.loop-x.left (omega arith) c.loop-x.invariant in
+    record { event = none.0; none = none.1 }

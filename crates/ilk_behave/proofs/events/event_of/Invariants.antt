@@ -1,8 +1,9 @@
-use Rattle.std.proofs.Common.{drop}
-use Rattle.ilk_behave.specs.Kinds.{all_kinds, events_of_kinds}
-use Rattle.ilk_behave.proofs.Located.{IsLeft}
+use Rattle.ilk_behave.proofs.Located.{IsPast}
+use Rattle.ilk_behave.proofs.PlantEvents.{events_of_routes, events_of_sections}
 use Rattle.ilk_behave.proofs.events.event_of.Given as goal
 
-abbrev pub invariant-loop-kind : goal.invariant-loop-kind
-invariant-loop-kind l =
-    IsLeft l.plant (events_of_kinds l.plant all_kinds) (events_of_kinds l.plant (drop l.kind-index all_kinds)) l.rule l.left
+abbrev pub invariant-loop-r : goal.invariant-loop-r
+invariant-loop-r l = IsPast l.plant (events_of_routes l.r) l.rule l.left
+
+abbrev pub invariant-loop-x : goal.invariant-loop-x
+invariant-loop-x l = IsPast l.plant (events_of_sections l.plant l.x) l.rule l.left
