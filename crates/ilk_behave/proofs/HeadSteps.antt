@@ -13,7 +13,7 @@ use Rattle.ilk_base.proofs.Tested.{list_any-map}
 use Rattle.ilk_ir.specs.Tree.{Tree, any_of, negation, tree_holds, trees}
 use Rattle.ilk_ir.specs.System.{RuleTree, set_all}
 use Rattle.ilk_ir.proofs.Trees.{all_of-holds, any_of-holds}
-use Rattle.ilk_plant.specs.Network.{beside, has_section, same_direction}
+use Rattle.ilk_plant.specs.Network.{has_section, same_direction}
 use Rattle.ilk_plant.specs.Plant.{IsPlant, PlantLists, board_of, next_to, point_number}
 use Rattle.ilk_plant.specs.Shape.{HasShape}
 use Rattle.ilk_plant.specs.Sound.{NeverReturns}

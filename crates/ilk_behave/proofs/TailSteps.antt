@@ -15,7 +15,7 @@ use Rattle.ilk_base.proofs.Truth.{not-true}
 use Rattle.ilk_ir.specs.Tree.{tree_holds, Tree}
 use Rattle.ilk_ir.specs.System.{set_all}
 use Rattle.ilk_ir.proofs.Trees.{all_of-holds}
-use Rattle.ilk_plant.specs.Network.{beside, has_section, same_direction}
+use Rattle.ilk_plant.specs.Network.{has_section, same_direction}
 use Rattle.ilk_plant.specs.Plant.{IsPlant, PlantLists, next_to}
 use Rattle.ilk_plant.specs.Shape.{HasShape}
 use Rattle.ilk_plant.specs.Sound.{NeverReturns}
@@ -50,7 +50,6 @@ use Rattle.ilk_layout.proofs.Plants.{body-known, body-once}
 use Rattle.ilk_layout.proofs.Trains.{has_x, with_trains}
 use Rattle.ilk_conditions.specs.Conditions.{occupancy_is, lie_is}
 use Rattle.ilk_behave.specs.Guards.{leads_towards, leg_position}
-use Rattle.ilk_behave.specs.Settings.{rule}
 use Rattle.ilk_behave.specs.Steps.{StepAs, can_fire}
 use Rattle.ilk_behave.specs.TrainRules.{rules_of_tail, tail_rule}
 use Rattle.ilk_behave.proofs.AllocateSteps.{lie-holds}
