@@ -48,11 +48,7 @@ impl Model for Arena {
 fn reference(link: u32) -> Option<u64>
     ensures { result ≡ reference_of link }
 {
-    if link == 0 {
-        None
-    } else {
-        Some(link as u64)
-    }
+    if link == 0 { None } else { Some(link as u64) }
 }
 
 impl Arena {
