@@ -1,5 +1,5 @@
 -- What a new clause leaves.
-use Rattle.std.proofs.Common.{◌≡◌, ◌≢◌, ℕ, zero, suc, ◌+◌, ◌*◌, ◌^◌, ◌<◌, ◌≤◌, inl, inr, true, false, ltb, leb, List, [], ◌∷◌, ◌++◌, length, get_or, set, map, refl, sym, ap, ◌∙◌, subst, arith, Some, length-append}
+use Rattle.std.proofs.Common.{◌≡◌, ◌≢◌, ℕ, zero, suc, ◌+◌, ◌*◌, ◌<◌, ◌≤◌, inl, inr, true, false, ltb, leb, List, [], ◌∷◌, ◌++◌, length, get_or, set, map, refl, sym, ap, ◌∙◌, subst, arith, Some, length-append}
 use Rattle.std.specs.List.{slice_get}
 use Rattle.std.proofs.lemmas.Bool.{cases_Bool, and_parts, leb-true, eqb-false, or_parts, not-true}
 use Rattle.std.proofs.lemmas.List.{map-append, length-map}
@@ -7,6 +7,7 @@ use Rattle.ilk_base.proofs.Lists.{slice_get-push_cases}
 use Rattle.ilk_cnf.specs.Literal.{Literal, has_var, vars_differ}
 use Rattle.ilk_cnf.specs.Formula.{lit_in, clause_in}
 use Rattle.ilk_arena.specs.Arena.{ArenaLists, place, stands_in, put_first, watched, added}
+use Rattle.ilk_arena.specs.declared.place.TheConstants.{WORD_LIMIT}
 use Rattle.ilk_arena.specs.Words.{Stands, upd}
 use Rattle.ilk_arena.specs.Linked.{lit_at, literals_at, cursor_at, chain_at, references_in, lists_of, Linked, Laid, HoldsArena}
 use Rattle.ilk_arena.proofs.Blocks.{references-are, blocks-push, stands-at}
@@ -62,9 +63,9 @@ pub record Grown (vars spare count : ℕ) (us ks : List ℕ) (a : ArenaLists) (l
   pub holds : HoldsArena us ks vars (count + 1)
   pub lists : lists_of vars spare us ks (references_in us) ≡ added a ls c spare
 
-grown-by : (vars spare old count : ℕ) (ws hs ks : List ℕ) (x : ArenaLists) (ls : List Literal) (a al b bl : ℕ) (cs : ℕ → List ℕ) → HoldsArena ws hs vars count → lists_of vars old ws hs (references_in ws) ≡ x → vars_differ ls ≡ true → Joins ws hs (references_in ws) (map place ls) ks a al b bl (count + 1) cs → Gives (watched (length ws) ls (lists_of vars old ws hs (references_in ws)).chains) (length hs) cs → Grown vars spare count (ws ++ block (length (map place ls)) a al b bl (count + 1) (map place ls)) ks x ls (length ws)
+grown-by : (vars spare old count : ℕ) (ws hs ks : List ℕ) (x : ArenaLists) (ls : List Literal) (a al b bl : ℕ) (cs : ℕ → List ℕ) → HoldsArena ws hs vars count → lists_of vars old ws hs (references_in ws) ≡ x → vars_differ ls ≡ true → Joins ws hs (references_in ws) (map place ls) ks a al b bl (count + 1) cs → Gives (watched (length ws) ls (lists_of vars old ws hs (references_in ws)).chains) (length hs) cs → length ws + length ls + 7 ≤ WORD_LIMIT → Grown vars spare count (ws ++ block (length (map place ls)) a al b bl (count + 1) (map place ls)) ks x ls (length ws)
 unfolding lists_of
-grown-by vars spare old count ws hs ks x ls a al b bl cs h e vd j g =
+grown-by vars spare old count ws hs ks x ls a al b bl cs h e vd j g fits =
     let refs = references_in ws in
     let ps = map place ls in
     let c = length ws in
@@ -88,6 +89,7 @@ grown-by vars spare old count ws hs ks x ls a al b bl cs h e vd j g =
     record {
       holds = record {
         few = h.few;
+        addressed = omega (arith, fits, ap1.size, length-map ls place);
         heads = j.heads ∙ h.heads;
         counted = omega (arith, h.counted, size, ap (λ (rs : List ℕ). length rs) re);
         linked = subst P (sym re) r.0;
@@ -120,8 +122,8 @@ words_long ws hs ls l m k = ws ++ block (length (map place ls)) (place l) (get_o
 abbrev pub heads_long : List ℕ → List ℕ → Literal → Literal → List ℕ
 heads_long ws hs l m = set (set hs (place l) (length ws)) (place m) (length ws)
 
-pub long-law : (vars spare old count : ℕ) (ws hs : List ℕ) (x : ArenaLists) (ls : List Literal) (l m : Literal) → HoldsArena ws hs vars count → lists_of vars old ws hs (references_in ws) ≡ x → clause_in vars ls ≡ true → vars_differ ls ≡ true → slice_get ls 0 ≡ Some l → slice_get ls 1 ≡ Some m → Grown vars spare count (words_long ws hs ls l m (count + 1)) (heads_long ws hs l m) x ls (length ws)
-long-law vars spare old count ws hs x ls l m h e ci vd a b =
+pub long-law : (vars spare old count : ℕ) (ws hs : List ℕ) (x : ArenaLists) (ls : List Literal) (l m : Literal) → HoldsArena ws hs vars count → lists_of vars old ws hs (references_in ws) ≡ x → clause_in vars ls ≡ true → vars_differ ls ≡ true → slice_get ls 0 ≡ Some l → slice_get ls 1 ≡ Some m → length ws + length ls + 7 ≤ WORD_LIMIT → Grown vars spare count (words_long ws hs ls l m (count + 1)) (heads_long ws hs l m) x ls (length ws)
+long-law vars spare old count ws hs x ls l m h e ci vd a b fits =
     let refs = references_in ws in
     let ps = map place ls in
     let c = length ws in
@@ -144,20 +146,20 @@ long-law vars spare old count ws hs x ls l m h e ci vd a b =
     let g2 = gives-set C1 (length hs) F1 (place m) (c ∷ get_or C1 (place m) []) (c ∷ F1 (place m)) g1 lb (ap (λ ys. c ∷ ys) (g1.item (place m) lb)) in
     let G : List (List ℕ) → Type 0 = λ ch. Gives ch (length hs) (upd F1 (place m) (c ∷ F1 (place m))) in
     let is : put_first m c C1 ≡ watched c ls L.chains = ap (λ (zs : List Literal). watched c zs L.chains) (sym r.1) in
-    grown-by vars spare old count ws hs (heads_long ws hs l m) x ls (place l) (get_or hs (place l) 0) (place m) (get_or hs (place m) 0) (upd F1 (place m) (c ∷ F1 (place m))) h e vd j (subst G is g2)
+    grown-by vars spare old count ws hs (heads_long ws hs l m) x ls (place l) (get_or hs (place l) 0) (place m) (get_or hs (place m) 0) (upd F1 (place m) (c ∷ F1 (place m))) h e vd j (subst G is g2) fits
 
 abbrev pub words_short : List ℕ → List Literal → ℕ → List ℕ
 words_short ws ls k = ws ++ block (length (map place ls)) 0 0 1 0 k (map place ls)
 
-pub short-law : (vars spare old count : ℕ) (ws hs : List ℕ) (x : ArenaLists) (ls : List Literal) → HoldsArena ws hs vars count → lists_of vars old ws hs (references_in ws) ≡ x → clause_in vars ls ≡ true → vars_differ ls ≡ true → length ls < 2 → Grown vars spare count (words_short ws ls (count + 1)) hs x ls (length ws)
-short-law vars spare old count ws hs x ls h e ci vd n =
+pub short-law : (vars spare old count : ℕ) (ws hs : List ℕ) (x : ArenaLists) (ls : List Literal) → HoldsArena ws hs vars count → lists_of vars old ws hs (references_in ws) ≡ x → clause_in vars ls ≡ true → vars_differ ls ≡ true → length ls < 2 → length ws + length ls + 7 ≤ WORD_LIMIT → Grown vars spare count (words_short ws ls (count + 1)) hs x ls (length ws)
+short-law vars spare old count ws hs x ls h e ci vd n fits =
     let refs = references_in ws in
     let ps = map place ls in
     let within : (p : ℕ) → Stands ps p → (2 ≤ p) × (p < 2 * vars + 2) = λ p s. places-within vars p ls ci s in
     let j = added-short ws hs refs ps (count + 1) h.linked (omega (arith, length-map ls place)) (λ p s. (within p s).0) (λ p s. omega (arith, (within p s).1, h.heads)) in
     let L = lists_of vars old ws hs refs in
     let G : List (List ℕ) → Type 0 = λ ch. Gives ch (length hs) (chain_at ws hs) in
-    grown-by vars spare old count ws hs hs x ls 0 0 1 0 (chain_at ws hs) h e vd j (subst G (same ls L.chains n) (gives-seen vars old ws hs refs))
+    grown-by vars spare old count ws hs hs x ls 0 0 1 0 (chain_at ws hs) h e vd j (subst G (same ls L.chains n) (gives-seen vars old ws hs refs)) fits
   where
     same : (ls : List Literal) (ch : List (List ℕ)) → length ls < 2 → ch ≡ watched (length ws) ls ch
     same [] ch n = refl
@@ -180,7 +182,7 @@ clause-lit n [] i l h s = absurd (cc)
 clause-lit n (x ∷ xs) zero l h s = (let e : x ≡ l = cc in ap (lit_in n) (sym e) ∙ (and_parts _ _ h).0)
 clause-lit n (x ∷ xs) (suc i) l h s = clause-lit n xs i l (and_parts _ _ h).1 s
 
-pub lit-fits : (vars count : ℕ) (ws hs : List ℕ) (ls : List Literal) (i : ℕ) (l : Literal) → HoldsArena ws hs vars count → clause_in vars ls ≡ true → slice_get ls i ≡ Some l → (l.var ≤ 2 ^ 62) × (place l < length hs)
+pub lit-fits : (vars count : ℕ) (ws hs : List ℕ) (ls : List Literal) (i : ℕ) (l : Literal) → HoldsArena ws hs vars count → clause_in vars ls ≡ true → slice_get ls i ≡ Some l → (2 * l.var + 1 < WORD_LIMIT) × (place l < length hs)
 lit-fits vars count ws hs ls i l h ci s =
     let t = clause-lit vars ls i l ci s in
     let p : (ltb 0 l.var ≡ true) × (leb l.var vars ≡ true) = and_parts _ _ t in

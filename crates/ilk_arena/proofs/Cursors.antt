@@ -1,10 +1,11 @@
 -- What a new cursor leaves, and an arena without clauses.
-use Rattle.std.proofs.Common.{◌≡◌, ◌≢◌, ℕ, ◌+◌, ◌-◌, ◌*◌, ◌^◌, ◌<◌, ◌≤◌, ◌⊎◌, inl, inr, List, [], ◌∷◌, length, get_or, set, drop, map, replicate, refl, sym, ap, ◌∙◌, subst, arith}
+use Rattle.std.proofs.Common.{◌≡◌, ◌≢◌, ℕ, ◌+◌, ◌-◌, ◌*◌, ◌<◌, ◌≤◌, ◌⊎◌, inl, inr, List, [], ◌∷◌, length, get_or, set, drop, map, replicate, refl, sym, ap, ◌∙◌, subst, arith}
 use Rattle.std.proofs.lemmas.Bool.Decides.{eqb_tells}
 use Rattle.std.proofs.lemmas.Bool.{cases_eq, cases_order}
 use Rattle.std.proofs.lemmas.List.{get_or-set_same, get_or-set_other, drop-set-lt, drop-set-add, take-set-le, get_or-replicate, length-replicate, length-set}
 use Rattle.ilk_cnf.specs.Literal.{vars_differ}
 use Rattle.ilk_arena.specs.Arena.{ArenaLists, set_beside}
+use Rattle.ilk_arena.specs.declared.place.TheConstants.{WORD_LIMIT}
 use Rattle.ilk_arena.specs.Words.{Path, chain, Each, Stands, Watches, left, right, Distinct, Chains, Headers, next_reference}
 use Rattle.ilk_arena.specs.Linked.{lit_at, places_at, literals_at, cursor_at, chain_at, Blocks, references_in, lists_of, Linked, Laid, HoldsArena}
 use Rattle.ilk_arena.proofs.Blocks.{references-are, blocks-same, stands-at}
@@ -148,6 +149,7 @@ cursor-law vars spare count ws hs a c v h e s le =
     record {
       holds = record {
         few = h.few;
+        addressed = omega (arith, h.addressed, size);
         heads = h.heads;
         counted = h.counted ∙ ap (λ (rs : List ℕ). length rs) (sym re);
         linked = subst P (sym re) t.linked;
@@ -157,7 +159,7 @@ cursor-law vars spare count ws hs a c v h e s le =
     }
 
 -- an arena without clauses
-pub empty-holds : (vars : ℕ) → vars ≤ 2 ^ 62 → HoldsArena (0 ∷ []) (replicate (2 * vars + 2) 0) vars 0
+pub empty-holds : (vars : ℕ) → 2 * vars + 2 ≤ WORD_LIMIT → HoldsArena (0 ∷ []) (replicate (2 * vars + 2) 0) vars 0
 empty-holds vars few =
     let ws : List ℕ = 0 ∷ [] in
     let hs : List ℕ = replicate (2 * vars + 2) 0 in
@@ -166,6 +168,7 @@ empty-holds vars few =
     let none : (l : ℕ) → l < length hs → chain_at ws hs l ≡ [] = λ l h. ap (λ (k : ℕ). chain ws l 1 k) (head l h) in
     record {
       few = few;
+      addressed = omega arith;
       heads = n;
       counted = refl;
       linked = record {

@@ -1,11 +1,12 @@
 -- What the calls that only read may rely on.
-use Rattle.std.proofs.Common.{◌≡◌, ◌≢◌, ℕ, suc, ◌+◌, ◌^◌, ◌<◌, ◌≤◌, inl, inr, Bool, true, false, ◌&&◌, not, ltb, leb, ◌==◌, List, [], ◌∷◌, ◌++◌, length, get_or, take, drop, map, refl, sym, ap, ◌∙◌, subst, arith, Some}
+use Rattle.std.proofs.Common.{◌≡◌, ◌≢◌, ℕ, suc, ◌+◌, ◌*◌, ◌<◌, ◌≤◌, inl, inr, Bool, true, false, ◌&&◌, not, ltb, leb, ◌==◌, List, [], ◌∷◌, ◌++◌, length, get_or, take, drop, map, refl, sym, ap, ◌∙◌, subst, arith, Some}
 use Rattle.std.specs.List.{slice_get, position_or_len}
 use Rattle.std.proofs.lemmas.Bool.Decides.{eqb_tells}
 use Rattle.std.proofs.lemmas.Bool.{cases_Bool, and_parts, and_from, leb-true, not-true, not_from_false}
 use Rattle.ilk_cnf.specs.Literal.{Literal, same_lit}
 use Rattle.ilk_cnf.specs.Formula.{lit_in}
 use Rattle.ilk_arena.specs.Arena.{ArenaLists, place, chain_of, stands_in, literals_of, cursor_of, number_of_clause, first_of, after, other_watch_of}
+use Rattle.ilk_arena.specs.declared.place.TheConstants.{WORD_LIMIT}
 use Rattle.ilk_arena.specs.Words.{Stands, Watches, left, right, next_reference, other, reference_of}
 use Rattle.ilk_arena.specs.Linked.{lit_at, places_at, chain_at, references_in, lists_of, Linked, HoldsArena}
 use Rattle.ilk_base.proofs.Lists.{find-only}
@@ -58,13 +59,9 @@ known vars spare count ws hs a c h e t =
       within = h.laid.cursor c s;
     }
 
--- a place fits the calls
-pub place-fits : (vars count : ℕ) (ws hs : List ℕ) (c p : ℕ) → HoldsArena ws hs vars count → Stands (references_in ws) c → Stands (places_at ws c) p → (2 ≤ p) × (p < 2 ^ 63 + 2)
-place-fits vars count ws hs c p h s o = (h.linked.least c p s o, omega (arith, h.linked.small c p s o, h.heads, h.few))
-
 -- a literal of the arena's variables
 pub record Within (ws hs : List ℕ) (a : ArenaLists) (l : Literal) : Type 0 where
-  pub few : l.var ≤ 2 ^ 62
+  pub few : 2 * l.var + 1 < WORD_LIMIT
   pub below : place l < length hs
   pub chain : chain_of a l ≡ chain_at ws hs (place l)
 
@@ -95,7 +92,6 @@ after-seen vars count ws hs a l c h w i = after-is ws (place l) (get_or hs (plac
 -- the other watch
 pub record OtherWatch (ws : List ℕ) (a : ArenaLists) (c : ℕ) (l : Literal) : Type 0 where
   pub low : 2 ≤ other ws (place l) c
-  pub high : other ws (place l) c < 2 ^ 63 + 2
   pub is : other_watch_of a c l ≡ Some (lit_at (other ws (place l) c))
 
 record Other (ws : List ℕ) (c f q : ℕ) : Type 0 where
@@ -158,10 +154,8 @@ other-seen vars spare count ws hs a l c h e t =
     let yes : same_lit l y ≡ true = ap (same_lit l) same ∙ same-lit l in
     absurd (cc)) in
     lit-of q y (sym (o.only (place y) w.watches differs))) in
-    let b = place-fits vars count ws hs c q h s own in
     record {
-      low = b.0;
-      high = b.1;
+      low = k.least c q s own;
       is = ap (λ (y : ArenaLists). other_watch_of y c l) (sym e) ∙ find-only p (literals_of L c) x n.0 in-list passes only;
     }
 

@@ -70,6 +70,7 @@ holds-alike ws us hs ks vars count h a n li =
     let Q : List ℕ → Type 0 = λ rs. Laid us rs in (
       record {
         few = h.few;
+        addressed = omega (arith, h.addressed, a.size);
         heads = n ∙ h.heads;
         counted = h.counted ∙ ap (λ (rs : List ℕ). length rs) (sym e);
         linked = subst P (sym e) li;

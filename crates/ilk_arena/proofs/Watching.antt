@@ -1,12 +1,12 @@
 -- In which chains a clause stands, after a watch has moved and after a clause was added.
-use Rattle.std.proofs.Common.{◌≡◌, ◌≢◌, ◌⊎◌, ℕ, zero, suc, inl, inr, true, false, not, eqb, List, [], ◌∷◌, ◌++◌, get_or, set, refl, sym, ap, ◌∙◌, subst}
+use Rattle.std.proofs.Common.{◌≡◌, ◌≢◌, ◌⊎◌, ℕ, zero, suc, inl, inr, true, false, eqb, List, [], ◌∷◌, ◌++◌, get_or, set, refl, sym, ap, ◌∙◌}
 use Rattle.std.specs.List.{IsDistinct}
-use Rattle.std.proofs.lemmas.Bool.{cases_eq, eqb-true, not-true, or_cases, or_parts, eq-eqb, eqb-false, ne_eqb, or_from}
+use Rattle.std.proofs.lemmas.Bool.{eqb-true, or_cases, or_parts, eq-eqb, eqb-false, ne_eqb, or_from}
 use Rattle.std.proofs.lemmas.Bool.Decides.{eqb_tells}
 use Rattle.std.proofs.lemmas.List.{get_or-set_other}
 use Rattle.std.proofs.lemmas.Map.Keys.{IsDistinct-head, IsDistinct-tail}
 use Rattle.ilk_cnf.specs.Literal.{Literal}
-use Rattle.ilk_arena.specs.Arena.{ArenaLists, place, chain_of, stands_in, put_first, taken_out, watched, without_reference, added, rewatched}
+use Rattle.ilk_arena.specs.Arena.{ArenaLists, place, chain_of, stands_in, put_first, taken_out, without_reference, added, rewatched}
 use Rattle.ilk_arena.specs.Linked.{lit_at}
 use Rattle.ilk_arena.proofs.Seen.{lit-at-place}
 

@@ -1,8 +1,9 @@
 -- Only proofs need this file: how the words of an arena hold its lists.
-use Rattle.std.specs.Prelude.{ℕ, zero, suc, ◌+◌, ◌*◌, ◌/◌, ◌%◌, ◌^◌, ◌<◌, ◌≤◌, ◌≡◌, ◌≢◌, true, ◌==◌, List, [], ◌∷◌, cond, nat_lt, slice_index, length, take, drop, map, Some}
+use Rattle.std.specs.Prelude.{ℕ, zero, suc, ◌+◌, ◌*◌, ◌/◌, ◌%◌, ◌<◌, ◌≤◌, ◌≡◌, ◌≢◌, true, ◌==◌, List, [], ◌∷◌, cond, nat_lt, slice_index, length, take, drop, map, Some}
 use Rattle.std.specs.List.{slice_get, range_with_len}
 use Rattle.ilk_cnf.specs.Literal.{Literal, vars_differ}
 use Rattle.ilk_arena.specs.Arena.{ArenaLists}
+use Rattle.ilk_arena.specs.declared.place.TheConstants.{WORD_LIMIT}
 use Rattle.ilk_arena.specs.Words.{chain, Stands, Watches, Chains}
 
 -- the literal at a place
@@ -74,9 +75,11 @@ pub record Laid (ws refs : List ℕ) : Type 0 where
   pub cursor : (c : ℕ) → Stands refs c → slice_index ws (c + 6) ≤ slice_index ws c
   pub apart : (c : ℕ) → Stands refs c → vars_differ (literals_at ws c) ≡ true
 
--- how the words, the heads, the number of variables and the number of clauses hold the lists
+-- how the words, the heads, the number of variables and the number of clauses hold the lists, where
+-- each place and each reference fits a word
 pub record HoldsArena (ws hs : List ℕ) (vars count : ℕ) : Type 0 where
-  pub few : vars ≤ 2 ^ 62
+  pub few : 2 * vars + 2 ≤ WORD_LIMIT
+  pub addressed : length ws ≤ WORD_LIMIT
   pub heads : length hs ≡ 2 * vars + 2
   pub counted : count ≡ length (references_in ws)
   pub linked : Linked ws hs (references_in ws)

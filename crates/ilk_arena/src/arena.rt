@@ -7,7 +7,7 @@ ghost use Rattle.ilk_arena.specs.Chains.{IsArena};
 
 use crate::block::append;
 use crate::links::{lead, move_watch, next_of, other_of};
-use crate::place::{lit_at, place};
+use crate::place::{WORD_LIMIT, lit_at, place};
 use ilk_cnf::Lit;
 use std::alloc::{AllocError, Global};
 use std::marker::Model;
@@ -23,40 +23,45 @@ const CURSOR: usize = 6;
 #[derive(Drop)]
 pub struct Arena {
     // the clauses, after one word that no clause takes, so that no reference is 0
-    words: Vec<u64>,
+    words: Vec<u32>,
     // by place: the first clause of its chain, or 0
-    heads: Vec<u64>,
+    heads: Vec<u32>,
     vars: u64,
-    count: u64,
+    count: u32,
 }
 
 impl Model for Arena {
-    ghost use Rattle.std.specs.Prelude.{◌-◌, vec_len, vec_capacity};
+    ghost use Rattle.std.specs.Prelude.{◌-◌, min, vec_len, vec_capacity};
     ghost use Rattle.ilk_arena.specs.Arena.{ArenaLists};
     ghost use Rattle.ilk_arena.specs.Linked.{lists_of, references_in, HoldsArena};
+    ghost use Rattle.ilk_arena.specs.declared.place.TheConstants.{WORD_LIMIT};
 
     ghost Value = { ArenaLists };
 
-    ghost view = { λ a. lists_of a.vars (vec_capacity a.words - vec_len a.words) a.words.items a.heads.items (references_in a.words.items) };
+    ghost view = { λ a. lists_of a.vars (min (vec_capacity a.words) WORD_LIMIT - vec_len a.words) a.words.items a.heads.items (references_in a.words.items) };
 
     ghost invariant = { λ a. HoldsArena a.words.items a.heads.items a.vars a.count };
 }
 
 // A link as a reference.
 #[inline(always)]
-fn reference(link: u64) -> Option<u64>
+fn reference(link: u32) -> Option<u64>
     ensures { result ≡ reference_of link }
 {
-    if link == 0 { None } else { Some(link) }
+    if link == 0 { None } else { Some(link as u64) }
 }
 
 impl Arena {
-    /// An arena over the variables 1 to `vars`, without clauses.
+    /// An arena over the variables 1 to `vars`, without clauses. There is no memory for 2^31 variables
+    /// or more: a word has no room for their places.
     pub fn new(alloc: Global, vars: u64) -> Result<Arena, AllocError>
         requires { vars ≤ 2 ^ 62 }
         ensures empty { IfOk result (λ a. a ≡ record { vars = vars; spare = a.spare; references = []; clauses = []; cursors = []; chains = replicate (2 * vars + 2) [] }) }
         ensures arena { IfOk result (λ a. IsArena a) }
     {
+        if 2 * vars + 2 > WORD_LIMIT {
+            return Err(AllocError);
+        }
         Ok(Arena {
             words: vec![in alloc; 0]?,
             heads: vec![in alloc; 0; 2 * vars as usize + 2]?,
@@ -65,12 +70,16 @@ impl Arena {
         })
     }
 
-    /// Makes room for clauses of so many words: their literals, and 8 more for each clause.
+    /// Makes room for clauses of so many words: their literals, and 8 more for each clause. There is no
+    /// memory for more than 2^32 words in all: a word has no room for a reference past them.
     pub fn reserve(&mut self, words: u64) -> Result<(), AllocError>
         ensures room { OnOk result (words ≤ self.new.spare) }
         ensures same { self.new ≡ record self.old { spare = self.new.spare } }
         ensures err { OnErr result (self.new ≡ self.old) }
     {
+        if words > WORD_LIMIT - self.words.len() as u64 {
+            return Err(AllocError);
+        }
         self.words.reserve(words as usize)?;
         Ok(())
     }
@@ -108,7 +117,7 @@ impl Arena {
         self.count += 1;
         append(
             &mut self.words,
-            [clause.len() as u64, 0, 0, 1, 0, self.count, 0],
+            [clause.len() as u32, 0, 0, 1, 0, self.count, 0],
             clause,
         );
         reference
@@ -134,7 +143,7 @@ impl Arena {
         append(
             &mut self.words,
             [
-                clause.len() as u64,
+                clause.len() as u32,
                 left,
                 left_link,
                 right,
@@ -161,7 +170,7 @@ impl Arena {
         requires { IsTrue (stands_in c self.now.references) }
         ensures { result ≡ length (literals_of self.now c) }
     {
-        self.words[c as usize]
+        self.words[c as usize] as u64
     }
 
     /// Literal `i` of clause `c`.
@@ -178,7 +187,7 @@ impl Arena {
         requires { IsTrue (stands_in c self.now.references) }
         ensures { result ≡ number_of_clause self.now c }
     {
-        self.words[c as usize + NUMBER]
+        self.words[c as usize + NUMBER] as u64
     }
 
     /// The cursor of clause `c`, which is 0 at first.
@@ -187,7 +196,7 @@ impl Arena {
         ensures cursor { result ≡ cursor_of self.now c }
         ensures within { result ≤ length (literals_of self.now c) }
     {
-        self.words[c as usize + CURSOR]
+        self.words[c as usize + CURSOR] as u64
     }
 
     /// Sets the cursor of clause `c`.
@@ -196,7 +205,8 @@ impl Arena {
         requires within { i ≤ length (literals_of self.old c) }
         ensures { self.new ≡ record self.old { cursors = set_beside c self.old.references self.old.cursors i } }
     {
-        self.words[c as usize + CURSOR] = i;
+        let cursor = &mut self.words[c as usize + CURSOR];
+        *cursor = i as u32;
     }
 
     /// The first clause in the chain of `l`.

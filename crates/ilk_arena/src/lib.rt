@@ -5,6 +5,10 @@
 //! are linked into a chain. The links run through the clauses' own headers, so that moving a watch
 //! takes no memory and writes a few words that were just read.
 //!
+//! A search spends most of its time loading headers, so a word has only 32 bits. The references and
+//! the places of literals are below 2^32 (`WORD_LIMIT`), so an arena has at most 2^32 words and
+//! 2^31 - 1 variables. Past that `new` and `reserve` answer that there is no memory.
+//!
 //! `reserve` makes room, and `add` then adds a clause without fail, answering the reference by which
 //! every other call names it. `first_watch` and `next_watch` walk along the chain of a literal;
 //! `other_watch`, `length`, `literal` and `number` tell of the clause at hand; and `rewatch` moves its

@@ -1,28 +1,27 @@
-ghost use Rattle.std.specs.Prelude.{◌≡◌, ◌<◌, ◌≤◌, ◌+◌, ◌^◌};
+ghost use Rattle.std.specs.Prelude.{◌≡◌, ◌<◌, ◌≤◌, ◌+◌, ◌*◌};
 ghost use Rattle.ilk_arena.specs.Arena.{place};
 ghost use Rattle.ilk_arena.specs.Linked.{lit_at};
 
 use ilk_cnf::Lit;
 
+/// What a word holds is below this: a place, and a reference too, so that a block has no more words.
+pub const WORD_LIMIT: u64 = 1 << 32;
+
 /// The place of a literal in the list of chains.
 #[inline(always)]
-pub fn place(l: Lit) -> u64
-    requires { l.var ≤ 2 ^ 62 }
+pub fn place(l: Lit) -> u32
+    requires { 2 * l.var + 1 < WORD_LIMIT }
     ensures { result ≡ place l }
 {
-    if l.positive() {
-        2 * l.var() + 1
-    } else {
-        2 * l.var()
-    }
+    let negative = 2 * l.var() as u32;
+    if l.positive() { negative + 1 } else { negative }
 }
 
 /// The literal at a place.
 #[inline(always)]
-pub fn lit_at(place: u64) -> Lit
-    requires low { 2 ≤ place }
-    requires high { place < 2 ^ 63 + 2 }
+pub fn lit_at(place: u32) -> Lit
+    requires { 2 ≤ place }
     ensures { result ≡ lit_at place }
 {
-    Lit::new(place / 2, place % 2 == 1)
+    Lit::new(place as u64 / 2, place % 2 == 1)
 }

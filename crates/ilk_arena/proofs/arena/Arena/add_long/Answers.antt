@@ -1,10 +1,11 @@
-use Rattle.std.proofs.Common.{◌≡◌, ◌+◌, ◌-◌, ◌^◌, ◌++◌, ◌∷◌, ℕ, List, Some, length, get_or, take, drop, map, arith, ap, sym, subst, ◌∙◌, refl, length-append}
+use Rattle.std.proofs.Common.{◌≡◌, ◌+◌, ◌-◌, ◌/◌, ◌++◌, ◌∷◌, ℕ, min, List, Some, length, get_or, take, drop, map, arith, ap, sym, subst, ◌∙◌, refl, length-append}
 use Rattle.std.specs.List.{slice_get}
 use Rattle.std.proofs.lemmas.List.{get_or_read, length-map}
 use Rattle.std.proofs.lemmas.Option.{slice_get_read}
 use Rattle.ilk_cnf.specs.Formula.{clause_in}
 use Rattle.ilk_cnf.proofs.Literals.{clause_in-more}
 use Rattle.ilk_arena.specs.Arena.{place, added}
+use Rattle.ilk_arena.specs.declared.place.TheConstants.{WORD_LIMIT}
 use Rattle.ilk_arena.specs.Linked.{lists_of, references_in, HoldsArena}
 use Rattle.ilk_arena.proofs.Law.{arena-law}
 use Rattle.ilk_arena.proofs.Adding.{block}
@@ -53,7 +54,10 @@ index-right_link-requires c =
     omega (arith, mf.1, c.place-right.ensures, s.heads.ok.0)
 
 pub overflow_add-self : goal.overflow_add-self
-overflow_add-self c = let s = c.self.inside in omega (arith, count-fits s.vars s.count s.words.items s.heads.items c.self.invariant, s.words.ok, s.words.small)
+overflow_add-self c = let s = c.self.inside in omega (arith, count-fits s.vars s.count s.words.items s.heads.items c.self.invariant, spare-are s.vars _ s.words.items s.heads.items c.args.self.now c.self.view_is, c.requires.room, s.words.ok.0)
+
+pub overflow_cast-clause : goal.overflow_cast-clause
+overflow_cast-clause c = let s = c.self.inside in omega (arith, spare-are s.vars _ s.words.items s.heads.items c.args.self.now c.self.view_is, c.requires.room)
 
 pub append-requires-clause-room : goal.append-requires-clause-room
 append-requires-clause-room c = let s = c.self.inside in omega (arith, spare-are s.vars _ s.words.items s.heads.items c.args.self.now c.self.view_is, c.requires.room)
@@ -63,7 +67,7 @@ append-requires-clause-within c =
     let s = c.self.inside in
     let ls = c.args.clause.now in
     let within = ap (λ (n : ℕ). clause_in n ls) (vars-are s.vars _ s.words.items s.heads.items c.args.self.now c.self.view_is) ∙ c.requires.within in
-    clause_in-more s.vars (2 ^ 62) ls c.self.invariant.few within
+    clause_in-more s.vars (WORD_LIMIT / 2 - 1) ls (omega (arith, c.self.invariant.few)) within
 
 pub lead-requires-clause-left_in : goal.lead-requires-clause-left_in
 lead-requires-clause-left_in c =
@@ -85,6 +89,9 @@ lead-requires-clause-right_in c =
     let mf = lit-fits s.vars s.count s.words.items s.heads.items ls 1 m c.self.invariant within b in
     rw (c.deref_mut.ensures.value, c.place-right.ensures) mf.1
 
+pub lead-requires-clause-fits : goal.lead-requires-clause-fits
+lead-requires-clause-fits c = let s = c.self.inside in omega (arith, spare-are s.vars _ s.words.items s.heads.items c.args.self.now c.self.view_is, c.requires.room, c.len-reference.ensures)
+
 pub invariant_of-self : goal.invariant_of-self
 invariant_of-self c =
     let s = c.self.inside in
@@ -96,7 +103,7 @@ invariant_of-self c =
     let m = c.index-clause-1.result in
     let b : slice_get ls 1 ≡ Some m = slice_get_read ls (length ls) 1 m refl (omega arith) c.index-clause-1.is in
     let mf = lit-fits s.vars s.count s.words.items s.heads.items ls 1 m c.self.invariant within b in
-    let V = c.append.new.words.cap - c.append.new.words.len in
+    let V = min c.append.new.words.cap WORD_LIMIT - c.append.new.words.len in
     let hs = s.heads.items in
     let p0 : c.index-left_link.result.now ≡ get_or hs (place l) 0 = get_or_read hs (place l) c.index-left_link.result.now lf.1 (rw c.place-left.ensures at c.index-left_link.ensures) 0 in
     let p1 : c.index-right_link.result.now ≡ get_or hs (place m) 0 = get_or_read hs (place m) c.index-right_link.result.now mf.1 (rw c.place-right.ensures at c.index-right_link.ensures) 0 in
@@ -106,7 +113,7 @@ invariant_of-self c =
     let h = rw (c.deref_mut.ensures.value, c.place-left.ensures, c.place-right.ensures, n) at c.lead.ensures in
     let nh : length c.lead.new.heads ≡ s.heads.len = omega (arith, c.lead.auto.heads, c.deref_mut.ensures.len) in
     let eh : take s.heads.len (c.lead.new.heads ++ drop (length c.lead.new.heads) hs) ≡ heads_long s.words.items hs l m = written s.heads.len c.lead.new.heads hs nh ∙ h in
-    let g = long-law s.vars V _ s.count s.words.items hs c.args.self.now ls l m c.self.invariant c.self.view_is within c.requires.differ a b in
+    let g = long-law s.vars V _ s.count s.words.items hs c.args.self.now ls l m c.self.invariant c.self.view_is within c.requires.differ a b (omega (arith, spare-are s.vars _ s.words.items s.heads.items c.args.self.now c.self.view_is, c.requires.room, s.words.ok.0)) in
     rw (ew, eh) g.holds
 
 pub returns-clause-added : goal.returns-clause-added
@@ -120,7 +127,7 @@ returns-clause-added c =
     let m = c.index-clause-1.result in
     let b : slice_get ls 1 ≡ Some m = slice_get_read ls (length ls) 1 m refl (omega arith) c.index-clause-1.is in
     let mf = lit-fits s.vars s.count s.words.items s.heads.items ls 1 m c.self.invariant within b in
-    let V = c.append.new.words.cap - c.append.new.words.len in
+    let V = min c.append.new.words.cap WORD_LIMIT - c.append.new.words.len in
     let hs = s.heads.items in
     let p0 : c.index-left_link.result.now ≡ get_or hs (place l) 0 = get_or_read hs (place l) c.index-left_link.result.now lf.1 (rw c.place-left.ensures at c.index-left_link.ensures) 0 in
     let p1 : c.index-right_link.result.now ≡ get_or hs (place m) 0 = get_or_read hs (place m) c.index-right_link.result.now mf.1 (rw c.place-right.ensures at c.index-right_link.ensures) 0 in
@@ -130,7 +137,7 @@ returns-clause-added c =
     let h = rw (c.deref_mut.ensures.value, c.place-left.ensures, c.place-right.ensures, n) at c.lead.ensures in
     let nh : length c.lead.new.heads ≡ s.heads.len = omega (arith, c.lead.auto.heads, c.deref_mut.ensures.len) in
     let eh : take s.heads.len (c.lead.new.heads ++ drop (length c.lead.new.heads) hs) ≡ heads_long s.words.items hs l m = written s.heads.len c.lead.new.heads hs nh ∙ h in
-    let g = long-law s.vars V _ s.count s.words.items hs c.args.self.now ls l m c.self.invariant c.self.view_is within c.requires.differ a b in
+    let g = long-law s.vars V _ s.count s.words.items hs c.args.self.now ls l m c.self.invariant c.self.view_is within c.requires.differ a b (omega (arith, spare-are s.vars _ s.words.items s.heads.items c.args.self.now c.self.view_is, c.requires.room, s.words.ok.0)) in
     let us = c.append.new.words.items in
     let ks = take s.heads.len (c.lead.new.heads ++ drop (length c.lead.new.heads) hs) in
     let Q : List ℕ → List ℕ → Type 0 = λ xs ys. lists_of s.vars V xs ys (references_in xs) ≡ added c.args.self.now ls (length s.words.items) V in
@@ -154,7 +161,7 @@ returns-clause-room c =
     let m = c.index-clause-1.result in
     let b : slice_get ls 1 ≡ Some m = slice_get_read ls (length ls) 1 m refl (omega arith) c.index-clause-1.is in
     let mf = lit-fits s.vars s.count s.words.items s.heads.items ls 1 m c.self.invariant within b in
-    let V = c.append.new.words.cap - c.append.new.words.len in
+    let V = min c.append.new.words.cap WORD_LIMIT - c.append.new.words.len in
     let hs = s.heads.items in
     let p0 : c.index-left_link.result.now ≡ get_or hs (place l) 0 = get_or_read hs (place l) c.index-left_link.result.now lf.1 (rw c.place-left.ensures at c.index-left_link.ensures) 0 in
     let p1 : c.index-right_link.result.now ≡ get_or hs (place m) 0 = get_or_read hs (place m) c.index-right_link.result.now mf.1 (rw c.place-right.ensures at c.index-right_link.ensures) 0 in
@@ -164,7 +171,7 @@ returns-clause-room c =
     let h = rw (c.deref_mut.ensures.value, c.place-left.ensures, c.place-right.ensures, n) at c.lead.ensures in
     let nh : length c.lead.new.heads ≡ s.heads.len = omega (arith, c.lead.auto.heads, c.deref_mut.ensures.len) in
     let eh : take s.heads.len (c.lead.new.heads ++ drop (length c.lead.new.heads) hs) ≡ heads_long s.words.items hs l m = written s.heads.len c.lead.new.heads hs nh ∙ h in
-    let g = long-law s.vars V _ s.count s.words.items hs c.args.self.now ls l m c.self.invariant c.self.view_is within c.requires.differ a b in
+    let g = long-law s.vars V _ s.count s.words.items hs c.args.self.now ls l m c.self.invariant c.self.view_is within c.requires.differ a b (omega (arith, spare-are s.vars _ s.words.items s.heads.items c.args.self.now c.self.view_is, c.requires.room, s.words.ok.0)) in
     let us = c.append.new.words.items in
     let ks = take s.heads.len (c.lead.new.heads ++ drop (length c.lead.new.heads) hs) in
     let new = spare-is s.vars V us ks (references_in us) in
@@ -183,7 +190,7 @@ returns-clause-arena c =
     let m = c.index-clause-1.result in
     let b : slice_get ls 1 ≡ Some m = slice_get_read ls (length ls) 1 m refl (omega arith) c.index-clause-1.is in
     let mf = lit-fits s.vars s.count s.words.items s.heads.items ls 1 m c.self.invariant within b in
-    let V = c.append.new.words.cap - c.append.new.words.len in
+    let V = min c.append.new.words.cap WORD_LIMIT - c.append.new.words.len in
     let hs = s.heads.items in
     let p0 : c.index-left_link.result.now ≡ get_or hs (place l) 0 = get_or_read hs (place l) c.index-left_link.result.now lf.1 (rw c.place-left.ensures at c.index-left_link.ensures) 0 in
     let p1 : c.index-right_link.result.now ≡ get_or hs (place m) 0 = get_or_read hs (place m) c.index-right_link.result.now mf.1 (rw c.place-right.ensures at c.index-right_link.ensures) 0 in
@@ -193,7 +200,7 @@ returns-clause-arena c =
     let h = rw (c.deref_mut.ensures.value, c.place-left.ensures, c.place-right.ensures, n) at c.lead.ensures in
     let nh : length c.lead.new.heads ≡ s.heads.len = omega (arith, c.lead.auto.heads, c.deref_mut.ensures.len) in
     let eh : take s.heads.len (c.lead.new.heads ++ drop (length c.lead.new.heads) hs) ≡ heads_long s.words.items hs l m = written s.heads.len c.lead.new.heads hs nh ∙ h in
-    let g = long-law s.vars V _ s.count s.words.items hs c.args.self.now ls l m c.self.invariant c.self.view_is within c.requires.differ a b in
+    let g = long-law s.vars V _ s.count s.words.items hs c.args.self.now ls l m c.self.invariant c.self.view_is within c.requires.differ a b (omega (arith, spare-are s.vars _ s.words.items s.heads.items c.args.self.now c.self.view_is, c.requires.room, s.words.ok.0)) in
     let us = c.append.new.words.items in
     let ks = take s.heads.len (c.lead.new.heads ++ drop (length c.lead.new.heads) hs) in
     let Q : List ℕ → List ℕ → Type 0 = λ xs ys. HoldsArena xs ys s.vars (s.count + 1) in

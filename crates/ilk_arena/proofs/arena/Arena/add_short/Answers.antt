@@ -1,8 +1,9 @@
-use Rattle.std.proofs.Common.{◌≡◌, ◌+◌, ◌-◌, ◌^◌, ◌++◌, ◌∷◌, ℕ, List, length, map, arith, ap, sym, subst, ◌∙◌, length-append}
+use Rattle.std.proofs.Common.{◌≡◌, ◌+◌, ◌-◌, ◌/◌, ◌++◌, ◌∷◌, ℕ, min, List, length, map, arith, ap, sym, subst, ◌∙◌, length-append}
 use Rattle.std.proofs.lemmas.List.{length-map}
 use Rattle.ilk_cnf.specs.Formula.{clause_in}
 use Rattle.ilk_cnf.proofs.Literals.{clause_in-more}
 use Rattle.ilk_arena.specs.Arena.{place, added}
+use Rattle.ilk_arena.specs.declared.place.TheConstants.{WORD_LIMIT}
 use Rattle.ilk_arena.specs.Linked.{lists_of, references_in, HoldsArena}
 use Rattle.ilk_arena.proofs.Law.{arena-law}
 use Rattle.ilk_arena.proofs.Adding.{block}
@@ -11,31 +12,31 @@ use Rattle.ilk_arena.proofs.arena.Arena.add_short.Goals as goal
 use Rattle.ilk_arena.proofs.AddedClauses.{short-law, words_short, new-reference}
 
 pub overflow_add-self : goal.overflow_add-self
-overflow_add-self c = let s = c.self.inside in omega (arith, count-fits s.vars s.count s.words.items s.heads.items c.self.invariant, s.words.ok, s.words.small)
+overflow_add-self c = let s = c.self.inside in omega (arith, count-fits s.vars s.count s.words.items s.heads.items c.self.invariant, spare-are s.vars _ s.words.items s.heads.items c.args.self.now c.self.view_is, c.requires.room, s.words.ok.0)
 
 pub append-requires-clause-room : goal.append-requires-clause-room
 append-requires-clause-room c = let s = c.self.inside in omega (arith, spare-are s.vars _ s.words.items s.heads.items c.args.self.now c.self.view_is, c.requires.room)
 
 pub append-requires-clause-within : goal.append-requires-clause-within
-append-requires-clause-within c = let s = c.self.inside in let within = ap (λ (n : ℕ). clause_in n c.args.clause.now) (vars-are s.vars _ s.words.items s.heads.items c.args.self.now c.self.view_is) ∙ c.requires.within in clause_in-more s.vars (2 ^ 62) c.args.clause.now c.self.invariant.few within
+append-requires-clause-within c = let s = c.self.inside in let within = ap (λ (n : ℕ). clause_in n c.args.clause.now) (vars-are s.vars _ s.words.items s.heads.items c.args.self.now c.self.view_is) ∙ c.requires.within in clause_in-more s.vars (WORD_LIMIT / 2 - 1) c.args.clause.now (omega (arith, c.self.invariant.few)) within
 
 pub invariant_of-self : goal.invariant_of-self
 invariant_of-self c = let s = c.self.inside in let within = ap (λ (n : ℕ). clause_in n c.args.clause.now) (vars-are s.vars _ s.words.items s.heads.items c.args.self.now c.self.view_is) ∙ c.requires.within in
-    let V = c.append.new.words.cap - c.append.new.words.len in
+    let V = min c.append.new.words.cap WORD_LIMIT - c.append.new.words.len in
     let ls = c.args.clause.now in
     let len : length ls ≡ length (map place ls) = sym (length-map ls place) in
     let ew : c.append.new.words.items ≡ words_short s.words.items ls (s.count + 1) = c.append.ensures.items ∙ ap (λ (n : ℕ). s.words.items ++ (n ∷ (0 ∷ (0 ∷ (1 ∷ (0 ∷ ((s.count + 1) ∷ (0 ∷ map place ls)))))))) len in
-    let g = short-law s.vars V _ s.count s.words.items s.heads.items c.args.self.now ls c.self.invariant c.self.view_is within c.requires.differ c.requires.short in
+    let g = short-law s.vars V _ s.count s.words.items s.heads.items c.args.self.now ls c.self.invariant c.self.view_is within c.requires.differ c.requires.short (omega (arith, spare-are s.vars _ s.words.items s.heads.items c.args.self.now c.self.view_is, c.requires.room, s.words.ok.0)) in
     let n : c.len-reference.result ≡ length s.words.items = omega (arith, c.len-reference.ensures, s.words.ok.0) in
     rw ew g.holds
 
 pub returns-clause-added : goal.returns-clause-added
 returns-clause-added c = let s = c.self.inside in let within = ap (λ (n : ℕ). clause_in n c.args.clause.now) (vars-are s.vars _ s.words.items s.heads.items c.args.self.now c.self.view_is) ∙ c.requires.within in
-    let V = c.append.new.words.cap - c.append.new.words.len in
+    let V = min c.append.new.words.cap WORD_LIMIT - c.append.new.words.len in
     let ls = c.args.clause.now in
     let len : length ls ≡ length (map place ls) = sym (length-map ls place) in
     let ew : c.append.new.words.items ≡ words_short s.words.items ls (s.count + 1) = c.append.ensures.items ∙ ap (λ (n : ℕ). s.words.items ++ (n ∷ (0 ∷ (0 ∷ (1 ∷ (0 ∷ ((s.count + 1) ∷ (0 ∷ map place ls)))))))) len in
-    let g = short-law s.vars V _ s.count s.words.items s.heads.items c.args.self.now ls c.self.invariant c.self.view_is within c.requires.differ c.requires.short in
+    let g = short-law s.vars V _ s.count s.words.items s.heads.items c.args.self.now ls c.self.invariant c.self.view_is within c.requires.differ c.requires.short (omega (arith, spare-are s.vars _ s.words.items s.heads.items c.args.self.now c.self.view_is, c.requires.room, s.words.ok.0)) in
     let n : c.len-reference.result ≡ length s.words.items = omega (arith, c.len-reference.ensures, s.words.ok.0) in
     let us = c.append.new.words.items in
     let Q : List ℕ → Type 0 = λ ws. lists_of s.vars V ws s.heads.items (references_in ws) ≡ added c.args.self.now ls (length s.words.items) V in
@@ -48,11 +49,11 @@ returns-clause-fresh c = let s = c.self.inside in
 
 pub returns-clause-room : goal.returns-clause-room
 returns-clause-room c = let s = c.self.inside in let within = ap (λ (n : ℕ). clause_in n c.args.clause.now) (vars-are s.vars _ s.words.items s.heads.items c.args.self.now c.self.view_is) ∙ c.requires.within in
-    let V = c.append.new.words.cap - c.append.new.words.len in
+    let V = min c.append.new.words.cap WORD_LIMIT - c.append.new.words.len in
     let ls = c.args.clause.now in
     let len : length ls ≡ length (map place ls) = sym (length-map ls place) in
     let ew : c.append.new.words.items ≡ words_short s.words.items ls (s.count + 1) = c.append.ensures.items ∙ ap (λ (n : ℕ). s.words.items ++ (n ∷ (0 ∷ (0 ∷ (1 ∷ (0 ∷ ((s.count + 1) ∷ (0 ∷ map place ls)))))))) len in
-    let g = short-law s.vars V _ s.count s.words.items s.heads.items c.args.self.now ls c.self.invariant c.self.view_is within c.requires.differ c.requires.short in
+    let g = short-law s.vars V _ s.count s.words.items s.heads.items c.args.self.now ls c.self.invariant c.self.view_is within c.requires.differ c.requires.short (omega (arith, spare-are s.vars _ s.words.items s.heads.items c.args.self.now c.self.view_is, c.requires.room, s.words.ok.0)) in
     let n : c.len-reference.result ≡ length s.words.items = omega (arith, c.len-reference.ensures, s.words.ok.0) in
     let us = c.append.new.words.items in
     let new = spare-is s.vars V us s.heads.items (references_in us) in
@@ -62,11 +63,11 @@ returns-clause-room c = let s = c.self.inside in let within = ap (λ (n : ℕ). 
 
 pub returns-clause-arena : goal.returns-clause-arena
 returns-clause-arena c = let s = c.self.inside in let within = ap (λ (n : ℕ). clause_in n c.args.clause.now) (vars-are s.vars _ s.words.items s.heads.items c.args.self.now c.self.view_is) ∙ c.requires.within in
-    let V = c.append.new.words.cap - c.append.new.words.len in
+    let V = min c.append.new.words.cap WORD_LIMIT - c.append.new.words.len in
     let ls = c.args.clause.now in
     let len : length ls ≡ length (map place ls) = sym (length-map ls place) in
     let ew : c.append.new.words.items ≡ words_short s.words.items ls (s.count + 1) = c.append.ensures.items ∙ ap (λ (n : ℕ). s.words.items ++ (n ∷ (0 ∷ (0 ∷ (1 ∷ (0 ∷ ((s.count + 1) ∷ (0 ∷ map place ls)))))))) len in
-    let g = short-law s.vars V _ s.count s.words.items s.heads.items c.args.self.now ls c.self.invariant c.self.view_is within c.requires.differ c.requires.short in
+    let g = short-law s.vars V _ s.count s.words.items s.heads.items c.args.self.now ls c.self.invariant c.self.view_is within c.requires.differ c.requires.short (omega (arith, spare-are s.vars _ s.words.items s.heads.items c.args.self.now c.self.view_is, c.requires.room, s.words.ok.0)) in
     let n : c.len-reference.result ≡ length s.words.items = omega (arith, c.len-reference.ensures, s.words.ok.0) in
     let us = c.append.new.words.items in
     let Q : List ℕ → Type 0 = λ ws. HoldsArena ws s.heads.items s.vars (s.count + 1) in

@@ -3,7 +3,7 @@ use Rattle.std.proofs.lemmas.List.{get_or_read}
 use Rattle.ilk_cnf.specs.Literal.{Literal}
 use Rattle.ilk_arena.specs.Linked.{references_in, lit_at}
 use Rattle.ilk_arena.proofs.Rewatching.{lit-at}
-use Rattle.ilk_arena.proofs.Readings.{known, place-fits}
+use Rattle.ilk_arena.proofs.Readings.{known}
 use Rattle.ilk_arena.proofs.arena.Arena.literal.Goals as goal
 
 pub overflow_add-c : goal.overflow_add-c
@@ -15,15 +15,10 @@ overflow_add-c-2 c = let s = c.self.inside in let k = known s.vars _ s.count s.w
 pub index-requires : goal.index-requires
 index-requires c = let s = c.self.inside in let k = known s.vars _ s.count s.words.items s.heads.items c.args.self.now c.args.c c.self.invariant c.self.view_is c.requires.known in let l = lit-at s.vars _ s.words.items s.heads.items (references_in s.words.items) c.args.self.now c.args.c c.args.i c.self.invariant.linked c.self.view_is k.stands c.requires.below in omega (arith, l.room, s.words.ok.0)
 
-pub lit_at-requires-clause-low : goal.lit_at-requires-clause-low
-lit_at-requires-clause-low c = let s = c.self.inside in let k = known s.vars _ s.count s.words.items s.heads.items c.args.self.now c.args.c c.self.invariant c.self.view_is c.requires.known in let l = lit-at s.vars _ s.words.items s.heads.items (references_in s.words.items) c.args.self.now c.args.c c.args.i c.self.invariant.linked c.self.view_is k.stands c.requires.below in
+pub lit_at-requires : goal.lit_at-requires
+lit_at-requires c = let s = c.self.inside in let k = known s.vars _ s.count s.words.items s.heads.items c.args.self.now c.args.c c.self.invariant c.self.view_is c.requires.known in let l = lit-at s.vars _ s.words.items s.heads.items (references_in s.words.items) c.args.self.now c.args.c c.args.i c.self.invariant.linked c.self.view_is k.stands c.requires.below in
     let r = get_or_read s.words.items (c.args.c + 7 + c.args.i) c.index.result.now l.room c.index.ensures 0 in
-    omega (arith, r, (place-fits s.vars s.count s.words.items s.heads.items c.args.c _ c.self.invariant k.stands l.own).0)
-
-pub lit_at-requires-clause-high : goal.lit_at-requires-clause-high
-lit_at-requires-clause-high c = let s = c.self.inside in let k = known s.vars _ s.count s.words.items s.heads.items c.args.self.now c.args.c c.self.invariant c.self.view_is c.requires.known in let l = lit-at s.vars _ s.words.items s.heads.items (references_in s.words.items) c.args.self.now c.args.c c.args.i c.self.invariant.linked c.self.view_is k.stands c.requires.below in
-    let r = get_or_read s.words.items (c.args.c + 7 + c.args.i) c.index.result.now l.room c.index.ensures 0 in
-    omega (arith, r, (place-fits s.vars s.count s.words.items s.heads.items c.args.c _ c.self.invariant k.stands l.own).1)
+    omega (arith, r, c.self.invariant.linked.least c.args.c _ k.stands l.own)
 
 pub returns : goal.returns
 returns c = let s = c.self.inside in let k = known s.vars _ s.count s.words.items s.heads.items c.args.self.now c.args.c c.self.invariant c.self.view_is c.requires.known in let l = lit-at s.vars _ s.words.items s.heads.items (references_in s.words.items) c.args.self.now c.args.c c.args.i c.self.invariant.linked c.self.view_is k.stands c.requires.below in

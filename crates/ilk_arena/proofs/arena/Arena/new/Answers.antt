@@ -1,5 +1,6 @@
-use Rattle.std.proofs.Common.{◌≡◌, ◌+◌, ◌-◌, ◌*◌, ◌∷◌, [], ℕ, List, replicate, ap, sym, subst, ◌∙◌}
+use Rattle.std.proofs.Common.{◌≡◌, ◌+◌, ◌-◌, ◌*◌, ◌∷◌, [], ℕ, min, List, replicate, arith, ap, sym, subst, ◌∙◌}
 use Rattle.ilk_arena.specs.Arena.{ArenaLists}
+use Rattle.ilk_arena.specs.declared.place.TheConstants.{WORD_LIMIT}
 use Rattle.ilk_arena.specs.Linked.{lists_of, references_in, HoldsArena}
 use Rattle.ilk_arena.proofs.Law.{arena-law}
 use Rattle.ilk_arena.proofs.Readings.{spare-is}
@@ -9,7 +10,7 @@ use Rattle.ilk_arena.proofs.Cursors.{empty-holds, empty-lists}
 pub returns-clause-empty : goal.returns-clause-empty
 returns-clause-empty c =
     let ws = c.in_ok-vec.field-0 in
-    let V = ws.cap - ws.len in
+    let V = min ws.cap WORD_LIMIT - ws.len in
     let hs = c.in_ok-vec-2.field-0.items in
     let w : ws.items ≡ 0 ∷ [] = c.in_ok-vec.ensures.items in
     let h : hs ≡ replicate (2 * c.args.vars + 2) 0 = c.in_ok-vec-2.ensures.items_if_clones_equal (λ y e. e) in
@@ -22,11 +23,11 @@ returns-clause-empty c =
 pub returns-clause-arena : goal.returns-clause-arena
 returns-clause-arena c =
     let ws = c.in_ok-vec.field-0 in
-    let V = ws.cap - ws.len in
+    let V = min ws.cap WORD_LIMIT - ws.len in
     let hs = c.in_ok-vec-2.field-0.items in
     let w : ws.items ≡ 0 ∷ [] = c.in_ok-vec.ensures.items in
     let h : hs ≡ replicate (2 * c.args.vars + 2) 0 = c.in_ok-vec-2.ensures.items_if_clones_equal (λ y e. e) in
     let P : List ℕ → List ℕ → Type 0 = λ xs ys. HoldsArena xs ys c.args.vars 0 in
-    let one : P ws.items (replicate (2 * c.args.vars + 2) 0) = subst (λ (xs : List ℕ). P xs (replicate (2 * c.args.vars + 2) 0)) (sym w) (empty-holds c.args.vars c.requires) in
+    let one : P ws.items (replicate (2 * c.args.vars + 2) 0) = subst (λ (xs : List ℕ). P xs (replicate (2 * c.args.vars + 2) 0)) (sym w) (empty-holds c.args.vars (omega arith)) in
     let two : P ws.items hs = subst (λ (ys : List ℕ). P ws.items ys) (sym h) one in
     arena-law c.args.vars V ws.items hs (references_in ws.items) two.linked

@@ -10,19 +10,12 @@ place-requires c = let s = c.self.inside in let w = within s.vars _ s.count s.wo
 pub other_of-requires : goal.other_of-requires
 other_of-requires c = let s = c.self.inside in let w = within s.vars _ s.count s.words.items s.heads.items c.args.self.now c.args.l c.self.invariant c.self.view_is c.requires.within in let i = watching s.vars _ s.words.items s.heads.items c.args.self.now c.args.l c.args.c c.self.invariant.linked c.self.view_is c.requires.stands in rw c.deref.ensures.value (omega (arith, c.self.invariant.linked.whole c.args.c i.known))
 
-pub lit_at-requires-clause-low : goal.lit_at-requires-clause-low
-lit_at-requires-clause-low c =
+pub lit_at-requires : goal.lit_at-requires
+lit_at-requires c =
     let s = c.self.inside in
     let o = other-seen s.vars _ s.count s.words.items s.heads.items c.args.self.now c.args.l c.args.c c.self.invariant c.self.view_is c.requires.stands in
     let n = rw (c.deref.ensures.value, c.place.ensures) at c.other_of.ensures in
     omega (arith, n, o.low)
-
-pub lit_at-requires-clause-high : goal.lit_at-requires-clause-high
-lit_at-requires-clause-high c =
-    let s = c.self.inside in
-    let o = other-seen s.vars _ s.count s.words.items s.heads.items c.args.self.now c.args.l c.args.c c.self.invariant c.self.view_is c.requires.stands in
-    let n = rw (c.deref.ensures.value, c.place.ensures) at c.other_of.ensures in
-    omega (arith, n, o.high)
 
 pub returns : goal.returns
 returns c =

@@ -32,6 +32,9 @@ move_watch-requires-clause-from_in c = let s = c.self.inside in let r = ready s.
 pub move_watch-requires-clause-to_in : goal.move_watch-requires-clause-to_in
 move_watch-requires-clause-to_in c = let s = c.self.inside in let r = ready s.vars _ s.count s.words.items s.heads.items c.args.self.now c.args.before c.args.c c.args.to c.args.from c.self.invariant c.self.view_is c.requires.within c.requires.follows c.requires.to_in in let pe = get_or_read s.words.items (c.args.c + 7 + c.args.to) c.index-watch.result.now r.literal_in c.index-watch.ensures 0 in rw c.deref_mut-2.ensures.value (omega (arith, pe, r.to_in))
 
+pub move_watch-requires-clause-fits : goal.move_watch-requires-clause-fits
+move_watch-requires-clause-fits c = let s = c.self.inside in let r = ready s.vars _ s.count s.words.items s.heads.items c.args.self.now c.args.before c.args.c c.args.to c.args.from c.self.invariant c.self.view_is c.requires.within c.requires.follows c.requires.to_in in omega (arith, r.clause_in, c.self.invariant.addressed)
+
 pub invariant_of-self : goal.invariant_of-self
 invariant_of-self c = let s = c.self.inside in let r = ready s.vars _ s.count s.words.items s.heads.items c.args.self.now c.args.before c.args.c c.args.to c.args.from c.self.invariant c.self.view_is c.requires.within c.requires.follows c.requires.to_in in let pe = get_or_read s.words.items (c.args.c + 7 + c.args.to) c.index-watch.result.now r.literal_in c.index-watch.ensures 0 in
     let t = c.index-watch.result.now in

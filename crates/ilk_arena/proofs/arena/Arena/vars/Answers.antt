@@ -1,4 +1,3 @@
-use Rattle.std.proofs.Common.{arith}
 use Rattle.ilk_arena.proofs.Readings.{vars-are}
 use Rattle.ilk_arena.proofs.arena.Arena.vars.Goals as goal
 
