@@ -1,4 +1,5 @@
 pub mod Literal
+pub mod Code
 pub mod Formula
 pub mod Truth
 pub mod Part

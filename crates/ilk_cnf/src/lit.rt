@@ -7,18 +7,22 @@ use std::marker::Model;
 /// sign says.
 #[derive(Clone, Copy)]
 pub struct Lit {
-    var: u64,
-    positive: bool,
+    // Twice the variable, and one more where the literal is positive: a formula has millions of
+    // literals, so that each takes one word.
+    code: u64,
 }
 
 impl Model for Lit {
     ghost use Rattle.ilk_cnf.specs.Literal.{Literal};
+    ghost use Rattle.ilk_cnf.specs.Code.{literal_of, code_of, code_of-literal_of};
 
     ghost Value = { Literal };
 
-    ghost view = { λ l. record { var = l.var; positive = l.positive } };
+    ghost view = { λ l. literal_of l.code };
 
-    ghost inverse = { λ l. record { var = l.var; positive = l.positive } };
+    ghost inverse = { λ l. record { code = code_of l } };
+
+    ghost inverse_ok = { λ l h i. record { code = code_of-literal_of l.code i } };
 }
 
 impl Lit {
@@ -29,21 +33,23 @@ impl Lit {
         requires numbered { var ≤ 2 ^ 62 }
         ensures { result ≡ record { var = var; positive = positive } }
     {
-        Lit { var, positive }
+        Lit {
+            code: 2 * var + positive as u64,
+        }
     }
 
     /// Its variable.
     pub fn var(self) -> u64
         ensures { result ≡ self.var }
     {
-        self.var
+        self.code / 2
     }
 
     /// Whether it is true where its variable is.
     pub fn positive(self) -> bool
         ensures { result ≡ self.positive }
     {
-        self.positive
+        self.code % 2 == 1
     }
 
     /// The other literal of its variable.
@@ -51,8 +57,7 @@ impl Lit {
         ensures { result ≡ opposite self }
     {
         Lit {
-            var: self.var,
-            positive: !self.positive,
+            code: self.code ^ 1,
         }
     }
 
@@ -60,6 +65,6 @@ impl Lit {
     pub fn is(self, other: Lit) -> bool
         ensures { result ≡ same_lit self other }
     {
-        self.var == other.var && self.positive == other.positive
+        self.code == other.code
     }
 }

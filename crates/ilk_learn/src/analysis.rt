@@ -99,16 +99,16 @@ fn analysed(
         None => Lits::new(alloc),
     };
     let hints = turned(alloc, &hand.hints)?;
-    fitted(alloc, &clause, &hints)
+    fitted(alloc, &clause, hints)
 }
 
 // The step in memory of just its size: a search keeps many of them.
-fn fitted(alloc: Global, clause: &Lits, hints: &Hints) -> Result<Step, AllocError>
-    ensures { IfOk result (λ s. s ≡ record { clause = clause.now; hints = hints.now }) }
+fn fitted(alloc: Global, clause: &Lits, hints: Hints) -> Result<Step, AllocError>
+    ensures { IfOk result (λ s. s ≡ record { clause = clause.now; hints = hints }) }
 {
     Ok(Step {
         clause: clause.copy(alloc)?,
-        hints: hints.copy(alloc)?,
+        hints,
     })
 }
 
@@ -196,15 +196,15 @@ fn level_below(trail: &Trail, clause: &Lits) -> u64
     trail.level_of(*clause.at(1))
 }
 
-// The hints from the last on.
+// The hints from the last on, in memory of just their size.
 fn turned(alloc: Global, hints: &Hints) -> Result<Hints, AllocError>
     ensures { IfOk result (λ h. h ≡ reverse hints.now) }
 {
-    let mut turned = Hints::new(alloc);
+    let mut turned = Hints::with_capacity(alloc, hints.len())?;
     let mut i = hints.len();
     while i > 0 {
         i -= 1;
-        turned.push(*hints.at(i))?;
+        turned.push(hints.at(i))?;
     }
     Ok(turned)
 }

@@ -1,8 +1,10 @@
 -- What is written for a step is its line.
-use Rattle.std.proofs.Common.{◌≡◌, ℕ, List, [], ◌∷◌, ◌++◌, map, flat_map, refl, sym, ap, ◌∙◌, append_assoc}
-use Rattle.std.specs.Prelude.{codes}
+use Rattle.std.proofs.Common.{◌≡◌, ℕ, ◌+◌, List, [], ◌∷◌, ◌++◌, map, flat_map, take, refl, sym, ap, ◌∙◌, append_assoc}
+use Rattle.std.specs.Prelude.{codes, slice_get, Some}
 use Rattle.std.specs.Fmt.{decimal}
 use Rattle.std.proofs.lemmas.List.{append-nil}
+use Rattle.std.proofs.lemmas.Option.{slice_get_within, get_or_from_slice_get}
+use Rattle.ilk_base.proofs.FlatMaps.{flat_map-grows}
 use Rattle.ilk_cnf.specs.Literal.{Literal}
 use Rattle.ilk_lines.specs.Lines.{Bytes}
 use Rattle.ilk_lines.specs.Written.{line_of}
@@ -41,3 +43,15 @@ text_is start s =
   where
     regroup : (t a b c d e : List ℕ) → ((((t ++ a) ++ b) ++ c) ++ d) ++ e ≡ t ++ (a ++ (b ++ (c ++ (d ++ e))))
     regroup t a b c d e = simp append_assoc
+
+-- a text with the first i numbers after it, each after a space, and then number i after a space
+pub numbers-grow : (start now next : Bytes) (ns : List ℕ) (i n : ℕ) → slice_get ns i ≡ Some n → now ≡ start ++ flat_map (λ k. 32 ∷ decimal k) (take i ns) → next ≡ (now ++ 32 ∷ []) ++ decimal n → next ≡ start ++ flat_map (λ k. 32 ∷ decimal k) (take (i + 1) ns)
+numbers-grow start now next ns i n at sofar grown =
+    let f : ℕ → Bytes = λ k. 32 ∷ decimal k in
+    let before : Bytes = flat_map f (take i ns) in
+    let more = flat_map-grows f ns i 0 before (before ++ f n) (slice_get_within ns i n at) refl (ap (λ (k : ℕ). before ++ f k) (sym (get_or_from_slice_get ns i n 0 at))) in
+    grown
+    ∙ ap (λ (t : Bytes). (t ++ 32 ∷ []) ++ decimal n) sofar
+    ∙ append_assoc (start ++ before) (32 ∷ []) (decimal n)
+    ∙ append_assoc start before (32 ∷ decimal n)
+    ∙ ap (λ (t : Bytes). start ++ t) more

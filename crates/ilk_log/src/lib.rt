@@ -1,10 +1,10 @@
 //! The log of a search: its steps, what makes them follow from a formula, and the lines that they are
 //! written in.
 //!
-//! A step is a clause with hints, the numbers of earlier clauses in the order in which propagation
-//! uses them, so that a checker needs no search: it takes the hints one after another (`Propagation`
-//! and `Derived` in `specs/`). `Fresh` says which clauses propagation alone doesn't give. These
-//! definitions speak of lists of clauses and of numbers alone.
+//! A step is a clause with hints (`Hints`), the numbers of earlier clauses in the order in which
+//! propagation uses them, so that a checker needs no search: it takes the hints one after another
+//! (`Propagation` and `Derived` in `specs/`). `Fresh` says which clauses propagation alone doesn't
+//! give. These definitions speak of lists of clauses and of numbers alone.
 //!
 //! `write_step` gives the one line of a step, `push_step` writes it at the end of a text, and
 //! `read_step` takes exactly these lines.
@@ -13,12 +13,14 @@
 //! (`fresh_steps_are_few`).
 #![tactic(auto)]
 
+mod hints;
 mod laws;
 mod read;
 mod step;
 mod write;
 
+pub use hints::Hints;
 pub use laws::{fresh_steps_are_few, refutations_refute};
 pub use read::read_step;
-pub use step::{Hints, Log, Step};
+pub use step::{Log, Step};
 pub use write::{push_step, write_step};

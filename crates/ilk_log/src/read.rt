@@ -5,7 +5,8 @@ ghost use Rattle.ilk_log.specs.StepReading.{count_of, hints_of, lit_of, lits_of_
 ghost use Rattle.ilk_log.specs.StepText.{has_numbers, step_text};
 ghost use Rattle.ilk_log.specs.declared.step.Step.{Step as StepValue};
 
-use crate::step::{Hints, Step};
+use crate::hints::Hints;
+use crate::step::Step;
 use ilk_base::Row;
 use ilk_cnf::{Lit, Lits};
 use ilk_lines::{decimal_up_to, next_word};
@@ -62,7 +63,7 @@ fn read_lits<'a>(
 fn read_hints(alloc: Global, line: &[u8]) -> Result<Option<Hints>, AllocError>
     ensures { IfOk result (λ told. told ≡ hints_of (words_of line.now)) }
 {
-    let mut hints = Row::new(alloc);
+    let mut hints = Hints::new(alloc);
     let mut left = line;
     'words: loop {
         let (word, rest) = next_word(left);

@@ -3,6 +3,7 @@ ghost use Rattle.std.specs.Fmt.{decimal};
 ghost use Rattle.std.specs.List.{list_all};
 ghost use Rattle.ilk_log.specs.StepText.{lit_word, step_text};
 
+use crate::hints::Hints;
 use crate::step::Step;
 use ilk_cnf::Lit;
 use ilk_lines::push_decimal;
@@ -26,13 +27,13 @@ fn push_lits(text: &mut String, lits: &[Lit]) -> Result<(), AllocError>
     Ok(())
 }
 
-// Writes each number after a space.
-fn push_numbers(text: &mut String, numbers: &[u64]) -> Result<(), AllocError>
-    ensures { OnOk result (string_bytes text.new ≡ string_bytes text.old ++ flat_map (λ n. 32 ∷ decimal n) numbers.now) }
+// Writes each hint after a space.
+fn push_hints(text: &mut String, hints: &Hints) -> Result<(), AllocError>
+    ensures { OnOk result (string_bytes text.new ≡ string_bytes text.old ++ flat_map (λ n. 32 ∷ decimal n) hints.now) }
 {
-    for number in numbers {
+    for i in 0..hints.len() {
         text.push_str(" ")?;
-        push_decimal(text, *number)?;
+        push_decimal(text, hints.at(i))?;
     }
     Ok(())
 }
@@ -47,7 +48,7 @@ pub fn push_step(text: &mut String, step: &Step) -> Result<(), AllocError>
     text.push_str("step")?;
     push_lits(text, step.clause.as_slice())?;
     text.push_str(" 0")?;
-    push_numbers(text, step.hints.as_slice())?;
+    push_hints(text, &step.hints)?;
     text.push_str(" 0")
 }
 

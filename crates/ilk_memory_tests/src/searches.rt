@@ -1,7 +1,7 @@
 use ilk_arena::Arena;
 use ilk_base::Row;
 use ilk_cnf::Lit;
-use ilk_log::{Step, read_step, write_step};
+use ilk_log::{Hints, Step, read_step, write_step};
 use std::alloc::{AllocError, Global};
 use std::test::Fail;
 
@@ -9,7 +9,7 @@ use std::test::Fail;
 fn empty_line(alloc: Global) -> Result<Vec<u8>, AllocError> {
     let step = Step {
         clause: Row::new(alloc),
-        hints: Row::new(alloc),
+        hints: Hints::new(alloc),
     };
     write_step(alloc, &step)
 }
@@ -19,7 +19,7 @@ fn full_line(alloc: Global) -> Result<Vec<u8>, AllocError> {
     let mut clause = Row::new(alloc);
     clause.push(Lit::new(12, true))?;
     clause.push(Lit::new(3, false))?;
-    let mut hints = Row::new(alloc);
+    let mut hints = Hints::new(alloc);
     hints.push(1)?;
     hints.push(400)?;
     write_step(alloc, &Step { clause, hints })

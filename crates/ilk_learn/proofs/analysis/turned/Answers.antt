@@ -6,7 +6,7 @@ pub loop-i-preserved : goal.loop-i-preserved
 loop-i-preserved c =
     let hs = c.args.hints.now in
     let i = c.loop-i.i - 1 in
-    let x = c.at.result.now in
+    let x = c.at.result in
     let low = c.loop-i.invariant.low in
     let rest : List ℕ = reverse (take i hs) in
     let q : c.loop-i.i ≡ suc i = omega arith in
