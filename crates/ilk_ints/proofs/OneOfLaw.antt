@@ -1,18 +1,20 @@
 -- Exactly one of some literals: the law, and how many clauses there are.
-use Rattle.std.proofs.Common.{◌≡◌, ℕ, ◌+◌, ◌*◌, ◌≤◌, Bool, true, false, not, ◌&&◌, ◌||◌, List, [], ◌∷◌, ◌++◌, length, map, refl, sym, ap, ◌∙◌, subst, arith, length-append}
+use Rattle.std.proofs.Common.{◌≡◌, ℕ, zero, suc, ◌+◌, ◌*◌, ◌<◌, ◌≤◌, Bool, true, false, not, ◌&&◌, ◌||◌, List, [], ◌∷◌, ◌++◌, length, map, drop, get_or, refl, sym, ap, ◌∙◌, subst, arith, length-append}
 use Rattle.std.proofs.Math.Bool.{beq}
+use Rattle.std.proofs.lemmas.List.{append-nil, map-append, length-map}
 use Rattle.std.proofs.lemmas.List.Folds.{list_all-append}
 use Rattle.std.proofs.lemmas.Bool.{and_parts, and_from, cond_both, leb-true}
+use Rattle.ilk_base.proofs.Lists.{drop_at}
 use Rattle.ilk_cnf.specs.Literal.{Literal, opposite, plus}
-use Rattle.ilk_cnf.specs.Formula.{Formula, as_clause, distinct, is_tautology, lit_in, clause_in, clauses_in}
-use Rattle.ilk_cnf.specs.Part.{with_part, as_clauses}
+use Rattle.ilk_cnf.specs.Formula.{Formula, grown, as_clause, distinct, is_tautology, lit_in, clause_in, clauses_in}
+use Rattle.ilk_cnf.specs.Part.{Part, and_then, with_part, as_clauses}
 use Rattle.ilk_cnf.specs.Truth.{value, is_true}
 use Rattle.ilk_cnf.specs.Extends.{Extends, OnlyIf}
 use Rattle.ilk_cnf.proofs.Literals.{lit_in-more, clause_in-more, clauses_in-more}
 use Rattle.ilk_cnf.proofs.Parts.{value-new, is_true-left}
 use Rattle.ilk_cnf.proofs.Gates.{is_true-opposite, new-in, with_part-and_then}
 use Rattle.ilk_cnf.proofs.Extending.{one_more_if, no_more_if, if_then_if}
-use Rattle.ilk_ints.specs.OneOf.{either_of, either_part, one_of_rest, one_of_part, one_true, seen_after, one_of_bits}
+use Rattle.ilk_ints.specs.OneOf.{either_of, either_part, joined, one_of_part, none_true, one_true, joined_bits, one_of_bits}
 
 either_says : (w s l : Bool) → ((not l || (w || false)) && ((not s || (w || false)) && ((not w || (s || (l || false))) && ((not s || (not l || false)) && true)))) ≡ (beq w (s || l) && not (s && l))
 either_says true true true = refl
@@ -44,11 +46,31 @@ either_of-in n s l v h =
     let vi : lit_in n v ≡ true = three.0 in
     rw (si, li, vi) refl
 
-one_true-step : (p q : Bool) (qs : List Bool) → (not (p && q) && one_true ((p || q) ∷ qs)) ≡ one_true (p ∷ q ∷ qs)
-one_true-step true true qs = refl
-one_true-step true false qs = refl
-one_true-step false true qs = refl
-one_true-step false false qs = refl
+-- whether one entry is true doesn't ask where it stands
+none_true-last : (qs : List Bool) (q : Bool) → none_true (qs ++ q ∷ []) ≡ none_true (q ∷ qs)
+none_true-last [] q = refl
+none_true-last (true ∷ qs) true = refl
+none_true-last (true ∷ qs) false = refl
+none_true-last (false ∷ qs) true = none_true-last qs true
+none_true-last (false ∷ qs) false = none_true-last qs false
+
+one_true-last : (qs : List Bool) (q : Bool) → one_true (qs ++ q ∷ []) ≡ one_true (q ∷ qs)
+one_true-last [] true = refl
+one_true-last [] false = refl
+one_true-last (true ∷ qs) true = none_true-last qs true
+one_true-last (true ∷ qs) false = none_true-last qs false
+one_true-last (false ∷ qs) true = one_true-last qs true
+one_true-last (false ∷ qs) false = one_true-last qs false
+
+one_true-first : (p q : Bool) (qs : List Bool) → (not (p && q) && one_true ((p || q) ∷ qs)) ≡ one_true (p ∷ q ∷ qs)
+one_true-first true true qs = refl
+one_true-first true false qs = refl
+one_true-first false true qs = refl
+one_true-first false false qs = refl
+
+-- exactly one of some entries is true where not both of the first two are, and exactly one is with these joined
+pub one_true-joined : (p q : Bool) (qs : List Bool) → (not (p && q) && one_true (qs ++ (p || q) ∷ [])) ≡ one_true (p ∷ q ∷ qs)
+one_true-joined p q qs = ap (λ (o : Bool). not (p && q) && o) (one_true-last qs (p || q)) ∙ one_true-first p q qs
 
 pub map-left : (a b : List Bool) (ls : List Literal) → clause_in (length a) ls ≡ true → map (is_true (a ++ b)) ls ≡ map (is_true a) ls
 map-left a b [] h = refl
@@ -58,19 +80,22 @@ map-left a b (l ∷ ls) h =
     let rest = map-left a b ls parts.1 in
     rw (here, rest) refl
 
-pub rest-low : (s : Literal) (ls : List Literal) (n : ℕ) → n ≤ (one_of_rest s ls n).vars
-rest-low s [] n = omega arith
-rest-low s (l ∷ ls) n = let h = rest-low (plus (n + 1)) ls (n + 1) in omega arith
-
 more : (n : ℕ) → n ≤ n + 1
 more n = omega arith
 
--- the literals of the next step
-pub next-in : (s l : Literal) (ls : List Literal) (n : ℕ) → clause_in n (s ∷ l ∷ ls) ≡ true → clause_in (n + 1) (plus (n + 1) ∷ ls) ≡ true
+-- the literals after a join
+pub next-in : (s l : Literal) (ls : List Literal) (n : ℕ) → clause_in n (s ∷ l ∷ ls) ≡ true → clause_in (n + 1) (ls ++ plus (n + 1) ∷ []) ≡ true
 next-in s l ls n h =
     let one = and_parts _ _ h in
     let two = and_parts _ _ one.1 in
-    and_from _ _ (new-in n true) (clause_in-more n (n + 1) ls (more n) two.1)
+    let old : clause_in (n + 1) ls ≡ true = clause_in-more n (n + 1) ls (more n) two.1 in
+    list_all-append (lit_in (n + 1)) ls (plus (n + 1) ∷ []) ∙ and_from _ _ old (and_from _ _ (new-in n true) refl)
+
+pub next-true : (ls : List Literal) (a : List Bool) (w : Bool) (n : ℕ) → length a ≡ n → clause_in n ls ≡ true → map (is_true (a ++ w ∷ [])) (ls ++ plus (n + 1) ∷ []) ≡ map (is_true a) ls ++ w ∷ []
+next-true ls a w n size h =
+    let new : value (a ++ w ∷ []) (n + 1) ≡ w = value-new a [] w (n + 1) (ap (λ (k : ℕ). k + 1) size) in
+    let old : map (is_true (a ++ w ∷ [])) ls ≡ map (is_true a) ls = map-left a (w ∷ []) ls (rw size h) in
+    map-append (is_true (a ++ w ∷ [])) ls (plus (n + 1) ∷ []) ∙ rw (old, new) refl
 
 pub either-next-in : (s l : Literal) (ls : List Literal) (n : ℕ) → clause_in n (s ∷ l ∷ ls) ≡ true → clause_in (n + 1) (s ∷ l ∷ plus (n + 1) ∷ []) ≡ true
 either-next-in s l ls n h =
@@ -78,53 +103,87 @@ either-next-in s l ls n h =
     let two = and_parts _ _ one.1 in
     and_from _ _ (lit_in-more n (n + 1) s (omega arith) one.0) (and_from _ _ (lit_in-more n (n + 1) l (omega arith) two.0) (and_from _ _ (new-in n true) refl))
 
-pub rest-in : (s : Literal) (ls : List Literal) (n : ℕ) → clause_in n (s ∷ ls) ≡ true → clauses_in (one_of_rest s ls n).vars (one_of_rest s ls n).clauses ≡ true
-rest-in s [] n h = and_from _ _ h refl
-rest-in s (l ∷ ls) n h =
-    let low = rest-low (plus (n + 1)) ls (n + 1) in
-    list_all-append (clause_in (one_of_rest s (l ∷ ls) n).vars) (either_of s l (plus (n + 1))) (one_of_rest (plus (n + 1)) ls (n + 1)).clauses
-    ∙ and_from _ _ (clauses_in-more (n + 1) _ (either_of s l (plus (n + 1))) low (either_of-in (n + 1) s l (plus (n + 1)) (either-next-in s l ls n h))) (rest-in (plus (n + 1)) ls (n + 1) (next-in s l ls n h))
+joined-low : (k : ℕ) (ls : List Literal) (n : ℕ) → n ≤ (joined k ls n).vars
+joined-low zero ls n = omega arith
+joined-low (suc k) [] n = omega arith
+joined-low (suc k) (l ∷ []) n = omega arith
+joined-low (suc k) (s ∷ l ∷ ls) n = let h = joined-low k (ls ++ plus (n + 1) ∷ []) (n + 1) in omega arith
 
-pub part-in : (ls : List Literal) (n : ℕ) → clause_in n ls ≡ true → clauses_in (one_of_part ls n).vars (one_of_part ls n).clauses ≡ true
-part-in [] n h = refl
-part-in (l ∷ ls) n h = rest-in l ls n h
+joined-in : (k : ℕ) (ls : List Literal) (n : ℕ) → clause_in n ls ≡ true → clauses_in (joined k ls n).vars (joined k ls n).clauses ≡ true
+joined-in zero ls n h = and_from _ _ h refl
+joined-in (suc k) [] n h = refl
+joined-in (suc k) (l ∷ []) n h = and_from _ _ h refl
+joined-in (suc k) (s ∷ l ∷ ls) n h =
+    let next = ls ++ plus (n + 1) ∷ [] in
+    let low = joined-low k next (n + 1) in
+    list_all-append (clause_in (joined k next (n + 1)).vars) (either_of s l (plus (n + 1))) (joined k next (n + 1)).clauses
+    ∙ and_from _ _ (clauses_in-more (n + 1) _ (either_of s l (plus (n + 1))) low (either_of-in (n + 1) s l (plus (n + 1)) (either-next-in s l ls n h))) (joined-in k next (n + 1) (next-in s l ls n h))
 
 -- exactly one is true, and then the new variables have one value each
-pub rest-law : (ls : List Literal) (a : List Bool) (s : Literal) (p : Bool) (n : ℕ) → length a ≡ n → clause_in n (s ∷ ls) ≡ true → is_true a s ≡ p → Extends a (one_of_rest s ls n).vars (one_of_rest s ls n).clauses (OnlyIf (one_true (p ∷ map (is_true a) ls)) (seen_after p (map (is_true a) ls)))
-rest-law [] a s p n size h sp = no_more_if a n ((s ∷ []) ∷ []) (one_true (p ∷ [])) size (rw sp (alone p))
+joined-law : (k : ℕ) (ls : List Literal) (a : List Bool) (n : ℕ) → length a ≡ n → length ls ≤ k → clause_in n ls ≡ true → Extends a (joined k ls n).vars (joined k ls n).clauses (OnlyIf (one_true (map (is_true a) ls)) (joined_bits k (map (is_true a) ls)))
+joined-law zero [] a n size few h = no_more_if a n ([] ∷ []) false size refl
+joined-law zero (l ∷ ls) a n size few h = absurd (omega arith)
+joined-law (suc k) [] a n size few h = no_more_if a n ([] ∷ []) false size refl
+joined-law (suc k) (l ∷ []) a n size few h = no_more_if a n ((l ∷ []) ∷ []) (one_true (is_true a l ∷ [])) size (alone (is_true a l))
   where
     alone : (p : Bool) → ((p || false) && true) ≡ one_true (p ∷ [])
     alone true = refl
     alone false = refl
-rest-law (l ∷ ls) a s p n size h sp =
+joined-law (suc k) (s ∷ l ∷ ls) a n size few h =
+    let v = plus (n + 1) in
+    let next = ls ++ v ∷ [] in
+    let fewer : length next ≤ k = omega (arith, length-append ls (v ∷ [])) in
     let one = and_parts _ _ h in
     let two = and_parts _ _ one.1 in
     let si : s.var ≤ n = leb-true _ _ (and_parts _ _ one.0).1 in
     let li : l.var ≤ n = leb-true _ _ (and_parts _ _ two.0).1 in
+    let p = is_true a s in
     let q = is_true a l in
-    let low = rest-low (plus (n + 1)) ls (n + 1) in
+    let qs = map (is_true a) ls in
+    let longer : length a + 1 ≡ n + 1 = ap (λ (k : ℕ). k + 1) size in
     let fits : length a ≤ n + 1 = rw size (more n) in
-    let here : length (a ++ (p || q) ∷ []) ≡ n + 1 = length-append a ((p || q) ∷ []) ∙ ap (λ (k : ℕ). k + 1) size in
-    let same : map (is_true (a ++ (p || q) ∷ [])) ls ≡ map (is_true a) ls = map-left a ((p || q) ∷ []) ls (rw size two.1) in
-    let next : Extends (a ++ (p || q) ∷ []) (one_of_rest (plus (n + 1)) ls (n + 1)).vars (one_of_rest (plus (n + 1)) ls (n + 1)).clauses (OnlyIf (one_true ((p || q) ∷ map (is_true a) ls)) (seen_after (p || q) (map (is_true a) ls))) =
-    subst (λ (xs : List Bool). Extends (a ++ (p || q) ∷ []) (one_of_rest (plus (n + 1)) ls (n + 1)).vars (one_of_rest (plus (n + 1)) ls (n + 1)).clauses (OnlyIf (one_true ((p || q) ∷ xs)) (seen_after (p || q) xs))) same (rest-law ls (a ++ (p || q) ∷ []) (plus (n + 1)) (p || q) (n + 1) here (next-in s l ls n h) (value-new a [] (p || q) (n + 1) (ap (λ (k : ℕ). k + 1) size))) in
-    let both = if_then_if a ((p || q) ∷ []) (seen_after (p || q) (map (is_true a) ls)) (not (p && q)) (one_true ((p || q) ∷ map (is_true a) ls)) (n + 1) (one_of_rest (plus (n + 1)) ls (n + 1)).vars (either_of s l (plus (n + 1))) (one_of_rest (plus (n + 1)) ls (n + 1)).clauses fits low (either_of-in (n + 1) s l (plus (n + 1)) (either-next-in s l ls n h)) (either_of-law a s l p q (n + 1) (ap (λ (k : ℕ). k + 1) size) (rw size si) (rw size li) sp refl) (λ _. next) in
-    subst (λ (o : Bool). Extends a (one_of_rest (plus (n + 1)) ls (n + 1)).vars (either_of s l (plus (n + 1)) ++ (one_of_rest (plus (n + 1)) ls (n + 1)).clauses) (OnlyIf o (seen_after p (q ∷ map (is_true a) ls)))) (one_true-step p q (map (is_true a) ls)) both
+    let here : length (a ++ (p || q) ∷ []) ≡ n + 1 = length-append a ((p || q) ∷ []) ∙ longer in
+    let then : Extends (a ++ (p || q) ∷ []) (joined k next (n + 1)).vars (joined k next (n + 1)).clauses (OnlyIf (one_true (qs ++ (p || q) ∷ [])) (joined_bits k (qs ++ (p || q) ∷ []))) =
+    subst (λ (xs : List Bool). Extends (a ++ (p || q) ∷ []) (joined k next (n + 1)).vars (joined k next (n + 1)).clauses (OnlyIf (one_true xs) (joined_bits k xs))) (next-true ls a (p || q) n size two.1) (joined-law k next (a ++ (p || q) ∷ []) (n + 1) here fewer (next-in s l ls n h)) in
+    let both = if_then_if a ((p || q) ∷ []) (joined_bits k (qs ++ (p || q) ∷ [])) (not (p && q)) (one_true (qs ++ (p || q) ∷ [])) (n + 1) (joined k next (n + 1)).vars (either_of s l v) (joined k next (n + 1)).clauses fits (joined-low k next (n + 1)) (either_of-in (n + 1) s l v (either-next-in s l ls n h)) (either_of-law a s l p q (n + 1) longer (rw size si) (rw size li) refl refl) (λ _. then) in
+    subst (λ (o : Bool). Extends a (joined k next (n + 1)).vars (either_of s l v ++ (joined k next (n + 1)).clauses) (OnlyIf o (joined_bits (suc k) (p ∷ q ∷ qs)))) (one_true-joined p q qs) both
+
+-- how many variables and lists of literals there are
+joined-vars : (k : ℕ) (ls : List Literal) (n : ℕ) → (joined k ls n).vars ≤ n + k
+joined-vars zero ls n = omega arith
+joined-vars (suc k) [] n = omega arith
+joined-vars (suc k) (l ∷ []) n = omega arith
+joined-vars (suc k) (s ∷ l ∷ ls) n = let h = joined-vars k (ls ++ plus (n + 1) ∷ []) (n + 1) in omega arith
+
+joined-few : (k : ℕ) (ls : List Literal) (n : ℕ) → length (joined k ls n).clauses ≤ 4 * k + 1
+joined-few zero ls n = omega arith
+joined-few (suc k) [] n = omega arith
+joined-few (suc k) (l ∷ []) n = omega arith
+joined-few (suc k) (s ∷ l ∷ ls) n =
+    let next = ls ++ plus (n + 1) ∷ [] in
+    let h = joined-few k next (n + 1) in
+    omega (arith, length-append (either_of s l (plus (n + 1))) (joined k next (n + 1)).clauses, h)
+
+-- the same of the whole part
+pub one_of-low : (ls : List Literal) (n : ℕ) → n ≤ (one_of_part ls n).vars
+one_of-low ls n = joined-low (length ls) ls n
+
+pub part-in : (ls : List Literal) (n : ℕ) → clause_in n ls ≡ true → clauses_in (one_of_part ls n).vars (one_of_part ls n).clauses ≡ true
+part-in ls n h = joined-in (length ls) ls n h
+
+same_length : (ls : List Literal) (qs : List Bool) → length qs ≡ length ls → joined_bits (length ls) qs ≡ one_of_bits qs
+same_length ls qs h = ap (λ (k : ℕ). joined_bits k qs) (sym h)
 
 pub one_of-law : (ls : List Literal) (a : List Bool) (n : ℕ) → length a ≡ n → clause_in n ls ≡ true → Extends a (one_of_part ls n).vars (one_of_part ls n).clauses (OnlyIf (one_true (map (is_true a) ls)) (one_of_bits (map (is_true a) ls)))
-one_of-law [] a n size h = no_more_if a n ([] ∷ []) false size refl
-one_of-law (l ∷ ls) a n size h = rest-law ls a l (is_true a l) n size h refl
+one_of-law ls a n size h =
+    let qs = map (is_true a) ls in
+    subst (λ (b : List Bool). Extends a (one_of_part ls n).vars (one_of_part ls n).clauses (OnlyIf (one_true qs) b)) (same_length ls qs (length-map ls (is_true a))) (joined-law (length ls) ls a n size (omega arith) h)
 
--- how many lists of literals there are
-rest-few : (ls : List Literal) (s : Literal) (n : ℕ) → length (one_of_rest s ls n).clauses ≡ 4 * length ls + 1
-rest-few [] s n = refl
-rest-few (l ∷ ls) s n =
-    let h = rest-few ls (plus (n + 1)) (n + 1) in
-    omega (arith, length-append (either_of s l (plus (n + 1))) (one_of_rest (plus (n + 1)) ls (n + 1)).clauses, h)
+pub one_of-vars : (ls : List Literal) (n : ℕ) → (one_of_part ls n).vars ≤ n + length ls
+one_of-vars ls n = joined-vars (length ls) ls n
 
 pub one_of-few : (ls : List Literal) (n : ℕ) → length (one_of_part ls n).clauses ≤ 4 * length ls + 1
-one_of-few [] n = omega arith
-one_of-few (l ∷ ls) n = let h = rest-few ls l n in omega arith
+one_of-few ls n = joined-few (length ls) ls n
 
 -- how many clauses a part adds
 as_clause-few : (ls : List Literal) → length (as_clause ls) ≤ 1
@@ -139,20 +198,39 @@ clauses-few f ls =
     let part = one_of_part ls f.vars in
     omega (arith, length-append f.clauses (as_clauses part.clauses), as_clauses-few part.clauses, one_of-few ls f.vars)
 
--- one step of the walk over the literals
+-- the queue
+
+-- its first two literals
+pub queue-front : (queue : List Literal) (i : ℕ) (s l : Literal) → i + 1 < length queue → s ≡ get_or queue i s → l ≡ get_or queue (i + 1) l → drop i queue ≡ s ∷ l ∷ drop (i + 2) queue
+queue-front queue i s l within one two =
+    let next : i + 1 + 1 ≡ i + 2 = omega arith in
+    drop_at queue i s (omega arith) one ∙ ap (λ (ls : List Literal). s ∷ ls) (drop_at queue (i + 1) l within two ∙ ap (λ (k : ℕ). l ∷ drop k queue) next)
+
 pub first-two : (n : ℕ) (s l : Literal) (ls : List Literal) → clause_in n (s ∷ l ∷ ls) ≡ true → clause_in n (s ∷ l ∷ []) ≡ true
 first-two n s l ls h =
     let one = and_parts _ _ h in
     and_from _ _ one.0 (and_from _ _ (and_parts _ _ one.1).0 refl)
 
-pub one_of_step : (f g : Formula) (s l t : Literal) (ls ms : List Literal) → ls ≡ l ∷ ms → t ≡ plus (f.vars + 1) → g ≡ with_part f (either_part s l f.vars) → clause_in f.vars (s ∷ ls) ≡ true → (clause_in g.vars (t ∷ ms) ≡ true) × (with_part g (one_of_rest t ms g.vars) ≡ with_part f (one_of_rest s ls f.vars))
-one_of_step f g s l t ls ms here new made inside =
+-- a join, and then the same of the queue that it leaves
+one_of-join : (s l : Literal) (ls : List Literal) (n : ℕ) → and_then (either_part s l n) (one_of_part (ls ++ plus (n + 1) ∷ [])) ≡ one_of_part (s ∷ l ∷ ls) n
+one_of-join s l ls n =
+    let next = ls ++ plus (n + 1) ∷ [] in
+    let long : length next ≡ suc (length ls) = omega (arith, length-append ls (plus (n + 1) ∷ [])) in
+    ap (λ (k : ℕ). and_then (either_part s l n) (joined k next)) long
+
+pub join-step : (f g : Formula) (s l : Literal) (ls : List Literal) → g ≡ with_part f (either_part s l f.vars) → clause_in f.vars (s ∷ l ∷ ls) ≡ true → (clause_in g.vars (ls ++ plus (f.vars + 1) ∷ []) ≡ true) × (with_part g (one_of_part (ls ++ plus (f.vars + 1) ∷ []) g.vars) ≡ with_part f (one_of_part (s ∷ l ∷ ls) f.vars))
+join-step f g s l ls made inside =
     let n = f.vars in
-    let whole : clause_in n (s ∷ l ∷ ms) ≡ true = ap (λ (ks : List Literal). clause_in n (s ∷ ks)) (sym here) ∙ inside in
+    let next = ls ++ plus (n + 1) ∷ [] in
     let longer : g.vars ≡ n + 1 = ap (λ (k : Formula). k.vars) made in (
-      ap (λ (k : ℕ). clause_in k (t ∷ ms)) longer ∙ ap (λ (u : Literal). clause_in (n + 1) (u ∷ ms)) new ∙ next-in s l ms n whole,
-      ap (λ (k : Formula). with_part k (one_of_rest t ms k.vars)) made
-          ∙ ap (λ (u : Literal). with_part (with_part f (either_part s l n)) (one_of_rest u ms (n + 1))) new
-          ∙ with_part-and_then f (either_part s l n) (one_of_rest (plus (n + 1)) ms)
-          ∙ ap (λ (ks : List Literal). with_part f (one_of_rest s ks n)) (sym here),
+      ap (λ (k : ℕ). clause_in k next) longer ∙ next-in s l ls n inside,
+      ap (λ (k : Formula). with_part k (one_of_part next k.vars)) made
+          ∙ with_part-and_then f (either_part s l n) (one_of_part next)
+          ∙ ap (λ (p : Part). with_part f p) (one_of-join s l ls n),
     )
+
+-- where one literal is left at most
+pub join-last : (f : Formula) (ls : List Literal) → length ls ≤ 1 → grown f f.vars (as_clause ls) ≡ with_part f (one_of_part ls f.vars)
+join-last f [] few = ap (grown f f.vars) (sym (append-nil (as_clause [])))
+join-last f (l ∷ []) few = ap (grown f f.vars) (sym (append-nil (as_clause (l ∷ []))))
+join-last f (s ∷ l ∷ ls) few = absurd (omega arith)

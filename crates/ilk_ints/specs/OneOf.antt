@@ -1,5 +1,5 @@
--- Exactly one of some literals.
-use Rattle.std.specs.Prelude.{ℕ, ◌+◌, Bool, true, false, List, [], ◌∷◌, ◌||◌, ◌&&◌, not}
+-- Exactly one of some literals. They are joined in pairs, as by a tree: each path in it is short.
+use Rattle.std.specs.Prelude.{ℕ, suc, ◌+◌, Bool, true, false, List, [], ◌∷◌, ◌++◌, length, ◌||◌, ◌&&◌, not}
 use Rattle.ilk_cnf.specs.Literal.{Literal, plus, opposite}
 use Rattle.ilk_cnf.specs.Part.{Part, and_then}
 
@@ -12,15 +12,14 @@ either_of s l v =
 abbrev pub either_part : Literal → Literal → ℕ → Part
 either_part s l n = record { vars = n + 1; clauses = either_of s l (plus (n + 1)) }
 
--- exactly one of s and the literals, where a new variable says of each whether it or an earlier one is true
-abbrev pub one_of_rest : Literal → List Literal → ℕ → Part
-one_of_rest s [] n = record { vars = n; clauses = (s ∷ []) ∷ [] }
-one_of_rest s (l ∷ ls) n = and_then (either_part s l n) (one_of_rest (plus (n + 1)) ls)
+-- the first two of the literals are joined to a new one, which stands at the end, until one is left, which is true; there are so many joins at most
+abbrev pub joined : ℕ → List Literal → ℕ → Part
+joined (suc k) (s ∷ l ∷ ls) n = and_then (either_part s l n) (joined k (ls ++ plus (n + 1) ∷ []))
+joined k ls n = record { vars = n; clauses = ls ∷ [] }
 
 -- exactly one of the literals, after n variables; of no literals none is
 abbrev pub one_of_part : List Literal → ℕ → Part
-one_of_part [] n = record { vars = n; clauses = [] ∷ [] }
-one_of_part (l ∷ ls) n = one_of_rest l ls n
+one_of_part ls n = joined (length ls) ls n
 
 -- whether no entry is true, and whether exactly one is
 abbrev pub none_true : List Bool → Bool
@@ -32,11 +31,10 @@ one_true [] = false
 one_true (true ∷ qs) = none_true qs
 one_true (false ∷ qs) = one_true qs
 
--- whether each entry after the first or an earlier one is true, where p says whether the first is
-abbrev pub seen_after : Bool → List Bool → List Bool
-seen_after p [] = []
-seen_after p (q ∷ qs) = (p || q) ∷ seen_after (p || q) qs
+-- the values of the new variables: the first two of the entries are joined to one at the end, which is true where one of them is
+abbrev pub joined_bits : ℕ → List Bool → List Bool
+joined_bits (suc k) (p ∷ q ∷ qs) = (p || q) ∷ joined_bits k (qs ++ (p || q) ∷ [])
+joined_bits k qs = []
 
 abbrev pub one_of_bits : List Bool → List Bool
-one_of_bits [] = []
-one_of_bits (p ∷ qs) = seen_after p qs
+one_of_bits qs = joined_bits (length qs) qs

@@ -1,69 +1,63 @@
-ghost use Rattle.std.specs.Prelude.{◌≡◌, ◌+◌, ◌*◌, ◌≤◌, ◌∷◌, ◌++◌, [], List, Bool, length, map, OnOk, IfOk, IsTrue};
+ghost use Rattle.std.specs.Prelude.{◌≡◌, ◌+◌, ◌*◌, ◌≤◌, ◌∷◌, ◌++◌, [], List, Bool, length, map, OnOk, IsTrue};
 ghost use Rattle.ilk_cnf.specs.Extends.{PartExtends, OnlyIf};
 ghost use Rattle.ilk_cnf.specs.Formula.{clause_in, grown};
 ghost use Rattle.ilk_cnf.specs.Literal.{plus};
 ghost use Rattle.ilk_cnf.specs.Part.{with_part, as_clauses};
 ghost use Rattle.ilk_cnf.specs.Truth.{is_true};
-ghost use Rattle.ilk_ints.specs.OneOf.{either_of, either_part, one_of_rest, one_of_part, one_true, one_of_bits};
+ghost use Rattle.ilk_ints.specs.OneOf.{either_of, either_part, one_of_part, one_true, one_of_bits};
 
 use ilk_cnf::{Clause, Cnf, Lit};
-use std::alloc::AllocError;
+use std::alloc::{AllocError, Global};
 
-// Adds the clauses that make `seen` true exactly where `s` or `l` is, and not both.
-fn add_seen(cnf: &mut Cnf, s: Lit, l: Lit, seen: Lit) -> Result<(), AllocError>
-    requires { IsTrue (clause_in cnf.old.vars (s ∷ l ∷ seen ∷ [])) }
-    ensures { OnOk result (cnf.new ≡ grown cnf.old cnf.old.vars (as_clauses (either_of s l seen))) }
+// Adds the clauses that make `joined` true exactly where `s` or `l` is, and not both.
+fn add_either(cnf: &mut Cnf, s: Lit, l: Lit, joined: Lit) -> Result<(), AllocError>
+    requires { IsTrue (clause_in cnf.old.vars (s ∷ l ∷ joined ∷ [])) }
+    ensures { OnOk result (cnf.new ≡ grown cnf.old cnf.old.vars (as_clauses (either_of s l joined))) }
 {
-    cnf.add_lits(&[l.negated(), seen])?;
-    cnf.add_lits(&[s.negated(), seen])?;
-    cnf.add_lits(&[seen.negated(), s, l])?;
+    cnf.add_lits(&[l.negated(), joined])?;
+    cnf.add_lits(&[s.negated(), joined])?;
+    cnf.add_lits(&[joined.negated(), s, l])?;
     cnf.add_lits(&[s.negated(), l.negated()])?;
     Ok(())
 }
 
-// Adds a variable that is true exactly where `s` or `l` is, and demands that not both are.
-fn either(cnf: &mut Cnf, s: Lit, l: Lit) -> Result<Lit, AllocError>
+// Adds a variable that is true exactly where `s` or `l` is, demands that not both are, and puts its
+// literal at the end of the queue.
+fn join(cnf: &mut Cnf, queue: &mut Vec<Lit>, s: Lit, l: Lit) -> Result<(), AllocError>
     requires { IsTrue (clause_in cnf.old.vars (s ∷ l ∷ [])) }
-    ensures lit { IfOk result (λ seen. seen ≡ plus (cnf.old.vars + 1)) }
     ensures made { OnOk result (cnf.new ≡ with_part cnf.old (either_part s l cnf.old.vars)) }
+    ensures queued { OnOk result (queue.new.items ≡ queue.old.items ++ plus (cnf.old.vars + 1) ∷ []) }
 {
-    let seen = Lit::new(cnf.fresh()?, true);
-    add_seen(cnf, s, l, seen)?;
-    Ok(seen)
-}
-
-// Demands that exactly one of `s` and the literals is true.
-fn one_of_rest(cnf: &mut Cnf, s: Lit, lits: &[Lit]) -> Result<(), AllocError>
-    requires { IsTrue (clause_in cnf.old.vars (s ∷ lits.now)) }
-    ensures { OnOk result (cnf.new ≡ with_part cnf.old (one_of_rest s lits.now cnf.old.vars)) }
-{
-    let mut s = s;
-    for l in lits {
-        s = either(cnf, s, *l)?;
-    }
-    cnf.add_lits(&[s])?;
+    let joined = Lit::new(cnf.fresh()?, true);
+    add_either(cnf, s, l, joined)?;
+    queue.push(joined)?;
     Ok(())
 }
 
-// Demands that exactly one of the literals is true.
-fn add_one_of(cnf: &mut Cnf, lits: &[Lit]) -> Result<(), AllocError>
-    requires { IsTrue (clause_in cnf.old.vars lits.now) }
-    ensures { OnOk result (cnf.new ≡ with_part cnf.old (one_of_part lits.now cnf.old.vars)) }
+// Joins the first two literals of the queue to a new one at its end, until one is left at most, and
+// demands that it is true. What was joined stays in the `Vec`, before `first`.
+fn join_all(cnf: &mut Cnf, queue: Vec<Lit>) -> Result<(), AllocError>
+    requires { IsTrue (clause_in cnf.old.vars queue.items) }
+    ensures { OnOk result (cnf.new ≡ with_part cnf.old (one_of_part queue.items cnf.old.vars)) }
 {
-    match lits {
-        [] => cnf.add_lits(&[])?,
-        [first, rest @ ..] => one_of_rest(cnf, *first, rest)?,
+    let mut queue = queue;
+    let mut first = 0;
+    while queue.len() - first > 1 {
+        let (s, l) = (queue[first], queue[first + 1]);
+        join(cnf, &mut queue, s, l)?;
+        first += 2;
     }
+    cnf.add_lits(&queue[first..])?;
     Ok(())
 }
 
 /// Demands that exactly one of the literals is true.
-pub fn one_of(cnf: &mut Cnf, lits: &Clause) -> Result<(), AllocError>
+pub fn one_of(alloc: Global, cnf: &mut Cnf, lits: &Clause) -> Result<(), AllocError>
     requires { IsTrue (clause_in cnf.old.vars lits.now) }
     ensures made { OnOk result (cnf.new ≡ with_part cnf.old (one_of_part lits.now cnf.old.vars)) }
     ensures law { OnOk result ((a : List Bool) → length a ≡ cnf.old.vars → PartExtends a (one_of_part lits.now cnf.old.vars) (OnlyIf (one_true (map (is_true a) lits.now)) (one_of_bits (map (is_true a) lits.now)))) }
     ensures few { OnOk result (length cnf.new.clauses ≤ length cnf.old.clauses + 4 * length lits.now + 1) }
 {
-    add_one_of(cnf, lits.as_slice())?;
+    join_all(cnf, Vec::from_slice(alloc, lits.as_slice())?)?;
     Ok(())
 }

@@ -63,13 +63,13 @@ fn literals(rt: HostRuntime) -> Result<(), Fail> {
 fn clauses(rt: HostRuntime) -> Result<(), Fail> {
     let alloc = rt.alloc();
     let mut clause = Clause::new(alloc);
-    one_of(&mut formula(alloc)?, &clause)?;
+    one_of(alloc, &mut formula(alloc)?, &clause)?;
     clause.push(Lit::new(1, true))?;
-    one_of(&mut formula(alloc)?, &clause)?;
+    one_of(alloc, &mut formula(alloc)?, &clause)?;
     clause.push(Lit::new(2, false))?;
-    one_of(&mut formula(alloc)?, &clause)?;
+    one_of(alloc, &mut formula(alloc)?, &clause)?;
     clause.push(Lit::new(3, true))?;
-    one_of(&mut formula(alloc)?, &clause)?;
+    one_of(alloc, &mut formula(alloc)?, &clause)?;
     formula(alloc)?.add(clause)?;
     Ok(())
 }

@@ -11,7 +11,7 @@ use Rattle.ilk_cnf.specs.Extends.{Extends, OnlyIf, Then}
 use Rattle.ilk_cnf.proofs.Parts.{value-new, in_turn, in_words}
 use Rattle.ilk_ints.specs.Named.{value_bits}
 use Rattle.ilk_ints.specs.OneOf.{one_of_part, one_of_bits, one_true, none_true}
-use Rattle.ilk_ints.proofs.OneOfLaw.{one_of-law, part-in, rest-low}
+use Rattle.ilk_ints.proofs.OneOfLaw.{one_of-law, one_of-low, part-in}
 use Rattle.ilk_ints.proofs.ValuesLaw.{length-value_bits}
 use Rattle.ilk_step.specs.Choice.{chosen_lits, choice_part, choice_bits, IsChoice, Chooses}
 
@@ -87,10 +87,6 @@ length-not [] = refl
 length-not (q ∷ b) = ap suc (length-not b)
 
 -- the part
-
-one_of-low : (ls : List Literal) (n : ℕ) → n ≤ (one_of_part ls n).vars
-one_of-low [] n = omega arith
-one_of-low (l ∷ ls) n = rest-low l ls n
 
 pub choice-low : (m n : ℕ) → n + m ≤ (choice_part m n).vars
 choice-low m n = one_of-low (chosen_lits (n + 1) m) (n + m)

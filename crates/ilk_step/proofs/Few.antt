@@ -2,8 +2,7 @@
 use Rattle.std.proofs.Common.{◌≡◌, ◌==◌, ℕ, suc, ◌+◌, ◌*◌, ◌≤◌, Bool, true, false, List, [], ◌∷◌, ◌++◌, length, take, cond, refl, ap, arith, length-append}
 use Rattle.std.proofs.lemmas.List.FromFn.{length-map-range_with_len}
 use Rattle.ilk_cnf.specs.Literal.{Literal, plus, minus}
-use Rattle.ilk_ints.specs.OneOf.{one_of_rest, one_of_part}
-use Rattle.ilk_ints.proofs.OneOfLaw.{one_of-few}
+use Rattle.ilk_ints.proofs.OneOfLaw.{one_of-vars, one_of-few}
 use Rattle.ilk_ir.specs.System.{RuleTree}
 use Rattle.ilk_ir.specs.declared.system.Setting.{Setting}
 use Rattle.ilk_copy.specs.declared.copy.Column.{Column}
@@ -15,14 +14,6 @@ use Rattle.ilk_step.specs.Rules.{settings_part, rules_part}
 use Rattle.ilk_step.specs.Frame.{setters, carried, carry_over, frames}
 use Rattle.ilk_step.specs.Step.{step_part}
 use Rattle.ilk_step.specs.Size.{guards_size, settings_count, literals_count}
-
-one_of_rest-vars : (ls : List Literal) (s : Literal) (n : ℕ) → (one_of_rest s ls n).vars ≡ n + length ls
-one_of_rest-vars [] s n = omega arith
-one_of_rest-vars (l ∷ ls) s n = let rest = one_of_rest-vars ls (plus (n + 1)) (n + 1) in omega arith
-
-one_of-vars : (ls : List Literal) (n : ℕ) → (one_of_part ls n).vars ≤ n + length ls
-one_of-vars [] n = omega arith
-one_of-vars (l ∷ ls) n = let rest = one_of_rest-vars ls l n in omega arith
 
 choice-few : (m n : ℕ) → ((choice_part m n).vars ≤ n + 2 * m) × (length (choice_part m n).clauses ≤ 4 * m + 1)
 choice-few m n =

@@ -35,7 +35,7 @@ pub fn add_choice(alloc: Global, cnf: &mut Cnf, rules: u64) -> Result<(), AllocE
     ensures law { OnOk result ((a : List Bool) → length a ≡ cnf.old.vars → PartExtends a (choice_part rules cnf.old.vars) (IsChoice rules)) }
 {
     let chosen = add_variables(alloc, cnf, rules)?;
-    one_of(cnf, &chosen)?;
+    one_of(alloc, cnf, &chosen)?;
     Ok(())
 }
 

@@ -20,5 +20,5 @@ pub returns-clause-few : goal.returns-clause-few
 returns-clause-few c =
     let f = c.args.cnf.now in
     let ls = c.args.lits.now in
-    let made = c.in_ok-add_one_of.ensures ∙ ap (λ (ks : List Literal). with_part f (one_of_part ks f.vars)) c.as_slice.ensures.items in
+    let made = c.in_ok-join_all.ensures ∙ ap (λ (ks : List Literal). with_part f (one_of_part ks f.vars)) (c.in_ok-from_slice.ensures.items ∙ c.as_slice.ensures.items) in
     subst (λ (g : Formula). length g.clauses ≤ length f.clauses + 4 * length ls + 1) (sym made) (clauses-few f ls)
