@@ -1,13 +1,13 @@
 -- Which sections a route holds, and how far its path is seen and released, by the image of a state.
-use Rattle.std.proofs.Common.{◌≡◌, ℕ, zero, suc, ◌+◌, ◌-◌, ◌<◌, ◌≤◌, ◌==◌, Bool, true, false, ◌&&◌, ◌||◌, Some, List, [], ◌∷◌, drop, inl, inr, length, map, nat_le, nat_lt, not, slice_get, refl, sym, ◌∙◌, ap, arith}
-use Rattle.std.proofs.Math.Bool.{and-true, or-false, or-true}
+use Rattle.std.proofs.Common.{◌≡◌, ℕ, zero, suc, ◌+◌, ◌-◌, ◌≤◌, ◌==◌, Bool, true, false, ◌&&◌, ◌||◌, Some, List, [], ◌∷◌, drop, inl, inr, length, map, nat_le, nat_lt, not, slice_get, refl, sym, ◌∙◌, ap, arith}
+use Rattle.std.proofs.Math.Bool.{and-true}
 use Rattle.std.specs.Prelude.{if◌then◌else◌}
-use Rattle.std.specs.List.{enumerate_from, flat_map, list_all, list_any, range_with_len}
+use Rattle.std.specs.List.{enumerate_from, flat_map, list_any, range_with_len}
 use Rattle.std.proofs.lemmas.Bool.{cases_lt}
 use Rattle.std.proofs.lemmas.Bool.Decides.{nat_tests}
-use Rattle.ilk_base.proofs.ListTests.{list_all-alike, list_all-flat_map, list_any-alike}
+use Rattle.ilk_base.proofs.ListTests.{list_any-alike}
 use Rattle.ilk_base.proofs.Tested.{list_any-map}
-use Rattle.ilk_ir.specs.Tree.{negation, tree_holds}
+use Rattle.ilk_ir.specs.Tree.{tree_holds}
 use Rattle.ilk_plant.specs.Network.{has_section}
 use Rattle.ilk_plant.specs.Plant.{PlantLists}
 use Rattle.ilk_plant.specs.Shape.{HasShape}
@@ -24,8 +24,8 @@ use Rattle.ilk_layout.specs.Image.{image_of}
 use Rattle.ilk_conditions.specs.Conditions.{rel_is, seen_is}
 use Rattle.ilk_conditions.proofs.Values.{mode-holds, rel-holds, seen-holds}
 use Rattle.ilk_invs.specs.Held.{holding_section, is_holding, kept_on_path, locked_or_occupied, rel_below, seen_below}
-use Rattle.ilk_invs.proofs.PartLaws.{each_of-holds, some_of-holds}
-use Rattle.ilk_invs.proofs.Tests.{counted-below}
+use Rattle.ilk_invs.proofs.PartLaws.{any-if, some_of-holds}
+use Rattle.ilk_invs.proofs.Tests.{counted-below, found-at, list_any-flat_map}
 
 pub below-next : (c i : ℕ) → nat_lt c (i + 1) ≡ nat_le c i
 below-next c i = grind (arith, nat_tests)
@@ -53,33 +53,6 @@ rest-has k n x (y ∷ ys) = elim (cases_lt n k) [
       ∙ sym (ap (λ m. has_section x (drop m (y ∷ ys))) none))
 ]
 
--- of the numbers from n on only k matters, if it is among them
-past-it : (h : ℕ → Bool) (k n count : ℕ) → k < n → list_all (λ c. h c || not (k == c)) (range_with_len n count) ≡ true
-past-it h k n zero less = refl
-past-it h k n (suc count) less =
-    let other : (k == n) ≡ false = grind (arith, nat_tests) in
-    ap (λ b. (h n || not b) && list_all (λ c. h c || not (k == c)) (range_with_len (n + 1) count)) other
-    ∙ ap (λ b. b && list_all (λ c. h c || not (k == c)) (range_with_len (n + 1) count)) (or-true (h n))
-    ∙ past-it h k (n + 1) count (omega arith)
-
-only-at : (h : ℕ → Bool) (k n count : ℕ) → n ≤ k → k < n + count → list_all (λ c. h c || not (k == c)) (range_with_len n count) ≡ h k
-only-at h k n zero low less = absurd (omega arith)
-only-at h k n (suc count) low less = elim (cases_lt n k) [
-  | inl before ↦
-      (let other : (k == n) ≡ false = grind (arith, nat_tests) in
-      ap (λ b. (h n || not b) && list_all (λ c. h c || not (k == c)) (range_with_len (n + 1) count)) other
-      ∙ ap (λ b. b && list_all (λ c. h c || not (k == c)) (range_with_len (n + 1) count)) (or-true (h n))
-      ∙ only-at h k (n + 1) count (omega arith) (omega arith))
-  | inr here ↦
-      (let is : k ≡ n = omega arith in
-      let same : (k == n) ≡ true = grind (arith, nat_tests) in
-      ap (λ b. (h n || not b) && list_all (λ c. h c || not (k == c)) (range_with_len (n + 1) count)) same
-      ∙ ap (λ b. (h n || false) && b) (past-it h k (n + 1) count (omega arith))
-      ∙ and-true (h n || false)
-      ∙ or-false (h n)
-      ∙ ap h (sym is))
-]
-
 module _ (p : PlantLists) (s : State) (shape : HasShape p s) where
   pub seen_below-holds : (r : ℕ) (now : RouteState) (k : ℕ) → slice_get s.routes r ≡ Some now → tree_holds (image_of p s) (seen_below r k) ≡ nat_lt now.seen k
   seen_below-holds r now k at =
@@ -97,9 +70,17 @@ module _ (p : PlantLists) (s : State) (shape : HasShape p s) where
 
   pub locked_or_occupied-holds : (r : ℕ) (now : RouteState) → slice_get s.routes r ≡ Some now → tree_holds (image_of p s) (locked_or_occupied r) ≡ is_locked_or_occupied now
   locked_or_occupied-holds r now at =
-      let one = mode-holds p s shape r now Locked at in
-      let two = mode-holds p s shape r now Occupied at in
-      rw (one, two) (ap (λ b. same_mode now.mode Locked || b) (or-false (same_mode now.mode Occupied)))
+      let one = mode-holds p s shape r now Free at in
+      let two = mode-holds p s shape r now Marked at in
+      let three = mode-holds p s shape r now Allocating at in
+      rw (one, two, three) (none_of now.mode)
+    where
+      none_of : (m : Mode) → not (same_mode m Free || (same_mode m Marked || (same_mode m Allocating || false))) ≡ (same_mode m Locked || same_mode m Occupied)
+      none_of Free = refl
+      none_of Marked = refl
+      none_of Allocating = refl
+      none_of Locked = refl
+      none_of Occupied = refl
 
   pub is_holding-holds : (r : ℕ) (now : RouteState) → slice_get s.routes r ≡ Some now → tree_holds (image_of p s) (is_holding r) ≡ holds_sections now
   is_holding-holds r now at =
@@ -107,7 +88,7 @@ module _ (p : PlantLists) (s : State) (shape : HasShape p s) where
       let two = mode-holds p s shape r now Marked at in
       rw (one, two) (neither now.mode)
     where
-      neither : (m : Mode) → (not (same_mode m Free) && (not (same_mode m Marked) && true)) ≡ (same_mode m Allocating || (same_mode m Locked || same_mode m Occupied))
+      neither : (m : Mode) → not (same_mode m Free || (same_mode m Marked || false)) ≡ (same_mode m Allocating || (same_mode m Locked || same_mode m Occupied))
       neither Free = refl
       neither Marked = refl
       neither Allocating = refl
@@ -118,19 +99,16 @@ module _ (p : PlantLists) (s : State) (shape : HasShape p s) where
   kept_on_path-holds r route now x known at =
       let few : now.rel ≤ length route.path = (fits_path-counts route now (shape.counts r route now known at)).1 in
       let counts = range_with_len 0 (length route.path + 1) in
-      each_of-holds (image_of p s) (flat_map (λ c. if rest c then [] else negation (rel_is r c) ∷ []) counts)
-      ∙ list_all-flat_map (tree_holds (image_of p s)) (λ c. if rest c then [] else negation (rel_is r c) ∷ []) counts
-      ∙ list_all-alike (λ c. list_all (tree_holds (image_of p s)) (if rest c then [] else negation (rel_is r c) ∷ [])) (λ c. rest c || not (now.rel == c)) counts (λ i c found. one (rest c) c)
-      ∙ only-at rest now.rel 0 (length route.path + 1) (omega arith) (omega (arith, few))
+      some_of-holds (image_of p s) (flat_map (λ c. if rest c then rel_is r c ∷ [] else []) counts)
+      ∙ list_any-flat_map (tree_holds (image_of p s)) (λ c. if rest c then rel_is r c ∷ [] else []) counts
+      ∙ list_any-alike (λ c. list_any (tree_holds (image_of p s)) (if rest c then rel_is r c ∷ [] else [])) (λ c. rest c && (now.rel == c)) counts (λ i c found.
+      any-if (image_of p s) (rel_is r c) (rest c) ∙ ap (λ b. rest c && b) (rel-holds p s shape r now c at))
+      ∙ found-at rest now.rel (length route.path + 1) (omega (arith, few))
       ∙ (let none : now.rel - 0 ≡ now.rel = omega arith in ap (λ k. has_section x (drop k route.path)) (sym none))
       ∙ sym (rest-has now.rel 0 x route.path)
     where
       rest : ℕ → Bool
       rest c = has_section x (drop c route.path)
-
-      one : (b : Bool) (c : ℕ) → list_all (tree_holds (image_of p s)) (if b then [] else negation (rel_is r c) ∷ []) ≡ (b || not (now.rel == c))
-      one true c = refl
-      one false c = and-true (not (tree_holds (image_of p s) (rel_is r c))) ∙ ap not (rel-holds p s shape r now c at)
 
   pub holding_section-holds : (r : ℕ) (route : Route) (now : RouteState) (x : ℕ) → slice_get p.routes r ≡ Some route → slice_get s.routes r ≡ Some now → tree_holds (image_of p s) (holding_section r route x) ≡ holds_section x route now
   holding_section-holds r route now x known at = by_test (has_section x (sections_beside route)) refl

@@ -1,7 +1,7 @@
 -- Tests of lists that conditions are made of: of ranges, of places, of lists of lists.
 use Rattle.std.proofs.Common.{◌≡◌, ℕ, zero, suc, ◌+◌, ◌<◌, ◌==◌, Bool, true, false, not, ◌&&◌, ◌||◌, Some, List, [], ◌∷◌, drop, filter, nat_lt, slice_get, refl, sym, ◌∙◌, ap, arith}
 use Rattle.std.specs.List.{enumerate_from, flat_map, list_all, list_any, range_with_len}
-use Rattle.std.proofs.lemmas.Bool.{eq-eqb, eqb-true, false≢true}
+use Rattle.std.proofs.lemmas.Bool.{and_from, and_parts, eq-eqb, eqb-true, false≢true}
 use Rattle.std.proofs.lemmas.Bool.Decides.{nat_tests}
 use Rattle.std.proofs.lemmas.List.Folds.{list_any-append}
 use Rattle.std.proofs.lemmas.Option.{same_Some}
@@ -85,6 +85,15 @@ asked-at test c n within =
     by_same : (k : ℕ) → test c ≡ true → (b : Bool) → (c == k) ≡ b → (not (c == k) || test k) ≡ true
     by_same k h true e = rw e (ap test (sym (eqb-true c k e)) ∙ h)
     by_same k h false e = rw e refl
+
+-- one of the numbers below n passes and is c exactly where c passes
+pub found-at : (test : ℕ → Bool) (c n : ℕ) → c < n → list_any (λ k. test k && (c == k)) (range_with_len 0 n) ≡ test c
+found-at test c n within =
+    same_test (list_any (λ k. test k && (c == k)) (range_with_len 0 n)) (test c) (λ h.
+    let found : (i : ℕ) × (k : ℕ) × (slice_get (range_with_len 0 n) i ≡ Some k) × ((test k && (c == k)) ≡ true) = list_any-at (λ k. test k && (c == k)) (range_with_len 0 n) h in
+    let passes = and_parts (test found.1) (c == found.1) found.3 in
+    ap test (eqb-true c found.1 passes.1) ∙ passes.0) (λ h.
+    list_any-from (λ k. test k && (c == k)) (range_with_len 0 n) c c (range-at n c within) (and_from (test c) (c == c) h (eq-eqb c c refl)))
 
 -- what is left of a list stands further on in the whole
 pub dropped-at : {X : Type 0} (n : ℕ) (xs : List X) (k : ℕ) (x : X) → slice_get (drop n xs) k ≡ Some x → slice_get xs (n + k) ≡ Some x

@@ -1,10 +1,11 @@
 -- V7 and V8 as conditions hold of the image of a state without hazard exactly where the state keeps them: a section is in
 -- the body of a train in direction d exactly where its occupancy says so.
-use Rattle.std.proofs.Common.{◌≡◌, ℕ, suc, ◌+◌, ◌<◌, ◌==◌, Bool, true, false, not, ◌&&◌, ◌||◌, Some, None, List, [], ◌∷◌, ◌++◌, drop, length, map, nat_le, nat_lt, slice_get, refl, sym, ◌∙◌, ap, arith}
+use Rattle.std.proofs.Common.{◌≡◌, ℕ, suc, ◌+◌, ◌<◌, ◌≤◌, ◌==◌, Bool, true, false, not, ◌&&◌, ◌||◌, Some, None, List, [], ◌∷◌, ◌++◌, drop, inl, inr, length, map, nat_le, nat_lt, slice_get, refl, sym, ◌∙◌, ap, arith}
 use Rattle.std.proofs.Math.Bool.{and-true, or-false}
 use Rattle.std.specs.Prelude.{if◌then◌else◌}
 use Rattle.std.specs.List.{enumerate_from, flat_map, last_or, list_all, list_any, range_with_len}
-use Rattle.std.proofs.lemmas.Bool.{and_parts, and_from, eq-eqb, eqb-true}
+use Rattle.std.proofs.lemmas.Bool.{and_parts, and_from, cases_lt, eq-eqb, eqb-true}
+use Rattle.std.proofs.lemmas.Bool.Decides.{nat_tests}
 use Rattle.std.proofs.lemmas.List.Folds.{list_all-append}
 use Rattle.ilk_base.specs.Option.{is_some_and}
 use Rattle.ilk_base.proofs.Lists.{last_or-at}
@@ -16,6 +17,7 @@ use Rattle.ilk_plant.specs.Network.{has_section}
 use Rattle.ilk_plant.specs.Plant.{IsPlant, PlantLists}
 use Rattle.ilk_plant.specs.Shape.{HasShape, is_body}
 use Rattle.ilk_plant.specs.Sound.{NeverReturns}
+use Rattle.ilk_plant.proofs.Shapes.{fits_path-counts}
 use Rattle.ilk_plant.specs.declared.network.Dir.{Dir}
 use Rattle.ilk_plant.specs.declared.network.Dir.TheVariants.{Up, Down}
 use Rattle.ilk_plant.specs.declared.state.Aspect.TheVariants.{Closed}
@@ -40,7 +42,7 @@ use Rattle.ilk_conditions.specs.Conditions.{board_is, mode_is, no_train_at}
 use Rattle.ilk_conditions.proofs.Values.{board-holds, mode-holds, occupancy-holds}
 use Rattle.ilk_invs.specs.Held.{kept_on_path, locked_or_occupied, seen_below}
 use Rattle.ilk_invs.specs.Parts.{each_of, of_each_place, of_each_route, some_of}
-use Rattle.ilk_invs.specs.TrainFamilies.{body_at, head_at, keeps_at, kept_at, leads_at, leads_from, led_at, v7_tree, v8_tree}
+use Rattle.ilk_invs.specs.TrainFamilies.{body_at, head_at, keeps_at, kept_at, leads_at, leads_from, led_at, none_seen_past, v7_tree, v8_tree}
 use Rattle.ilk_invs.proofs.HeldLaws.{below-next, kept_on_path-holds, locked_or_occupied-holds, seen_below-holds}
 use Rattle.ilk_invs.proofs.PartLaws.{any-if, each_of-holds, some-place, some-route, some_of-holds, vacant-all}
 use Rattle.ilk_invs.proofs.PointLaws.{not-kept}
@@ -80,27 +82,29 @@ head-values Down (Taken Down true false) = refl
 head-values Down (Taken Down false true) = refl
 head-values Down (Taken Down false false) = refl
 
-body-values : (d : Dir) (o : Occupancy) → ((occupancy_value o == occupancy_value (Taken d false false)) || ((occupancy_value o == occupancy_value (Taken d false true)) || ((occupancy_value o == occupancy_value (Taken d true false)) || ((occupancy_value o == occupancy_value (Taken d true true)) || false)))) ≡ has_train_in d o
-body-values Up Vacant = refl
-body-values Up Crash = refl
-body-values Up (Taken Up true true) = refl
-body-values Up (Taken Up true false) = refl
-body-values Up (Taken Up false true) = refl
-body-values Up (Taken Up false false) = refl
-body-values Up (Taken Down true true) = refl
-body-values Up (Taken Down true false) = refl
-body-values Up (Taken Down false true) = refl
-body-values Up (Taken Down false false) = refl
-body-values Down Vacant = refl
-body-values Down Crash = refl
-body-values Down (Taken Up true true) = refl
-body-values Down (Taken Up true false) = refl
-body-values Down (Taken Up false true) = refl
-body-values Down (Taken Up false false) = refl
-body-values Down (Taken Down true true) = refl
-body-values Down (Taken Down true false) = refl
-body-values Down (Taken Down false true) = refl
-body-values Down (Taken Down false false) = refl
+up-values : (o : Occupancy) → (not (occupancy_value o == occupancy_value Vacant) && (((occupancy_value o == occupancy_value Vacant) || ((occupancy_value o == occupancy_value (Taken Up false false)) || ((occupancy_value o == occupancy_value (Taken Up false true)) || ((occupancy_value o == occupancy_value (Taken Up true false)) || ((occupancy_value o == occupancy_value (Taken Up true true)) || false))))) && true)) ≡ has_train_in Up o
+up-values Vacant = refl
+up-values Crash = refl
+up-values (Taken Up true true) = refl
+up-values (Taken Up true false) = refl
+up-values (Taken Up false true) = refl
+up-values (Taken Up false false) = refl
+up-values (Taken Down true true) = refl
+up-values (Taken Down true false) = refl
+up-values (Taken Down false true) = refl
+up-values (Taken Down false false) = refl
+
+down-values : (o : Occupancy) → (not ((occupancy_value o == occupancy_value Vacant) || ((occupancy_value o == occupancy_value (Taken Up false false)) || ((occupancy_value o == occupancy_value (Taken Up false true)) || ((occupancy_value o == occupancy_value (Taken Up true false)) || ((occupancy_value o == occupancy_value (Taken Up true true)) || false))))) && (not (occupancy_value o == occupancy_value Crash) && true)) ≡ has_train_in Down o
+down-values Vacant = refl
+down-values Crash = refl
+down-values (Taken Up true true) = refl
+down-values (Taken Up true false) = refl
+down-values (Taken Up false true) = refl
+down-values (Taken Up false false) = refl
+down-values (Taken Down true true) = refl
+down-values (Taken Down true false) = refl
+down-values (Taken Down false true) = refl
+down-values (Taken Down false false) = refl
 
 taken-head : (d : Dir) (o : Occupancy) → has_head_in d o ≡ true → (tail : Bool) × (o ≡ Taken d tail true)
 taken-head Up (Taken Up tail true) h = (tail, refl)
@@ -183,12 +187,35 @@ module _ (p : PlantLists) (plant : IsPlant p) (s : State) (shape : HasShape p s)
       rw (one, two) (head-values d (occupancy_of p s x))
 
   body_at-holds : (d : Dir) (x : ℕ) → x < length p.sections → tree_holds (image_of p s) (body_at p d x) ≡ has_train_in d (occupancy_of p s x)
-  body_at-holds d x within =
-      let one = occupancy-holds p s shape x (Taken d false false) within in
-      let two = occupancy-holds p s shape x (Taken d false true) within in
-      let three = occupancy-holds p s shape x (Taken d true false) within in
-      let four = occupancy-holds p s shape x (Taken d true true) within in
-      rw (one, two, three, four) (body-values d (occupancy_of p s x))
+  body_at-holds Up x within =
+      let vacant = occupancy-holds p s shape x Vacant within in
+      let one = occupancy-holds p s shape x (Taken Up false false) within in
+      let two = occupancy-holds p s shape x (Taken Up false true) within in
+      let three = occupancy-holds p s shape x (Taken Up true false) within in
+      let four = occupancy-holds p s shape x (Taken Up true true) within in
+      rw (vacant, one, two, three, four) (up-values (occupancy_of p s x))
+  body_at-holds Down x within =
+      let vacant = occupancy-holds p s shape x Vacant within in
+      let one = occupancy-holds p s shape x (Taken Up false false) within in
+      let two = occupancy-holds p s shape x (Taken Up false true) within in
+      let three = occupancy-holds p s shape x (Taken Up true false) within in
+      let four = occupancy-holds p s shape x (Taken Up true true) within in
+      let crash = occupancy-holds p s shape x Crash within in
+      rw (vacant, one, two, three, four, crash) (down-values (occupancy_of p s x))
+
+  -- that at most i + 1 are seen is asked for, or holds since the path ends there
+  none_seen_past-holds : (r : ℕ) (route : Route) (now : RouteState) (i : ℕ) → slice_get p.routes r ≡ Some route → slice_get s.routes r ≡ Some now → list_all (tree_holds (image_of p s)) (none_seen_past r route i) ≡ nat_le now.seen (i + 1)
+  none_seen_past-holds r route now i known at = elim (cases_lt (i + 1) (length route.path)) [
+    | inl before ↦
+        (let goes_on : nat_lt (i + 1) (length route.path) ≡ true = grind (arith, nat_tests) in
+        let two : i + 2 ≡ i + 1 + 1 = omega arith in
+        rw goes_on (and-true (tree_holds (image_of p s) (seen_below r (i + 2))) ∙ seen_below-holds p s shape r now (i + 2) at ∙ ap (nat_lt now.seen) two ∙ below-next now.seen (i + 1)))
+    | inr past ↦
+        (let ends : nat_lt (i + 1) (length route.path) ≡ false = grind (arith, nat_tests) in
+        let few : now.seen ≤ length route.path = (fits_path-counts route now (shape.counts r route now known at)).0 in
+        let within : nat_le now.seen (i + 1) ≡ true = grind (arith, nat_tests) in
+        rw ends (sym within))
+  ]
 
   -- a route that leads a train with its head at place i
   leads_from-holds : (r : ℕ) (route : Route) (now : RouteState) (i : ℕ) → slice_get p.routes r ≡ Some route → slice_get s.routes r ≡ Some now → tree_holds (image_of p s) (leads_from p r route i) ≡ ((same_mode now.mode Occupied || (same_mode now.mode Locked && has_aspect s route.source Closed)) && (nat_le now.seen (i + 1) && list_all (is_vacant s) (drop (i + 1) route.path)))
@@ -197,11 +224,11 @@ module _ (p : PlantLists) (plant : IsPlant p) (s : State) (shape : HasShape p s)
       let occupied = mode-holds p s shape r now Occupied at in
       let locked = mode-holds p s shape r now Locked at in
       let closed = board-holds p s shape route.source Closed of.source in
-      let two : i + 2 ≡ i + 1 + 1 = omega arith in
-      let seen : tree_holds (image_of p s) (seen_below r (i + 2)) ≡ nat_le now.seen (i + 1) = seen_below-holds p s shape r now (i + 2) at ∙ ap (nat_lt now.seen) two ∙ below-next now.seen (i + 1) in
+      let seen = none_seen_past-holds r route now i known at in
       let vacant = vacant-all p s shape calm (drop (i + 1) route.path) (λ k x found. all-at (λ x. x < length p.sections) route.path ((i + 1) + k) x of.path (dropped-at (i + 1) route.path k x found)) in
-      each_of-holds (image_of p s) (some_of (mode_is r Occupied ∷ each_of (mode_is r Locked ∷ board_is p route.source Closed ∷ []) ∷ []) ∷ seen_below r (i + 2) ∷ map (no_train_at p) (drop (i + 1) route.path))
-      ∙ joined (tree_holds (image_of p s) (mode_is r Occupied)) (tree_holds (image_of p s) (mode_is r Locked)) (tree_holds (image_of p s) (board_is p route.source Closed)) (tree_holds (image_of p s) (seen_below r (i + 2))) (list_all (tree_holds (image_of p s)) (map (no_train_at p) (drop (i + 1) route.path))) _ _ _ _ _ occupied locked closed seen vacant
+      each_of-holds (image_of p s) (some_of (mode_is r Occupied ∷ each_of (mode_is r Locked ∷ board_is p route.source Closed ∷ []) ∷ []) ∷ (none_seen_past r route i ++ map (no_train_at p) (drop (i + 1) route.path)))
+      ∙ ap (λ v. tree_holds (image_of p s) (some_of (mode_is r Occupied ∷ each_of (mode_is r Locked ∷ board_is p route.source Closed ∷ []) ∷ [])) && v) (list_all-append (tree_holds (image_of p s)) (none_seen_past r route i) (map (no_train_at p) (drop (i + 1) route.path)))
+      ∙ joined (tree_holds (image_of p s) (mode_is r Occupied)) (tree_holds (image_of p s) (mode_is r Locked)) (tree_holds (image_of p s) (board_is p route.source Closed)) (list_all (tree_holds (image_of p s)) (none_seen_past r route i)) (list_all (tree_holds (image_of p s)) (map (no_train_at p) (drop (i + 1) route.path))) _ _ _ _ _ occupied locked closed seen vacant
     where
       joined : (a b c d e a2 b2 c2 d2 e2 : Bool) → a ≡ a2 → b ≡ b2 → c ≡ c2 → d ≡ d2 → e ≡ e2 → ((a || ((b && (c && true)) || false)) && (d && e)) ≡ ((a2 || (b2 && c2)) && (d2 && e2))
       joined a b c d e a2 b2 c2 d2 e2 one two three four five =

@@ -1,5 +1,5 @@
 -- Each family as a condition is valid over the ranges of the plant.
-use Rattle.std.proofs.Common.{◌≡◌, ℕ, ◌+◌, ◌-◌, ◌<◌, ◌≤◌, ◌==◌, Bool, true, false, ◌&&◌, Option, Some, None, List, [], ◌∷◌, ◌++◌, drop, length, map, slice_get, take, unwrap_or, refl, ◌∙◌, ap, arith}
+use Rattle.std.proofs.Common.{◌≡◌, ℕ, ◌+◌, ◌-◌, ◌<◌, ◌≤◌, ◌==◌, Bool, true, false, ◌&&◌, Option, Some, None, List, [], ◌∷◌, ◌++◌, drop, length, map, nat_lt, slice_get, take, unwrap_or, refl, ◌∙◌, ap, arith}
 use Rattle.std.specs.Prelude.{if◌then◌else◌}
 use Rattle.std.specs.List.{enumerate_from, flat_map, list_all, range_with_len}
 use Rattle.std.proofs.lemmas.List.Folds.{list_all-append, list_all-map}
@@ -21,8 +21,9 @@ use Rattle.ilk_plant.specs.declared.table.Route.{Route}
 use Rattle.ilk_routes.specs.Claims.{sections_beside}
 use Rattle.ilk_model.specs.Holding.{is_plain, runs_in}
 use Rattle.ilk_layout.specs.Variables.{ranges_of_plant}
-use Rattle.ilk_layout.specs.declared.values.Occupancy.TheVariants.{Taken}
-use Rattle.ilk_conditions.specs.Conditions.{board_is, commanded_at_listed, lies_at_listed, lock_is, mode_is, no_train_at, rel_is, seen_is}
+use Rattle.ilk_layout.specs.declared.values.Occupancy.{Occupancy}
+use Rattle.ilk_layout.specs.declared.values.Occupancy.TheVariants.{Vacant, Taken, Crash}
+use Rattle.ilk_conditions.specs.Conditions.{board_is, commanded_at_listed, lies_at_listed, lock_is, mode_is, no_train_at, occupancy_is, rel_is, seen_is, train_at}
 use Rattle.ilk_conditions.proofs.Listed.{commanded_at_listed-valid}
 use Rattle.ilk_conditions.proofs.Valid.{board_is-valid, lies_at_listed-valid, lock_is-valid, mode_is-valid, no_train_at-valid, occupancy_is-valid, rel_is-valid, seen_is-valid}
 use Rattle.ilk_invs.specs.FamilyTrees.{family_tree, family_trees}
@@ -31,7 +32,7 @@ use Rattle.ilk_invs.specs.HoldFamilies.{held_once, holders, lock_at_place, locke
 use Rattle.ilk_invs.specs.Parts.{conditions_for, each_of, of_each_place, of_each_route, some_of, where_holds}
 use Rattle.ilk_invs.specs.PointFamily.{points_of_path, set_for, v6_tree}
 use Rattle.ilk_invs.specs.RouteFamilies.{counts_of, opened_for, path_vacant, v1_tree, v4_tree, v5_tree, v9_tree}
-use Rattle.ilk_invs.specs.TrainFamilies.{body_at, head_at, keeps_at, kept_at, leads_at, leads_from, led_at, v7_tree, v8_tree}
+use Rattle.ilk_invs.specs.TrainFamilies.{body_at, head_at, keeps_at, kept_at, leads_at, leads_from, led_at, none_seen_past, v7_tree, v8_tree, vacant_or_up}
 use Rattle.ilk_invs.proofs.HoldLaws.{beside-known}
 use Rattle.ilk_invs.proofs.Tests.{dropped-at, enumerated, list_all-each}
 
@@ -100,21 +101,17 @@ module _ (p : PlantLists) (plant : IsPlant p) where
 
   kept_on_path-valid : (r : ℕ) (route : Route) (x : ℕ) → slice_get p.routes r ≡ Some route → tree_valid (ranges_of_plant p) (kept_on_path r route x) ≡ true
   kept_on_path-valid r route x known =
-      each_of-valid (flat_map (λ c. if has_section x (drop c route.path) then [] else negation (rel_is r c) ∷ []) (range_with_len 0 (length route.path + 1))) (flat_map-valid (λ c. if has_section x (drop c route.path) then [] else negation (rel_is r c) ∷ []) (range_with_len 0 (length route.path + 1)) (λ i c at.
+      some_of-valid (flat_map (λ c. if has_section x (drop c route.path) then rel_is r c ∷ [] else []) (range_with_len 0 (length route.path + 1))) (flat_map-valid (λ c. if has_section x (drop c route.path) then rel_is r c ∷ [] else []) (range_with_len 0 (length route.path + 1)) (λ i c at.
       let below = (range_within (length route.path + 1) i c at).1 in
-      unless (has_section x (drop c route.path)) (negation (rel_is r c) ∷ []) (one-valid (negation (rel_is r c)) (rel_is-valid p r c route known (omega (arith, below))))))
-    where
-      unless : (b : Bool) (ts : List Tree) → list_all (tree_valid (ranges_of_plant p)) ts ≡ true → list_all (tree_valid (ranges_of_plant p)) (if b then [] else ts) ≡ true
-      unless true ts h = refl
-      unless false ts h = h
+      if-valid (has_section x (drop c route.path)) (rel_is r c ∷ []) (one-valid (rel_is r c) (rel_is-valid p r c route known (omega (arith, below))))))
 
   locked_or_occupied-valid : (r : ℕ) → r < length p.routes → tree_valid (ranges_of_plant p) (locked_or_occupied r) ≡ true
   locked_or_occupied-valid r within =
-      some_of-valid (mode_is r Locked ∷ mode_is r Occupied ∷ []) (two-valid (mode_is r Locked) (mode_is r Occupied) (mode_is-valid p r Locked within) (mode_is-valid p r Occupied within))
+      some_of-valid (mode_is r Free ∷ mode_is r Marked ∷ mode_is r Allocating ∷ []) (three-valid (mode_is r Free) (mode_is r Marked) (mode_is r Allocating) (mode_is-valid p r Free within) (mode_is-valid p r Marked within) (mode_is-valid p r Allocating within))
 
   is_holding-valid : (r : ℕ) → r < length p.routes → tree_valid (ranges_of_plant p) (is_holding r) ≡ true
   is_holding-valid r within =
-      each_of-valid (negation (mode_is r Free) ∷ negation (mode_is r Marked) ∷ []) (two-valid (negation (mode_is r Free)) (negation (mode_is r Marked)) (mode_is-valid p r Free within) (mode_is-valid p r Marked within))
+      some_of-valid (mode_is r Free ∷ mode_is r Marked ∷ []) (two-valid (mode_is r Free) (mode_is r Marked) (mode_is-valid p r Free within) (mode_is-valid p r Marked within))
 
   is_kept-valid : (r : ℕ) (route : Route) (x : ℕ) → slice_get p.routes r ≡ Some route → tree_valid (ranges_of_plant p) (each_of (locked_or_occupied r ∷ kept_on_path r route x ∷ [])) ≡ true
   is_kept-valid r route x known =
@@ -214,9 +211,22 @@ module _ (p : PlantLists) (plant : IsPlant p) where
   head_at-valid : (d : Dir) (x : ℕ) → x < length p.sections → tree_valid (ranges_of_plant p) (head_at p d x) ≡ true
   head_at-valid d x within = rw (occupancy_is-valid p x (Taken d false true) within, occupancy_is-valid p x (Taken d true true) within) refl
 
+  vacant_or_up-valid : (x : ℕ) → x < length p.sections → tree_valid (ranges_of_plant p) (vacant_or_up p x) ≡ true
+  vacant_or_up-valid x within =
+      some_of-valid (map (occupancy_is p x) low) (map-valid (occupancy_is p x) low (λ i occupancy at. occupancy_is-valid p x occupancy within))
+    where
+      low : List Occupancy
+      low = Vacant ∷ Taken Up false false ∷ Taken Up false true ∷ Taken Up true false ∷ Taken Up true true ∷ []
+
   body_at-valid : (d : Dir) (x : ℕ) → x < length p.sections → tree_valid (ranges_of_plant p) (body_at p d x) ≡ true
-  body_at-valid d x within =
-      rw (occupancy_is-valid p x (Taken d false false) within, occupancy_is-valid p x (Taken d false true) within, occupancy_is-valid p x (Taken d true false) within, occupancy_is-valid p x (Taken d true true) within) refl
+  body_at-valid Up x within =
+      each_of-valid (train_at p x ∷ vacant_or_up p x ∷ []) (two-valid (train_at p x) (vacant_or_up p x) (no_train_at-valid p x within) (vacant_or_up-valid x within))
+  body_at-valid Down x within =
+      each_of-valid (negation (vacant_or_up p x) ∷ negation (occupancy_is p x Crash) ∷ []) (two-valid (negation (vacant_or_up p x)) (negation (occupancy_is p x Crash)) (vacant_or_up-valid x within) (occupancy_is-valid p x Crash within))
+
+  none_seen_past-valid : (r : ℕ) (route : Route) (i : ℕ) → slice_get p.routes r ≡ Some route → i < length route.path → list_all (tree_valid (ranges_of_plant p)) (none_seen_past r route i) ≡ true
+  none_seen_past-valid r route i known less =
+      if-valid (nat_lt (i + 1) (length route.path)) (seen_below r (i + 2) ∷ []) (one-valid (seen_below r (i + 2)) (seen_below-valid r (i + 2) route known (omega (arith, less))))
 
   leads_from-valid : (r : ℕ) (route : Route) (i x : ℕ) → slice_get p.routes r ≡ Some route → slice_get route.path i ≡ Some x → tree_valid (ranges_of_plant p) (leads_from p r route i) ≡ true
   leads_from-valid r route i x known at =
@@ -224,9 +234,9 @@ module _ (p : PlantLists) (plant : IsPlant p) where
       let less = slice_get_within route.path i x at in
       let closed = each_of-valid (mode_is r Locked ∷ board_is p route.source Closed ∷ []) (two-valid (mode_is r Locked) (board_is p route.source Closed) (mode_is-valid p r Locked within) (board_is-valid p route.source Closed (plant.routes_known r route known).source)) in
       let may = some_of-valid (mode_is r Occupied ∷ each_of (mode_is r Locked ∷ board_is p route.source Closed ∷ []) ∷ []) (two-valid (mode_is r Occupied) (each_of (mode_is r Locked ∷ board_is p route.source Closed ∷ [])) (mode_is-valid p r Occupied within) closed) in
-      each_of-valid (some_of (mode_is r Occupied ∷ each_of (mode_is r Locked ∷ board_is p route.source Closed ∷ []) ∷ []) ∷ seen_below r (i + 2) ∷ map (no_train_at p) (drop (i + 1) route.path))
-      (more-valid (some_of (mode_is r Occupied ∷ each_of (mode_is r Locked ∷ board_is p route.source Closed ∷ []) ∷ [])) (seen_below r (i + 2) ∷ map (no_train_at p) (drop (i + 1) route.path)) may
-      (more-valid (seen_below r (i + 2)) (map (no_train_at p) (drop (i + 1) route.path)) (seen_below-valid r (i + 2) route known (omega (arith, less)))
+      each_of-valid (some_of (mode_is r Occupied ∷ each_of (mode_is r Locked ∷ board_is p route.source Closed ∷ []) ∷ []) ∷ (none_seen_past r route i ++ map (no_train_at p) (drop (i + 1) route.path)))
+      (more-valid (some_of (mode_is r Occupied ∷ each_of (mode_is r Locked ∷ board_is p route.source Closed ∷ []) ∷ [])) (none_seen_past r route i ++ map (no_train_at p) (drop (i + 1) route.path)) may
+      (joined-valid (none_seen_past r route i) (map (no_train_at p) (drop (i + 1) route.path)) (none_seen_past-valid r route i known less)
       (map-valid (no_train_at p) (drop (i + 1) route.path) (λ k y there. no_train_at-valid p y (path_known r route ((i + 1) + k) y known (dropped-at (i + 1) route.path k y there))))))
 
   instances-valid : (f : Dir → ℕ → List Tree) → ((d : Dir) (x : ℕ) → x < length p.sections → list_all (tree_valid (ranges_of_plant p)) (f d x) ≡ true) → tree_valid (ranges_of_plant p) (each_of (flat_map (λ x. f Up x ++ f Down x) (range_with_len 0 (length p.sections)))) ≡ true

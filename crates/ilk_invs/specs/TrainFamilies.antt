@@ -1,6 +1,6 @@
 -- The families that speak of trains: V7 and V8, as conditions on the values of a plant's variables. A train is seen by the
 -- occupancies of its sections.
-use Rattle.std.specs.Prelude.{ℕ, ◌+◌, ◌==◌, ◌&&◌, true, false, List, [], ◌∷◌, ◌++◌, drop, flat_map, length, map, if◌then◌else◌}
+use Rattle.std.specs.Prelude.{ℕ, ◌+◌, ◌==◌, ◌&&◌, true, false, List, [], ◌∷◌, ◌++◌, drop, flat_map, length, map, nat_lt, if◌then◌else◌}
 use Rattle.std.specs.List.{range_with_len}
 use Rattle.ilk_ir.specs.Tree.{Tree, negation}
 use Rattle.ilk_plant.specs.Network.{has_section}
@@ -10,27 +10,38 @@ use Rattle.ilk_plant.specs.declared.network.Dir.TheVariants.{Up, Down}
 use Rattle.ilk_plant.specs.declared.state.Aspect.TheVariants.{Closed}
 use Rattle.ilk_plant.specs.declared.state.Mode.TheVariants.{Locked, Occupied}
 use Rattle.ilk_plant.specs.declared.table.Route.{Route}
-use Rattle.ilk_layout.specs.declared.values.Occupancy.TheVariants.{Taken}
+use Rattle.ilk_layout.specs.declared.values.Occupancy.TheVariants.{Vacant, Taken, Crash}
 use Rattle.ilk_model.specs.Holding.{is_plain, runs_in}
-use Rattle.ilk_conditions.specs.Conditions.{board_is, mode_is, no_train_at, occupancy_is}
+use Rattle.ilk_conditions.specs.Conditions.{board_is, mode_is, no_train_at, occupancy_is, train_at}
 use Rattle.ilk_invs.specs.Held.{kept_on_path, locked_or_occupied, seen_below}
 use Rattle.ilk_invs.specs.Parts.{each_of, of_each_place, of_each_route, some_of}
 
--- a train in direction d has its head at x; it has x in its body
+-- a train in direction d has its head at x
 abbrev pub head_at : PlantLists → Dir → ℕ → Tree
 head_at p d x = some_of (map (λ tail. occupancy_is p x (Taken d tail true)) (false ∷ true ∷ []))
 
-abbrev pub body_at : PlantLists → Dir → ℕ → Tree
-body_at p d x =
-    some_of (map (λ head. occupancy_is p x (Taken d false head)) (false ∷ true ∷ []) ++ map (λ head. occupancy_is p x (Taken d true head)) (false ∷ true ∷ []))
+-- x is vacant, or has a train up: the occupancies from number 0 on, in order, which a formula takes as one literal
+abbrev pub vacant_or_up : PlantLists → ℕ → Tree
+vacant_or_up p x =
+    some_of (map (occupancy_is p x) (Vacant ∷ Taken Up false false ∷ Taken Up false true ∷ Taken Up true false ∷ Taken Up true true ∷ []))
 
--- route r leads a train with its head at path[i]: the route is Occupied, or Locked with its source Closed; seen is at
--- most i + 1; and each later path section is vacant
+-- a train in direction d has x in its body: for up, x isn't vacant, but is vacant or has a train up; for down, x is
+-- neither vacant nor has a train up, and no crash is there
+abbrev pub body_at : PlantLists → Dir → ℕ → Tree
+body_at p Up x = each_of (train_at p x ∷ vacant_or_up p x ∷ [])
+body_at p Down x = each_of (negation (vacant_or_up p x) ∷ negation (occupancy_is p x Crash) ∷ [])
+
+-- of route r no path section past place i is seen: seen is at most i + 1, which says something only where the path goes
+-- on past that place
+abbrev pub none_seen_past : ℕ → Route → ℕ → List Tree
+none_seen_past r route i = if nat_lt (i + 1) (length route.path) then seen_below r (i + 2) ∷ [] else []
+
+-- route r leads a train with its head at path[i]: the route is Occupied, or Locked with its source Closed; no
+-- later path section is seen; and each is vacant
 abbrev pub leads_from : PlantLists → ℕ → Route → ℕ → Tree
 leads_from p r route i =
     each_of (some_of (mode_is r Occupied ∷ each_of (mode_is r Locked ∷ board_is p route.source Closed ∷ []) ∷ [])
-    ∷ seen_below r (i + 2)
-    ∷ map (no_train_at p) (drop (i + 1) route.path))
+    ∷ (none_seen_past r route i ++ map (no_train_at p) (drop (i + 1) route.path)))
 
 -- route r, if it runs in direction d, leads a train with its head at x
 abbrev pub leads_at : PlantLists → Dir → ℕ → ℕ → Route → List Tree

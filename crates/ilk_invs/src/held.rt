@@ -1,7 +1,6 @@
 ghost use Rattle.std.specs.Prelude.{◌≡◌, ◌<◌, ◌+◌, ◌==◌, ◌++◌, ◌∷◌, [], length, map, if◌then◌else◌, IfOk, OnOk};
 ghost use Rattle.std.specs.List.{list_any};
 ghost use Rattle.ilk_ir.specs.Form.{tree_of};
-ghost use Rattle.ilk_ir.specs.Tree.{negation};
 ghost use Rattle.ilk_plant.specs.Network.{has_section};
 ghost use Rattle.ilk_plant.specs.Plant.{IsRouteOf};
 ghost use Rattle.ilk_routes.specs.Claims.{sections_beside};
@@ -37,27 +36,27 @@ pub fn rel_below(alloc: Global, plant: &Plant, r: u32, k: u8) -> Result<Form, Al
     Ok(Form::Or(forms))
 }
 
-/// Route `r` is Locked or Occupied.
+/// Route `r` is none of Free, Marked and Allocating, so Locked or Occupied.
 pub fn locked_or_occupied(alloc: Global, plant: &Plant, r: u32) -> Result<Form, AllocError>
     requires { r < length plant.now.routes }
     ensures { IfOk result (λ form. tree_of form ≡ definitions.locked_or_occupied r) }
 {
     let mut forms = Vec::new(alloc);
-    forms.push(mode_is(plant, r, Mode::Locked))?;
-    forms.push(mode_is(plant, r, Mode::Occupied))?;
-    Ok(Form::Or(forms))
+    forms.push(mode_is(plant, r, Mode::Free))?;
+    forms.push(mode_is(plant, r, Mode::Marked))?;
+    forms.push(mode_is(plant, r, Mode::Allocating))?;
+    negated(alloc, Form::Or(forms))
 }
 
-/// Route `r` is neither Free nor Marked. Where it is to hold, or not to, each of the two conditions
-/// is a literal of its own in a formula.
+/// Route `r` is neither Free nor Marked, so that it holds sections.
 pub fn is_holding(alloc: Global, plant: &Plant, r: u32) -> Result<Form, AllocError>
     requires { r < length plant.now.routes }
     ensures { IfOk result (λ form. tree_of form ≡ definitions.is_holding r) }
 {
     let mut forms = Vec::new(alloc);
-    forms.push(negated(alloc, mode_is(plant, r, Mode::Free))?)?;
-    forms.push(negated(alloc, mode_is(plant, r, Mode::Marked))?)?;
-    Ok(Form::And(forms))
+    forms.push(mode_is(plant, r, Mode::Free))?;
+    forms.push(mode_is(plant, r, Mode::Marked))?;
+    negated(alloc, Form::Or(forms))
 }
 
 // Whether section `x` is among these.
@@ -67,9 +66,8 @@ fn is_among(sections: &[u32], x: u32) -> bool
     sections.iter().any(|y| *y == x)
 }
 
-// Adds that route `r` hasn't released so many sections, unless it keeps the section then.
-fn push_unless_kept(
-    alloc: Global,
+// Adds that route `r` has released so many sections, if it keeps the section then.
+fn push_if_kept(
     forms: &mut Vec<Form>,
     plant: &Plant,
     r: u32,
@@ -77,10 +75,10 @@ fn push_unless_kept(
     is_kept: bool,
 ) -> Result<(), AllocError>
     requires { r < length plant.now.routes }
-    ensures { OnOk result (map tree_of forms.new.items ≡ map tree_of forms.old.items ++ (if is_kept then [] else negation (conditions.rel_is r count) ∷ [])) }
+    ensures { OnOk result (map tree_of forms.new.items ≡ map tree_of forms.old.items ++ (if is_kept then conditions.rel_is r count ∷ [] else [])) }
 {
-    if !is_kept {
-        forms.push(negated(alloc, rel_is(plant, r, count))?)?;
+    if is_kept {
+        forms.push(rel_is(plant, r, count))?;
     }
     Ok(())
 }
@@ -100,8 +98,7 @@ pub fn kept_on_path(
     let path = route.path.as_slice();
     let mut forms = Vec::new(alloc);
     for count in 0..path.len() + 1 {
-        push_unless_kept(
-            alloc,
+        push_if_kept(
             &mut forms,
             plant,
             r,
@@ -109,7 +106,7 @@ pub fn kept_on_path(
             is_among(&path[count..], x),
         )?;
     }
-    Ok(Form::And(forms))
+    Ok(Form::Or(forms))
 }
 
 // Whether some of these points is on section `x`.

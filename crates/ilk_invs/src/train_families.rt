@@ -15,7 +15,7 @@ ghost use Rattle.ilk_invs.specs.TrainFamilies as definitions;
 use crate::held::seen_below;
 use crate::point_family::is_kept;
 use crate::route_families::push_vacant;
-use ilk_conditions::{board_is, mode_is, negated, occupancy_is};
+use ilk_conditions::{board_is, mode_is, negated, no_train_at, occupancy_is, train_at};
 use ilk_ir::Form;
 use ilk_layout::Occupancy;
 use ilk_plant::{Aspect, Dir, Mode, Plant, Route, has_section};
@@ -57,17 +57,38 @@ fn head_at(alloc: Global, plant: &Plant, d: Dir, x: u32) -> Result<Form, AllocEr
     Ok(Form::Or(forms))
 }
 
+// Section `x` is vacant, or has a train up.
+fn vacant_or_up(alloc: Global, plant: &Plant, x: u32) -> Result<Form, AllocError>
+    requires { x < length plant.now.sections }
+    ensures { IfOk result (λ form. tree_of form ≡ definitions.vacant_or_up plant.now x) }
+{
+    let mut forms = Vec::new(alloc);
+    forms.push(no_train_at(plant, x))?;
+    forms.push(taken_is(plant, x, Dir::Up, false, false))?;
+    forms.push(taken_is(plant, x, Dir::Up, false, true))?;
+    forms.push(taken_is(plant, x, Dir::Up, true, false))?;
+    forms.push(taken_is(plant, x, Dir::Up, true, true))?;
+    Ok(Form::Or(forms))
+}
+
 // A train in direction `d` has section `x` in its body.
 fn body_at(alloc: Global, plant: &Plant, d: Dir, x: u32) -> Result<Form, AllocError>
     requires { x < length plant.now.sections }
     ensures { IfOk result (λ form. tree_of form ≡ definitions.body_at plant.now d x) }
 {
+    let either = vacant_or_up(alloc, plant, x)?;
     let mut forms = Vec::new(alloc);
-    forms.push(taken_is(plant, x, d, false, false))?;
-    forms.push(taken_is(plant, x, d, false, true))?;
-    forms.push(taken_is(plant, x, d, true, false))?;
-    forms.push(taken_is(plant, x, d, true, true))?;
-    Ok(Form::Or(forms))
+    match d {
+        Dir::Up => {
+            forms.push(train_at(alloc, plant, x)?)?;
+            forms.push(either)?;
+        }
+        Dir::Down => {
+            forms.push(negated(alloc, either)?)?;
+            forms.push(negated(alloc, occupancy_is(plant, x, Occupancy::Crash))?)?;
+        }
+    }
+    Ok(Form::And(forms))
 }
 
 // Route `r` is Occupied, or Locked with its source Closed.
@@ -85,6 +106,26 @@ fn may_lead(alloc: Global, plant: &Plant, r: u32, route: &Route) -> Result<Form,
     Ok(Form::Or(forms))
 }
 
+// Adds that of route `r` no path section past place `i` is seen, if there is any.
+fn push_none_seen_past(
+    alloc: Global,
+    forms: &mut Vec<Form>,
+    plant: &Plant,
+    r: u32,
+    route: &Route,
+    i: usize,
+) -> Result<(), AllocError>
+    requires known { r < length plant.now.routes }
+    requires route { IsRouteOf plant.now route.now }
+    requires place { i < length route.now.path }
+    ensures { OnOk result (map tree_of forms.new.items ≡ map tree_of forms.old.items ++ definitions.none_seen_past r route.now i) }
+{
+    if i + 1 < route.path.as_slice().len() {
+        forms.push(seen_below(alloc, plant, r, i as u8 + 2)?)?;
+    }
+    Ok(())
+}
+
 // Route `r` leads a train with its head at place `i` of its path.
 fn leads_from(
     alloc: Global,
@@ -100,7 +141,7 @@ fn leads_from(
 {
     let mut forms = Vec::new(alloc);
     forms.push(may_lead(alloc, plant, r, route)?)?;
-    forms.push(seen_below(alloc, plant, r, i as u8 + 2)?)?;
+    push_none_seen_past(alloc, &mut forms, plant, r, route, i)?;
     push_vacant(&mut forms, plant, &route.path.as_slice()[i + 1..])?;
     Ok(Form::And(forms))
 }
