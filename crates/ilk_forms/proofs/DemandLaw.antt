@@ -1,5 +1,5 @@
 -- The law of a demand: it extends exactly the assignments in which a first literal is true or the form holds.
-use Rattle.std.proofs.Common.{◌≡◌, ℕ, ◌≤◌, Bool, true, false, not, ◌&&◌, ◌||◌, List, [], ◌∷◌, ◌++◌, length, refl, sym, ap, ◌∙◌, subst, arith}
+use Rattle.std.proofs.Common.{◌≡◌, ℕ, ◌≤◌, Bool, true, false, not, ◌&&◌, ◌||◌, List, [], ◌∷◌, ◌++◌, length, cond, Option, Some, None, refl, sym, ap, ◌∙◌, subst, arith}
 use Rattle.std.proofs.lemmas.List.{append-nil}
 use Rattle.std.proofs.lemmas.List.Folds.{list_all-append, list_any-append}
 use Rattle.std.proofs.lemmas.Bool.{and_parts, and_from}
@@ -16,9 +16,11 @@ use Rattle.ilk_ints.specs.Named.{Named}
 use Rattle.ilk_ir.specs.Tree.{Tree, yes, no, is, all_of, any_of, negation, Trees, none, more, tree_holds, each_holds, some_holds, tree_valid, each_valid, has_value}
 use Rattle.ilk_copy.specs.declared.copy.Column.{Column}
 use Rattle.ilk_forms.specs.Leaf.{leaf, columns_in, ranges_of}
+use Rattle.ilk_forms.specs.Bound.{any_leaf, has_any_leaf}
 use Rattle.ilk_forms.specs.Gathered.{same_truth, signed, gathered_each}
 use Rattle.ilk_forms.specs.Truths.{Truths, gate_truth, truths_each, demand_of_bits, demand_each_bits}
-use Rattle.ilk_forms.specs.Demand.{one_clause, some_part, demand_of, demand_each}
+use Rattle.ilk_forms.specs.Demand.{one_clause, some_part, clause_or, demand_of, demand_each}
+use Rattle.ilk_forms.proofs.BoundLaw.{Stands, any-in, any-says}
 use Rattle.ilk_forms.proofs.Reading.{Reads, reads-more, columns_in-more, leaf-in}
 use Rattle.ilk_forms.proofs.GatheredFits.{Fits, signed-in, gathered_each-fits}
 use Rattle.ilk_base.proofs.Lengths.{longer}
@@ -46,9 +48,13 @@ some-fits first n g h fits =
       inside = list_all-append (clause_in m) g.part.clauses (ls ∷ []) ∙ and_from _ _ fits.inside (and_from _ _ (joined-in first g.lits m (clause_in-more n m first fits.low h) fits.lits) refl);
     }
 
-leaf_clause-in : (columns : List Column) (first : List Literal) (positive : Bool) (v c n : ℕ) → columns_in n columns ≡ true → clause_in n first ≡ true → tree_valid (ranges_of columns) (is v c) ≡ true → clause_in n (first ++ signed positive (leaf columns v c) ∷ []) ≡ true
-leaf_clause-in columns first positive v c n h f k =
-    joined-in first (signed positive (leaf columns v c) ∷ []) n f (and_from _ _ (signed-in positive n (leaf columns v c) (leaf-in columns v c n h k)) refl)
+signed_clause-fits : (first : List Literal) (positive : Bool) (l : Literal) (n : ℕ) → clause_in n first ≡ true → lit_in n l ≡ true → PartFits n (one_clause (first ++ signed positive l ∷ []) n)
+signed_clause-fits first positive l n f h =
+    clause-fits (first ++ signed positive l ∷ []) n (joined-in first (signed positive l ∷ []) n f (and_from _ _ (signed-in positive n l h) refl))
+
+clause_or-fits : (first : List Literal) (positive : Bool) (o : Option Literal) (n : ℕ) (p : Part) → clause_in n first ≡ true → ((l : Literal) → o ≡ Some l → lit_in n l ≡ true) → PartFits n p → PartFits n (clause_or first positive o n p)
+clause_or-fits first positive None n p f inside h = h
+clause_or-fits first positive (Some l) n p f inside h = signed_clause-fits first positive l n f (inside l refl)
 
 mutual
   pub demand_of-fits : (t : Tree) (columns : List Column) (first : List Literal) (positive : Bool) (n : ℕ) → columns_in n columns ≡ true → clause_in n first ≡ true → tree_valid (ranges_of columns) t ≡ true → PartFits n (demand_of columns first positive t n)
@@ -56,11 +62,14 @@ mutual
   demand_of-fits yes columns first false n h f k = clause-fits first n f
   demand_of-fits no columns first true n h f k = clause-fits first n f
   demand_of-fits no columns first false n h f k = record { low = same n; inside = refl }
-  demand_of-fits (is v c) columns first positive n h f k = clause-fits (first ++ signed positive (leaf columns v c) ∷ []) n (leaf_clause-in columns first positive v c n h f k)
+  demand_of-fits (is v c) columns first positive n h f k = signed_clause-fits first positive (leaf columns v c) n f (leaf-in columns v c n h k)
   demand_of-fits (all_of ts) columns first true n h f k = demand_each-fits ts columns first true n h f k
   demand_of-fits (all_of ts) columns first false n h f k = some-fits first n (gathered_each columns false false ts n) f (gathered_each-fits ts columns false false n h k)
-  demand_of-fits (any_of ts) columns first true n h f k = some-fits first n (gathered_each columns false true ts n) f (gathered_each-fits ts columns false true n h k)
-  demand_of-fits (any_of ts) columns first false n h f k = demand_each-fits ts columns first false n h f k
+  demand_of-fits (any_of ts) columns first true n h f k =
+      let g = gathered_each columns false true ts n in
+      clause_or-fits first true (any_leaf columns ts) n (some_part first g) f (λ l e. any-in ts columns n l h e) (some-fits first n g f (gathered_each-fits ts columns false true n h k))
+  demand_of-fits (any_of ts) columns first false n h f k =
+      clause_or-fits first false (any_leaf columns ts) n (demand_each columns first false ts n) f (λ l e. any-in ts columns n l h e) (demand_each-fits ts columns first false n h f k)
   demand_of-fits (negation t) columns first positive n h f k = demand_of-fits t columns first (not positive) n h f k
 
   pub demand_each-fits : (ts : Trees) (columns : List Column) (first : List Literal) (positive : Bool) (n : ℕ) → columns_in n columns ≡ true → clause_in n first ≡ true → each_valid (ranges_of columns) ts ≡ true → PartFits n (demand_each columns first positive ts n)
@@ -121,47 +130,57 @@ some-law a first g t truth n size f fits says means =
     let both : Extends a m (g.part.clauses ++ ls ∷ []) (OnlyIf ok (e ++ [])) = if_then_if a e [] true ok m m g.part.clauses (ls ∷ []) low (same m) fits.inside (if_from_only a m g.part.clauses e says.part) (λ _. no_more_if (a ++ e) m (ls ∷ []) ok long one) in
     subst (λ (d : List Bool). Extends a m (g.part.clauses ++ ls ∷ []) (OnlyIf ok d)) (append-nil e) both
 
+clause_or-law : (a : List Bool) (first : List Literal) (positive : Bool) (o : Option Literal) (has truth : Bool) (n : ℕ) (p : Part) (bits : List Bool) → length a ≡ n → Stands a o has truth → Extends a p.vars p.clauses (OnlyIf (some_true a first || same_truth positive truth) bits) → Extends a (clause_or first positive o n p).vars (clause_or first positive o n p).clauses (OnlyIf (some_true a first || same_truth positive truth) (cond has [] bits))
+clause_or-law a first positive None has truth n p bits size h law =
+    subst (λ (b : Bool). Extends a p.vars p.clauses (OnlyIf (some_true a first || same_truth positive truth) (cond {A = List Bool} b [] bits))) (sym h) law
+clause_or-law a first positive (Some l) has truth n p bits size h law =
+    subst (λ (b : Bool). Extends a n ((first ++ signed positive l ∷ []) ∷ []) (OnlyIf (some_true a first || same_truth positive truth) (cond {A = List Bool} b [] bits))) (sym h.0) (leaf-law a first (signed positive l) (same_truth positive truth) n size (signed-says a positive l ∙ ap (same_truth positive) h.1))
+
 share : (x p q : Bool) → ((x || p) && (x || q)) ≡ (x || (p && q))
 share true p q = refl
 share false p q = refl
 
 mutual
-  pub demand_of-law : (t : Tree) (columns : List Column) (ws : List ℕ) (first : List Literal) (positive : Bool) (a : List Bool) (n : ℕ) → length a ≡ n → Reads a columns ws → clause_in n first ≡ true → tree_valid (ranges_of columns) t ≡ true → Extends a (demand_of columns first positive t n).vars (demand_of columns first positive t n).clauses (OnlyIf (some_true a first || same_truth positive (tree_holds ws t)) (demand_of_bits ws positive t))
-  demand_of-law yes columns ws first true a n size r f k = no_clause-law a first n size
-  demand_of-law yes columns ws first false a n size r f k = clause-law a first n size
-  demand_of-law no columns ws first true a n size r f k = clause-law a first n size
-  demand_of-law no columns ws first false a n size r f k = no_clause-law a first n size
-  demand_of-law (is v c) columns ws first positive a n size r f k =
+  pub demand_of-law : (t : Tree) (columns : List Column) (ranges ws : List ℕ) (first : List Literal) (positive : Bool) (a : List Bool) (n : ℕ) → length a ≡ n → Reads a columns ranges ws → clause_in n first ≡ true → tree_valid (ranges_of columns) t ≡ true → Extends a (demand_of columns first positive t n).vars (demand_of columns first positive t n).clauses (OnlyIf (some_true a first || same_truth positive (tree_holds ws t)) (demand_of_bits ranges ws positive t))
+  demand_of-law yes columns ranges ws first true a n size r f k = no_clause-law a first n size
+  demand_of-law yes columns ranges ws first false a n size r f k = clause-law a first n size
+  demand_of-law no columns ranges ws first true a n size r f k = clause-law a first n size
+  demand_of-law no columns ranges ws first false a n size r f k = no_clause-law a first n size
+  demand_of-law (is v c) columns ranges ws first positive a n size r f k =
       leaf-law a first (signed positive (leaf columns v c)) (same_truth positive (has_value ws v c)) n size (signed-says a positive (leaf columns v c) ∙ ap (same_truth positive) (r.says v c k))
-  demand_of-law (all_of ts) columns ws first true a n size r f k =
-      subst (λ (q : Bool). Extends a (demand_each columns first true ts n).vars (demand_each columns first true ts n).clauses (OnlyIf (some_true a first || q) (demand_each_bits ws true ts))) (all-are ws true ts) (demand_each-law ts columns ws first true a n size r f k)
-  demand_of-law (all_of ts) columns ws first false a n size r f k =
-      some-law a first (gathered_each columns false false ts n) (truths_each ws false false ts) (not (each_holds ws ts)) n size f (gathered_each-fits ts columns false false n (here columns ws a n size r) k) (gathered_each-says ts columns ws false false a n size r k) (truths_each-mean ts ws false false ∙ all-are ws false ts)
-  demand_of-law (any_of ts) columns ws first true a n size r f k =
-      some-law a first (gathered_each columns false true ts n) (truths_each ws false true ts) (some_holds ws ts) n size f (gathered_each-fits ts columns false true n (here columns ws a n size r) k) (gathered_each-says ts columns ws false true a n size r k) (truths_each-mean ts ws false true ∙ some-are ws true ts)
-  demand_of-law (any_of ts) columns ws first false a n size r f k =
-      subst (λ (q : Bool). Extends a (demand_each columns first false ts n).vars (demand_each columns first false ts n).clauses (OnlyIf (some_true a first || q) (demand_each_bits ws false ts))) (some-are ws false ts) (demand_each-law ts columns ws first false a n size r f k)
-  demand_of-law (negation t) columns ws first positive a n size r f k =
-      subst (λ (q : Bool). Extends a (demand_of columns first (not positive) t n).vars (demand_of columns first (not positive) t n).clauses (OnlyIf (some_true a first || q) (demand_of_bits ws (not positive) t))) (turned positive (tree_holds ws t)) (demand_of-law t columns ws first (not positive) a n size r f k)
+  demand_of-law (all_of ts) columns ranges ws first true a n size r f k =
+      subst (λ (q : Bool). Extends a (demand_each columns first true ts n).vars (demand_each columns first true ts n).clauses (OnlyIf (some_true a first || q) (demand_each_bits ranges ws true ts))) (all-are ws true ts) (demand_each-law ts columns ranges ws first true a n size r f k)
+  demand_of-law (all_of ts) columns ranges ws first false a n size r f k =
+      some-law a first (gathered_each columns false false ts n) (truths_each ranges ws false false ts) (not (each_holds ws ts)) n size f (gathered_each-fits ts columns false false n (here columns ranges ws a n size r) k) (gathered_each-says ts columns ranges ws false false a n size r k) (truths_each-mean ts ranges ws false false ∙ all-are ws false ts)
+  demand_of-law (any_of ts) columns ranges ws first true a n size r f k =
+      let g = gathered_each columns false true ts n in
+      let s = truths_each ranges ws false true ts in
+      clause_or-law a first true (any_leaf columns ts) (has_any_leaf ranges ts) (some_holds ws ts) n (some_part first g) s.bits size (any-says ts a columns ranges ws r.bounded k) (some-law a first g s (some_holds ws ts) n size f (gathered_each-fits ts columns false true n (here columns ranges ws a n size r) k) (gathered_each-says ts columns ranges ws false true a n size r k) (truths_each-mean ts ranges ws false true ∙ some-are ws true ts))
+  demand_of-law (any_of ts) columns ranges ws first false a n size r f k =
+      let p = demand_each columns first false ts n in
+      let bits = demand_each_bits ranges ws false ts in
+      clause_or-law a first false (any_leaf columns ts) (has_any_leaf ranges ts) (some_holds ws ts) n p bits size (any-says ts a columns ranges ws r.bounded k) (subst (λ (q : Bool). Extends a p.vars p.clauses (OnlyIf (some_true a first || q) bits)) (some-are ws false ts) (demand_each-law ts columns ranges ws first false a n size r f k))
+  demand_of-law (negation t) columns ranges ws first positive a n size r f k =
+      subst (λ (q : Bool). Extends a (demand_of columns first (not positive) t n).vars (demand_of columns first (not positive) t n).clauses (OnlyIf (some_true a first || q) (demand_of_bits ranges ws (not positive) t))) (turned positive (tree_holds ws t)) (demand_of-law t columns ranges ws first (not positive) a n size r f k)
 
-  pub demand_each-law : (ts : Trees) (columns : List Column) (ws : List ℕ) (first : List Literal) (positive : Bool) (a : List Bool) (n : ℕ) → length a ≡ n → Reads a columns ws → clause_in n first ≡ true → each_valid (ranges_of columns) ts ≡ true → Extends a (demand_each columns first positive ts n).vars (demand_each columns first positive ts n).clauses (OnlyIf (some_true a first || forms_are ws true positive ts) (demand_each_bits ws positive ts))
-  demand_each-law none columns ws first positive a n size r f k = no_clause-law a first n size
-  demand_each-law (more t ts) columns ws first positive a n size r f k =
+  pub demand_each-law : (ts : Trees) (columns : List Column) (ranges ws : List ℕ) (first : List Literal) (positive : Bool) (a : List Bool) (n : ℕ) → length a ≡ n → Reads a columns ranges ws → clause_in n first ≡ true → each_valid (ranges_of columns) ts ≡ true → Extends a (demand_each columns first positive ts n).vars (demand_each columns first positive ts n).clauses (OnlyIf (some_true a first || forms_are ws true positive ts) (demand_each_bits ranges ws positive ts))
+  demand_each-law none columns ranges ws first positive a n size r f k = no_clause-law a first n size
+  demand_each-law (more t ts) columns ranges ws first positive a n size r f k =
       let parts = and_parts _ _ k in
       let p = demand_of columns first positive t n in
       let m = p.vars in
       let q = demand_each columns first positive ts m in
-      let e = demand_of_bits ws positive t in
-      let d = demand_each_bits ws positive ts in
+      let e = demand_of_bits ranges ws positive t in
+      let d = demand_each_bits ranges ws positive ts in
       let x = some_true a first in
       let truth = same_truth positive (tree_holds ws t) in
       let others = forms_are ws true positive ts in
-      let inside = here columns ws a n size r in
-      let one = demand_of-law t columns ws first positive a n size r f parts.0 in
+      let inside = here columns ranges ws a n size r in
+      let one = demand_of-law t columns ranges ws first positive a n size r f parts.0 in
       let fits = demand_of-fits t columns first positive n inside f parts.0 in
       let rest = demand_each-fits ts columns first positive m (columns_in-more n m columns fits.low inside) (clause_in-more n m first fits.low f) parts.1 in
       let low : length a ≤ m = rw size fits.low in
       let old : some_true (a ++ e) first ≡ x = some_true-left a e first (rw size f) in
       let two : (x || truth) ≡ true → Extends (a ++ e) q.vars q.clauses (OnlyIf (x || others) d) =
-      λ ok. subst (λ (b : Bool). Extends (a ++ e) q.vars q.clauses (OnlyIf (b || others) d)) old (demand_each-law ts columns ws first positive (a ++ e) m (one.sized e (ok, refl)) (reads-more a e columns ws (longer a e) r) (clause_in-more n m first fits.low f) parts.1) in
+      λ ok. subst (λ (b : Bool). Extends (a ++ e) q.vars q.clauses (OnlyIf (b || others) d)) old (demand_each-law ts columns ranges ws first positive (a ++ e) m (one.sized e (ok, refl)) (reads-more a e columns ranges ws (longer a e) r) (clause_in-more n m first fits.low f) parts.1) in
       subst (λ (b : Bool). Extends a q.vars (p.clauses ++ q.clauses) (OnlyIf b (e ++ d))) (share x truth others) (if_then_if a e d (x || truth) (x || others) m q.vars p.clauses q.clauses low rest.low fits.inside one two)

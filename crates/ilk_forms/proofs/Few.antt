@@ -1,5 +1,5 @@
 -- How many variables and clauses the parts of a form have.
-use Rattle.std.proofs.Common.{◌≡◌, ℕ, ◌+◌, ◌*◌, ◌≤◌, Bool, true, false, not, List, [], ◌∷◌, ◌++◌, length, map, cond, refl, ap, ◌∙◌, arith, length-append}
+use Rattle.std.proofs.Common.{◌≡◌, ℕ, ◌+◌, ◌*◌, ◌≤◌, Bool, true, false, not, List, [], ◌∷◌, ◌++◌, length, map, cond, Option, Some, None, refl, ap, ◌∙◌, arith, length-append}
 use Rattle.std.proofs.lemmas.List.{length-map}
 use Rattle.ilk_cnf.specs.Literal.{Literal, opposite, plus, minus}
 use Rattle.ilk_cnf.specs.Formula.{Formula}
@@ -9,8 +9,9 @@ use Rattle.ilk_ints.proofs.OneOfLaw.{as_clauses-few}
 use Rattle.ilk_ir.specs.Tree.{Tree, yes, no, is, all_of, any_of, negation, Trees, none, more}
 use Rattle.ilk_copy.specs.declared.copy.Column.{Column}
 use Rattle.ilk_forms.specs.Size.{tree_size, trees_size}
-use Rattle.ilk_forms.specs.Gathered.{same_truth, no_literals, then_named, gate_part, single_of, single, taken_in, gathered, gathered_each, literal_part}
-use Rattle.ilk_forms.specs.Demand.{some_part, demand_of, demand_each}
+use Rattle.ilk_forms.specs.Bound.{any_leaf}
+use Rattle.ilk_forms.specs.Gathered.{same_truth, no_literals, literal_or, then_named, gate_part, single_of, single, taken_in, gathered, gathered_each, literal_part}
+use Rattle.ilk_forms.specs.Demand.{some_part, clause_or, demand_of, demand_each}
 
 -- at most one variable and two clauses for each of k, with one clause to spare for each literal
 pub record Few (n k : ℕ) (g : Named) : Type 0 where
@@ -68,13 +69,19 @@ then-few n j k g h one two =
       clauses = omega (arith, length-append g.part.clauses (h g.part.vars).part.clauses, length-append g.lits (h g.part.vars).lits);
     }
 
+literal_or-few : (positive : Bool) (o : Option Literal) (n k : ℕ) (g : Named) → Few n (k + 1) g → Few n (k + 1) (literal_or positive o n g)
+literal_or-few positive None n k g h = h
+literal_or-few positive (Some l) n k g h = record { vars = omega arith; clauses = omega arith }
+
 mutual
   pub gathered-few : (t : Tree) (columns : List Column) (all positive : Bool) (n : ℕ) → Few n (tree_size t) (gathered columns all positive t n)
   gathered-few yes columns all positive n = taken_in-few all positive n 0 (no_literals n) (no_literals-few n)
   gathered-few no columns all positive n = taken_in-few all (not positive) n 0 (no_literals n) (no_literals-few n)
   gathered-few (is v c) columns all positive n = record { vars = omega arith; clauses = omega arith }
   gathered-few (all_of ts) columns all positive n = taken_in-few all positive n (trees_size ts) (gathered_each columns positive positive ts n) (gathered_each-few ts columns positive positive n)
-  gathered-few (any_of ts) columns all positive n = taken_in-few all (not positive) n (trees_size ts) (gathered_each columns (not positive) positive ts n) (gathered_each-few ts columns (not positive) positive n)
+  gathered-few (any_of ts) columns all positive n =
+      let g = gathered_each columns (not positive) positive ts n in
+      literal_or-few positive (any_leaf columns ts) n (trees_size ts) (taken_in all (not positive) g) (taken_in-few all (not positive) n (trees_size ts) g (gathered_each-few ts columns (not positive) positive n))
   gathered-few (negation t) columns all positive n =
       let h = gathered-few t columns all (not positive) n in
       let v = h.vars in
@@ -99,6 +106,10 @@ wider n k p h =
     let c = h.clauses in
     record { vars = omega arith; clauses = omega arith }
 
+clause_or-few : (first : List Literal) (positive : Bool) (o : Option Literal) (n k : ℕ) (p : Part) → PartFew n (k + 1) p → PartFew n (k + 1) (clause_or first positive o n p)
+clause_or-few first positive None n k p h = h
+clause_or-few first positive (Some l) n k p h = record { vars = omega arith; clauses = omega arith }
+
 mutual
   pub demand_of-few : (t : Tree) (columns : List Column) (first : List Literal) (positive : Bool) (n : ℕ) → PartFew n (tree_size t) (demand_of columns first positive t n)
   demand_of-few yes columns first true n = record { vars = omega arith; clauses = omega arith }
@@ -108,8 +119,12 @@ mutual
   demand_of-few (is v c) columns first positive n = record { vars = omega arith; clauses = omega arith }
   demand_of-few (all_of ts) columns first true n = wider n (trees_size ts) (demand_each columns first true ts n) (demand_each-few ts columns first true n)
   demand_of-few (all_of ts) columns first false n = some-few first n (trees_size ts) (gathered_each columns false false ts n) (gathered_each-few ts columns false false n)
-  demand_of-few (any_of ts) columns first true n = some-few first n (trees_size ts) (gathered_each columns false true ts n) (gathered_each-few ts columns false true n)
-  demand_of-few (any_of ts) columns first false n = wider n (trees_size ts) (demand_each columns first false ts n) (demand_each-few ts columns first false n)
+  demand_of-few (any_of ts) columns first true n =
+      let g = gathered_each columns false true ts n in
+      clause_or-few first true (any_leaf columns ts) n (trees_size ts) (some_part first g) (some-few first n (trees_size ts) g (gathered_each-few ts columns false true n))
+  demand_of-few (any_of ts) columns first false n =
+      let p = demand_each columns first false ts n in
+      clause_or-few first false (any_leaf columns ts) n (trees_size ts) p (wider n (trees_size ts) p (demand_each-few ts columns first false n))
   demand_of-few (negation t) columns first positive n = wider n (tree_size t) (demand_of columns first (not positive) t n) (demand_of-few t columns first (not positive) n)
 
   pub demand_each-few : (ts : Trees) (columns : List Column) (first : List Literal) (positive : Bool) (n : ℕ) → PartFew n (trees_size ts) (demand_each columns first positive ts n)

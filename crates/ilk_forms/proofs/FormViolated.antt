@@ -1,5 +1,5 @@
 -- The law of a form that is not to hold: exactly where it doesn't, and the new variables have one value each.
-use Rattle.std.proofs.Common.{◌≡◌, ℕ, ◌+◌, ◌*◌, ◌<◌, ◌≤◌, Bool, true, false, not, ◌&&◌, ◌||◌, List, [], ◌∷◌, ◌++◌, length, map, cond, eqb, refl, inl, inr, sym, ap, ◌∙◌, subst, arith, length-append}
+use Rattle.std.proofs.Common.{◌≡◌, ℕ, ◌+◌, ◌*◌, ◌<◌, ◌≤◌, Bool, true, false, not, ◌&&◌, ◌||◌, List, [], ◌∷◌, ◌++◌, length, map, cond, eqb, Option, Some, None, refl, inl, inr, sym, ap, ◌∙◌, subst, arith, length-append}
 use Rattle.std.specs.List.{list_all}
 use Rattle.std.proofs.lemmas.List.{append-nil}
 use Rattle.std.proofs.lemmas.List.Folds.{list_all-append, list_all-map}
@@ -18,7 +18,8 @@ use Rattle.ilk_ir.specs.Form.{trees_of}
 use Rattle.ilk_ir.specs.declared.form.Form.{Form}
 use Rattle.ilk_copy.specs.declared.copy.Column.{Column}
 use Rattle.ilk_forms.specs.Leaf.{columns_in, ranges_of}
-use Rattle.ilk_forms.specs.Gathered.{same_truth, single, then_named, gathered, gathered_each}
+use Rattle.ilk_forms.specs.Bound.{any_leaf}
+use Rattle.ilk_forms.specs.Gathered.{same_truth, single, literal_or, taken_in, then_named, gathered, gathered_each}
 use Rattle.ilk_forms.specs.Truths.{Truths, truths}
 use Rattle.ilk_forms.specs.Size.{tree_size, trees_size}
 use Rattle.ilk_forms.specs.Violated.{first_violated_part, first_violated_bits, no_trees, never_kept, some_never, violated_part, violated_bits}
@@ -120,20 +121,20 @@ mutual
         | inr later ↦ right_true (tree_holds ws t) (some_holds ws ts) (some_never-means ts ws false later)
       ]
 
-pub violated-law : (t : Tree) (columns : List Column) (ws : List ℕ) (a : List Bool) (n : ℕ) → length a ≡ n → Reads a columns ws → tree_valid (ranges_of columns) t ≡ true → Extends a (violated_part columns t n).vars (violated_part columns t n).clauses (OnlyIf (not (tree_holds ws t)) (violated_bits ws t))
-violated-law t columns ws a n size r k = by_case (never_kept true t) refl
+pub violated-law : (t : Tree) (columns : List Column) (ranges ws : List ℕ) (a : List Bool) (n : ℕ) → length a ≡ n → Reads a columns ranges ws → tree_valid (ranges_of columns) t ≡ true → Extends a (violated_part columns t n).vars (violated_part columns t n).clauses (OnlyIf (not (tree_holds ws t)) (violated_bits ranges ws t))
+violated-law t columns ranges ws a n size r k = by_case (never_kept true t) refl
   where
     g : Named
     g = gathered columns true true t n
 
     s : Truths
-    s = truths ws true true t
+    s = truths ranges ws true true t
 
     by_case : (b : Bool) → never_kept true t ≡ b → Extends a (cond b (nothing_at n) (and_then g.part (first_violated_part g.lits))).vars (cond b (nothing_at n) (and_then g.part (first_violated_part g.lits))).clauses (OnlyIf (not (tree_holds ws t)) (cond b [] (s.bits ++ first_violated_bits s.lits)))
     by_case true h = no_more_if a n [] (not (tree_holds ws t)) size (sym (ap not (never-means t ws true h)))
     by_case false h =
-        let law = named-law a n g s size (gathered-fits t columns true true n (here columns ws a n size r) k) (gathered-says t columns ws true true a n size r k) in
-        subst (λ (b : Bool). Extends a (and_then g.part (first_violated_part g.lits)).vars (and_then g.part (first_violated_part g.lits)).clauses (OnlyIf (not b) (s.bits ++ first_violated_bits s.lits))) (truths-mean t ws true true) law
+        let law = named-law a n g s size (gathered-fits t columns true true n (here columns ranges ws a n size r) k) (gathered-says t columns ranges ws true true a n size r k) in
+        subst (λ (b : Bool). Extends a (and_then g.part (first_violated_part g.lits)).vars (and_then g.part (first_violated_part g.lits)).clauses (OnlyIf (not b) (s.bits ++ first_violated_bits s.lits))) (truths-mean t ranges ws true true) law
 
 -- at most two variables for each constructor
 
@@ -158,6 +159,10 @@ one-weight inner n k g h some =
     let one = (single_of-few inner g.lits g.part.vars).0 in
     omega arith
 
+literal_or-weight : (positive : Bool) (o : Option Literal) (n k : ℕ) (g : Named) → weight_of g ≤ n + 2 * (k + 1) → weight_of (literal_or positive o n g) ≤ n + 2 * (k + 1)
+literal_or-weight positive None n k g h = h
+literal_or-weight positive (Some l) n k g h = omega arith
+
 mutual
   gathered-weight : (t : Tree) (columns : List Column) (positive : Bool) (n : ℕ) → never_kept positive t ≡ false → weight_of (gathered columns true positive t n) ≤ n + 2 * tree_size t
   gathered-weight yes columns true n h = omega arith
@@ -167,8 +172,13 @@ mutual
   gathered-weight (is v c) columns positive n h = omega arith
   gathered-weight (all_of ts) columns true n h = (let w = gathered_each-weight ts columns true n h in omega arith)
   gathered-weight (all_of ts) columns false n h = one-weight false n (trees_size ts) (gathered_each columns false false ts n) (gathered_each-few ts columns false false n).vars (sizes-some ts h)
-  gathered-weight (any_of ts) columns true n h = one-weight false n (trees_size ts) (gathered_each columns false true ts n) (gathered_each-few ts columns false true n).vars (sizes-some ts h)
-  gathered-weight (any_of ts) columns false n h = (let w = gathered_each-weight ts columns false n h in omega arith)
+  gathered-weight (any_of ts) columns true n h =
+      let g = gathered_each columns false true ts n in
+      literal_or-weight true (any_leaf columns ts) n (trees_size ts) (taken_in true false g) (one-weight false n (trees_size ts) g (gathered_each-few ts columns false true n).vars (sizes-some ts h))
+  gathered-weight (any_of ts) columns false n h =
+      let g = gathered_each columns true false ts n in
+      let w = gathered_each-weight ts columns false n h in
+      literal_or-weight false (any_leaf columns ts) n (trees_size ts) (taken_in true true g) (omega arith)
   gathered-weight (negation t) columns positive n h = (let w = gathered-weight t columns (not positive) n h in omega arith)
 
   gathered_each-weight : (ts : Trees) (columns : List Column) (positive : Bool) (n : ℕ) → some_never positive ts ≡ false → weight_of (gathered_each columns true positive ts n) ≤ n + 2 * trees_size ts

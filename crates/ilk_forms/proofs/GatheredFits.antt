@@ -1,5 +1,5 @@
 -- Gathered literals, and their part's clauses, are over the part's variables.
-use Rattle.std.proofs.Common.{◌≡◌, ℕ, ◌+◌, ◌≤◌, Bool, true, false, not, List, [], ◌∷◌, cond, refl, ◌∙◌, arith}
+use Rattle.std.proofs.Common.{◌≡◌, ℕ, ◌+◌, ◌≤◌, Bool, true, false, not, List, [], ◌∷◌, cond, Option, Some, None, refl, ◌∙◌, arith}
 use Rattle.std.proofs.lemmas.List.Folds.{list_all-append}
 use Rattle.std.proofs.lemmas.Bool.{and_parts, and_from}
 use Rattle.ilk_cnf.specs.Literal.{Literal, plus}
@@ -10,7 +10,9 @@ use Rattle.ilk_ints.specs.Named.{Named}
 use Rattle.ilk_ir.specs.Tree.{Tree, yes, no, is, all_of, any_of, negation, Trees, none, more, tree_valid, each_valid}
 use Rattle.ilk_copy.specs.declared.copy.Column.{Column}
 use Rattle.ilk_forms.specs.Leaf.{leaf, columns_in, ranges_of}
-use Rattle.ilk_forms.specs.Gathered.{Single, same_truth, signed, no_literals, then_named, gate_part, single_of, single, taken_in, gathered, gathered_each}
+use Rattle.ilk_forms.specs.Bound.{any_leaf}
+use Rattle.ilk_forms.specs.Gathered.{Single, same_truth, signed, no_literals, one_literal, literal_or, then_named, gate_part, single_of, single, taken_in, gathered, gathered_each}
+use Rattle.ilk_forms.proofs.BoundLaw.{any-in}
 use Rattle.ilk_forms.proofs.Reading.{columns_in-more, leaf-in}
 
 pub record Fits (n : ℕ) (g : Named) : Type 0 where
@@ -77,17 +79,22 @@ pub signed-in : (positive : Bool) (n : ℕ) (l : Literal) → lit_in n l ≡ tru
 signed-in true n l h = h
 signed-in false n l h = h
 
+one_literal-fits : (positive : Bool) (l : Literal) (n : ℕ) → lit_in n l ≡ true → Fits n (one_literal positive l n)
+one_literal-fits positive l n h = record { low = same n; inside = refl; lits = and_from _ _ (signed-in positive n l h) refl }
+
+literal_or-fits : (positive : Bool) (o : Option Literal) (n : ℕ) (g : Named) → ((l : Literal) → o ≡ Some l → lit_in n l ≡ true) → Fits n g → Fits n (literal_or positive o n g)
+literal_or-fits positive None n g inside h = h
+literal_or-fits positive (Some l) n g inside h = one_literal-fits positive l n (inside l refl)
+
 mutual
   pub gathered-fits : (t : Tree) (columns : List Column) (all positive : Bool) (n : ℕ) → columns_in n columns ≡ true → tree_valid (ranges_of columns) t ≡ true → Fits n (gathered columns all positive t n)
   gathered-fits yes columns all positive n h k = taken_in-fits all positive n (no_literals n) (no_literals-fits n)
   gathered-fits no columns all positive n h k = taken_in-fits all (not positive) n (no_literals n) (no_literals-fits n)
-  gathered-fits (is v c) columns all positive n h k = record {
-    low = same n;
-    inside = refl;
-    lits = and_from _ _ (signed-in positive n (leaf columns v c) (leaf-in columns v c n h k)) refl;
-  }
+  gathered-fits (is v c) columns all positive n h k = one_literal-fits positive (leaf columns v c) n (leaf-in columns v c n h k)
   gathered-fits (all_of ts) columns all positive n h k = taken_in-fits all positive n (gathered_each columns positive positive ts n) (gathered_each-fits ts columns positive positive n h k)
-  gathered-fits (any_of ts) columns all positive n h k = taken_in-fits all (not positive) n (gathered_each columns (not positive) positive ts n) (gathered_each-fits ts columns (not positive) positive n h k)
+  gathered-fits (any_of ts) columns all positive n h k =
+      let g = gathered_each columns (not positive) positive ts n in
+      literal_or-fits positive (any_leaf columns ts) n (taken_in all (not positive) g) (λ l e. any-in ts columns n l h e) (taken_in-fits all (not positive) n g (gathered_each-fits ts columns (not positive) positive n h k))
   gathered-fits (negation t) columns all positive n h k = gathered-fits t columns all (not positive) n h k
 
   pub gathered_each-fits : (ts : Trees) (columns : List Column) (all positive : Bool) (n : ℕ) → columns_in n columns ≡ true → each_valid (ranges_of columns) ts ≡ true → Fits n (gathered_each columns all positive ts n)

@@ -1,5 +1,5 @@
 -- At values of a copy, gathered literals have their truths, and the new variables one value each.
-use Rattle.std.proofs.Common.{◌≡◌, ℕ, ◌+◌, ◌≤◌, Bool, true, false, not, List, [], ◌∷◌, ◌++◌, length, map, cond, refl, sym, ap, ◌∙◌, subst, arith, append_assoc}
+use Rattle.std.proofs.Common.{◌≡◌, ℕ, ◌+◌, ◌≤◌, Bool, true, false, not, List, [], ◌∷◌, ◌++◌, length, map, cond, Option, Some, None, refl, sym, ap, ◌∙◌, subst, arith, append_assoc}
 use Rattle.std.specs.List.{list_all, list_any}
 use Rattle.std.proofs.lemmas.List.{append-nil, map-append}
 use Rattle.std.proofs.lemmas.List.Folds.{list_all-map}
@@ -15,11 +15,13 @@ use Rattle.ilk_cnf.proofs.Gates.{is_true-opposite}
 use Rattle.ilk_cnf.proofs.Extending.{no_more_if, only_from_if, all_of-law, any_of-law}
 use Rattle.ilk_ints.specs.Named.{Named}
 use Rattle.ilk_ints.proofs.OneOfLaw.{map-left}
-use Rattle.ilk_ir.specs.Tree.{Tree, yes, no, is, all_of, any_of, negation, Trees, none, more, tree_valid, each_valid, has_value}
+use Rattle.ilk_ir.specs.Tree.{Tree, yes, no, is, all_of, any_of, negation, Trees, none, more, some_holds, tree_valid, each_valid, has_value}
 use Rattle.ilk_copy.specs.declared.copy.Column.{Column}
 use Rattle.ilk_forms.specs.Leaf.{leaf, columns_in, ranges_of}
-use Rattle.ilk_forms.specs.Gathered.{Single, same_truth, signed, no_literals, then_named, gate_part, single_of, single, taken_in, gathered, gathered_each}
-use Rattle.ilk_forms.specs.Truths.{Truths, no_truths, then_truths, gate_truth, gate_bits, truths_taken_in, truths, truths_each}
+use Rattle.ilk_forms.specs.Bound.{any_leaf, has_any_leaf}
+use Rattle.ilk_forms.specs.Gathered.{Single, same_truth, signed, no_literals, one_literal, literal_or, then_named, gate_part, single_of, single, taken_in, gathered, gathered_each}
+use Rattle.ilk_forms.specs.Truths.{Truths, no_truths, one_truth, then_truths, gate_truth, gate_bits, truths_taken_in, truths, truths_each}
+use Rattle.ilk_forms.proofs.BoundLaw.{Stands, any-says}
 use Rattle.ilk_forms.proofs.Reading.{Reads, reads-more}
 use Rattle.ilk_forms.proofs.TruthsMean.{alone}
 use Rattle.ilk_forms.proofs.GatheredFits.{Fits, gathered-fits, gathered_each-fits}
@@ -108,8 +110,8 @@ taken_in-says a outer inner n g t size fits one = by_case (same_truth outer inne
 
 -- forms
 
-pub here : (columns : List Column) (ws : List ℕ) (a : List Bool) (n : ℕ) → length a ≡ n → Reads a columns ws → columns_in n columns ≡ true
-here columns ws a n size r = rw (← size) r.within
+pub here : (columns : List Column) (ranges ws : List ℕ) (a : List Bool) (n : ℕ) → length a ≡ n → Reads a columns ranges ws → columns_in n columns ≡ true
+here columns ranges ws a n size r = rw (← size) r.within
 
 pub same : (n : ℕ) → n ≤ n
 same n = omega arith
@@ -118,28 +120,37 @@ pub signed-says : (a : List Bool) (positive : Bool) (l : Literal) → is_true a 
 signed-says a true l = refl
 signed-says a false l = is_true-opposite a l
 
-mutual
-  pub gathered-says : (t : Tree) (columns : List Column) (ws : List ℕ) (all positive : Bool) (a : List Bool) (n : ℕ) → length a ≡ n → Reads a columns ws → tree_valid (ranges_of columns) t ≡ true → Says a (gathered columns all positive t n) (truths ws all positive t)
-  gathered-says yes columns ws all positive a n size r k = taken_in-says a all positive n (no_literals n) no_truths size (record { low = same n; inside = refl; lits = refl }) (no_literals-says a n size)
-  gathered-says no columns ws all positive a n size r k = taken_in-says a all (not positive) n (no_literals n) no_truths size (record { low = same n; inside = refl; lits = refl }) (no_literals-says a n size)
-  gathered-says (is v c) columns ws all positive a n size r k =
-      let l = leaf columns v c in
-      let says : is_true (a ++ []) (signed positive l) ≡ same_truth positive (has_value ws v c) = ap (λ (u : List Bool). is_true u (signed positive l)) (append-nil a) ∙ signed-says a positive l ∙ ap (same_truth positive) (r.says v c k) in
-      record { part = nothing a n size; means = ap (λ (q : Bool). q ∷ []) says }
-  gathered-says (all_of ts) columns ws all positive a n size r k =
-      taken_in-says a all positive n (gathered_each columns positive positive ts n) (truths_each ws positive positive ts) size (gathered_each-fits ts columns positive positive n (here columns ws a n size r) k) (gathered_each-says ts columns ws positive positive a n size r k)
-  gathered-says (any_of ts) columns ws all positive a n size r k =
-      taken_in-says a all (not positive) n (gathered_each columns (not positive) positive ts n) (truths_each ws (not positive) positive ts) size (gathered_each-fits ts columns (not positive) positive n (here columns ws a n size r) k) (gathered_each-says ts columns ws (not positive) positive a n size r k)
-  gathered-says (negation t) columns ws all positive a n size r k = gathered-says t columns ws all (not positive) a n size r k
+one_literal-says : (a : List Bool) (positive : Bool) (l : Literal) (truth : Bool) (n : ℕ) → length a ≡ n → is_true a l ≡ truth → Says a (one_literal positive l n) (one_truth positive truth)
+one_literal-says a positive l truth n size h =
+    let says : is_true (a ++ []) (signed positive l) ≡ same_truth positive truth = ap (λ (u : List Bool). is_true u (signed positive l)) (append-nil a) ∙ signed-says a positive l ∙ ap (same_truth positive) h in
+    record { part = nothing a n size; means = ap (λ (q : Bool). q ∷ []) says }
 
-  pub gathered_each-says : (ts : Trees) (columns : List Column) (ws : List ℕ) (all positive : Bool) (a : List Bool) (n : ℕ) → length a ≡ n → Reads a columns ws → each_valid (ranges_of columns) ts ≡ true → Says a (gathered_each columns all positive ts n) (truths_each ws all positive ts)
-  gathered_each-says none columns ws all positive a n size r k = no_literals-says a n size
-  gathered_each-says (more t ts) columns ws all positive a n size r k =
+literal_or-says : (a : List Bool) (positive : Bool) (o : Option Literal) (has truth : Bool) (n : ℕ) (g : Named) (t : Truths) → length a ≡ n → Stands a o has truth → Says a g t → Says a (literal_or positive o n g) (cond has (one_truth positive truth) t)
+literal_or-says a positive None has truth n g t size h one = subst (λ (b : Bool). Says a g (cond {A = Truths} b (one_truth positive truth) t)) (sym h) one
+literal_or-says a positive (Some l) has truth n g t size h one =
+    subst (λ (b : Bool). Says a (one_literal positive l n) (cond {A = Truths} b (one_truth positive truth) t)) (sym h.0) (one_literal-says a positive l truth n size h.1)
+
+mutual
+  pub gathered-says : (t : Tree) (columns : List Column) (ranges ws : List ℕ) (all positive : Bool) (a : List Bool) (n : ℕ) → length a ≡ n → Reads a columns ranges ws → tree_valid (ranges_of columns) t ≡ true → Says a (gathered columns all positive t n) (truths ranges ws all positive t)
+  gathered-says yes columns ranges ws all positive a n size r k = taken_in-says a all positive n (no_literals n) no_truths size (record { low = same n; inside = refl; lits = refl }) (no_literals-says a n size)
+  gathered-says no columns ranges ws all positive a n size r k = taken_in-says a all (not positive) n (no_literals n) no_truths size (record { low = same n; inside = refl; lits = refl }) (no_literals-says a n size)
+  gathered-says (is v c) columns ranges ws all positive a n size r k = one_literal-says a positive (leaf columns v c) (has_value ws v c) n size (r.says v c k)
+  gathered-says (all_of ts) columns ranges ws all positive a n size r k =
+      taken_in-says a all positive n (gathered_each columns positive positive ts n) (truths_each ranges ws positive positive ts) size (gathered_each-fits ts columns positive positive n (here columns ranges ws a n size r) k) (gathered_each-says ts columns ranges ws positive positive a n size r k)
+  gathered-says (any_of ts) columns ranges ws all positive a n size r k =
+      let g = gathered_each columns (not positive) positive ts n in
+      let s = truths_each ranges ws (not positive) positive ts in
+      literal_or-says a positive (any_leaf columns ts) (has_any_leaf ranges ts) (some_holds ws ts) n (taken_in all (not positive) g) (truths_taken_in all (not positive) s) size (any-says ts a columns ranges ws r.bounded k) (taken_in-says a all (not positive) n g s size (gathered_each-fits ts columns (not positive) positive n (here columns ranges ws a n size r) k) (gathered_each-says ts columns ranges ws (not positive) positive a n size r k))
+  gathered-says (negation t) columns ranges ws all positive a n size r k = gathered-says t columns ranges ws all (not positive) a n size r k
+
+  pub gathered_each-says : (ts : Trees) (columns : List Column) (ranges ws : List ℕ) (all positive : Bool) (a : List Bool) (n : ℕ) → length a ≡ n → Reads a columns ranges ws → each_valid (ranges_of columns) ts ≡ true → Says a (gathered_each columns all positive ts n) (truths_each ranges ws all positive ts)
+  gathered_each-says none columns ranges ws all positive a n size r k = no_literals-says a n size
+  gathered_each-says (more t ts) columns ranges ws all positive a n size r k =
       let parts = and_parts _ _ k in
       let g = gathered columns all positive t n in
-      let s = truths ws all positive t in
-      let fits = gathered-fits t columns all positive n (here columns ws a n size r) parts.0 in
-      let one = gathered-says t columns ws all positive a n size r parts.0 in
+      let s = truths ranges ws all positive t in
+      let fits = gathered-fits t columns all positive n (here columns ranges ws a n size r) parts.0 in
+      let one = gathered-says t columns ranges ws all positive a n size r parts.0 in
       let long : length (a ++ s.bits) ≡ g.part.vars = one.part.sized s.bits refl in
-      let next = reads-more a s.bits columns ws (longer a s.bits) r in
-      then-says a n g (gathered_each columns all positive ts) s (truths_each ws all positive ts) size fits (gathered_each-fits ts columns all positive g.part.vars (here columns ws (a ++ s.bits) g.part.vars long next) parts.1) one (gathered_each-says ts columns ws all positive (a ++ s.bits) g.part.vars long next parts.1)
+      let next = reads-more a s.bits columns ranges ws (longer a s.bits) r in
+      then-says a n g (gathered_each columns all positive ts) s (truths_each ranges ws all positive ts) size fits (gathered_each-fits ts columns all positive g.part.vars (here columns ranges ws (a ++ s.bits) g.part.vars long next) parts.1) one (gathered_each-says ts columns ranges ws all positive (a ++ s.bits) g.part.vars long next parts.1)

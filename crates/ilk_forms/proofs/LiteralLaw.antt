@@ -17,19 +17,19 @@ use Rattle.ilk_forms.proofs.TruthsMean.{truths-mean}
 pub literal-fits : (t : Tree) (columns : List Column) (n : ℕ) → columns_in n columns ≡ true → tree_valid (ranges_of columns) t ≡ true → SingleFits n (literal_part columns t n)
 literal-fits t columns n h k = single-fits true n (gathered columns true true t n) (gathered-fits t columns true true n h k)
 
-literal-says : (t : Tree) (columns : List Column) (ws : List ℕ) (a : List Bool) (n : ℕ) → length a ≡ n → Reads a columns ws → tree_valid (ranges_of columns) t ≡ true → SingleSays a (literal_part columns t n) (literal_bits ws t) (gate_truth true (truths ws true true t).lits)
-literal-says t columns ws a n size r k =
-    single-says a true n (gathered columns true true t n) (truths ws true true t) size (gathered-fits t columns true true n (here columns ws a n size r) k) (gathered-says t columns ws true true a n size r k)
+literal-says : (t : Tree) (columns : List Column) (ranges ws : List ℕ) (a : List Bool) (n : ℕ) → length a ≡ n → Reads a columns ranges ws → tree_valid (ranges_of columns) t ≡ true → SingleSays a (literal_part columns t n) (literal_bits ranges ws t) (gate_truth true (truths ranges ws true true t).lits)
+literal-says t columns ranges ws a n size r k =
+    single-says a true n (gathered columns true true t n) (truths ranges ws true true t) size (gathered-fits t columns true true n (here columns ranges ws a n size r) k) (gathered-says t columns ranges ws true true a n size r k)
 
-pub literal-law : (t : Tree) (columns : List Column) (ws : List ℕ) (a : List Bool) (n : ℕ) → length a ≡ n → Reads a columns ws → tree_valid (ranges_of columns) t ≡ true → Extends a (literal_part columns t n).part.vars (literal_part columns t n).part.clauses (Only (literal_bits ws t))
-literal-law t columns ws a n size r k = (literal-says t columns ws a n size r k).part
+pub literal-law : (t : Tree) (columns : List Column) (ranges ws : List ℕ) (a : List Bool) (n : ℕ) → length a ≡ n → Reads a columns ranges ws → tree_valid (ranges_of columns) t ≡ true → Extends a (literal_part columns t n).part.vars (literal_part columns t n).part.clauses (Only (literal_bits ranges ws t))
+literal-law t columns ranges ws a n size r k = (literal-says t columns ranges ws a n size r k).part
 
-pub literal-exact : (t : Tree) (columns : List Column) (ws : List ℕ) (a d : List Bool) (n : ℕ) → length a ≡ n → Reads a columns ws → tree_valid (ranges_of columns) t ≡ true → is_true (a ++ (literal_bits ws t ++ d)) (literal_part columns t n).lit ≡ tree_holds ws t
-literal-exact t columns ws a d n size r k =
+pub literal-exact : (t : Tree) (columns : List Column) (ranges ws : List ℕ) (a d : List Bool) (n : ℕ) → length a ≡ n → Reads a columns ranges ws → tree_valid (ranges_of columns) t ≡ true → is_true (a ++ (literal_bits ranges ws t ++ d)) (literal_part columns t n).lit ≡ tree_holds ws t
+literal-exact t columns ranges ws a d n size r k =
     let s = literal_part columns t n in
-    let e = literal_bits ws t in
-    let says = literal-says t columns ws a n size r k in
-    let fits = literal-fits t columns n (here columns ws a n size r) k in
+    let e = literal_bits ranges ws t in
+    let says = literal-says t columns ranges ws a n size r k in
+    let fits = literal-fits t columns n (here columns ranges ws a n size r) k in
     let long : length (a ++ e) ≡ s.part.vars = says.part.sized e refl in
     let within = leb-true _ _ (and_parts _ _ fits.lit).1 in
-    ap (λ (u : List Bool). is_true u s.lit) (sym (append_assoc a e d)) ∙ is_true-left (a ++ e) d s.lit (rw long within) ∙ says.means ∙ truths-mean t ws true true
+    ap (λ (u : List Bool). is_true u s.lit) (sym (append_assoc a e d)) ∙ is_true-left (a ++ e) d s.lit (rw long within) ∙ says.means ∙ truths-mean t ranges ws true true

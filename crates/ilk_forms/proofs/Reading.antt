@@ -1,5 +1,5 @@
--- The literals of a copy: each valid leaf has one, and it says the variable's value.
-use Rattle.std.proofs.Common.{◌≡◌, ℕ, ◌+◌, ◌≤◌, zero, suc, Bool, true, ◌&&◌, List, [], ◌∷◌, ◌++◌, length, map, slice_get, Some, unwrap_or, refl, ap, ◌∙◌, eqb, ltb, arith}
+-- The literals of a copy: each valid leaf has one, and it says the variable's value; where there is one of a bound, it says the bound.
+use Rattle.std.proofs.Common.{◌≡◌, ℕ, ◌+◌, ◌<◌, ◌≤◌, zero, suc, Bool, true, ◌&&◌, List, [], ◌∷◌, ◌++◌, length, map, slice_get, Some, unwrap_or, refl, ap, ◌∙◌, eqb, ltb, arith}
 use Rattle.std.proofs.lemmas.Bool.{and_parts, and_from, false≢true, leb-true, ltb-true, lt-ltb}
 use Rattle.ilk_base.proofs.Tested.{list_all-slice_get}
 use Rattle.ilk_cnf.specs.Literal.{Literal, plus}
@@ -9,9 +9,12 @@ use Rattle.ilk_cnf.proofs.Literals.{clause_in-more}
 use Rattle.ilk_cnf.proofs.Parts.{is_true-left}
 use Rattle.ilk_ints.specs.Named.{value_bits}
 use Rattle.ilk_ir.specs.Tree.{value_valid, has_value}
+use Rattle.ilk_ir.specs.System.{in_ranges}
 use Rattle.ilk_copy.specs.declared.copy.Column.{Column}
 use Rattle.ilk_copy.specs.Copy.{LiteralsSay}
 use Rattle.ilk_forms.specs.Leaf.{leaf, columns_in, ranges_of}
+use Rattle.ilk_forms.specs.Bound.{bound_leaf, has_bound}
+use Rattle.ilk_forms.proofs.BoundLaw.{Stands, at_most, stands-left, bound-says, bound-in}
 
 pub columns_in-more : (m n : ℕ) (columns : List Column) → m ≤ n → columns_in m columns ≡ true → columns_in n columns ≡ true
 columns_in-more m n [] le h = refl
@@ -60,19 +63,22 @@ leaf-says a (column ∷ columns) (range ∷ ranges) [] v c h k = absurd h
 leaf-says a (column ∷ columns) (range ∷ ranges) (w ∷ ws) zero c h k = (let same : 0 + c ≡ c = omega arith in item-says a column.values w 0 range c h.0 k ∙ ap (eqb w) same)
 leaf-says a (column ∷ columns) (range ∷ ranges) (w ∷ ws) (suc v) c h k = leaf-says a columns ranges ws v c h.2 k
 
--- the literals say the values of the copy's variables
-pub record Reads (a : List Bool) (columns : List Column) (ws : List ℕ) : Type 0 where
+-- the literals say the values of the copy's variables, and their bounds
+pub record Reads (a : List Bool) (columns : List Column) (ranges ws : List ℕ) : Type 0 where
   pub within : columns_in (length a) columns ≡ true
   pub says : (v c : ℕ) → value_valid (ranges_of columns) v c ≡ true → is_true a (leaf columns v c) ≡ has_value ws v c
+  pub bounded : (v k : ℕ) → value_valid (ranges_of columns) v k ≡ true → 0 < k → Stands a (bound_leaf columns v k) (has_bound ranges v k) (at_most ws v k)
 
-pub reads : (a : List Bool) (columns : List Column) (ranges ws : List ℕ) (n : ℕ) → length a ≡ n → columns_in n columns ≡ true → LiteralsSay a columns ranges ws → Reads a columns ws
-reads a columns ranges ws n size inside h = record {
+pub reads : (a : List Bool) (columns : List Column) (ranges ws : List ℕ) (n : ℕ) → length a ≡ n → columns_in n columns ≡ true → LiteralsSay a columns ranges ws → in_ranges ws ranges ≡ true → Reads a columns ranges ws
+reads a columns ranges ws n size inside h fit = record {
   within = rw size inside;
   says = λ v c k. leaf-says a columns ranges ws v c h k;
+  bounded = λ v k valid some. bound-says a columns ranges ws v k h fit valid some;
 }
 
-pub reads-more : (a b : List Bool) (columns : List Column) (ws : List ℕ) → length a ≤ length (a ++ b) → Reads a columns ws → Reads (a ++ b) columns ws
-reads-more a b columns ws le r = record {
+pub reads-more : (a b : List Bool) (columns : List Column) (ranges ws : List ℕ) → length a ≤ length (a ++ b) → Reads a columns ranges ws → Reads (a ++ b) columns ranges ws
+reads-more a b columns ranges ws le r = record {
   within = columns_in-more (length a) (length (a ++ b)) columns le r.within;
   says = λ v c k. is_true-left a b (leaf columns v c) (leb-true _ _ (and_parts _ _ (leaf-in columns v c (length a) r.within k)).1) ∙ r.says v c k;
+  bounded = λ v k valid some. stands-left a b (bound_leaf columns v k) (has_bound ranges v k) (at_most ws v k) (λ l e. leb-true _ _ (and_parts _ _ (bound-in columns v k (length a) l r.within e)).1) (r.bounded v k valid some);
 }

@@ -3,7 +3,8 @@ use Rattle.std.proofs.Common.{◌≡◌, ℕ, Bool, true, false, not, ◌&&◌, 
 use Rattle.std.proofs.lemmas.List.Folds.{list_all-append, list_any-append}
 use Rattle.ilk_ir.specs.Tree.{Tree, yes, no, is, all_of, any_of, negation, Trees, none, more, tree_holds, each_holds, some_holds}
 use Rattle.ilk_forms.specs.Gathered.{same_truth}
-use Rattle.ilk_forms.specs.Truths.{Truths, no_truths, gate_truth, truths_taken_in, truths, truths_each}
+use Rattle.ilk_forms.specs.Bound.{has_any_leaf}
+use Rattle.ilk_forms.specs.Truths.{Truths, no_truths, one_truth, gate_truth, truths_taken_in, truths, truths_each}
 
 -- both, or one of the two
 abbrev pub both_or_one : Bool → Bool → Bool → Bool
@@ -67,18 +68,24 @@ turned true b = refl
 turned false true = refl
 turned false false = refl
 
-mutual
-  pub truths-mean : (t : Tree) (ws : List ℕ) (all positive : Bool) → gate_truth all (truths ws all positive t).lits ≡ same_truth positive (tree_holds ws t)
-  truths-mean yes ws all positive = taken_in-means all positive no_truths ∙ none_means positive ∙ constant positive
-  truths-mean no ws all positive = taken_in-means all (not positive) no_truths ∙ none_means (not positive) ∙ other_constant positive
-  truths-mean (is v c) ws all positive = alone all (same_truth positive (tree_holds ws (is v c)))
-  truths-mean (all_of ts) ws all positive = taken_in-means all positive (truths_each ws positive positive ts) ∙ truths_each-mean ts ws positive positive ∙ all-are ws positive ts
-  truths-mean (any_of ts) ws all positive = taken_in-means all (not positive) (truths_each ws (not positive) positive ts) ∙ truths_each-mean ts ws (not positive) positive ∙ some-are ws positive ts
-  truths-mean (negation t) ws all positive = truths-mean t ws all (not positive) ∙ turned positive (tree_holds ws t)
+one_or-means : (all has positive q : Bool) (t : Truths) → gate_truth all t.lits ≡ same_truth positive q → gate_truth all (cond has (one_truth positive q) t).lits ≡ same_truth positive q
+one_or-means all true positive q t means = alone all (same_truth positive q)
+one_or-means all false positive q t means = means
 
-  pub truths_each-mean : (ts : Trees) (ws : List ℕ) (all positive : Bool) → gate_truth all (truths_each ws all positive ts).lits ≡ forms_are ws all positive ts
-  truths_each-mean none ws all positive = none_means all
-  truths_each-mean (more t ts) ws all positive =
-      let one = truths-mean t ws all positive in
-      let rest = truths_each-mean ts ws all positive in
-      gate_truth-append all (truths ws all positive t).lits (truths_each ws all positive ts).lits ∙ rw (one, rest) refl
+mutual
+  pub truths-mean : (t : Tree) (ranges ws : List ℕ) (all positive : Bool) → gate_truth all (truths ranges ws all positive t).lits ≡ same_truth positive (tree_holds ws t)
+  truths-mean yes ranges ws all positive = taken_in-means all positive no_truths ∙ none_means positive ∙ constant positive
+  truths-mean no ranges ws all positive = taken_in-means all (not positive) no_truths ∙ none_means (not positive) ∙ other_constant positive
+  truths-mean (is v c) ranges ws all positive = alone all (same_truth positive (tree_holds ws (is v c)))
+  truths-mean (all_of ts) ranges ws all positive = taken_in-means all positive (truths_each ranges ws positive positive ts) ∙ truths_each-mean ts ranges ws positive positive ∙ all-are ws positive ts
+  truths-mean (any_of ts) ranges ws all positive =
+      let g = truths_taken_in all (not positive) (truths_each ranges ws (not positive) positive ts) in
+      one_or-means all (has_any_leaf ranges ts) positive (some_holds ws ts) g (taken_in-means all (not positive) (truths_each ranges ws (not positive) positive ts) ∙ truths_each-mean ts ranges ws (not positive) positive ∙ some-are ws positive ts)
+  truths-mean (negation t) ranges ws all positive = truths-mean t ranges ws all (not positive) ∙ turned positive (tree_holds ws t)
+
+  pub truths_each-mean : (ts : Trees) (ranges ws : List ℕ) (all positive : Bool) → gate_truth all (truths_each ranges ws all positive ts).lits ≡ forms_are ws all positive ts
+  truths_each-mean none ranges ws all positive = none_means all
+  truths_each-mean (more t ts) ranges ws all positive =
+      let one = truths-mean t ranges ws all positive in
+      let rest = truths_each-mean ts ranges ws all positive in
+      gate_truth-append all (truths ranges ws all positive t).lits (truths_each ranges ws all positive ts).lits ∙ rw (one, rest) refl

@@ -1,11 +1,12 @@
 -- The demand that one of some literals is true, or a form holds of a copy.
-use Rattle.std.specs.Prelude.{ℕ, Bool, true, false, not, List, [], ◌∷◌, ◌++◌}
+use Rattle.std.specs.Prelude.{ℕ, Bool, true, false, not, List, [], ◌∷◌, ◌++◌, Option, Some, None}
 use Rattle.ilk_cnf.specs.Literal.{Literal}
 use Rattle.ilk_cnf.specs.Part.{Part, nothing_at, and_then}
 use Rattle.ilk_ints.specs.Named.{Named}
 use Rattle.ilk_ir.specs.Tree.{Tree, yes, no, is, all_of, any_of, negation, Trees, none, more}
 use Rattle.ilk_copy.specs.declared.copy.Column.{Column}
 use Rattle.ilk_forms.specs.Leaf.{leaf}
+use Rattle.ilk_forms.specs.Bound.{any_leaf}
 use Rattle.ilk_forms.specs.Gathered.{signed, gathered_each}
 
 -- one clause and no variable, after n variables
@@ -15,6 +16,11 @@ one_clause ls n = record { vars = n; clauses = ls ∷ [] }
 -- one of the first literals or of the gathered ones is true
 abbrev pub some_part : List Literal → Named → Part
 some_part first g = and_then g.part (one_clause (first ++ g.lits))
+
+-- one of the first literals is true, or the one literal where there is one (positive), or the other of its variable; else what stands in its place
+abbrev pub clause_or : List Literal → Bool → Option Literal → ℕ → Part → Part
+clause_or first positive (Some l) n p = one_clause (first ++ signed positive l ∷ []) n
+clause_or first positive None n p = p
 
 -- after n variables: one of the first literals is true, or the form holds (positive), or doesn't
 abbrev mutual
@@ -26,8 +32,10 @@ abbrev mutual
   demand_of columns first positive (is v c) n = one_clause (first ++ signed positive (leaf columns v c) ∷ []) n
   demand_of columns first true (all_of ts) n = demand_each columns first true ts n
   demand_of columns first false (all_of ts) n = some_part first (gathered_each columns false false ts n)
-  demand_of columns first true (any_of ts) n = some_part first (gathered_each columns false true ts n)
-  demand_of columns first false (any_of ts) n = demand_each columns first false ts n
+  demand_of columns first true (any_of ts) n =
+      clause_or first true (any_leaf columns ts) n (some_part first (gathered_each columns false true ts n))
+  demand_of columns first false (any_of ts) n =
+      clause_or first false (any_leaf columns ts) n (demand_each columns first false ts n)
   demand_of columns first positive (negation t) n = demand_of columns first (not positive) t n
 
   -- the same of each of some forms

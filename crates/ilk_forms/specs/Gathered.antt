@@ -1,11 +1,12 @@
 -- Literals that stand for a form of a copy.
-use Rattle.std.specs.Prelude.{ℕ, ◌+◌, Bool, true, not, List, [], ◌∷◌, ◌++◌, if◌then◌else◌}
+use Rattle.std.specs.Prelude.{ℕ, ◌+◌, Bool, true, not, List, [], ◌∷◌, ◌++◌, Option, Some, None, if◌then◌else◌}
 use Rattle.ilk_cnf.specs.Literal.{Literal, plus, opposite}
 use Rattle.ilk_cnf.specs.Part.{Part, nothing_at, and_then, all_of_part, any_of_part}
 use Rattle.ilk_ints.specs.Named.{Named}
 use Rattle.ilk_ir.specs.Tree.{Tree, yes, no, is, all_of, any_of, negation, Trees, none, more}
 use Rattle.ilk_copy.specs.declared.copy.Column.{Column}
 use Rattle.ilk_forms.specs.Leaf.{leaf}
+use Rattle.ilk_forms.specs.Bound.{any_leaf}
 
 -- a part, and the one literal that it answers
 pub record Single : Type 0 where
@@ -23,6 +24,15 @@ signed positive l = if positive then l else opposite l
 -- no part and no literal, after n variables
 abbrev pub no_literals : ℕ → Named
 no_literals n = record { part = nothing_at n; lits = [] }
+
+-- no part, and the one literal, or the other of its variable
+abbrev pub one_literal : Bool → Literal → ℕ → Named
+one_literal positive l n = record { part = nothing_at n; lits = signed positive l ∷ [] }
+
+-- that of the literal where there is one, else what stands in its place
+abbrev pub literal_or : Bool → Option Literal → ℕ → Named → Named
+literal_or positive (Some l) n g = one_literal positive l n
+literal_or positive None n g = g
 
 -- a part's literals, and then those of the one that begins where it ends
 abbrev pub then_named : Named → (ℕ → Named) → Named
@@ -55,9 +65,10 @@ abbrev mutual
   pub gathered : List Column → Bool → Bool → Tree → ℕ → Named
   gathered columns all positive yes n = taken_in all positive (no_literals n)
   gathered columns all positive no n = taken_in all (not positive) (no_literals n)
-  gathered columns all positive (is v c) n = record { part = nothing_at n; lits = signed positive (leaf columns v c) ∷ [] }
+  gathered columns all positive (is v c) n = one_literal positive (leaf columns v c) n
   gathered columns all positive (all_of ts) n = taken_in all positive (gathered_each columns positive positive ts n)
-  gathered columns all positive (any_of ts) n = taken_in all (not positive) (gathered_each columns (not positive) positive ts n)
+  gathered columns all positive (any_of ts) n =
+      literal_or positive (any_leaf columns ts) n (taken_in all (not positive) (gathered_each columns (not positive) positive ts n))
   gathered columns all positive (negation t) n = gathered columns all (not positive) t n
 
   -- the same of each of some forms

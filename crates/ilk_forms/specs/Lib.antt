@@ -1,4 +1,5 @@
 pub mod Leaf
+pub mod Bound
 pub mod Gathered
 pub mod Demand
 pub mod Truths

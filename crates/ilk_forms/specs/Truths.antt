@@ -1,7 +1,8 @@
--- The values of the variables that stand for parts of a form, where the copy's variables have some values.
+-- The values of the variables that stand for parts of a form, where the copy's variables have some ranges and values.
 use Rattle.std.specs.Prelude.{ℕ, Bool, true, false, not, List, [], ◌∷◌, ◌++◌, if◌then◌else◌}
 use Rattle.std.specs.List.{list_any, list_all}
-use Rattle.ilk_ir.specs.Tree.{Tree, yes, no, is, all_of, any_of, negation, Trees, none, more, has_value}
+use Rattle.ilk_ir.specs.Tree.{Tree, yes, no, is, all_of, any_of, negation, Trees, none, more, has_value, some_holds}
+use Rattle.ilk_forms.specs.Bound.{has_any_leaf}
 use Rattle.ilk_forms.specs.Gathered.{same_truth}
 
 -- the values of new variables, and of the literals that stand for a form
@@ -14,6 +15,10 @@ no_truths = record { bits = []; lits = [] }
 
 abbrev pub then_truths : Truths → Truths → Truths
 then_truths g h = record { bits = g.bits ++ h.bits; lits = g.lits ++ h.lits }
+
+-- no new variable, and one literal
+abbrev pub one_truth : Bool → Bool → Truths
+one_truth positive q = record { bits = []; lits = same_truth positive q ∷ [] }
 
 -- whether all are true, or some
 abbrev pub gate_truth : Bool → List Bool → Bool
@@ -30,37 +35,40 @@ truths_taken_in outer inner g =
     if same_truth outer inner then g else record { bits = g.bits ++ gate_bits inner g.lits; lits = gate_truth inner g.lits ∷ [] }
 
 abbrev mutual
-  pub truths : List ℕ → Bool → Bool → Tree → Truths
-  truths ws all positive yes = truths_taken_in all positive no_truths
-  truths ws all positive no = truths_taken_in all (not positive) no_truths
-  truths ws all positive (is v c) = record { bits = []; lits = same_truth positive (has_value ws v c) ∷ [] }
-  truths ws all positive (all_of ts) = truths_taken_in all positive (truths_each ws positive positive ts)
-  truths ws all positive (any_of ts) = truths_taken_in all (not positive) (truths_each ws (not positive) positive ts)
-  truths ws all positive (negation t) = truths ws all (not positive) t
+  pub truths : List ℕ → List ℕ → Bool → Bool → Tree → Truths
+  truths ranges ws all positive yes = truths_taken_in all positive no_truths
+  truths ranges ws all positive no = truths_taken_in all (not positive) no_truths
+  truths ranges ws all positive (is v c) = one_truth positive (has_value ws v c)
+  truths ranges ws all positive (all_of ts) = truths_taken_in all positive (truths_each ranges ws positive positive ts)
+  truths ranges ws all positive (any_of ts) =
+      if has_any_leaf ranges ts
+      then one_truth positive (some_holds ws ts)
+      else truths_taken_in all (not positive) (truths_each ranges ws (not positive) positive ts)
+  truths ranges ws all positive (negation t) = truths ranges ws all (not positive) t
 
-  pub truths_each : List ℕ → Bool → Bool → Trees → Truths
-  truths_each ws all positive none = no_truths
-  truths_each ws all positive (more t ts) = then_truths (truths ws all positive t) (truths_each ws all positive ts)
+  pub truths_each : List ℕ → List ℕ → Bool → Bool → Trees → Truths
+  truths_each ranges ws all positive none = no_truths
+  truths_each ranges ws all positive (more t ts) = then_truths (truths ranges ws all positive t) (truths_each ranges ws all positive ts)
 
 -- those of a form's literal
-abbrev pub literal_bits : List ℕ → Tree → List Bool
-literal_bits ws t = (truths ws true true t).bits ++ gate_bits true (truths ws true true t).lits
+abbrev pub literal_bits : List ℕ → List ℕ → Tree → List Bool
+literal_bits ranges ws t = (truths ranges ws true true t).bits ++ gate_bits true (truths ranges ws true true t).lits
 
 -- those of the demand that a form holds
 abbrev mutual
-  pub demand_of_bits : List ℕ → Bool → Tree → List Bool
-  demand_of_bits ws positive yes = []
-  demand_of_bits ws positive no = []
-  demand_of_bits ws positive (is v c) = []
-  demand_of_bits ws true (all_of ts) = demand_each_bits ws true ts
-  demand_of_bits ws false (all_of ts) = (truths_each ws false false ts).bits
-  demand_of_bits ws true (any_of ts) = (truths_each ws false true ts).bits
-  demand_of_bits ws false (any_of ts) = demand_each_bits ws false ts
-  demand_of_bits ws positive (negation t) = demand_of_bits ws (not positive) t
+  pub demand_of_bits : List ℕ → List ℕ → Bool → Tree → List Bool
+  demand_of_bits ranges ws positive yes = []
+  demand_of_bits ranges ws positive no = []
+  demand_of_bits ranges ws positive (is v c) = []
+  demand_of_bits ranges ws true (all_of ts) = demand_each_bits ranges ws true ts
+  demand_of_bits ranges ws false (all_of ts) = (truths_each ranges ws false false ts).bits
+  demand_of_bits ranges ws true (any_of ts) = if has_any_leaf ranges ts then [] else (truths_each ranges ws false true ts).bits
+  demand_of_bits ranges ws false (any_of ts) = if has_any_leaf ranges ts then [] else demand_each_bits ranges ws false ts
+  demand_of_bits ranges ws positive (negation t) = demand_of_bits ranges ws (not positive) t
 
-  pub demand_each_bits : List ℕ → Bool → Trees → List Bool
-  demand_each_bits ws positive none = []
-  demand_each_bits ws positive (more t ts) = demand_of_bits ws positive t ++ demand_each_bits ws positive ts
+  pub demand_each_bits : List ℕ → List ℕ → Bool → Trees → List Bool
+  demand_each_bits ranges ws positive none = []
+  demand_each_bits ranges ws positive (more t ts) = demand_of_bits ranges ws positive t ++ demand_each_bits ranges ws positive ts
 
-abbrev pub demand_bits : List ℕ → Tree → List Bool
-demand_bits ws t = demand_of_bits ws true t
+abbrev pub demand_bits : List ℕ → List ℕ → Tree → List Bool
+demand_bits ranges ws t = demand_of_bits ranges ws true t

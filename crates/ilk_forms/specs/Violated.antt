@@ -67,7 +67,7 @@ violated_part columns t n =
     then nothing_at n
     else and_then (gathered columns true true t n).part (first_violated_part (gathered columns true true t n).lits)
 
--- the values of the new variables, where the copy has the values ws
-abbrev pub violated_bits : List ℕ → Tree → List Bool
-violated_bits ws t =
-    if never_kept true t then [] else (truths ws true true t).bits ++ first_violated_bits (truths ws true true t).lits
+-- the values of the new variables, where the copy's variables have these ranges and the values ws
+abbrev pub violated_bits : List ℕ → List ℕ → Tree → List Bool
+violated_bits ranges ws t =
+    if never_kept true t then [] else (truths ranges ws true true t).bits ++ first_violated_bits (truths ranges ws true true t).lits

@@ -5,6 +5,7 @@ ghost use Rattle.ilk_cnf.specs.Part.{with_part};
 ghost use Rattle.ilk_cnf.specs.Truth.{some_true};
 ghost use Rattle.ilk_ir.specs.Form.{tree_of, trees_of};
 ghost use Rattle.ilk_ir.specs.Tree.{tree_holds, tree_valid, each_valid};
+ghost use Rattle.ilk_ir.specs.System.{in_ranges};
 ghost use Rattle.ilk_copy.specs.Copy.{LiteralsSay};
 ghost use Rattle.ilk_forms.specs.Leaf.{columns_in, ranges_of};
 ghost use Rattle.ilk_forms.specs.Gathered.{gathered_each};
@@ -12,6 +13,7 @@ ghost use Rattle.ilk_forms.specs.Demand.{one_clause, some_part, demand_of, deman
 ghost use Rattle.ilk_forms.specs.Size.{tree_size};
 ghost use Rattle.ilk_forms.specs.Truths.{demand_bits};
 
+use crate::bound::any_leaf;
 use crate::literals::{gather_each, leaf, push_all, signed};
 use ilk_cnf::{Cnf, Lit, Lits};
 use ilk_copy::Table;
@@ -81,8 +83,11 @@ fn demand_of(
         }
         Form::And(forms) if positive => demand_each(alloc, cnf, table, first, true, forms),
         Form::And(forms) => demand_some(alloc, cnf, table, first, false, forms),
-        Form::Or(forms) if positive => demand_some(alloc, cnf, table, first, true, forms),
-        Form::Or(forms) => demand_each(alloc, cnf, table, first, false, forms),
+        Form::Or(forms) => match any_leaf(table, forms) {
+            Some(lit) => add_some(alloc, cnf, first, &[signed(positive, lit)]),
+            None if positive => demand_some(alloc, cnf, table, first, true, forms),
+            None => demand_each(alloc, cnf, table, first, false, forms),
+        },
         Form::Not(f) => demand_of(alloc, cnf, table, first, !positive, f),
     }
 }
@@ -127,7 +132,7 @@ pub fn demand(
     // Where the copy's literals say the values ws, exactly the assignments in which a first literal
     // is true or the form holds of ws extend over the part, and the new variables have one value
     // each.
-    ensures law { OnOk result ((a : List Bool) (ranges ws : List ℕ) → length a ≡ cnf.old.vars → LiteralsSay a table.now ranges ws → PartExtends a (demand_part table.now first.now (tree_of form.now) cnf.old.vars) (OnlyIf (some_true a first.now || tree_holds ws (tree_of form.now)) (demand_bits ws (tree_of form.now)))) }
+    ensures law { OnOk result ((a : List Bool) (ranges ws : List ℕ) → length a ≡ cnf.old.vars → LiteralsSay a table.now ranges ws → IsTrue (in_ranges ws ranges) → PartExtends a (demand_part table.now first.now (tree_of form.now) cnf.old.vars) (OnlyIf (some_true a first.now || tree_holds ws (tree_of form.now)) (demand_bits ranges ws (tree_of form.now)))) }
     ensures more { OnOk result (cnf.old.vars ≤ cnf.new.vars) }
     ensures vars { OnOk result (cnf.new.vars ≤ cnf.old.vars + tree_size (tree_of form.now)) }
     ensures clauses { OnOk result (length cnf.new.clauses ≤ length cnf.old.clauses + 2 * tree_size (tree_of form.now)) }

@@ -13,6 +13,7 @@
 //! instance is the first that isn't kept (`specs/Violated`).
 #![tactic(auto)]
 
+mod bound;
 mod clauses;
 mod literals;
 mod violated;

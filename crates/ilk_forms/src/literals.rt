@@ -6,12 +6,14 @@ ghost use Rattle.ilk_cnf.specs.Part.{with_part, nothing_at};
 ghost use Rattle.ilk_cnf.specs.Truth.{is_true};
 ghost use Rattle.ilk_ir.specs.Form.{tree_of, trees_of};
 ghost use Rattle.ilk_ir.specs.Tree.{tree_holds, tree_valid, each_valid, value_valid};
+ghost use Rattle.ilk_ir.specs.System.{in_ranges};
 ghost use Rattle.ilk_copy.specs.Copy.{LiteralsSay};
 ghost use Rattle.ilk_forms.specs.Leaf.{leaf, columns_in, ranges_of};
 ghost use Rattle.ilk_forms.specs.Gathered.{signed, gate_part, single_of, taken_in, gathered, gathered_each, literal_part};
 ghost use Rattle.ilk_forms.specs.Size.{tree_size};
 ghost use Rattle.ilk_forms.specs.Truths.{literal_bits};
 
+use crate::bound::any_leaf;
 use ilk_cnf::{Cnf, Lit, Lits, all_of, any_of};
 use ilk_copy::Table;
 use ilk_ir::Form;
@@ -117,7 +119,10 @@ pub fn gather(
         Form::No => take_in(alloc, cnf, all, !positive, Lits::new(alloc)),
         Form::Is(v, c) => one(alloc, signed(positive, leaf(table, *v, *c))),
         Form::And(forms) => join(alloc, cnf, table, all, positive, positive, forms),
-        Form::Or(forms) => join(alloc, cnf, table, all, !positive, positive, forms),
+        Form::Or(forms) => match any_leaf(table, forms) {
+            Some(lit) => one(alloc, signed(positive, lit)),
+            None => join(alloc, cnf, table, all, !positive, positive, forms),
+        },
         Form::Not(f) => gather(alloc, cnf, table, all, !positive, f),
     }
 }
@@ -167,8 +172,9 @@ pub fn gather_each(
 }
 
 /// Gives a literal that is true exactly where the form holds of the copy's values: the table's own
-/// where the form is a value of a variable, else the one of a new variable for each part that is no
-/// literal. The form is valid over the copy's variables.
+/// where the form is a value of a variable, or Or of its values up to one of which there is a
+/// literal, else the one of a new variable for each part that is no literal. The form is valid over
+/// the copy's variables.
 pub fn literal_of(
     alloc: Global,
     cnf: &mut Cnf,
@@ -179,8 +185,8 @@ pub fn literal_of(
     requires valid { IsTrue (tree_valid (ranges_of table.now) (tree_of form.now)) }
     ensures lit { IfOk result (λ l. l ≡ (literal_part table.now (tree_of form.now) cnf.old.vars).lit) }
     ensures made { OnOk result (cnf.new ≡ with_part cnf.old (literal_part table.now (tree_of form.now) cnf.old.vars).part) }
-    ensures law { OnOk result ((a : List Bool) (ranges ws : List ℕ) → length a ≡ cnf.old.vars → LiteralsSay a table.now ranges ws → PartExtends a (literal_part table.now (tree_of form.now) cnf.old.vars).part (Only (literal_bits ws (tree_of form.now)))) }
-    ensures exact { OnOk result ((a c : List Bool) (ranges ws : List ℕ) → length a ≡ cnf.old.vars → LiteralsSay a table.now ranges ws → is_true (a ++ (literal_bits ws (tree_of form.now) ++ c)) (literal_part table.now (tree_of form.now) cnf.old.vars).lit ≡ tree_holds ws (tree_of form.now)) }
+    ensures law { OnOk result ((a : List Bool) (ranges ws : List ℕ) → length a ≡ cnf.old.vars → LiteralsSay a table.now ranges ws → IsTrue (in_ranges ws ranges) → PartExtends a (literal_part table.now (tree_of form.now) cnf.old.vars).part (Only (literal_bits ranges ws (tree_of form.now)))) }
+    ensures exact { OnOk result ((a c : List Bool) (ranges ws : List ℕ) → length a ≡ cnf.old.vars → LiteralsSay a table.now ranges ws → IsTrue (in_ranges ws ranges) → is_true (a ++ (literal_bits ranges ws (tree_of form.now) ++ c)) (literal_part table.now (tree_of form.now) cnf.old.vars).lit ≡ tree_holds ws (tree_of form.now)) }
     ensures within { IfOk result (λ l. IsTrue (lit_in cnf.new.vars l)) }
     ensures more { OnOk result (cnf.old.vars ≤ cnf.new.vars) }
     ensures vars { OnOk result (cnf.new.vars ≤ cnf.old.vars + tree_size (tree_of form.now) + 1) }

@@ -7,6 +7,7 @@ ghost use Rattle.ilk_cnf.specs.Part.{with_part};
 ghost use Rattle.ilk_cnf.specs.Truth.{is_true};
 ghost use Rattle.ilk_ir.specs.Form.{tree_of, trees_of};
 ghost use Rattle.ilk_ir.specs.Tree.{all_of, negation, more, tree_holds, each_holds, tree_valid, each_valid};
+ghost use Rattle.ilk_ir.specs.System.{in_ranges};
 ghost use Rattle.ilk_copy.specs.Copy.{LiteralsSay};
 ghost use Rattle.ilk_forms.specs.Leaf.{columns_in, ranges_of};
 ghost use Rattle.ilk_forms.specs.Demand.{some_part};
@@ -175,7 +176,7 @@ pub fn some_fails(
 
     // Where the copy's literals say the values ws, exactly the assignments extend over the part for
     // which some form doesn't hold of ws, and the new variables have one value each.
-    ensures law { OnOk result ((a : List Bool) (ranges ws : List ℕ) → length a ≡ cnf.old.vars → LiteralsSay a table.now ranges ws → PartExtends a (violated_part table.now (all_of (trees_of forms.now)) cnf.old.vars) (OnlyIf (not (each_holds ws (trees_of forms.now))) (violated_bits ws (all_of (trees_of forms.now))))) }
+    ensures law { OnOk result ((a : List Bool) (ranges ws : List ℕ) → length a ≡ cnf.old.vars → LiteralsSay a table.now ranges ws → IsTrue (in_ranges ws ranges) → PartExtends a (violated_part table.now (all_of (trees_of forms.now)) cnf.old.vars) (OnlyIf (not (each_holds ws (trees_of forms.now))) (violated_bits ranges ws (all_of (trees_of forms.now))))) }
     ensures more { OnOk result (cnf.old.vars ≤ cnf.new.vars) }
     ensures vars { OnOk result (cnf.new.vars ≤ cnf.old.vars + 2 * tree_size (all_of (trees_of forms.now))) }
 {
@@ -227,7 +228,7 @@ pub fn holds_or_some_fails(
     requires form { IsTrue (tree_valid (ranges_of table.now) (tree_of form.now)) }
     requires valid { IsTrue (each_valid (ranges_of table.now) (trees_of forms.now)) }
     ensures made { OnOk result (cnf.new ≡ with_part cnf.old (violated_part table.now (all_of (more (negation (tree_of form.now)) (trees_of forms.now))) cnf.old.vars)) }
-    ensures law { OnOk result ((a : List Bool) (ranges ws : List ℕ) → length a ≡ cnf.old.vars → LiteralsSay a table.now ranges ws → PartExtends a (violated_part table.now (all_of (more (negation (tree_of form.now)) (trees_of forms.now))) cnf.old.vars) (OnlyIf (not (not (tree_holds ws (tree_of form.now)) && each_holds ws (trees_of forms.now))) (violated_bits ws (all_of (more (negation (tree_of form.now)) (trees_of forms.now)))))) }
+    ensures law { OnOk result ((a : List Bool) (ranges ws : List ℕ) → length a ≡ cnf.old.vars → LiteralsSay a table.now ranges ws → IsTrue (in_ranges ws ranges) → PartExtends a (violated_part table.now (all_of (more (negation (tree_of form.now)) (trees_of forms.now))) cnf.old.vars) (OnlyIf (not (not (tree_holds ws (tree_of form.now)) && each_holds ws (trees_of forms.now))) (violated_bits ranges ws (all_of (more (negation (tree_of form.now)) (trees_of forms.now)))))) }
     ensures more { OnOk result (cnf.old.vars ≤ cnf.new.vars) }
     ensures vars { OnOk result (cnf.new.vars ≤ cnf.old.vars + 2 * tree_size (all_of (more (negation (tree_of form.now)) (trees_of forms.now)))) }
 {

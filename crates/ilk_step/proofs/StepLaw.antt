@@ -83,17 +83,17 @@ after-fits rs now next k m hn hx same low high valid =
     let fits : k + length rs ≤ p.vars + 1 = omega arith in
     then-fits m p (frames_part rs k now next) one (frames-fits rs now next k p.vars low fits (columns_in-more m p.vars now grows hn) (columns_in-more m p.vars next grows hx))
 
-after-law : (rs : List RuleTree) (now next : List Column) (ws xs : List ℕ) (a : List Bool) (k m r : ℕ) (rule : RuleTree) → Copies a m now next ws xs → 0 < k → k + length rs ≤ m + 1 → list_all (rule_valid (ranges_of now)) rs ≡ true → in_ranges ws (ranges_of now) ≡ true → in_ranges xs (ranges_of now) ≡ true → map (is_true a) (chosen_lits k (length rs)) ≡ value_bits r 0 (length rs) → slice_get rs r ≡ Some rule → Extends a (after_choice rs now next k m).vars (after_choice rs now next k m).clauses (OnlyIf (leads ws xs rule) (rules_bits ws rs))
+after-law : (rs : List RuleTree) (now next : List Column) (ws xs : List ℕ) (a : List Bool) (k m r : ℕ) (rule : RuleTree) → Copies a m now next ws xs → 0 < k → k + length rs ≤ m + 1 → list_all (rule_valid (ranges_of now)) rs ≡ true → in_ranges ws (ranges_of now) ≡ true → in_ranges xs (ranges_of now) ≡ true → map (is_true a) (chosen_lits k (length rs)) ≡ value_bits r 0 (length rs) → slice_get rs r ≡ Some rule → Extends a (after_choice rs now next k m).vars (after_choice rs now next k m).clauses (OnlyIf (leads ws xs rule) (rules_bits (ranges_of now) ws rs))
 after-law rs now next ws xs a k m r rule c low high valid hw hx chosen at =
     let p = rules_part now next k rs m in
-    let e = rules_bits ws rs in
+    let e = rules_bits (ranges_of now) ws rs in
     let met = rule_met ws xs rule in
     let keeps = kept (λ v. sets_variable v rule.sets) 0 ws xs in
     let one = rules-fits rs now next k m c.now_in c.next_in c.same low high valid in
     let grows = one.low in
     let fits : k + length rs ≤ p.vars + 1 = omega arith in
-    let rn : Reads a now ws = reads a now (ranges_of now) ws m c.size c.now_in c.now_say in
-    let rx : Reads a next xs = reads a next (ranges_of now) xs m c.size c.next_in c.next_say in
+    let rn : Reads a now (ranges_of now) ws = reads a now (ranges_of now) ws m c.size c.now_in c.now_say hw in
+    let rx : Reads a next (ranges_of now) xs = reads a next (ranges_of now) xs m c.size c.next_in c.next_say hx in
     let place : r ≡ 0 + r = omega arith in
     let here : map (is_true a) (chosen_lits k (length rs)) ≡ value_bits (0 + r) 0 (length rs) = chosen ∙ ap (λ (i : ℕ). value_bits i 0 (length rs)) place in
     let first : Extends a p.vars p.clauses (OnlyIf met e) = subst (λ (b : Bool). Extends a p.vars p.clauses (OnlyIf b e)) (one_met rs a k r 0 rule ws xs here at) (rules-law rs now next ws xs k a m c.size rn rx c.now_in c.next_in c.same low high valid) in
@@ -120,9 +120,9 @@ step-fits rules now next n hn hx same valid =
     let more = first.low in
     then-fits n p (after_choice rules now next (n + 1)) first (after-fits rules now next (n + 1) p.vars (columns_in-more n p.vars now more hn) (columns_in-more n p.vars next more hx) same (omega arith) (omega (arith, grows)) valid)
 
-pub step-law : (rules : List RuleTree) (now next : List Column) (ws xs : List ℕ) (a : List Bool) (n : ℕ) → Copies a n now next ws xs → list_all (rule_valid (ranges_of now)) rules ≡ true → in_ranges ws (ranges_of now) ≡ true → in_ranges xs (ranges_of now) ≡ true → Extends a (step_part rules now next n).vars (step_part rules now next n).clauses (IsStep rules ws xs)
+pub step-law : (rules : List RuleTree) (now next : List Column) (ws xs : List ℕ) (a : List Bool) (n : ℕ) → Copies a n now next ws xs → list_all (rule_valid (ranges_of now)) rules ≡ true → in_ranges ws (ranges_of now) ≡ true → in_ranges xs (ranges_of now) ≡ true → Extends a (step_part rules now next n).vars (step_part rules now next n).clauses (IsStep (ranges_of now) rules ws xs)
 step-law rules now next ws xs a n c valid hw hx =
-    in_words a q.vars (p.clauses ++ q.clauses) _ (IsStep rules ws xs) to from (in_turn a p.vars q.vars p.clauses q.clauses (IsChoice count) after (omega (arith, c.size, grows)) fits.low (choice-in count n) first next_law)
+    in_words a q.vars (p.clauses ++ q.clauses) _ (IsStep (ranges_of now) rules ws xs) to from (in_turn a p.vars q.vars p.clauses q.clauses (IsChoice count) after (omega (arith, c.size, grows)) fits.low (choice-in count n) first next_law)
   where
     count : ℕ
     count = length rules
@@ -146,7 +146,7 @@ step-law rules now next ws xs a n c valid hw hx =
     fits = after-fits rules now next (n + 1) p.vars (columns_in-more n p.vars now more c.now_in) (columns_in-more n p.vars next more c.next_in) c.same (omega arith) reach valid
 
     after : (b : List Bool) → IsChoice count b → List Bool → Type 0
-    after b h = OnlyIf (leads ws xs (item_at rules h.0 h.1).0) (rules_bits ws rules)
+    after b h = OnlyIf (leads ws xs (item_at rules h.0 h.1).0) (rules_bits (ranges_of now) ws rules)
 
     first : Extends a p.vars p.clauses (IsChoice count)
     first = choice-law a count n c.size
@@ -158,7 +158,7 @@ step-law rules now next ws xs a n c valid hw hx =
         let chosen : map (is_true (a ++ b)) (chosen_lits (n + 1) count) ≡ value_bits h.0 0 count = subst (λ (u : List Bool). map (is_true u) (chosen_lits (n + 1) count) ≡ value_bits h.0 0 count) whole (choice-says a [] count h.0 n c.size) in
         after-law rules now next ws xs (a ++ b) (n + 1) p.vars h.0 (item_at rules h.0 h.1).0 (copies-left a b n p.vars now next ws xs more long c) (omega arith) reach valid hw hx chosen (item_at rules h.0 h.1).1
 
-    to : (d : List Bool) → Then (IsChoice count) after d → IsStep rules ws xs d
+    to : (d : List Bool) → Then (IsChoice count) after d → IsStep (ranges_of now) rules ws xs d
     to d h =
         let r = h.3.0 in
         let item = item_at rules r h.3.1 in
@@ -166,7 +166,7 @@ step-law rules now next ws xs a n c valid hw hx =
         let fires : fired item.0 ws ≡ Some xs = met-fired item.0 ws xs (ranges_of now) hw hx parts.0 parts.1 in
         (r, ap (λ (o : Option RuleTree). option_and_then (λ rule. fired rule ws) o) item.1 ∙ fires, h.2 ∙ ap (λ (u : List Bool). u ++ h.1) h.3.2 ∙ ap (λ (u : List Bool). choice_bits count r ++ u) h.4.1)
 
-    from : (d : List Bool) → IsStep rules ws xs d → Then (IsChoice count) after d
+    from : (d : List Bool) → IsStep (ranges_of now) rules ws xs d → Then (IsChoice count) after d
     from d h = by_case (slice_get rules h.0) refl h.1
       where
         by_case : (o : Option RuleTree) → slice_get rules h.0 ≡ o → option_and_then (λ rule. fired rule ws) o ≡ Some xs → Then (IsChoice count) after d
@@ -177,13 +177,13 @@ step-law rules now next ws xs a n c valid hw hx =
             let same : rule ≡ item.0 = same_Some rule item.0 (sym is ∙ item.1) in
             let fires_too : fired item.0 ws ≡ Some xs = ap (λ (u : RuleTree). fired u ws) (sym same) ∙ fires in
             let both = fired-met item.0 ws xs (ranges_of now) hw (list_all-slice_get (rule_valid (ranges_of now)) rules h.0 item.0 valid item.1) fires_too in
-            (choice_bits count h.0, rules_bits ws rules, h.2, (h.0, less, refl), (and_from _ _ both.0 both.1, refl))
+            (choice_bits count h.0, rules_bits (ranges_of now) ws rules, h.2, (h.0, less, refl), (and_from _ _ both.0 both.1, refl))
 
 -- the step's variables say which rule is chosen, whatever follows
-pub step-says : (rules : List RuleTree) (ws : List ℕ) (a c : List Bool) (n r : ℕ) → length a ≡ n → map (is_true (a ++ (step_bits rules ws r ++ c))) (chosen_lits (n + 1) (length rules)) ≡ value_bits r 0 (length rules)
-step-says rules ws a c n r size =
-    let whole : a ++ (choice_bits (length rules) r ++ (rules_bits ws rules ++ c)) ≡ a ++ (step_bits rules ws r ++ c) = ap (λ (u : List Bool). a ++ u) (sym (append_assoc (choice_bits (length rules) r) (rules_bits ws rules) c)) in
-    subst (λ (u : List Bool). map (is_true u) (chosen_lits (n + 1) (length rules)) ≡ value_bits r 0 (length rules)) whole (choice-says a (rules_bits ws rules ++ c) (length rules) r n size)
+pub step-says : (ranges : List ℕ) (rules : List RuleTree) (ws : List ℕ) (a c : List Bool) (n r : ℕ) → length a ≡ n → map (is_true (a ++ (step_bits ranges rules ws r ++ c))) (chosen_lits (n + 1) (length rules)) ≡ value_bits r 0 (length rules)
+step-says ranges rules ws a c n r size =
+    let whole : a ++ (choice_bits (length rules) r ++ (rules_bits ranges ws rules ++ c)) ≡ a ++ (step_bits ranges rules ws r ++ c) = ap (λ (u : List Bool). a ++ u) (sym (append_assoc (choice_bits (length rules) r) (rules_bits ranges ws rules) c)) in
+    subst (λ (u : List Bool). map (is_true u) (chosen_lits (n + 1) (length rules)) ≡ value_bits r 0 (length rules)) whole (choice-says a (rules_bits ranges ws rules ++ c) (length rules) r n size)
 
 pub step-below : (rules : List RuleTree) (ws xs : List ℕ) (r : ℕ) → step_values rules ws r ≡ Some xs → r < length rules
 step-below rules ws xs r h = by_case (slice_get rules r) refl h

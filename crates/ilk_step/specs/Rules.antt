@@ -24,7 +24,7 @@ abbrev pub rules_part : List Column → List Column → ℕ → List RuleTree �
 rules_part now next k [] n = nothing_at n
 rules_part now next k (r ∷ rs) n = and_then (rule_part now next (plus k) r n) (rules_part now next (k + 1) rs)
 
--- the values of the new variables, where the one copy has the values ws
-abbrev pub rules_bits : List ℕ → List RuleTree → List Bool
-rules_bits ws [] = []
-rules_bits ws (r ∷ rs) = demand_bits ws r.guard ++ rules_bits ws rs
+-- the values of the new variables, where the variables have these ranges and the one copy has the values ws
+abbrev pub rules_bits : List ℕ → List ℕ → List RuleTree → List Bool
+rules_bits ranges ws [] = []
+rules_bits ranges ws (r ∷ rs) = demand_bits ranges ws r.guard ++ rules_bits ranges ws rs

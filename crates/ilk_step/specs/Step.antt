@@ -16,10 +16,10 @@ step_part rules now next n =
 abbrev pub step_values : List RuleTree → List ℕ → ℕ → Option (List ℕ)
 step_values rules ws r = option_and_then (λ rule. fired rule ws) (slice_get rules r)
 
--- the values of the step's variables, where rule r is chosen and the one copy has the values ws
-abbrev pub step_bits : List RuleTree → List ℕ → ℕ → List Bool
-step_bits rules ws r = choice_bits (length rules) r ++ rules_bits ws rules
+-- the values of the step's variables, where rule r is chosen, and the one copy's variables have these ranges and the values ws
+abbrev pub step_bits : List ℕ → List RuleTree → List ℕ → ℕ → List Bool
+step_bits ranges rules ws r = choice_bits (length rules) r ++ rules_bits ranges ws rules
 
 -- those of some rule that leads from the values ws to the values xs
-abbrev pub IsStep : List RuleTree → List ℕ → List ℕ → List Bool → Type 0
-IsStep rules ws xs b = (r : ℕ) × (step_values rules ws r ≡ Some xs) × (b ≡ step_bits rules ws r)
+abbrev pub IsStep : List ℕ → List RuleTree → List ℕ → List ℕ → List Bool → Type 0
+IsStep ranges rules ws xs b = (r : ℕ) × (step_values rules ws r ≡ Some xs) × (b ≡ step_bits ranges rules ws r)

@@ -38,10 +38,10 @@ pub fn add_step(
 
     // Where the one copy has the values ws and the next the values xs, in exactly one way for each
     // rule that leads from ws to xs.
-    ensures law { OnOk result ((a : List Bool) (ws xs : List ℕ) → length a ≡ cnf.old.vars → LiteralsSay a now.now (ranges_of now.now) ws → LiteralsSay a next.now (ranges_of now.now) xs → IsTrue (in_ranges ws (ranges_of now.now)) → IsTrue (in_ranges xs (ranges_of now.now)) → PartExtends a (step_part (map rule_tree rules.now) now.now next.now cnf.old.vars) (IsStep (map rule_tree rules.now) ws xs)) }
+    ensures law { OnOk result ((a : List Bool) (ws xs : List ℕ) → length a ≡ cnf.old.vars → LiteralsSay a now.now (ranges_of now.now) ws → LiteralsSay a next.now (ranges_of now.now) xs → IsTrue (in_ranges ws (ranges_of now.now)) → IsTrue (in_ranges xs (ranges_of now.now)) → PartExtends a (step_part (map rule_tree rules.now) now.now next.now cnf.old.vars) (IsStep (ranges_of now.now) (map rule_tree rules.now) ws xs)) }
 
     // There the variables of the choice say that it is that rule, whatever follows the step.
-    ensures exact { OnOk result ((a c : List Bool) (ws xs : List ℕ) (r : ℕ) → length a ≡ cnf.old.vars → step_values (map rule_tree rules.now) ws r ≡ Some xs → Chooses (a ++ (step_bits (map rule_tree rules.now) ws r ++ c)) (cnf.old.vars + 1) (length rules.now) r) }
+    ensures exact { OnOk result ((a c : List Bool) (ws xs : List ℕ) (r : ℕ) → length a ≡ cnf.old.vars → step_values (map rule_tree rules.now) ws r ≡ Some xs → Chooses (a ++ (step_bits (ranges_of now.now) (map rule_tree rules.now) ws r ++ c)) (cnf.old.vars + 1) (length rules.now) r) }
 
     // At most two variables and four clauses for each rule and one clause more, a variable and two
     // clauses for each constructor of a guard, a clause for each setting, two for each literal of a

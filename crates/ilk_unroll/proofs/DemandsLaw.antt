@@ -74,11 +74,11 @@ demands-fits (d ∷ ds) tables ranges n h r valid =
 
 -- the laws
 
-holds-law : (holds : Bool) (columns : List Column) (values : List ℕ) (t : Tree) (a : List Bool) (n : ℕ) → length a ≡ n → Reads a columns values → tree_valid (ranges_of columns) t ≡ true → Extends a (cond holds (demand_part columns [] t n) (violated_part columns t n)).vars (cond holds (demand_part columns [] t n) (violated_part columns t n)).clauses (OnlyIf (same_truth holds (tree_holds values t)) (cond holds (demand_bits values t) (violated_bits values t)))
-holds-law true columns values t a n size r k = demand_of-law t columns values [] true a n size r refl k
-holds-law false columns values t a n size r k = violated-law t columns values a n size r k
+holds-law : (holds : Bool) (columns : List Column) (ranges values : List ℕ) (t : Tree) (a : List Bool) (n : ℕ) → length a ≡ n → Reads a columns ranges values → tree_valid (ranges_of columns) t ≡ true → Extends a (cond holds (demand_part columns [] t n) (violated_part columns t n)).vars (cond holds (demand_part columns [] t n) (violated_part columns t n)).clauses (OnlyIf (same_truth holds (tree_holds values t)) (cond holds (demand_bits ranges values t) (violated_bits ranges values t)))
+holds-law true columns ranges values t a n size r k = demand_of-law t columns ranges values [] true a n size r refl k
+holds-law false columns ranges values t a n size r k = violated-law t columns ranges values a n size r k
 
-demanded-law : (tables : List (List Column)) (run : List (List ℕ)) (ranges : List ℕ) (d : Demanded) (a : List Bool) (n : ℕ) → length a ≡ n → TablesSay a n ranges tables run → demanded_valid ranges (length tables) d ≡ true → Extends a (demanded_part tables d n).vars (demanded_part tables d n).clauses (OnlyIf (met_by run d) (demanded_bits run d))
+demanded-law : (tables : List (List Column)) (run : List (List ℕ)) (ranges : List ℕ) (d : Demanded) (a : List Bool) (n : ℕ) → length a ≡ n → TablesSay a n ranges tables run → demanded_valid ranges (length tables) d ≡ true → Extends a (demanded_part tables d n).vars (demanded_part tables d n).clauses (OnlyIf (met_by run d) (demanded_bits ranges run d))
 demanded-law tables run ranges d a n size h valid =
     let parts = and_parts (nat_lt d.copy (length tables)) (tree_valid ranges d.form) valid in
     let less : d.copy < length tables = ltb-true d.copy (length tables) parts.0 in
@@ -87,19 +87,19 @@ demanded-law tables run ranges d a n size h valid =
     let values = get_or run d.copy [] in
     let p = demanded_part tables d n in
     let says = at.0 in
-    let law = holds-law d.holds table values d.form a n size (reads a table ranges values n size says.within says.says) (ap (λ (rs : List ℕ). tree_valid rs d.form) says.has_ranges ∙ parts.1) in
+    let law = holds-law d.holds table ranges values d.form a n size (reads a table ranges values n size says.within says.says says.in_range) (ap (λ (rs : List ℕ). tree_valid rs d.form) says.has_ranges ∙ parts.1) in
     let met : same_truth d.holds (tree_holds values d.form) ≡ met_by run d = ap (λ (o : Option (List ℕ)). is_some_and o (λ ws. same_truth d.holds (tree_holds ws d.form))) (sym at.1) in
-    subst (λ (b : Bool). Extends a p.vars p.clauses (OnlyIf b (demanded_bits run d))) met law
+    subst (λ (b : Bool). Extends a p.vars p.clauses (OnlyIf b (demanded_bits ranges run d))) met law
 
-pub demands-law : (ds : List Demanded) (tables : List (List Column)) (run : List (List ℕ)) (ranges : List ℕ) (a : List Bool) (n : ℕ) → length a ≡ n → tables_in n tables ≡ true → HaveRanges ranges tables → TablesSay a n ranges tables run → list_all (demanded_valid ranges (length tables)) ds ≡ true → Extends a (demands_part tables ds n).vars (demands_part tables ds n).clauses (OnlyIf (list_all (met_by run) ds) (demands_bits run ds))
+pub demands-law : (ds : List Demanded) (tables : List (List Column)) (run : List (List ℕ)) (ranges : List ℕ) (a : List Bool) (n : ℕ) → length a ≡ n → tables_in n tables ≡ true → HaveRanges ranges tables → TablesSay a n ranges tables run → list_all (demanded_valid ranges (length tables)) ds ≡ true → Extends a (demands_part tables ds n).vars (demands_part tables ds n).clauses (OnlyIf (list_all (met_by run) ds) (demands_bits ranges run ds))
 demands-law [] tables run ranges a n size inside r h valid = no_more_if a n [] true size refl
 demands-law (d ∷ ds) tables run ranges a n size inside r h valid =
     let parts = and_parts (demanded_valid ranges (length tables) d) (list_all (demanded_valid ranges (length tables)) ds) valid in
     let p = demanded_part tables d n in
-    let e = demanded_bits run d in
+    let e = demanded_bits ranges run d in
     let one = demanded-fits tables ranges d n inside r parts.0 in
     let more = tables_in-more n p.vars tables one.low inside in
-    then-law a e (demands_bits run ds) (met_by run d) (list_all (met_by run) ds) n p (demands_part tables ds) size one (demands-fits ds tables ranges p.vars more r parts.1) (demanded-law tables run ranges d a n size h parts.0) (λ long. demands-law ds tables run ranges (a ++ e) p.vars long more r (tables_say-more tables run a e n p.vars ranges size one.low h) parts.1)
+    then-law a e (demands_bits ranges run ds) (met_by run d) (list_all (met_by run) ds) n p (demands_part tables ds) size one (demands-fits ds tables ranges p.vars more r parts.1) (demanded-law tables run ranges d a n size h parts.0) (λ long. demands-law ds tables run ranges (a ++ e) p.vars long more r (tables_say-more tables run a e n p.vars ranges size one.low h) parts.1)
 
 -- what a query demands is valid
 

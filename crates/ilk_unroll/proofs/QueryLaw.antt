@@ -104,14 +104,14 @@ query-law s g q valid fit goal_ok =
     first = copies-law count ranges [] 0 refl fit
 
     inner : (b : List Bool) → AreCopies count ranges b → List Bool → Type 0
-    inner b h = Then (AreSteps s.rules h.0) (λ e _. OnlyIf (list_all (met_by h.0) ds) (demands_bits h.0 ds))
+    inner b h = Then (AreSteps s.ranges s.rules h.0) (λ e _. OnlyIf (list_all (met_by h.0) ds) (demands_bits s.ranges h.0 ds))
 
     part : (b : List Bool) → (h : AreCopies count ranges b) → Extends b d.vars (t.clauses ++ d.clauses) (inner b h)
     part b h =
         let long : length b ≡ m = first.sized b h in
         let says : TablesSay b m ranges c.tables h.0 = subst (λ (u : List Bool). TablesSay u m ranges c.tables h.0) (sym h.3) (copies-say count ranges h.0 [] 0 refl fit h.1 h.2) in
         let next = steps-law c.tables h.0 b m ranges s.rules long says (rules-valid s valid) in
-        in_turn b t.vars d.vars t.clauses d.clauses (AreSteps s.rules h.0) (λ e _. OnlyIf (list_all (met_by h.0) ds) (demands_bits h.0 ds)) (omega (arith, long, steps_fit.low)) demands_fit.low steps_fit.inside next (λ e k. demands-law ds c.tables h.0 ranges (b ++ e) t.vars (next.sized e k) more have (tables_say-more c.tables h.0 b e m t.vars ranges long steps_fit.low says) ds_valid)
+        in_turn b t.vars d.vars t.clauses d.clauses (AreSteps s.ranges s.rules h.0) (λ e _. OnlyIf (list_all (met_by h.0) ds) (demands_bits s.ranges h.0 ds)) (omega (arith, long, steps_fit.low)) demands_fit.low steps_fit.inside next (λ e k. demands-law ds c.tables h.0 ranges (b ++ e) t.vars (next.sized e k) more have (tables_say-more c.tables h.0 b e m t.vars ranges long steps_fit.low says) ds_valid)
 
     a_run : (b : List Bool) (run : List (List ℕ)) (rules : List ℕ) → length run ≡ count → all_in_ranges ranges run ≡ true → Joined s.rules run rules → list_all (met_by run) ds ≡ true → b ≡ run_bits s g q run rules → IsWantedRun s g q b
     a_run b [] rules many h j met e = absurd (omega arith)
@@ -124,7 +124,7 @@ query-law s g q valid fit goal_ok =
     to : (b : List Bool) → Then (AreCopies count ranges) inner b → IsWantedRun s g q b
     to b h =
         let r = h.4 in
-        a_run b h.3.0 r.3.0 h.3.1 h.3.2 r.3.1 r.4.0 (h.2 ∙ ap (λ (u : List Bool). u ++ h.1) h.3.3 ∙ ap (λ (u : List Bool). copies_bits ranges h.3.0 ++ u) (r.2 ∙ ap (λ (u : List Bool). u ++ r.1) r.3.2 ∙ ap (λ (u : List Bool). steps_bits s.rules h.3.0 r.3.0 ++ u) r.4.1))
+        a_run b h.3.0 r.3.0 h.3.1 h.3.2 r.3.1 r.4.0 (h.2 ∙ ap (λ (u : List Bool). u ++ h.1) h.3.3 ∙ ap (λ (u : List Bool). copies_bits ranges h.3.0 ++ u) (r.2 ∙ ap (λ (u : List Bool). u ++ r.1) r.3.2 ∙ ap (λ (u : List Bool). steps_bits s.ranges s.rules h.3.0 r.3.0 ++ u) r.4.1))
 
     from : (b : List Bool) → IsWantedRun s g q b → Then (AreCopies count ranges) inner b
     from b h =
@@ -132,7 +132,7 @@ query-law s g q valid fit goal_ok =
         let r = run-is s h.1 h.0 w.run (rules-valid s valid) w.in_range w.is in
         let run = w.run in
         let e : b ≡ run_bits s g q run h.1 = h.3 ∙ assignment-is s g q h.0 h.1 run w.is in
-        (copies_bits ranges run, steps_bits s.rules run h.1 ++ demands_bits run ds, e, (run, r.many ∙ ap suc w.many, r.in_range, refl), (steps_bits s.rules run h.1, demands_bits run ds, refl, (h.1, r.joined, refl), (w.met, refl)))
+        (copies_bits ranges run, steps_bits s.ranges s.rules run h.1 ++ demands_bits s.ranges run ds, e, (run, r.many ∙ ap suc w.many, r.in_range, refl), (steps_bits s.ranges s.rules run h.1, demands_bits s.ranges run ds, refl, (h.1, r.joined, refl), (w.met, refl)))
 
 -- the assignment of a run has the bits of its first values, and its rules are chosen
 pub run-says : (s : SystemTree) (g : GoalTree) (q : Wanted) (first rules : List ℕ) → system_valid s ≡ true → ranges_fit s.ranges ≡ true → Wants s g q first rules → HaveBits (run_assignment s g q first rules) 1 s.ranges first × AllChosen (run_assignment s g q first rules) (step_choices s.rules (copies_part s.ranges (suc (step_count q)) 0).tables (copies_part s.ranges (suc (step_count q)) 0).part.vars) rules
@@ -143,14 +143,14 @@ run-says s g q first rules valid fit w =
     let r = run-is s rules first w.run (rules-valid s valid) w.in_range w.is in
     let run = w.run in
     let many : length run ≡ count = r.many ∙ ap suc w.many in
-    let end = steps_bits s.rules run rules ++ demands_bits run (demanded g q) in
+    let end = steps_bits s.ranges s.rules run rules ++ demands_bits s.ranges run (demanded g q) in
     let e : run_assignment s g q first rules ≡ copies_bits ranges run ++ end = assignment-is s g q first rules run w.is in
     let long : length (copies_bits ranges run) ≡ c.part.vars = (copies-law count ranges [] 0 refl fit).sized (copies_bits ranges run) (run, many, r.in_range, refl) in
     let says = copies-say count ranges run [] 0 refl fit many r.in_range in
     let begins : copies_bits ranges run ++ end ≡ numbers_bits ranges first ++ (columns_bits ranges first ++ (copies_bits ranges r.rest ++ end)) =
     ap (λ (u : List (List ℕ)). copies_bits ranges u ++ end) r.begins ∙ append_assoc (copy_bits ranges first) (copies_bits ranges r.rest) end ∙ append_assoc (numbers_bits ranges first) (columns_bits ranges first) (copies_bits ranges r.rest ++ end) in (
       subst (λ (u : List Bool). HaveBits u 1 ranges first) (sym (e ∙ begins)) (HaveBits-new ranges first [] (columns_bits ranges first ++ (copies_bits ranges r.rest ++ end)) 1 refl w.in_range),
-      subst (λ (u : List Bool). AllChosen u (step_choices s.rules c.tables c.part.vars) rules) (sym e) (steps-say c.tables run rules (copies_bits ranges run) (demands_bits run (demanded g q)) c.part.vars ranges s.rules long says (rules-valid s valid) r.joined),
+      subst (λ (u : List Bool). AllChosen u (step_choices s.rules c.tables c.part.vars) rules) (sym e) (steps-say c.tables run rules (copies_bits ranges run) (demands_bits s.ranges run (demanded g q)) c.part.vars ranges s.rules long says (rules-valid s valid) r.joined),
     )
 
 -- the calls

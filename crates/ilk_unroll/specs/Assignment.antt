@@ -14,24 +14,24 @@ abbrev pub copies_bits : List ℕ → List (List ℕ) → List Bool
 copies_bits ranges [] = []
 copies_bits ranges (values ∷ run) = copy_bits ranges values ++ copies_bits ranges run
 
--- those of the steps by these rules
-abbrev pub steps_bits : List RuleTree → List (List ℕ) → List ℕ → List Bool
-steps_bits rules [] chosen = []
-steps_bits rules (values ∷ run) [] = []
-steps_bits rules (values ∷ run) (rule ∷ chosen) = step_bits rules values rule ++ steps_bits rules run chosen
+-- those of the steps by these rules, where the variables have these ranges
+abbrev pub steps_bits : List ℕ → List RuleTree → List (List ℕ) → List ℕ → List Bool
+steps_bits ranges rules [] chosen = []
+steps_bits ranges rules (values ∷ run) [] = []
+steps_bits ranges rules (values ∷ run) (rule ∷ chosen) = step_bits ranges rules values rule ++ steps_bits ranges rules run chosen
 
 -- those of what is demanded
-abbrev pub demanded_bits : List (List ℕ) → Demanded → List Bool
-demanded_bits run d =
-    if d.holds then demand_bits (slice_index_or run d.copy []) d.form else violated_bits (slice_index_or run d.copy []) d.form
+abbrev pub demanded_bits : List ℕ → List (List ℕ) → Demanded → List Bool
+demanded_bits ranges run d =
+    if d.holds then demand_bits ranges (slice_index_or run d.copy []) d.form else violated_bits ranges (slice_index_or run d.copy []) d.form
 
-abbrev pub demands_bits : List (List ℕ) → List Demanded → List Bool
-demands_bits run [] = []
-demands_bits run (d ∷ ds) = demanded_bits run d ++ demands_bits run ds
+abbrev pub demands_bits : List ℕ → List (List ℕ) → List Demanded → List Bool
+demands_bits ranges run [] = []
+demands_bits ranges run (d ∷ ds) = demanded_bits ranges run d ++ demands_bits ranges run ds
 
 -- all of them
 abbrev pub run_bits : SystemTree → GoalTree → Wanted → List (List ℕ) → List ℕ → List Bool
-run_bits s g q run rules = copies_bits s.ranges run ++ (steps_bits s.rules run rules ++ demands_bits run (demanded g q))
+run_bits s g q run rules = copies_bits s.ranges run ++ (steps_bits s.ranges s.rules run rules ++ demands_bits s.ranges run (demanded g q))
 
 -- the assignment of the run that begins with `first` and fires `rules`
 abbrev pub run_assignment : SystemTree → GoalTree → Wanted → List ℕ → List ℕ → List Bool

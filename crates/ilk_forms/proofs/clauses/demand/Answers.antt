@@ -14,13 +14,13 @@ use Rattle.ilk_forms.proofs.clauses.demand.Goals as goal
 
 pub returns-clause-law : goal.returns-clause-law
 returns-clause-law c =
-    λ a ranges ws size says.
+    λ a ranges ws size says fit.
     let n = c.args.cnf.now.vars in
     let columns = c.args.table.now in
     let first = c.args.first.now in
     let t = tree_of c.args.form.now in
     let part = demand_part columns first t n in
-    extends-as_clauses a part.vars part.clauses (OnlyIf (some_true a first || tree_holds ws t) (demand_bits ws t)) (demand_of-law t columns ws first true a n size (reads a columns ranges ws n size c.requires.within says) c.requires.first c.requires.valid)
+    extends-as_clauses a part.vars part.clauses (OnlyIf (some_true a first || tree_holds ws t) (demand_bits ranges ws t)) (demand_of-law t columns ranges ws first true a n size (reads a columns ranges ws n size c.requires.within says fit) c.requires.first c.requires.valid)
 
 pub returns-clause-vars : goal.returns-clause-vars
 returns-clause-vars c =

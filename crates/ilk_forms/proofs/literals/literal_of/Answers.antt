@@ -27,20 +27,20 @@ returns-clause-made c =
 
 pub returns-clause-law : goal.returns-clause-law
 returns-clause-law c =
-    λ a ranges ws size says.
+    λ a ranges ws size says fit.
     let n = c.args.cnf.now.vars in
     let columns = c.args.table.now in
     let t = tree_of c.args.form.now in
     let part = (literal_part columns t n).part in
-    extends-as_clauses a part.vars part.clauses (Only (literal_bits ws t)) (literal-law t columns ws a n size (reads a columns ranges ws n size c.requires.within says) c.requires.valid)
+    extends-as_clauses a part.vars part.clauses (Only (literal_bits ranges ws t)) (literal-law t columns ranges ws a n size (reads a columns ranges ws n size c.requires.within says fit) c.requires.valid)
 
 pub returns-clause-exact : goal.returns-clause-exact
 returns-clause-exact c =
-    λ a d ranges ws size says.
+    λ a d ranges ws size says fit.
     let n = c.args.cnf.now.vars in
     let columns = c.args.table.now in
     let t = tree_of c.args.form.now in
-    literal-exact t columns ws a d n size (reads a columns ranges ws n size c.requires.within says) c.requires.valid
+    literal-exact t columns ranges ws a d n size (reads a columns ranges ws n size c.requires.within says fit) c.requires.valid
 
 pub returns-clause-vars : goal.returns-clause-vars
 returns-clause-vars c =

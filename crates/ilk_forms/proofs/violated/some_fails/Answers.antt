@@ -11,12 +11,12 @@ use Rattle.ilk_forms.proofs.violated.some_fails.Goals as goal
 
 pub returns-clause-law : goal.returns-clause-law
 returns-clause-law c =
-    λ a ranges ws size says.
+    λ a ranges ws size says fit.
     let n = c.args.cnf.now.vars in
     let columns = c.args.table.now in
     let t = all_of (trees_of c.args.forms.now) in
     let part = violated_part columns t n in
-    extends-as_clauses a part.vars part.clauses (OnlyIf (not (tree_holds ws t)) (violated_bits ws t)) (violated-law t columns ws a n size (reads a columns ranges ws n size c.requires.within says) c.requires.valid)
+    extends-as_clauses a part.vars part.clauses (OnlyIf (not (tree_holds ws t)) (violated_bits ranges ws t)) (violated-law t columns ranges ws a n size (reads a columns ranges ws n size c.requires.within says fit) c.requires.valid)
 
 pub returns-clause-more : goal.returns-clause-more
 returns-clause-more c =

@@ -5,6 +5,7 @@ use Rattle.ilk_cnf.specs.Part.{with_part}
 use Rattle.ilk_cnf.proofs.Extending.{extends-as_clauses}
 use Rattle.ilk_ir.specs.System.{rule_tree}
 use Rattle.ilk_forms.proofs.Reading.{columns_in-more}
+use Rattle.ilk_forms.specs.Leaf.{ranges_of}
 use Rattle.ilk_step.specs.Choice.{Chooses}
 use Rattle.ilk_forms.proofs.Few.{with_part-few}
 use Rattle.ilk_step.specs.Size.{guards_size, settings_count, literals_count}
@@ -97,15 +98,16 @@ returns-clause-law c =
     let next = c.args.next.now in
     let rs = map rule_tree c.args.rules.now in
     let p = step_part rs now next n in
-    extends-as_clauses a p.vars p.clauses (IsStep rs ws xs) (step-law rs now next ws xs a n (record { size = size; now_in = c.requires.now; next_in = c.requires.next; same = c.requires.same; now_say = now_say; next_say = next_say }) c.requires.valid hw hx)
+    extends-as_clauses a p.vars p.clauses (IsStep (ranges_of now) rs ws xs) (step-law rs now next ws xs a n (record { size = size; now_in = c.requires.now; next_in = c.requires.next; same = c.requires.same; now_say = now_say; next_say = next_say }) c.requires.valid hw hx)
 
 pub returns-clause-exact : goal.returns-clause-exact
 returns-clause-exact c =
     λ a b ws xs r size is.
     let n = c.args.cnf.now.vars in
+    let ranges = ranges_of c.args.now.now in
     let rs = map rule_tree c.args.rules.now in
-    let whole : Chooses (a ++ (step_bits rs ws r ++ b)) (n + 1) (length rs) r = (step-below rs ws xs r is, step-says rs ws a b n r size) in
-    subst (λ (m : ℕ). Chooses (a ++ (step_bits rs ws r ++ b)) (n + 1) m r) (length-map c.args.rules.now rule_tree) whole
+    let whole : Chooses (a ++ (step_bits ranges rs ws r ++ b)) (n + 1) (length rs) r = (step-below rs ws xs r is, step-says ranges rs ws a b n r size) in
+    subst (λ (m : ℕ). Chooses (a ++ (step_bits ranges rs ws r ++ b)) (n + 1) m r) (length-map c.args.rules.now rule_tree) whole
 
 pub returns-clause-vars : goal.returns-clause-vars
 returns-clause-vars c =
