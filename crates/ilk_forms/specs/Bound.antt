@@ -1,5 +1,5 @@
 -- Or of a variable's values up to one: that the variable is at most it, for which a copy may have a literal.
-use Rattle.std.specs.Prelude.{ℕ, zero, ◌+◌, ◌-◌, ◌==◌, nat_lt, Bool, false, ◌&&◌, ◌||◌, List, length, Option, Some, None, option_map, option_and_then, slice_get, if◌then◌else◌}
+use Rattle.std.specs.Prelude.{ℕ, zero, ◌+◌, ◌-◌, ◌==◌, nat_lt, Bool, ◌&&◌, ◌||◌, List, length, Option, Some, None, option_map, option_and_then, slice_get, if◌then◌else◌}
 use Rattle.ilk_base.specs.Option.{is_some_and}
 use Rattle.ilk_cnf.specs.Literal.{Literal, opposite}
 use Rattle.ilk_ints.specs.Named.{bound_count}

@@ -58,7 +58,11 @@ fn column_bound(column: &Column, k: u8) -> Option<Lit>
     if k + 2 == column.values.len() {
         return Some(column.values.at(k + 1).negated());
     }
-    column.bounds.as_slice().get(k.saturating_sub(1) as usize).copied()
+    column
+        .bounds
+        .as_slice()
+        .get(k.saturating_sub(1) as usize)
+        .copied()
 }
 
 // The literal that says that the variable is at most a value, where the copy has one.

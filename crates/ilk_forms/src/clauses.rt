@@ -115,8 +115,9 @@ fn demand_each(
 
 /// Adds clauses that say that one of the first literals is true, or the form holds of the copy's
 /// values. And at the top becomes several demands, one after another; Or one clause, with Or
-/// within Or taken in; a part that is no literal gets a new variable, which is true exactly where
-/// the part holds. The form is valid over the copy's variables.
+/// within Or taken in; Or of a variable's values up to one is the copy's literal for that, where
+/// there is one; a part that is no literal gets a new variable, which is true exactly where the part
+/// holds. The form is valid over the copy's variables.
 pub fn demand(
     alloc: Global,
     cnf: &mut Cnf,

@@ -216,7 +216,7 @@ fn add_holds_or_some_fails(
 
 /// Demands that the first form holds of the copy's values, or some of the others doesn't, in the
 /// same way: an instance of the first form is a part of Or at its top, which is kept where it
-/// doesn't hold.
+/// doesn't hold. Or of a variable's values up to one of which there is a literal is one instance.
 pub fn holds_or_some_fails(
     alloc: Global,
     cnf: &mut Cnf,

@@ -1,4 +1,4 @@
-use Rattle.std.proofs.Common.{◌+◌, ◌*◌, not, ap, arith}
+use Rattle.std.proofs.Common.{not, ap, arith}
 use Rattle.std.proofs.lemmas.Bool.{and_from}
 use Rattle.ilk_cnf.specs.Extends.{OnlyIf}
 use Rattle.ilk_cnf.specs.Formula.{Formula}

@@ -1,4 +1,4 @@
-use Rattle.std.proofs.Common.{◌+◌, ◌*◌, not, ap, arith}
+use Rattle.std.proofs.Common.{not, ap, arith}
 use Rattle.ilk_cnf.specs.Extends.{OnlyIf}
 use Rattle.ilk_cnf.specs.Formula.{Formula}
 use Rattle.ilk_cnf.proofs.Extending.{extends-as_clauses}
