@@ -1,4 +1,4 @@
--- Exactly one of some literals. They are joined in pairs, as by a tree: each path in it is short.
+-- Exactly one of some literals. They are joined in pairs, as in a balanced tree, whose paths are short.
 use Rattle.std.specs.Prelude.{ℕ, suc, ◌+◌, Bool, true, false, List, [], ◌∷◌, ◌++◌, length, ◌||◌, ◌&&◌, not}
 use Rattle.ilk_cnf.specs.Literal.{Literal, plus, opposite}
 use Rattle.ilk_cnf.specs.Part.{Part, and_then}

@@ -8,7 +8,11 @@
 //! First `number` adds an integer, then `is` a literal for a value that is spoken of, and `at_most`
 //! one for a bound, made of two literals that are there; `bit_is` needs nothing for a range of 2.
 //! `values` and `bounds` do this for all values of an integer, and for the bounds that are worth a
-//! literal: with the bits these stay within two variables a value. `one_of` takes any literals.
+//! literal: with the bits these stay within two variables a value.
+//!
+//! `one_of` takes any literals. It joins them in pairs, as a balanced tree does, so that what one of
+//! them says of another passes over few variables: a search that has many of them, as the rules of a
+//! step, derives its clauses in few steps.
 //!
 //! What each of them adds is a part of a formula (`specs/Number`, `specs/AtMost`, `specs/Named`,
 //! `specs/OneOf`), a function of the number of variables before and of the call's arguments alone,

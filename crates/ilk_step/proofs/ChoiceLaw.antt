@@ -4,13 +4,13 @@ use Rattle.std.specs.List.{range_with_len}
 use Rattle.std.proofs.lemmas.List.{append-nil, map-append}
 use Rattle.std.proofs.lemmas.Bool.{and_from, or_from, le-leb, lt-ltb, eq-eqb, eqb-true, ne_eqb, cases_eq, false≢true}
 use Rattle.ilk_base.proofs.Ranges.{range-suc}
-use Rattle.ilk_cnf.specs.Literal.{Literal, minus, has_var}
+use Rattle.ilk_cnf.specs.Literal.{minus, has_var}
 use Rattle.ilk_cnf.specs.Formula.{clause_in, clauses_in}
 use Rattle.ilk_cnf.specs.Truth.{value, is_true}
 use Rattle.ilk_cnf.specs.Extends.{Extends, OnlyIf, Then}
 use Rattle.ilk_cnf.proofs.Parts.{value-new, in_turn, in_words}
 use Rattle.ilk_ints.specs.Named.{value_bits}
-use Rattle.ilk_ints.specs.OneOf.{one_of_part, one_of_bits, one_true, none_true}
+use Rattle.ilk_ints.specs.OneOf.{one_of_bits, one_true, none_true}
 use Rattle.ilk_ints.proofs.OneOfLaw.{one_of-law, one_of-low, part-in}
 use Rattle.ilk_ints.proofs.ValuesLaw.{length-value_bits}
 use Rattle.ilk_step.specs.Choice.{chosen_lits, choice_part, choice_bits, IsChoice, Chooses}

@@ -1,7 +1,8 @@
 //! One step of a system as clauses: from one copy of its values to the next, by exactly one rule.
 //!
 //! First stands the choice (`specs/Choice`): a variable for each rule, true where the rule is *not*
-//! chosen, and exactly one of them false. A search that tries false first so tries to choose a rule.
+//! chosen, and exactly one of them false, as the balanced tree of `one_of` says. A search that tries
+//! false first so tries to choose a rule.
 //! Then what each rule asks where it is chosen (`specs/Rules`): its guard of the one copy, its
 //! settings of the next. Then the frames (`specs/Frame`): a variable that no chosen rule sets keeps
 //! its value, in both directions and for each literal of its values and bounds, so that a search
