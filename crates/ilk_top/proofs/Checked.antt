@@ -7,6 +7,11 @@ use Rattle.ilk_top.specs.Answer.{or_refused, refusals_of}
 use Rattle.ilk_top.specs.Stages.{columns_broken, or_later}
 use Rattle.ilk_top.specs.declared.refusals.Refusals.{Refusals}
 
+-- a stage that refuses nothing has found nothing
+pub none-broken : (broken : List Broken) → refusals_of broken ≡ None → broken ≡ []
+none-broken [] none = refl
+none-broken (first ∷ rest) none = absurd (cc)
+
 -- a stage that refuses nothing leaves what the later ones find
 later-found : (broken later : List Broken) → refusals_of broken ≡ None → or_later broken later ≡ later
 later-found [] later none = refl

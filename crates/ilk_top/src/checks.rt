@@ -1,15 +1,16 @@
 ghost use Rattle.std.specs.Prelude.{◌≡◌, [], IfOk};
 ghost use Rattle.ilk_plant.specs.Draft.{numbered};
 ghost use Rattle.ilk_plant.specs.Limits.{HasLimits};
+ghost use Rattle.ilk_plant.specs.NetNames.{IsNamedAs};
 ghost use Rattle.ilk_plant.specs.NetworkRules.{network_rules_broken};
 ghost use Rattle.ilk_plant.specs.TableRules.{table_rules_broken};
 ghost use Rattle.ilk_top.specs.Answer.{or_refused, refusals_of};
 ghost use Rattle.ilk_top.specs.Stages.{columns_broken, or_later, rules_broken};
 
 use crate::Refusals;
-use ilk_net_check::check_network;
-use ilk_plant::{Broken, NetDraft, Plant, Row, TableDraft};
-use ilk_table_check::{check_columns, check_table};
+use ilk_net_check::check_named_network;
+use ilk_plant::{Broken, NetDraft, NetNames, Numbered, Plant, Row, TableDraft};
+use ilk_table_check::{check_columns, check_numbered_table};
 use ilk_words::Columns;
 use std::alloc::{AllocError, Global};
 
@@ -37,22 +38,26 @@ fn check_plant(
     }
 }
 
-// Asks the rules of the table, and then those of the columns.
+// Asks the rules of the table, and then those of the columns. The drafts are numbered once, by the
+// names that the rules of the network were asked with, and the plant is what was numbered.
 fn check_routes(
     alloc: Global,
     columns: Columns,
+    names: NetNames,
     net: &NetDraft,
     table: &TableDraft,
 ) -> Result<Result<Plant, Refusals>, AllocError>
     requires limits { HasLimits net.now table.now }
+    requires named { IsNamedAs names net.now }
     requires network { network_rules_broken net.now ≡ [] }
     ensures { IfOk result (λ found. found ≡ or_refused
         (refusals_of (or_later (table_rules_broken net.now table.now) (columns_broken columns (numbered net.now table.now))))
         (numbered net.now table.now)) }
 {
-    match Refusals::of_rules(check_table(alloc, net, table)?) {
+    let drafts = Numbered::of_named(alloc, names, net, table)?;
+    match Refusals::of_rules(check_numbered_table(alloc, &drafts)?) {
         Some(refusals) => Ok(Err(refusals)),
-        None => check_plant(alloc, columns, Plant::make(alloc, net, table)?),
+        None => check_plant(alloc, columns, Plant::of_numbered(alloc, drafts)?),
     }
 }
 
@@ -68,8 +73,9 @@ pub fn check_drafts(
     requires { HasLimits net.now table.now }
     ensures { IfOk result (λ found. found ≡ or_refused (refusals_of (rules_broken columns net.now table.now)) (numbered net.now table.now)) }
 {
-    match Refusals::of_rules(check_network(alloc, net)?) {
+    let names = NetNames::of(alloc, net)?;
+    match Refusals::of_rules(check_named_network(alloc, net, &names)?) {
         Some(refusals) => Ok(Err(refusals)),
-        None => check_routes(alloc, columns, net, table),
+        None => check_routes(alloc, columns, names, net, table),
     }
 }
