@@ -14,8 +14,6 @@ mod kinds;
 mod neighbours;
 mod reach;
 mod rules;
-#[cfg(test)]
-mod tests;
 mod walks;
 
 pub use rules::{check_named_network, check_network};

@@ -24,6 +24,3 @@ pub use name::{is_name, is_name_if_given, lies_within};
 pub use network::read_network;
 pub use text::read_value;
 pub use version::Version;
-
-#[cfg(test)]
-mod tests;

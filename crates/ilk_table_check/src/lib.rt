@@ -7,8 +7,6 @@ mod columns;
 mod flags;
 mod listed;
 mod table;
-#[cfg(test)]
-mod tests;
 mod ways;
 
 pub use columns::check_columns;

@@ -12,6 +12,3 @@ mod table;
 pub use drafts::read_drafts;
 pub use examples::{bare_line_is_read, boarded_line_is_read, first_faults};
 pub use table::read_table;
-
-#[cfg(test)]
-mod tests;

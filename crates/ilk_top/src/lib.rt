@@ -36,6 +36,3 @@ pub use refusal::Refusal;
 pub use refusals::Refusals;
 pub use reply::Reply;
 pub use status::Status;
-
-#[cfg(test)]
-mod tests;

@@ -19,6 +19,3 @@ pub use limits::{
     DEFAULT_DEPTH, DEFAULT_SEARCH_CONFLICTS, MAX_DEPTH, MAX_NUMBER, MAX_SEARCH_CONFLICTS,
 };
 pub use read::read_words;
-
-#[cfg(test)]
-mod tests;

@@ -1,5 +1,6 @@
-use super::*;
+//! The drafts of a configuration, or its first fault of form.
 use ilk_net_read::{Form, FormError, FormFault, Place};
+use ilk_table_read::read_drafts;
 use std::test::*;
 
 const BARE: &str = r#"{"version":1,

@@ -1,6 +1,6 @@
-//! What no clause says: that the calls succeed where memory is there.
-use crate::{Command, names_of, read_words};
+//! What the words of a command line mean, as `clap` documents it.
 use ilk_base::Text;
+use ilk_words::{Command, names_of, read_words};
 use std::alloc::{AllocError, Global};
 use std::test::Fail;
 

@@ -1,10 +1,11 @@
-//! What no clause says: that the answers come where memory is there, and the status of each fault.
+//! The program over sources and sinks that fail: the answers come where memory is there, and each
+//! fault has its status.
 ghost use Rattle.std.specs.Prelude.{◌≡◌, ◌<◌, ◌≤◌, Some, IfOk, OnErr, OnOk, length, take};
 ghost use Rattle.ilk_io.specs.Faults.{RoseByOne};
 ghost use Rattle.ilk_io.specs.Sink.{Adds};
 
-use crate::{Status, run};
 use ilk_io::{Failed, MemSink, MemSource, Sink, SteadySink};
+use ilk_top::{Status, run};
 use std::alloc::{AllocError, Global};
 use std::test::Fail;
 

@@ -1,4 +1,5 @@
-use crate::check_network;
+//! The rules of small networks: the check succeeds where memory is there.
+use ilk_net_check::check_network;
 use ilk_plant::{Broken, KindDraft, MAX_SECTIONS, NetDraft, Row, Rule, SectionDraft, Text};
 use std::alloc::{AllocError, Global};
 use std::test::Fail;

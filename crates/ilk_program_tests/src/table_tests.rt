@@ -1,13 +1,13 @@
-//! What no clause says: that the check of a table succeeds where memory is there.
+//! The rules of small tables: the check succeeds where memory is there.
 ghost use Rattle.std.specs.Prelude.{◌≡◌, ◌∷◌, [], IfOk, length, true};
 ghost use Rattle.std.specs.List.{list_all};
 ghost use Rattle.ilk_plant.specs.Limits.{route_has_limits, route_has_names, section_has_names};
 ghost use Rattle.ilk_plant.specs.Name.{is_name, is_name_if_given};
 
-use crate::check_table;
 use ilk_plant::{
     Broken, KindDraft, NetDraft, RouteDraft, Row, Rule, SectionDraft, TableDraft, Text,
 };
+use ilk_table_check::check_table;
 use std::alloc::{AllocError, Global};
 use std::test::Fail;
 

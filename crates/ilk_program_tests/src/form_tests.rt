@@ -1,4 +1,5 @@
-use super::*;
+//! The form of a network, and how its faults are shown.
+use ilk_net_read::{Form, FormFault, Place, read_network, read_value};
 use ilk_plant::KindDraft;
 use std::test::*;
 

@@ -1,0 +1,20 @@
+//! Tests of the program and of what it reads with, in a crate of their own: a crate with tests is
+//! proved twice. They say what no clause can: that an answer comes where memory is there.
+//!
+//! `words_tests` reads command lines; `form_tests` and `draft_tests` read configurations;
+//! `network_tests` and `table_tests` ask the rules of small drafts; `run_tests` runs the program over
+//! sources and sinks that fail.
+#![tactic(auto)]
+
+#[cfg(test)]
+mod draft_tests;
+#[cfg(test)]
+mod form_tests;
+#[cfg(test)]
+mod network_tests;
+#[cfg(test)]
+mod run_tests;
+#[cfg(test)]
+mod table_tests;
+#[cfg(test)]
+mod words_tests;
