@@ -1,5 +1,5 @@
 -- What the calls that only read may rely on.
-use Rattle.std.proofs.Common.{◌≡◌, ◌≢◌, ℕ, suc, ◌+◌, ◌*◌, ◌<◌, ◌≤◌, inl, inr, Bool, true, false, ◌&&◌, not, ltb, leb, ◌==◌, List, [], ◌∷◌, ◌++◌, length, get_or, take, drop, map, refl, sym, ap, ◌∙◌, subst, arith, Some}
+use Rattle.std.proofs.Common.{◌≡◌, ◌≢◌, ℕ, suc, ◌+◌, ◌*◌, ◌<◌, ◌≤◌, inl, inr, Bool, true, false, ◌&&◌, not, ltb, leb, ◌==◌, List, [], ◌∷◌, length, get_or, map, refl, sym, ap, ◌∙◌, subst, arith, Some}
 use Rattle.std.specs.List.{slice_get, position_or_len}
 use Rattle.std.proofs.lemmas.Bool.Decides.{eqb_tells}
 use Rattle.std.proofs.lemmas.Bool.{cases_Bool, and_parts, and_from, leb-true, not-true, not_from_false}
@@ -12,7 +12,6 @@ use Rattle.ilk_arena.specs.Linked.{lit_at, places_at, chain_at, references_in, l
 use Rattle.ilk_base.proofs.Lists.{find-only}
 use Rattle.ilk_arena.proofs.Blocks.{few-clauses}
 use Rattle.ilk_arena.proofs.Seen.{stands-from, lit-at-place, place-within, chain-seen, clause-seen, cursor-seen, references-seen, vars-seen, first-is, after-is}
-use Rattle.std.proofs.lemmas.Grind.{common_steps}
 use Rattle.ilk_arena.proofs.Law.{place-of-lit, InChain, chain-has, clause-length, watch-gets, lit-of}
 use Rattle.ilk_arena.proofs.Relinking.{long-of}
 use Rattle.ilk_cnf.proofs.SameLiterals.{same-lit, lit-is}
@@ -178,7 +177,3 @@ spare-change vars spare more ws hs a e = ap (λ (x : ArenaLists). record x { spa
 -- the number of clauses fits a word
 pub count-fits : (vars count : ℕ) (ws hs : List ℕ) → HoldsArena ws hs vars count → count < length ws
 count-fits vars count ws hs h = omega (arith, h.counted, few-clauses ws (references_in ws) h.laid.blocks)
-
--- what was written over all items
-pub written : {X : Type 0} (n : ℕ) (xs ys : List X) → length xs ≡ n → take n (xs ++ drop (length xs) ys) ≡ xs
-written n xs ys e = grind (arith, common_steps)

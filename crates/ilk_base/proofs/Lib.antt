@@ -12,3 +12,4 @@ pub mod Once
 pub mod Results
 pub mod ListTests
 pub mod Numbered
+pub mod Bits

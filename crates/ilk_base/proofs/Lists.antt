@@ -1,7 +1,8 @@
 -- Items of lists: at an index, after a write, and of lists joined.
 use Rattle.std.proofs.Common.{Bool, true, add-one, ◌≡◌, ℕ, List, [], ◌∷◌, ◌++◌, ◌+◌, length, arith, slice_get, set, Some, refl, ap, zero, suc, inl, inr, ◌⊎◌, sym, ◌∙◌, map, ◌<◌, Option, take, get_or, replicate, drop, drop-cons}
-use Rattle.std.proofs.lemmas.List.{get_or-replicate, length-replicate, set-get_or}
+use Rattle.std.proofs.lemmas.List.{get_or-replicate, length-replicate, set-get_or, drop_more}
 use Rattle.std.proofs.lemmas.Option.{get_or_from_slice_get, slice_get_within, same_Some}
+use Rattle.std.proofs.Math.Seq.{take-append_seam}
 use Rattle.std.specs.List.{last_or, find}
 use Rattle.std.proofs.lemmas.Bool.{cases_Bool}
 
@@ -149,3 +150,41 @@ slice_get-push_cases (a ∷ xs) y x (suc i) h =
 pub drop-mapped : {A B : Type 0} (f : A → B) (xs : List A) (rest : List B) → drop (length xs) (map f xs ++ rest) ≡ rest
 drop-mapped f [] rest = refl
 drop-mapped f (x ∷ xs) rest = drop-mapped f xs rest
+
+-- a list that was written over all of another, up to its length
+pub all-written : {X : Type 0} (n : ℕ) (xs ys : List X) → length xs ≡ n → take n (xs ++ drop (length xs) ys) ≡ xs
+all-written n xs ys e = ap (λ k. take k (xs ++ drop (length xs) ys)) (sym e) ∙ take-append_seam xs (drop (length xs) ys)
+
+-- the rest of a list at an item begins with it
+pub drop_from : {X : Type 0} (xs : List X) (i : ℕ) (x : X) → slice_get xs i ≡ Some x → drop i xs ≡ x ∷ drop (i + 1) xs
+drop_from xs i x h = drop_more xs i x (slice_get_within xs i x h) ∙ ap (λ (y : _). y ∷ drop (i + 1) xs) (get_or_from_slice_get xs i x x h)
+
+-- what stands in the first items of a list, and in the rest
+pub get-taken : {X : Type 0} (xs : List X) (m i : ℕ) → i < m → slice_get (take m xs) i ≡ slice_get xs i
+get-taken xs zero i h = absurd (omega arith)
+get-taken [] (suc m) i h = refl
+get-taken (x ∷ xs) (suc m) zero h = refl
+get-taken (x ∷ xs) (suc m) (suc i) h = get-taken xs m i (omega arith)
+
+pub get-dropped : {X : Type 0} (xs : List X) (m i : ℕ) → slice_get (drop m xs) i ≡ slice_get xs (m + i)
+get-dropped xs zero i = let e : i ≡ 0 + i = omega arith in ap (slice_get xs) e
+get-dropped [] (suc m) i = let e : suc m + i ≡ suc (m + i) = omega arith in sym (ap (slice_get []) e)
+get-dropped (x ∷ xs) (suc m) i =
+    let e : suc m + i ≡ suc (m + i) = omega arith in
+    get-dropped xs m i ∙ sym (ap (slice_get (x ∷ xs)) e)
+
+-- what stands in the first n items stands before place n of the list
+pub taken-before : {X : Type 0} (n : ℕ) (xs : List X) (k : ℕ) (x : X) → slice_get (take n xs) k ≡ Some x → (k < n) × (slice_get xs k ≡ Some x)
+taken-before zero [] k x at = cc
+taken-before zero (y ∷ xs) k x at = cc
+taken-before (suc n) [] k x at = cc
+taken-before (suc n) (y ∷ xs) zero x at = (omega arith, at)
+taken-before (suc n) (y ∷ xs) (suc k) x at =
+    let rest = taken-before n xs k x at in
+    let less = rest.0 in
+    (omega (arith, less), rest.1)
+
+-- a list with an item before it has a last one
+pub last-some : {X : Type 0} (x : X) (xs : List X) → (y : X) × (last_or (Some x) xs ≡ Some y)
+last-some x [] = (x, refl)
+last-some x (z ∷ xs) = last-some z xs

@@ -2,9 +2,8 @@
 use Rattle.std.proofs.Common.{◌≡◌, ℕ, zero, suc, Bool, true, false, not, Some, List, [], ◌∷◌, slice_get, refl, ap}
 use Rattle.std.specs.Cmp.Derive.{both_true}
 use Rattle.std.specs.List.{list_any}
-use Rattle.std.proofs.lemmas.Bool.{and_parts}
+use Rattle.std.proofs.lemmas.Bool.{and_parts, false_from_ne_true}
 use Rattle.ilk_base.proofs.Tested.{list_any-at, list_any-from}
-use Rattle.ilk_base.proofs.Truth.{not-true}
 use Rattle.ilk_base.specs.Once.{each_once}
 
 -- each item stands at one place alone
@@ -32,7 +31,7 @@ each_once-places same own (x ∷ xs) h (suc i) (suc j) v at also =
 pub each_once-from_places : {A : Type 0} (same : A → A → Bool) → ((x y : A) → same x y ≡ true → x ≡ y) → (xs : List A) → EachOnce xs → each_once same xs ≡ true
 each_once-from_places same equal [] once = refl
 each_once-from_places {A = A} same equal (x ∷ xs) once =
-    let none : list_any (same x) xs ≡ false = not-true (list_any (same x) xs) (λ twice.
+    let none : list_any (same x) xs ≡ false = false_from_ne_true (list_any (same x) xs) (λ twice.
     let found : (k : ℕ) × (y : A) × (slice_get xs k ≡ Some y) × (same x y ≡ true) = list_any-at (same x) xs twice in
     let one : x ≡ found.1 = equal x found.1 found.3 in
     let places : zero ≡ suc found.0 = once zero (suc found.0) found.1 (ap Some one) found.2 in

@@ -3,6 +3,7 @@ use Rattle.ilk_base.specs.Option.{is_some_and}
 use Rattle.std.proofs.Common.{◌≡◌, Option, Some, None, IfSome, refl, Bool, true, false, is_some, option_map}
 use Rattle.std.specs.Option.{option_and_then, option_or}
 use Rattle.std.proofs.lemmas.Option.{same_Some}
+use Rattle.std.proofs.lemmas.Bool.{false≢true}
 
 -- what holds of the value, if there is one
 pub IfSome-from : {A : Type 0} (o : Option A) (P : A → Type 0) → ((y : A) → o ≡ Some y → P y) → IfSome o P
@@ -32,6 +33,11 @@ none-of (Some x) e = cc
 pub or_cases : {A : Type 0} (P : Type 0) (a b : Option A) (x : A) → option_or a b ≡ Some x → (a ≡ Some x → P) → (b ≡ Some x → P) → P
 or_cases P None b x e left right = right e
 or_cases P (Some y) b x e left right = left e
+
+-- what is some is a value
+pub some-is : {A : Type 0} (o : Option A) → is_some o ≡ true → (x : A) × (o ≡ Some x)
+some-is None e = absurd (false≢true e)
+some-is (Some x) e = (x, refl)
 
 pub option_or-none : {A : Type 0} (o : Option A) → option_or o None ≡ o
 option_or-none None = refl

@@ -134,3 +134,7 @@ find-least test a (suc n) k above below passes least =
       | inr later ↦ (let no : test a ≡ false = least a (omega arith) later in
           rw no (find-least test (a + 1) n k (omega arith) (omega arith) passes (λ j after before. least j (omega arith) before)))
     ]
+
+-- a number that is tested to be below a bound
+pub below : (v n : ℕ) → nat_lt v n ≡ true → v < n
+below v n h = grind (arith, nat_tests)

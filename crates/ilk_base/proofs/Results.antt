@@ -1,6 +1,6 @@
 -- What is known of a result, and of steps one after another.
-use Rattle.std.proofs.Common.{◌≡◌, List, [], ◌∷◌, ◌++◌, Result, Ok, Err, refl, ap, sym, append_assoc}
-use Rattle.ilk_base.specs.Result.{◌>>=◌}
+use Rattle.std.proofs.Common.{◌≡◌, ℕ, ◌+◌, List, [], ◌∷◌, ◌++◌, Result, Ok, Err, refl, ap, sym, append_assoc}
+use Rattle.ilk_base.specs.Result.{◌>>=◌, in_order}
 
 pub ok_is : {A E : Type 0} {x y : A} → ◌≡◌ {A = Result A E} (Ok x) (Ok y) → x ≡ y
 ok_is e = cc
@@ -29,3 +29,7 @@ with_front front (Err fault) = Err fault
 pub with_front-step : {A E : Type 0} (front : List A) (x : A) (r : Result (List A) E) → with_front front (r >>= λ rest. Ok (x ∷ rest)) ≡ with_front (front ++ x ∷ []) r
 with_front-step front x (Ok rest) = ap Ok (sym (append_assoc front (x ∷ []) rest))
 with_front-step front x (Err fault) = refl
+
+-- what the next item gives joins the front
+pub in_order-more : {X A E : Type 0} (one : ℕ → X → Result A E) (front : List A) (xs rest : List X) (i : ℕ) (x : X) (y : A) → xs ≡ x ∷ rest → one i x ≡ Ok y → with_front front (in_order one i xs) ≡ with_front (front ++ y ∷ []) (in_order one (i + 1) rest)
+in_order-more one front xs rest i x y split e = rw split (rw e (with_front-step front y (in_order one (i + 1) rest)))

@@ -1,12 +1,11 @@
 -- Tests of the items of a list: some pass, all pass, how many pass.
 use Rattle.std.proofs.Common.{◌≡◌, ℕ, zero, suc, Bool, true, false, Some, List, [], ◌∷◌, ◌++◌, map, slice_get, refl, ◌<◌, not, All, length, arith, ◌+◌, ◌||◌, cond, count_by, sym, ◌∙◌, ap, take, find, ◌≤◌, inl, inr}
-use Rattle.std.proofs.lemmas.Bool.{and_parts, cases_Bool}
+use Rattle.std.proofs.lemmas.Bool.{and_parts, cases_Bool, false≢true, false_from_ne_true}
 use Rattle.std.proofs.lemmas.List.Elements.{All-nil, All-cons, recursion_from_All}
 use Rattle.std.proofs.lemmas.List.Folds.{list_all-append, list_any_at}
 use Rattle.std.proofs.lemmas.List.Sums.{count_by_more_yes, sum_by-take-le, sum_by-cons}
 use Rattle.std.proofs.lemmas.Option.{slice_get_within, get_or_from_slice_get, same_Some}
 use Rattle.std.specs.List.{AllByRecursion, list_all, list_any, filter, prefix_len}
-use Rattle.ilk_base.proofs.Truth.{not-true}
 
 -- where some item passes, one does at an index
 pub list_any-at : {X : Type 0} (p : X → Bool) (xs : List X) → list_any p xs ≡ true → (k : ℕ) × (x : X) × (slice_get xs k ≡ Some x) × (p x ≡ true)
@@ -28,7 +27,7 @@ list_any-from p xs k x at h =
 -- where no item passes, that at an index doesn't
 pub list_any-none : {X : Type 0} (p : X → Bool) (xs : List X) (k : ℕ) (x : X) → list_any p xs ≡ false → slice_get xs k ≡ Some x → p x ≡ false
 list_any-none p xs k x h at =
-    not-true (p x) (λ e. let passes : list_any p xs ≡ true = list_any-from p xs k x at e in cc)
+    false_from_ne_true (p x) (λ e. let passes : list_any p xs ≡ true = list_any-from p xs k x at e in cc)
 
 -- where nothing is left of a list, no item passed
 pub filter-none : {X : Type 0} (p : X → Bool) (xs : List X) (k : ℕ) (x : X) → filter p xs ≡ [] → slice_get xs k ≡ Some x → p x ≡ false
@@ -167,3 +166,8 @@ find-at {X} p (z ∷ xs) x e =
       | inl here ↦ (let same : Some z ≡ Some x = rw here at e in (zero, same, ap p (sym (same_Some z x same)) ∙ here))
       | inr later ↦ (let rest : find p xs ≡ Some x = rw later at e in let found = find-at p xs x rest in (suc found.0, found.1, found.2))
     ]
+
+-- where each item fails, none passes
+pub none-pass : {X : Type 0} (f : X → Bool) (xs : List X) → ((i : ℕ) (x : X) → slice_get xs i ≡ Some x → f x ≡ false) → list_any f xs ≡ false
+none-pass {X} f xs each =
+    false_from_ne_true (list_any f xs) (λ h. (let found : (k : ℕ) × (x : X) × (slice_get xs k ≡ Some x) × (f x ≡ true) = list_any-at f xs h in false≢true (sym (each found.0 found.1 found.2) ∙ found.3)))

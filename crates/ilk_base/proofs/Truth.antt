@@ -1,23 +1,26 @@
 -- Tests joined by and, or and not.
-use Rattle.std.proofs.Common.{◌≡◌, Bool, true, false, refl, ◌&&◌, ◌||◌, ◌⊎◌, inl, inr}
+use Rattle.std.proofs.Common.{◌≡◌, Bool, true, false, refl, ◌&&◌, ◌||◌, ◌⊎◌, inl, inr, sym, not}
 
 -- one of two tests passes
 pub either : (a b : Bool) → (a || b) ≡ true → (a ≡ true) ⊎ (b ≡ true)
 either true b h = inl refl
 either false b h = inr h
 
-pub left : (a b : Bool) → a ≡ true → (a || b) ≡ true
-left a b h = rw h refl
-
 pub right : (a b c : Bool) → b ≡ true → c ≡ true → (a || (b && c)) ≡ true
 right true b c h e = refl
 right false b c h e = rw (h, e) refl
 
--- a test that can't pass fails
-pub not-true : (b : Bool) → (b ≡ true → ⊥) → b ≡ false
-not-true true f = absurd (f refl)
-not-true false f = refl
-
 pub or-true : (b : Bool) → (b || true) ≡ true
 or-true true = refl
 or-true false = refl
+
+-- two tests that pass together are one
+pub same_truth : (a b : Bool) → (a ≡ true → b ≡ true) → (b ≡ true → a ≡ true) → a ≡ b
+same_truth true b there back = sym (there refl)
+same_truth false true there back = back refl
+same_truth false false there back = refl
+
+-- a test whose denial passes fails
+pub fails : (b : Bool) → not b ≡ true → b ≡ false
+fails true e = cc
+fails false e = refl

@@ -10,7 +10,6 @@ use Rattle.ilk_base.proofs.Ranges.{below_or_past}
 use Rattle.ilk_base.proofs.Tested.{list_any-at, list_any-from}
 use Rattle.ilk_ir.specs.System.{RuleTree, fired, set_all}
 use Rattle.ilk_ir.specs.Tree.{tree_holds}
-use Rattle.ilk_plant.specs.Network.{inward}
 use Rattle.ilk_plant.specs.Plant.{IsPlant, PlantLists, border, next_to, point_number}
 use Rattle.ilk_plant.specs.Sound.{NeverReturns}
 use Rattle.ilk_plant.specs.declared.network.Dir.{Dir}
@@ -37,6 +36,7 @@ use Rattle.ilk_behave.proofs.PointSteps.{settle-steps, throw-steps}
 use Rattle.ilk_behave.proofs.ReleaseSteps.{finish-steps, release-steps}
 use Rattle.ilk_behave.proofs.RouteSteps.{cancel-steps, mark-steps, sense-steps}
 use Rattle.ilk_behave.proofs.TailSteps.{tail-steps}
+use Rattle.ilk_motion.proofs.Shape.{border-known}
 
 event-steps : (p : PlantLists) → IsPlant p → NeverReturns p → (event : Event) → AlwaysStepAs p event
 event-steps p plant never (Mark r) s shape calm = mark-steps p plant s shape calm r
@@ -60,9 +60,6 @@ thing-of (Some a) rules j rule at = (a, refl)
 
 point-known : (p : PlantLists) (x n : ℕ) → point_number p x ≡ Some n → x < length p.sections
 point-known p x n e = let section = numbered-section p x n e in slice_get_within p.sections x section.0 section.1
-
-border-known : (p : PlantLists) (x : ℕ) (d : Dir) → border p x ≡ Some d → x < length p.sections
-border-known p x d e = let section = bind_some (slice_get p.sections x) inward d e in slice_get_within p.sections x section.0 section.1
 
 towards-known : (p : PlantLists) → IsPlant p → (x : ℕ) (rules : Dir → ℕ → List RuleTree) (j : ℕ) (rule : RuleTree) → slice_get (flat_map (λ d. flat_map (rules d) (next_to p x d)) (Up ∷ Down ∷ [])) j ≡ Some rule → x < length p.sections
 towards-known p plant x rules j rule at =

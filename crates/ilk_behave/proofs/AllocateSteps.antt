@@ -2,6 +2,7 @@
 use Rattle.std.proofs.Common.{◌≡◌, ℕ, ◌<◌, Bool, true, false, not, ◌&&◌, ◌||◌, Option, Some, None, List, [], ◌∷◌, ◌++◌, length, map, set, slice_get, refl, sym, ◌∙◌, ap, arith}
 use Rattle.std.specs.List.{flat_map, list_all, list_any, range_with_len}
 use Rattle.std.proofs.lemmas.List.Folds.{list_all-append, list_all-map}
+use Rattle.std.proofs.Math.Bool.{and-true}
 use Rattle.ilk_base.specs.Option.{is_some_and}
 use Rattle.ilk_base.proofs.Lists.{item_at}
 use Rattle.ilk_base.proofs.Ranges.{passing_within}
@@ -38,7 +39,7 @@ use Rattle.ilk_behave.specs.Guards.{clear_at, unclaimed}
 use Rattle.ilk_behave.specs.RouteRules.{protectors, rules_of_allocate, rules_of_lock}
 use Rattle.ilk_behave.specs.Settings.{board_becomes, commanded, locks_become, mode_becomes, rule}
 use Rattle.ilk_behave.specs.Steps.{StepAs}
-use Rattle.ilk_behave.proofs.RouteSteps.{and-end, locked-known, state-of}
+use Rattle.ilk_behave.proofs.RouteSteps.{locked-known, state-of}
 use Rattle.ilk_base.proofs.ListTests.{all-at, filtered-none, list_all-alike, list_all-flat_map, list_all-not}
 use Rattle.ilk_behave.proofs.Tools.{no_rules, rule_step}
 use Rattle.ilk_conditions.proofs.Values.{at-holds, board-holds, has_mode-holds, lies-test, lock-holds, mode-holds, vacant-holds}
@@ -71,7 +72,7 @@ module _ (p : PlantLists) (plant : IsPlant p) (s : State) (shape : HasShape p s)
   cleared x within =
       let lock = lock-holds p s shape x FreeLock within in
       let vacant = vacant-holds p s shape calm x within in
-      rw (lock, vacant) (ap (λ b. has_lock s x FreeLock && b) (and-end (not (is_occupied s x))))
+      rw (lock, vacant) (ap (λ b. has_lock s x FreeLock && b) (and-true (not (is_occupied s x))))
 
   allocate-guard : (r : ℕ) (route : Route) (now : RouteState) → slice_get p.routes r ≡ Some route → slice_get s.routes r ≡ Some now → list_all (tree_holds (image_of p s)) (mode_is r Marked ∷ flat_map unclaimed route.conflicts ++ flat_map (clear_at p) (sections_locked_for route)) ≡ (same_mode now.mode Marked && can_claim s route)
   allocate-guard r route now known here =

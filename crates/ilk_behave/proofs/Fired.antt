@@ -1,12 +1,12 @@
 -- Rules of which each that can be fired tells the state that follows; and rules for the neighbours of a section.
-use Rattle.std.proofs.Common.{◌≡◌, ℕ, zero, suc, ◌<◌, ◌==◌, Bool, true, position, Option, Some, None, List, [], ◌∷◌, ◌++◌, length, slice_get, inl, inr, ◌⊎◌, refl, sym, ◌∙◌, ap, is_some}
+use Rattle.std.proofs.Common.{◌≡◌, ℕ, zero, suc, ◌<◌, ◌==◌, Bool, true, position, Option, Some, None, List, [], ◌∷◌, length, slice_get, inl, inr, refl, sym, ◌∙◌, ap, is_some}
 use Rattle.std.specs.List.{flat_map, list_any}
-use Rattle.std.proofs.lemmas.Bool.{eq-eqb, eqb-true, false≢true, or_left, or_right}
+use Rattle.std.proofs.lemmas.Bool.{eq-eqb, eqb-true, false≢true, or_left, or_right, false_from_ne_true}
 use Rattle.std.proofs.lemmas.List.Folds.{list_any-append}
 use Rattle.std.proofs.lemmas.Option.{none-some, same_Some}
+use Rattle.ilk_base.proofs.Lists.{at-either}
 use Rattle.ilk_base.proofs.Positions.{is_some-position, position-at}
-use Rattle.ilk_base.proofs.Tested.{list_any-from}
-use Rattle.ilk_base.proofs.Truth.{not-true}
+use Rattle.ilk_base.proofs.Tested.{list_any-from, none-pass}
 use Rattle.ilk_ir.specs.System.{RuleTree, set_all}
 use Rattle.ilk_ir.specs.Tree.{tree_holds}
 use Rattle.ilk_plant.specs.Network.{has_section}
@@ -28,7 +28,6 @@ use Rattle.ilk_conditions.specs.Conditions.{occupancy_is}
 use Rattle.ilk_conditions.proofs.Values.{occupancy-holds}
 use Rattle.ilk_behave.specs.Steps.{StepAs, can_fire}
 use Rattle.ilk_behave.proofs.EnterSteps.{position-some}
-use Rattle.ilk_behave.proofs.Moved.{none-passes}
 
 -- what the rule sets gives the image of the state that follows
 pub record Tells (p : PlantLists) (s : State) (following : Option State) (rule : RuleTree) : Type 0 where
@@ -46,24 +45,14 @@ told_step p s following rules told some =
   where
     by_following : (o : Option State) → following ≡ o → list_any (can_fire p s) rules ≡ is_some following
     by_following None e =
-        none-passes (can_fire p s) rules (λ i rule at. not-true (can_fire p s rule) (λ h. (let f = told i rule at h in none-some f.state (sym e ∙ f.follows)))) ∙ ap is_some (sym e)
+        none-pass (can_fire p s) rules (λ i rule at. false_from_ne_true (can_fire p s rule) (λ h. (let f = told i rule at h in none-some f.state (sym e ∙ f.follows)))) ∙ ap is_some (sym e)
     by_following (Some t) e = some t e ∙ ap is_some (sym e)
-
--- what stands in two lists together stands in one of them
-in-either : {X : Type 0} (xs ys : List X) (i : ℕ) (x : X) → slice_get (xs ++ ys) i ≡ Some x → ((j : ℕ) × (slice_get xs j ≡ Some x)) ⊎ ((j : ℕ) × (slice_get ys j ≡ Some x))
-in-either [] ys i x at = inr (i, at)
-in-either (z ∷ xs) ys zero x at = inl (zero, at)
-in-either (z ∷ xs) ys (suc i) x at =
-    elim (in-either xs ys i x at) [
-      | inl h ↦ inl (suc h.0, h.1)
-      | inr h ↦ inr h
-    ]
 
 -- what stands in the lists of all items stands in that of one
 pub in-one : {X Y : Type 0} (f : X → List Y) (xs : List X) (i : ℕ) (y : Y) → slice_get (flat_map f xs) i ≡ Some y → (k : ℕ) × (x : X) × (j : ℕ) × (slice_get xs k ≡ Some x) × (slice_get (f x) j ≡ Some y)
 in-one f [] i y at = cc
 in-one f (x ∷ xs) i y at =
-    elim (in-either (f x) (flat_map f xs) i y at) [
+    elim (at-either (f x) (flat_map f xs) i y at) [
       | inl h ↦ (zero, x, h.0, refl, h.1)
       | inr h ↦ (let later = in-one f xs h.0 y h.1 in (suc later.0, later.1, later.2, later.3, later.4))
     ]

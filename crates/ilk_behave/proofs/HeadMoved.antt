@@ -2,7 +2,7 @@
 use Rattle.std.proofs.Common.{◌≡◌, ℕ, zero, suc, ◌+◌, ◌<◌, ◌==◌, Bool, true, false, ◌||◌, count_by, map, position, set, Option, Some, None, List, [], ◌∷◌, ◌++◌, length, length-append, slice_get, inl, inr, ◌⊎◌, refl, sym, ◌∙◌, ap, arith}
 use Rattle.std.specs.List.{list_all}
 use Rattle.std.specs.Option.{option_to_list}
-use Rattle.std.proofs.lemmas.Bool.{cases_Bool, cases_eq, eq-eqb, false≢true, ltb-false, ne_eqb, or_cases, or_from, or_left, or_parts, or_right}
+use Rattle.std.proofs.lemmas.Bool.{cases_Bool, cases_eq, eq-eqb, false≢true, ltb-false, ne_eqb, or_cases, or_from, or_left, or_parts, or_right, false_from_ne_true}
 use Rattle.std.proofs.lemmas.Bool.Decides.{nat_tests}
 use Rattle.std.proofs.lemmas.List.Folds.{list_any-append}
 use Rattle.std.proofs.lemmas.Option.{same_Some, slice_get_past, slice_get_within}
@@ -10,7 +10,6 @@ use Rattle.ilk_base.specs.Option.{◌>>=◌, is_some_and, only_if}
 use Rattle.ilk_base.proofs.Lists.{at-before, at-past, item_at, slice_get-set_other}
 use Rattle.ilk_base.proofs.Ranges.{below_or_past}
 use Rattle.ilk_base.proofs.Tested.{count-one, list_all-slice_get, list_any-at, list_any-none}
-use Rattle.ilk_base.proofs.Truth.{not-true}
 use Rattle.ilk_ir.specs.System.{set_all}
 use Rattle.ilk_plant.specs.Network.{has_section}
 use Rattle.ilk_plant.specs.Plant.{IsPlant, PlantLists, board_of}
@@ -145,7 +144,7 @@ module _ (p : PlantLists) (plant : IsPlant p) (never : NeverReturns p) (s : Stat
     -- y isn't in the train's own body
     not-own : has_section y t.body ≡ false
     not-own =
-        not-true (has_section y t.body) (λ h.
+        false_from_ne_true (has_section y t.body) (λ h.
         (let own = place-of t.body y h in
         let less = slice_get_within t.body own.0 y own.1 in
         let places : own.0 ≡ length t.body = once-more own.0 (length t.body) y (at-before t.body (y ∷ []) own.0 y own.1) place-y in
@@ -159,7 +158,7 @@ module _ (p : PlantLists) (plant : IsPlant p) (never : NeverReturns p) (s : Stat
     right-more z within not_y =
         elim (cases_Bool (has_section z t.body)) [
           | inl has ↦ (let there = place-of t.body z has in at-place there.0 there.1 (cases_eq z x))
-          | inr none ↦ not-true (is_wrong_under p s z (t.body ++ y ∷ [])) (λ h. false≢true (sym none ∙ had-before z y t.body not_y (wrong-has p s z (t.body ++ y ∷ []) h)))
+          | inr none ↦ false_from_ne_true (is_wrong_under p s z (t.body ++ y ∷ [])) (λ h. false≢true (sym none ∙ had-before z y t.body not_y (wrong-has p s z (t.body ++ y ∷ []) h)))
         ]
       where
         right : is_wrong_under p s z t.body ≡ false
@@ -252,7 +251,7 @@ module _ (p : PlantLists) (plant : IsPlant p) (never : NeverReturns p) (s : Stat
         right j v e =
             elim (now-there p plant never s shape calm i t (with_new_head y t) at head-moved j v e) [
               | inl own ↦ ap (λ (w : Train). is_wrong_under p s y w.body) (sym own.1) ∙ wrong-new ∙ parts.1
-              | inr other ↦ not-true (is_wrong_under p s y v.body) (λ wrong. false≢true (sym (none j v other.1) ∙ wrong-has p s y v.body wrong))
+              | inr other ↦ false_from_ne_true (is_wrong_under p s y v.body) (λ wrong. false≢true (sym (none j v other.1) ∙ wrong-has p s y v.body wrong))
             ]
 
         safe : is_hazardous p (with_trains s (set s.trains i (with_new_head y t))) y ≡ false

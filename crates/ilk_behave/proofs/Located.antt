@@ -9,7 +9,7 @@ use Rattle.ilk_base.proofs.Lists.{at-before, item_at}
 use Rattle.ilk_plant.specs.Plant.{PlantLists}
 use Rattle.ilk_model.specs.declared.event.Event.{Event}
 use Rattle.ilk_behave.specs.Behaviour.{event_of_rule, events_of, events_of_route, events_of_rules, events_of_section, rules_of, system_of}
-use Rattle.ilk_behave.proofs.PlantEvents.{Begins, events_of_routes, events_of_sections, routes-begin, routes-more, sections-begin, sections-more, sections-start}
+use Rattle.ilk_behave.proofs.PlantEvents.{Begins, events_before_route, events_before_section, routes-begin, routes-more, sections-begin, sections-more, sections-start}
 
 -- what stands past a first list
 pub past : {X : Type 0} (xs ys : List X) (i : ℕ) → slice_get (xs ++ ys) (length xs + i) ≡ slice_get ys i
@@ -95,7 +95,7 @@ past-all p events n i j all far =
     omega (arith, far, same)
 
 -- past all routes
-pub past-routes : (p : PlantLists) (n i j : ℕ) → n ≡ length p.routes → IsPast p (events_of_routes n) i j → IsPast p (events_of_sections p 0) i j
+pub past-routes : (p : PlantLists) (n i j : ℕ) → n ≡ length p.routes → IsPast p (events_before_route n) i j → IsPast p (events_before_section p 0) i j
 past-routes p n i j all far = far ∙ ap (λ es. length (events_of_rules p es) + j) (sections-start p n all)
 
 -- this is the event of rule i, and none is exactly where there is no such rule
@@ -109,19 +109,19 @@ event-found p first i event begins found =
     let same = as_many p (events_of p) in
     (sym here, (λ e. cc, λ beyond. absurd (omega (arith, within, same, beyond))))
 
-pub found-in-route : (p : PlantLists) (r i j : ℕ) (events : List Event) (event : Event) → r < length p.routes → events ≡ events_of_route r → IsPast p (events_of_routes r) i j → slice_get (events_of_rules p events) j ≡ Some event → IsEventOf p i (Some event)
+pub found-in-route : (p : PlantLists) (r i j : ℕ) (events : List Event) (event : Event) → r < length p.routes → events ≡ events_of_route r → IsPast p (events_before_route r) i j → slice_get (events_of_rules p events) j ≡ Some event → IsEventOf p i (Some event)
 found-in-route p r i j events event within is far found =
-    event-found p (events_of_routes (r + 1)) i event (routes-begin p (r + 1) (omega arith))
-    (found-next p (events_of_routes r) events (events_of_routes (r + 1)) i j event (routes-more r events is) far found)
+    event-found p (events_before_route (r + 1)) i event (routes-begin p (r + 1) (omega arith))
+    (found-next p (events_before_route r) events (events_before_route (r + 1)) i j event (routes-more r events is) far found)
 
-pub found-in-section : (p : PlantLists) (x i j : ℕ) (events : List Event) (event : Event) → x < length p.sections → events ≡ events_of_section x → IsPast p (events_of_sections p x) i j → slice_get (events_of_rules p events) j ≡ Some event → IsEventOf p i (Some event)
+pub found-in-section : (p : PlantLists) (x i j : ℕ) (events : List Event) (event : Event) → x < length p.sections → events ≡ events_of_section x → IsPast p (events_before_section p x) i j → slice_get (events_of_rules p events) j ≡ Some event → IsEventOf p i (Some event)
 found-in-section p x i j events event within is far found =
-    event-found p (events_of_sections p (x + 1)) i event (sections-begin p (x + 1) (omega arith))
-    (found-next p (events_of_sections p x) events (events_of_sections p (x + 1)) i j event (sections-more p x events is) far found)
+    event-found p (events_before_section p (x + 1)) i event (sections-begin p (x + 1) (omega arith))
+    (found-next p (events_before_section p x) events (events_before_section p (x + 1)) i j event (sections-more p x events is) far found)
 
-pub found-nowhere : (p : PlantLists) (x i j : ℕ) → x ≡ length p.sections → IsPast p (events_of_sections p x) i j → IsEventOf p i None
+pub found-nowhere : (p : PlantLists) (x i j : ℕ) → x ≡ length p.sections → IsPast p (events_before_section p x) i j → IsEventOf p i None
 found-nowhere p x i j all far =
-    let long : length (events_of_rules p (events_of_sections p x)) ≡ length (events_of_rules p (events_of p)) = ap (λ n. length (events_of_rules p (events_of_sections p n))) all in
+    let long : length (events_of_rules p (events_before_section p x)) ≡ length (events_of_rules p (events_of p)) = ap (λ n. length (events_of_rules p (events_before_section p n))) all in
     let same = as_many p (events_of p) in
     let over : length (events_of_rules p (events_of p)) ≤ i = omega (arith, far, long) in
     let beyond : length (system_of p).rules ≤ i = omega (arith, same, over) in

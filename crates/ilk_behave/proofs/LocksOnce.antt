@@ -25,15 +25,7 @@ use Rattle.ilk_behave.specs.Settings.{commanded, lock_becomes, locks_become, to_
 use Rattle.ilk_behave.proofs.Occupancies.{number-once}
 use Rattle.ilk_behave.proofs.RulesValid.{all-flat_map, all-map, fits}
 use Rattle.ilk_behave.proofs.SetOnce.{SetElsewhere, SetOnce, elsewhere-flat_map, elsewhere-map, once-append, once-flat_map, once-map}
-
--- what stands in lists one after another stands in one of them
-from-flat_map : {X Y : Type 0} (f : X → List Y) (xs : List X) (i : ℕ) (y : Y) → slice_get (flat_map f xs) i ≡ Some y → (j : ℕ) × (x : X) × (slice_get xs j ≡ Some x) × (k : ℕ) × (slice_get (f x) k ≡ Some y)
-from-flat_map f [] i y at = cc
-from-flat_map f (x ∷ xs) i y at =
-    elim (at-either (f x) (flat_map f xs) i y at) [
-      | inl h ↦ (0, x, refl, h.0, h.1)
-      | inr h ↦ (let later = from-flat_map f xs h.0 y h.1 in (suc later.0, later.1, later.2, later.3, later.4))
-    ]
+use Rattle.ilk_behave.proofs.Fired.{in-one}
 
 module _ (p : PlantLists) where
   abbrev locks : List ℕ → Hold → List Setting
@@ -163,11 +155,11 @@ module _ (p : PlantLists) where
       where
         cross : (i : ℕ) (s : Setting) → slice_get (flat_map (commanded p) route.points) i ≡ Some s → SetElsewhere s.var (flat_map (commanded p) route.protecting_points)
         cross i s at =
-            let found = from-flat_map (commanded p) route.points i s at in
+            let found = in-one (commanded p) route.points i s at in
             elsewhere-flat_map s.var (commanded p) route.protecting_points (λ j y there. commanded-elsewhere s.var y (λ n e same. (
-            let first = commanded-sets found.1 found.3 s found.4 in
+            let first = commanded-sets found.1 found.2 s found.4 in
             let number : first.0 ≡ n = (let var = first.2 in omega (arith, var, same)) in
             let section : found.1.point ≡ y.point = number-once p found.1.point y.point n (first.1 ∙ ap Some number) e in
-            let passed = all-at (λ (listed : Listed). IsTrue (has_section listed.point (route.path ++ route.overlap))) route.points found.0 found.1 of.points_passed found.2 in
+            let passed = all-at (λ (listed : Listed). IsTrue (has_section listed.point (route.path ++ route.overlap))) route.points found.0 found.1 of.points_passed found.3 in
             let away = all-at (λ (listed : Listed). has_section listed.point (route.path ++ route.overlap) ≡ false) route.protecting_points j y of.protecting_points_apart there in
             false≢true (sym away ∙ ap (λ z. has_section z (route.path ++ route.overlap)) (sym section) ∙ passed))))

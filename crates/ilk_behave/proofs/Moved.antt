@@ -1,12 +1,11 @@
 -- The occupancies of sections where one train gets another body.
-use Rattle.std.proofs.Common.{◌≡◌, ℕ, ◌+◌, ◌<◌, ◌≤◌, ◌==◌, Bool, true, false, count_by, find, Option, Some, None, List, length, set, slice_get, inl, inr, ◌⊎◌, refl, sym, ◌∙◌, ap, arith}
+use Rattle.std.proofs.Common.{◌≡◌, ℕ, ◌+◌, ◌<◌, ◌≤◌, ◌==◌, true, false, count_by, find, Option, Some, None, length, set, slice_get, inl, inr, ◌⊎◌, refl, sym, ◌∙◌, ap, arith}
 use Rattle.std.specs.List.{list_any}
-use Rattle.std.proofs.lemmas.Bool.{cases_Bool, cases_eq, false≢true, ltb-false, or_from, or_parts}
+use Rattle.std.proofs.lemmas.Bool.{cases_Bool, cases_eq, false≢true, ltb-false, or_from, or_parts, false_from_ne_true}
 use Rattle.std.proofs.lemmas.Bool.Decides.{nat_tests}
 use Rattle.std.proofs.lemmas.Option.{same_Some, slice_get_within}
 use Rattle.ilk_base.proofs.Lists.{slice_get-set_other, slice_get-set_same}
-use Rattle.ilk_base.proofs.Tested.{count-one, few-from_places, find-at, list_all-slice_get, list_any-at, list_any-from, list_any-none}
-use Rattle.ilk_base.proofs.Truth.{not-true}
+use Rattle.ilk_base.proofs.Tested.{count-one, few-from_places, find-at, list_all-slice_get, list_any-at, list_any-from, list_any-none, none-pass}
 use Rattle.ilk_plant.specs.Network.{has_section}
 use Rattle.ilk_plant.specs.Plant.{IsPlant, PlantLists}
 use Rattle.ilk_plant.specs.Shape.{HasShape, is_body}
@@ -26,11 +25,6 @@ use Rattle.ilk_layout.proofs.Plants.{body-once}
 use Rattle.ilk_layout.proofs.Trains.{find-some, has_x, with_trains}
 use Rattle.ilk_behave.proofs.EnterSteps.{vacant-as}
 
--- where each of a list fails, none passes
-pub none-passes : {X : Type 0} (f : X → Bool) (xs : List X) → ((i : ℕ) (x : X) → slice_get xs i ≡ Some x → f x ≡ false) → list_any f xs ≡ false
-none-passes {X} f xs each =
-    not-true (list_any f xs) (λ h. (let found : (k : ℕ) × (x : X) × (slice_get xs k ≡ Some x) × (f x ≡ true) = list_any-at f xs h in false≢true (sym (each found.0 found.1 found.2) ∙ found.3)))
-
 -- where no hazard stands at a section, no body is wrong on it
 pub right-under : (p : PlantLists) (s : State) (i x : ℕ) (t : Train) → is_hazardous p s x ≡ false → slice_get s.trains i ≡ Some t → is_wrong_under p s x t.body ≡ false
 right-under p s i x t safe at = by_section (slice_get p.sections x) refl (or_parts (is_two s x) (is_wrong p s x) safe).1
@@ -49,7 +43,7 @@ none-wrong p s x right = by_section (slice_get p.sections x) refl
     by_section None e = rw e refl
     by_section (Some (Linear a b c d)) e = rw e refl
     by_section (Some (Point stem plus minus faces)) e =
-        rw e (none-passes (λ (train : Train). strays x plus minus (lie_of p s x) train.body) s.trains (λ i t at. (let here = right i t at in rw e at here)))
+        rw e (none-pass (λ (train : Train). strays x plus minus (lie_of p s x) train.body) s.trains (λ i t at. (let here = right i t at in rw e at here)))
 
 -- where some body is wrong on a section, it is
 pub some-wrong : (p : PlantLists) (s : State) (i x : ℕ) (t : Train) → slice_get s.trains i ≡ Some t → is_wrong_under p s x t.body ≡ true → is_wrong p s x ≡ true
@@ -118,7 +112,7 @@ module _ (p : PlantLists) (plant : IsPlant p) (never : NeverReturns p) (s : Stat
   kept x within dir had right placed =
       elim (cases_Bool (is_occupied s x)) [
         | inl there ↦ (let found : (j : ℕ) × (v : Train) × (slice_get s.trains j ≡ Some v) × (has_section x v.body ≡ true) = list_any-at (has_x x) s.trains there in by_train found.0 found.1 found.2 (cases_eq i found.0) (place-of found.1.body x found.3))
-        | inr away ↦ vacant-as p (with_trains s (set s.trains i u)) x (none-passes (has_x x) (set s.trains i u) (λ j v e. not-true (has_section x v.body) (λ has. (let w = was-there x had j v e has in false≢true (sym (list_any-none (has_x x) s.trains j w.0 away w.1) ∙ w.2))))) ∙ sym (vacant-as p s x away)
+        | inr away ↦ vacant-as p (with_trains s (set s.trains i u)) x (none-pass (has_x x) (set s.trains i u) (λ j v e. false_from_ne_true (has_section x v.body) (λ has. (let w = was-there x had j v e has in false≢true (sym (list_any-none (has_x x) s.trains j w.0 away w.1) ∙ w.2))))) ∙ sym (vacant-as p s x away)
       ]
     where
       safe : is_hazardous p s x ≡ false

@@ -1,10 +1,10 @@
 -- The rules of sense, release and finish are valid over the ranges of the plant.
-use Rattle.std.proofs.Common.{◌≡◌, ℕ, zero, suc, ◌+◌, ◌-◌, ◌<◌, ◌==◌, Bool, true, false, Option, Some, None, List, [], ◌∷◌, ◌++◌, length, map, slice_get, take, refl, sym, ◌∙◌, ap, arith, cond, inl, inr}
+use Rattle.std.proofs.Common.{◌≡◌, ℕ, zero, suc, ◌+◌, ◌-◌, ◌<◌, ◌==◌, Bool, true, false, Option, Some, None, List, [], ◌∷◌, ◌++◌, length, map, slice_get, refl, sym, ◌∙◌, ap, arith, cond, inl, inr}
 use Rattle.std.specs.List.{enumerate_from, last_or, list_all, range_with_len}
 use Rattle.std.proofs.lemmas.List.FromFn.{length-range_with_len}
 use Rattle.std.proofs.lemmas.Option.{slice_get_within}
 use Rattle.ilk_base.proofs.ListTests.{all-at, last-at, made-at}
-use Rattle.ilk_base.proofs.Lists.{map-at}
+use Rattle.ilk_base.proofs.Lists.{map-at, taken-before}
 use Rattle.ilk_base.proofs.Ranges.{range_get}
 use Rattle.ilk_base.proofs.Tested.{all-pass}
 use Rattle.ilk_ir.specs.System.{RuleTree}
@@ -24,16 +24,9 @@ use Rattle.ilk_conditions.proofs.Valid.{board_is-valid, lock_is-valid, mode_is-v
 use Rattle.ilk_behave.specs.RouteRules.{finish_rule, release_rule, rules_of_finish, rules_of_release, rules_of_sense, seen_from, sense_rule}
 use Rattle.ilk_behave.specs.Settings.{board_becomes, lock_becomes, locks_become, mode_becomes, rel_becomes, rules_for, seen_becomes}
 use Rattle.ilk_behave.proofs.LocksOnce.{last_locks-once, locks-fit}
-use Rattle.ilk_behave.proofs.RouteSteps.{beside-known}
 use Rattle.ilk_behave.proofs.RulesValid.{all-append, all-cons, all-map, fits, is_valid, is_valid_rule, one_rule-valid, rule-valid}
 use Rattle.ilk_behave.proofs.SetOnce.{SetOnce, once-append}
-
--- what stands at the front of a list stands in it
-taken-at : {X : Type 0} (n : ℕ) (xs : List X) (i : ℕ) (x : X) → slice_get (take n xs) i ≡ Some x → slice_get xs i ≡ Some x
-taken-at zero xs i x at = cc
-taken-at (suc n) [] i x at = cc
-taken-at (suc n) (y ∷ xs) zero x at = at
-taken-at (suc n) (y ∷ xs) (suc i) x at = taken-at n xs i x at
+use Rattle.ilk_routes.proofs.Shape.{beside-known}
 
 module _ (p : PlantLists) (plant : IsPlant p) where
   -- rules that are made from a path with its places
@@ -119,7 +112,7 @@ module _ (p : PlantLists) (plant : IsPlant p) where
       by_route : (o : Option Route) → slice_get p.routes r ≡ o → list_all (is_valid_rule p) (rules_of_release p r) ≡ true
       by_route None e = rw e refl
       by_route (Some route) e =
-          rw e (places-valid (release_rule p r route) (all_but_last route.path) (λ k x at. release_rule-valid r route k x e (taken-at (length route.path - 1) route.path k x at)))
+          rw e (places-valid (release_rule p r route) (all_but_last route.path) (λ k x at. release_rule-valid r route k x e (taken-before (length route.path - 1) route.path k x at).1))
 
   finish_rule-valid : (r : ℕ) (route : Route) (k x : ℕ) → slice_get p.routes r ≡ Some route → slice_get route.path k ≡ Some x → is_valid_rule p (finish_rule p r route x) ≡ true
   finish_rule-valid r route k x known there =

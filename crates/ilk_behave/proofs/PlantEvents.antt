@@ -13,27 +13,27 @@ use Rattle.ilk_behave.specs.Behaviour.{events_of, events_of_route, events_of_sec
 use Rattle.ilk_behave.specs.Numbered.{HasNumber, HaveNumbers}
 
 -- the events of the routes with numbers below n; and the events of all routes and of the sections with numbers below n
-abbrev pub events_of_routes : ℕ → List Event
-events_of_routes n = flat_map events_of_route (range_with_len 0 n)
+abbrev pub events_before_route : ℕ → List Event
+events_before_route n = flat_map events_of_route (range_with_len 0 n)
 
-abbrev pub events_of_sections : PlantLists → ℕ → List Event
-events_of_sections p n = events_of_routes (length p.routes) ++ flat_map events_of_section (range_with_len 0 n)
+abbrev pub events_before_section : PlantLists → ℕ → List Event
+events_before_section p n = events_before_route (length p.routes) ++ flat_map events_of_section (range_with_len 0 n)
 
 -- and of one more route, or section
-pub routes-more : (n : ℕ) (events : List Event) → events ≡ events_of_route n → events_of_routes (n + 1) ≡ events_of_routes n ++ events
-routes-more n events is = listed_all-more events_of_route n ∙ ap (λ es. events_of_routes n ++ es) (sym is)
+pub routes-more : (n : ℕ) (events : List Event) → events ≡ events_of_route n → events_before_route (n + 1) ≡ events_before_route n ++ events
+routes-more n events is = listed_all-more events_of_route n ∙ ap (λ es. events_before_route n ++ es) (sym is)
 
-pub sections-more : (p : PlantLists) (n : ℕ) (events : List Event) → events ≡ events_of_section n → events_of_sections p (n + 1) ≡ events_of_sections p n ++ events
+pub sections-more : (p : PlantLists) (n : ℕ) (events : List Event) → events ≡ events_of_section n → events_before_section p (n + 1) ≡ events_before_section p n ++ events
 sections-more p n events is =
-    ap (λ es. events_of_routes (length p.routes) ++ es) (listed_all-more events_of_section n ∙ ap (λ es. before ++ es) (sym is))
-    ∙ sym (append_assoc (events_of_routes (length p.routes)) before events)
+    ap (λ es. events_before_route (length p.routes) ++ es) (listed_all-more events_of_section n ∙ ap (λ es. before ++ es) (sym is))
+    ∙ sym (append_assoc (events_before_route (length p.routes)) before events)
   where
     before : List Event
     before = flat_map events_of_section (range_with_len 0 n)
 
 -- with all routes the sections begin
-pub sections-start : (p : PlantLists) (n : ℕ) → n ≡ length p.routes → events_of_routes n ≡ events_of_sections p 0
-sections-start p n all = ap events_of_routes all ∙ sym (append-nil (events_of_routes (length p.routes)))
+pub sections-start : (p : PlantLists) (n : ℕ) → n ≡ length p.routes → events_before_route n ≡ events_before_section p 0
+sections-start p n all = ap events_before_route all ∙ sym (append-nil (events_before_route (length p.routes)))
 
 -- they have the numbers of routes and sections
 pub route-numbered : (p : PlantLists) (r : ℕ) (events : List Event) → r < length p.routes → events ≡ events_of_route r → HaveNumbers p events
@@ -65,18 +65,18 @@ made-split f n m less =
     ∙ ap (flat_map f) (range-split 0 n (m - n) ∙ ap (λ b. range_with_len 0 n ++ range_with_len b (m - n)) here)
     ∙ flat_map-append f (range_with_len 0 n) (range_with_len n (m - n))
 
-pub routes-begin : (p : PlantLists) (n : ℕ) → n ≤ length p.routes → Begins p (events_of_routes n)
+pub routes-begin : (p : PlantLists) (n : ℕ) → n ≤ length p.routes → Begins p (events_before_route n)
 routes-begin p n less =
     let later : List Event = flat_map events_of_route (range_with_len n (length p.routes - n)) in
     let sections : List Event = flat_map events_of_section (range_with_len 0 (length p.sections)) in
     record {
       rest = later ++ sections;
-      is = ap (λ es. es ++ sections) (made-split events_of_route n (length p.routes) less) ∙ append_assoc (events_of_routes n) later sections;
+      is = ap (λ es. es ++ sections) (made-split events_of_route n (length p.routes) less) ∙ append_assoc (events_before_route n) later sections;
     }
 
-pub sections-begin : (p : PlantLists) (n : ℕ) → n ≤ length p.sections → Begins p (events_of_sections p n)
+pub sections-begin : (p : PlantLists) (n : ℕ) → n ≤ length p.sections → Begins p (events_before_section p n)
 sections-begin p n less =
-    let routes : List Event = events_of_routes (length p.routes) in
+    let routes : List Event = events_before_route (length p.routes) in
     let before : List Event = flat_map events_of_section (range_with_len 0 n) in
     let later : List Event = flat_map events_of_section (range_with_len n (length p.sections - n)) in
     record {
@@ -99,12 +99,12 @@ IsListed p event = (i : ℕ) × (slice_get (events_of p) i ≡ Some event)
 of-route : (p : PlantLists) (r k : ℕ) (event : Event) → r < length p.routes → slice_get (events_of_route r) k ≡ Some event → IsListed p event
 of-route p r k event within here =
     let found = of-one events_of_route (range_with_len 0 (length p.routes)) r r k event (range-at (length p.routes) r within) here in
-    (found.0, at-before (events_of_routes (length p.routes)) (flat_map events_of_section (range_with_len 0 (length p.sections))) found.0 event found.1)
+    (found.0, at-before (events_before_route (length p.routes)) (flat_map events_of_section (range_with_len 0 (length p.sections))) found.0 event found.1)
 
 of-section : (p : PlantLists) (x k : ℕ) (event : Event) → x < length p.sections → slice_get (events_of_section x) k ≡ Some event → IsListed p event
 of-section p x k event within here =
     let found = of-one events_of_section (range_with_len 0 (length p.sections)) x x k event (range-at (length p.sections) x within) here in
-    (length (events_of_routes (length p.routes)) + found.0, at-past (events_of_routes (length p.routes)) (flat_map events_of_section (range_with_len 0 (length p.sections))) found.0 event found.1)
+    (length (events_before_route (length p.routes)) + found.0, at-past (events_before_route (length p.routes)) (flat_map events_of_section (range_with_len 0 (length p.sections))) found.0 event found.1)
 
 -- an event with the number of a route, or of a section, is
 pub listed : (p : PlantLists) (event : Event) → HasNumber p event → IsListed p event

@@ -35,11 +35,12 @@ use Rattle.ilk_conditions.specs.Conditions.{mode_is, rel_is, seen_is}
 use Rattle.ilk_behave.specs.RouteRules.{finish_rule, release_rule, rules_of_finish, rules_of_release, seen_from}
 use Rattle.ilk_behave.specs.Settings.{locks_become, mode_becomes, rel_becomes, rules_for, seen_becomes}
 use Rattle.ilk_behave.specs.Steps.{StepAs, can_fire}
-use Rattle.ilk_behave.proofs.RouteSteps.{beside-known, state-of}
+use Rattle.ilk_behave.proofs.RouteSteps.{state-of}
 use Rattle.ilk_base.proofs.ListTests.{all-at, counted-from, last-at, list_any-alike}
 use Rattle.ilk_behave.proofs.Tools.{no_rules, place_steps, rule_step}
 use Rattle.ilk_conditions.proofs.Values.{lock-holds, mode-holds, rel-holds, seen-holds, vacant-holds}
 use Rattle.ilk_behave.proofs.Writing.{by_image, locks-written, set_all-append, with_lists, with_route}
+use Rattle.ilk_routes.proofs.Shape.{beside-known}
 
 -- what stands before an index stands in the list up to there
 take-get : {X : Type 0} (xs : List X) (i j : ℕ) → i < j → slice_get (take j xs) i ≡ slice_get xs i

@@ -4,6 +4,7 @@ use Rattle.std.proofs.lemmas.Bool.{eq-eqb, ne_eqb}
 use Rattle.std.proofs.lemmas.List.{set-set}
 use Rattle.std.proofs.lemmas.List.Elements.{All-append, All-map}
 use Rattle.std.proofs.lemmas.Option.{slice_get_within}
+use Rattle.std.proofs.Math.Bool.{and-true}
 use Rattle.ilk_base.proofs.Lists.{item_at, slice_get-set_same}
 use Rattle.ilk_ir.specs.Tree.{any_of, tree_holds, trees}
 use Rattle.ilk_ir.specs.System.{set_all}
@@ -21,7 +22,6 @@ use Rattle.ilk_plant.specs.declared.table.Listed.{Listed}
 use Rattle.ilk_plant.specs.declared.table.Route.{Route}
 use Rattle.ilk_plant.proofs.Shapes.{fits_path-counts, fits_path-from_counts}
 use Rattle.ilk_model.specs.Hazard.{hazard}
-use Rattle.ilk_routes.specs.Claims.{sections_beside}
 use Rattle.ilk_routes.specs.Locks.{with_locks}
 use Rattle.ilk_routes.specs.Modes.{same_mode}
 use Rattle.ilk_routes.specs.Routes.{after_cancel, after_mark, after_sense}
@@ -37,19 +37,10 @@ use Rattle.ilk_behave.proofs.Tools.{no_rules, place_steps, rule_step, two_rules_
 use Rattle.ilk_conditions.proofs.Values.{lock-holds, mode-holds, seen-holds, vacant-holds}
 use Rattle.ilk_behave.proofs.Writing.{by_image, locks-written, with_lists, with_route}
 
-pub and-end : (b : Bool) → (b && true) ≡ b
-and-end true = refl
-and-end false = refl
-
 -- the sections that are locked for a route are sections
 pub locked-known : (p : PlantLists) (route : Route) → IsRouteOf p route → (i x : ℕ) → slice_get (sections_locked_for route) i ≡ Some x → x < length p.sections
 locked-known p route of i x at =
     all-at (λ x. x < length p.sections) (sections_locked_for route) i x (All-append (λ x. x < length p.sections) (route.path ++ route.overlap) (map (λ listed. listed.point) route.protecting_points) (All-append (λ x. x < length p.sections) route.path route.overlap of.path of.overlap) (All-map (λ x. x < length p.sections) (λ (listed : Listed). listed.point) route.protecting_points of.protecting_points)) at
-
--- and so are those beside its path
-pub beside-known : (p : PlantLists) (route : Route) → IsRouteOf p route → (i x : ℕ) → slice_get (sections_beside route) i ≡ Some x → x < length p.sections
-beside-known p route of i x at =
-    all-at (λ x. x < length p.sections) (sections_beside route) i x (All-append (λ x. x < length p.sections) route.overlap (map (λ listed. listed.point) route.protecting_points) of.overlap (All-map (λ x. x < length p.sections) (λ (listed : Listed). listed.point) route.protecting_points of.protecting_points)) at
 
 module _ (p : PlantLists) (plant : IsPlant p) (s : State) (shape : HasShape p s) (calm : hazard p s ≡ None) where
   -- each route has a state
@@ -68,7 +59,7 @@ module _ (p : PlantLists) (plant : IsPlant p) (s : State) (shape : HasShape p s)
           let now = state-of r route e in
           let marked = record s { routes = set s.routes r (record now.0 { mode = Marked }) } in
           rw (e, now.1) (rule_step p s marked (same_mode now.0.mode Free) (rule (mode_is r Free ∷ []) (mode_becomes r Marked ∷ []))
-          (and-end (tree_holds (image_of p s) (mode_is r Free)) ∙ mode-holds p s shape r now.0 Free now.1)
+          (and-true (tree_holds (image_of p s) (mode_is r Free)) ∙ mode-holds p s shape r now.0 Free now.1)
           (λ h. by_image p s marked (mode_becomes r Marked ∷ []) (mode-written p s (occupancy_values p s) shape r now.0 Marked now.1)))
 
   pub cancel-steps : (r : ℕ) → StepAs p s (after_cancel p s r) (rules_of_cancel p r)
@@ -93,8 +84,8 @@ module _ (p : PlantLists) (plant : IsPlant p) (s : State) (shape : HasShape p s)
           let unlocked_all = record freed { locks = with_locks s.locks (sections_locked_for route) FreeLock } in
           rw (e, now.1) (two_rules_step p s (record freed { locks = cond (same_mode now.0.mode Allocating) (with_locks s.locks (sections_locked_for route) FreeLock) s.locks }) (same_mode now.0.mode Marked) (same_mode now.0.mode Allocating) (same_mode now.0.mode Marked || same_mode now.0.mode Allocating)
           (rule (mode_is r Marked ∷ []) (mode_becomes r Free ∷ [])) (rule (mode_is r Allocating ∷ []) (mode_becomes r Free ∷ locks_become p (sections_locked_for route) FreeLock))
-          (and-end (tree_holds (image_of p s) (mode_is r Marked)) ∙ mode-holds p s shape r now.0 Marked now.1)
-          (and-end (tree_holds (image_of p s) (mode_is r Allocating)) ∙ mode-holds p s shape r now.0 Allocating now.1)
+          (and-true (tree_holds (image_of p s) (mode_is r Marked)) ∙ mode-holds p s shape r now.0 Marked now.1)
+          (and-true (tree_holds (image_of p s) (mode_is r Allocating)) ∙ mode-holds p s shape r now.0 Allocating now.1)
           refl
           (λ h. by_image p s freed (mode_becomes r Free ∷ []) moded ∙ ap (λ b. image_of p (record freed { locks = cond b (with_locks s.locks (sections_locked_for route) FreeLock) s.locks })) (sym (not-both now.0.mode h)))
           (λ h. by_image p s unlocked_all (mode_becomes r Free ∷ locks_become p (sections_locked_for route) FreeLock) (ap (λ values. set_all values (locks_become p (sections_locked_for route) FreeLock)) moded ∙ unlocked) ∙ ap (λ b. image_of p (record freed { locks = cond b (with_locks s.locks (sections_locked_for route) FreeLock) s.locks })) (sym h)))

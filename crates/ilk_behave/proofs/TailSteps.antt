@@ -2,7 +2,7 @@
 use Rattle.std.proofs.Common.{◌≡◌, ℕ, zero, suc, ◌+◌, ◌<◌, ◌==◌, Bool, true, false, ◌&&◌, ◌||◌, map, position, remove, set, Option, Some, None, List, [], ◌∷◌, ◌++◌, length, slice_get, inl, inr, subst, refl, sym, ◌∙◌, ap, arith, cond}
 use Rattle.std.specs.List.{list_all}
 use Rattle.std.specs.Option.{option_to_list}
-use Rattle.std.proofs.lemmas.Bool.{and_from, and_parts, eq-eqb, eqb-true, false≢true, ne_eqb, or_right}
+use Rattle.std.proofs.lemmas.Bool.{and_from, and_parts, eq-eqb, eqb-true, false≢true, ne_eqb, or_right, false_from_ne_true}
 use Rattle.std.proofs.lemmas.Bool.Decides.{nat_tests}
 use Rattle.std.proofs.lemmas.List.Folds.{list_all-append}
 use Rattle.std.proofs.lemmas.Option.{same_Some, slice_get-map, slice_get_within}
@@ -10,8 +10,7 @@ use Rattle.ilk_base.specs.Option.{◌>>=◌, is_some_and}
 use Rattle.ilk_base.proofs.Lists.{item_at, map-at}
 use Rattle.ilk_base.proofs.Options.{bind_some, some-and}
 use Rattle.ilk_base.proofs.Positions.{position-at}
-use Rattle.ilk_base.proofs.Tested.{list_any-from}
-use Rattle.ilk_base.proofs.Truth.{not-true}
+use Rattle.ilk_base.proofs.Tested.{list_any-from, none-pass}
 use Rattle.ilk_ir.specs.Tree.{tree_holds, Tree}
 use Rattle.ilk_ir.specs.System.{set_all}
 use Rattle.ilk_ir.proofs.Trees.{all_of-holds}
@@ -55,7 +54,7 @@ use Rattle.ilk_behave.specs.TrainRules.{rules_of_tail, tail_rule}
 use Rattle.ilk_behave.proofs.AllocateSteps.{lie-holds}
 use Rattle.ilk_behave.proofs.EnterSteps.{vacant-as}
 use Rattle.ilk_behave.proofs.Fired.{IsFor, Tells, has-neighbour-known, neighbour_steps, occupancy-is, occupancy-known, only-position, parts-of-taken}
-use Rattle.ilk_behave.proofs.Moved.{kept, none-passes, now-at, now-there, occupancy-there, right-under, still-safe}
+use Rattle.ilk_behave.proofs.Moved.{kept, now-at, now-there, occupancy-there, right-under, still-safe}
 
 -- a point that moves lies at no position
 pub lies-nowhere : (at : Position) → lies_at Moving at ≡ false
@@ -105,7 +104,7 @@ rest-wrong p s x body right = by_section (slice_get p.sections x) refl
     by_section (Some (Linear a b c d)) e = rw e refl
     by_section (Some (Point stem plus minus faces)) e =
         let none : strays x plus minus (lie_of p s x) body ≡ false = rw e at right in
-        rw e (not-true (strays x plus minus (lie_of p s x) (remove body 0)) (λ h. false≢true (sym none ∙ rest-strays x plus minus (lie_of p s x) body h)))
+        rw e (false_from_ne_true (strays x plus minus (lie_of p s x) (remove body 0)) (λ h. false≢true (sym none ∙ rest-strays x plus minus (lie_of p s x) body h)))
 
 -- a body of several sections has a first and a second
 first-two : (x : ℕ) (body : List ℕ) → is_first_of_several x body ≡ true → (y : ℕ) × (slice_get body 0 ≡ Some x) × (slice_get body 1 ≡ Some y)
@@ -194,7 +193,7 @@ module _ (p : PlantLists) (plant : IsPlant p) (never : NeverReturns p) (s : Stat
 
     no-longer : has_section x (remove t.body 0) ≡ false
     no-longer =
-        not-true (has_section x (remove t.body 0)) (λ h.
+        false_from_ne_true (has_section x (remove t.body 0)) (λ h.
         (let place = place-of (remove t.body 0) x h in
         let places : 0 ≡ suc place.0 = once 0 (suc place.0) x first (sym (rest-at t.body place.0) ∙ place.1) in
         absurd (omega (arith, places))))
@@ -202,10 +201,10 @@ module _ (p : PlantLists) (plant : IsPlant p) (never : NeverReturns p) (s : Stat
     tail-vacant : occupancy_of p (with_trains s (set s.trains i (without_tail t))) x ≡ Vacant
     tail-vacant =
         vacant-as p (with_trains s (set s.trains i (without_tail t))) x
-        (none-passes (has_x x) (set s.trains i (without_tail t)) (λ j v e.
+        (none-pass (has_x x) (set s.trains i (without_tail t)) (λ j v e.
         elim (now-there p plant never s shape calm i t (without_tail t) at tail-moved j v e) [
           | inl h ↦ ap (λ (w : Train). has_section x w.body) (sym h.1) ∙ no-longer
-          | inr h ↦ not-true (has_section x v.body) (λ has. h.0 (alone p plant never s shape calm i j x t v at h.1 (has-at t.body 0 x first) has))
+          | inr h ↦ false_from_ne_true (has_section x v.body) (λ has. h.0 (alone p plant never s shape calm i j x t v at h.1 (has-at t.body 0 x first) has))
         ]))
 
     safe-rest : (z : ℕ) → z < length p.sections → is_wrong_under p s z (remove t.body 0) ≡ false

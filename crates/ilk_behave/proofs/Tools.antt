@@ -3,6 +3,7 @@ use Rattle.std.proofs.Common.{◌≡◌, ℕ, zero, suc, ◌+◌, ◌-◌, Bool,
 use Rattle.std.specs.List.{enumerate_from, list_any}
 use Rattle.std.proofs.lemmas.Bool.{cases_eq, false≢true}
 use Rattle.std.proofs.lemmas.Option.{cond_some, same_Some}
+use Rattle.std.proofs.Math.Bool.{or-false}
 use Rattle.ilk_base.specs.Option.{◌>>=◌, is_some_and, only_if}
 use Rattle.ilk_ir.specs.System.{RuleTree, set_all}
 use Rattle.ilk_plant.specs.Plant.{PlantLists}
@@ -14,10 +15,6 @@ use Rattle.ilk_base.proofs.ListTests.{made-at, one-place}
 some-if : (b : Bool) (t : State) → b ≡ is_some (only_if b t)
 some-if true t = refl
 some-if false t = refl
-
-pub or-end : (b : Bool) → (b || false) ≡ b
-or-end true = refl
-or-end false = refl
 
 -- no rules, where the event isn't enabled
 pub no_rules : (p : PlantLists) (s : State) → StepAs p s None []
@@ -36,7 +33,7 @@ rules_step p s t b rules guard sets = record {
 
 pub rule_step : (p : PlantLists) (s t : State) (b : Bool) (rule : RuleTree) → can_fire p s rule ≡ b → (b ≡ true → set_all (image_of p s) rule.sets ≡ image_of p t) → StepAs p s (only_if b t) (rule ∷ [])
 rule_step p s t b rule guard sets =
-    rules_step p s t b (rule ∷ []) (or-end (can_fire p s rule) ∙ guard) only
+    rules_step p s t b (rule ∷ []) (or-false (can_fire p s rule) ∙ guard) only
   where
     only : (i : ℕ) (other : RuleTree) → slice_get (rule ∷ []) i ≡ Some other → can_fire p s other ≡ true → set_all (image_of p s) other.sets ≡ image_of p t
     only zero other at h =
@@ -47,7 +44,7 @@ rule_step p s t b rule guard sets =
 -- two rules
 pub two_rules_step : (p : PlantLists) (s t : State) (b c d : Bool) (first second : RuleTree) → can_fire p s first ≡ b → can_fire p s second ≡ c → (b || c) ≡ d → (b ≡ true → set_all (image_of p s) first.sets ≡ image_of p t) → (c ≡ true → set_all (image_of p s) second.sets ≡ image_of p t) → StepAs p s (only_if d t) (first ∷ second ∷ [])
 two_rules_step p s t b c d first second guard1 guard2 either sets1 sets2 =
-    rules_step p s t d (first ∷ second ∷ []) (ap (λ x. x || (can_fire p s second || false)) guard1 ∙ ap (λ x. b || x) (or-end (can_fire p s second) ∙ guard2) ∙ either) one
+    rules_step p s t d (first ∷ second ∷ []) (ap (λ x. x || (can_fire p s second || false)) guard1 ∙ ap (λ x. b || x) (or-false (can_fire p s second) ∙ guard2) ∙ either) one
   where
     one : (i : ℕ) (other : RuleTree) → slice_get (first ∷ second ∷ []) i ≡ Some other → can_fire p s other ≡ true → set_all (image_of p s) other.sets ≡ image_of p t
     one zero other at h =

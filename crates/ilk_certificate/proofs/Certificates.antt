@@ -1,8 +1,8 @@
 -- What is written for a verdict is a certificate for it, and its logs have no hint 0.
-use Rattle.std.proofs.Common.{◌≡◌, ℕ, zero, suc, ◌<◌, ◌≤◌, Bool, true, ◌&&◌, List, [], ◌∷◌, ◌++◌, Option, Some, None, IsTrue, refl, ap, subst, arith, All}
+use Rattle.std.proofs.Common.{◌≡◌, ℕ, zero, suc, ◌<◌, ◌≤◌, true, List, [], ◌∷◌, ◌++◌, Option, Some, None, IsTrue, refl, ap, subst, arith, All}
 use Rattle.std.specs.Prelude.{nat_lt}
 use Rattle.std.specs.List.{list_all}
-use Rattle.std.proofs.lemmas.Bool.{and_parts, lt-ltb}
+use Rattle.std.proofs.lemmas.Bool.{and_parts, lt-ltb, and_from}
 use Rattle.std.proofs.lemmas.List.Elements.{All-head, All-tail}
 use Rattle.ilk_base.specs.Option.{is_some_and}
 use Rattle.ilk_cnf.specs.Literal.{Literal}
@@ -25,16 +25,13 @@ use Rattle.ilk_certificate.specs.CertificateText.{hints_from_one, all_hints_from
 from-one : (h : ℕ) → nat_lt 0 (suc h) ≡ true
 from-one h = lt-ltb 0 (suc h) (omega arith)
 
-both : (a b : Bool) → a ≡ true → b ≡ true → (a && b) ≡ true
-both a b p q = rw (p, q) refl
-
 -- hints that end at a false clause are clauses' numbers, and so from 1
 ends-count : (clauses : List (List Literal)) (set : List Literal) (hints : List ℕ) → ends_false clauses set hints ≡ true → list_all (λ h. nat_lt 0 h) hints ≡ true
 ends-count clauses set [] e = cc
 ends-count clauses set (zero ∷ []) e = absurd cc
-ends-count clauses set (suc h ∷ []) e = both (nat_lt 0 (suc h)) true (from-one h) refl
+ends-count clauses set (suc h ∷ []) e = and_from (nat_lt 0 (suc h)) true (from-one h) refl
 ends-count clauses set (zero ∷ (k ∷ hints)) e = absurd cc
-ends-count clauses set (suc h ∷ (k ∷ hints)) e = both (nat_lt 0 (suc h)) (list_all (λ h. nat_lt 0 h) (k ∷ hints)) (from-one h) (by_next (after_hint clauses set (suc h)) (λ next. ends-count clauses next (k ∷ hints)) e)
+ends-count clauses set (suc h ∷ (k ∷ hints)) e = and_from (nat_lt 0 (suc h)) (list_all (λ h. nat_lt 0 h) (k ∷ hints)) (from-one h) (by_next (after_hint clauses set (suc h)) (λ next. ends-count clauses next (k ∷ hints)) e)
   where
     by_next : (o : Option (List Literal)) → ((next : List Literal) → ends_false clauses next (k ∷ hints) ≡ true → list_all (λ h. nat_lt 0 h) (k ∷ hints) ≡ true) → is_some_and o (λ next. ends_false clauses next (k ∷ hints)) ≡ true → list_all (λ h. nat_lt 0 h) (k ∷ hints) ≡ true
     by_next None count e = absurd cc

@@ -1,7 +1,6 @@
 -- What is written for the queries is the text of their lines.
 use Rattle.std.proofs.Common.{◌≡◌, ◌≤◌, ℕ, length, take, Bool, true, false, cond, List, [], ◌∷◌, ◌++◌, map, flat_map, refl, sym, ap, ◌∙◌, append_assoc, append-nil}
 use Rattle.std.proofs.lemmas.List.{take_all}
-use Rattle.std.proofs.lemmas.List.Concat.{flat_map-append}
 use Rattle.ilk_lines.specs.Lines.{Bytes}
 use Rattle.ilk_lines.specs.Written.{text_of}
 use Rattle.ilk_log.specs.declared.step.Step.{Step as LogStep}
@@ -10,13 +9,11 @@ use Rattle.ilk_induct.specs.declared.verdict.Asked.{Asked}
 use Rattle.ilk_induct.specs.Certified.{is_step_query, without_early_steps}
 use Rattle.ilk_certificate.specs.CertificateText.{asked_lines}
 use Rattle.ilk_certificate.specs.Writing.{asked_text, base_text, step_fed}
+use Rattle.ilk_lines.proofs.TextLines.{text_of-append}
 
 pub steps-fed : (log : List LogStep) → flat_map step_fed log ≡ text_of (map step_text log)
 steps-fed [] = refl
 steps-fed (s ∷ log) = ap (λ (t : Bytes). step_fed s ++ t) (steps-fed log)
-
-text_of-append : (xs ys : List Bytes) → text_of (xs ++ ys) ≡ text_of xs ++ text_of ys
-text_of-append xs ys = flat_map-append (λ (line : Bytes). line ++ 10 ∷ []) xs ys
 
 pub asked-fed : (asked : List Asked) → flat_map asked_text asked ≡ text_of (flat_map asked_lines asked)
 asked-fed [] = refl

@@ -1,20 +1,19 @@
 -- Clauses by number and by reference.
-use Rattle.std.proofs.Common.{◌≡◌, ◌≢◌, ◌==◌, ℕ, zero, suc, ◌+◌, ◌-◌, ◌^◌, ◌<◌, ◌≤◌, inl, inr, true, false, not, eqb, List, [], ◌∷◌, ◌++◌, length, get_or, refl, sym, ap, ◌∙◌, subst, arith, Some, length-append}
+use Rattle.std.proofs.Common.{◌≡◌, ◌==◌, ℕ, zero, suc, ◌+◌, ◌-◌, ◌^◌, ◌<◌, ◌≤◌, inl, inr, true, false, eqb, List, [], ◌∷◌, ◌++◌, length, get_or, refl, sym, ap, ◌∙◌, subst, arith, Some, length-append}
 use Rattle.std.specs.List.{IsDistinct, AllByRecursion, position_or_len, slice_get, list_all}
-use Rattle.std.proofs.lemmas.Bool.{and_from, or_parts, eq-eqb, eqb-false, ne_eqb, eqb-true, true≢false}
+use Rattle.std.proofs.lemmas.Bool.{or_parts, eq-eqb, eqb-false, ne_eqb}
 use Rattle.std.proofs.lemmas.Bool.Decides.{eqb_tells}
 use Rattle.std.proofs.lemmas.Map.Keys.{IsDistinct-head, IsDistinct-tail, IsDistinct-cons}
-use Rattle.std.proofs.lemmas.List.Folds.{list_any-append}
 use Rattle.std.proofs.lemmas.Option.{slice_get-get_or}
 use Rattle.ilk_base.proofs.Lists.{item_at}
 use Rattle.ilk_base.proofs.Tested.{list_all-more}
 use Rattle.ilk_cnf.specs.Literal.{Literal, vars_differ}
-use Rattle.ilk_cnf.specs.Formula.{IsFormula, clause_in, clauses_in}
+use Rattle.ilk_cnf.specs.Formula.{clause_in, clauses_in}
 use Rattle.ilk_arena.specs.Arena.{ArenaLists, added, literals_of, number_of_clause, paired_with, rewatched, set_beside, stands_in}
 use Rattle.ilk_arena.specs.Chains.{IsArena}
 use Rattle.ilk_arena.proofs.Watching.{once-head}
 use Rattle.ilk_clauses.specs.Reasons.{clause_at}
-use Rattle.ilk_clauses.specs.Chained.{formula_of, IsClauses, IsClauseAdded, SameClauses}
+use Rattle.ilk_clauses.specs.Chained.{IsClauses, IsClauseAdded}
 use Rattle.ilk_clauses.specs.Held.{HoldsClauses}
 
 -- what stands beside the reference at an index

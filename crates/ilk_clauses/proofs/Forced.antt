@@ -3,14 +3,14 @@ use Rattle.std.proofs.Common.{◌≡◌, ◌&&◌, ℕ, ◌<◌, ◌≤◌, true
 use Rattle.std.specs.List.{slice_get, filter}
 use Rattle.std.proofs.lemmas.Bool.{and_from, cases_Bool}
 use Rattle.std.proofs.lemmas.List.{take-append-le}
-use Rattle.std.proofs.lemmas.Option.{slice_get_within, cond_some}
+use Rattle.std.proofs.lemmas.Option.{slice_get_within}
 use Rattle.std.proofs.Math.ListN.{get_or-append}
 use Rattle.std.proofs.Math.Seq.{take-append_seam}
 use Rattle.ilk_base.proofs.Lists.{slice_get-push_cases, at-before}
 use Rattle.ilk_cnf.specs.Literal.{Literal, same_lit, has_lit}
 use Rattle.ilk_log.specs.Fresh.{others}
 use Rattle.ilk_log.proofs.Closed.{lone-is}
-use Rattle.ilk_log.specs.Propagation.{is_false, is_falsified, lone_unset, unit_of}
+use Rattle.ilk_log.specs.Propagation.{is_false, is_falsified, unit_of}
 use Rattle.ilk_trail.specs.declared.entry.Entry.{Entry}
 use Rattle.ilk_trail.specs.Laws.{lits_of}
 use Rattle.ilk_clauses.specs.Reasons.{HasReasons, clause_at, is_reason}

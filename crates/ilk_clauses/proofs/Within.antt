@@ -1,12 +1,11 @@
 -- The literals of a formula's clauses are over its variables.
-use Rattle.std.proofs.Common.{◌≡◌, ℕ, ◌<◌, true, List, [], length, Some, ap, ◌∙◌}
+use Rattle.std.proofs.Common.{◌≡◌, ℕ, ◌<◌, true, List, [], length, Some}
 use Rattle.std.specs.List.{slice_get}
 use Rattle.std.proofs.lemmas.Option.{slice_get-get_or}
-use Rattle.ilk_base.proofs.Tested.{list_any-at, list_all-slice_get}
-use Rattle.ilk_cnf.specs.Literal.{Literal, same_lit, has_lit}
+use Rattle.ilk_base.proofs.Tested.{list_all-slice_get}
+use Rattle.ilk_cnf.specs.Literal.{Literal}
 use Rattle.ilk_cnf.specs.Formula.{Formula, IsFormula, clause_in, lit_in}
 use Rattle.ilk_clauses.specs.Reasons.{clause_at}
-use Rattle.ilk_cnf.proofs.SameLiterals.{lit-is}
 
 pub clause-there : (cs : List (List Literal)) (c : ℕ) → c < length cs → slice_get cs c ≡ Some (clause_at cs c)
 clause-there cs c h = slice_get-get_or cs c [] h
@@ -16,9 +15,3 @@ clause-in f c k h = list_all-slice_get (clause_in f.vars) f.clauses c (clause_at
 
 pub literal-in : (f : Formula) (c i : ℕ) (l : Literal) → IsFormula f → c < length f.clauses → slice_get (clause_at f.clauses c) i ≡ Some l → lit_in f.vars l ≡ true
 literal-in f c i l k h e = list_all-slice_get (lit_in f.vars) (clause_at f.clauses c) i l (clause-in f c k h) e
-
--- a literal that stands in a clause over n variables
-pub lit_in-clause : (n : ℕ) (c : List Literal) (l : Literal) → clause_in n c ≡ true → has_lit l c ≡ true → lit_in n l ≡ true
-lit_in-clause n c l h s =
-    let k = list_any-at (same_lit l) c s in
-    ap (lit_in n) (lit-is l k.1 k.3) ∙ list_all-slice_get (lit_in n) c k.0 k.1 h k.2

@@ -1,7 +1,9 @@
 -- Two literals that the test takes for one are one, and a literal's variable is in a list that has it.
-use Rattle.std.proofs.Common.{◌≡◌, ℕ, inl, inr, Bool, true, false, not, cond, eqb, List, [], ◌∷◌, refl, sym, ap}
+use Rattle.std.proofs.Common.{◌≡◌, ℕ, inl, inr, Bool, true, false, not, cond, eqb, List, [], ◌∷◌, refl, sym, ap, ◌∙◌}
 use Rattle.std.proofs.lemmas.Bool.{and_parts, and_from, or_cases, or_left, or_right, eqb-true, eq-eqb}
+use Rattle.ilk_base.proofs.Tested.{list_any-at, list_all-slice_get}
 use Rattle.ilk_cnf.specs.Literal.{Literal, same_lit, has_lit, has_var}
+use Rattle.ilk_cnf.specs.Formula.{clause_in, lit_in}
 
 pub same-lit : (l : Literal) → same_lit l l ≡ true
 same-lit l = go l.var l.positive
@@ -26,3 +28,9 @@ has-var l (m ∷ ls) h =
       | inl s ↦ or_left (eqb m.var l.var) _ (eq-eqb m.var l.var (sym (ap (λ (x : Literal). x.var) (lit-is l m s))))
       | inr r ↦ or_right (eqb m.var l.var) _ (has-var l ls r)
     ]
+
+-- a literal that stands in a clause over n variables is over them
+pub lit_in-clause : (n : ℕ) (c : List Literal) (l : Literal) → clause_in n c ≡ true → has_lit l c ≡ true → lit_in n l ≡ true
+lit_in-clause n c l h s =
+    let k = list_any-at (same_lit l) c s in
+    ap (lit_in n) (lit-is l k.1 k.3) ∙ list_all-slice_get (lit_in n) c k.0 k.1 h k.2

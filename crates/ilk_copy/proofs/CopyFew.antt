@@ -10,9 +10,10 @@ use Rattle.ilk_cnf.specs.Literal.{Literal}
 use Rattle.ilk_cnf.specs.Part.{Part, nothing_at, any_of_part}
 use Rattle.ilk_ints.specs.Bits.{bit_count}
 use Rattle.ilk_ints.specs.AtMost.{at_most_part, at_most_lit, highest_bit_says}
-use Rattle.ilk_ints.specs.Named.{values_from, values_part, bound_count, bounds_from, bounds_part}
+use Rattle.ilk_ints.specs.Named.{values_part, bound_count, bounds_from, bounds_part}
 use Rattle.ilk_copy.specs.Copy.{numbers_part, column_part, columns_part, copy_part, total_bits}
 use Rattle.ilk_copy.proofs.CopyLaw.{numbers-end}
+use Rattle.ilk_ints.proofs.ValuesLaw.{values-low}
 
 -- no more bits than values
 
@@ -35,10 +36,6 @@ bit_count-below (suc (suc (suc (suc (suc (suc (suc zero))))))) = omega arith
 bit_count-below (suc (suc (suc (suc (suc (suc (suc (suc range)))))))) = (let few = bit_count-few (suc (suc (suc (suc (suc (suc (suc (suc range)))))))) in omega arith)
 
 -- one literal
-
-values_from-count : (j first range v n : ℕ) → (values_from first range v j n).part.vars ≡ n + j
-values_from-count zero first range v n = omega arith
-values_from-count (suc j) first range v n = let rest = values_from-count j first range (v + 1) (n + 1) in omega arith
 
 at_most-few : (range k n : ℕ) (below equal : Literal) → (at_most_part range k below equal n).vars ≤ n + 1
 at_most-few range k n below equal = by_case (highest_bit_says range k)
@@ -65,7 +62,7 @@ values-two : (first range n : ℕ) → eqb range 2 ≡ true → (values_part fir
 values-two first range n e = rw e refl
 
 values-all : (first range n : ℕ) → eqb range 2 ≡ false → (values_part first range n).part.vars ≡ n + range
-values-all first range n e = rw e (values_from-count range first range 0 n)
+values-all first range n e = rw e (values-low range first range 0 n)
 
 least : (a b : ℕ) → (min a b ≤ a) × (min a b ≤ b)
 least a b = (omega arith, omega arith)

@@ -4,7 +4,7 @@ use Rattle.std.proofs.lemmas.Bool.{and_from, le-leb, lt-ltb}
 use Rattle.ilk_unroll.specs.Goal.{wanted_valid}
 use Rattle.ilk_unroll.specs.declared.queries.Wanted.{Wanted}
 use Rattle.ilk_unroll.specs.declared.queries.Wanted.TheVariants.{Hazard, Breach, Step}
-use Rattle.ilk_induct.specs.Evidence.{IsLeast, IsNever, Endangers, Breaks, Inducts, IsForever}
+use Rattle.ilk_induct.specs.Evidence.{IsNever, Endangers, Breaks, Inducts, IsForever}
 use Rattle.ilk_induct.specs.Right.{IsUnsafe, IsBreach, IsSafe, IsNotInductive}
 
 pub step-valid : (n : ℕ) → 0 < n → n ≤ 16 → wanted_valid (Step n) ≡ true

@@ -4,6 +4,7 @@ use Rattle.std.specs.Prelude.{find, is_some, is_none, option_and_then, slice_get
 use Rattle.std.specs.List.{range_with_len}
 use Rattle.std.proofs.lemmas.Bool.{and_parts, false≢true}
 use Rattle.std.proofs.lemmas.List.{drop_more}
+use Rattle.ilk_base.proofs.Truth.{fails}
 use Rattle.ilk_base.specs.Option.{◌>>=◌, is_some_and, only_if}
 use Rattle.ilk_base.proofs.Options.{some-and}
 use Rattle.ilk_plant.specs.Plant.{PlantLists}
@@ -13,7 +14,7 @@ use Rattle.ilk_model.specs.Event.{next}
 use Rattle.ilk_model.specs.Families.{keeps_v1, keeps_v2, keeps_v3, keeps_v4, keeps_v5, keeps_v6, keeps_v7, keeps_v8, keeps_v9}
 use Rattle.ilk_model.specs.Hazard.{hazard}
 use Rattle.ilk_model.specs.Meets.{least_broken}
-use Rattle.ilk_model.specs.Run.{run, step}
+use Rattle.ilk_model.specs.Run.{run}
 use Rattle.ilk_model.specs.declared.event.Event.{Event}
 use Rattle.ilk_model.specs.declared.hazards.HazardAt.{HazardAt}
 use Rattle.ilk_queries.specs.Asked.{ends_in_breach, ends_in_hazard, keeps_all}
@@ -63,14 +64,10 @@ nine true true true true true true true true true fails = absurd (false≢true (
 least-some : (p : PlantLists) (t : State) → keeps_all p t ≡ false → is_some (least_broken p t) ≡ true
 least-some p t broken = nine (keeps_v1 p t) (keeps_v2 p t) (keeps_v3 p t) (keeps_v4 p t) (keeps_v5 p t) (keeps_v6 p t) (keeps_v7 p t) (keeps_v8 p t) (keeps_v9 p t) broken
 
-not-true : (b : Bool) → not b ≡ true → b ≡ false
-not-true true e = cc
-not-true false e = refl
-
 pub breach-at : (p : PlantLists) (s t : State) (events : List Event) → ends_in_breach p s events ≡ true → run p s events ≡ Some t → is_some (least_broken p t) ≡ true
 breach-at p s t events ends is =
     let here : (is_none (hazard p t) && not (keeps_all p t)) ≡ true = ap (λ (o : Option State). is_some_and o (λ u. is_none (hazard p u) && not (keeps_all p u))) (sym is) ∙ ends in
-    least-some p t (not-true (keeps_all p t) (and_parts (is_none (hazard p t)) (not (keeps_all p t)) here).1)
+    least-some p t (fails (keeps_all p t) (and_parts (is_none (hazard p t)) (not (keeps_all p t)) here).1)
 
 -- what the last state has
 pub hazard-there : (p : PlantLists) (events : List Event) (t : State) (at : HazardAt) → run p (start p) events ≡ Some t → hazard p t ≡ Some at → hazard_after p events ≡ Some at

@@ -1,19 +1,15 @@
 -- The events of rules that each have one.
-use Rattle.std.proofs.Common.{◌≡◌, ℕ, ◌+◌, ◌<◌, true, Option, Some, None, List, [], ◌∷◌, ◌++◌, append_assoc, drop, get_or, length, refl, sym, ap, ◌∙◌}
+use Rattle.std.proofs.Common.{◌≡◌, ℕ, ◌+◌, ◌<◌, true, Option, Some, List, [], ◌∷◌, ◌++◌, append_assoc, drop, get_or, length, sym, ap, ◌∙◌}
 use Rattle.std.proofs.lemmas.List.{append-nil, drop_more}
 use Rattle.std.specs.Prelude.{is_some, option_to_list}
 use Rattle.std.proofs.lemmas.Option.{same_Some}
 use Rattle.ilk_base.specs.Option.{◌>>=◌}
-use Rattle.ilk_base.proofs.Options.{bind_some}
+use Rattle.ilk_base.proofs.Options.{bind_some, some-is}
 use Rattle.ilk_plant.specs.Plant.{PlantLists}
 use Rattle.ilk_model.specs.declared.event.Event.{Event}
 use Rattle.ilk_behave.specs.Behaviour.{event_of_rule}
 use Rattle.ilk_queries.specs.Lifting.{events_by}
 use Rattle.ilk_engine.specs.Lifted.{events_fired}
-
-pub some-is : {A : Type 0} (o : Option A) → is_some o ≡ true → (x : A) × (o ≡ Some x)
-some-is None e = cc
-some-is (Some x) e = (x, refl)
 
 fired-are : (p : PlantLists) (rules : List ℕ) (events : List Event) → events_by p rules ≡ Some events → events_fired p rules ≡ events
 fired-are p [] events e = same_Some [] events e

@@ -1,6 +1,6 @@
 -- Where no run of any length ends in a hazard or breaks a family, each run from the start ends in a state that meets the
 -- invariant.
-use Rattle.std.proofs.Common.{◌≡◌, ℕ, Bool, true, false, not, ◌&&◌, Option, Some, None, List, length, slice_get, refl, ap, ◌∙◌}
+use Rattle.std.proofs.Common.{◌≡◌, Bool, true, false, not, ◌&&◌, Option, Some, None, List, length, refl, ap, ◌∙◌}
 use Rattle.std.specs.Prelude.{is_some, is_none}
 use Rattle.std.proofs.lemmas.Bool.{and_from}
 use Rattle.ilk_base.specs.Option.{is_some_and}
@@ -17,7 +17,7 @@ use Rattle.ilk_model.specs.declared.hazards.HazardAt.{HazardAt}
 use Rattle.ilk_unroll.specs.Goal.{GoalTree}
 use Rattle.ilk_unroll.specs.declared.queries.Wanted.TheVariants.{Hazard, Breach}
 use Rattle.ilk_induct.specs.Evidence.{IsForever}
-use Rattle.ilk_queries.specs.Asked.{HasEvents, ends_in_breach, ends_in_hazard, keeps_all}
+use Rattle.ilk_queries.specs.Asked.{HasEvents, keeps_all}
 use Rattle.ilk_queries.specs.Lifting.{IsGoalOf, RulesStep}
 use Rattle.ilk_queries.proofs.Queries.{shaped-at}
 use Rattle.ilk_queries.proofs.Walks.{run-states, states-shaped}

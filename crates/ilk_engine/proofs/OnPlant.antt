@@ -1,11 +1,10 @@
 -- The verdict on a plant's system, lifted to the plant: a run exists over values exactly where one exists over states.
-use Rattle.std.proofs.Common.{◌≡◌, ◌↔◌, ℕ, ◌<◌, ◌≤◌, true, Option, Some, List, length, refl, sym, ap, subst, ◌∙◌, arith}
+use Rattle.std.proofs.Common.{◌≡◌, ◌↔◌, ℕ, ◌<◌, ◌≤◌, true, arith}
 use Rattle.std.proofs.lemmas.Bool.{le-leb}
 use Rattle.ilk_plant.specs.Plant.{IsPlant, PlantLists}
 use Rattle.ilk_layout.specs.Image.{image_of}
 use Rattle.ilk_behave.specs.Behaviour.{system_of}
 use Rattle.ilk_behave.specs.Steps.{StepsAs}
-use Rattle.ilk_ir.specs.System.{system_valid}
 use Rattle.ilk_unroll.specs.Goal.{GoalTree, wanted_valid}
 use Rattle.ilk_unroll.specs.declared.queries.Wanted.{Wanted}
 use Rattle.ilk_unroll.specs.declared.queries.Wanted.TheVariants.{Hazard, Breach, Step}
@@ -16,7 +15,6 @@ use Rattle.ilk_queries.proofs.Answered.{to-wanted}
 use Rattle.ilk_queries.proofs.Lifted.{has-events}
 use Rattle.ilk_queries.proofs.Steps.{rules-step}
 use Rattle.ilk_induct.specs.Evidence.{HasRun, IsForever, IsNever, Endangers, Breaks}
-use Rattle.ilk_induct.specs.Right.{IsUnsafe, IsBreach, IsSafe, IsNotInductive}
 use Rattle.ilk_engine.specs.Forever.{IsForeverSafe}
 use Rattle.ilk_engine.proofs.Carried.{carried-forever, step-valid}
 use Rattle.ilk_engine.proofs.Lasting.{forever-safe}

@@ -1,10 +1,10 @@
 -- The verdict on a plant's system, told of its states and events, is right of the plant.
-use Rattle.std.proofs.Common.{◌≡◌, ℕ, zero, suc, ◌<◌, ◌≤◌, true, Option, Some, List, length, inl, inr, refl, sym, ap, subst, ◌∙◌, arith}
-use Rattle.std.specs.Prelude.{◌⊎◌, is_some, IsTrue}
+use Rattle.std.proofs.Common.{◌≡◌, ℕ, zero, suc, ◌<◌, ◌≤◌, true, Some, List, length, refl, sym, ap, subst, ◌∙◌, arith}
+use Rattle.std.specs.Prelude.{is_some}
 use Rattle.std.proofs.lemmas.Bool.{le-leb}
 use Rattle.std.proofs.lemmas.Option.{same_Some}
-use Rattle.ilk_ir.specs.System.{SystemTree, in_ranges}
-use Rattle.ilk_plant.specs.Plant.{IsPlant, PlantLists}
+use Rattle.ilk_ir.specs.System.{in_ranges}
+use Rattle.ilk_plant.specs.Plant.{PlantLists}
 use Rattle.ilk_plant.specs.Start.{start}
 use Rattle.ilk_plant.specs.declared.state.State.{State}
 use Rattle.ilk_model.specs.declared.event.Event.{Event}
@@ -14,7 +14,6 @@ use Rattle.ilk_layout.specs.Laws.{AreImage, IsCalm, WellformedAreImages}
 use Rattle.ilk_layout.specs.Variables.{ranges_of_plant}
 use Rattle.ilk_layout.specs.Wellformed.{is_wellformed}
 use Rattle.ilk_behave.specs.Behaviour.{system_of}
-use Rattle.ilk_behave.specs.Steps.{StepsAs}
 use Rattle.ilk_unroll.specs.Goal.{GoalTree, wanted_valid}
 use Rattle.ilk_unroll.specs.Run.{is_wanted_run}
 use Rattle.ilk_unroll.specs.declared.queries.Wanted.{Wanted}
@@ -22,20 +21,17 @@ use Rattle.ilk_unroll.specs.declared.queries.Wanted.TheVariants.{Hazard, Breach 
 use Rattle.ilk_unroll.specs.declared.reading.Trace.{Trace}
 use Rattle.ilk_unroll.proofs.QueryLaw.{wants}
 use Rattle.ilk_queries.specs.Asked.{HasEvents, IsRunFor, ends_in_breach, ends_in_hazard}
-use Rattle.ilk_queries.specs.Goal.{goal_of}
 use Rattle.ilk_queries.specs.Lifting.{IsGoalOf, RulesStep, events_by}
 use Rattle.ilk_queries.proofs.Answered.{first-values, to-asked}
 use Rattle.ilk_queries.proofs.Lifted.{lifted}
-use Rattle.ilk_queries.proofs.Steps.{rules-step}
 use Rattle.ilk_induct.specs.Evidence.{HasRun}
-use Rattle.ilk_induct.specs.Right.{IsBreach, IsNotInductive, IsRight, IsRun, IsUnsafe, Lasts}
+use Rattle.ilk_induct.specs.Right.{IsBreach, IsNotInductive, IsRight, IsRun, IsUnsafe}
 use Rattle.ilk_induct.specs.declared.verdict.Verdict.{Verdict as SystemVerdict}
 use Rattle.ilk_induct.specs.declared.verdict.Verdict.TheVariants as system
-use Rattle.ilk_engine.specs.Lifted.{IsMadeOf}
 use Rattle.ilk_engine.specs.Right.{IsRightFor, broken_after, hazard_after}
-use Rattle.ilk_engine.specs.declared.verdict.Verdict.TheVariants.{Safe, Unsafe, Breach, NotInductive, Spent}
-use Rattle.ilk_engine.proofs.Carried.{carried-breach, carried-not, carried-safe, carried-unsafe, step-valid}
-use Rattle.ilk_engine.proofs.OnPlant.{has-lifted, has-run, safe-forever}
+use Rattle.ilk_engine.specs.declared.verdict.Verdict.TheVariants.{Safe, Unsafe, Breach, NotInductive}
+use Rattle.ilk_engine.proofs.Carried.{carried-breach, carried-not, carried-safe, carried-unsafe}
+use Rattle.ilk_engine.proofs.OnPlant.{has-lifted, has-run}
 
 -- over one plant, whose rules step as its events do, with forms that say what they are to
 module _ (p : PlantLists) (lead : RulesStep p) (g : GoalTree) (goal : IsGoalOf p g) where

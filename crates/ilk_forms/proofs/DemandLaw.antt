@@ -3,6 +3,7 @@ use Rattle.std.proofs.Common.{◌≡◌, ℕ, ◌≤◌, Bool, true, false, not,
 use Rattle.std.proofs.lemmas.List.{append-nil}
 use Rattle.std.proofs.lemmas.List.Folds.{list_all-append, list_any-append}
 use Rattle.std.proofs.lemmas.Bool.{and_parts, and_from}
+use Rattle.std.proofs.Math.Bool.{and-true, or-false}
 use Rattle.ilk_base.proofs.Tested.{list_any-map}
 use Rattle.ilk_cnf.specs.Literal.{Literal}
 use Rattle.ilk_cnf.specs.Formula.{lit_in, clause_in, clauses_in}
@@ -98,10 +99,6 @@ always : (b : Bool) → true ≡ (b || true)
 always true = refl
 always false = refl
 
-last : (b : Bool) → (b && true) ≡ b
-last true = refl
-last false = refl
-
 no_clause-law : (a : List Bool) (first : List Literal) (n : ℕ) → length a ≡ n → Extends a n [] (OnlyIf (some_true a first || true) [])
 no_clause-law a first n size = no_more_if a n [] (some_true a first || true) size (always (some_true a first))
 
@@ -110,11 +107,7 @@ clause-law a first n size = no_more_if a n (first ∷ []) (some_true a first || 
 
 leaf-law : (a : List Bool) (first : List Literal) (l : Literal) (truth : Bool) (n : ℕ) → length a ≡ n → is_true a l ≡ truth → Extends a n ((first ++ l ∷ []) ∷ []) (OnlyIf (some_true a first || truth) [])
 leaf-law a first l truth n size h =
-    no_more_if a n ((first ++ l ∷ []) ∷ []) (some_true a first || truth) size (last (some_true a (first ++ l ∷ [])) ∙ list_any-append (is_true a) first (l ∷ []) ∙ (let one : (is_true a l || false) ≡ truth = or_last (is_true a l) ∙ h in ap (λ (b : Bool). some_true a first || b) one))
-  where
-    or_last : (b : Bool) → (b || false) ≡ b
-    or_last true = refl
-    or_last false = refl
+    no_more_if a n ((first ++ l ∷ []) ∷ []) (some_true a first || truth) size (and-true (some_true a (first ++ l ∷ [])) ∙ list_any-append (is_true a) first (l ∷ []) ∙ (let one : (is_true a l || false) ≡ truth = or-false (is_true a l) ∙ h in ap (λ (b : Bool). some_true a first || b) one))
 
 pub some-law : (a : List Bool) (first : List Literal) (g : Named) (t : Truths) (truth : Bool) (n : ℕ) → length a ≡ n → clause_in n first ≡ true → Fits n g → Says a g t → gate_truth false t.lits ≡ truth → Extends a (some_part first g).vars (some_part first g).clauses (OnlyIf (some_true a first || truth) t.bits)
 some-law a first g t truth n size f fits says means =
@@ -126,7 +119,7 @@ some-law a first g t truth n size f fits says means =
     let low : length a ≤ m = rw size fits.low in
     let old : some_true (a ++ e) first ≡ some_true a first = some_true-left a e first (rw size f) in
     let new : some_true (a ++ e) g.lits ≡ truth = sym (list_any-map (λ (q : Bool). q) (is_true (a ++ e)) g.lits) ∙ ap (gate_truth false) says.means ∙ means in
-    let one : satisfies (a ++ e) (ls ∷ []) ≡ ok = last (some_true (a ++ e) ls) ∙ list_any-append (is_true (a ++ e)) first g.lits ∙ rw (old, new) refl in
+    let one : satisfies (a ++ e) (ls ∷ []) ≡ ok = and-true (some_true (a ++ e) ls) ∙ list_any-append (is_true (a ++ e)) first g.lits ∙ rw (old, new) refl in
     let both : Extends a m (g.part.clauses ++ ls ∷ []) (OnlyIf ok (e ++ [])) = if_then_if a e [] true ok m m g.part.clauses (ls ∷ []) low (same m) fits.inside (if_from_only a m g.part.clauses e says.part) (λ _. no_more_if (a ++ e) m (ls ∷ []) ok long one) in
     subst (λ (d : List Bool). Extends a m (g.part.clauses ++ ls ∷ []) (OnlyIf ok d)) (append-nil e) both
 

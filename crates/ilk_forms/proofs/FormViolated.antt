@@ -1,9 +1,9 @@
 -- The law of a form that is not to hold: exactly where it doesn't, and the new variables have one value each.
-use Rattle.std.proofs.Common.{◌≡◌, ℕ, ◌+◌, ◌*◌, ◌<◌, ◌≤◌, Bool, true, false, not, ◌&&◌, ◌||◌, List, [], ◌∷◌, ◌++◌, length, map, cond, eqb, Option, Some, None, refl, inl, inr, sym, ap, ◌∙◌, subst, arith, length-append}
+use Rattle.std.proofs.Common.{◌≡◌, ℕ, ◌+◌, ◌*◌, ◌<◌, ◌≤◌, Bool, true, false, not, ◌||◌, List, [], ◌∷◌, ◌++◌, length, map, cond, eqb, Option, Some, None, refl, inl, inr, sym, ap, ◌∙◌, subst, arith, length-append}
 use Rattle.std.specs.List.{list_all}
 use Rattle.std.proofs.lemmas.List.{append-nil}
 use Rattle.std.proofs.lemmas.List.Folds.{list_all-append, list_all-map}
-use Rattle.std.proofs.lemmas.Bool.{and_from, or_cases, or_parts, ne_eqb, false≢true}
+use Rattle.std.proofs.lemmas.Bool.{and_from, or_cases, or_parts, ne_eqb, false≢true, and_left, and_right}
 use Rattle.ilk_cnf.specs.Literal.{Literal}
 use Rattle.ilk_cnf.specs.Formula.{Formula, clause_in}
 use Rattle.ilk_cnf.specs.Truth.{is_true}
@@ -74,14 +74,6 @@ none-holds : (ts : Trees) (ws : List ℕ) → no_trees ts ≡ true → (each_hol
 none-holds none ws h = (refl, refl)
 none-holds (more t ts) ws h = absurd (false≢true h)
 
-left_false : (p q : Bool) → p ≡ false → (p && q) ≡ false
-left_false true q h = absurd (false≢true (sym h))
-left_false false q h = refl
-
-right_false : (p q : Bool) → q ≡ false → (p && q) ≡ false
-right_false true q h = h
-right_false false q h = refl
-
 left_true : (p q : Bool) → not p ≡ false → not (p || q) ≡ false
 left_true true q h = refl
 left_true false q h = absurd (false≢true (sym h))
@@ -112,8 +104,8 @@ mutual
   some_never-means none ws positive h = absurd (false≢true h)
   some_never-means (more t ts) ws true h =
       elim (or_cases (never_kept true t) (some_never true ts) h) [
-        | inl here ↦ left_false (tree_holds ws t) (each_holds ws ts) (never-means t ws true here)
-        | inr later ↦ right_false (tree_holds ws t) (each_holds ws ts) (some_never-means ts ws true later)
+        | inl here ↦ and_left (tree_holds ws t) (each_holds ws ts) (never-means t ws true here)
+        | inr later ↦ and_right (tree_holds ws t) (each_holds ws ts) (some_never-means ts ws true later)
       ]
   some_never-means (more t ts) ws false h =
       elim (or_cases (never_kept false t) (some_never false ts) h) [

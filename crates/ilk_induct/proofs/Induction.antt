@@ -5,6 +5,8 @@ use Rattle.std.specs.List.{list_all, flat_map}
 use Rattle.std.proofs.lemmas.Bool.{and_from, and_parts}
 use Rattle.std.proofs.lemmas.List.{length-drop, length-take-le}
 use Rattle.std.proofs.lemmas.List.Folds.{list_all-append}
+use Rattle.ilk_base.proofs.Truth.{fails}
+use Rattle.ilk_base.proofs.Lists.{get-taken, get-dropped}
 use Rattle.ilk_base.specs.Option.{is_some_and}
 use Rattle.ilk_base.proofs.Ranges.{below_or_past}
 use Rattle.ilk_base.proofs.Tested.{list_all-slice_get}
@@ -17,7 +19,7 @@ use Rattle.ilk_unroll.specs.Run.{run_from, met_by}
 use Rattle.ilk_unroll.proofs.Runs.{run-is}
 use Rattle.ilk_induct.specs.Evidence.{HasRun}
 use Rattle.ilk_induct.proofs.Demands.{below-each, below-from, each-below-from, IsWanted, wanted-parts, wanted-from}
-use Rattle.ilk_induct.proofs.Middles.{middle, get-dropped, get-taken}
+use Rattle.ilk_induct.proofs.Middles.{middle}
 
 -- what is met by a run, by the rest of it, and by the run up to a number
 met-at : (run : List (List ℕ)) (d : Demanded) (values : List ℕ) → slice_get run d.copy ≡ Some values → met_by run d ≡ cond d.holds (tree_holds values d.form) (not (tree_holds values d.form))
@@ -98,10 +100,6 @@ and-false : (a : Bool) → (a && false) ≡ false
 and-false true = refl
 and-false false = refl
 
-not-met : (b : Bool) → not b ≡ true → b ≡ false
-not-met true h = cc
-not-met false h = refl
-
 breach-steps : (s : SystemTree) (g : GoalTree) (k n : ℕ) → list_all (rule_valid s.ranges) s.rules ≡ true → k ≤ n → ((j : ℕ) → j < n → ¬ HasRun s g (Breach j)) → HasRun s g (Breach n) → HasRun s g (Step k)
 breach-steps s g k n valid le none has =
     let w = wanted-parts s g (Breach n) has.0 has.1 has.2 in
@@ -111,7 +109,7 @@ breach-steps s g k n valid le none has =
     let rest = and_parts (list_all (met_by w.run) (holds_below g.wellformed (n + 1))) (met_by w.run (fails_in n T) && true) (sym (list_all-append (met_by w.run) (holds_below g.wellformed (n + 1)) (fails_in n T ∷ [])) ∙ parts.1) in
     let broken = (and_parts (met_by w.run (fails_in n T)) true rest.1).0 in
     let m = middle s has.1 has.0 w.run n (omega arith) w.is in
-    let here : tree_holds m.values T ≡ false = not-met (tree_holds m.values T) (sym (met-at w.run (fails_in n T) m.values m.at) ∙ broken) in
+    let here : tree_holds m.values T ≡ false = fails (tree_holds m.values T) (sym (met-at w.run (fails_in n T) m.values m.at) ∙ broken) in
     let last = met-at w.run (fails_in n (all_of (trees (negation g.hazard ∷ g.families)))) m.values m.at ∙ ap (λ (b : Bool). not (not (tree_holds m.values g.hazard) && b)) here ∙ ap not (and-false (not (tree_holds m.values g.hazard))) in
     last-steps s g k n has.0 has.1 valid le (record { in_range = w.in_range; many = w.many; run = w.run; is = w.is; start = parts.0; wellformed = λ j less. below-each w.run g.wellformed (n + 1) j rest.0 (omega arith) }) none last
 

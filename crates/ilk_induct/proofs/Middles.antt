@@ -1,5 +1,5 @@
 -- A run at one of its value lists: what is before it and what is after it are runs.
-use Rattle.std.proofs.Common.{◌≡◌, ℕ, zero, suc, ◌+◌, ◌≤◌, ◌<◌, List, [], ◌∷◌, length, take, drop, slice_get, Option, Some, refl, sym, ap, ◌∙◌, arith}
+use Rattle.std.proofs.Common.{◌≡◌, ℕ, zero, suc, ◌≤◌, List, [], ◌∷◌, length, take, drop, slice_get, Option, Some, sym, ap, ◌∙◌, arith}
 use Rattle.std.specs.Prelude.{option_map, option_and_then}
 use Rattle.std.proofs.lemmas.Option.{same_Some}
 use Rattle.ilk_base.proofs.Options.{mapped-Some, bind_some}
@@ -43,17 +43,3 @@ middle s (rule ∷ rules) first run (suc j) h is =
           ∙ ap (λ (u : List (List ℕ)). Some (take (suc (suc j)) u)) e;
       after = m.after ∙ ap (λ (u : List (List ℕ)). Some (drop (suc j) u)) e;
     }
-
--- what stands in the rest of a list, and in the list up to a number
-pub get-dropped : {X : Type 0} (xs : List X) (m i : ℕ) → slice_get (drop m xs) i ≡ slice_get xs (m + i)
-get-dropped xs zero i = let e : i ≡ 0 + i = omega arith in ap (slice_get xs) e
-get-dropped [] (suc m) i = let e : suc m + i ≡ suc (m + i) = omega arith in sym (ap (slice_get []) e)
-get-dropped (x ∷ xs) (suc m) i =
-    let e : suc m + i ≡ suc (m + i) = omega arith in
-    get-dropped xs m i ∙ sym (ap (slice_get (x ∷ xs)) e)
-
-pub get-taken : {X : Type 0} (xs : List X) (m i : ℕ) → i < m → slice_get (take m xs) i ≡ slice_get xs i
-get-taken xs zero i h = absurd (omega arith)
-get-taken [] (suc m) i h = refl
-get-taken (x ∷ xs) (suc m) zero h = refl
-get-taken (x ∷ xs) (suc m) (suc i) h = get-taken xs m i (omega arith)

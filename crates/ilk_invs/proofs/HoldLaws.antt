@@ -7,24 +7,23 @@ use Rattle.std.proofs.lemmas.Bool.{and_parts, cases_Bool, cases_eq, eq-eqb, eqb-
 use Rattle.std.proofs.lemmas.Bool.Decides.{nat_tests}
 use Rattle.std.proofs.lemmas.List.Folds.{list_all-append, list_all-map}
 use Rattle.std.proofs.lemmas.Option.{same_Some}
+use Rattle.ilk_base.proofs.Truth.{same_truth}
 use Rattle.ilk_base.specs.Each.{each_below}
-use Rattle.ilk_base.proofs.Lists.{item_at, take-at}
+use Rattle.ilk_base.proofs.Lists.{item_at, take-at, taken-before}
 use Rattle.ilk_base.proofs.ListTests.{all-at, list_all-alike, list_all-flat_map}
 use Rattle.ilk_base.proofs.Once.{EachOnce}
 use Rattle.ilk_base.proofs.Ranges.{below_or_past, passing_within, range-at, range_within}
-use Rattle.ilk_base.proofs.Tested.{list_all-slice_get}
+use Rattle.ilk_base.proofs.Tested.{list_all-slice_get, all-pass}
 use Rattle.ilk_ir.specs.Tree.{negation, tree_holds}
 use Rattle.ilk_plant.specs.Network.{has_section}
-use Rattle.ilk_plant.specs.Plant.{IsPlant, IsRouteOf, PlantLists}
+use Rattle.ilk_plant.specs.Plant.{IsPlant, PlantLists}
 use Rattle.ilk_plant.specs.Shape.{HasShape}
 use Rattle.ilk_plant.specs.State.{has_lock}
 use Rattle.ilk_plant.specs.TableRules.{sections_locked_for}
 use Rattle.ilk_plant.specs.declared.state.Hold.TheVariants.{Locked as LockedLock, Used as UsedLock}
 use Rattle.ilk_plant.specs.declared.state.RouteState.{RouteState}
 use Rattle.ilk_plant.specs.declared.state.State.{State}
-use Rattle.ilk_plant.specs.declared.table.Listed.{Listed}
 use Rattle.ilk_plant.specs.declared.table.Route.{Route}
-use Rattle.std.proofs.lemmas.List.Elements.{All-append, All-map}
 use Rattle.ilk_routes.specs.Claims.{sections_beside}
 use Rattle.ilk_model.specs.Families.{has_its_locks, keeps_v2, keeps_v3, lock_on_path}
 use Rattle.ilk_model.specs.Holding.{each_place, holds_section, holds_sections, is_kept_on_path, route_holds}
@@ -38,12 +37,8 @@ use Rattle.ilk_invs.proofs.HeldLaws.{below-next, holding_section-holds, is_holdi
 use Rattle.ilk_invs.proofs.PartLaws.{each-place, each-route, each_of-holds, state_of_route, where-holds}
 use Rattle.ilk_invs.proofs.PointLaws.{kept-has}
 use Rattle.ilk_invs.proofs.Sections.{sections_of_route}
-use Rattle.ilk_invs.proofs.Tests.{enumerated, enumerated-at, list_all-each, same_test}
-
--- the sections beside a route's path are sections
-pub beside-known : (p : PlantLists) (route : Route) → IsRouteOf p route → (i x : ℕ) → slice_get (sections_beside route) i ≡ Some x → x < length p.sections
-beside-known p route of i x at =
-    all-at (λ x. x < length p.sections) (sections_beside route) i x (All-append (λ x. x < length p.sections) route.overlap (map (λ listed. listed.point) route.protecting_points) of.overlap (All-map (λ x. x < length p.sections) (λ (listed : Listed). listed.point) route.protecting_points of.protecting_points)) at
+use Rattle.ilk_invs.proofs.Tests.{enumerated, enumerated-at, if-passes, passes-if, dropped-at}
+use Rattle.ilk_routes.proofs.Shape.{beside-known}
 
 -- numbers of a range that pass a test: each stands once, and each that passes stands there
 passing-above : (test : ℕ → Bool) (a n i x : ℕ) → slice_get (filter test (range_with_len a n)) i ≡ Some x → a ≤ x
@@ -86,20 +81,6 @@ filter-place {X} test (y ∷ xs) (suc k) x at h =
       | inr away ↦ (later.0, rw away later.1)
     ]
 
-taken-before : {X : Type 0} (n : ℕ) (xs : List X) (k : ℕ) (x : X) → slice_get (take n xs) k ≡ Some x → (k < n) × (slice_get xs k ≡ Some x)
-taken-before zero [] k x at = cc
-taken-before zero (y ∷ xs) k x at = cc
-taken-before (suc n) [] k x at = cc
-taken-before (suc n) (y ∷ xs) zero x at = (omega arith, at)
-taken-before (suc n) (y ∷ xs) (suc k) x at =
-    let rest = taken-before n xs k x at in
-    let less = rest.0 in
-    (omega (arith, less), rest.1)
-
-past-first : {X : Type 0} (xs : List X) (k : ℕ) (x : X) → slice_get (drop 1 xs) k ≡ Some x → slice_get xs (1 + k) ≡ Some x
-past-first [] k x at = cc
-past-first (y ∷ xs) k x at = let sum : 1 + k ≡ suc k = omega arith in ap (slice_get (y ∷ xs)) sum ∙ at
-
 before-first : {X : Type 0} (xs : List X) (k : ℕ) (x : X) → slice_get xs (suc k) ≡ Some x → slice_get (drop 1 xs) k ≡ Some x
 before-first [] k x at = cc
 before-first (y ∷ xs) k x at = at
@@ -107,14 +88,6 @@ before-first (y ∷ xs) k x at = at
 not-both : (a b : Bool) → not (a && b) ≡ true → a ≡ true → not b ≡ true
 not-both true b h e = h
 not-both false b h e = cc
-
-if-holds : (a b : Bool) → (if a then b else true) ≡ true → a ≡ true → b ≡ true
-if-holds true b h e = h
-if-holds false b h e = cc
-
-from-if : (a b : Bool) → (a ≡ true → b ≡ true) → (if a then b else true) ≡ true
-from-if true b f = f refl
-from-if false b f = refl
 
 not-true-false : (a : Bool) → not a ≡ true → a ≡ true → ⊥
 not-true-false true h e = cc
@@ -219,7 +192,7 @@ module _ (p : PlantLists) (plant : IsPlant p) (s : State) (shape : HasShape p s)
       let each = sym (list_all-map (tree_holds (image_of p s)) (λ place. none_before p x (take place.0 (holders p x)) place.1) (enumerate_from 1 (drop 1 (holders p x)))) ∙ all in
       let this : tree_holds (image_of p s) (none_before p x (take (1 + j) (holders p x)) q) ≡ true = list_all-slice_get (λ place. tree_holds (image_of p s) (none_before p x (take place.0 (holders p x)) place.1)) (enumerate_from 1 (drop 1 (holders p x))) j (1 + j, q) each place in
       let says = sym (none_before-holds x (take (1 + j) (holders p x)) q (holder-known x (suc j) q also) (before-known x (1 + j))) ∙ this in
-      let none = if-holds (route_holds p s q x) (list_all (λ q. not (route_holds p s q x)) (take (1 + j) (holders p x))) says two in
+      let none = if-passes (route_holds p s q x) (list_all (λ q. not (route_holds p s q x)) (take (1 + j) (holders p x))) says two in
       let first = list_all-slice_get (λ q. not (route_holds p s q x)) (take (1 + j) (holders p x)) i r none (take-at (holders p x) i (1 + j) r (omega (arith, less)) at) in
       not-true-false (route_holds p s r x) first one
 
@@ -231,12 +204,12 @@ module _ (p : PlantLists) (plant : IsPlant p) (s : State) (shape : HasShape p s)
   v2-law =
       each_of-holds (image_of p s) (flat_map (held_once p) (range_with_len 0 (length p.sections)))
       ∙ list_all-flat_map (tree_holds (image_of p s)) (held_once p) (range_with_len 0 (length p.sections))
-      ∙ same_test (list_all (λ x. list_all (tree_holds (image_of p s)) (held_once p x)) (range_with_len 0 (length p.sections))) (keeps_v2 p s) forth back
+      ∙ same_truth (list_all (λ x. list_all (tree_holds (image_of p s)) (held_once p x)) (range_with_len 0 (length p.sections))) (keeps_v2 p s) forth back
     where
       forth : list_all (λ x. list_all (tree_holds (image_of p s)) (held_once p x)) (range_with_len 0 (length p.sections)) ≡ true → keeps_v2 p s ≡ true
       forth h =
-          list_all-each (λ r. each_below (length p.routes) (apart_test r)) (range_with_len 0 (length p.routes)) (λ i r first.
-          list_all-each (apart_test r) (range_with_len 0 (length p.routes)) (λ k q second.
+          all-pass (λ r. each_below (length p.routes) (apart_test r)) (range_with_len 0 (length p.routes)) (λ i r first.
+          all-pass (apart_test r) (range_with_len 0 (length p.routes)) (λ k q second.
           of_two r q (range_within (length p.routes) i r first).1 (range_within (length p.routes) k q second).1))
         where
           never : (x r q : ℕ) → (r ≡ q → ⊥) → x < length p.sections → r < length p.routes → q < length p.routes → route_holds p s r x ≡ true → route_holds p s q x ≡ true → ⊥
@@ -264,20 +237,20 @@ module _ (p : PlantLists) (plant : IsPlant p) (s : State) (shape : HasShape p s)
                 | inl same ↦ or_left (r == q) (each_below (length p.sections) (λ x. not (route_holds p s r x && route_holds p s q x))) (eq-eqb r q same)
                 | inr apart ↦
                     or_right (r == q) (each_below (length p.sections) (λ x. not (route_holds p s r x && route_holds p s q x)))
-                    (list_all-each (λ x. not (route_holds p s r x && route_holds p s q x)) (range_with_len 0 (length p.sections)) (λ i x found.
+                    (all-pass (λ x. not (route_holds p s r x && route_holds p s q x)) (range_with_len 0 (length p.sections)) (λ i x found.
                     both x r q apart (range_within (length p.sections) i x found).1 one_known two_known (route_holds p s r x) (route_holds p s q x) refl refl))
               ]
 
       back : keeps_v2 p s ≡ true → list_all (λ x. list_all (tree_holds (image_of p s)) (held_once p x)) (range_with_len 0 (length p.sections)) ≡ true
       back h =
-          list_all-each (λ x. list_all (tree_holds (image_of p s)) (held_once p x)) (range_with_len 0 (length p.sections)) (λ i x found.
+          all-pass (λ x. list_all (tree_holds (image_of p s)) (held_once p x)) (range_with_len 0 (length p.sections)) (λ i x found.
           list_all-map (tree_holds (image_of p s)) (λ place. none_before p x (take place.0 (holders p x)) place.1) (enumerate_from 1 (drop 1 (holders p x)))
-          ∙ list_all-each (λ place. tree_holds (image_of p s) (none_before p x (take place.0 (holders p x)) place.1)) (enumerate_from 1 (drop 1 (holders p x))) (λ k place there.
+          ∙ all-pass (λ place. tree_holds (image_of p s) (none_before p x (take place.0 (holders p x)) place.1)) (enumerate_from 1 (drop 1 (holders p x))) (λ k place there.
           let it = enumerated 1 (drop 1 (holders p x)) k place there in
-          let at = past-first (holders p x) k place.1 it.1 in
+          let at = dropped-at 1 (holders p x) k place.1 it.1 in
           none_before-holds x (take place.0 (holders p x)) place.1 (holder-known x (1 + k) place.1 at) (before-known x place.0)
-          ∙ from-if (route_holds p s place.1 x) (list_all (λ q. not (route_holds p s q x)) (take place.0 (holders p x))) (λ one.
-          list_all-each (λ q. not (route_holds p s q x)) (take place.0 (holders p x)) (λ j q before.
+          ∙ passes-if (route_holds p s place.1 x) (list_all (λ q. not (route_holds p s q x)) (take place.0 (holders p x))) (λ one.
+          all-pass (λ q. not (route_holds p s q x)) (take place.0 (holders p x)) (λ j q before.
           let earlier = taken-before place.0 (holders p x) j q before in
           earlier-not x (1 + k) j place.1 q (range_within (length p.sections) i x found).1 (let less = earlier.0 in let same = it.0 in omega (arith, less, same)) at earlier.1 one))))
         where

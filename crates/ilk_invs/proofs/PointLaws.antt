@@ -2,11 +2,10 @@
 use Rattle.std.proofs.Common.{◌≡◌, ℕ, ◌==◌, Bool, true, false, not, ◌&&◌, ◌||◌, map, nat_le, slice_get, Some, refl, sym, ◌∙◌, ap}
 use Rattle.std.specs.Prelude.{if◌then◌else◌}
 use Rattle.std.specs.List.{enumerate_from, list_all}
-use Rattle.std.proofs.lemmas.Bool.{and_parts, false≢true}
+use Rattle.std.proofs.lemmas.Bool.{and_parts, false≢true, false_from_ne_true}
 use Rattle.std.proofs.lemmas.List.Folds.{list_all-map}
 use Rattle.ilk_base.proofs.ListTests.{list_all-alike}
 use Rattle.ilk_base.proofs.Tested.{list_any-at, list_any-from}
-use Rattle.ilk_base.proofs.Truth.{not-true}
 use Rattle.ilk_ir.specs.Tree.{tree_holds}
 use Rattle.ilk_plant.specs.Network.{has_section}
 use Rattle.ilk_plant.specs.Plant.{PlantLists}
@@ -40,7 +39,7 @@ kept-has route now x h =
     list_any-from (λ y. y == x) route.path found.0 found.1.1 it.1 (and_parts (nat_le now.rel found.1.0) (found.1.1 == x) found.3).1
 
 pub not-kept : (route : Route) (now : RouteState) (x : ℕ) → has_section x route.path ≡ false → is_kept_on_path route now x ≡ false
-not-kept route now x away = not-true (is_kept_on_path route now x) (λ h. false≢true (sym away ∙ kept-has route now x h))
+not-kept route now x away = false_from_ne_true (is_kept_on_path route now x) (λ h. false≢true (sym away ∙ kept-has route now x h))
 
 module _ (p : PlantLists) (s : State) (shape : HasShape p s) where
   set_for-holds : (r : ℕ) (route : Route) (now : RouteState) (listed : Listed) → slice_get p.routes r ≡ Some route → slice_get s.routes r ≡ Some now → tree_holds (image_of p s) (set_for p r route listed) ≡ ((not (same_mode now.mode Allocating) || is_commanded_as_listed p s listed) && (not (is_locked_or_occupied now && is_kept_on_path route now listed.point) || (is_commanded_as_listed p s listed && lies_as_listed p s listed)))

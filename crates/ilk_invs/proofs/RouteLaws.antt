@@ -5,6 +5,7 @@ use Rattle.std.specs.Prelude.{if◌then◌else◌}
 use Rattle.std.specs.List.{list_all, list_any, range_with_len}
 use Rattle.std.proofs.lemmas.Bool.Decides.{nat_tests}
 use Rattle.std.proofs.lemmas.List.Folds.{list_all-map}
+use Rattle.ilk_base.proofs.Tested.{all-pass}
 use Rattle.ilk_base.proofs.ListTests.{all-at, list_all-alike}
 use Rattle.ilk_base.proofs.Ranges.{range_within}
 use Rattle.ilk_ir.specs.Tree.{negation, tree_holds}
@@ -29,7 +30,7 @@ use Rattle.ilk_invs.specs.Parts.{each_of, of_each_route, some_of, where_holds}
 use Rattle.ilk_invs.specs.RouteFamilies.{counts_of, opened_for, path_vacant, v1_tree, v4_tree, v5_tree, v9_tree}
 use Rattle.ilk_invs.proofs.HeldLaws.{rel_below-holds}
 use Rattle.ilk_invs.proofs.PartLaws.{any-if, each-route, each_of-holds, some-route, some_of-holds, vacant-all, where-holds}
-use Rattle.ilk_invs.proofs.Tests.{asked-at, list_all-each}
+use Rattle.ilk_invs.proofs.Tests.{asked-at}
 
 module _ (p : PlantLists) (plant : IsPlant p) (s : State) (shape : HasShape p s) where
   -- the condition on one count
@@ -52,7 +53,7 @@ module _ (p : PlantLists) (plant : IsPlant p) (s : State) (shape : HasShape p s)
     where
       by_mode : (b : Bool) → now.seen < length route.path + 1 → list_all (λ k. not b || (not (now.seen == k) || nat_lt now.rel k)) (range_with_len 0 (length route.path + 1)) ≡ (not b || nat_lt now.rel now.seen)
       by_mode true within = asked-at (λ k. nat_lt now.rel k) now.seen (length route.path + 1) within
-      by_mode false within = list_all-each (λ k. true) (range_with_len 0 (length route.path + 1)) (λ i k found. refl)
+      by_mode false within = all-pass (λ k. true) (range_with_len 0 (length route.path + 1)) (λ i k found. refl)
 
   v1-of : (r : ℕ) (route : Route) (now : RouteState) → slice_get p.routes r ≡ Some route → slice_get s.routes r ≡ Some now → list_all (tree_holds (image_of p s)) (counts_of r route ∷ []) ≡ (if same_mode now.mode Occupied then nat_lt now.rel now.seen && nat_le now.seen (length route.path) else now.seen == 0 && now.rel == 0)
   v1-of r route now known at =
@@ -95,7 +96,7 @@ module _ (p : PlantLists) (plant : IsPlant p) (s : State) (shape : HasShape p s)
     where
       by_mode : (b : Bool) → list_all (λ m. if b then has_aspect s m Closed else true) route.protecting_boards ≡ (if b then list_all (λ m. has_aspect s m Closed) route.protecting_boards else true)
       by_mode true = refl
-      by_mode false = list_all-each (λ m. true) route.protecting_boards (λ i m found. refl)
+      by_mode false = all-pass (λ m. true) route.protecting_boards (λ i m found. refl)
 
   pub v9-law : tree_holds (image_of p s) (v9_tree p) ≡ keeps_v9 p s
   v9-law =

@@ -1,29 +1,20 @@
 -- Tests of lists that conditions are made of: of ranges, of places, of lists of lists.
 use Rattle.std.proofs.Common.{◌≡◌, ℕ, zero, suc, ◌+◌, ◌<◌, ◌==◌, Bool, true, false, not, ◌&&◌, ◌||◌, Some, List, [], ◌∷◌, drop, filter, nat_lt, slice_get, refl, sym, ◌∙◌, ap, arith}
 use Rattle.std.specs.List.{enumerate_from, flat_map, list_all, list_any, range_with_len}
-use Rattle.std.proofs.lemmas.Bool.{and_from, and_parts, eq-eqb, eqb-true, false≢true}
+use Rattle.std.proofs.lemmas.Bool.{and_from, and_parts, eq-eqb, eqb-true}
 use Rattle.std.proofs.lemmas.Bool.Decides.{nat_tests}
 use Rattle.std.proofs.lemmas.List.Folds.{list_any-append}
 use Rattle.std.proofs.lemmas.Option.{same_Some}
+use Rattle.std.specs.Prelude.{if◌then◌else◌}
+use Rattle.ilk_base.proofs.Lists.{get-dropped}
 use Rattle.ilk_base.proofs.Ranges.{range-at, range_within}
-use Rattle.ilk_base.proofs.Tested.{list_all-slice_get, list_any-at, list_any-from}
-use Rattle.ilk_base.proofs.Truth.{not-true}
-
--- two tests are one where each passes if the other does
-pub same_test : (a b : Bool) → (a ≡ true → b ≡ true) → (b ≡ true → a ≡ true) → a ≡ b
-same_test true b there back = sym (there refl)
-same_test false b there back = sym (not-true b (λ h. absurd (false≢true (back h))))
+use Rattle.ilk_base.proofs.Tested.{list_all-slice_get, list_any-at, list_any-from, all-pass}
+use Rattle.ilk_base.proofs.Truth.{same_truth}
 
 pub list_any-flat_map : {X Y : Type 0} (f : Y → Bool) (g : X → List Y) (xs : List X) → list_any f (flat_map g xs) ≡ list_any (λ x. list_any f (g x)) xs
 list_any-flat_map f g [] = refl
 list_any-flat_map f g (x ∷ xs) =
     list_any-append f (g x) (flat_map g xs) ∙ ap (λ b. list_any f (g x) || b) (list_any-flat_map f g xs)
-
--- all items pass where the one at each place does
-pub list_all-each : {X : Type 0} (f : X → Bool) (xs : List X) → ((i : ℕ) (x : X) → slice_get xs i ≡ Some x → f x ≡ true) → list_all f xs ≡ true
-list_all-each f [] each = refl
-list_all-each f (x ∷ xs) each =
-    let here : f x ≡ true = each 0 x refl in rw here (list_all-each f xs (λ i y at. each (suc i) y at))
 
 -- no item passes where none does
 pub list_any-never : {X : Type 0} (f : X → Bool) (xs : List X) → ((x : X) → f x ≡ false) → list_any f xs ≡ false
@@ -64,7 +55,7 @@ enumerated-at k (y ∷ xs) (suc i) x at =
 -- one of the numbers below n is c exactly where c is below n
 pub counted-below : (c n : ℕ) → list_any (λ x. c == x) (range_with_len 0 n) ≡ nat_lt c n
 counted-below c n =
-    same_test (list_any (λ x. c == x) (range_with_len 0 n)) (nat_lt c n) (λ h.
+    same_truth (list_any (λ x. c == x) (range_with_len 0 n)) (nat_lt c n) (λ h.
     let found : (k : ℕ) × (x : ℕ) × (slice_get (range_with_len 0 n) k ≡ Some x) × ((c == x) ≡ true) = list_any-at (λ x. c == x) (range_with_len 0 n) h in
     let below : found.1 < n = (range_within n found.0 found.1 found.2).1 in
     let same : c ≡ found.1 = eqb-true c found.1 found.3 in
@@ -76,11 +67,11 @@ counted-below c n =
 -- what is asked of each number below n where it is c, is asked of c
 pub asked-at : (test : ℕ → Bool) (c n : ℕ) → c < n → list_all (λ k. not (c == k) || test k) (range_with_len 0 n) ≡ test c
 asked-at test c n within =
-    same_test (list_all (λ k. not (c == k) || test k) (range_with_len 0 n)) (test c) (λ h.
+    same_truth (list_all (λ k. not (c == k) || test k) (range_with_len 0 n)) (test c) (λ h.
     let here : (not (c == c) || test c) ≡ true = list_all-slice_get (λ k. not (c == k) || test k) (range_with_len 0 n) c c h (range-at n c within) in
     let own : (c == c) ≡ true = eq-eqb c c refl in
     rw own at here) (λ h.
-    list_all-each (λ k. not (c == k) || test k) (range_with_len 0 n) (λ i k at. by_same k h (c == k) refl))
+    all-pass (λ k. not (c == k) || test k) (range_with_len 0 n) (λ i k at. by_same k h (c == k) refl))
   where
     by_same : (k : ℕ) → test c ≡ true → (b : Bool) → (c == k) ≡ b → (not (c == k) || test k) ≡ true
     by_same k h true e = rw e (ap test (sym (eqb-true c k e)) ∙ h)
@@ -89,15 +80,21 @@ asked-at test c n within =
 -- one of the numbers below n passes and is c exactly where c passes
 pub found-at : (test : ℕ → Bool) (c n : ℕ) → c < n → list_any (λ k. test k && (c == k)) (range_with_len 0 n) ≡ test c
 found-at test c n within =
-    same_test (list_any (λ k. test k && (c == k)) (range_with_len 0 n)) (test c) (λ h.
+    same_truth (list_any (λ k. test k && (c == k)) (range_with_len 0 n)) (test c) (λ h.
     let found : (i : ℕ) × (k : ℕ) × (slice_get (range_with_len 0 n) i ≡ Some k) × ((test k && (c == k)) ≡ true) = list_any-at (λ k. test k && (c == k)) (range_with_len 0 n) h in
     let passes = and_parts (test found.1) (c == found.1) found.3 in
     ap test (eqb-true c found.1 passes.1) ∙ passes.0) (λ h.
     list_any-from (λ k. test k && (c == k)) (range_with_len 0 n) c c (range-at n c within) (and_from (test c) (c == c) h (eq-eqb c c refl)))
 
--- what is left of a list stands further on in the whole
+-- a test that is asked only where another passes
+pub if-passes : (a b : Bool) → (if a then b else true) ≡ true → a ≡ true → b ≡ true
+if-passes true b h e = h
+if-passes false b h e = cc
+
+pub passes-if : (a b : Bool) → (a ≡ true → b ≡ true) → (if a then b else true) ≡ true
+passes-if true b f = f refl
+passes-if false b f = refl
+
+-- what stands in the rest of a list
 pub dropped-at : {X : Type 0} (n : ℕ) (xs : List X) (k : ℕ) (x : X) → slice_get (drop n xs) k ≡ Some x → slice_get xs (n + k) ≡ Some x
-dropped-at zero xs k x at = let sum : 0 + k ≡ k = omega arith in ap (slice_get xs) sum ∙ at
-dropped-at (suc n) [] k x at = cc
-dropped-at (suc n) (y ∷ xs) k x at =
-    let sum : suc n + k ≡ suc (n + k) = omega arith in ap (slice_get (y ∷ xs)) sum ∙ dropped-at n xs k x at
+dropped-at n xs k x at = sym (get-dropped xs n k) ∙ at

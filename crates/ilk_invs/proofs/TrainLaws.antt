@@ -7,11 +7,12 @@ use Rattle.std.specs.List.{enumerate_from, flat_map, last_or, list_all, list_any
 use Rattle.std.proofs.lemmas.Bool.{and_parts, and_from, cases_lt, eq-eqb, eqb-true}
 use Rattle.std.proofs.lemmas.Bool.Decides.{nat_tests}
 use Rattle.std.proofs.lemmas.List.Folds.{list_all-append}
+use Rattle.ilk_base.proofs.Truth.{same_truth}
 use Rattle.ilk_base.specs.Option.{is_some_and}
-use Rattle.ilk_base.proofs.Lists.{last_or-at}
+use Rattle.ilk_base.proofs.Lists.{last_or-at, last-some}
 use Rattle.ilk_base.proofs.ListTests.{all-at, list_all-alike, list_all-flat_map}
 use Rattle.ilk_base.proofs.Ranges.{range-at, range_within}
-use Rattle.ilk_base.proofs.Tested.{list_all-slice_get}
+use Rattle.ilk_base.proofs.Tested.{list_all-slice_get, all-pass}
 use Rattle.ilk_ir.specs.Tree.{Tree, negation, tree_holds}
 use Rattle.ilk_plant.specs.Network.{has_section}
 use Rattle.ilk_plant.specs.Plant.{IsPlant, PlantLists}
@@ -46,7 +47,7 @@ use Rattle.ilk_invs.specs.TrainFamilies.{body_at, head_at, keeps_at, kept_at, le
 use Rattle.ilk_invs.proofs.HeldLaws.{below-next, kept_on_path-holds, locked_or_occupied-holds, seen_below-holds}
 use Rattle.ilk_invs.proofs.PartLaws.{any-if, each_of-holds, some-place, some-route, some_of-holds, vacant-all}
 use Rattle.ilk_invs.proofs.PointLaws.{not-kept}
-use Rattle.ilk_invs.proofs.Tests.{dropped-at, list_all-each, list_any-never, same_test}
+use Rattle.ilk_invs.proofs.Tests.{dropped-at, list_any-never, if-passes, passes-if}
 
 -- whether an occupancy is by a train in direction d; whether it has its head there
 abbrev has_head_in : Dir → Occupancy → Bool
@@ -148,14 +149,6 @@ passes-then : (a b : Bool) → (a ≡ true → b ≡ true) → (not a || b) ≡ 
 passes-then true b f = f refl
 passes-then false b f = refl
 
-if-passes : (a b : Bool) → (if a then b else true) ≡ true → a ≡ true → b ≡ true
-if-passes true b h e = h
-if-passes false b h e = cc
-
-passes-if : (a b : Bool) → (a ≡ true → b ≡ true) → (if a then b else true) ≡ true
-passes-if true b f = f refl
-passes-if false b f = refl
-
 -- the last section of a body stands at its last place
 last-place : (body : List ℕ) (x : ℕ) → last_or None body ≡ Some x → (k : ℕ) × (slice_get body k ≡ Some x) × (k + 1 ≡ length body)
 last-place [] x e = cc
@@ -167,10 +160,6 @@ last-place (y ∷ rest) x e = past y rest x e
         let later = past z rest x e in
         let sum = later.2 in
         (suc later.0, later.1, omega (arith, sum))
-
-last-some : (y : ℕ) (rest : List ℕ) → (x : ℕ) × (last_or (Some y) rest ≡ Some x)
-last-some y [] = (y, refl)
-last-some y (z ∷ rest) = last-some z rest
 
 body-last : (p : PlantLists) (t : Train) → is_body p t ≡ true → (x : ℕ) × (last_or None t.body ≡ Some x)
 body-last p t h = by_body t.dir t.body h
@@ -327,7 +316,7 @@ module _ (p : PlantLists) (plant : IsPlant p) (s : State) (shape : HasShape p s)
 
   from_directions : (test : Dir → ℕ → Bool) → ((d : Dir) (x : ℕ) → x < length p.sections → test d x ≡ true) → list_all (λ x. test Up x && test Down x) (range_with_len 0 (length p.sections)) ≡ true
   from_directions test each =
-      list_all-each (λ x. test Up x && test Down x) (range_with_len 0 (length p.sections)) (λ i x at.
+      all-pass (λ x. test Up x && test Down x) (range_with_len 0 (length p.sections)) (λ i x at.
       let within = (range_within (length p.sections) i x at).1 in and_from (test Up x) (test Down x) (each Up x within) (each Down x within))
 
   led_test : Dir → ℕ → Bool
@@ -341,14 +330,14 @@ module _ (p : PlantLists) (plant : IsPlant p) (s : State) (shape : HasShape p s)
   v7-law never =
       each_of-holds (image_of p s) (flat_map (λ x. led_at p Up x ++ led_at p Down x) (range_with_len 0 (length p.sections)))
       ∙ all-sections (led_at p) led_test led_at-holds
-      ∙ same_test (list_all (λ x. led_test Up x && led_test Down x) (range_with_len 0 (length p.sections))) (keeps_v7 p s) forth back
+      ∙ same_truth (list_all (λ x. led_test Up x && led_test Down x) (range_with_len 0 (length p.sections))) (keeps_v7 p s) forth back
     where
       of_train : Train → Bool
       of_train train = is_some_and (last_or None train.body) (λ x. if is_plain p train.dir x then is_led p s train.dir x else true)
 
       forth : list_all (λ x. led_test Up x && led_test Down x) (range_with_len 0 (length p.sections)) ≡ true → list_all of_train s.trains ≡ true
       forth h =
-          list_all-each of_train s.trains (λ i t at.
+          all-pass of_train s.trains (λ i t at.
           let body = body-of p plant never s shape calm i t at in
           let last = body-last p t body in
           let place = last-place t.body last.0 last.1 in
@@ -379,15 +368,15 @@ module _ (p : PlantLists) (plant : IsPlant p) (s : State) (shape : HasShape p s)
   v8-law never =
       each_of-holds (image_of p s) (flat_map (λ x. kept_at p Up x ++ kept_at p Down x) (range_with_len 0 (length p.sections)))
       ∙ all-sections (kept_at p) kept_test kept_at-holds
-      ∙ same_test (list_all (λ x. kept_test Up x && kept_test Down x) (range_with_len 0 (length p.sections))) (keeps_v8 p s) forth back
+      ∙ same_truth (list_all (λ x. kept_test Up x && kept_test Down x) (range_with_len 0 (length p.sections))) (keeps_v8 p s) forth back
     where
       of_train : Train → Bool
       of_train train = list_all (λ x. if is_plain p train.dir x then is_kept_for p s train.dir x else true) train.body
 
       forth : list_all (λ x. kept_test Up x && kept_test Down x) (range_with_len 0 (length p.sections)) ≡ true → list_all of_train s.trains ≡ true
       forth h =
-          list_all-each of_train s.trains (λ i t at.
-          list_all-each (λ x. if is_plain p t.dir x then is_kept_for p s t.dir x else true) t.body (λ k x place.
+          all-pass of_train s.trains (λ i t at.
+          all-pass (λ x. if is_plain p t.dir x then is_kept_for p s t.dir x else true) t.body (λ k x place.
           let body = body-of p plant never s shape calm i t at in
           let within = body-known p t k x plant body place in
           let taken = occupancy-in p plant never s shape calm i k x t at place in

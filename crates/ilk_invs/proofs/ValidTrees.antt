@@ -6,7 +6,7 @@ use Rattle.std.proofs.lemmas.List.Folds.{list_all-append, list_all-map}
 use Rattle.std.proofs.lemmas.Option.{slice_get_within}
 use Rattle.ilk_base.proofs.ListTests.{all-at, list_all-flat_map}
 use Rattle.ilk_base.proofs.Ranges.{range_within}
-use Rattle.ilk_base.proofs.Tested.{list_all-slice_get}
+use Rattle.ilk_base.proofs.Tested.{list_all-slice_get, all-pass}
 use Rattle.ilk_ir.specs.Tree.{Tree, negation, no, tree_valid}
 use Rattle.ilk_ir.proofs.Trees.{all_of-valid, any_of-valid}
 use Rattle.ilk_plant.specs.Network.{has_section}
@@ -33,8 +33,8 @@ use Rattle.ilk_invs.specs.Parts.{conditions_for, each_of, of_each_place, of_each
 use Rattle.ilk_invs.specs.PointFamily.{points_of_path, set_for, v6_tree}
 use Rattle.ilk_invs.specs.RouteFamilies.{counts_of, opened_for, path_vacant, v1_tree, v4_tree, v5_tree, v9_tree}
 use Rattle.ilk_invs.specs.TrainFamilies.{body_at, head_at, keeps_at, kept_at, leads_at, leads_from, led_at, none_seen_past, v7_tree, v8_tree, vacant_or_up}
-use Rattle.ilk_invs.proofs.HoldLaws.{beside-known}
-use Rattle.ilk_invs.proofs.Tests.{dropped-at, enumerated, list_all-each}
+use Rattle.ilk_invs.proofs.Tests.{dropped-at, enumerated}
+use Rattle.ilk_routes.proofs.Shape.{beside-known}
 
 module _ (p : PlantLists) (plant : IsPlant p) where
   each_of-valid : (ts : List Tree) → list_all (tree_valid (ranges_of_plant p)) ts ≡ true → tree_valid (ranges_of_plant p) (each_of ts) ≡ true
@@ -67,11 +67,11 @@ module _ (p : PlantLists) (plant : IsPlant p) where
 
   map-valid : {X : Type 0} (f : X → Tree) (xs : List X) → ((i : ℕ) (x : X) → slice_get xs i ≡ Some x → tree_valid (ranges_of_plant p) (f x) ≡ true) → list_all (tree_valid (ranges_of_plant p)) (map f xs) ≡ true
   map-valid f xs each =
-      list_all-map (tree_valid (ranges_of_plant p)) f xs ∙ list_all-each (λ x. tree_valid (ranges_of_plant p) (f x)) xs each
+      list_all-map (tree_valid (ranges_of_plant p)) f xs ∙ all-pass (λ x. tree_valid (ranges_of_plant p) (f x)) xs each
 
   flat_map-valid : {X : Type 0} (f : X → List Tree) (xs : List X) → ((i : ℕ) (x : X) → slice_get xs i ≡ Some x → list_all (tree_valid (ranges_of_plant p)) (f x) ≡ true) → list_all (tree_valid (ranges_of_plant p)) (flat_map f xs) ≡ true
   flat_map-valid f xs each =
-      list_all-flat_map (tree_valid (ranges_of_plant p)) f xs ∙ list_all-each (λ x. list_all (tree_valid (ranges_of_plant p)) (f x)) xs each
+      list_all-flat_map (tree_valid (ranges_of_plant p)) f xs ∙ all-pass (λ x. list_all (tree_valid (ranges_of_plant p)) (f x)) xs each
 
   conditions_for-valid : {X : Type 0} (o : Option X) (f : X → List Tree) → ((x : X) → o ≡ Some x → list_all (tree_valid (ranges_of_plant p)) (f x) ≡ true) → list_all (tree_valid (ranges_of_plant p)) (conditions_for o f) ≡ true
   conditions_for-valid None f each = refl

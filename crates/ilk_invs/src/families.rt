@@ -6,9 +6,10 @@ ghost use Rattle.ilk_invs.specs.FamilyTrees as definitions;
 ghost use Rattle.ilk_invs.specs.Laws.{HoldsAsKept};
 
 use crate::hold_families::{v2_form, v3_form};
+use crate::kept_family::v8_form;
 use crate::point_family::v6_form;
 use crate::route_families::{v1_form, v4_form, v5_form, v9_form};
-use crate::train_families::{v7_form, v8_form};
+use crate::train_families::v7_form;
 use ilk_ir::{Form, Forms};
 use ilk_plant::{Plant, Row};
 use std::alloc::{AllocError, Global};

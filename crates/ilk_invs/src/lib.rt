@@ -13,6 +13,7 @@
 mod families;
 mod held;
 mod hold_families;
+mod kept_family;
 mod laws;
 mod parts;
 mod point_family;

@@ -1,5 +1,5 @@
 -- Firing a rule of a valid system keeps values in range.
-use Rattle.std.proofs.Common.{◌≡◌, ℕ, zero, suc, true, List, [], ◌∷◌, Some, slice_get, set, sym, ◌∙◌}
+use Rattle.std.proofs.Common.{◌≡◌, ℕ, zero, suc, true, List, [], ◌∷◌, Some, slice_get, set, sym, ◌∙◌, length, ap, refl}
 use Rattle.std.specs.List.{list_all}
 use Rattle.std.proofs.lemmas.Bool.{and_parts, and_from, false≢true}
 use Rattle.std.proofs.lemmas.List.Folds.{list_all-map}
@@ -36,3 +36,10 @@ pub fire-in_ranges : (s : System) (n : ℕ) (r : Rule) (values : List ℕ) → s
 fire-in_ranges s n r values at valid h =
     let rule = system_valid-rule s n r valid at in
     in_ranges-set_all r.sets values s.ranges h (and_parts _ _ (and_parts _ _ rule).0).1
+
+-- values in their ranges are as many as the ranges
+pub in_ranges-length : (ws ranges : List ℕ) → in_ranges ws ranges ≡ true → length ws ≡ length ranges
+in_ranges-length [] [] h = refl
+in_ranges-length [] (r ∷ ranges) h = absurd (false≢true h)
+in_ranges-length (w ∷ ws) [] h = absurd (false≢true h)
+in_ranges-length (w ∷ ws) (r ∷ ranges) h = ap suc (in_ranges-length ws ranges (and_parts _ _ h).1)

@@ -8,7 +8,7 @@ use Rattle.ilk_base.specs.Option.{is_some_and}
 use Rattle.ilk_base.proofs.Lists.{item_at}
 use Rattle.ilk_base.proofs.Options.{some-and}
 use Rattle.ilk_base.proofs.Ranges.{range-at, range_within}
-use Rattle.ilk_base.proofs.Tested.{all-pass, few-from_places}
+use Rattle.ilk_base.proofs.Tested.{all-pass, few-from_places, none-pass}
 use Rattle.ilk_plant.specs.Network.{has_section}
 use Rattle.ilk_plant.specs.NetworkRules.{opposite_direction}
 use Rattle.ilk_plant.specs.Once.{none_twice}
@@ -73,10 +73,6 @@ other-leg p plant lie x stem plus minus faces d at =
 none-found : {X : Type 0} (test : X → Bool) (xs : List X) → ((i : ℕ) (x : X) → slice_get xs i ≡ Some x → test x ≡ false) → find test xs ≡ None
 none-found test [] f = refl
 none-found test (x ∷ xs) f = rw (f zero x refl) (none-found test xs (λ i y at. f (suc i) y at))
-
-none-any : {X : Type 0} (test : X → Bool) (xs : List X) → ((i : ℕ) (x : X) → slice_get xs i ≡ Some x → test x ≡ false) → list_any test xs ≡ false
-none-any test [] f = refl
-none-any test (x ∷ xs) f = rw (f zero x refl) (none-any test xs (λ i y at. f (suc i) y at))
 
 module _ (p : PlantLists) (plant : IsPlant p) (never : NeverReturns p) (lie : ℕ → Option Lie) (occupancy : ℕ → Option Occupancy) (fits : (x : ℕ) → x < length p.sections → section_fits p lie occupancy x (occupancy x) ≡ true) where
   abbrev on : ℕ → Option ℕ
@@ -211,7 +207,7 @@ module _ (p : PlantLists) (plant : IsPlant p) (never : NeverReturns p) (lie : �
         by_section None e = rw e refl
         by_section (Some (Linear down up b c)) e = rw e refl
         by_section (Some (Point stem plus minus faces)) e =
-            let right : list_any (λ (train : Train). strays x plus minus (lie_of p s x) train.body) s.trains ≡ false = none-any (λ (train : Train). strays x plus minus (lie_of p s x) train.body) s.trains (λ i u at. made-right i u x stem plus minus faces at e (lie_of p s x) (sym (lies x))) in
+            let right : list_any (λ (train : Train). strays x plus minus (lie_of p s x) train.body) s.trains ≡ false = none-pass (λ (train : Train). strays x plus minus (lie_of p s x) train.body) s.trains (λ i u at. made-right i u x stem plus minus faces at e (lie_of p s x) (sym (lies x))) in
             rw e right
 
     pub made-calm : hazard p s ≡ None

@@ -100,12 +100,6 @@ pub turned-twice : (d : Dir) → opposite_direction (opposite_direction d) ≡ d
 turned-twice Up = refl
 turned-twice Down = refl
 
-pub same-direction : (d e : Dir) → same_direction d e ≡ true → d ≡ e
-same-direction Up Up h = refl
-same-direction Down Down h = refl
-same-direction Up Down h = cc
-same-direction Down Up h = cc
-
 pub own-direction : (d : Dir) → same_direction d d ≡ true
 own-direction Up = refl
 own-direction Down = refl

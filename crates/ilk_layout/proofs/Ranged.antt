@@ -8,7 +8,7 @@ use Rattle.std.proofs.lemmas.List.FromFn.{length-range_with_len}
 use Rattle.std.proofs.lemmas.Option.{same_Some, slice_get-map, slice_get_past}
 use Rattle.ilk_base.specs.Option.{◌>>=◌}
 use Rattle.ilk_base.proofs.Lists.{item_at, same_by_slice_get}
-use Rattle.ilk_base.proofs.Ranges.{below_or_past, range-at, range_within}
+use Rattle.ilk_base.proofs.Ranges.{below_or_past, range-at, range_within, below}
 use Rattle.ilk_base.proofs.Tested.{all-pass, find-at, list_all-slice_get}
 use Rattle.ilk_ir.specs.System.{in_ranges}
 use Rattle.ilk_plant.specs.Plant.{IsPlant, PlantLists, point_count}
@@ -44,6 +44,7 @@ use Rattle.ilk_layout.proofs.Made.{made-calm, made-occupancy, made-shape}
 use Rattle.ilk_layout.proofs.Read.{lie-read, occupancy-read}
 use Rattle.ilk_layout.proofs.Told.{told-fits}
 use Rattle.ilk_layout.proofs.Writes.{image_with, occupancy-at}
+use Rattle.ilk_ir.proofs.Ranges.{in_ranges-length}
 
 -- values in the ranges of two lists are values in each
 split : (values rs qs : List ℕ) → in_ranges values (rs ++ qs) ≡ true → (xs ys : List ℕ) × (values ≡ xs ++ ys) × (in_ranges xs rs ≡ true) × (in_ranges ys qs ≡ true)
@@ -61,9 +62,6 @@ joined (x ∷ xs) ys [] qs h k = cc
 joined (x ∷ xs) ys (r ∷ rs) qs h k =
     let parts = and_parts (nat_lt x r) (in_ranges xs rs) h in
     and_from (nat_lt x r) (in_ranges (xs ++ ys) (rs ++ qs)) parts.0 (joined xs ys rs qs parts.1 k)
-
-below : (v n : ℕ) → nat_lt v n ≡ true → v < n
-below v n h = grind (arith, nat_tests)
 
 less : (v n : ℕ) → v < n → nat_lt v n ≡ true
 less v n h = grind (arith, nat_tests)
@@ -153,12 +151,6 @@ list-of f c of (suc n) (x ∷ xs) h =
     let first = of x (below x c parts.0) in
     (first.0 ∷ rest.0, (λ i. first.1 i ∷ rest.1 i), ap suc rest.2)
 
-length-in_ranges : (xs rs : List ℕ) → in_ranges xs rs ≡ true → length xs ≡ length rs
-length-in_ranges [] [] h = refl
-length-in_ranges [] (r ∷ rs) h = cc
-length-in_ranges (x ∷ xs) [] h = cc
-length-in_ranges (x ∷ xs) (r ∷ rs) h = ap suc (length-in_ranges xs rs (and_parts (nat_lt x r) (in_ranges xs rs) h).1)
-
 module _ (p : PlantLists) (plant : IsPlant p) (never : NeverReturns p) where
   -- an image is well-formed
   pub image-wellformed : (s : State) → IsCalm p s → is_wellformed p (image_of p s) ≡ true
@@ -189,7 +181,7 @@ module _ (p : PlantLists) (plant : IsPlant p) (never : NeverReturns p) where
       let each : (x : ℕ) → x < length p.sections → section_fits p (lie_by p values) (occupancy_by p values) x (occupancy_by p values x) ≡ true = λ x within. list_all-slice_get (λ y. section_fits p (lie_by p values) (occupancy_by p values) y (occupancy_by p values y)) (range_with_len 0 (length p.sections)) x x fits (range-at (length p.sections) x within) in
       let shape : HasShape p s = made-shape p plant never (lie_by p values) (occupancy_by p values) each s lies refl others in
       let no_hazard = made-calm p plant never (lie_by p values) (occupancy_by p values) each s lies refl others in
-      let long : length e ≡ length p.sections = length-in_ranges e (replicate (length p.sections) 10) four.4 ∙ length-replicate (length p.sections) 10 in
+      let long : length e ≡ length p.sections = in_ranges-length e (replicate (length p.sections) 10) four.4 ∙ length-replicate (length p.sections) 10 in
       let occupied : occupancy_values p s ≡ e = same_by_slice_get (occupancy_values p s) e (λ x. occupancy-same s e long x (λ within. (
       ap (λ v. occupancy_by p v x) whole ∙ made-occupancy p plant never (lie_by p values) (occupancy_by p values) each s lies refl others x within)) (occupancy-at p (record s { trains = [] }) e others x)) in
       record { state = s; calm = record { shape = shape; no_hazard = no_hazard }; image = ap (image_with s) occupied ∙ whole }

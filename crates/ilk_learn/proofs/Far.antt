@@ -1,10 +1,9 @@
 -- How far the walk is, told by the number of entries that are left.
-use Rattle.std.proofs.Common.{◌≡◌, ℕ, zero, suc, inl, inr, Bool, true, false, ◌&&◌, not, eqb, List, [], ◌∷◌, refl, sym, ap, ◌∙◌, subst, Some, None, length, take, reverse}
+use Rattle.std.proofs.Common.{◌≡◌, ℕ, suc, inl, inr, Bool, true, false, ◌&&◌, not, eqb, List, [], ◌∷◌, refl, sym, ap, ◌∙◌, subst, Some, None, length, take, reverse}
 use Rattle.std.specs.Prelude.{nat_lt, slice_get}
 use Rattle.std.specs.List.{filter}
 use Rattle.std.proofs.Math.Seq.{take-length}
 use Rattle.std.proofs.lemmas.Bool.{and_parts, and_from, or_left, or_right, cases_Bool, eqb-true, eq-eqb, true≢false}
-use Rattle.ilk_clauses.proofs.Within.{lit_in-clause}
 use Rattle.ilk_cnf.specs.Literal.{Literal, opposite, same_lit, has_lit, has_var}
 use Rattle.ilk_cnf.specs.Formula.{Formula, IsFormula, lit_in}
 use Rattle.ilk_log.specs.declared.step.Step.{Step}
@@ -22,7 +21,7 @@ use Rattle.ilk_learn.proofs.Latest.{reverse-one-more, level-entry}
 use Rattle.ilk_learn.proofs.Walk.{Walking, walking-next, walking-level}
 use Rattle.ilk_learn.proofs.Laws.{has-point, walking-start}
 use Rattle.ilk_learn.proofs.Holding.{same-level}
-use Rattle.ilk_cnf.proofs.SameLiterals.{same-lit, has-var}
+use Rattle.ilk_cnf.proofs.SameLiterals.{same-lit, has-var, lit_in-clause}
 
 -- the clause in hand with i entries left
 pub record Far (f : Formula) (t : TrailList) (h : Hand) (c i : ℕ) : Type 0 where
@@ -47,15 +46,6 @@ pub far-walking : (f : Formula) (t : TrailList) (h : Hand) (c n i : ℕ) (e : En
 far-walking f t h c n i e k q at =
     let P : List Entry → Type 0 = λ es. Walking f.vars f.clauses t.entries es k.step in
     subst P (ap (λ (m : ℕ). reverse (take m t.entries)) q ∙ reverse-one-more t.entries i e at) k.walking
-
-pub has-entry : (es : List Entry) (i : ℕ) (e : Entry) → slice_get es i ≡ Some e → has_lit e.lit (lits_of es) ≡ true
-has-entry [] i e h = absurd (cc)
-has-entry (x ∷ es) zero e h = (let q : x ≡ e = cc in or_left (same_lit e.lit x.lit) (has_lit e.lit (lits_of es)) (ap (λ (y : Entry). same_lit e.lit y.lit) q ∙ same-lit e.lit))
-has-entry (x ∷ es) (suc i) e h = or_right (same_lit e.lit x.lit) (has_lit e.lit (lits_of es)) (has-entry es i e h)
-
--- its literal is over the variables, is set, and was set at the current level
-pub entry-within : (t : TrailList) (i : ℕ) (e : Entry) → IsTrail t → slice_get t.entries i ≡ Some e → lit_in t.vars e.lit ≡ true
-entry-within t i e k at = lit_in-clause t.vars (lits_of t.entries) e.lit k.within (has-entry t.entries i e at)
 
 pub entry-current : (f : Formula) (t : TrailList) (h : Hand) (c n i : ℕ) (e : Entry) → IsTrail t → Far f t h c n → n ≡ suc i → slice_get t.entries i ≡ Some e → is_current t.entries e.lit ≡ true
 entry-current f t h c n i e trail k q at =

@@ -17,7 +17,6 @@ use Rattle.std.proofs.lemmas.List.Folds.{list_any-append}
 use Rattle.std.proofs.lemmas.List.Filters.{length-filter_both}
 use Rattle.ilk_base.proofs.Tested.{list_all-slice_get}
 use Rattle.ilk_clauses.specs.Reasons.{clause_at, HasReasons}
-use Rattle.ilk_clauses.proofs.Within.{lit_in-clause}
 use Rattle.ilk_cnf.specs.Literal.{Literal, opposite, same_lit, has_lit, has_var, vars_differ}
 use Rattle.ilk_cnf.specs.Formula.{Formula, IsFormula, lit_in, clause_in}
 use Rattle.ilk_cnf.proofs.Literals.{vars_differ-push}
@@ -36,7 +35,7 @@ use Rattle.ilk_learn.proofs.Members.{differ-kept, within-kept, kept-at, none-wit
 use Rattle.ilk_learn.proofs.Derived.{false-at}
 use Rattle.ilk_learn.proofs.Highest.{all-from}
 use Rattle.ilk_learn.proofs.Walk.{stands, resolved-is, resolved-not}
-use Rattle.ilk_cnf.proofs.SameLiterals.{lit-is, has-var}
+use Rattle.ilk_cnf.proofs.SameLiterals.{lit-is, has-var, lit_in-clause}
 
 -- what was read
 pub mark-read : (marks : List Bool) (i v : ℕ) (b : Bool) → i ≡ v → v < length marks → b ≡ get_or marks i b → get_or marks v false ≡ b

@@ -6,10 +6,9 @@ use Rattle.std.proofs.lemmas.List.Folds.{list_any-append}
 use Rattle.ilk_cnf.specs.Literal.{Literal, same_lit, has_lit, has_var, vars_differ}
 use Rattle.ilk_cnf.specs.Formula.{lit_in, clause_in}
 use Rattle.ilk_cnf.proofs.Literals.{vars_differ-push}
-use Rattle.ilk_clauses.proofs.Within.{lit_in-clause}
 use Rattle.ilk_trail.proofs.Literals.{clause_in-push}
 use Rattle.ilk_learn.specs.Resolvent.{without_variable, with_lit, with_each_lit}
-use Rattle.ilk_cnf.proofs.SameLiterals.{same-lit, lit-is, has-var}
+use Rattle.ilk_cnf.proofs.SameLiterals.{same-lit, lit-is, has-var, lit_in-clause}
 
 abbrev pub Has : Literal → List Literal → Type 0
 Has l c = has_lit l c ≡ true

@@ -2,6 +2,7 @@
 use Rattle.std.proofs.Common.{◌≡◌, Bool, true, false, ◌==◌, All, List, [], ◌∷◌, ◌++◌, cond, refl, sym, ap, ◌∙◌, arith, append_assoc, append-nil, suc, zero}
 use Rattle.std.specs.List.{onto_first}
 use Rattle.std.proofs.lemmas.Bool.Decides.{Decides-eqb}
+use Rattle.std.proofs.lemmas.List.Concat.{flat_map-append}
 use Rattle.ilk_lines.specs.Lines.{Bytes, after_lines, last_part, lines_of, parts_at, parts_but_last}
 use Rattle.ilk_lines.specs.Written.{Lacks, text_of}
 use Rattle.ilk_lines.proofs.Cuts.{lines_cut, parts_follow}
@@ -36,3 +37,7 @@ text-lines (x ∷ text) = join (x == 10) refl (parts_follow 10 text) (text-lines
     join true same (part, parts, follows) rest = ap (λ y. y ∷ text) ((Decides-eqb x 10).0 same) ∙ ap (λ ys. 10 ∷ ys) (rest ∙ ap whole follows) ∙ sym (ap (λ ps. whole ([] ∷ ps)) follows)
     join false differs (part, [], follows) rest = ap (λ ys. x ∷ ys) (rest ∙ ap whole follows) ∙ sym (ap (λ ps. whole (onto_first x ps)) follows)
     join false differs (part, next ∷ parts, follows) rest = ap (λ ys. x ∷ ys) (rest ∙ ap whole follows) ∙ sym (ap (λ ps. whole (onto_first x ps)) follows)
+
+-- the text of lines joined
+pub text_of-append : (xs ys : List Bytes) → text_of (xs ++ ys) ≡ text_of xs ++ text_of ys
+text_of-append xs ys = flat_map-append (λ (line : Bytes). line ++ 10 ∷ []) xs ys

@@ -8,7 +8,7 @@ use Rattle.std.proofs.lemmas.List.Folds.{list_any-append}
 use Rattle.std.proofs.lemmas.List.Sums.{sum_by-append, sum_by-cons}
 use Rattle.ilk_base.proofs.Ranges.{below_or_past, range-at, range-suc}
 use Rattle.ilk_base.proofs.Tested.{list_all-slice_get}
-use Rattle.ilk_base.proofs.Truth.{either}
+use Rattle.ilk_base.proofs.Truth.{either, same_truth}
 use Rattle.ilk_base.specs.Each.{each_below}
 use Rattle.ilk_plant.specs.Network.{has_section}
 use Rattle.ilk_plant.specs.Plant.{PlantLists}
@@ -125,11 +125,6 @@ one_alone : (a b : Bool) → not (a && b) ≡ true → a ≡ true → b ≡ true
 one_alone true true h e f = both_ways true (sym h) refl
 one_alone true false h e f = both_ways false refl f
 one_alone false b h e f = both_ways false refl e
-
-same_truth : (a b : Bool) → (a ≡ true → b ≡ true) → (b ≡ true → a ≡ true) → a ≡ b
-same_truth true b there back = sym (there refl)
-same_truth false true there back = back refl
-same_truth false false there back = refl
 
 -- where the bits are exact for each section of the plant
 module _ (p : PlantLists) (s : State) (shared : SharedSections) (exact : (x : ℕ) → x < length p.sections → is_shared shared x ≡ is_held_twice p s x) where

@@ -6,7 +6,7 @@ use Rattle.std.proofs.Math.Bool.{or-false}
 use Rattle.std.proofs.lemmas.Bool.Decides.{Decides-eqb, nat_tests}
 use Rattle.std.proofs.lemmas.List.Folds.{list_any_more}
 use Rattle.std.proofs.lemmas.List.Sums.{count_by_more_no, count_by_more_yes}
-use Rattle.std.proofs.lemmas.Nat.Bits.{bit_at_above, bit_at_and, bit_at_or, bit_at_set_other, bit_at_set_same, bit_at-lt}
+use Rattle.std.proofs.lemmas.Nat.Bits.{bit_at_and, bit_at_or, bit_at_set_other, bit_at_set_same, bit_at-lt}
 use Rattle.ilk_base.proofs.Truth.{or-true}
 use Rattle.ilk_plant.specs.Network.{has_section}
 use Rattle.ilk_model.specs.Shared.{is_shared}
@@ -110,10 +110,6 @@ module _ {T : Type 0} (has : T → Bool) (trains : List T) (i : ℕ) (d : T) (wi
       by_test : (b : Bool) → has (get_or trains i d) ≡ b → bit (nat_lt 1 (count_by has (take i trains)) || (nat_lt 0 (count_by has (take i trains)) && b)) ≡ bit (nat_lt 1 (count_by has (take (i + 1) trains)))
       by_test true e = ap bit (two_more (count_by has (take i trains)) ∙ ap (nat_lt 1) (sym (count_by_more_yes has trains i d within e)))
       by_test false e = ap bit (two_same (nat_lt 1 (count_by has (take i trains))) (nat_lt 0 (count_by has (take i trains))) ∙ ap (nat_lt 1) (sym (count_by_more_no has trains i d within e)))
-
--- a number below 2 ^ 128 has no bit from there on
-pub no_bit_past : (bits x : ℕ) → bits < 2 ^ 128 → 128 ≤ x → false ≡ (bit_at bits x == 1)
-no_bit_past bits x small past = sym (ap (λ b. b == 1) (bit_at_above bits 128 x small past))
 
 -- where the low and the high bits are exact, all are
 pub shared_exact : (shared : SharedSections) (two : ℕ → Bool) → ((x : ℕ) → x < 128 → bit_at shared.low x ≡ bit (two (0 + x))) → ((x : ℕ) → x < 128 → bit_at shared.high x ≡ bit (two (128 + x))) → (x : ℕ) → x < 256 → is_shared shared x ≡ two x

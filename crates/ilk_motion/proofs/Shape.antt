@@ -36,7 +36,7 @@ with_trains : (p : PlantLists) (s : State) (trains : List Train) → HasShape p 
 with_trains p s trains shape each = record { routes = shape.routes; points = shape.points; boards = shape.boards; locks = shape.locks; counts = shape.counts; bodies = list_all-from_All (is_body p) trains each }
 
 -- a border is a section
-border-known : (p : PlantLists) (x : ℕ) (d : Dir) → border p x ≡ Some d → x < length p.sections
+pub border-known : (p : PlantLists) (x : ℕ) (d : Dir) → border p x ≡ Some d → x < length p.sections
 border-known p x d e = option_and_then_some inward (slice_get p.sections x) d e (λ k at e'. slice_get_within p.sections x k at)
 
 -- a train that stands on one section of the plant has a body

@@ -4,14 +4,10 @@ use Rattle.std.specs.Int.{bit_at, w128}
 use Rattle.std.specs.Int.Bits.{bit_or}
 use Rattle.std.proofs.Math.Bool.{or-false}
 use Rattle.std.proofs.lemmas.Bool.Decides.{Decides-eqb, nat_tests}
-use Rattle.std.proofs.lemmas.Nat.Bits.{bit_at-lt, bit_at_above, bit_at_or, bit_at_set_other, bit_at_set_same}
+use Rattle.std.proofs.lemmas.Nat.Bits.{bit_at-lt, bit_at_or, bit_at_set_other, bit_at_set_same}
 use Rattle.ilk_base.proofs.Truth.{or-true}
 use Rattle.ilk_net_check.specs.Numbers.{has_flag}
 use Rattle.ilk_net_check.specs.declared.bits.Flags.{Flags}
-
--- a number below 2 ^ 128 has no bit from there on
-pub none_past : (bits y : ℕ) → bits < 2 ^ 128 → 128 ≤ y → false ≡ (bit_at bits y == 1)
-none_past bits y small past = sym (ap (λ b. b == 1) (bit_at_above bits 128 y small past))
 
 -- one more bit
 pub one_more : (bits y x : ℕ) → y < 128 → (bit_at (bit_or bits (1 * 2 ^ y % 2 ^ 128)) x == 1) ≡ ((bit_at bits x == 1) || (y == x))

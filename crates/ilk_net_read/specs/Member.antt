@@ -35,6 +35,11 @@ optional_text_at name d = get name d >>= as_optional_text
 abbrev pub array_at : Name → Data → Option Items
 array_at name d = get name d >>= as_array
 
+-- the entries of an array
+abbrev pub entries_of : Items → List Data
+entries_of no_items = []
+entries_of (item d ds) = d ∷ entries_of ds
+
 -- the entries of an array, where each is of a kind
 abbrev pub each_as : {A : Type 0} → (Data → Option A) → Items → Option (List A)
 each_as kind no_items = Some []

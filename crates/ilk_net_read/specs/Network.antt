@@ -1,10 +1,10 @@
 -- The form of a configuration, as far as its network: the rules in the order in which they are asked.
-use Rattle.std.specs.Prelude.{ℕ, ◌+◌, List, [], ◌∷◌, None, Result, Ok, if◌then◌else◌}
+use Rattle.std.specs.Prelude.{ℕ, List, None, Result, Ok, if◌then◌else◌}
 use Rattle.std.specs.Str.{is_utf8}
-use Rattle.serde_json.specs.Data.{Data, Items, no_items, item}
+use Rattle.serde_json.specs.Data.{Data}
 use Rattle.serde_json.specs.Read.{read}
 use Rattle.ilk_plant.specs.Limits.{section_has_names}
-use Rattle.ilk_base.specs.Result.{◌>>=◌}
+use Rattle.ilk_base.specs.Result.{◌>>=◌, in_order}
 use Rattle.ilk_plant.specs.declared.draft.NetDraft.{NetDraft}
 use Rattle.ilk_plant.specs.declared.draft.SectionDraft.{SectionDraft}
 use Rattle.ilk_net_read.specs.declared.fault.Form.TheVariants.{F2, F3, F4, F5, F6}
@@ -12,6 +12,7 @@ use Rattle.ilk_net_read.specs.declared.fault.FormFault.{FormFault}
 use Rattle.ilk_net_read.specs.declared.fault.Place.TheVariants.{Document, Section}
 use Rattle.ilk_net_read.specs.Document.{Parts, as_document, has_allowed_counts, in_version}
 use Rattle.ilk_net_read.specs.Fault.{broken, checked, or_fault}
+use Rattle.ilk_net_read.specs.Member.{entries_of}
 use Rattle.ilk_net_read.specs.Section.{as_section}
 
 -- the value that a text is: F2 where the bytes aren't the UTF-8 of a JSON text
@@ -31,17 +32,9 @@ section_of i d = do
   section ← or_fault (broken F3 (Section i)) (as_section d)
   checked section_has_names (broken F5 (Section i)) section
 
--- the entries of an array, numbered from i, up to the first that is refused
-abbrev pub in_order : {A : Type 0} → (ℕ → Data → Result A FormFault) → ℕ → Items → Result (List A) FormFault
-in_order one i no_items = Ok []
-in_order one i (item d ds) = do
-  first ← one i d
-  rest ← in_order one (i + 1) ds
-  Ok (first ∷ rest)
-
 -- the network: the document, then the sections in order
 abbrev pub network_of : Data → Result NetDraft FormFault
 network_of d = do
   document ← document_of d
-  sections ← in_order section_of 0 document.sections
+  sections ← in_order section_of 0 (entries_of document.sections)
   Ok (record { sections = sections })

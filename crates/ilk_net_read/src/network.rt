@@ -5,7 +5,9 @@ ghost use Rattle.std.specs.List.{list_all};
 ghost use Rattle.serde_json.specs.View.{view, items_view};
 ghost use Rattle.ilk_plant.specs.Limits.{NetworkHasLimits, section_has_names};
 ghost use Rattle.ilk_net_read.specs.Fault.{Gives};
-ghost use Rattle.ilk_net_read.specs.Network.{network_of, section_of, in_order};
+ghost use Rattle.ilk_base.specs.Result.{in_order};
+ghost use Rattle.ilk_net_read.specs.Member.{entries_of};
+ghost use Rattle.ilk_net_read.specs.Network.{network_of, section_of};
 
 use crate::FormError;
 use crate::document::document_of;
@@ -16,7 +18,7 @@ use std::alloc::Global;
 
 fn sections(alloc: Global, values: &[Value]) -> Result<Row<SectionDraft>, FormError>
     requires { length values.now ≤ MAX_SECTIONS }
-    ensures exact { Gives result (in_order section_of 0 (items_view values.now)) }
+    ensures exact { Gives result (in_order section_of 0 (entries_of (items_view values.now))) }
     ensures count { IfOk result (λ sections. length sections ≡ length values.now) }
     ensures named { IfOk result (λ sections. list_all section_has_names sections ≡ true) }
 {

@@ -12,14 +12,14 @@ use Rattle.ilk_plant.specs.NetworkRules.{End, IsWalkUp, LeadsUp, Returns, ends_o
 use Rattle.ilk_plant.specs.Network.{same_direction}
 use Rattle.ilk_plant.specs.declared.draft.NetDraft.{NetDraft}
 use Rattle.ilk_plant.specs.declared.network.Dir.TheVariants.{Up}
-use Rattle.ilk_base.proofs.Truth.{either, left, right}
-use Rattle.std.proofs.lemmas.Bool.{and_parts}
+use Rattle.ilk_base.proofs.Truth.{either, right}
+use Rattle.std.proofs.lemmas.Bool.{and_parts, or_left}
 
 module _ (step : ℕ → ℕ → Bool) where
   -- what leads by fewer numbers leads by more
   pub leads-step : (n x y : ℕ) → step x y ≡ true → leads_by step n x y ≡ true
   leads-step zero x y h = h
-  leads-step (suc n) x y h = left _ _ (leads-step n x y h)
+  leads-step (suc n) x y h = or_left _ _ (leads-step n x y h)
 
   -- to the last number, or from it, leads by way of those below it
   to_last : (n x : ℕ) → leads_by step (suc n) x n ≡ true → leads_by step n x n ≡ true
@@ -48,7 +48,7 @@ module _ (step : ℕ → ℕ → Bool) where
       ]
     where
       in_between : ((u v w : ℕ) → u < n → leads_by step n v u ≡ true → leads_by step n u w ≡ true → leads_by step n v w ≡ true) → z < n → (leads_by step n x z ≡ true) ⊎ ((leads_by step n x n && leads_by step n n z) ≡ true) → (leads_by step n z y ≡ true) ⊎ ((leads_by step n z n && leads_by step n n y) ≡ true) → leads_by step (suc n) x y ≡ true
-      in_between ih below (inl p) (inl q) = left (leads_by step n x y) (leads_by step n x n && leads_by step n n y) (ih z x y below p q)
+      in_between ih below (inl p) (inl q) = or_left (leads_by step n x y) (leads_by step n x n && leads_by step n n y) (ih z x y below p q)
       in_between ih below (inl p) (inr q) =
           right (leads_by step n x y) (leads_by step n x n) (leads_by step n n y) (ih z x n below p (and_parts (leads_by step n z n) (leads_by step n n y) q).0) (and_parts (leads_by step n z n) (leads_by step n n y) q).1
       in_between ih below (inr p) (inl q) =

@@ -1,7 +1,7 @@
 -- The sections next to a section of the plant, by the ends of its draft.
 use Rattle.std.proofs.Common.{◌≡◌, ℕ, zero, suc, ◌<◌, Bool, true, false, ◌&&◌, ◌==◌, not, Option, Some, None, List, [], ◌∷◌, ◌++◌, length, map, slice_get, count_by, bytes_eq, option_map, refl, sym, ◌∙◌, ap, arith}
 use Rattle.std.specs.List.{list_any}
-use Rattle.std.proofs.lemmas.Bool.{eqb-true, eq-eqb, and_parts}
+use Rattle.std.proofs.lemmas.Bool.{eqb-true, eq-eqb, and_parts, false_from_ne_true}
 use Rattle.std.specs.Cmp.Derive.{both_true}
 use Rattle.std.proofs.lemmas.Option.{same_Some, slice_get-map, slice_get_within}
 use Rattle.std.proofs.lemmas.Slice.Eq.{bytes_eq-Decides}
@@ -26,7 +26,6 @@ use Rattle.ilk_plant.specs.declared.draft.TableDraft.{TableDraft}
 use Rattle.ilk_base.proofs.Lists.{map-at}
 use Rattle.ilk_base.proofs.Options.{some-and}
 use Rattle.ilk_base.proofs.Tested.{list_any-at, list_any-from, list_any-none}
-use Rattle.ilk_base.proofs.Truth.{not-true}
 
 -- whether an end is on side d, and its name stands for number y
 abbrev pub end_leads_to : List Name → Dir → ℕ → End → Bool
@@ -103,7 +102,7 @@ next-known net table rules x y d h =
     (facts.1, facts.2)
 
 -- directions that are one
-same-dir : (d e : Dir) → same_direction d e ≡ true → d ≡ e
+pub same-dir : (d e : Dir) → same_direction d e ≡ true → d ≡ e
 same-dir Up Up h = refl
 same-dir Down Down h = refl
 same-dir Up Down h = cc
@@ -112,7 +111,7 @@ same-dir Down Up h = cc
 -- no section is next to itself
 pub next-other : (net : NetDraft) (table : TableDraft) → KeepsNetworkRules net → (x : ℕ) (d : Dir) → has_section x (next_to (numbered net table) x d) ≡ false
 next-other net table rules x d =
-    not-true (has_section x (next_to (numbered net table) x d)) (λ h.
+    false_from_ne_true (has_section x (next_to (numbered net table) x d)) (λ h.
     let other : (x == x) ≡ false = (next-known net table rules x x d h).1 in
     let own : (x == x) ≡ true = eq-eqb x x refl in
     cc)
@@ -155,7 +154,7 @@ numbers-once : (names : List Name) (ends : List End) → ((k : ℕ) (end : End) 
 numbers-once names [] known h = refl
 numbers-once names (end ∷ rest) known h =
     let parts = and_parts (not (list_any (bytes_eq end.name) (map (λ end. end.name) rest))) (all_differ (map (λ end. end.name) rest)) h in
-    let none = not-true (list_any (λ y. y == number_of names end.name) (map (λ end. number_of names end.name) rest)) (λ twice.
+    let none = false_from_ne_true (list_any (λ y. y == number_of names end.name) (map (λ end. number_of names end.name) rest)) (λ twice.
     let found : (k : ℕ) × (y : ℕ) × (slice_get (map (λ end. number_of names end.name) rest) k ≡ Some y) × ((y == number_of names end.name) ≡ true) = list_any-at (λ y. y == number_of names end.name) (map (λ end. number_of names end.name) rest) twice in
     let other : (e : End) × (slice_get rest found.0 ≡ Some e) × (number_of names e.name ≡ found.1) = map-at (λ end. number_of names end.name) rest found.0 found.1 found.2 in
     let same : number_of names other.0.name ≡ number_of names end.name = other.2 ∙ eqb-true _ _ found.3 in

@@ -1,10 +1,11 @@
 -- The routes of the plant, where no rule of the table is broken.
-use Rattle.std.proofs.Common.{◌≡◌, ◌≢◌, ℕ, ◌<◌, ◌≤◌, ◌==◌, Bool, true, false, ◌&&◌, not, Option, Some, None, IsSome, IsTrue, All, length, nat_le, slice_get, nat_lt, refl, sym, ◌∙◌, ap, arith}
+use Rattle.std.proofs.Common.{◌≡◌, ◌≢◌, ℕ, ◌<◌, ◌≤◌, ◌==◌, Bool, true, false, ◌&&◌, not, Option, Some, None, IsSome, IsTrue, All, length, nat_le, slice_get, refl, sym, ◌∙◌, ap, arith}
 use Rattle.std.specs.List.{list_all}
 use Rattle.std.proofs.lemmas.Bool.Decides.{nat_tests}
 use Rattle.std.proofs.lemmas.List.{length-map}
 use Rattle.std.proofs.lemmas.List.Folds.{list_all-append, list_all-map}
 use Rattle.std.proofs.lemmas.Option.{slice_get_within}
+use Rattle.ilk_base.proofs.Ranges.{below}
 use Rattle.ilk_plant.proofs.Rules.{KeepsTableRules}
 use Rattle.ilk_plant.specs.Draft.{names_of_boards, names_of_routes, names_of_sections, number_of, numbered, numbered_point, numbered_route}
 use Rattle.ilk_plant.specs.Limits.{route_has_limits}
@@ -32,10 +33,6 @@ route-passes p test r route h at =
     not-not : (b : Bool) → not b ≡ false → b ≡ true
     not-not true h = refl
     not-not false h = cc
-
--- a number that is tested to be below a bound
-below : (x n : ℕ) → nat_lt x n ≡ true → x < n
-below x n h = grind (arith, nat_tests)
 
 -- a point section is a section
 point-within : (p : PlantLists) (x : ℕ) → is_point_section p x ≡ true → x < length p.sections

@@ -1,6 +1,6 @@
 -- What a section of a plant has on its two sides, and what its name stands for.
 use Rattle.std.proofs.Common.{◌≡◌, ℕ, ◌+◌, true, false, ◌==◌, Some, List, ◌++◌, length, slice_get, sym, ◌∙◌, ap, arith}
-use Rattle.std.proofs.lemmas.Bool.{eqb-true}
+use Rattle.std.proofs.lemmas.Bool.{eqb-true, false_from_ne_true}
 use Rattle.std.proofs.lemmas.Option.{slice_get_within}
 use Rattle.ilk_plant.proofs.NamesDiffer.{first_named-own}
 use Rattle.ilk_plant.proofs.Once.{all_differ-places, none_twice-places}
@@ -13,7 +13,6 @@ use Rattle.ilk_plant.specs.declared.network.Dir.{Dir}
 use Rattle.ilk_plant.specs.declared.network.Dir.TheVariants.{Up, Down}
 use Rattle.ilk_base.proofs.Lists.{at-before, at-past}
 use Rattle.ilk_base.proofs.Tested.{list_any-at}
-use Rattle.ilk_base.proofs.Truth.{not-true}
 
 -- what stands in one of two lists doesn't stand in the other, where nothing stands twice in both together
 pub once-apart : (xs ys : List ℕ) (x : ℕ) → none_twice (xs ++ ys) ≡ true → has_section x xs ≡ true → has_section x ys ≡ true → ⊥
@@ -33,9 +32,9 @@ back-opposite p plant x y Down h = (plant.neighbours_back y x).1 h
 -- a section next to another on one side isn't next to it on the other
 pub one-side : (p : PlantLists) → IsPlant p → (x y : ℕ) (d : Dir) → has_section y (next_to p x d) ≡ true → has_section y (next_to p x (opposite_direction d)) ≡ false
 one-side p plant x y Up h =
-    not-true (has_section y (next_to p x Down)) (λ also. once-apart (next_to p x Down) (next_to p x Up) y (plant.neighbours_once x) also h)
+    false_from_ne_true (has_section y (next_to p x Down)) (λ also. once-apart (next_to p x Down) (next_to p x Up) y (plant.neighbours_once x) also h)
 one-side p plant x y Down h =
-    not-true (has_section y (next_to p x Up)) (λ also. once-apart (next_to p x Down) (next_to p x Up) y (plant.neighbours_once x) h also)
+    false_from_ne_true (has_section y (next_to p x Up)) (λ also. once-apart (next_to p x Down) (next_to p x Up) y (plant.neighbours_once x) h also)
 
 -- nor is it, in the same direction, next to what is next to it
 pub not-back : (p : PlantLists) → IsPlant p → (x y : ℕ) (d : Dir) → has_section y (next_to p x d) ≡ true → has_section x (next_to p y d) ≡ false

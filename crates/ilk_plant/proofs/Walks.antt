@@ -1,7 +1,7 @@
 -- No walk over the plant in one direction comes to a section twice.
 use Rattle.std.proofs.Common.{◌≡◌, ℕ, ◌<◌, Bool, true, false, ◌&&◌, ◌==◌, inl, inr, not, Some, List, [], ◌∷◌, length, slice_get, refl, sym, ◌∙◌, ap, arith}
 use Rattle.std.specs.Cmp.Derive.{both_true}
-use Rattle.std.proofs.lemmas.Bool.{eqb-true, eq-eqb, and_parts}
+use Rattle.std.proofs.lemmas.Bool.{eqb-true, eq-eqb, and_parts, false_from_ne_true}
 use Rattle.std.proofs.lemmas.List.{length-map}
 use Rattle.ilk_plant.proofs.Leads.{leads-step, leads-through}
 use Rattle.ilk_plant.proofs.Neighbours.{end-number, next-back, next-end, next-known, end_leads_to}
@@ -20,7 +20,7 @@ use Rattle.ilk_plant.specs.declared.draft.TableDraft.{TableDraft}
 use Rattle.ilk_plant.specs.declared.network.Dir.{Dir}
 use Rattle.ilk_plant.specs.declared.network.Dir.TheVariants.{Up, Down}
 use Rattle.ilk_base.proofs.Tested.{list_any-from}
-use Rattle.ilk_base.proofs.Truth.{either, not-true}
+use Rattle.ilk_base.proofs.Truth.{either}
 
 -- whether steps up lead from x to y
 abbrev leads_up : NetDraft → ℕ → ℕ → Bool
@@ -80,9 +80,9 @@ begins-within net table rules d v x (z ∷ rest) on h =
 -- no walk returns to where it began
 not-back : (net : NetDraft) (table : TableDraft) → KeepsNetworkRules net → (d : Dir) (x : ℕ) (walk : List ℕ) → leads_on (numbered net table) d x walk ≡ true → has_section x walk ≡ false
 not-back net table rules Up x walk on =
-    not-true (has_section x walk) (λ h. none-returns net rules x (begins-within net table rules Up x x walk on h) (walk-leads-up net table rules x x walk on h))
+    false_from_ne_true (has_section x walk) (λ h. none-returns net rules x (begins-within net table rules Up x x walk on h) (walk-leads-up net table rules x x walk on h))
 not-back net table rules Down x walk on =
-    not-true (has_section x walk) (λ h. none-returns net rules x (begins-within net table rules Down x x walk on h) (walk-leads-down net table rules x x walk on h))
+    false_from_ne_true (has_section x walk) (λ h. none-returns net rules x (begins-within net table rules Down x x walk on h) (walk-leads-down net table rules x x walk on h))
 
 -- so no section stands twice on a walk
 walk-once : (net : NetDraft) (table : TableDraft) → KeepsNetworkRules net → (d : Dir) (x : ℕ) (walk : List ℕ) → leads_on (numbered net table) d x walk ≡ true → none_twice (x ∷ walk) ≡ true

@@ -1,5 +1,5 @@
 -- The form of the start holds exactly where values are the image of the start.
-use Rattle.std.proofs.Common.{◌≡◌, ◌↔◌, ℕ, zero, suc, ◌+◌, ◌^◌, ◌<◌, true, ◌==◌, Some, List, [], ◌∷◌, IsTrue, length, map, nat_lt, slice_get, inl, inr, refl, sym, ◌∙◌, ap, arith}
+use Rattle.std.proofs.Common.{◌≡◌, ◌↔◌, ℕ, zero, suc, ◌+◌, ◌^◌, ◌<◌, true, ◌==◌, Some, List, [], ◌∷◌, IsTrue, length, map, slice_get, inl, inr, refl, sym, ◌∙◌, ap, arith}
 use Rattle.std.specs.List.{enumerate_from, list_all}
 use Rattle.std.proofs.lemmas.Bool.{and_parts, eq-eqb, eqb-true}
 use Rattle.std.proofs.lemmas.List.Sums.{count_by-le-length}
@@ -23,13 +23,7 @@ use Rattle.ilk_layout.specs.Variables.{ranges_of_plant}
 use Rattle.ilk_layout.proofs.Ranged.{image-in_ranges}
 use Rattle.ilk_conditions.proofs.Valid.{length-ranges}
 use Rattle.ilk_props.specs.StartForm.{start_tree}
-
-pub length-in_range : (values ranges : List ℕ) → in_ranges values ranges ≡ true → length values ≡ length ranges
-length-in_range [] [] h = refl
-length-in_range [] (r ∷ ranges) h = cc
-length-in_range (x ∷ values) [] h = cc
-length-in_range (x ∷ values) (r ∷ ranges) h =
-    ap suc (length-in_range values ranges (and_parts (nat_lt x r) (in_ranges values ranges) h).1)
+use Rattle.ilk_ir.proofs.Ranges.{in_ranges-length}
 
 -- each of these values, from variable k on, stands in the whole
 listed-at : (whole list : List ℕ) (k i c : ℕ) → list_all (tree_holds whole) (map (λ place. is place.0 place.1) (enumerate_from k list)) ≡ true → slice_get list i ≡ Some c → slice_get whole (k + i) ≡ Some c
@@ -65,8 +59,8 @@ start-holds p values h = (to, from)
     to : tree_holds values (start_tree p) ≡ true → values ≡ image
     to holds =
         let each = sym (all_of-holds values (map (λ place. is place.0 place.1) (enumerate_from 0 image))) ∙ holds in
-        let one = length-in_range values (ranges_of_plant p) h in
-        let two = length-in_range image (ranges_of_plant p) (start-in_ranges p) in
+        let one = in_ranges-length values (ranges_of_plant p) h in
+        let two = in_ranges-length image (ranges_of_plant p) (start-in_ranges p) in
         same-values values image (one ∙ sym two) (λ i c at. (let here : i ≡ 0 + i = omega arith in ap (slice_get values) here ∙ listed-at values image 0 i c each at))
 
     from : values ≡ image → tree_holds values (start_tree p) ≡ true
@@ -82,7 +76,7 @@ start-holds p values h = (to, from)
 pub few_variables : (p : PlantLists) (s : State) (values : List ℕ) → IsPlant p → s ≡ start p → values ≡ image_of p s → length values < 2 ^ 32
 few_variables p s values plant begun same =
     let one : length values ≡ length (image_of p (start p)) = ap length (same ∙ ap (image_of p) begun) in
-    let two = length-in_range (image_of p (start p)) (ranges_of_plant p) (start-in_ranges p) in
+    let two = in_ranges-length (image_of p (start p)) (ranges_of_plant p) (start-in_ranges p) in
     let count = length-ranges p in
     let points = count_by-le-length is_point p.sections in
     let sections = plant.few_sections in

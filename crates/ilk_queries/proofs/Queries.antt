@@ -5,6 +5,7 @@ use Rattle.std.specs.List.{flat_map, list_all}
 use Rattle.std.proofs.lemmas.List.Folds.{list_all-append}
 use Rattle.std.proofs.lemmas.List.{length-map, take-map}
 use Rattle.std.proofs.lemmas.Option.{same_Some, slice_get-map}
+use Rattle.std.proofs.Math.Bool.{and-true}
 use Rattle.ilk_ir.specs.Tree.{all_of, negation, tree_holds, trees}
 use Rattle.ilk_plant.specs.Plant.{PlantLists}
 use Rattle.ilk_plant.specs.Shape.{HasShape}
@@ -19,10 +20,6 @@ use Rattle.ilk_queries.specs.Asked.{keeps_all, leaves_at, meets_invariant}
 use Rattle.ilk_queries.specs.Lifting.{EachShaped, IsGoalOf, RulesStep, has_form, is_safe}
 use Rattle.ilk_queries.proofs.Demands.{all-below-met, all-hold, below-met, fails-met, holds-met, swapped}
 use Rattle.ilk_queries.proofs.Walks.{wellformed-before}
-
-and-end : (b : Bool) → (b && true) ≡ b
-and-end true = refl
-and-end false = refl
 
 -- the state with a number has the shape
 pub shaped-at : (p : PlantLists) (states : List State) (n : ℕ) (t : State) → EachShaped p states → slice_get states n ≡ Some t → HasShape p t
@@ -44,7 +41,7 @@ module _ (p : PlantLists) (steps : RulesStep p) (g : GoalTree) (goal : IsGoalOf 
       ap (λ b. b && list_all (met_by lists) (holds_below g.wellformed n ++ holds_in n g.hazard ∷ [])) start
       ∙ ap (λ b. has_form g.start (image_of p s) && b) (list_all-append (met_by lists) (holds_below g.wellformed n) (holds_in n g.hazard ∷ [])
       ∙ ap (λ b. b && (met_by lists (holds_in n g.hazard) && true)) below
-      ∙ ap (λ b. list_all (is_safe p) (take n states) && b) (and-end _ ∙ end))
+      ∙ ap (λ b. list_all (is_safe p) (take n states) && b) (and-true _ ∙ end))
 
   -- the families' forms hold in the images of safe states exactly where the families are kept
   families-before : (n : ℕ) (states : List State) → EachShaped p states → (list_all (is_safe p) (take n states) && list_all (λ values. list_all (tree_holds values) g.families) (map (image_of p) (take n states))) ≡ list_all (meets_invariant p) (take n states)
@@ -88,7 +85,7 @@ module _ (p : PlantLists) (steps : RulesStep p) (g : GoalTree) (goal : IsGoalOf 
       ap (λ b. b && list_all (met_by lists) (holds_below g.wellformed (n + 1) ++ broken ∷ [])) start
       ∙ ap (λ b. has_form g.start (image_of p s) && b) (list_all-append (met_by lists) (holds_below g.wellformed (n + 1)) (broken ∷ [])
       ∙ ap (λ b. b && (met_by lists broken && true)) below
-      ∙ ap (λ b. list_all (is_safe p) (take (n + 1) states) && b) (and-end _ ∙ end))
+      ∙ ap (λ b. list_all (is_safe p) (take (n + 1) states) && b) (and-true _ ∙ end))
 
   pub step-met : (n : ℕ) (states : List State) (t : State) → EachShaped p states → slice_get states n ≡ Some t → n ≤ length states → list_all (met_by (map (image_of p) states)) (demanded g (Step n)) ≡ leaves_at p n states
   step-met n states t shaped last within =
@@ -104,4 +101,4 @@ module _ (p : PlantLists) (steps : RulesStep p) (g : GoalTree) (goal : IsGoalOf 
       let right : leaves_at p n states ≡ (list_all (meets_invariant p) (take n states) && not (meets_invariant p t)) = rw last refl in
       list_all-append (met_by lists) (holds_below g.wellformed n ++ families) (left ∷ [])
       ∙ ap (λ b. b && (met_by lists left && true)) (list_all-append (met_by lists) (holds_below g.wellformed n) families ∙ ap (λ b. b && list_all (met_by lists) families) below ∙ ap (λ b. list_all (is_safe p) (take n states) && b) kept ∙ families-before n states shaped)
-      ∙ ap (λ b. list_all (meets_invariant p) (take n states) && b) (and-end _ ∙ end) ∙ sym right
+      ∙ ap (λ b. list_all (meets_invariant p) (take n states) && b) (and-true _ ∙ end) ∙ sym right

@@ -1,10 +1,9 @@
 -- The plant's system steps as its events do: what each rule and each event leads to, and that shape lasts.
-use Rattle.std.proofs.Common.{◌≡◌, ℕ, ◌<◌, true, Option, Some, None, List, length, slice_get, refl, ap, ◌∙◌, arith}
+use Rattle.std.proofs.Common.{◌≡◌, ℕ, ◌<◌, Some, List, length, slice_get, ap, ◌∙◌, arith}
 use Rattle.std.specs.Prelude.{is_some}
-use Rattle.std.proofs.lemmas.Bool.{false≢true}
 use Rattle.std.proofs.lemmas.Option.{slice_get_within}
 use Rattle.ilk_base.proofs.Lists.{item_at}
-use Rattle.ilk_base.proofs.Options.{bind_some}
+use Rattle.ilk_base.proofs.Options.{bind_some, some-is}
 use Rattle.ilk_ir.specs.System.{fired, fired_at}
 use Rattle.ilk_plant.specs.Plant.{IsPlant, PlantLists}
 use Rattle.ilk_plant.specs.Shape.{HasShape}
@@ -36,10 +35,6 @@ next-shape p plant s t (Head x) shape e = after_head-shape p s t x shape e
 next-shape p plant s t (Tail x) shape e = after_tail-shape p s t x plant shape e
 next-shape p plant s t (Leave x) shape e = after_leave-shape p s t x shape e
 next-shape p plant s t (Cancel r) shape e = after_cancel-shape p s t r shape e
-
-some-is : {A : Type 0} (o : Option A) → is_some o ≡ true → (x : A) × (o ≡ Some x)
-some-is None e = absurd (false≢true e)
-some-is (Some x) e = (x, refl)
 
 -- a rule that is there has an event
 rule-event : (p : PlantLists) (i : ℕ) (values next : List ℕ) → fired_at (system_of p) i values ≡ Some next → (event : Event) × (event_of_rule p i ≡ Some event)

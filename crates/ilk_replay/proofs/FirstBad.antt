@@ -33,8 +33,8 @@ use Rattle.ilk_replay.specs.declared.told.Tale.TheVariants.{Told as IsTold, Bad}
 use Rattle.ilk_replay.specs.declared.told.Told.{Told}
 use Rattle.ilk_replay.proofs.OfPlant.{told-of_plant, told_exactly, written-told}
 use Rattle.ilk_replay.proofs.StateBack.{board_back, lock_back, point_back, route_back}
-use Rattle.ilk_replay.proofs.WholeBack.{point_within}
 use Rattle.ilk_replay.proofs.WrittenRun.{answered, made, told-lines}
+use Rattle.ilk_replay.proofs.StateTexts.{point_known}
 
 -- the run that begins so, with these events
 abbrev run_of : State → Bool → List Event → Result Told ℕ
@@ -142,7 +142,7 @@ route_has_line p plant i x at =
     (route_line p x free_route, free_route, route_back p plant x route.0 free_route route.1 place.1 (fits_path-from_counts route.0 free_route (omega arith) (omega arith)))
 
 point_has_line : (p : PlantLists) → IsPlant p → (i x : ℕ) → slice_get (point_sections p) i ≡ Some x → HasLine (point_told p) x
-point_has_line p plant i x at = (point_line p x plus_point, plus_point, point_back p plant x plus_point (point_within p i x at))
+point_has_line p plant i x at = (point_line p x plus_point, plus_point, point_back p plant x plus_point (point_known p i x at))
 
 board_has_line : (p : PlantLists) → IsPlant p → (i x : ℕ) → slice_get (numbers_of p.boards) i ≡ Some x → HasLine (board_told p) x
 board_has_line p plant i x at = (board_line p x Closed, Closed, board_back p plant x Closed (range_within (length p.boards) i x at).1)

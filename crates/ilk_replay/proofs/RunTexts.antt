@@ -5,9 +5,9 @@ use Rattle.ilk_lines.specs.Lines.{Bytes}
 use Rattle.ilk_lines.specs.Written.{text_of}
 use Rattle.ilk_plant.specs.Plant.{PlantLists}
 use Rattle.ilk_model.specs.declared.event.Event.{Event}
-use Rattle.ilk_replay.proofs.StateTexts.{text_of-append}
 use Rattle.ilk_replay.specs.RunText.{beginning_lines, event_line, run_text}
 use Rattle.ilk_replay.specs.declared.told.Told.{Told}
+use Rattle.ilk_lines.proofs.TextLines.{text_of-append}
 
 events-are : (p : PlantLists) (events : List Event) → flat_map (λ event. event_line p event ++ 10 ∷ []) events ≡ text_of (map (event_line p) events)
 events-are p [] = refl

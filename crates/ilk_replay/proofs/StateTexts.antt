@@ -1,8 +1,8 @@
 -- What is written for a state is its lines.
-use Rattle.std.proofs.Common.{◌≡◌, ℕ, zero, suc, ◌+◌, ◌<◌, ◌≤◌, true, Some, All, List, [], ◌∷◌, ◌++◌, drop, drop-cons, length, map, flat_map, slice_get, refl, sym, ap, ◌∙◌, arith, append_assoc, append-nil}
+use Rattle.std.proofs.Common.{◌≡◌, ℕ, zero, suc, ◌+◌, ◌<◌, ◌≤◌, true, Some, All, List, [], ◌∷◌, ◌++◌, drop, length, map, flat_map, slice_get, refl, sym, ap, ◌∙◌, arith, append_assoc, append-nil}
 use Rattle.std.specs.Prelude.{codes}
 use Rattle.std.specs.List.{list_all}
-use Rattle.std.proofs.lemmas.Option.{get_or_from_slice_get, slice_get_within}
+use Rattle.ilk_base.proofs.Lists.{drop_from}
 use Rattle.ilk_base.proofs.Tested.{All-tested}
 use Rattle.ilk_lines.specs.Lines.{Bytes}
 use Rattle.ilk_lines.specs.Reading.{numbers_of}
@@ -18,24 +18,17 @@ use Rattle.ilk_replay.proofs.StateBack.{body_known}
 use Rattle.ilk_plant.specs.Plant.{IsPlant}
 use Rattle.ilk_replay.specs.RunText.{board_line, name_of, point_line, route_line, section_line, state_lines, train_line}
 use Rattle.ilk_replay.specs.StateTold.{point_sections}
+use Rattle.ilk_lines.proofs.TextLines.{text_of-append}
 
 -- the lines of items from place i on
 abbrev pub lines_from : {A : Type 0} → (ℕ → A → Bytes) → List ℕ → List A → ℕ → Bytes
 lines_from line items values i = text_of (each_line line (drop i items) (drop i values))
 
--- an item, and those after it
-from-item : {A : Type 0} (xs : List A) (i : ℕ) (x : A) → slice_get xs i ≡ Some x → drop i xs ≡ x ∷ drop (i + 1) xs
-from-item xs i x at =
-    let there = drop-cons xs i x (slice_get_within xs i x at) in
-    let same : suc i ≡ i + 1 = omega arith in
-    let next : drop (suc i) xs ≡ drop (i + 1) xs = ap (λ j. drop j xs) same in
-    there ∙ ap (λ y. y ∷ drop (suc i) xs) (get_or_from_slice_get xs i x x at) ∙ ap (λ ys. x ∷ ys) next
-
 -- where a line is written, and those from the next place on are to come, the whole is as before
 pub line_more : {A : Type 0} (line : ℕ → A → Bytes) (items : List ℕ) (values : List A) (i x : ℕ) (v : A) (whole now next : Bytes) → slice_get items i ≡ Some x → slice_get values i ≡ Some v → now ++ lines_from line items values i ≡ whole → next ≡ now ++ (line x v ++ 10 ∷ []) → next ++ lines_from line items values (i + 1) ≡ whole
 line_more line items values i x v whole now next item value sofar grown =
-    let first = from-item items i x item in
-    let second = from-item values i v value in
+    let first = drop_from items i x item in
+    let second = drop_from values i v value in
     let these : lines_from line items values i ≡ (line x v ++ 10 ∷ []) ++ lines_from line items values (i + 1) = rw (first, second) refl in
     ap (λ (t : Bytes). t ++ lines_from line items values (i + 1)) grown
     ∙ append_assoc now (line x v ++ 10 ∷ []) (lines_from line items values (i + 1))
@@ -57,10 +50,6 @@ line_end line items values i whole now first sofar =
 trains-are : (p : PlantLists) (trains : List Train) → flat_map (λ train. train_line p train ++ 10 ∷ []) trains ≡ text_of (map (train_line p) trains)
 trains-are p [] = refl
 trains-are p (train ∷ trains) = ap (λ (t : Bytes). (train_line p train ++ 10 ∷ []) ++ t) (trains-are p trains)
-
-pub text_of-append : (xs ys : List Bytes) → text_of (xs ++ ys) ≡ text_of xs ++ text_of ys
-text_of-append [] ys = refl
-text_of-append (x ∷ xs) ys = ap (λ (t : Bytes). (x ++ 10 ∷ []) ++ t) (text_of-append xs ys) ∙ sym (append_assoc (x ++ 10 ∷ []) (text_of xs) (text_of ys))
 
 -- the lines of all lists, one after another, are those of the state
 pub state_is : (p : PlantLists) (s : State) (start : Bytes) →

@@ -6,7 +6,7 @@ use Rattle.ilk_lines.specs.Written.{Lacks, each_line, spaced, text_of}
 use Rattle.ilk_lines.proofs.Decimals.{decimal_lacks}
 use Rattle.ilk_lines.proofs.EachTold.{each_back, each_plain}
 use Rattle.ilk_base.proofs.Lists.{item_at}
-use Rattle.ilk_base.proofs.Ranges.{passing_within, range_within}
+use Rattle.ilk_base.proofs.Ranges.{range_within}
 use Rattle.ilk_lines.proofs.Lacking.{lacks_append, lacks_spaced}
 use Rattle.ilk_base.proofs.Lists.{drop-mapped}
 use Rattle.ilk_lines.proofs.Leading.{leading_back}
@@ -14,7 +14,7 @@ use Rattle.ilk_lines.proofs.TextLines.{lines_back}
 use Rattle.std.specs.Fmt.{decimal}
 use Rattle.std.proofs.lemmas.List.Elements.{All-append, All-nil, All-cons}
 use Rattle.std.proofs.lemmas.List.FromFn.{length-range_with_len}
-use Rattle.ilk_plant.specs.Plant.{IsPlant, PlantLists, is_point_section}
+use Rattle.ilk_plant.specs.Plant.{IsPlant, PlantLists}
 use Rattle.ilk_plant.specs.Shape.{HasShape, is_body}
 use Rattle.ilk_base.proofs.Tested.{All-tested}
 use Rattle.ilk_plant.proofs.Shapes.{fits_path-counts}
@@ -40,9 +40,7 @@ use Rattle.ilk_replay.proofs.StartedBack.{event_lines-plain, events_back, name_l
 use Rattle.ilk_replay.proofs.StateBack.{board_back, lock_back, point_back, route_back, train_back}
 use Rattle.ilk_replay.proofs.StateWords.{aspect_lacks, direction_lacks, hold_lacks, lie_lacks, mode_lacks, position_lacks}
 use Rattle.ilk_replay.proofs.WrittenRun.{answered, made, regroup}
-
-pub point_within : (p : PlantLists) (i x : ℕ) → slice_get (point_sections p) i ≡ Some x → x < length p.sections
-point_within p i x at = let below = passing_within (is_point_section p) 0 (length p.sections) i x at in omega arith
+use Rattle.ilk_replay.proofs.StateTexts.{point_known}
 
 routes_hold : (p : PlantLists) → IsPlant p → (s : State) → HasShape p s → (i x : ℕ) (v : RouteState) → slice_get (numbers_of p.routes) i ≡ Some x → slice_get s.routes i ≡ Some v → route_told p x (route_line p x v) ≡ Some v
 routes_hold p plant s shape i x v at here =
@@ -88,7 +86,7 @@ state_back p plant plain s shape rest =
     ∙ ap (λ (z : Result (LinesPart RouteState) ℕ). z >>= with_routes p) (each_back (route_told p) (route_line p) (numbers_of p.routes) s.routes 3 (points ++ (boards ++ (locks ++ (trains ++ last))))
     (shape.routes ∙ sym (length-range_with_len 0 (length p.routes))) (routes_hold p plant s shape))
     ∙ ap (λ (z : Result (LinesPart PointState) ℕ). z >>= with_points p s.routes) (each_back (point_told p) (point_line p) (point_sections p) s.points n1 (boards ++ (locks ++ (trains ++ last)))
-    (shape.points ∙ sym (point_sections-length p)) (λ i x v at here. point_back p plant x v (point_within p i x at)))
+    (shape.points ∙ sym (point_sections-length p)) (λ i x v at here. point_back p plant x v (point_known p i x at)))
     ∙ ap (λ (z : Result (LinesPart Aspect) ℕ). z >>= with_boards p s.routes s.points) (each_back (board_told p) (board_line p) (numbers_of p.boards) s.boards n2 (locks ++ (trains ++ last))
     (shape.boards ∙ sym (length-range_with_len 0 (length p.boards))) (λ i x v at here. board_back p plant x v ((range_within (length p.boards) i x at).1)))
     ∙ ap (λ (z : Result (LinesPart Hold) ℕ). z >>= with_locks p s.routes s.points s.boards) (each_back (lock_told p) (section_line p) (numbers_of p.sections) s.locks n3 (trains ++ last)

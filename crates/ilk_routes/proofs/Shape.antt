@@ -1,8 +1,10 @@
 -- No event of a route or a point breaks the shape.
-use Rattle.std.proofs.Common.{◌≡◌, ◌+◌, ℕ, Bool, true, false, Some, None, List, length, slice_get, set, subst, sym, ◌∙◌, ap, refl, inl, inr, if◌then◌else◌, length-set, arith}
+use Rattle.std.proofs.Common.{◌≡◌, ◌+◌, ℕ, Bool, true, false, Some, None, List, length, slice_get, set, subst, sym, ◌∙◌, ap, refl, inl, inr, if◌then◌else◌, length-set, arith, map, ◌<◌}
 use Rattle.std.proofs.lemmas.Option.{option_and_then_some, cond_some, same_Some, slice_get_within}
 use Rattle.std.specs.List.{last_or}
-use Rattle.ilk_plant.specs.Plant.{PlantLists, point_number}
+use Rattle.std.proofs.lemmas.List.Elements.{All-append, All-map}
+use Rattle.ilk_base.proofs.ListTests.{all-at}
+use Rattle.ilk_plant.specs.Plant.{PlantLists, point_number, IsRouteOf}
 use Rattle.ilk_plant.specs.Shape.{HasShape, fits_path}
 use Rattle.ilk_plant.proofs.Shapes.{fits_path-counts, fits_path-from_counts}
 use Rattle.ilk_plant.specs.declared.state.Aspect.{Aspect}
@@ -21,6 +23,7 @@ use Rattle.ilk_routes.specs.Locks.{with_locks}
 use Rattle.ilk_routes.specs.Points.{after_settle, after_throw}
 use Rattle.ilk_routes.specs.Routes.{after_allocate, after_cancel, after_finish, after_lock, after_mark, after_release, after_sense}
 use Rattle.ilk_base.proofs.Lists.{slice_get_set}
+use Rattle.ilk_plant.specs.declared.table.Listed.{Listed}
 
 length-close_if : (b : Bool) (boards : List Aspect) (m : ℕ) → length (if b then set boards m Closed else boards) ≡ length boards
 length-close_if true boards m = length-set boards m Closed
@@ -122,3 +125,8 @@ after_settle-shape p s t x shape e =
     option_and_then_some _ (slice_get s.points n) t e1 (λ point here e2.
     let done = cond_some _ _ t e2 in
     subst (HasShape p) done.1 (repointed p s n _ shape)))
+
+-- a section beside a route is one of the plant
+pub beside-known : (p : PlantLists) (route : Route) → IsRouteOf p route → (i x : ℕ) → slice_get (sections_beside route) i ≡ Some x → x < length p.sections
+beside-known p route of i x at =
+    all-at (λ x. x < length p.sections) (sections_beside route) i x (All-append (λ x. x < length p.sections) route.overlap (map (λ listed. listed.point) route.protecting_points) of.overlap (All-map (λ x. x < length p.sections) (λ (listed : Listed). listed.point) route.protecting_points of.protecting_points)) at

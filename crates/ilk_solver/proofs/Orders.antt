@@ -1,5 +1,5 @@
 -- The tree of winners of a view.
-use Rattle.std.proofs.Common.{◌≡◌, ◌-◌, ◌<◌, ◌≤◌, ℕ, true, false, not, zero, suc, inl, inr, cond, eqb, sum_by, List, [], ◌∷◌, Some, length, take, drop, ◌++◌, get_or, set, refl, sym, ap, ◌∙◌, subst, arith}
+use Rattle.std.proofs.Common.{◌≡◌, ◌-◌, ◌<◌, ◌≤◌, ℕ, true, false, not, zero, suc, inl, inr, cond, eqb, sum_by, List, [], ◌∷◌, Some, length, take, get_or, set, refl, sym, ap, ◌∙◌, subst, arith}
 use Rattle.std.specs.Prelude.{nat_le}
 use Rattle.std.specs.List.{slice_get}
 use Rattle.std.specs.Option.{option_map}
@@ -7,7 +7,6 @@ use Rattle.std.proofs.lemmas.Bool.{and_parts, and_from, cases_Bool, cases_eq, ca
 use Rattle.std.proofs.lemmas.Bool.Decides.{eqb_tells, nat_tests}
 use Rattle.std.proofs.lemmas.List.{get_or-set_same, get_or-set_other}
 use Rattle.std.proofs.lemmas.List.Sums.{sum_by-set}
-use Rattle.std.proofs.Math.Seq.{take-append_seam}
 use Rattle.ilk_cnf.specs.Literal.{Literal, plus}
 use Rattle.ilk_cnf.specs.Formula.{lit_in}
 use Rattle.ilk_trail.specs.declared.entry.Entry.{Entry}
@@ -22,10 +21,6 @@ use Rattle.ilk_solver.specs.Order.{HasAbove, HoldsView, IsSettled, KeepsUnset}
 use Rattle.ilk_solver.specs.Tree.{IsTree, KeepsLeaves, StandsIn, leaves_of, top_of}
 use Rattle.ilk_solver.specs.View.{ViewLists, IsView, is_unset}
 use Rattle.ilk_solver.proofs.Trees.{leaves-short, stands, top-covers}
-
--- a tree that is written in place of another is the one that is read
-pub tree-written : (n : ℕ) (t u : List ℕ) → length t ≡ n → take n (t ++ drop (length t) u) ≡ t
-tree-written n t u e = ap (λ k. take k (t ++ drop (length t) u)) (sym e) ∙ take-append_seam t (drop (length t) u)
 
 -- one leaf fewer has a variable where the top is taken off
 pub fewer : (ws t u : List ℕ) → IsTree ws t → 0 < top_of t → leaves_of ws u ≡ set (leaves_of ws t) (top_of t) 0 → sum_by (λ (x : ℕ). cond (eqb x 0) 0 1) (leaves_of ws u) < sum_by (λ (x : ℕ). cond (eqb x 0) 0 1) (leaves_of ws t)

@@ -9,6 +9,7 @@ use Rattle.ilk_ir.specs.Tree.{tree_holds, tree_valid, has_value, value_valid}
 use Rattle.ilk_ir.specs.System.{RuleTree, rule_valid, sets_apart, set_all, fired, in_ranges}
 use Rattle.ilk_ir.specs.declared.system.Setting.{Setting}
 use Rattle.ilk_step.specs.Frame.{sets_variable}
+use Rattle.ilk_ir.proofs.Ranges.{in_ranges-length}
 
 -- whether each variable, from v on, is set or has one value in both lists
 abbrev pub kept : (ℕ → Bool) → ℕ → List ℕ → List ℕ → Bool
@@ -90,12 +91,6 @@ met-at (s ∷ sets) ws xs v long met same =
     by_case (inr ne) here none =
         let away : eqb s.var v ≡ false = ne_eqb s.var v ne in
         slice_get-set_other ws s.var v s.value ne ∙ same (or_from _ _ away none)
-
-in_ranges-length : (ws ranges : List ℕ) → in_ranges ws ranges ≡ true → length ws ≡ length ranges
-in_ranges-length [] [] h = refl
-in_ranges-length [] (r ∷ ranges) h = absurd (false≢true h)
-in_ranges-length (w ∷ ws) [] h = absurd (false≢true h)
-in_ranges-length (w ∷ ws) (r ∷ ranges) h = ap suc (in_ranges-length ws ranges (and_parts _ _ h).1)
 
 value_valid-within : (ranges : List ℕ) (v c : ℕ) → value_valid ranges v c ≡ true → v < length ranges
 value_valid-within ranges v c h = by_case (slice_get ranges v) refl h

@@ -1,7 +1,6 @@
 -- What the clauses of the frames are over, and one more pair of literals or variable in the loops that add them.
-use Rattle.std.proofs.Common.{◌≡◌, ◌==◌, ℕ, ◌+◌, ◌<◌, ◌≤◌, Bool, true, false, ◌&&◌, List, [], ◌∷◌, ◌++◌, length, take, drop, slice_get, Some, ◌⊎◌, inl, inr, cond, refl, sym, ap, ◌∙◌, arith, append_assoc}
-use Rattle.std.proofs.lemmas.List.{append-nil, drop_all, drop_more}
-use Rattle.std.proofs.lemmas.Option.{slice_get_within, get_or_from_slice_get}
+use Rattle.std.proofs.Common.{◌≡◌, ◌==◌, ℕ, ◌+◌, ◌<◌, ◌≤◌, Bool, true, false, ◌&&◌, List, [], ◌∷◌, ◌++◌, length, take, drop, ◌⊎◌, inl, inr, cond, refl, sym, ap, ◌∙◌, arith, append_assoc}
+use Rattle.std.proofs.lemmas.List.{append-nil, drop_all}
 use Rattle.std.proofs.lemmas.List.Folds.{list_all-append}
 use Rattle.std.proofs.lemmas.Bool.{and_parts, and_from, cond_both, lt-ltb, le-leb}
 use Rattle.ilk_cnf.specs.Literal.{Literal, minus, opposite}
@@ -89,7 +88,3 @@ frames_step f g rs k v now next later after c d ls whole one two three made h =
     let split : frames rs k v now next ≡ frame ls c d ++ frames rs k (v + 1) later after =
     ap (λ (u : List Column). frames rs k v u next) one ∙ ap (frames rs k v (c ∷ later)) two ∙ ap (λ (cs : List (List Literal)). cs ++ frames rs k (v + 1) later after) first in
     rest_of f.clauses g.clauses (frame ls c d) (frames rs k (v + 1) later after) (frames rs k v now next) whole split (ap (λ (u : Formula). u.clauses) made) h
-
--- an item of a list, and what follows it
-pub drop_from : {X : Type 0} (xs : List X) (i : ℕ) (x : X) → slice_get xs i ≡ Some x → drop i xs ≡ x ∷ drop (i + 1) xs
-drop_from xs i x h = drop_more xs i x (slice_get_within xs i x h) ∙ ap (λ (y : _). y ∷ drop (i + 1) xs) (get_or_from_slice_get xs i x x h)

@@ -2,7 +2,7 @@
 use Rattle.std.specs.Prelude.{ℕ, List, Result, Ok}
 use Rattle.serde_json.specs.Data.{Data}
 use Rattle.ilk_plant.specs.Limits.{route_has_limits, route_has_names}
-use Rattle.ilk_base.specs.Result.{◌>>=◌}
+use Rattle.ilk_base.specs.Result.{◌>>=◌, in_order}
 use Rattle.ilk_plant.specs.declared.draft.NetDraft.{NetDraft}
 use Rattle.ilk_plant.specs.declared.draft.RouteDraft.{RouteDraft}
 use Rattle.ilk_plant.specs.declared.draft.TableDraft.{TableDraft}
@@ -10,7 +10,8 @@ use Rattle.ilk_net_read.specs.declared.fault.Form.TheVariants.{F3, F5, F6}
 use Rattle.ilk_net_read.specs.declared.fault.FormFault.{FormFault}
 use Rattle.ilk_net_read.specs.declared.fault.Place.TheVariants.{Route}
 use Rattle.ilk_net_read.specs.Fault.{broken, checked, or_fault}
-use Rattle.ilk_net_read.specs.Network.{document_of, in_order, network_of, value_of}
+use Rattle.ilk_net_read.specs.Member.{entries_of}
+use Rattle.ilk_net_read.specs.Network.{document_of, network_of, value_of}
 use Rattle.ilk_net_read.specs.declared.version.Version.{Version}
 use Rattle.ilk_table_read.specs.Route.{as_route}
 
@@ -25,7 +26,7 @@ route_of version i d = do
 abbrev pub table_of : Data → Result TableDraft FormFault
 table_of d = do
   document ← document_of d
-  routes ← in_order (route_of document.version) 0 document.routes
+  routes ← in_order (route_of document.version) 0 (entries_of document.routes)
   Ok (record { routes = routes })
 
 -- the two drafts of a configuration of these bytes, or the one fault: the first rule that is broken of

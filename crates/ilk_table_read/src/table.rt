@@ -5,7 +5,8 @@ ghost use Rattle.std.specs.List.{list_all};
 ghost use Rattle.serde_json.specs.View.{view, items_view};
 ghost use Rattle.ilk_plant.specs.Limits.{TableHasLimits, route_has_limits, route_has_names};
 ghost use Rattle.ilk_net_read.specs.Fault.{Gives};
-ghost use Rattle.ilk_net_read.specs.Network.{in_order};
+ghost use Rattle.ilk_base.specs.Result.{in_order};
+ghost use Rattle.ilk_net_read.specs.Member.{entries_of};
 ghost use Rattle.ilk_table_read.specs.Table.{table_of, route_of};
 
 use crate::route::route_of;
@@ -16,7 +17,7 @@ use std::alloc::Global;
 
 fn routes(alloc: Global, version: Version, values: &[Value]) -> Result<Row<RouteDraft>, FormError>
     requires { length values.now ≤ MAX_ROUTES }
-    ensures exact { Gives result (in_order (route_of version) 0 (items_view values.now)) }
+    ensures exact { Gives result (in_order (route_of version) 0 (entries_of (items_view values.now))) }
     ensures count { IfOk result (λ routes. length routes ≡ length values.now) }
     ensures limits { IfOk result (λ routes. list_all route_has_limits routes ≡ true) }
     ensures named { IfOk result (λ routes. list_all route_has_names routes ≡ true) }

@@ -1,13 +1,16 @@
 -- The entry of a variable, in a list with one more entry.
 use Rattle.std.proofs.Common.{◌≡◌, ◌≢◌, ℕ, zero, suc, inl, inr, true, false, eqb, List, [], ◌∷◌, ◌++◌, refl, ap, ◌∙◌, arith, Some, None}
 use Rattle.std.specs.List.{slice_get}
-use Rattle.std.proofs.lemmas.Bool.{or_parts}
+use Rattle.std.proofs.lemmas.Bool.{or_parts, or_left, or_right}
 use Rattle.std.proofs.lemmas.Bool.Decides.{nat_tests, eqb_tells}
 use Rattle.std.proofs.lemmas.List.Folds.{find-append}
-use Rattle.ilk_trail.specs.declared.entry.Entry.{Entry}
-use Rattle.ilk_trail.specs.Trail.{entry_of}
-use Rattle.ilk_trail.specs.Laws.{lits_of, is_set}
 use Rattle.ilk_base.proofs.Options.{option_or-none}
+use Rattle.ilk_trail.specs.declared.entry.Entry.{Entry}
+use Rattle.ilk_trail.specs.Trail.{entry_of, TrailList}
+use Rattle.ilk_trail.specs.Laws.{lits_of, is_set, IsTrail}
+use Rattle.ilk_cnf.specs.Literal.{has_lit, same_lit}
+use Rattle.ilk_cnf.specs.Formula.{lit_in}
+use Rattle.ilk_cnf.proofs.SameLiterals.{same-lit, lit_in-clause}
 
 pub lits_of-push : (es : List Entry) (e : Entry) → lits_of (es ++ e ∷ []) ≡ lits_of es ++ e.lit ∷ []
 lits_of-push [] e = refl
@@ -55,3 +58,15 @@ set-at (x ∷ es) zero e h =
     rw r refl
 set-at (x ∷ es) (suc i) e h =
     elim (eqb_tells x.lit.var e.lit.var) [ inl p ↦ rw p.0 refl | inr p ↦ rw p.0 (set-at es i e h) ]
+
+-- the literal of an entry is one of the trail, and of the formula
+pub entry-lit : (es : List Entry) (i : ℕ) (e : Entry) → slice_get es i ≡ Some e → has_lit e.lit (lits_of es) ≡ true
+entry-lit [] i e h = absurd (cc)
+entry-lit (x ∷ es) zero e h =
+    let q : e ≡ x = cc in
+    let s : same_lit e.lit x.lit ≡ true = ap (λ (y : Entry). same_lit y.lit x.lit) q ∙ same-lit x.lit in
+    or_left (same_lit e.lit x.lit) (has_lit e.lit (lits_of es)) s
+entry-lit (x ∷ es) (suc i) e h = or_right (same_lit e.lit x.lit) (has_lit e.lit (lits_of es)) (entry-lit es i e h)
+
+pub entry-within : (t : TrailList) (i : ℕ) (e : Entry) → IsTrail t → slice_get t.entries i ≡ Some e → lit_in t.vars e.lit ≡ true
+entry-within t i e k s = lit_in-clause t.vars (lits_of t.entries) e.lit k.within (entry-lit t.entries i e s)

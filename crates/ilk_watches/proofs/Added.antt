@@ -1,11 +1,11 @@
 -- The queue after a clause was added.
-use Rattle.std.proofs.Common.{◌≡◌, ◌≢◌, ◌⊎◌, ◌<◌, ◌≤◌, ◌+◌, ℕ, zero, suc, inl, inr, true, false, List, [], ◌∷◌, ◌++◌, length, Some, refl, sym, ap, ◌∙◌, subst, arith, length-append}
+use Rattle.std.proofs.Common.{◌≡◌, ◌≢◌, ◌⊎◌, ◌<◌, ◌≤◌, ◌+◌, ℕ, inl, inr, true, false, List, [], ◌∷◌, ◌++◌, length, Some, refl, sym, ap, ◌∙◌, subst, arith, length-append}
 use Rattle.std.specs.List.{slice_get}
 use Rattle.std.proofs.lemmas.Bool.{and_parts, and_from, cases_Bool, true≢false}
 use Rattle.std.proofs.lemmas.Option.{get_or_from_slice_get}
 use Rattle.std.proofs.Math.ListN.{get_or-append}
 use Rattle.ilk_base.proofs.Lists.{at-before, at-past}
-use Rattle.ilk_cnf.specs.Literal.{Literal, opposite, same_lit, has_lit}
+use Rattle.ilk_cnf.specs.Literal.{Literal, opposite, same_lit}
 use Rattle.ilk_cnf.proofs.Gates.{opposite-opposite}
 use Rattle.ilk_cnf.proofs.SameLiterals.{same-lit}
 use Rattle.ilk_log.specs.Fresh.{others}
@@ -15,10 +15,9 @@ use Rattle.ilk_trail.specs.Laws.{is_set, lits_of}
 use Rattle.ilk_trail.proofs.Entries.{set-at}
 use Rattle.ilk_arena.specs.Arena.{ArenaLists, added, chain_of, literals_of, number_of_clause, stands_in}
 use Rattle.ilk_arena.proofs.Watching.{stands-added}
-use Rattle.ilk_clauses.specs.Reasons.{clause_at}
 use Rattle.ilk_clauses.specs.Chained.{IsClauses, IsClauseAdded}
 use Rattle.ilk_clauses.proofs.Chained.{by-number, placed}
-use Rattle.ilk_watches.specs.Watched.{is_satisfied, FalseOnlyNow, IsAddable, IsCovered, IsQueue, MayForce}
+use Rattle.ilk_watches.specs.Watched.{is_satisfied, IsAddable, IsCovered, IsQueue, MayForce}
 use Rattle.ilk_watches.proofs.Covers.{stands-either, stands-one}
 
 -- an old clause in the chains after a clause was added

@@ -1,6 +1,5 @@
 -- The queue after levels were taken off.
-use Rattle.std.proofs.Common.{◌≡◌, ◌≢◌, ◌<◌, ◌≤◌, ◌+◌, ℕ, zero, suc, inl, inr, true, false, List, [], ◌∷◌, length, take, min, Some, refl, sym, ap, ◌∙◌, subst, arith}
-use Rattle.std.specs.List.{slice_get}
+use Rattle.std.proofs.Common.{◌≡◌, ◌<◌, ◌≤◌, ℕ, inl, inr, true, List, length, min, sym, ap, ◌∙◌, subst, arith}
 use Rattle.std.proofs.lemmas.Option.{slice_get_within}
 use Rattle.ilk_base.proofs.Ranges.{below_or_past}
 use Rattle.ilk_base.proofs.Tested.{list_all-slice_get}
@@ -11,7 +10,7 @@ use Rattle.ilk_trail.specs.declared.entry.Entry.{Entry}
 use Rattle.ilk_trail.specs.Trail.{level_of, up_to}
 use Rattle.ilk_trail.specs.Laws.{climbs, lits_of}
 use Rattle.ilk_trail.proofs.Levels.{up_to-all}
-use Rattle.ilk_arena.specs.Arena.{ArenaLists, literals_of, stands_in}
+use Rattle.ilk_arena.specs.Arena.{ArenaLists, literals_of}
 use Rattle.ilk_clauses.specs.Reasons.{clause_at}
 use Rattle.ilk_clauses.specs.Chained.{IsClauses}
 use Rattle.ilk_clauses.proofs.Chained.{by-reference}

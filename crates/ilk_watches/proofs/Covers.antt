@@ -1,5 +1,5 @@
 -- Covered clauses, as the trail grows and as watches move.
-use Rattle.std.proofs.Common.{◌≡◌, ◌≢◌, ◌<◌, ◌≤◌, ◌+◌, ◌⊎◌, ℕ, zero, suc, inl, inr, true, false, eqb, List, [], ◌∷◌, ◌++◌, length, take, get_or, Some, refl, sym, ap, ◌∙◌, subst, arith, append_assoc}
+use Rattle.std.proofs.Common.{◌≡◌, ◌≢◌, ◌<◌, ◌≤◌, ◌+◌, ◌⊎◌, ℕ, inl, inr, true, false, eqb, List, [], ◌∷◌, ◌++◌, length, take, get_or, Some, refl, sym, ap, ◌∙◌, subst, arith, append_assoc}
 use Rattle.std.specs.List.{slice_get, IsDistinct}
 use Rattle.std.proofs.lemmas.Bool.{or_cases, or_left, or_right, or_parts, true≢false, eqb-true, eq-eqb, eqb-false, ne_eqb}
 use Rattle.std.proofs.lemmas.Map.Keys.{IsDistinct-tail}
@@ -9,15 +9,15 @@ use Rattle.ilk_cnf.specs.Literal.{Literal, opposite, has_lit, vars_differ}
 use Rattle.ilk_cnf.proofs.Gates.{opposite-opposite}
 use Rattle.ilk_log.specs.Propagation.{is_false}
 use Rattle.ilk_trail.specs.declared.entry.Entry.{Entry}
-use Rattle.ilk_trail.specs.Trail.{level_of, up_to}
+use Rattle.ilk_trail.specs.Trail.{level_of}
 use Rattle.ilk_trail.specs.Laws.{climbs, lits_of}
 use Rattle.ilk_trail.proofs.Levels.{up_to-all}
 use Rattle.ilk_arena.specs.Arena.{ArenaLists, place, chain_of, rewatched, stands_in, without_reference}
 use Rattle.ilk_arena.proofs.Watching.{chain-left, once-head, stands-front, stands-rewatched, without-between}
 use Rattle.ilk_clauses.specs.Chained.{SameClauses}
-use Rattle.ilk_watches.specs.Watched.{is_true_at, AllCovered, IsCovered}
+use Rattle.ilk_watches.specs.Watched.{AllCovered, IsCovered}
 use Rattle.ilk_watches.specs.Visits.{IsWalk, OtherTrue}
-use Rattle.ilk_watches.proofs.Entries.{true-somewhere, true-kept, lit-kept, at-old, not-both, entry-denies, one-entry}
+use Rattle.ilk_watches.proofs.Entries.{true-somewhere, true-kept, lit-kept, at-old, not-both, entry-denies}
 
 -- more entries, of which as many as before are propagated
 pub covered-more : (a : ArenaLists) (es fs : List Entry) (n c : ℕ) → take (length es) fs ≡ es → n ≤ length es → IsCovered a es n c → IsCovered a fs n c

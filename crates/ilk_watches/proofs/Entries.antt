@@ -1,23 +1,20 @@
 -- True and false literals of a trail, and of one with more entries.
-use Rattle.std.proofs.Common.{◌≡◌, ◌≢◌, ◌||◌, ◌+◌, ◌<◌, ◌≤◌, ℕ, Bool, zero, suc, inl, inr, true, false, not, eqb, List, [], ◌∷◌, ◌++◌, length, take, drop, Option, Some, None, refl, sym, ap, ◌∙◌, subst, arith}
+use Rattle.std.proofs.Common.{◌≡◌, ◌≢◌, ◌||◌, ◌+◌, ◌<◌, ◌≤◌, ℕ, Bool, zero, suc, inl, inr, true, false, not, List, [], ◌∷◌, ◌++◌, length, take, drop, Option, Some, None, refl, sym, ap, ◌∙◌, subst, arith}
 use Rattle.std.specs.Prelude.{nat_le}
 use Rattle.std.specs.List.{slice_get}
-use Rattle.std.proofs.lemmas.Bool.{cases_Bool, or_cases, or_left, or_right, and_parts, not-true, true≢false, eq-eqb}
-use Rattle.std.proofs.lemmas.Option.{slice_get_within}
+use Rattle.std.proofs.lemmas.Bool.{cases_Bool, or_cases, or_left, or_right, and_parts, not-true, true≢false}
 use Rattle.std.proofs.lemmas.List.{take-append-drop, length-take, length-map}
 use Rattle.ilk_base.specs.Option.{is_some_and}
 use Rattle.ilk_base.proofs.Lists.{at-before, take-at}
 use Rattle.ilk_cnf.specs.Literal.{Literal, opposite, same_lit, has_lit, has_var, vars_differ}
 use Rattle.ilk_cnf.proofs.Gates.{opposite-opposite}
-use Rattle.ilk_cnf.proofs.SameLiterals.{lit-is, same-lit, has-var}
+use Rattle.ilk_cnf.proofs.SameLiterals.{lit-is, same-lit}
 use Rattle.ilk_log.specs.Propagation.{is_false}
 use Rattle.ilk_trail.specs.declared.entry.Entry.{Entry}
-use Rattle.ilk_trail.specs.Trail.{TrailList, up_to, value_of_literal}
-use Rattle.ilk_trail.specs.Laws.{IsTrail, is_set, lits_of}
-use Rattle.ilk_cnf.specs.Formula.{lit_in}
-use Rattle.ilk_clauses.proofs.Within.{lit_in-clause}
+use Rattle.ilk_trail.specs.Trail.{TrailList, value_of_literal}
+use Rattle.ilk_trail.specs.Laws.{IsTrail, lits_of}
 use Rattle.std.proofs.lemmas.Bool.Decides.{nat_tests}
-use Rattle.ilk_trail.proofs.Entries.{set-at}
+use Rattle.ilk_trail.proofs.Entries.{set-at, entry-lit}
 use Rattle.ilk_trail.proofs.Literals.{count_of_vars}
 use Rattle.ilk_clauses.proofs.Values.{value-tells}
 use Rattle.ilk_watches.specs.Watched.{is_true_at}
@@ -102,14 +99,6 @@ entry-of-lit (x ∷ es) l h =
       | inr q ↦ (let r = entry-of-lit es l (rw q at h) in record { index = suc r.index; entry = r.entry; stands = r.stands; is = r.is })
     ]
 
-pub entry-lit : (es : List Entry) (i : ℕ) (e : Entry) → slice_get es i ≡ Some e → has_lit e.lit (lits_of es) ≡ true
-entry-lit [] i e h = absurd (cc)
-entry-lit (x ∷ es) zero e h =
-    let q : e ≡ x = cc in
-    let s : same_lit e.lit x.lit ≡ true = ap (λ (y : Entry). same_lit y.lit x.lit) q ∙ same-lit x.lit in
-    or_left (same_lit e.lit x.lit) (has_lit e.lit (lits_of es)) s
-entry-lit (x ∷ es) (suc i) e h = or_right (same_lit e.lit x.lit) (has_lit e.lit (lits_of es)) (entry-lit es i e h)
-
 -- an entry makes the opposite of its literal false
 pub entry-denies : (es : List Entry) (i : ℕ) (e : Entry) → slice_get es i ≡ Some e → is_false (lits_of es) (opposite e.lit) ≡ true
 entry-denies es i e h = ap (λ (l : Literal). has_lit l (lits_of es)) (opposite-opposite e.lit) ∙ entry-lit es i e h
@@ -127,10 +116,6 @@ one-entry (x ∷ es) zero zero e d v s t q = refl
 one-entry (x ∷ es) zero (suc j) e d v s t q = absurd (twice es x e d j v (cc) t q)
 one-entry (x ∷ es) (suc i) zero e d v s t q = absurd (twice es x d e i v (cc) s (sym q))
 one-entry (x ∷ es) (suc i) (suc j) e d v s t q = ap suc (one-entry es i j e d (and_parts (not (has_var x.lit.var (lits_of es))) (vars_differ (lits_of es)) v).1 s t q)
-
--- the literals of a trail are over its variables
-pub entry-within : (t : TrailList) (i : ℕ) (e : Entry) → IsTrail t → slice_get t.entries i ≡ Some e → lit_in t.vars e.lit ≡ true
-entry-within t i e k s = lit_in-clause t.vars (lits_of t.entries) e.lit k.within (entry-lit t.entries i e s)
 
 -- a literal that is added is true at its level and above
 pub true-pushed : (es : List Entry) (e : Entry) (k : ℕ) → e.level ≤ k → is_true_at (es ++ e ∷ []) k e.lit ≡ true

@@ -18,9 +18,10 @@ use Rattle.ilk_trail.specs.Laws.{is_set, lits_of}
 use Rattle.ilk_clauses.specs.Reasons.{clause_at, is_conflict, is_reason}
 use Rattle.ilk_clauses.proofs.Forced.{unit-forces}
 use Rattle.ilk_clauses.proofs.Values.{value-none, value-tells}
-use Rattle.ilk_clauses.proofs.Within.{clause-in, lit_in-clause}
+use Rattle.ilk_clauses.proofs.Within.{clause-in}
 use Rattle.ilk_watches.specs.Look.{look_of}
 use Rattle.ilk_watches.specs.declared.look.Look.TheVariants.{Conflict, Unit, Open}
+use Rattle.ilk_cnf.proofs.SameLiterals.{lit_in-clause}
 
 -- a false clause
 pub conflict-told : (set c : List Literal) → look_of set c ≡ Conflict → is_falsified set c ≡ true

@@ -1,21 +1,20 @@
 -- A look at a clause that was not looked at yet.
-use Rattle.std.proofs.Common.{◌≡◌, ◌≢◌, ◌&&◌, ◌<◌, ◌≤◌, ◌+◌, ℕ, zero, suc, inl, inr, Bool, true, false, not, List, [], ◌∷◌, ◌++◌, length, take, Some, refl, sym, ap, ◌∙◌, subst, arith}
-use Rattle.std.specs.List.{slice_get}
-use Rattle.std.proofs.lemmas.Bool.{and_parts, and_from, or_cases, or_left, or_right, true≢false}
-use Rattle.std.proofs.Math.Seq.{take-append_seam, take-length}
+use Rattle.std.proofs.Common.{◌≡◌, ◌<◌, ◌≤◌, ◌+◌, ℕ, inl, inr, true, List, [], ◌∷◌, length, take, Some, refl, sym, ap, ◌∙◌, arith}
+use Rattle.std.proofs.lemmas.Bool.{and_parts, and_from, or_cases, or_left, or_right}
+use Rattle.std.proofs.Math.Seq.{take-length}
 use Rattle.ilk_base.proofs.Ranges.{below_or_past}
 use Rattle.ilk_base.proofs.Tested.{list_all-slice_get}
 use Rattle.ilk_cnf.specs.Literal.{Literal, opposite, has_lit, vars_differ}
 use Rattle.ilk_cnf.proofs.Gates.{opposite-opposite}
 use Rattle.ilk_log.specs.Fresh.{others}
-use Rattle.ilk_log.specs.Propagation.{is_false, is_falsified, unit_of}
+use Rattle.ilk_log.specs.Propagation.{is_false, is_falsified}
 use Rattle.ilk_trail.specs.declared.entry.Entry.{Entry}
-use Rattle.ilk_trail.specs.Trail.{assigned, level_of, up_to}
-use Rattle.ilk_trail.specs.Laws.{IsTrail, climbs, lits_of}
-use Rattle.ilk_trail.proofs.Levels.{last_level-push, up_to-all}
+use Rattle.ilk_trail.specs.Trail.{assigned, level_of}
+use Rattle.ilk_trail.specs.Laws.{climbs, lits_of}
+use Rattle.ilk_trail.proofs.Levels.{up_to-all}
 use Rattle.ilk_arena.specs.Arena.{ArenaLists, literals_of, number_of_clause, stands_in}
-use Rattle.ilk_clauses.specs.Reasons.{clause_at, is_reason}
-use Rattle.ilk_clauses.specs.Chained.{IsClauses, formula_of}
+use Rattle.ilk_clauses.specs.Reasons.{clause_at}
+use Rattle.ilk_clauses.specs.Chained.{IsClauses}
 use Rattle.ilk_clauses.proofs.Chained.{by-reference}
 use Rattle.ilk_clauses.proofs.Forced.{unit-forces}
 use Rattle.ilk_clauses.proofs.Within.{clause-there}
@@ -25,7 +24,7 @@ use Rattle.ilk_watches.specs.Propagated.{IsPropagated}
 use Rattle.ilk_watches.specs.Watched.{is_true_at, is_satisfied, IsCovered, IsQueue, MayForce}
 use Rattle.ilk_watches.proofs.Entries.{at-old, length-kept, lit-kept, true-pushed}
 use Rattle.ilk_watches.proofs.Covers.{covered-more}
-use Rattle.ilk_watches.proofs.Finding.{forced-is, left-open, lone-open, open-told, unit-told}
+use Rattle.ilk_watches.proofs.Finding.{left-open, lone-open, open-told, unit-told}
 use Rattle.ilk_watches.proofs.Others.{pushed-true}
 use Rattle.ilk_watches.proofs.Propagations.{propagated-one, propagated-start}
 use Rattle.ilk_watches.proofs.Satisfied.{is_open, open-true, others-only, satisfied-by, short-satisfied}

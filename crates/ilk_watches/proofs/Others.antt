@@ -1,19 +1,19 @@
 -- What is so of a clause in the chain of a false literal: its other watch, and what it forces.
-use Rattle.std.proofs.Common.{◌≡◌, ◌≢◌, ◌⊎◌, ◌+◌, ◌-◌, ◌<◌, ◌≤◌, ◌&&◌, ◌==◌, ℕ, zero, suc, inl, inr, Bool, true, false, not, List, [], ◌∷◌, ◌++◌, length, Option, Some, None, refl, sym, ap, ◌∙◌, subst, arith}
-use Rattle.std.specs.Prelude.{nat_lt, IsSomeAnd, IfSome}
+use Rattle.std.proofs.Common.{◌≡◌, ◌≢◌, ◌⊎◌, ◌+◌, ◌-◌, ◌&&◌, ◌==◌, ℕ, suc, inl, inr, Bool, true, false, not, List, [], ◌∷◌, ◌++◌, length, Option, Some, None, refl, sym, ap, ◌∙◌, subst, arith}
+use Rattle.std.specs.Prelude.{nat_lt, IsSomeAnd}
 use Rattle.std.specs.List.{find, position_or_len, slice_get}
 use Rattle.std.proofs.lemmas.Bool.{and_parts, and_from, cases_Bool, true≢false, not-true, not_from_false, lt-ltb, or_left, or_right}
 use Rattle.std.proofs.lemmas.Option.{slice_get_within}
 use Rattle.ilk_base.proofs.Ranges.{below_or_past}
 use Rattle.ilk_cnf.specs.Literal.{Literal, same_lit, has_lit}
-use Rattle.ilk_cnf.proofs.SameLiterals.{same-lit, lit-is}
+use Rattle.ilk_cnf.proofs.SameLiterals.{same-lit, lit-is, lit_in-clause}
 use Rattle.ilk_log.specs.Fresh.{others}
 use Rattle.ilk_log.specs.Propagation.{is_false, is_falsified}
 use Rattle.ilk_arena.specs.Arena.{ArenaLists, chain_of, literals_of, number_of_clause, other_watch_of, rewatched, stands_in}
-use Rattle.ilk_arena.specs.Chains.{IsArena, WatchesTwo}
+use Rattle.ilk_arena.specs.Chains.{WatchesTwo}
 use Rattle.ilk_clauses.specs.Reasons.{clause_at, is_conflict, is_reason}
 use Rattle.ilk_clauses.specs.Chained.{IsClauses, SameClauses, formula_of}
-use Rattle.ilk_clauses.proofs.Within.{clause-in, lit_in-clause}
+use Rattle.ilk_clauses.proofs.Within.{clause-in}
 use Rattle.ilk_cnf.specs.Formula.{clause_in, lit_in}
 use Rattle.ilk_base.proofs.Tested.{list_all-slice_get}
 use Rattle.ilk_clauses.proofs.Chained.{by-reference}

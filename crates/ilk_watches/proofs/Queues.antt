@@ -1,5 +1,5 @@
 -- The queue at its start, after a walk, and after a decision.
-use Rattle.std.proofs.Common.{◌≡◌, ◌≢◌, ◌&&◌, ◌<◌, ◌≤◌, ◌+◌, ℕ, zero, suc, inl, inr, Bool, true, false, not, List, [], ◌∷◌, ◌++◌, length, take, drop, Option, Some, None, refl, sym, ap, ◌∙◌, subst, arith, length-append}
+use Rattle.std.proofs.Common.{◌≡◌, ◌≢◌, ◌≤◌, ◌+◌, ℕ, zero, suc, inl, inr, true, false, not, List, [], ◌∷◌, ◌++◌, length, take, drop, Option, Some, None, refl, sym, ap, ◌∙◌, subst, arith, length-append}
 use Rattle.std.specs.Prelude.{IsSomeAnd, IfNone, IfSome, is_none, nat_lt}
 use Rattle.std.specs.List.{slice_get}
 use Rattle.std.proofs.lemmas.Bool.{and_parts, ltb-true, true≢false, not-true}
@@ -22,8 +22,8 @@ use Rattle.ilk_clauses.specs.Chained.{IsClauses, SameClauses}
 use Rattle.ilk_clauses.proofs.Chained.{by-reference}
 use Rattle.ilk_clauses.proofs.Within.{clause-there}
 use Rattle.ilk_watches.specs.Propagated.{IsPropagated}
-use Rattle.ilk_watches.specs.Watched.{AllCovered, is_satisfied, IsCovered, IsQueue}
-use Rattle.ilk_watches.proofs.Entries.{at-old, entry-of-lit, length-kept, one-entry, at-kept}
+use Rattle.ilk_watches.specs.Watched.{AllCovered, is_satisfied, IsQueue}
+use Rattle.ilk_watches.proofs.Entries.{at-old, entry-of-lit, one-entry, at-kept}
 use Rattle.ilk_watches.proofs.Covers.{covered-more}
 use Rattle.ilk_watches.proofs.Others.{number-same}
 use Rattle.ilk_watches.proofs.Satisfied.{closed-all, is_open, open-true}

@@ -1,20 +1,20 @@
 -- When a clause is neither false nor a unit.
-use Rattle.std.proofs.Common.{eqb, ◌≡◌, ◌≢◌, ◌&&◌, ◌<◌, ◌≤◌, ◌+◌, ℕ, zero, suc, inl, inr, Bool, true, false, not, List, [], ◌∷◌, length, Option, Some, None, refl, sym, ap, ◌∙◌, subst, arith}
+use Rattle.std.proofs.Common.{eqb, ◌≡◌, ◌≢◌, ◌&&◌, ◌<◌, ℕ, inl, inr, Bool, true, false, not, List, [], ◌∷◌, length, Option, Some, None, refl, sym, ap, ◌∙◌, arith}
 use Rattle.std.specs.Prelude.{is_none}
-use Rattle.std.specs.List.{filter, list_all, list_any, slice_get}
+use Rattle.std.specs.List.{filter}
 use Rattle.std.proofs.lemmas.Bool.{and_parts, and_from, cases_Bool, or_cases, or_left, or_right, or_parts, true≢false, not-true, not_from_false, eq-eqb}
 use Rattle.std.proofs.lemmas.Option.{slice_get_within, get_or_from_slice_get}
+use Rattle.ilk_base.proofs.Tested.{all-pass}
 use Rattle.ilk_base.proofs.Ranges.{below_or_past}
 use Rattle.ilk_cnf.specs.Literal.{Literal, opposite, same_lit, has_lit, has_var, vars_differ}
 use Rattle.ilk_cnf.proofs.Gates.{opposite-opposite}
 use Rattle.ilk_cnf.proofs.SameLiterals.{same-lit, lit-is}
 use Rattle.ilk_log.specs.Fresh.{others}
-use Rattle.ilk_log.specs.Propagation.{is_closed, is_false, is_falsified, lone_unset, unit_of}
+use Rattle.ilk_log.specs.Propagation.{is_closed, is_false, is_falsified, unit_of}
 use Rattle.ilk_trail.specs.declared.entry.Entry.{Entry}
 use Rattle.ilk_trail.specs.Laws.{lits_of}
 use Rattle.ilk_arena.specs.Arena.{ArenaLists, chain_of, literals_of, stands_in}
 use Rattle.ilk_arena.specs.Chains.{WatchesTwo}
-use Rattle.ilk_clauses.specs.Reasons.{clause_at}
 use Rattle.ilk_clauses.specs.Chained.{IsClauses}
 use Rattle.ilk_clauses.proofs.Chained.{referred}
 use Rattle.ilk_watches.specs.Watched.{AllCovered, is_satisfied}
@@ -136,14 +136,9 @@ other-holds a es c x y known h sx sy ne f =
     let same : opposite e.entry.lit ≡ x = ap opposite e.is ∙ opposite-opposite x in
     true-somewhere es e.entry.level y (h c known e.index e.entry y (slice_get_within es e.index e.entry e.stands) e.stands (ap (λ (l : Literal). stands_in c (chain_of a l)) same ∙ sx) sy (λ q. ne (q ∙ same)))
 
--- a list of which each item passes
-list_all-by : {A : Type 0} (p : A → Bool) (xs : List A) → ((i : ℕ) (x : A) → slice_get xs i ≡ Some x → p x ≡ true) → list_all p xs ≡ true
-list_all-by p [] h = refl
-list_all-by p (x ∷ xs) h = and_from (p x) (list_all p xs) (h 0 x refl) (list_all-by p xs (λ i y s. h (suc i) y s))
-
 -- propagation is at its end where all entries are propagated, and the short clauses are satisfied
 pub closed-all : (a : ArenaLists) (es : List Entry) → IsClauses a → vars_differ (lits_of es) ≡ true → AllCovered a es (length es) → ((c : ℕ) → stands_in c a.references ≡ true → length (literals_of a c) < 2 → is_satisfied es (literals_of a c) ≡ true) → is_closed a.clauses (lits_of es) ≡ true
-closed-all a es k d h short = list_all-by (is_open (lits_of es)) a.clauses (λ i x s.
+closed-all a es k d h short = all-pass (is_open (lits_of es)) a.clauses (λ i x s.
     (let r = referred a i k (slice_get_within a.clauses i x s) in
     let same : literals_of a r.reference ≡ x = r.is.literals ∙ get_or_from_slice_get a.clauses i x [] s in
     ap (is_open (lits_of es)) (sym same) ∙ one r.reference r.is.known))

@@ -1,10 +1,10 @@
 -- A walk along a chain, clause by clause.
-use Rattle.std.proofs.Common.{◌≡◌, ◌≢◌, ◌<◌, ◌≤◌, ◌+◌, ℕ, zero, suc, inl, inr, true, false, eqb, List, [], ◌∷◌, ◌++◌, length, take, Option, Some, None, refl, sym, ap, ◌∙◌, subst, arith, append_assoc, ◌&&◌}
+use Rattle.std.proofs.Common.{◌≡◌, ◌≢◌, ◌<◌, ◌≤◌, ◌+◌, ℕ, true, false, eqb, List, [], ◌∷◌, ◌++◌, length, take, Option, Some, None, refl, sym, ap, ◌∙◌, subst, arith, append_assoc, ◌&&◌}
 use Rattle.std.specs.List.{slice_get, last_or, IsDistinct, AllByRecursion}
 use Rattle.std.specs.Option.{option_map}
-use Rattle.std.proofs.lemmas.Bool.{or_left, or_right, or_parts, true≢false, eq-eqb, eqb-false, ne_eqb, and_from}
-use Rattle.std.proofs.lemmas.Bool.Decides.{eqb_tells}
+use Rattle.std.proofs.lemmas.Bool.{or_left, or_right, or_parts, eq-eqb, eqb-false, ne_eqb, and_from}
 use Rattle.std.proofs.lemmas.Map.Keys.{IsDistinct-head, IsDistinct-tail, IsDistinct-cons}
+use Rattle.ilk_base.proofs.Lists.{last-some}
 use Rattle.ilk_cnf.specs.Literal.{Literal, opposite, vars_differ}
 use Rattle.ilk_cnf.proofs.Gates.{opposite-opposite}
 use Rattle.ilk_log.specs.Propagation.{is_false}
@@ -14,10 +14,9 @@ use Rattle.ilk_arena.specs.Arena.{ArenaLists, after, chain_of, first_of, follows
 use Rattle.ilk_arena.specs.Chains.{IsArena}
 use Rattle.ilk_arena.proofs.Watching.{once-head, stands-front}
 use Rattle.ilk_clauses.specs.Chained.{SameClauses}
-use Rattle.ilk_watches.specs.Watched.{AllCovered}
 use Rattle.ilk_watches.specs.Visits.{from_reference, rest_from, IsVisited, IsWalk, Walking}
 use Rattle.ilk_watches.specs.declared.walk.Visited.TheVariants.{Stays, Moves}
-use Rattle.ilk_watches.proofs.Entries.{entry-denies, one-entry}
+use Rattle.ilk_watches.proofs.Entries.{one-entry}
 use Rattle.ilk_watches.proofs.Covers.{walk-stays, walk-moves}
 
 -- the entry whose literal was read
@@ -39,12 +38,6 @@ not-before es n x f d s q i e b t h =
     let same : e.lit ≡ x.lit = h ∙ ap opposite (sym q) ∙ opposite-opposite x.lit in
     let one = one-entry es i n e x d t s (ap (λ (l : Literal). l.var) same) in
     absurd (omega (arith, one, b))
-
--- parts of a chain
--- the last of a list that has one is some item
-last-some : (x : ℕ) (xs : List ℕ) → (b : ℕ) × (last_or (Some x) xs ≡ Some b)
-last-some x [] = (x, refl)
-last-some x (y ∷ xs) = last-some y xs
 
 follows-last : (x : ℕ) (xs : List ℕ) (c : ℕ) (rest : List ℕ) → follows (last_or (Some x) xs) c (x ∷ xs ++ c ∷ rest) ≡ true
 follows-last x [] c rest = or_left (eqb x x && eqb c c) (follows (Some x) c (c ∷ rest)) (and_from (eqb x x) (eqb c c) (eq-eqb x x refl) (eq-eqb c c refl))

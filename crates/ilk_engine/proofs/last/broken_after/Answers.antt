@@ -1,5 +1,5 @@
 use Rattle.ilk_plant.specs.Start.{start}
-use Rattle.ilk_engine.proofs.Ends.{breach-at, breach-run, broken-there}
+use Rattle.ilk_engine.proofs.Ends.{breach-run}
 use Rattle.ilk_engine.proofs.last.broken_after.Goals as goal
 
 pub state_after-requires : goal.state_after-requires

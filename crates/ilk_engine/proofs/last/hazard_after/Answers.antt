@@ -1,5 +1,5 @@
 use Rattle.ilk_plant.specs.Start.{start}
-use Rattle.ilk_engine.proofs.Ends.{hazard-at, hazard-run, hazard-there}
+use Rattle.ilk_engine.proofs.Ends.{hazard-run}
 use Rattle.ilk_engine.proofs.last.hazard_after.Goals as goal
 
 pub state_after-requires : goal.state_after-requires

@@ -1,6 +1,6 @@
 use Rattle.std.proofs.Common.{◌≡◌, ◌∙◌, false, nat_lt, arith}
 use Rattle.std.proofs.lemmas.Bool.Decides.{nat_tests}
-use Rattle.ilk_model.proofs.SharedSections.{no_bit_past}
+use Rattle.ilk_base.proofs.Bits.{no_bit_past}
 use Rattle.ilk_model.proofs.shared.has_bit.Goals as goal
 
 pub returns-else-x-lt128 : goal.returns-else-x-lt128

@@ -1,13 +1,13 @@
 use Rattle.std.proofs.Common.{◌≡◌, ℕ, ◌+◌, ◌∷◌, refl, List, drop, map, length, sym, ap, ◌∙◌, subst, arith}
 use Rattle.std.proofs.lemmas.List.{length-map}
 use Rattle.std.proofs.lemmas.Bool.{and_parts, and_from}
-use Rattle.ilk_base.proofs.Lists.{drop_at}
+use Rattle.ilk_base.proofs.Lists.{drop_at, drop_from}
 use Rattle.ilk_cnf.specs.Literal.{Literal}
 use Rattle.ilk_cnf.specs.Formula.{Formula, clause_in}
 use Rattle.ilk_ir.specs.System.{rule_tree}
 use Rattle.ilk_copy.specs.declared.copy.Column.{Column}
 use Rattle.ilk_forms.specs.Leaf.{columns_in}
-use Rattle.ilk_step.proofs.FrameSteps.{setters-in, frames_step, drop_from}
+use Rattle.ilk_step.proofs.FrameSteps.{setters-in, frames_step}
 use Rattle.ilk_step.proofs.frame.add_frames.Goals as goal
 
 pub add_frame-requires-clause-first : goal.add_frame-requires-clause-first

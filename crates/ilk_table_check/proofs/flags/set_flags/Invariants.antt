@@ -1,4 +1,4 @@
-use Rattle.std.proofs.Common.{◌≡◌, ℕ, ◌<◌, ◌||◌, false, get_or, length, map, take}
+use Rattle.std.proofs.Common.{◌≡◌, ℕ, ◌<◌, ◌||◌, false, get_or, length, take}
 use Rattle.ilk_plant.specs.Network.{has_section}
 use Rattle.ilk_table_check.proofs.flags.set_flags.Given as goal
 

@@ -1,6 +1,6 @@
 use Rattle.std.proofs.Common.{◌≡◌, ◌+◌, ◌≤◌, length, drop, true, false, Some, None, is_some, arith, ap, sym, ◌∙◌}
 use Rattle.ilk_clauses.specs.Reasons.{clause_at}
-use Rattle.ilk_trail.specs.Trail.{TrailList, value_of_literal}
+use Rattle.ilk_trail.specs.Trail.{value_of_literal}
 use Rattle.ilk_watches.specs.declared.look.Look.TheVariants.{Conflict, Unit}
 use Rattle.std.specs.Option.{option_map_or}
 use Rattle.ilk_watches.proofs.Scanned.{scan, scan-is, scan-true, scan-false, scan-second, scan-first, scan-end}

@@ -1,7 +1,7 @@
-use Rattle.std.proofs.Common.{◌≡◌, ◌<◌, ◌&&◌, ◌+◌, ℕ, not, length, take, true, arith, ap, sym, ◌∙◌}
+use Rattle.std.proofs.Common.{◌<◌, ◌&&◌, ℕ, not, length, true, arith, ap, sym, ◌∙◌}
 use Rattle.ilk_cnf.specs.Literal.{plus}
 use Rattle.ilk_cnf.specs.Formula.{lit_in}
-use Rattle.ilk_trail.specs.Laws.{is_set, lits_of}
+use Rattle.ilk_trail.specs.Laws.{is_set}
 use Rattle.ilk_clauses.specs.Chained.{formula_of}
 use Rattle.ilk_watches.proofs.Finding.{forced-is}
 use Rattle.ilk_watches.proofs.scan.find.Goals as goal

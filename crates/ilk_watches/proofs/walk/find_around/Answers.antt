@@ -1,9 +1,7 @@
-use Rattle.std.proofs.Common.{◌≡◌, ℕ, Option, Some, None, IsTrue, length, ap, ◌∙◌}
+use Rattle.std.proofs.Common.{◌≡◌, ℕ, Option, Some, None, length, ap, ◌∙◌}
 use Rattle.std.specs.Prelude.{IfNone}
-use Rattle.ilk_cnf.specs.Literal.{Literal}
 use Rattle.ilk_trail.specs.Laws.{lits_of}
 use Rattle.ilk_arena.specs.Arena.{ArenaLists, literals_of}
-use Rattle.ilk_watches.specs.Visits.{NoneMayWatch}
 use Rattle.ilk_watches.proofs.Others.{none-around}
 use Rattle.ilk_watches.proofs.walk.find_around.Goals as goal
 

@@ -1,9 +1,9 @@
-use Rattle.std.proofs.Common.{◌≡◌, ◌-◌, ℕ, Bool, true, false, not, List, Option, Some, None, ap, sym, ◌∙◌, subst, refl}
+use Rattle.std.proofs.Common.{◌≡◌, ◌-◌, ℕ, Bool, true, false, not, Option, Some, ap, sym, ◌∙◌, subst, refl}
 use Rattle.ilk_base.specs.Option.{is_some_and}
-use Rattle.ilk_cnf.specs.Literal.{Literal, has_lit}
+use Rattle.ilk_cnf.specs.Literal.{has_lit}
 use Rattle.ilk_cnf.specs.Formula.{lit_in}
 use Rattle.ilk_trail.specs.declared.entry.Entry.{Entry}
-use Rattle.ilk_trail.specs.Trail.{TrailList, assigned, level_of, value_of_literal}
+use Rattle.ilk_trail.specs.Trail.{TrailList, level_of, value_of_literal}
 use Rattle.ilk_trail.specs.Laws.{lits_of}
 use Rattle.ilk_arena.specs.Arena.{ArenaLists, number_of_clause, other_watch_of}
 use Rattle.ilk_clauses.specs.Reasons.{is_reason}

@@ -1,4 +1,4 @@
-use Rattle.std.proofs.Common.{◌≡◌, ◌≤◌, ℕ, true, [], Option, Some, None, List, length, arith, refl, ap, sym, ◌∙◌}
+use Rattle.std.proofs.Common.{◌≡◌, ◌≤◌, ℕ, true, [], Option, Some, None, length, arith, refl, ap, sym, ◌∙◌}
 use Rattle.std.specs.List.{slice_get}
 use Rattle.ilk_cnf.specs.Literal.{opposite}
 use Rattle.ilk_cnf.specs.Formula.{lit_in}
@@ -8,10 +8,11 @@ use Rattle.ilk_trail.specs.Trail.{TrailList, level_of}
 use Rattle.ilk_trail.specs.Laws.{lits_of}
 use Rattle.ilk_arena.specs.Arena.{ArenaLists, after, chain_of, first_of, stands_in}
 use Rattle.ilk_watches.proofs.Covers.{all-chains, all-more, walk-end, walk-start}
-use Rattle.ilk_watches.proofs.Entries.{at-kept, entry-denies, entry-within, length-kept}
+use Rattle.ilk_watches.proofs.Entries.{at-kept, entry-denies, length-kept}
 use Rattle.ilk_watches.proofs.Others.{same-join, same-self}
 use Rattle.ilk_watches.proofs.Propagations.{propagated-join, propagated-same, propagated-start}
 use Rattle.ilk_watches.proofs.Walks.{all-passed, at-hand, entry-at, hand-follows, hand-stands, not-before, step-moves, step-stays}
+use Rattle.ilk_trail.proofs.Entries.{entry-within}
 use Rattle.ilk_watches.proofs.walk.walk.Goals as goal
 
 pub first_watch-at-requires : goal.first_watch-at-requires

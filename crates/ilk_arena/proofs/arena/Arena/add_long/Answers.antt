@@ -2,6 +2,7 @@ use Rattle.std.proofs.Common.{◌≡◌, ◌+◌, ◌-◌, ◌/◌, ◌++◌, �
 use Rattle.std.specs.List.{slice_get}
 use Rattle.std.proofs.lemmas.List.{get_or_read, length-map}
 use Rattle.std.proofs.lemmas.Option.{slice_get_read}
+use Rattle.ilk_base.proofs.Lists.{all-written}
 use Rattle.ilk_cnf.specs.Formula.{clause_in}
 use Rattle.ilk_cnf.proofs.Literals.{clause_in-more}
 use Rattle.ilk_arena.specs.Arena.{place, added}
@@ -9,7 +10,7 @@ use Rattle.ilk_arena.specs.declared.place.TheConstants.{WORD_LIMIT}
 use Rattle.ilk_arena.specs.Linked.{lists_of, references_in, HoldsArena}
 use Rattle.ilk_arena.proofs.Law.{arena-law}
 use Rattle.ilk_arena.proofs.Adding.{block}
-use Rattle.ilk_arena.proofs.Readings.{vars-are, spare-is, spare-are, count-fits, written}
+use Rattle.ilk_arena.proofs.Readings.{vars-are, spare-is, spare-are, count-fits}
 use Rattle.ilk_arena.proofs.AddedClauses.{new-reference, long-law, words_long, heads_long, lit-fits}
 use Rattle.ilk_arena.proofs.arena.Arena.add_long.Goals as goal
 
@@ -112,7 +113,7 @@ invariant_of-self c =
     let n : c.len-reference.result ≡ length s.words.items = omega (arith, c.len-reference.ensures, s.words.ok.0) in
     let h = rw (c.deref_mut.ensures.value, c.place-left.ensures, c.place-right.ensures, n) at c.lead.ensures in
     let nh : length c.lead.new.heads ≡ s.heads.len = omega (arith, c.lead.auto.heads, c.deref_mut.ensures.len) in
-    let eh : take s.heads.len (c.lead.new.heads ++ drop (length c.lead.new.heads) hs) ≡ heads_long s.words.items hs l m = written s.heads.len c.lead.new.heads hs nh ∙ h in
+    let eh : take s.heads.len (c.lead.new.heads ++ drop (length c.lead.new.heads) hs) ≡ heads_long s.words.items hs l m = all-written s.heads.len c.lead.new.heads hs nh ∙ h in
     let g = long-law s.vars V _ s.count s.words.items hs c.args.self.now ls l m c.self.invariant c.self.view_is within c.requires.differ a b (omega (arith, spare-are s.vars _ s.words.items s.heads.items c.args.self.now c.self.view_is, c.requires.room, s.words.ok.0)) in
     rw (ew, eh) g.holds
 
@@ -136,7 +137,7 @@ returns-clause-added c =
     let n : c.len-reference.result ≡ length s.words.items = omega (arith, c.len-reference.ensures, s.words.ok.0) in
     let h = rw (c.deref_mut.ensures.value, c.place-left.ensures, c.place-right.ensures, n) at c.lead.ensures in
     let nh : length c.lead.new.heads ≡ s.heads.len = omega (arith, c.lead.auto.heads, c.deref_mut.ensures.len) in
-    let eh : take s.heads.len (c.lead.new.heads ++ drop (length c.lead.new.heads) hs) ≡ heads_long s.words.items hs l m = written s.heads.len c.lead.new.heads hs nh ∙ h in
+    let eh : take s.heads.len (c.lead.new.heads ++ drop (length c.lead.new.heads) hs) ≡ heads_long s.words.items hs l m = all-written s.heads.len c.lead.new.heads hs nh ∙ h in
     let g = long-law s.vars V _ s.count s.words.items hs c.args.self.now ls l m c.self.invariant c.self.view_is within c.requires.differ a b (omega (arith, spare-are s.vars _ s.words.items s.heads.items c.args.self.now c.self.view_is, c.requires.room, s.words.ok.0)) in
     let us = c.append.new.words.items in
     let ks = take s.heads.len (c.lead.new.heads ++ drop (length c.lead.new.heads) hs) in
@@ -170,7 +171,7 @@ returns-clause-room c =
     let n : c.len-reference.result ≡ length s.words.items = omega (arith, c.len-reference.ensures, s.words.ok.0) in
     let h = rw (c.deref_mut.ensures.value, c.place-left.ensures, c.place-right.ensures, n) at c.lead.ensures in
     let nh : length c.lead.new.heads ≡ s.heads.len = omega (arith, c.lead.auto.heads, c.deref_mut.ensures.len) in
-    let eh : take s.heads.len (c.lead.new.heads ++ drop (length c.lead.new.heads) hs) ≡ heads_long s.words.items hs l m = written s.heads.len c.lead.new.heads hs nh ∙ h in
+    let eh : take s.heads.len (c.lead.new.heads ++ drop (length c.lead.new.heads) hs) ≡ heads_long s.words.items hs l m = all-written s.heads.len c.lead.new.heads hs nh ∙ h in
     let g = long-law s.vars V _ s.count s.words.items hs c.args.self.now ls l m c.self.invariant c.self.view_is within c.requires.differ a b (omega (arith, spare-are s.vars _ s.words.items s.heads.items c.args.self.now c.self.view_is, c.requires.room, s.words.ok.0)) in
     let us = c.append.new.words.items in
     let ks = take s.heads.len (c.lead.new.heads ++ drop (length c.lead.new.heads) hs) in
@@ -199,7 +200,7 @@ returns-clause-arena c =
     let n : c.len-reference.result ≡ length s.words.items = omega (arith, c.len-reference.ensures, s.words.ok.0) in
     let h = rw (c.deref_mut.ensures.value, c.place-left.ensures, c.place-right.ensures, n) at c.lead.ensures in
     let nh : length c.lead.new.heads ≡ s.heads.len = omega (arith, c.lead.auto.heads, c.deref_mut.ensures.len) in
-    let eh : take s.heads.len (c.lead.new.heads ++ drop (length c.lead.new.heads) hs) ≡ heads_long s.words.items hs l m = written s.heads.len c.lead.new.heads hs nh ∙ h in
+    let eh : take s.heads.len (c.lead.new.heads ++ drop (length c.lead.new.heads) hs) ≡ heads_long s.words.items hs l m = all-written s.heads.len c.lead.new.heads hs nh ∙ h in
     let g = long-law s.vars V _ s.count s.words.items hs c.args.self.now ls l m c.self.invariant c.self.view_is within c.requires.differ a b (omega (arith, spare-are s.vars _ s.words.items s.heads.items c.args.self.now c.self.view_is, c.requires.room, s.words.ok.0)) in
     let us = c.append.new.words.items in
     let ks = take s.heads.len (c.lead.new.heads ++ drop (length c.lead.new.heads) hs) in

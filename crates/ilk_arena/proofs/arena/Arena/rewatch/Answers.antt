@@ -1,10 +1,11 @@
 use Rattle.std.proofs.Common.{◌≡◌, ◌+◌, ◌++◌, ℕ, false, Some, length, take, drop, arith, ap, sym, ◌∙◌}
 use Rattle.std.specs.List.{slice_get}
 use Rattle.std.proofs.lemmas.List.{get_or_read}
+use Rattle.ilk_base.proofs.Lists.{all-written}
 use Rattle.ilk_arena.specs.Arena.{place, chain_of, literals_of, stands_in}
 use Rattle.ilk_arena.specs.Linked.{lit_at}
 use Rattle.ilk_arena.proofs.Law.{arena-law}
-use Rattle.ilk_arena.proofs.Readings.{within, written}
+use Rattle.ilk_arena.proofs.Readings.{within}
 use Rattle.ilk_arena.proofs.arena.Arena.rewatch.Goals as goal
 use Rattle.ilk_arena.proofs.Rewatching.{ready, rewatch-law, words_moved, heads_moved}
 
@@ -45,8 +46,8 @@ invariant_of-self c = let s = c.self.inside in let r = ready s.vars _ s.count s.
     let h = rw (c.deref_mut.ensures.value, c.deref_mut-2.ensures.value, c.place.ensures) at c.move_watch.ensures.heads in
     let nw : length c.move_watch.new.words ≡ s.words.len = omega (arith, c.move_watch.auto.words, c.deref_mut.ensures.len) in
     let nh : length c.move_watch.new.heads ≡ s.heads.len = omega (arith, c.move_watch.auto.heads, c.deref_mut-2.ensures.len) in
-    let ew : take s.words.len (c.move_watch.new.words ++ drop (length c.move_watch.new.words) s.words.items) ≡ words_moved s.words.items s.heads.items c.args.before (place c.args.from) c.args.c t = written s.words.len c.move_watch.new.words s.words.items nw ∙ v in
-    let eh : take s.heads.len (c.move_watch.new.heads ++ drop (length c.move_watch.new.heads) s.heads.items) ≡ heads_moved s.words.items s.heads.items c.args.before (place c.args.from) c.args.c t = written s.heads.len c.move_watch.new.heads s.heads.items nh ∙ h in
+    let ew : take s.words.len (c.move_watch.new.words ++ drop (length c.move_watch.new.words) s.words.items) ≡ words_moved s.words.items s.heads.items c.args.before (place c.args.from) c.args.c t = all-written s.words.len c.move_watch.new.words s.words.items nw ∙ v in
+    let eh : take s.heads.len (c.move_watch.new.heads ++ drop (length c.move_watch.new.heads) s.heads.items) ≡ heads_moved s.words.items s.heads.items c.args.before (place c.args.from) c.args.c t = all-written s.heads.len c.move_watch.new.heads s.heads.items nh ∙ h in
     rw (ew, eh) m.holds
 
 pub returns-clause-moved : goal.returns-clause-moved
@@ -59,8 +60,8 @@ returns-clause-moved c = let s = c.self.inside in let r = ready s.vars _ s.count
     let h = rw (c.deref_mut.ensures.value, c.deref_mut-2.ensures.value, c.place.ensures) at c.move_watch.ensures.heads in
     let nw : length c.move_watch.new.words ≡ s.words.len = omega (arith, c.move_watch.auto.words, c.deref_mut.ensures.len) in
     let nh : length c.move_watch.new.heads ≡ s.heads.len = omega (arith, c.move_watch.auto.heads, c.deref_mut-2.ensures.len) in
-    let ew : take s.words.len (c.move_watch.new.words ++ drop (length c.move_watch.new.words) s.words.items) ≡ words_moved s.words.items s.heads.items c.args.before (place c.args.from) c.args.c t = written s.words.len c.move_watch.new.words s.words.items nw ∙ v in
-    let eh : take s.heads.len (c.move_watch.new.heads ++ drop (length c.move_watch.new.heads) s.heads.items) ≡ heads_moved s.words.items s.heads.items c.args.before (place c.args.from) c.args.c t = written s.heads.len c.move_watch.new.heads s.heads.items nh ∙ h in
+    let ew : take s.words.len (c.move_watch.new.words ++ drop (length c.move_watch.new.words) s.words.items) ≡ words_moved s.words.items s.heads.items c.args.before (place c.args.from) c.args.c t = all-written s.words.len c.move_watch.new.words s.words.items nw ∙ v in
+    let eh : take s.heads.len (c.move_watch.new.heads ++ drop (length c.move_watch.new.heads) s.heads.items) ≡ heads_moved s.words.items s.heads.items c.args.before (place c.args.from) c.args.c t = all-written s.heads.len c.move_watch.new.heads s.heads.items nh ∙ h in
     rw (is, ew, eh) m.lists
 
 pub returns-clause-arena : goal.returns-clause-arena
@@ -73,6 +74,6 @@ returns-clause-arena c = let s = c.self.inside in let r = ready s.vars _ s.count
     let h = rw (c.deref_mut.ensures.value, c.deref_mut-2.ensures.value, c.place.ensures) at c.move_watch.ensures.heads in
     let nw : length c.move_watch.new.words ≡ s.words.len = omega (arith, c.move_watch.auto.words, c.deref_mut.ensures.len) in
     let nh : length c.move_watch.new.heads ≡ s.heads.len = omega (arith, c.move_watch.auto.heads, c.deref_mut-2.ensures.len) in
-    let ew : take s.words.len (c.move_watch.new.words ++ drop (length c.move_watch.new.words) s.words.items) ≡ words_moved s.words.items s.heads.items c.args.before (place c.args.from) c.args.c t = written s.words.len c.move_watch.new.words s.words.items nw ∙ v in
-    let eh : take s.heads.len (c.move_watch.new.heads ++ drop (length c.move_watch.new.heads) s.heads.items) ≡ heads_moved s.words.items s.heads.items c.args.before (place c.args.from) c.args.c t = written s.heads.len c.move_watch.new.heads s.heads.items nh ∙ h in
+    let ew : take s.words.len (c.move_watch.new.words ++ drop (length c.move_watch.new.words) s.words.items) ≡ words_moved s.words.items s.heads.items c.args.before (place c.args.from) c.args.c t = all-written s.words.len c.move_watch.new.words s.words.items nw ∙ v in
+    let eh : take s.heads.len (c.move_watch.new.heads ++ drop (length c.move_watch.new.heads) s.heads.items) ≡ heads_moved s.words.items s.heads.items c.args.before (place c.args.from) c.args.c t = all-written s.heads.len c.move_watch.new.heads s.heads.items nh ∙ h in
     rw (ew, eh) (arena-law s.vars _ _ _ _ m.holds.linked)

@@ -1,4 +1,4 @@
-use Rattle.std.proofs.Common.{◌≤◌, ◌^◌, List, ap, sym, ◌∙◌, subst, arith, ℕ}
+use Rattle.std.proofs.Common.{◌≤◌, ◌^◌, List, ap, sym, subst, arith, ℕ}
 use Rattle.ilk_arena.specs.Arena.{ArenaLists}
 use Rattle.ilk_clauses.specs.Held.{HoldsClauses}
 use Rattle.ilk_clauses.proofs.Chained.{held-none}

@@ -6,13 +6,13 @@ use Rattle.ilk_cnf.specs.Formula.{lit_in}
 use Rattle.ilk_trail.specs.declared.entry.Entry.{Entry}
 use Rattle.ilk_trail.specs.Trail.{entry_of}
 use Rattle.ilk_trail.specs.Laws.{is_set}
-use Rattle.ilk_trail.proofs.Entries.{set-at}
+use Rattle.ilk_trail.proofs.Entries.{set-at, entry-within}
 use Rattle.ilk_clauses.specs.Chained.{formula_of}
 use Rattle.ilk_learn.specs.Levels.{is_current}
 use Rattle.ilk_learn.specs.Learning.{is_implication_point}
 use Rattle.ilk_learn.specs.Hand.{Reached}
 use Rattle.ilk_learn.proofs.Latest.{entry-at}
-use Rattle.ilk_learn.proofs.Far.{Far, far-start, far-next, far-point, far-end, entry-within, entry-current}
+use Rattle.ilk_learn.proofs.Far.{Far, far-start, far-next, far-point, far-end, entry-current}
 use Rattle.ilk_learn.proofs.hand.Hand.walk.Goals as goal
 
 pub loop-i-init : goal.loop-i-init

@@ -1,7 +1,8 @@
 use Rattle.std.proofs.Common.{◌≡◌, ℕ, List, length, ap, sym, ◌∙◌, subst, arith}
+use Rattle.ilk_base.proofs.Lists.{all-written}
 use Rattle.ilk_trail.specs.Trail.{TrailList}
 use Rattle.ilk_solver.specs.Order.{HoldsView}
-use Rattle.ilk_solver.proofs.Orders.{holds-longer, tree-written}
+use Rattle.ilk_solver.proofs.Orders.{holds-longer}
 use Rattle.ilk_watches.specs.Propagated.{IsPropagated}
 use Rattle.ilk_watches.specs.Watched.{IsQueue}
 use Rattle.ilk_solver.specs.View.{ViewLists}
@@ -30,4 +31,4 @@ invariant_of-self c =
     let won = rw c.deref.ensures.value at c.settle.ensures.tree in
     let kept = rw (c.deref.ensures.value, c.deref_mut.ensures.value) at c.settle.ensures.kept in
     let P : List ℕ → Type 0 = HoldsView (record { trail = now; weights = s.weights.items }) in
-    subst P (sym (tree-written s.tree.len t s.tree.items n)) (holds-longer view now s.tree.items t c.self.invariant c.level.ensures.is_trail (ap (λ (x : TrailList). x.vars) c.propagate-found.ensures.trail) c.propagate-found.ensures.propagated.kept won kept c.settle.ensures.settled)
+    subst P (sym (all-written s.tree.len t s.tree.items n)) (holds-longer view now s.tree.items t c.self.invariant c.level.ensures.is_trail (ap (λ (x : TrailList). x.vars) c.propagate-found.ensures.trail) c.propagate-found.ensures.propagated.kept won kept c.settle.ensures.settled)

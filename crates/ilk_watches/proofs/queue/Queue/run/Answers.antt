@@ -1,4 +1,4 @@
-use Rattle.std.proofs.Common.{◌≡◌, ◌<◌, ◌≤◌, ◌+◌, ℕ, List, Option, Some, None, length, arith, refl, ap, sym, ◌∙◌}
+use Rattle.std.proofs.Common.{◌≡◌, ◌+◌, ℕ, List, Option, Some, None, length, arith, refl, ap, sym, ◌∙◌}
 use Rattle.std.specs.Prelude.{IfNone}
 use Rattle.ilk_cnf.specs.Literal.{Literal}
 use Rattle.ilk_log.specs.Propagation.{is_closed}

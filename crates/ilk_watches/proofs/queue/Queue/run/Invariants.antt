@@ -1,4 +1,4 @@
-use Rattle.std.proofs.Common.{◌≡◌, ◌+◌, ◌-◌, length}
+use Rattle.std.proofs.Common.{◌≡◌, ◌+◌, ◌-◌}
 use Rattle.ilk_clauses.specs.Chained.{SameClauses}
 use Rattle.ilk_watches.specs.Propagated.{IsPropagated}
 use Rattle.ilk_watches.specs.Watched.{IsQueue}

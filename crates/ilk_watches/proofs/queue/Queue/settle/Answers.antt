@@ -1,10 +1,10 @@
 use Rattle.std.proofs.Common.{◌≡◌, ◌<◌, ◌+◌, ℕ, true, not, List, length, arith, ap, sym, ◌∙◌, subst}
 use Rattle.std.proofs.lemmas.Bool.{and_parts, not-true}
-use Rattle.ilk_cnf.specs.Literal.{Literal, plus}
+use Rattle.ilk_cnf.specs.Literal.{plus}
 use Rattle.ilk_cnf.specs.Formula.{lit_in}
 use Rattle.ilk_trail.specs.declared.entry.Entry.{Entry}
 use Rattle.ilk_trail.specs.Trail.{TrailList, assigned}
-use Rattle.ilk_trail.specs.Laws.{is_set, lits_of}
+use Rattle.ilk_trail.specs.Laws.{is_set}
 use Rattle.ilk_clauses.specs.Chained.{formula_of}
 use Rattle.ilk_watches.specs.Propagated.{IsPropagated}
 use Rattle.ilk_watches.specs.Watched.{IsQueue}

@@ -4,7 +4,7 @@ use Rattle.ilk_ir.specs.Form.{tree_of}
 use Rattle.ilk_ir.specs.Tree.{negation}
 use Rattle.ilk_invs.specs.Parts.{conditions_for}
 use Rattle.ilk_invs.specs.TrainFamilies.{keeps_at, body_at}
-use Rattle.ilk_invs.proofs.train_families.is_kept_by_some.Given as goal
+use Rattle.ilk_invs.proofs.kept_family.is_kept_by_some.Given as goal
 
 abbrev pub invariant-loop-r : goal.invariant-loop-r
 invariant-loop-r l =

@@ -3,7 +3,7 @@ use Rattle.ilk_ir.specs.Form.{tree_of}
 use Rattle.ilk_plant.specs.declared.network.Dir.TheVariants.{Up, Down}
 use Rattle.ilk_invs.specs.TrainFamilies.{kept_at}
 use Rattle.ilk_base.proofs.Ranges.{grows_all}
-use Rattle.ilk_invs.proofs.train_families.v8_form.Goals as goal
+use Rattle.ilk_invs.proofs.kept_family.v8_form.Goals as goal
 
 pub loop-x-preserved : goal.loop-x-preserved
 loop-x-preserved c =

@@ -3,7 +3,7 @@ use Rattle.std.specs.List.{flat_map, range_with_len}
 use Rattle.ilk_ir.specs.Form.{tree_of}
 use Rattle.ilk_plant.specs.declared.network.Dir.TheVariants.{Up, Down}
 use Rattle.ilk_invs.specs.TrainFamilies.{kept_at}
-use Rattle.ilk_invs.proofs.train_families.v8_form.Given as goal
+use Rattle.ilk_invs.proofs.kept_family.v8_form.Given as goal
 
 abbrev pub invariant-loop-x : goal.invariant-loop-x
 invariant-loop-x l =
