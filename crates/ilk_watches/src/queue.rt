@@ -107,6 +107,7 @@ impl Queue {
         requires closed { IsTrue (is_closed clauses.old.clauses (lits_of trail.old.entries)) }
         ensures trail { trail.new ≡ record trail.old { entries = decided trail.old.entries l } }
         ensures clauses { SameClauses clauses.old clauses.new }
+        ensures ended { (self.new.head ≡ length trail.old.entries) × (self.new.settled ≡ length clauses.old.clauses) }
         ensures queue { IsQueue clauses.new trail.new.entries self.new.head self.new.settled }
     {
         let _ = self.propagate(clauses, trail);

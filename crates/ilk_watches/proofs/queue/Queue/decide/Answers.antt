@@ -48,3 +48,18 @@ returns-clause-queue c =
     let end : (h ≡ length fs) × (s ≡ length a.clauses) = no-conflict a.clauses (lits_of fs) c.propagate.result _ (ap (λ (xs : List Entry). is_closed a.clauses (lits_of xs)) none ∙ c.requires.closed) c.propagate.ensures.conflict c.propagate.ensures.ended in
     let P : TrailList → Type 0 = λ t. IsQueue b t.entries h s in
     subst P (sym c.decide.ensures) (queue-decided b fs h s c.args.l c.propagate.ensures.queue c.count.ensures.clauses (end.1 ∙ ap length (sym same.clauses)) end.0)
+
+pub returns-clause-ended : goal.returns-clause-ended
+returns-clause-ended c =
+    let a = c.args.clauses.now in
+    let b = c.propagate.new.clauses in
+    let es = c.args.trail.now.entries in
+    let fs = c.propagate.new.trail.entries in
+    let same = c.propagate.ensures.clauses in
+    let closed : is_closed b.clauses (lits_of es) ≡ true = ap (λ (cs : List (List Literal)). is_closed cs (lits_of es)) same.clauses ∙ c.requires.closed in
+    let made = propagated-same b.clauses a.clauses es fs (sym same.clauses) c.propagate.ensures.propagated in
+    let none : fs ≡ es = nothing-forced b es fs c.count.ensures.clauses closed made c.level.ensures.is_trail.once in
+    let h = c.propagate.new.self.head in
+    let s = c.propagate.new.self.settled in
+    let end : (h ≡ length fs) × (s ≡ length a.clauses) = no-conflict a.clauses (lits_of fs) c.propagate.result _ (ap (λ (xs : List Entry). is_closed a.clauses (lits_of xs)) none ∙ c.requires.closed) c.propagate.ensures.conflict c.propagate.ensures.ended in
+    (end.0 ∙ ap length none, end.1)
