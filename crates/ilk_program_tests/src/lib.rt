@@ -13,6 +13,8 @@ mod form_tests;
 #[cfg(test)]
 mod network_tests;
 #[cfg(test)]
+mod parts;
+#[cfg(test)]
 mod run_tests;
 #[cfg(test)]
 mod table_tests;

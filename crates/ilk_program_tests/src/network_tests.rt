@@ -1,4 +1,5 @@
 //! The rules of small networks: the check succeeds where memory is there.
+use crate::parts::text;
 use ilk_net_check::check_network;
 use ilk_plant::{Broken, KindDraft, MAX_SECTIONS, NetDraft, Row, Rule, SectionDraft, Text};
 use std::alloc::{AllocError, Global};
@@ -14,10 +15,6 @@ struct Linear {
 }
 
 const NO_BOARDS: [Option<&'static str>; 2] = [None, None];
-
-fn text(alloc: Global, name: &str) -> Result<Text, AllocError> {
-    Ok(Text::of(String::from_str(alloc, name)?))
-}
 
 fn text_if(alloc: Global, name: Option<&'static str>) -> Result<Option<Text>, AllocError> {
     match name {

@@ -4,6 +4,7 @@ ghost use Rattle.std.specs.Prelude.{◌≡◌, ◌<◌, ◌≤◌, Some, IfOk, O
 ghost use Rattle.ilk_io.specs.Faults.{RoseByOne};
 ghost use Rattle.ilk_io.specs.Sink.{Adds};
 
+use crate::parts::words;
 use ilk_io::{Failed, MemSink, MemSource, Sink, SteadySink};
 use ilk_top::{Status, run};
 use std::alloc::{AllocError, Global};
@@ -28,15 +29,6 @@ fn source(alloc: Global, text: &str, fails: u64) -> Result<MemSource, AllocError
 fn sink(alloc: Global, room: u64, fails: u64) -> Result<MemSink, AllocError> {
     let fails = Vec::from_slice(alloc, &[fails])?;
     MemSink::new(alloc, room, fails)
-}
-
-// The words of a command line.
-fn words(alloc: Global, line: &str) -> Result<Vec<String>, AllocError> {
-    let mut words = Vec::new(alloc);
-    for word in line.split(' ') {
-        words.push(String::from_str(alloc, word)?)?;
-    }
-    Ok(words)
 }
 
 // The status of a replay in which these calls of the sources and of the sink fail, and whether

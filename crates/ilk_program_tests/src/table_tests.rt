@@ -4,19 +4,13 @@ ghost use Rattle.std.specs.List.{list_all};
 ghost use Rattle.ilk_plant.specs.Limits.{route_has_limits, route_has_names, section_has_names};
 ghost use Rattle.ilk_plant.specs.Name.{is_name, is_name_if_given};
 
+use crate::parts::text;
 use ilk_plant::{
     Broken, KindDraft, NetDraft, RouteDraft, Row, Rule, SectionDraft, TableDraft, Text,
 };
 use ilk_table_check::check_table;
 use std::alloc::{AllocError, Global};
 use std::test::Fail;
-
-// A text of these characters.
-fn text(alloc: Global, name: &str) -> Result<Text, AllocError>
-    ensures { IfOk result (λ text. text ≡ name.now) }
-{
-    Ok(Text::of(String::from_str(alloc, name)?))
-}
 
 // A linear section without boards, whose texts are names.
 fn section(

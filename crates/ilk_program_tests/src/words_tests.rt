@@ -1,19 +1,12 @@
 //! What the words of a command line mean, as `clap` documents it.
+use crate::parts::words;
 use ilk_base::Text;
 use ilk_words::{Command, names_of, read_words};
 use std::alloc::{AllocError, Global};
 use std::test::Fail;
 
-fn words_of(alloc: Global, line: &str) -> Result<Vec<String>, AllocError> {
-    let mut words = Vec::new(alloc);
-    for word in line.split(' ') {
-        words.push(String::from_str(alloc, word)?)?;
-    }
-    Ok(words)
-}
-
 fn shown(alloc: Global, line: &str) -> Result<String, AllocError> {
-    let words = words_of(alloc, line)?;
+    let words = words(alloc, line)?;
     match read_words(alloc, &words)? {
         None => String::from_str(alloc, "usage"),
         Some(Command::Check { columns }) => format!(in alloc; "check {columns:?}"),
@@ -139,8 +132,8 @@ fn reads_lines(rt: HostRuntime) -> Result<(), Fail> {
 #[test]
 fn names_files(rt: HostRuntime) -> Result<(), Fail> {
     let alloc = rt.alloc();
-    let words = words_of(alloc, "irv check --run r")?;
-    assert!(rt; names_of(alloc, &words)?.is_none());
+    let wrong = words(alloc, "irv check --run r")?;
+    assert!(rt; names_of(alloc, &wrong)?.is_none());
     let lines = [
         ("irv check", "none", "none"),
         ("irv verify --cert c", "none", "c"),
@@ -148,7 +141,7 @@ fn names_files(rt: HostRuntime) -> Result<(), Fail> {
         ("irv export --query hazard --number 0", "none", "none"),
     ];
     for (line, read, written) in lines {
-        let words = words_of(alloc, line)?;
+        let words = words(alloc, line)?;
         let names = names_of(alloc, &words)?.ok_or("a command")?;
         let extra = shown_name(alloc, names.extra)?;
         let cert = shown_name(alloc, names.cert)?;
