@@ -3,70 +3,160 @@
 
     tools/side_by_side.py CRATE
 
-As many crates are proved at once as there are processors, and as there is memory for (2 GiB each).
-What each check prints is shown where it fails. The status is 0 only where all are proved.
+While `rt` proves a crate it keeps the folders of that crate and of all below it to itself, so that
+two crates over one library would wait for each other. Each crate is therefore proved in a room of
+its own: a copy of its sources and of those below it, beside the libraries that are built. What that
+makes is put in the crate's own `out/`, where `rt` looks for it.
+
+There are about twice as many processes at once as there are processors, or as many as there is
+memory for (2 GiB each). The crate that the longest chain of others waits for begins first, and gets
+up to half of them. What a proof prints is shown where it fails. The status is 0 only where all are
+proved.
 """
 
+import contextlib
+import fcntl
 import os
+import shutil
 import subprocess
 import sys
 from concurrent.futures import FIRST_COMPLETED, ThreadPoolExecutor, wait
 from pathlib import Path
 
 TOP = Path(__file__).resolve().parent.parent
+CRATES = TOP / "crates"
 BYTES_EACH = 2 << 30
+# at most so many processes prove one crate, and at least so many where they can
+MOST_JOBS, LEAST_JOBS = 4, 2
+
+
+def lines():
+    """The line of each crate in crates.txt: its name, and what it names."""
+    text = (TOP / "crates.txt").read_text()
+    return dict(line.split(":") for line in text.splitlines() if ":" in line and line[0] != "#")
 
 
 def below(crate):
-    """Each crate of this repository that `crate` stands on, with those that it stands on itself."""
-    edges = {}
-    for line in (TOP / "crates.txt").read_text().splitlines():
-        if ":" in line and not line.startswith("#"):
-            name, libraries = line.split(":")
-            edges[name.strip()] = libraries.split()
-    found, open_ = {}, [crate]
-    while open_:
-        name = open_.pop()
+    """Each crate of this repository that `crate` stands on, with all those that it stands on."""
+    listed, found = lines(), {}
+
+    def enter(name):
         if name not in found:
-            found[name] = [low for low in edges[name] if low in edges]
-            open_.extend(found[name])
-    del found[crate]
-    return found
+            lower = [low for low in listed[name].split() if low in listed]
+            found[name] = set(lower).union(*map(enter, lower))
+        return found[name]
+
+    return {name: enter(name) for name in enter(crate)}
 
 
-def at_once():
-    """How many checks this machine bears at once."""
+def processes():
+    """How many processes this machine bears at once."""
     memory = os.sysconf("SC_PHYS_PAGES") * os.sysconf("SC_PAGE_SIZE")
-    return max(1, min(len(os.sched_getaffinity(0)), memory // BYTES_EACH))
+    return max(1, min(2 * len(os.sched_getaffinity(0)), memory // BYTES_EACH))
 
 
-def check(name):
-    """Checks a crate; what it printed, where it isn't proved, and otherwise nothing."""
-    done = subprocess.run(["rt", "check"], cwd=TOP / "crates" / name, stdin=subprocess.DEVNULL,
-                          stdout=subprocess.PIPE, stderr=subprocess.STDOUT)
+@contextlib.contextmanager
+def alone_in(crates):
+    """Waits until no `rt` works in the folders of these crates, and has others wait meanwhile: by the
+    locks that `rt` takes, and in its order."""
+    held = []
+    try:
+        for name in sorted(crates):
+            held.append(os.open(CRATES / name, os.O_RDONLY))
+            fcntl.flock(held[-1], fcntl.LOCK_EX)
+        yield
+    finally:
+        for lock in held:
+            os.close(lock)
+
+
+@contextlib.contextmanager
+def room_for(name, lower):
+    """A room for a crate over these lower ones: its folder there, with what an earlier proof kept."""
+    out = CRATES / name / "out"
+    room = out / "room"
+    shutil.rmtree(room, ignore_errors=True)
+    try:
+        for crate in (name, *lower):
+            shutil.copytree(CRATES / crate, room / "crates" / crate,
+                            ignore=shutil.ignore_patterns("out", "must-fail"))
+        for crate in lower:
+            shutil.copytree(CRATES / crate / "out/rlib", room / "crates" / crate / "out/rlib",
+                            copy_function=os.link)
+        listed = lines()
+        (room / "crates.txt").write_text("".join(f"{it}:{listed[it]}\n" for it in (name, *lower)))
+        folder = room / "crates" / name
+        move_all(out, folder / "out", but=room.name)
+        try:
+            yield folder
+        finally:
+            move_all(folder / "out", out)
+    finally:
+        shutil.rmtree(room, ignore_errors=True)
+
+
+def move_all(here, there, but=None):
+    """Moves what stands in a folder to another one."""
+    there.mkdir(exist_ok=True)
+    for entry in list(here.iterdir()):
+        if entry.name != but:
+            entry.rename(there / entry.name)
+
+
+def prove(name, lower, jobs):
+    """Proves a crate; what was printed, where it isn't proved, and otherwise nothing."""
+    (CRATES / name / "out").mkdir(exist_ok=True)
+    with room_for(name, lower) as folder:
+        done = subprocess.run(["rt", "lib", "--jobs", str(jobs)], cwd=folder,
+                              stdin=subprocess.DEVNULL, stdout=subprocess.PIPE,
+                              stderr=subprocess.STDOUT)
     return f"{name} isn't proved:\n".encode() + done.stdout if done.returncode else b""
 
 
-def prove(edges, jobs):
-    """Checks the crates, each after those that it stands on; what the first that fails printed."""
-    begun, proved = {}, set()
-    with ThreadPoolExecutor(jobs) as pool:
-        while len(proved) < len(edges):
-            for name in edges:
-                if name not in begun.values() and proved.issuperset(edges[name]):
-                    begun[pool.submit(check, name)] = name
-            done, _ = wait([one for one in begun if begun[one] not in proved], None, FIRST_COMPLETED)
-            for one in done:
-                if one.result():
-                    pool.shutdown(cancel_futures=True)
-                    return one.result()
-                proved.add(begun[one])
+def size(name):
+    """The bytes of a crate's code, as a measure of how long its proof takes."""
+    return sum(file.stat().st_size for file in (CRATES / name / "src").rglob("*.rt"))
+
+
+def chains(crates):
+    """For each crate the size of the longest chain of crates, each of which stands on the one before,
+    that begins with it."""
+    found = {}
+    for name in sorted(crates, key=lambda name: -len(crates[name])):
+        above = [found[other] for other in found if name in crates[other]]
+        found[name] = size(name) + max(above, default=0)
+    return found
+
+
+def prove_all(crates):
+    """Proves the crates, each after those that it stands on; what the first that fails printed."""
+    chain, most = chains(crates), processes()
+    left = sorted(crates, key=lambda name: (-chain[name], name))
+    running, proved, idle = {}, set(), most
+    with ThreadPoolExecutor(most) as pool:
+        while left or running:
+            ready = [name for name in left if crates[name] <= proved]
+            while ready and idle > 0:
+                name = ready.pop(0)
+                is_first = all(chain[name] >= chain[other] for other, _ in running.values())
+                jobs = max(LEAST_JOBS, min(MOST_JOBS, most // 2)) if is_first else LEAST_JOBS
+                running[pool.submit(prove, name, crates[name], jobs)] = name, jobs
+                left.remove(name)
+                idle -= jobs
+            for done in wait(running, None, FIRST_COMPLETED).done:
+                name, jobs = running.pop(done)
+                if done.result():
+                    return done.result()
+                proved.add(name)
+                idle += jobs
     return b""
 
 
 def main(crate):
     """Takes the crate's name; answers the exit status."""
-    fault = prove(below(crate), at_once())
+    crates = below(crate)
+    with alone_in(crates):
+        fault = prove_all(crates)
     sys.stdout.buffer.write(fault)
     return 1 if fault else 0
 
