@@ -3,7 +3,7 @@ ghost use Rattle.ilk_plant.specs.Sound.{IsOfDrafts, NeverReturns};
 ghost use Rattle.ilk_plant.specs.Kept.{IsSound};
 ghost use Rattle.ilk_plant.specs.Plant.{IsPlant, IsRouteOf, board_of, border, first_named, next_to, point_count, point_number};
 
-use crate::{Board, Dir, Names, Numbered, Route, Row, Section};
+use crate::{Board, Dir, Numbered, Route, Row, Section};
 use std::alloc::{AllocError, Global};
 use std::marker::Model;
 
@@ -16,12 +16,7 @@ use std::marker::Model;
 /// routes.
 #[derive(Drop)]
 pub struct Plant {
-    sections: Row<Section>,
-    boards: Row<Board>,
-    routes: Row<Route>,
-    section_names: Names,
-    board_names: Names,
-    route_names: Names,
+    numbered: Numbered,
     // For each section its number among the points, if it is one.
     point_numbers: Row<Option<u32>>,
 }
@@ -32,23 +27,9 @@ impl Model for Plant {
 
     ghost Value = { PlantLists };
 
-    ghost view = { λ p. record {
-      sections = p.sections;
-      boards = p.boards;
-      routes = p.routes;
-      section_names = p.section_names;
-      board_names = p.board_names;
-      route_names = p.route_names;
-    } };
+    ghost view = { λ p. p.numbered };
 
-    ghost invariant = { λ p. IsIndexed (record {
-      sections = p.sections;
-      boards = p.boards;
-      routes = p.routes;
-      section_names = p.section_names;
-      board_names = p.board_names;
-      route_names = p.route_names;
-    }) p.point_numbers };
+    ghost invariant = { λ p. IsIndexed p.numbered p.point_numbers };
 }
 
 impl Plant {
@@ -59,21 +40,8 @@ impl Plant {
         ensures { IfOk result (λ plant. plant ≡ numbered) }
     {
         let point_numbers = numbered.point_numbers(alloc)?;
-        let Numbered {
-            sections,
-            boards,
-            routes,
-            section_names,
-            board_names,
-            route_names,
-        } = numbered;
         Ok(Plant {
-            sections,
-            boards,
-            routes,
-            section_names,
-            board_names,
-            route_names,
+            numbered,
             point_numbers,
         })
     }
@@ -82,7 +50,7 @@ impl Plant {
     pub fn is_sound(&self)
         ensures { IsPlant self.now }
     {
-        let _ = &self.sections;
+        let _ = &self.numbered;
     }
 
     /// Where every plant comes from, which are drafts within the limits that break no rule; and
@@ -91,36 +59,36 @@ impl Plant {
         ensures drafts { IsOfDrafts self.now }
         ensures walks { NeverReturns self.now }
     {
-        let _ = &self.sections;
+        let _ = &self.numbered;
     }
 
     /// The number of sections, 1 to `MAX_SECTIONS`.
     pub fn sections(&self) -> u32
         ensures { result ≡ length self.now.sections }
     {
-        self.sections.len() as u32
+        self.numbered.sections.len() as u32
     }
 
     /// The number of boards, at most `MAX_BOARDS`.
     pub fn boards(&self) -> u32
         ensures { result ≡ length self.now.boards }
     {
-        self.boards.len() as u32
+        self.numbered.boards.len() as u32
     }
 
     /// The number of routes, at most `MAX_ROUTES`.
     pub fn routes(&self) -> u32
         ensures { result ≡ length self.now.routes }
     {
-        self.routes.len() as u32
+        self.numbered.routes()
     }
 
     /// The number of points, at most as many as sections.
     pub fn points(&self) -> u32
         ensures { result ≡ point_count self.now }
     {
-        let _ = &self.sections;
-        self.sections
+        self.numbered
+            .sections
             .as_slice()
             .iter()
             .filter(|section| section.is_point())
@@ -131,7 +99,7 @@ impl Plant {
     pub(crate) fn routes_as_slice(&self) -> &[Route]
         ensures { result.now ≡ self.now.routes }
     {
-        self.routes.as_slice()
+        self.numbered.routes.as_slice()
     }
 
     /// Section `x`.
@@ -139,7 +107,7 @@ impl Plant {
         requires { x < length self.now.sections }
         ensures { slice_get self.now.sections x ≡ Some result.now }
     {
-        self.sections.at(x as u64)
+        self.numbered.sections.at(x as u64)
     }
 
     /// Board `m`.
@@ -147,7 +115,7 @@ impl Plant {
         requires { m < length self.now.boards }
         ensures { slice_get self.now.boards m ≡ Some result.now }
     {
-        self.boards.at(m as u64)
+        self.numbered.boards.at(m as u64)
     }
 
     /// Route `r`.
@@ -156,7 +124,7 @@ impl Plant {
         ensures route { slice_get self.now.routes r ≡ Some result.now }
         ensures known { IsRouteOf self.now result.now }
     {
-        self.routes.at(r as u64)
+        self.numbered.route(r)
     }
 
     /// The board on section `x` for trains that run in direction `d`. None where there is none.
@@ -165,7 +133,7 @@ impl Plant {
         ensures board { result ≡ board_of self.now x d }
         ensures known { IfSome result (λ m. m < length self.now.boards) }
     {
-        let _ = &self.sections;
+        let _ = &self.numbered;
         self.section(x).board_on(d)
     }
 
@@ -175,7 +143,7 @@ impl Plant {
         ensures entry { result ≡ slice_get (next_to self.now x d) i }
         ensures known { IfSome result (λ y. y < length self.now.sections) }
     {
-        let _ = &self.sections;
+        let _ = &self.numbered;
         self.section(x).beside(d, i)
     }
 
@@ -201,8 +169,8 @@ impl Plant {
         ensures number { result ≡ first_named self.now.section_names name.now }
         ensures known { IfSome result (λ x. x < length self.now.sections) }
     {
-        let _ = &self.sections;
-        self.section_names.number(name)
+        let _ = &self.numbered;
+        self.numbered.section_names.number(name)
     }
 
     /// The number of the board with this name. None exactly where no board has it.
@@ -210,8 +178,8 @@ impl Plant {
         ensures number { result ≡ first_named self.now.board_names name.now }
         ensures known { IfSome result (λ m. m < length self.now.boards) }
     {
-        let _ = &self.sections;
-        self.board_names.number(name)
+        let _ = &self.numbered;
+        self.numbered.board_names.number(name)
     }
 
     /// The number of the route with this name. None exactly where no route has it.
@@ -219,8 +187,8 @@ impl Plant {
         ensures number { result ≡ first_named self.now.route_names name.now }
         ensures known { IfSome result (λ r. r < length self.now.routes) }
     {
-        let _ = &self.sections;
-        self.route_names.number(name)
+        let _ = &self.numbered;
+        self.numbered.route_names.number(name)
     }
 
     /// The name of section `x`.
@@ -228,8 +196,8 @@ impl Plant {
         requires { x < length self.now.sections }
         ensures { slice_get self.now.section_names x ≡ Some result.now }
     {
-        let _ = &self.sections;
-        self.section_names.name(x).as_str()
+        let _ = &self.numbered;
+        self.numbered.section_names.name(x).as_str()
     }
 
     /// The name of board `m`.
@@ -237,8 +205,8 @@ impl Plant {
         requires { m < length self.now.boards }
         ensures { slice_get self.now.board_names m ≡ Some result.now }
     {
-        let _ = &self.sections;
-        self.board_names.name(m).as_str()
+        let _ = &self.numbered;
+        self.numbered.board_names.name(m).as_str()
     }
 
     /// The name of route `r`.
@@ -246,7 +214,7 @@ impl Plant {
         requires { r < length self.now.routes }
         ensures { slice_get self.now.route_names r ≡ Some result.now }
     {
-        let _ = &self.sections;
-        self.route_names.name(r).as_str()
+        let _ = &self.numbered;
+        self.numbered.route_names.name(r).as_str()
     }
 }
