@@ -1,4 +1,4 @@
-ghost use Rattle.std.specs.Prelude.{◌≡◌, [], IfOk};
+ghost use Rattle.std.specs.Prelude.{◌≡◌, [], Err, IfErr, IfOk, Ok};
 ghost use Rattle.ilk_plant.specs.Draft.{numbered};
 ghost use Rattle.ilk_plant.specs.Limits.{HasLimits};
 ghost use Rattle.ilk_plant.specs.NetNames.{IsNamedAs};
@@ -24,6 +24,20 @@ fn broken_columns(alloc: Global, columns: Columns, plant: &Plant) -> Result<Row<
     }
 }
 
+// What was asked, if no rule was found broken, or else what it is refused with.
+fn unless_broken<T: Drop>(
+    found: Result<Row<Broken>, AllocError>,
+    asked: T,
+) -> Result<Result<T, Refusals>, AllocError>
+    ensures answered { IfOk found (λ broken. result ≡ Ok (or_refused (refusals_of broken) asked)) }
+    ensures wanting { IfErr found (λ error. result ≡ Err error) }
+{
+    match Refusals::of_rules(found?) {
+        Some(refusals) => Ok(Err(refusals)),
+        None => Ok(Ok(asked)),
+    }
+}
+
 // Asks the rules of the columns where they are strict.
 fn check_plant(
     alloc: Global,
@@ -32,10 +46,8 @@ fn check_plant(
 ) -> Result<Result<Plant, Refusals>, AllocError>
     ensures { IfOk result (λ found. found ≡ or_refused (refusals_of (columns_broken columns plant)) plant) }
 {
-    match Refusals::of_rules(broken_columns(alloc, columns, &plant)?) {
-        Some(refusals) => Ok(Err(refusals)),
-        None => Ok(Ok(plant)),
-    }
+    let found = broken_columns(alloc, columns, &plant);
+    unless_broken(found, plant)
 }
 
 // Asks the rules of the table, and then those of the columns. The drafts are numbered once, by the
@@ -55,9 +67,10 @@ fn check_routes(
         (numbered net.now table.now)) }
 {
     let drafts = Numbered::of_named(alloc, names, net, table)?;
-    match Refusals::of_rules(check_numbered_table(alloc, &drafts)?) {
-        Some(refusals) => Ok(Err(refusals)),
-        None => check_plant(alloc, columns, Plant::of_numbered(alloc, drafts)?),
+    let found = check_numbered_table(alloc, &drafts);
+    match unless_broken(found, drafts)? {
+        Ok(drafts) => check_plant(alloc, columns, Plant::of_numbered(alloc, drafts)?),
+        Err(refusals) => Ok(Err(refusals)),
     }
 }
 
@@ -74,8 +87,9 @@ pub fn check_drafts(
     ensures { IfOk result (λ found. found ≡ or_refused (refusals_of (rules_broken columns net.now table.now)) (numbered net.now table.now)) }
 {
     let names = NetNames::of(alloc, net)?;
-    match Refusals::of_rules(check_named_network(alloc, net, &names)?) {
-        Some(refusals) => Ok(Err(refusals)),
-        None => check_routes(alloc, columns, names, net, table),
+    let found = check_named_network(alloc, net, &names);
+    match unless_broken(found, names)? {
+        Ok(names) => check_routes(alloc, columns, names, net, table),
+        Err(refusals) => Ok(Err(refusals)),
     }
 }

@@ -1,20 +1,24 @@
-use Rattle.std.proofs.Common.{sym, ap, ◌∙◌}
+use Rattle.std.proofs.Common.{◌≡◌, None, Ok, sym, ap, ◌∙◌}
 use Rattle.ilk_plant.specs.TableRules.{routes_broken}
-use Rattle.ilk_top.proofs.Checked.{columns-alone, none-broken}
+use Rattle.ilk_top.proofs.Checked.{columns-alone, let-through, none-broken}
+use Rattle.ilk_top.specs.Answer.{refusals_of}
 use Rattle.ilk_top.proofs.checks.check_routes.Goals as goal
 
 pub of_numbered-requires : goal.of_numbered-requires
-of_numbered-requires c = record {
-  net = c.args.net.now;
-  table = c.args.table.now;
-  sound = record {
-    limits = c.requires.limits;
-    network = c.requires.network;
-    routes = sym (c.in_ok-check_numbered_table.ensures ∙ ap routes_broken c.in_ok-drafts.ensures) ∙ none-broken c.in_ok-check_numbered_table.field-0 (sym c.in-None.ensures);
-  };
-  same = c.in_ok-drafts.ensures;
-}
+of_numbered-requires c =
+    let asked : (refusals_of (routes_broken c.in_ok-drafts.drafts) ≡ None) × (c.in-Ok.drafts ≡ c.in_ok-drafts.drafts) = let-through c.check_numbered_table-found.result _ _ _ c.unless_broken.result c.check_numbered_table-found.ensures c.unless_broken.ensures.answered c.unless_broken.ensures.wanting (c.in_ok-drafts-2.was ∙ ap Ok c.in-Ok.is) in
+    record {
+      net = c.args.net.now;
+      table = c.args.table.now;
+      sound = record {
+        limits = c.requires.limits;
+        network = c.requires.network;
+        routes = sym (ap routes_broken c.in_ok-drafts.ensures) ∙ none-broken _ asked.0;
+      };
+      same = asked.1 ∙ c.in_ok-drafts.ensures;
+    }
 
-pub returns-in_ok-of_numbered-in-None : goal.returns-in_ok-of_numbered-in-None
-returns-in_ok-of_numbered-in-None c =
-    columns-alone c.args.columns c.in_ok-check_numbered_table.field-0 _ c.in_ok-of_numbered-in-None.field-0 _ c.check_plant.result (c.in_ok-check_numbered_table.ensures ∙ ap routes_broken c.in_ok-drafts.ensures) (sym c.in-None.ensures) (c.in_ok-of_numbered-in-None.ensures ∙ c.in_ok-drafts.ensures) c.check_plant.ensures
+pub returns-in_ok-of_numbered-in-Ok : goal.returns-in_ok-of_numbered-in-Ok
+returns-in_ok-of_numbered-in-Ok c =
+    let asked : (refusals_of (routes_broken c.in_ok-drafts.drafts) ≡ None) × (c.in-Ok.drafts ≡ c.in_ok-drafts.drafts) = let-through c.check_numbered_table-found.result _ _ _ c.unless_broken.result c.check_numbered_table-found.ensures c.unless_broken.ensures.answered c.unless_broken.ensures.wanting (c.in_ok-drafts-2.was ∙ ap Ok c.in-Ok.is) in
+    columns-alone c.args.columns (routes_broken c.in_ok-drafts.drafts) _ c.in_ok-of_numbered-in-Ok.field-0 _ c.check_plant.result (ap routes_broken c.in_ok-drafts.ensures) asked.0 (c.in_ok-of_numbered-in-Ok.ensures ∙ asked.1 ∙ c.in_ok-drafts.ensures) c.check_plant.ensures
