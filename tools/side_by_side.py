@@ -10,8 +10,9 @@ makes is put in the crate's own `out/`, where `rt` looks for it.
 
 There are about twice as many processes at once as there are processors, or as many as there is
 memory for (2 GiB each). The crate that the longest chain of others waits for begins first, and gets
-up to half of them. What a proof prints is shown where it fails. The status is 0 only where all are
-proved.
+up to half of them. What a proof prints is shown where it fails, and as soon as it does; those that
+run beside it go on to their ends, and what they prove is kept. The status is 0 only where all are
+proved, 1 where one isn't, and 2 where the words are no crate's name.
 """
 
 import contextlib
@@ -79,7 +80,7 @@ def room_for(name, lower):
     try:
         for crate in (name, *lower):
             shutil.copytree(CRATES / crate, room / "crates" / crate,
-                            ignore=shutil.ignore_patterns("out", "must-fail"))
+                            ignore=shutil.ignore_patterns("out", "must-fail", "wrong-bodies"))
         for crate in lower:
             shutil.copytree(CRATES / crate / "out/rlib", room / "crates" / crate / "out/rlib",
                             copy_function=os.link)
@@ -118,6 +119,12 @@ def size(name):
     return sum(file.stat().st_size for file in (CRATES / name / "src").rglob("*.rt"))
 
 
+def show(fault):
+    """Shows what a proof that failed has printed, before any other ends."""
+    sys.stdout.buffer.write(fault)
+    sys.stdout.flush()
+
+
 def chains(crates):
     """For each crate the size of the longest chain of crates, each of which stands on the one before,
     that begins with it."""
@@ -129,13 +136,14 @@ def chains(crates):
 
 
 def prove_all(crates):
-    """Proves the crates, each after those that it stands on; what the first that fails printed."""
+    """Proves the crates, each after those that it stands on, until one fails; whether none did."""
     chain, most = chains(crates), processes()
     left = sorted(crates, key=lambda name: (-chain[name], name))
     running, proved, idle = {}, set(), most
+    failed = False
     with ThreadPoolExecutor(most) as pool:
-        while left or running:
-            ready = [name for name in left if crates[name] <= proved]
+        while running or (left and not failed):
+            ready = [name for name in left if crates[name] <= proved and not failed]
             while ready and idle > 0:
                 name = ready.pop(0)
                 is_first = all(chain[name] >= chain[other] for other, _ in running.values())
@@ -145,21 +153,35 @@ def prove_all(crates):
                 idle -= jobs
             for done in wait(running, None, FIRST_COMPLETED).done:
                 name, jobs = running.pop(done)
-                if done.result():
-                    return done.result()
-                proved.add(name)
                 idle += jobs
-    return b""
+                if done.result():
+                    failed = True
+                    show(done.result())
+                else:
+                    proved.add(name)
+    return not failed
 
 
-def main(crate):
-    """Takes the crate's name; answers the exit status."""
-    crates = below(crate)
+def fault_of(words):
+    """What is wrong with the words, or none: they are one crate's name, and it and all below are there."""
+    if len(words) != 1:
+        return "usage: tools/side_by_side.py CRATE"
+    if words[0] not in lines():
+        return f"side_by_side: {words[0]} is no crate of crates.txt"
+    absent = sorted(name for name in (words[0], *below(words[0])) if not (CRATES / name).is_dir())
+    return f"side_by_side: crates/{absent[0]} isn't there" if absent else None
+
+
+def main(words):
+    """Takes the words; answers the exit status."""
+    fault = fault_of(words)
+    if fault:
+        print(fault, file=sys.stderr)
+        return 2
+    crates = below(words[0])
     with alone_in(crates):
-        fault = prove_all(crates)
-    sys.stdout.buffer.write(fault)
-    return 1 if fault else 0
+        return 0 if prove_all(crates) else 1
 
 
 if __name__ == "__main__":
-    sys.exit(main(sys.argv[1]))
+    sys.exit(main(sys.argv[1:]))
