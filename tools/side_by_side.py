@@ -80,7 +80,7 @@ def room_for(name, lower):
     try:
         for crate in (name, *lower):
             shutil.copytree(CRATES / crate, room / "crates" / crate,
-                            ignore=shutil.ignore_patterns("out", "must-fail"))
+                            ignore=shutil.ignore_patterns("out", "must-fail", "wrong-bodies"))
         for crate in lower:
             shutil.copytree(CRATES / crate / "out/rlib", room / "crates" / crate / "out/rlib",
                             copy_function=os.link)
