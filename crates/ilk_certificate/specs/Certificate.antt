@@ -1,15 +1,29 @@
--- What a certificate is.
-use Rattle.std.specs.Prelude.{ℕ, ◌≡◌, ◌<◌, ◌≤◌, Option, List, map, All}
+-- What a certificate is: which queries it has, and what refutes each.
+use Rattle.std.specs.Prelude.{ℕ, ◌+◌, ◌≡◌, ◌<◌, ◌≤◌, List, [], ◌∷◌, ◌++◌, map, All, IsTrue}
+use Rattle.std.specs.List.{range_with_len, flat_map}
 use Rattle.ilk_ir.specs.System.{SystemTree}
 use Rattle.ilk_lines.specs.Lines.{Bytes}
+use Rattle.ilk_log.specs.declared.step.Step.{Step as LogStep}
+use Rattle.ilk_log.specs.Derived.{is_refutation}
+use Rattle.ilk_unroll.specs.declared.queries.Wanted.{Wanted}
+use Rattle.ilk_unroll.specs.declared.queries.Wanted.TheVariants.{Hazard, Breach, Step}
 use Rattle.ilk_unroll.specs.Goal.{GoalTree}
-use Rattle.ilk_induct.specs.declared.verdict.Asked.{Asked}
-use Rattle.ilk_induct.specs.Asked.{IsRefuted, EndsWith, IsGivenUp, all_conflicts}
-use Rattle.ilk_induct.specs.Certified.{certified_queries}
-use Rattle.ilk_certificate.specs.CertificateText.{safe_text, spent_text}
+use Rattle.ilk_unroll.specs.Query.{query_formula}
+use Rattle.ilk_certificate.specs.declared.asked.Asked.{Asked}
+use Rattle.ilk_certificate.specs.CertificateText.{safe_text}
 
--- the bytes are the safe text for k, from 1 to 16, of the hazard query and the breach query for each number of
--- steps up to k and of the step query for k, each with a log that refutes it
+-- the log refutes the query's formula
+abbrev pub IsRefuted : SystemTree → GoalTree → Wanted → List LogStep → Type 0
+IsRefuted s g q log = IsTrue (is_refutation (query_formula s g q) log)
+
+-- the hazard query and the breach query for each number of steps up to k, and the step query for k
+abbrev pub base_queries : ℕ → List Wanted
+base_queries n = Hazard n ∷ Breach n ∷ []
+
+abbrev pub certified_queries : ℕ → List Wanted
+certified_queries k = flat_map base_queries (range_with_len 0 (k + 1)) ++ Step k ∷ []
+
+-- the bytes are the safe text for k, from 1 to 16, of these queries, each with a log that refutes it
 pub record IsCertificate (s : SystemTree) (g : GoalTree) (k : ℕ) (bytes : Bytes) : Type 0 where
   pub asked : List Asked
   pub some : 0 < k
@@ -17,12 +31,3 @@ pub record IsCertificate (s : SystemTree) (g : GoalTree) (k : ℕ) (bytes : Byte
   pub queries : map (λ (a : Asked). a.query) asked ≡ certified_queries k
   pub refuted : All (λ (a : Asked). IsRefuted s g a.query a.log) asked
   pub text : bytes ≡ safe_text k asked
-
--- the bytes are the spent text for n of queries in their order up to the depth, of which the last was given up;
--- the steps of their logs that have a literal are n
-pub record IsSpentText (s : SystemTree) (g : GoalTree) (depth n : ℕ) (bytes : Bytes) : Type 0 where
-  pub asked : List Asked
-  pub breach : Option ℕ
-  pub given_up : EndsWith s g depth breach (IsGivenUp s g) asked
-  pub counted : all_conflicts asked ≡ n
-  pub text : bytes ≡ spent_text n asked

@@ -1,3 +1,4 @@
 pub mod CertificateText
 pub mod Certificate
+pub mod Kept
 pub mod Writing

@@ -4,8 +4,8 @@ use Rattle.ilk_lines.specs.Lines.{Bytes}
 use Rattle.ilk_lines.specs.Written.{text_of}
 use Rattle.ilk_log.specs.declared.step.Step.{Step as LogStep}
 use Rattle.ilk_log.specs.StepText.{step_text}
-use Rattle.ilk_induct.specs.declared.verdict.Asked.{Asked}
-use Rattle.ilk_induct.specs.Certified.{is_step_query}
+use Rattle.ilk_certificate.specs.declared.asked.Asked.{Asked}
+use Rattle.ilk_certificate.specs.Kept.{is_step_query}
 use Rattle.ilk_certificate.specs.CertificateText.{asked_lines}
 
 -- the line of a step with its line feed

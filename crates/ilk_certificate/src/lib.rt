@@ -1,18 +1,18 @@
-//! The text of a certificate: what shows an assessor, without trust in the search, that a system is
-//! safe, or that all conflicts were spent in earnest.
+//! The text of a certificate: what shows an assessor, without trust in any search, that a system is
+//! safe.
 //!
-//! `safe_text` and `spent_text` write it of what `ilk_induct` asked. Its lines stand in
-//! `specs/CertificateText`, one below another. `specs/Certificate` says what a certificate of a
-//! system and a goal is, whoever wrote it: `safe k` has a refutation for each query that the verdict
-//! rests on, `spent n` the queries in their order with n steps that propagation doesn't give.
+//! `specs/Certificate` says what a certificate of a system and a goal is, whoever wrote it: which
+//! queries `safe k` has, and that a log refutes each. Its lines stand in `specs/CertificateText`, one
+//! below another. Nothing of this speaks of how the queries were answered, so that whoever reads a
+//! certificate needs no search.
 //!
-//! What is written for a verdict of `decide` is such a certificate (`texts_are_certificates`), and its
-//! logs have no hint 0, as both calls ask (`hints_are_from_one`).
+//! `safe_text` and `spent_text` write the text of queries that were asked (`Asked`). What a spent text
+//! shows is said where the asking is told to be spent, in `ilk_induct`.
 #![tactic(auto)]
 
-mod laws;
+mod asked;
 mod text;
 mod write;
 
-pub use laws::{hints_are_from_one, texts_are_certificates};
+pub use asked::Asked;
 pub use write::{safe_text, spent_text};

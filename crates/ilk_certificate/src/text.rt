@@ -6,7 +6,7 @@ ghost use Rattle.ilk_log.specs.StepText.{step_text};
 ghost use Rattle.ilk_certificate.specs.CertificateText.{hints_from_one, query_line};
 ghost use Rattle.ilk_certificate.specs.Writing.{asked_text, base_text, step_fed};
 
-use ilk_induct::Asked;
+use crate::asked::Asked;
 use ilk_log::{Step, push_step};
 use ilk_unroll::Wanted;
 use std::alloc::AllocError;

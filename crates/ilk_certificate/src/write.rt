@@ -1,36 +1,22 @@
 ghost use Rattle.std.specs.Prelude.{◌≡◌, ◌++◌, ◌∷◌, [], codes, flat_map, IfOk, OnOk, IsTrue, string_bytes};
 ghost use Rattle.std.specs.Fmt.{decimal};
 ghost use Rattle.ilk_lines.specs.Written.{spaced, text_of};
-ghost use Rattle.ilk_induct.specs.Asked.{all_conflicts, conflicts_of};
-ghost use Rattle.ilk_induct.specs.Certified.{without_early_steps};
-ghost use Rattle.ilk_certificate.specs.CertificateText.{all_hints_from_one, asked_lines, safe_text, spent_text};
+ghost use Rattle.ilk_certificate.specs.CertificateText.{all_conflicts, all_hints_from_one, asked_lines, safe_text, spent_text};
+ghost use Rattle.ilk_certificate.specs.Kept.{without_early_steps};
 ghost use Rattle.ilk_certificate.specs.Writing.{base_text};
 
+use crate::asked::Asked;
 use crate::text::{push_asked, push_base, push_numbered};
-use ilk_induct::Asked;
-use ilk_log::Step;
+use ilk_log::conflicts_in;
 use std::alloc::{AllocError, Global};
 
-// How many steps have a literal.
-fn conflicts_in(log: &[Step]) -> u64
-    ensures { result ≡ conflicts_of log.now }
-{
-    let mut count = 0;
-    for step in log {
-        if step.clause.len() != 0 {
-            count += 1;
-        }
-    }
-    count
-}
-
-// How many steps of all logs have one.
+// How many steps of all logs have a literal.
 fn all_conflicts(asked: &[Asked]) -> u128
     ensures { result ≡ all_conflicts asked.now }
 {
     let mut count = 0;
     for query in asked {
-        count += conflicts_in(query.log.as_slice()) as u128;
+        count += conflicts_in(&query.log) as u128;
     }
     count
 }

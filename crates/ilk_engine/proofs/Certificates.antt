@@ -4,10 +4,10 @@ use Rattle.std.specs.Prelude.{◌⊎◌}
 use Rattle.ilk_plant.specs.Plant.{PlantLists}
 use Rattle.ilk_behave.specs.Behaviour.{system_of}
 use Rattle.ilk_queries.specs.Goal.{goal_of}
-use Rattle.ilk_induct.specs.declared.verdict.Asked.{Asked}
+use Rattle.ilk_certificate.specs.declared.asked.Asked.{Asked}
 use Rattle.ilk_induct.specs.declared.verdict.Verdict.TheVariants as system
 use Rattle.ilk_certificate.specs.CertificateText.{all_hints_from_one}
-use Rattle.ilk_certificate.proofs.Certificates.{hints_count, safe_certifies, spent_certifies}
+use Rattle.ilk_induct.proofs.Certificates.{hints_count, safe_certifies, spent_certifies}
 use Rattle.ilk_engine.specs.AskedOf.{IsAskedOf}
 use Rattle.ilk_engine.specs.CertificateOf.{IsCertificateOf, certificate_text_of}
 use Rattle.ilk_engine.specs.Right.{IsRightFor}

@@ -8,7 +8,7 @@ use Rattle.ilk_unroll.specs.declared.reading.Trace.{Trace}
 use Rattle.ilk_queries.specs.Goal.{goal_of}
 use Rattle.ilk_queries.specs.Lifting.{events_by}
 use Rattle.ilk_induct.specs.Asked.{IsAskedFor}
-use Rattle.ilk_induct.specs.declared.verdict.Asked.{Asked}
+use Rattle.ilk_certificate.specs.declared.asked.Asked.{Asked}
 use Rattle.ilk_induct.specs.declared.verdict.Verdict.{Verdict as SystemVerdict}
 use Rattle.ilk_induct.specs.declared.verdict.Verdict.TheVariants as system
 use Rattle.ilk_engine.specs.declared.verdict.Verdict.{Verdict}

@@ -4,11 +4,11 @@ use Rattle.ilk_lines.specs.Lines.{Bytes}
 use Rattle.ilk_plant.specs.Plant.{PlantLists}
 use Rattle.ilk_behave.specs.Behaviour.{system_of}
 use Rattle.ilk_queries.specs.Goal.{goal_of}
-use Rattle.ilk_induct.specs.Asked.{all_conflicts}
-use Rattle.ilk_induct.specs.Certified.{without_early_steps}
-use Rattle.ilk_induct.specs.declared.verdict.Asked.{Asked}
-use Rattle.ilk_certificate.specs.Certificate.{IsCertificate, IsSpentText}
-use Rattle.ilk_certificate.specs.CertificateText.{safe_text, spent_text}
+use Rattle.ilk_certificate.specs.declared.asked.Asked.{Asked}
+use Rattle.ilk_certificate.specs.Certificate.{IsCertificate}
+use Rattle.ilk_certificate.specs.CertificateText.{all_conflicts, safe_text, spent_text}
+use Rattle.ilk_certificate.specs.Kept.{without_early_steps}
+use Rattle.ilk_induct.specs.Spent.{IsSpentText}
 use Rattle.ilk_engine.specs.declared.verdict.Verdict.{Verdict}
 use Rattle.ilk_engine.specs.declared.verdict.Verdict.TheVariants.{Safe, Unsafe, Breach, NotInductive, Spent}
 

@@ -3,7 +3,7 @@ use Rattle.std.specs.Prelude.{ℕ, ◌≡◌, ◌⊎◌, List, flat_map, option_
 use Rattle.ilk_plant.specs.Plant.{PlantLists}
 use Rattle.ilk_model.specs.declared.event.Event.{Event}
 use Rattle.ilk_behave.specs.Behaviour.{event_of_rule}
-use Rattle.ilk_induct.specs.declared.verdict.Asked.{Asked}
+use Rattle.ilk_certificate.specs.declared.asked.Asked.{Asked}
 use Rattle.ilk_induct.specs.declared.verdict.Verdict.{Verdict as SystemVerdict}
 use Rattle.ilk_engine.specs.AskedOf.{IsAskedOf, IsAskedOfSystem}
 use Rattle.ilk_engine.specs.Forever.{LastsFor}

@@ -1,6 +1,5 @@
 ghost use Rattle.std.specs.Prelude.{◌≡◌, ◌<◌, ◌≤◌, ◌⊎◌, IfOk, IsTrue};
-ghost use Rattle.ilk_induct.specs.Asked.{all_conflicts};
-ghost use Rattle.ilk_certificate.specs.CertificateText.{all_hints_from_one};
+ghost use Rattle.ilk_certificate.specs.CertificateText.{all_conflicts, all_hints_from_one};
 ghost use Rattle.ilk_engine.specs.AskedOf.{IsAskedOf};
 ghost use Rattle.ilk_engine.specs.CertificateOf.{IsCertificateOf, certificate_text_of};
 ghost use Rattle.ilk_engine.specs.Forever.{LastsFor};

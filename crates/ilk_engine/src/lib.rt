@@ -8,7 +8,8 @@
 //! system's runs as runs of events.
 //!
 //! `certificate` writes the text that shows a verdict of `decide` to others: `specs/CertificateOf` says
-//! what it is.
+//! what it is. `formula`, of `ilk_queries`, makes the formula of one query, and an `Asked`, of
+//! `ilk_certificate`, is a query with the log of its search; both are handed on.
 #![tactic(auto)]
 
 mod certifying;
@@ -21,5 +22,7 @@ mod verdict;
 
 pub use certifying::certificate;
 pub use deciding::decide;
+pub use ilk_certificate::Asked;
+pub use ilk_queries::formula;
 pub use laws::{runs_lift, safe_forever};
 pub use verdict::{Found, Verdict};

@@ -1,5 +1,5 @@
 use ilk_base::Row;
-use ilk_induct::Asked;
+use ilk_certificate::Asked;
 use ilk_model::{Event, HazardAt};
 use ilk_plant::State;
 

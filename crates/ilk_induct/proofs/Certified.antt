@@ -9,11 +9,15 @@ use Rattle.ilk_log.specs.declared.step.Step.{Step as LogStep}
 use Rattle.ilk_unroll.specs.declared.queries.Wanted.{Wanted}
 use Rattle.ilk_unroll.specs.declared.queries.Wanted.TheVariants.{Hazard, Breach as BreachQuery, Step}
 use Rattle.ilk_unroll.specs.Goal.{GoalTree}
-use Rattle.ilk_induct.specs.declared.verdict.Asked.{Asked}
+use Rattle.ilk_certificate.specs.declared.asked.Asked.{Asked}
+use Rattle.ilk_certificate.specs.Certificate.{IsRefuted, base_queries}
+use Rattle.ilk_certificate.specs.Kept.{is_step_query, without_early_steps}
 use Rattle.ilk_induct.specs.declared.verdict.Verdict.{Verdict}
 use Rattle.ilk_induct.specs.declared.verdict.Verdict.TheVariants.{Safe, Unsafe, Breach, NotInductive, Spent}
-use Rattle.ilk_induct.specs.Asked.{round, rounds, queries_to, IsRefuted, IsPassed, HasPassed, AreAsked, IsAskedFor}
-use Rattle.ilk_induct.specs.Certified.{is_step_query, without_early_steps, base_queries, IsCertified, Certifies}
+use Rattle.ilk_induct.specs.Order.{round, rounds, query_order}
+use Rattle.ilk_induct.specs.Spent.{IsPassed, HasPassed, AreAsked}
+use Rattle.ilk_induct.specs.Asked.{IsAskedFor}
+use Rattle.ilk_induct.specs.Certified.{IsCertified, Certifies}
 
 -- queries without step queries
 abbrev base_of : List Wanted → List Wanted
@@ -71,7 +75,7 @@ bases-queries (a ∷ asked) = by_case (is_step_query a.query) (bases asked) (bas
 -- while no breach is found, what has passed and isn't a step query is refuted
 base-refuted : (s : SystemTree) (g : GoalTree) (q : Wanted) (log : List LogStep) → is_step_query q ≡ false → IsPassed s g None q log → IsRefuted s g q log
 base-refuted s g (Hazard n) log base h = h
-base-refuted s g (BreachQuery n) log base h = elim h [ inl refuted ↦ refuted | inr found ↦ absurd (none n found.0) ]
+base-refuted s g (BreachQuery n) log base h = elim h [ inl refuted ↦ refuted | inr found ↦ absurd (none n found) ]
   where
     none : (n : ℕ) → None ≡ Some n → ⊥
     none n e = cc
@@ -86,22 +90,17 @@ bases-refuted s g last (a ∷ before) r h = by_case (is_step_query a.query) refl
     by_case false e rest = All-cons (λ (x : Asked). IsRefuted s g x.query x.log) a (bases before ++ last ∷ []) (base-refuted s g a.query a.log e (All-head (HasPassed s g None) a before h)) rest
 
 -- all together
-certified : (s : SystemTree) (g : GoalTree) (depth k : ℕ) (asked : List Asked) (last : Asked) → AreAsked s g depth None asked last → last.query ≡ Step k → IsRefuted s g last.query last.log → IsCertified s g k asked
-certified s g depth k asked last are is refuted =
+certified : (s : SystemTree) (g : GoalTree) (depth k : ℕ) (asked : List Asked) (last : Asked) → map (λ (a : Asked). a.query) asked ≡ query_order None k → AreAsked s g depth None asked last → last.query ≡ Step k → IsRefuted s g last.query last.log → IsCertified s g k asked
+certified s g depth k asked last order are is refuted =
     let query : Asked → Wanted = λ a. a.query in
     let split = ap without_early_steps are.split ∙ without-early are.before last in
-    let all : base_of (map query asked) ≡ base_of (queries_to None (Step k)) = ap base_of (are.order ∙ ap (queries_to None) is) in
     let whole : base_of (map query asked) ≡ base_of (map query are.before) ++ base_of (query last ∷ []) = ap (λ (xs : List Asked). base_of (map query xs)) are.split ∙ ap base_of (map-append query are.before (last ∷ [])) ∙ base_of-append (map query are.before) (query last ∷ []) in
     let none : base_of (query last ∷ []) ≡ [] = ap (λ (q : Wanted). base_of (q ∷ [])) is in
     let front : base_of (map query are.before) ≡ base_of (map query asked) = sym (append-nil (base_of (map query are.before))) ∙ ap (λ (us : List Wanted). base_of (map query are.before) ++ us) (sym none) ∙ sym whole in
-    let rounds_are : base_of (queries_to None (Step k)) ≡ flat_map base_queries (range_with_len 0 (k + 1)) =
-    base_of-append (rounds k) (Hazard k ∷ BreachQuery k ∷ Step k ∷ [])
-    ∙ ap (λ (us : List Wanted). us ++ base_queries k) (base_of-rounds k)
-    ∙ sym (listed_all-more base_queries k) in
     record {
       queries = ap (map query) split
           ∙ map-append query (bases are.before) (last ∷ [])
-          ∙ ap (λ (us : List Wanted). us ++ query last ∷ []) (bases-queries are.before ∙ front ∙ all ∙ rounds_are)
+          ∙ ap (λ (us : List Wanted). us ++ query last ∷ []) (bases-queries are.before ∙ front ∙ ap base_of order ∙ base_of-rounds (k + 1))
           ∙ ap (λ (q : Wanted). flat_map base_queries (range_with_len 0 (k + 1)) ++ q ∷ []) is;
       refuted = subst (λ (xs : List Asked). All (λ (a : Asked). IsRefuted s g a.query a.log) xs) (sym split) (bases-refuted s g last are.before refuted are.passed);
     }
@@ -109,6 +108,6 @@ certified s g depth k asked last are is refuted =
 pub certifies : (s : SystemTree) (g : GoalTree) (depth conflicts : ℕ) (verdict : Verdict) (asked : List Asked) → IsAskedFor s g depth conflicts verdict asked → Certifies s g verdict asked
 certifies s g depth conflicts (Unsafe t) asked h = tt
 certifies s g depth conflicts (Breach t) asked h = tt
-certifies s g depth conflicts (Safe k) asked h = certified s g depth k asked h.0 h.1 h.2.0 h.2.1
+certifies s g depth conflicts (Safe k) asked h = certified s g k k asked h.1.ends.0 h.1.all h.1.ends.1 h.1.ends.2.0 h.1.ends.2.1
 certifies s g depth conflicts (NotInductive t) asked h = tt
 certifies s g depth conflicts Spent asked h = tt

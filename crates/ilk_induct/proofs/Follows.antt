@@ -8,7 +8,9 @@ use Rattle.std.proofs.Math.Nat.{eq-or-lt_of_le}
 use Rattle.ilk_ir.specs.System.{SystemTree, rule_valid, system_valid}
 use Rattle.ilk_solver.specs.Answered.{IsLog}
 use Rattle.ilk_unroll.specs.Query.{query_formula}
+use Rattle.ilk_unroll.specs.Satisfied.{IsSatisfiable}
 use Rattle.ilk_log.specs.declared.step.Step.{Step as LogStep}
+use Rattle.ilk_log.specs.Conflicts.{conflicts_of}
 use Rattle.ilk_unroll.specs.declared.queries.Wanted.{Wanted}
 use Rattle.ilk_unroll.specs.declared.queries.Wanted.TheVariants.{Hazard, Breach as BreachQuery, Step}
 use Rattle.ilk_unroll.specs.declared.reading.Trace.{Trace}
@@ -19,15 +21,17 @@ use Rattle.ilk_induct.specs.declared.due.Due.{Due}
 use Rattle.ilk_induct.specs.declared.due.Due.TheVariants.{Unbroken, Broken}
 use Rattle.ilk_induct.specs.declared.due.Next.{Next}
 use Rattle.ilk_induct.specs.declared.due.Next.TheVariants.{Ask, End}
-use Rattle.ilk_induct.specs.declared.verdict.Asked.{Asked}
+use Rattle.ilk_certificate.specs.declared.asked.Asked.{Asked}
+use Rattle.ilk_certificate.specs.Certificate.{IsRefuted}
+use Rattle.ilk_certificate.specs.CertificateText.{all_conflicts}
 use Rattle.ilk_induct.specs.declared.verdict.Verdict.TheVariants.{Safe, Unsafe, Breach, NotInductive, Spent}
 use Rattle.ilk_induct.specs.Evidence.{HasRun}
 use Rattle.ilk_induct.specs.Right.{IsRun, IsRight}
-use Rattle.ilk_induct.specs.Asked.{IsRefuted, IsLogOf, HasPassed, conflicts_of, all_conflicts}
-use Rattle.ilk_induct.specs.Due.{asked_with, IsResponse, due_query, due_breach, after_breach, after_response, IsKnown, IsFoundBreach, IsInOrder, IsDue, IsEnd, IsNext, still_due}
+use Rattle.ilk_induct.specs.Spent.{IsLogOf, HasPassed}
+use Rattle.ilk_induct.specs.Due.{asked_with, queries_to, IsResponse, due_query, due_breach, after_breach, after_response, IsKnown, IsFoundBreach, IsInOrder, IsDue, IsEnd, IsNext, still_due}
 use Rattle.ilk_induct.proofs.Demands.{wanted-parts}
 use Rattle.ilk_induct.proofs.Induction.{forever}
-use Rattle.ilk_induct.proofs.Orders.{to-breach, to-step, to-hazard, to-hazard-after, more-conflicts, asked-to, go-on, found-to, go-on-found, all-conflicts}
+use Rattle.ilk_induct.proofs.Orders.{to-breach, to-step, to-hazard, to-hazard-after, all-to-hazard, more-queries, more-conflicts, asked-to, asked-all, go-on, found-order, found-to, go-on-found, all-conflicts}
 
 -- what is so below n, and at n
 below-more : (P : ℕ → Type 0) (n : ℕ) → ((m : ℕ) → m < n → P m) → P n → (m : ℕ) → m < n + 1 → P m
@@ -89,17 +93,14 @@ after-broken s g depth conflicts n t log asked left rest low d found logged coun
         record {
           right = inl (breach-end s g depth t (omega arith) (record { no_hazard = λ m less. no_hazard m (omega arith); no_breach = found.known.no_breach; runs = found.known.runs }) found.run);
           lasts = tt;
-          queries = (a, asked-to s g depth conflicts (Some (length t.rules)) a asked left d logged, (same, refuted));
+          queries = record { all = more-queries asked a (queries_to (Some (length t.rules)) (Hazard n)) d.order ∙ all-to-hazard (length t.rules) depth (Hazard n) same; ends = (a, asked-to s g depth conflicts (Some (length t.rules)) a asked left d logged, refuted) };
           few = few (all_conflicts (asked ++ a ∷ [])) rest conflicts (more-conflicts asked a left rest conflicts d.counted count);
         }
 
 -- a breach is found
-broke-at : (s : SystemTree) (g : GoalTree) (depth conflicts : ℕ) (t : Trace) (log : List LogStep) (asked : List Asked) (left rest : ℕ) → depth ≤ 16 → IsInOrder s g depth conflicts None (BreachQuery (length t.rules)) asked left → IsKnown s g (length t.rules + 1) (length t.rules) (length t.rules) → IsLogOf s g (asked_with (BreachQuery (length t.rules)) log) → conflicts_of log + rest ≡ left → IsRun s g (BreachQuery (length t.rules)) t → IsNext s g depth conflicts (3 * (depth - length t.rules) + 1) (after_breach depth (length t.rules) t) (asked ++ asked_with (BreachQuery (length t.rules)) log ∷ []) rest
-broke-at s g depth conflicts t log asked left rest low d known logged count run = by_case (nat_lt (length t.rules) depth) refl
+broke-at : (s : SystemTree) (g : GoalTree) (depth conflicts : ℕ) (t : Trace) (log : List LogStep) (asked : List Asked) (left rest : ℕ) → depth ≤ 16 → IsInOrder s g depth conflicts None (BreachQuery (length t.rules)) asked left → IsKnown s g (length t.rules + 1) (length t.rules) (length t.rules) → IsLogOf s g (asked_with (BreachQuery (length t.rules)) log) → conflicts_of log + rest ≡ left → IsRun s g (BreachQuery (length t.rules)) t → IsSatisfiable (query_formula s g (BreachQuery (length t.rules))) → IsNext s g depth conflicts (3 * (depth - length t.rules) + 1) (after_breach depth (length t.rules) t) (asked ++ asked_with (BreachQuery (length t.rules)) log ∷ []) rest
+broke-at s g depth conflicts t log asked left rest low d known logged count run has = by_case (nat_lt (length t.rules) depth) refl
   where
-    has : HasRun s g (BreachQuery (length t.rules))
-    has = (t.first, t.rules, run)
-
     by_case : (c : Bool) → nat_lt (length t.rules) depth ≡ c → IsNext s g depth conflicts (3 * (depth - length t.rules) + 1) (cond c (Ask (Broken (length t.rules + 1) t)) (End (Breach t))) (asked ++ asked_with (BreachQuery (length t.rules)) log ∷ []) rest
     by_case true e =
         let less : length t.rules < depth = grind (arith, nat_tests) in (
@@ -117,21 +118,21 @@ broke-at s g depth conflicts t log asked left rest low d known logged count run 
         record {
           right = inl (breach-end s g depth t (omega (arith, within)) (record { no_hazard = λ m below. known.no_hazard m (omega (arith, same, below)); no_breach = known.no_breach; runs = λ m pos none. absurd (omega (arith, none)) }) run);
           lasts = tt;
-          queries = (a, found-to s g depth conflicts (length t.rules) log asked left d logged has, (same, inr (refl, has)));
+          queries = record { all = found-order asked (length t.rules) log d.order ∙ all-to-hazard (length t.rules) depth (BreachQuery (length t.rules)) same; ends = (a, found-to s g depth conflicts (length t.rules) log asked left d logged has, inr refl) };
           few = few (all_conflicts (asked ++ a ∷ [])) rest conflicts (more-conflicts asked a left rest conflicts d.counted count);
         }
 
-broke : (s : SystemTree) (g : GoalTree) (depth conflicts n : ℕ) (t : Trace) (log : List LogStep) (asked : List Asked) (left rest : ℕ) → depth ≤ 16 → length t.rules ≡ n → IsInOrder s g depth conflicts None (BreachQuery n) asked left → IsKnown s g (n + 1) n n → IsLogOf s g (asked_with (BreachQuery n) log) → conflicts_of log + rest ≡ left → IsRun s g (BreachQuery n) t → IsNext s g depth conflicts (3 * (depth - n) + 1) (after_breach depth n t) (asked ++ asked_with (BreachQuery n) log ∷ []) rest
+broke : (s : SystemTree) (g : GoalTree) (depth conflicts n : ℕ) (t : Trace) (log : List LogStep) (asked : List Asked) (left rest : ℕ) → depth ≤ 16 → length t.rules ≡ n → IsInOrder s g depth conflicts None (BreachQuery n) asked left → IsKnown s g (n + 1) n n → IsLogOf s g (asked_with (BreachQuery n) log) → conflicts_of log + rest ≡ left → IsRun s g (BreachQuery n) t → IsSatisfiable (query_formula s g (BreachQuery n)) → IsNext s g depth conflicts (3 * (depth - n) + 1) (after_breach depth n t) (asked ++ asked_with (BreachQuery n) log ∷ []) rest
 broke s g depth conflicts n t log asked left rest low size =
-    subst (λ (k : ℕ). IsInOrder s g depth conflicts None (BreachQuery k) asked left → IsKnown s g (k + 1) k k → IsLogOf s g (asked_with (BreachQuery k) log) → conflicts_of log + rest ≡ left → IsRun s g (BreachQuery k) t → IsNext s g depth conflicts (3 * (depth - k) + 1) (after_breach depth k t) (asked ++ asked_with (BreachQuery k) log ∷ []) rest) size (broke-at s g depth conflicts t log asked left rest low)
+    subst (λ (k : ℕ). IsInOrder s g depth conflicts None (BreachQuery k) asked left → IsKnown s g (k + 1) k k → IsLogOf s g (asked_with (BreachQuery k) log) → conflicts_of log + rest ≡ left → IsRun s g (BreachQuery k) t → IsSatisfiable (query_formula s g (BreachQuery k)) → IsNext s g depth conflicts (3 * (depth - k) + 1) (after_breach depth k t) (asked ++ asked_with (BreachQuery k) log ∷ []) rest) size (broke-at s g depth conflicts t log asked left rest low)
 
 -- a step query asks for some step
 some-step : (n : ℕ) → wanted_valid (Step n) ≡ true → 0 < n
 some-step n h = ltb-true 0 n (and_parts _ _ h).0
 
 -- a step query has a run
-left-invariant : (s : SystemTree) (g : GoalTree) (depth conflicts n : ℕ) (t : Trace) (log : List LogStep) (asked : List Asked) (left rest : ℕ) → depth ≤ 16 → IsInOrder s g depth conflicts None (Step n) asked left → IsKnown s g (n + 1) (n + 1) n → IsLogOf s g (asked_with (Step n) log) → conflicts_of log + rest ≡ left → IsRun s g (Step n) t → IsNext s g depth conflicts (3 * (depth - n)) (cond (nat_lt n depth) (Ask (Unbroken (Hazard (n + 1)))) (End (NotInductive t))) (asked ++ asked_with (Step n) log ∷ []) rest
-left-invariant s g depth conflicts n t log asked left rest low d known logged count run = by_case (nat_lt n depth) refl
+left-invariant : (s : SystemTree) (g : GoalTree) (depth conflicts n : ℕ) (t : Trace) (log : List LogStep) (asked : List Asked) (left rest : ℕ) → depth ≤ 16 → IsInOrder s g depth conflicts None (Step n) asked left → IsKnown s g (n + 1) (n + 1) n → IsLogOf s g (asked_with (Step n) log) → conflicts_of log + rest ≡ left → IsRun s g (Step n) t → IsSatisfiable (query_formula s g (Step n)) → IsNext s g depth conflicts (3 * (depth - n)) (cond (nat_lt n depth) (Ask (Unbroken (Hazard (n + 1)))) (End (NotInductive t))) (asked ++ asked_with (Step n) log ∷ []) rest
+left-invariant s g depth conflicts n t log asked left rest low d known logged count run sat = by_case (nat_lt n depth) refl
   where
     has : HasRun s g (Step n)
     has = (t.first, t.rules, run)
@@ -144,7 +145,7 @@ left-invariant s g depth conflicts n t log asked left rest low d known logged co
         let a = asked_with (Step n) log in
         let less : n < depth = grind (arith, nat_tests) in (
           record {
-            in_order = go-on s g depth conflicts None a (Hazard (n + 1)) asked left rest d logged has count (to-hazard n (some-step n d.valid)) (hazard-valid depth n low less) (omega arith);
+            in_order = go-on s g depth conflicts None a (Hazard (n + 1)) asked left rest d logged sat count (to-hazard n (some-step n d.valid)) (hazard-valid depth n low less) (omega arith);
             known = record { no_hazard = known.no_hazard; no_breach = known.no_breach; runs = λ m pos below. runs m below pos };
           },
           omega arith,
@@ -164,7 +165,7 @@ left-invariant s g depth conflicts n t log asked left rest low d known logged co
             subst (λ (k : ℕ). IsRun s g (Step k) t) same run,
           );
           lasts = tt;
-          queries = (a, asked-to s g depth conflicts None a asked left d logged, ap Step same);
+          queries = asked-all s g depth conflicts depth a asked left (HasPassed s g None) d logged (ap Step same) sat;
           few = few (all_conflicts (asked ++ a ∷ [])) rest conflicts (more-conflicts asked a left rest conflicts d.counted count);
         }
 
@@ -180,7 +181,7 @@ carried s g depth conflicts n log asked left rest rules d known logged count ref
         induction = record { within = d.within; so = (some-step n d.valid, none); least = λ m less inducts. inducts.1 (known.runs m inducts.0 less) };
       });
       lasts = ever;
-      queries = (a, asked-to s g depth conflicts None a asked left d logged, (refl, refuted));
+      queries = (d.within, asked-all s g depth conflicts n a asked left (λ (b : Asked). (b.query ≡ Step n) × IsRefuted s g b.query b.log) d logged refl (refl, refuted));
       few = few (all_conflicts (asked ++ a ∷ [])) rest conflicts (more-conflicts asked a left rest conflicts d.counted count);
     }
 
@@ -189,12 +190,12 @@ given-up : (s : SystemTree) (g : GoalTree) (depth conflicts : ℕ) (due : Due) (
 given-up s g depth conflicts due log asked left rest d logged count spent =
     let a = asked_with (due_query due) log in
     let total = more-conflicts asked a left rest conflicts d.in_order.counted count in
-    let all = all-conflicts log spent.unfinished in
+    let all : conflicts_of log ≡ length log = all-conflicts log spent.unfinished in
     let steps = spent.steps in
     record {
       right = inr refl;
       lasts = tt;
-      queries = ((due_breach due, (a, asked-to s g depth conflicts (due_breach due) a asked left d.in_order logged, record { unfinished = spent.unfinished; stuck = spent.stuck })), omega (arith, total, all, steps, count));
+      queries = ((due_breach due, (a, asked-to s g depth conflicts (due_breach due) a asked left d.in_order logged, record { unfinished = all; stuck = spent.stuck })), omega (arith, total, all, steps, count));
       few = few (all_conflicts (asked ++ a ∷ [])) rest conflicts total;
     }
 
@@ -222,10 +223,10 @@ no-breach-at-start s g depth conflicts log asked left rest deep d known logged c
 
 -- all together
 pub follows : (s : SystemTree) (g : GoalTree) (depth conflicts : ℕ) (due : Due) (response : Response) (log : List LogStep) (asked : List Asked) (left rest : ℕ) → list_all (rule_valid s.ranges) s.rules ≡ true → 0 < depth → depth ≤ 16 → IsDue s g depth conflicts due asked left → IsLogOf s g (asked_with (due_query due) log) → conflicts_of log + rest ≡ left → IsResponse s g (due_query due) left response log → IsNext s g depth conflicts (still_due depth due) (after_response depth due response) (asked ++ asked_with (due_query due) log ∷ []) rest
-follows s g depth conflicts (Unbroken (Hazard n)) (Run t) log asked left rest rules deep low d logged count r = endangered s g depth conflicts None n t log asked left rest d.in_order d.known.no_hazard logged count r
-follows s g depth conflicts (Unbroken (BreachQuery n)) (Run t) log asked left rest rules deep low d logged count r = broke s g depth conflicts n t log asked left rest low (steps-of s g (BreachQuery n) t r) d.in_order d.known logged count r
-follows s g depth conflicts (Unbroken (Step n)) (Run t) log asked left rest rules deep low d logged count r = left-invariant s g depth conflicts n t log asked left rest low d.in_order d.known logged count r
-follows s g depth conflicts (Broken n breach) (Run t) log asked left rest rules deep low d logged count r = endangered s g depth conflicts (Some (length breach.rules)) n t log asked left rest d.in_order d.known.known.no_hazard logged count r
+follows s g depth conflicts (Unbroken (Hazard n)) (Run t) log asked left rest rules deep low d logged count r = endangered s g depth conflicts None n t log asked left rest d.in_order d.known.no_hazard logged count r.0
+follows s g depth conflicts (Unbroken (BreachQuery n)) (Run t) log asked left rest rules deep low d logged count r = broke s g depth conflicts n t log asked left rest low (steps-of s g (BreachQuery n) t r.0) d.in_order d.known logged count r.0 r.1
+follows s g depth conflicts (Unbroken (Step n)) (Run t) log asked left rest rules deep low d logged count r = left-invariant s g depth conflicts n t log asked left rest low d.in_order d.known logged count r.0 r.1
+follows s g depth conflicts (Broken n breach) (Run t) log asked left rest rules deep low d logged count r = endangered s g depth conflicts (Some (length breach.rules)) n t log asked left rest d.in_order d.known.known.no_hazard logged count r.0
 follows s g depth conflicts (Unbroken (Hazard n)) Refuted log asked left rest rules deep low d logged count r = (no-hazard s g depth conflicts n log asked left rest d.in_order d.known logged count r.0 r.1, omega arith)
 follows s g depth conflicts (Unbroken (BreachQuery zero)) Refuted log asked left rest rules deep low d logged count r = (no-breach-at-start s g depth conflicts log asked left rest deep d.in_order d.known logged count r.0 r.1, omega arith)
 follows s g depth conflicts (Unbroken (BreachQuery (suc n))) Refuted log asked left rest rules deep low d logged count r = (no-breach s g depth conflicts n log asked left rest d.in_order d.known logged count r.0 r.1, omega arith)

@@ -2,6 +2,10 @@ pub mod Middles
 pub mod Demands
 pub mod Induction
 pub mod Orders
+pub mod Satisfying
 pub mod Follows
 pub mod Mapped
 pub mod Certified
+pub mod Certificates
+pub mod Wantable
+pub mod Examples

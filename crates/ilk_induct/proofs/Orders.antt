@@ -1,22 +1,27 @@
--- The order of queries, one query more.
-use Rattle.std.proofs.Common.{◌≡◌, ℕ, zero, suc, ◌+◌, ◌-◌, ◌≤◌, ◌<◌, Bool, true, not, cond, List, [], ◌∷◌, ◌++◌, length, map, Option, Some, None, refl, sym, ap, ◌∙◌, arith, append_assoc, inl, inr, All}
+-- The order of queries: one query more, and the queries up to one of them as a prefix of the order.
+use Rattle.std.proofs.Common.{◌≡◌, ℕ, zero, suc, ◌+◌, ◌-◌, ◌≤◌, ◌<◌, Bool, true, not, cond, List, [], ◌∷◌, ◌++◌, length, map, Option, Some, None, refl, sym, ap, ◌∙◌, subst, arith, append_assoc, inl, inr, All}
 use Rattle.std.specs.List.{range_with_len}
-use Rattle.std.proofs.lemmas.Bool.{and_parts}
+use Rattle.std.proofs.lemmas.Bool.{and_parts, ltb-true}
 use Rattle.std.proofs.lemmas.List.{append-nil, map-append}
 use Rattle.std.proofs.lemmas.List.Elements.{All-push, All-weaker}
 use Rattle.std.proofs.lemmas.List.Sums.{sum_by-append, sum_by-cons}
 use Rattle.ilk_base.proofs.Ranges.{listed_all-more, range-suc}
 use Rattle.ilk_ir.specs.System.{SystemTree}
 use Rattle.ilk_log.specs.declared.step.Step.{Step as LogStep}
+use Rattle.ilk_log.specs.Conflicts.{conflicts_of}
 use Rattle.ilk_log.specs.Derived.{is_empty}
 use Rattle.ilk_solver.specs.Answered.{none_empty}
 use Rattle.ilk_unroll.specs.declared.queries.Wanted.{Wanted}
 use Rattle.ilk_unroll.specs.declared.queries.Wanted.TheVariants.{Hazard, Breach as BreachQuery, Step}
 use Rattle.ilk_unroll.specs.Goal.{GoalTree, step_count, wanted_valid}
-use Rattle.ilk_induct.specs.declared.verdict.Asked.{Asked}
-use Rattle.ilk_induct.specs.Evidence.{HasRun}
-use Rattle.ilk_induct.specs.Asked.{round, rounds, queries_to, IsLogOf, IsPassed, HasPassed, conflicts_of, all_conflicts, AreAsked}
-use Rattle.ilk_induct.specs.Due.{asked_with, IsInOrder}
+use Rattle.ilk_unroll.specs.Query.{query_formula}
+use Rattle.ilk_unroll.specs.Satisfied.{IsSatisfiable}
+use Rattle.ilk_certificate.specs.declared.asked.Asked.{Asked}
+use Rattle.ilk_certificate.specs.CertificateText.{all_conflicts}
+use Rattle.ilk_induct.specs.Order.{round, rounds, query_order, IsPrefix}
+use Rattle.ilk_induct.specs.Spent.{IsLogOf, IsPassed, HasPassed, AreAsked}
+use Rattle.ilk_induct.specs.Asked.{AllAsked}
+use Rattle.ilk_induct.specs.Due.{asked_with, queries_to, IsInOrder}
 
 -- the queries up to the next
 
@@ -51,6 +56,74 @@ to-hazard-after b n q e le =
     ∙ append_assoc front (map Hazard (range_with_len (b + 1) (n - b))) (Hazard (n + 1) ∷ [])
     ∙ ap (λ (qs : List Wanted). front ++ qs) (sym grown)
 
+-- the queries up to one of them are a prefix of the order
+
+prefix-then : (qs rs all : List Wanted) → IsPrefix qs rs → IsPrefix rs all → IsPrefix qs all
+prefix-then qs rs all one two =
+    (one.0 ++ two.0, sym (append_assoc qs one.0 two.0) ∙ ap (λ (us : List Wanted). us ++ two.0) one.1 ∙ two.1)
+
+prefix-behind : (front qs all : List Wanted) → IsPrefix qs all → IsPrefix (front ++ qs) (front ++ all)
+prefix-behind front qs all p = (p.0, append_assoc front qs p.0 ∙ ap (λ (us : List Wanted). front ++ us) p.1)
+
+-- where each of some lists begins with the one before it, it begins with all before it
+prefix-up : (L : ℕ → List Wanted) → ((n : ℕ) → IsPrefix (L n) (L (n + 1))) → (i k : ℕ) → IsPrefix (L i) (L (i + k))
+prefix-up L up i zero =
+    let same : i + 0 ≡ i = omega arith in
+    ([], append-nil (L i) ∙ ap L (sym same))
+prefix-up L up i (suc k) =
+    let same : (i + k) + 1 ≡ i + suc k = omega arith in
+    subst (λ (m : ℕ). IsPrefix (L i) (L m)) same (prefix-then (L i) (L (i + k)) (L ((i + k) + 1)) (prefix-up L up i k) (up (i + k)))
+
+rounds-up : (n : ℕ) → IsPrefix (rounds n) (rounds (n + 1))
+rounds-up n = (round n, sym (listed_all-more round n))
+
+-- the n hazard queries after a breach of b steps
+abbrev hazards : ℕ → ℕ → List Wanted
+hazards b n = map Hazard (range_with_len (b + 1) n)
+
+hazards-up : (b n : ℕ) → IsPrefix (hazards b n) (hazards b (n + 1))
+hazards-up b n =
+    let one : n + 1 ≡ suc n = omega arith in (
+      Hazard ((b + 1) + n) ∷ [],
+      sym (ap (λ (k : ℕ). map Hazard (range_with_len (b + 1) k)) one
+          ∙ ap (map Hazard) (range-suc (b + 1) n)
+          ∙ map-append Hazard (range_with_len (b + 1) n) (((b + 1) + n) ∷ [])),
+    )
+
+-- those of the last runs
+to-round : (q : Wanted) → wanted_valid q ≡ true → IsPrefix (queries_to None q) (rounds (step_count q + 1))
+to-round (Hazard zero) valid = (BreachQuery 0 ∷ [], refl)
+to-round (Hazard (suc n)) valid =
+    (BreachQuery (suc n) ∷ Step (suc n) ∷ [], append_assoc (rounds (suc n)) (Hazard (suc n) ∷ []) (BreachQuery (suc n) ∷ Step (suc n) ∷ []) ∙ sym (listed_all-more round (suc n)))
+to-round (BreachQuery zero) valid = ([], refl)
+to-round (BreachQuery (suc n)) valid =
+    (Step (suc n) ∷ [], append_assoc (rounds (suc n)) (Hazard (suc n) ∷ BreachQuery (suc n) ∷ []) (Step (suc n) ∷ []) ∙ sym (listed_all-more round (suc n)))
+to-round (Step zero) valid = absurd cc
+to-round (Step (suc n)) valid =
+    let all = rounds (suc n) ++ round (suc n) in
+    ([], append-nil all ∙ sym (listed_all-more round (suc n)))
+
+pub all-to-step : (n : ℕ) → 0 < n → queries_to None (Step n) ≡ query_order None n
+all-to-step zero pos = absurd (omega arith)
+all-to-step (suc n) pos = sym (listed_all-more round (suc n))
+
+pub all-to-hazard : (b n : ℕ) (q : Wanted) → step_count q ≡ n → queries_to (Some b) q ≡ query_order (Some b) n
+all-to-hazard b n q e =
+    ap (λ (k : ℕ). (rounds b ++ Hazard b ∷ BreachQuery b ∷ []) ++ map Hazard (range_with_len (b + 1) (k - b))) e
+    ∙ append_assoc (rounds b) (Hazard b ∷ BreachQuery b ∷ []) (map Hazard (range_with_len (b + 1) (n - b)))
+
+pub to-prefix : (depth : ℕ) (breach : Option ℕ) (q : Wanted) → wanted_valid q ≡ true → step_count q ≤ depth → IsPrefix (queries_to breach q) (query_order breach depth)
+to-prefix depth None q valid within =
+    let far : (step_count q + 1) + (depth - step_count q) ≡ depth + 1 = omega arith in
+    let all = subst (λ (m : ℕ). IsPrefix (rounds (step_count q + 1)) (rounds m)) far (prefix-up rounds rounds-up (step_count q + 1) (depth - step_count q)) in
+    prefix-then (queries_to None q) (rounds (step_count q + 1)) (rounds (depth + 1)) (to-round q valid) all
+to-prefix depth (Some b) q valid within =
+    let i = step_count q - b in
+    let far : i + ((depth - b) - i) ≡ depth - b = omega arith in
+    let front = rounds b ++ Hazard b ∷ BreachQuery b ∷ [] in
+    let behind = prefix-behind front (hazards b i) (hazards b (depth - b)) (subst (λ (m : ℕ). IsPrefix (hazards b i) (hazards b m)) far (prefix-up (hazards b) (hazards-up b) i ((depth - b) - i))) in
+    subst (IsPrefix (front ++ hazards b i)) (append_assoc (rounds b) (Hazard b ∷ BreachQuery b ∷ []) (hazards b (depth - b))) behind
+
 -- with one query more
 
 pub more-queries : (asked : List Asked) (a : Asked) (qs : List Wanted) → map (λ (x : Asked). x.query) asked ++ a.query ∷ [] ≡ qs → map (λ (x : Asked). x.query) (asked ++ a ∷ []) ≡ qs
@@ -62,14 +135,16 @@ more-conflicts asked a left rest conflicts h one =
     let last = sum_by-cons (λ (x : Asked). conflicts_of x.log) a [] in
     omega (arith, sum, last, h, one)
 
+as-prefix : (asked : List Asked) (qs all : List Wanted) → map (λ (x : Asked). x.query) asked ≡ qs → IsPrefix qs all → IsPrefix (map (λ (x : Asked). x.query) asked) all
+as-prefix asked qs all e p = subst (λ (us : List Wanted). IsPrefix us all) (sym e) p
+
 -- what was asked, up to the query that was due
 pub asked-to : (s : SystemTree) (g : GoalTree) (depth conflicts : ℕ) (breach : Option ℕ) (a : Asked) (asked : List Asked) (left : ℕ) → IsInOrder s g depth conflicts breach a.query asked left → IsLogOf s g a → AreAsked s g depth breach (asked ++ a ∷ []) a
 asked-to s g depth conflicts breach a asked left d log =
     record {
       before = asked;
       split = refl;
-      order = more-queries asked a (queries_to breach a.query) d.order;
-      within = d.within;
+      order = as-prefix (asked ++ a ∷ []) (queries_to breach a.query) (query_order breach depth) (more-queries asked a (queries_to breach a.query) d.order) (to-prefix depth breach a.query d.valid d.within);
       found = d.found;
       passed = d.passed;
       logs = All-push (IsLogOf s g) asked a d.logs log;
@@ -91,7 +166,7 @@ go-on s g depth conflicts breach a q asked left rest d log passed count order va
 -- what has passed before a breach was found has passed
 pub passed-after : (s : SystemTree) (g : GoalTree) (b : ℕ) (q : Wanted) (log : List LogStep) → IsPassed s g None q log → IsPassed s g (Some b) q log
 passed-after s g b (Hazard n) log h = h
-passed-after s g b (BreachQuery n) log h = elim h [ inl refuted ↦ inl refuted | inr found ↦ absurd (none n found.0) ]
+passed-after s g b (BreachQuery n) log h = elim h [ inl refuted ↦ inl refuted | inr found ↦ absurd (none n found) ]
   where
     none : (n : ℕ) → None ≡ Some n → ⊥
     none n e = cc
@@ -100,33 +175,45 @@ passed-after s g b (Step n) log h = h
 pub all-passed-after : (s : SystemTree) (g : GoalTree) (b : ℕ) (asked : List Asked) → All (HasPassed s g None) asked → All (HasPassed s g (Some b)) asked
 all-passed-after s g b asked h = All-weaker (HasPassed s g None) (HasPassed s g (Some b)) (λ a k. passed-after s g b a.query a.log k) asked h
 
--- what was asked, up to the breach query that has a run
-pub found-to : (s : SystemTree) (g : GoalTree) (depth conflicts n : ℕ) (log : List LogStep) (asked : List Asked) (left : ℕ) → IsInOrder s g depth conflicts None (BreachQuery n) asked left → IsLogOf s g (asked_with (BreachQuery n) log) → HasRun s g (BreachQuery n) → AreAsked s g depth (Some n) (asked ++ asked_with (BreachQuery n) log ∷ []) (asked_with (BreachQuery n) log)
+-- what was asked, up to the breach query that is satisfiable
+pub found-order : (asked : List Asked) (n : ℕ) (log : List LogStep) → map (λ (x : Asked). x.query) asked ++ BreachQuery n ∷ [] ≡ queries_to None (BreachQuery n) → map (λ (x : Asked). x.query) (asked ++ asked_with (BreachQuery n) log ∷ []) ≡ queries_to (Some n) (BreachQuery n)
+found-order asked n log order = more-queries asked (asked_with (BreachQuery n) log) (queries_to None (BreachQuery n)) order ∙ to-found n
+
+pub found-to : (s : SystemTree) (g : GoalTree) (depth conflicts n : ℕ) (log : List LogStep) (asked : List Asked) (left : ℕ) → IsInOrder s g depth conflicts None (BreachQuery n) asked left → IsLogOf s g (asked_with (BreachQuery n) log) → IsSatisfiable (query_formula s g (BreachQuery n)) → AreAsked s g depth (Some n) (asked ++ asked_with (BreachQuery n) log ∷ []) (asked_with (BreachQuery n) log)
 found-to s g depth conflicts n log asked left d logged has =
     let a = asked_with (BreachQuery n) log in
     record {
       before = asked;
       split = refl;
-      order = more-queries asked a (queries_to None (BreachQuery n)) d.order ∙ to-found n;
-      within = d.within;
-      found = has;
+      order = as-prefix (asked ++ a ∷ []) (queries_to (Some n) (BreachQuery n)) (query_order (Some n) depth) (found-order asked n log d.order) (to-prefix depth (Some n) (BreachQuery n) d.valid d.within);
+      found = (d.within, has);
       passed = all-passed-after s g n asked d.passed;
       logs = All-push (IsLogOf s g) asked a d.logs logged;
     }
 
 -- and the hazard query after it is due
-pub go-on-found : (s : SystemTree) (g : GoalTree) (depth conflicts n : ℕ) (log : List LogStep) (asked : List Asked) (left rest : ℕ) → IsInOrder s g depth conflicts None (BreachQuery n) asked left → IsLogOf s g (asked_with (BreachQuery n) log) → HasRun s g (BreachQuery n) → conflicts_of log + rest ≡ left → wanted_valid (Hazard (n + 1)) ≡ true → n + 1 ≤ depth → IsInOrder s g depth conflicts (Some n) (Hazard (n + 1)) (asked ++ asked_with (BreachQuery n) log ∷ []) rest
+pub go-on-found : (s : SystemTree) (g : GoalTree) (depth conflicts n : ℕ) (log : List LogStep) (asked : List Asked) (left rest : ℕ) → IsInOrder s g depth conflicts None (BreachQuery n) asked left → IsLogOf s g (asked_with (BreachQuery n) log) → IsSatisfiable (query_formula s g (BreachQuery n)) → conflicts_of log + rest ≡ left → wanted_valid (Hazard (n + 1)) ≡ true → n + 1 ≤ depth → IsInOrder s g depth conflicts (Some n) (Hazard (n + 1)) (asked ++ asked_with (BreachQuery n) log ∷ []) rest
 go-on-found s g depth conflicts n log asked left rest d logged has count valid within =
     let a = asked_with (BreachQuery n) log in
-    let to = found-to s g depth conflicts n log asked left d logged has in
     record {
-      order = ap (λ (qs : List Wanted). qs ++ Hazard (n + 1) ∷ []) to.order ∙ to-hazard-after n n (BreachQuery n) refl (omega arith);
+      order = ap (λ (qs : List Wanted). qs ++ Hazard (n + 1) ∷ []) (found-order asked n log d.order) ∙ to-hazard-after n n (BreachQuery n) refl (omega arith);
       valid = valid;
       within = within;
-      found = has;
-      passed = All-push (HasPassed s g (Some n)) asked a (all-passed-after s g n asked d.passed) (inr (refl, has));
-      logs = to.logs;
+      found = (d.within, has);
+      passed = All-push (HasPassed s g (Some n)) asked a (all-passed-after s g n asked d.passed) (inr refl);
+      logs = All-push (IsLogOf s g) asked a d.logs logged;
       counted = more-conflicts asked a left rest conflicts d.counted count;
+    }
+
+-- all queries of the order were asked
+
+pub asked-all : (s : SystemTree) (g : GoalTree) (depth conflicts n : ℕ) (a : Asked) (asked : List Asked) (left : ℕ) (Ends : Asked → Type 0) → IsInOrder s g depth conflicts None a.query asked left → IsLogOf s g a → a.query ≡ Step n → Ends a → AllAsked s g n None Ends (asked ++ a ∷ [])
+asked-all s g depth conflicts n a asked left Ends d log is ends =
+    let pos : 0 < n = ltb-true 0 n (and_parts _ _ (ap wanted_valid (sym is) ∙ d.valid)).0 in
+    let all : map (λ (x : Asked). x.query) (asked ++ a ∷ []) ≡ query_order None n = more-queries asked a (queries_to None a.query) d.order ∙ ap (queries_to None) is ∙ all-to-step n pos in
+    record {
+      all = all;
+      ends = (a, record { before = asked; split = refl; order = ([], append-nil (map (λ (x : Asked). x.query) (asked ++ a ∷ [])) ∙ all); found = tt; passed = d.passed; logs = All-push (IsLogOf s g) asked a d.logs log }, ends);
     }
 
 -- a log in which each step has a literal

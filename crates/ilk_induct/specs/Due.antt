@@ -1,5 +1,6 @@
 -- Only private contracts and proofs need this file: which query is due, and what follows once it was answered.
 use Rattle.std.specs.Prelude.{ℕ, zero, suc, ◌+◌, ◌-◌, ◌*◌, ◌≡◌, ◌<◌, ◌≤◌, ◌⊎◌, nat_lt, Option, Some, None, IfSome, List, [], ◌∷◌, ◌++◌, length, map, IsTrue, All, if◌then◌else◌}
+use Rattle.std.specs.List.{range_with_len}
 use Rattle.ilk_ir.specs.System.{SystemTree}
 use Rattle.ilk_log.specs.declared.step.Step.{Step as LogStep}
 use Rattle.ilk_solver.specs.Answered.{IsSpent}
@@ -8,28 +9,40 @@ use Rattle.ilk_unroll.specs.declared.queries.Wanted.TheVariants.{Hazard, Breach 
 use Rattle.ilk_unroll.specs.declared.reading.Trace.{Trace}
 use Rattle.ilk_unroll.specs.Goal.{GoalTree, step_count, wanted_valid}
 use Rattle.ilk_unroll.specs.Query.{query_formula}
+use Rattle.ilk_unroll.specs.Satisfied.{IsSatisfiable}
+use Rattle.ilk_certificate.specs.declared.asked.Asked.{Asked}
+use Rattle.ilk_certificate.specs.Certificate.{IsRefuted}
+use Rattle.ilk_certificate.specs.CertificateText.{all_conflicts}
 use Rattle.ilk_induct.specs.declared.ask.Response.{Response}
 use Rattle.ilk_induct.specs.declared.ask.Response.TheVariants.{Run, Refuted, GivenUp}
 use Rattle.ilk_induct.specs.declared.due.Due.{Due}
 use Rattle.ilk_induct.specs.declared.due.Due.TheVariants.{Unbroken, Broken}
 use Rattle.ilk_induct.specs.declared.due.Next.{Next}
 use Rattle.ilk_induct.specs.declared.due.Next.TheVariants.{Ask, End}
-use Rattle.ilk_induct.specs.declared.verdict.Asked.{Asked}
 use Rattle.ilk_induct.specs.declared.verdict.Verdict.{Verdict}
 use Rattle.ilk_induct.specs.declared.verdict.Verdict.TheVariants.{Safe, Unsafe, Breach, NotInductive, Spent}
 use Rattle.ilk_induct.specs.Evidence.{HasRun}
 use Rattle.ilk_induct.specs.Right.{IsRun, IsRight, Lasts}
-use Rattle.ilk_induct.specs.Asked.{queries_to, IsRefuted, IsLogOf, HasPassed, all_conflicts, IsAskedFor}
+use Rattle.ilk_induct.specs.Order.{rounds}
+use Rattle.ilk_induct.specs.Spent.{IsLogOf, HasPassed}
+use Rattle.ilk_induct.specs.Asked.{IsAskedFor}
 
 -- what each response says of its query
 abbrev pub IsResponse : SystemTree → GoalTree → Wanted → ℕ → Response → List LogStep → Type 0
-IsResponse s g q budget (Run t) log = IsRun s g q t
+IsResponse s g q budget (Run t) log = IsRun s g q t × IsSatisfiable (query_formula s g q)
 IsResponse s g q budget Refuted log = IsRefuted s g q log × ¬ HasRun s g q
 IsResponse s g q budget GivenUp log = IsSpent (query_formula s g q) budget log
 
 -- a query with its log
 abbrev pub asked_with : Wanted → List LogStep → Asked
 asked_with q log = record { query = q; log = log }
+
+-- the queries up to one of them; after a breach of b steps was found, hazard queries alone
+abbrev pub queries_to : Option ℕ → Wanted → List Wanted
+queries_to None (Hazard n) = rounds n ++ Hazard n ∷ []
+queries_to None (BreachQuery n) = rounds n ++ Hazard n ∷ BreachQuery n ∷ []
+queries_to None (Step n) = rounds n ++ Hazard n ∷ BreachQuery n ∷ Step n ∷ []
+queries_to (Some b) q = (rounds b ++ Hazard b ∷ BreachQuery b ∷ []) ++ map Hazard (range_with_len (b + 1) (step_count q - b))
 
 -- the query that is due, and the number of steps of the breach that was found
 abbrev pub due_query : Due → Wanted
@@ -88,7 +101,7 @@ pub record IsInOrder (s : SystemTree) (g : GoalTree) (depth conflicts : ℕ) (br
   pub order : map (λ (a : Asked). a.query) asked ++ q ∷ [] ≡ queries_to breach q
   pub valid : IsTrue (wanted_valid q)
   pub within : step_count q ≤ depth
-  pub found : IfSome breach (λ b. HasRun s g (BreachQuery b))
+  pub found : IfSome breach (λ b. (b ≤ depth) × IsSatisfiable (query_formula s g (BreachQuery b)))
   pub passed : All (HasPassed s g breach) asked
   pub logs : All (IsLogOf s g) asked
   pub counted : all_conflicts asked + left ≡ conflicts

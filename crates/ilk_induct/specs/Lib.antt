@@ -1,5 +1,7 @@
 pub mod Evidence
 pub mod Right
+pub mod Order
+pub mod Spent
 pub mod Asked
 pub mod Due
 pub mod Certified

@@ -1,9 +1,8 @@
-ghost use Rattle.std.specs.Prelude.{◌≡◌, IfOk, IsTrue, count_by};
+ghost use Rattle.std.specs.Prelude.{IfOk, IsTrue};
 ghost use Rattle.ilk_ir.specs.System.{system_tree, system_valid};
 ghost use Rattle.ilk_solver.specs.Answered.{IsLog};
 ghost use Rattle.ilk_unroll.specs.Goal.{goal_tree, goal_valid, wanted_valid};
 ghost use Rattle.ilk_unroll.specs.Query.{query_formula};
-ghost use Rattle.ilk_induct.specs.Asked.{conflicts_of};
 ghost use Rattle.ilk_induct.specs.Due.{IsResponse};
 
 use crate::pick::{decision, is_restart_due};
@@ -31,19 +30,6 @@ pub struct Searched {
     pub response: Response,
     /// The steps of the search.
     pub log: Log,
-}
-
-/// How many steps have a literal.
-pub fn conflicts_in(log: &Log) -> u64
-    ensures { result ≡ conflicts_of log.now }
-{
-    let mut count = 0;
-    for step in log.as_slice() {
-        if step.clause.len() != 0 {
-            count += 1;
-        }
-    }
-    count
 }
 
 /// Asks one query, by a search that takes at most `budget` conflicts.

@@ -1,15 +1,18 @@
 ghost use Rattle.std.specs.Prelude.{◌≡◌, ◌<◌, ◌≤◌, ◌⊎◌, IfOk, IsTrue};
 ghost use Rattle.ilk_ir.specs.System.{system_tree, system_valid};
 ghost use Rattle.ilk_unroll.specs.Goal.{goal_tree, goal_valid};
-ghost use Rattle.ilk_induct.specs.Asked.{IsAskedFor, all_conflicts};
+ghost use Rattle.ilk_certificate.specs.CertificateText.{all_conflicts};
+ghost use Rattle.ilk_induct.specs.Asked.{IsAskedFor};
 ghost use Rattle.ilk_induct.specs.Certified.{Certifies};
 ghost use Rattle.ilk_induct.specs.Right.{IsRight, Lasts};
 
-use crate::ask::{Searched, ask, conflicts_in};
+use crate::ask::{Searched, ask};
 use crate::due::{Due, Next, what_follows};
-use crate::verdict::{Asked, Found, Verdict};
+use crate::verdict::{Found, Verdict};
 use ilk_base::Row;
+use ilk_certificate::Asked;
 use ilk_ir::System;
+use ilk_log::conflicts_in;
 use ilk_unroll::{Goal, Wanted};
 use std::alloc::{AllocError, Global};
 

@@ -1,11 +1,49 @@
-ghost use Rattle.std.specs.Prelude.{ℕ, ◌≤◌, IsTrue};
+ghost use Rattle.std.specs.Prelude.{ℕ, ◌<◌, ◌≤◌, ◌↔◌, List, IsTrue, nat_lt};
+ghost use Rattle.std.specs.List.{list_all};
 ghost use Rattle.ilk_ir.specs.System.{SystemTree, system_valid};
-ghost use Rattle.ilk_unroll.specs.Goal.{GoalTree};
-ghost use Rattle.ilk_induct.specs.Evidence.{HasRun, IsForever, IsNever, Endangers, Breaks};
+ghost use Rattle.ilk_lines.specs.Lines.{Bytes};
+ghost use Rattle.ilk_unroll.specs.Goal.{GoalTree, goal_valid, wanted_valid};
+ghost use Rattle.ilk_unroll.specs.Query.{query_formula};
+ghost use Rattle.ilk_unroll.specs.Satisfied.{IsSatisfiable};
+ghost use Rattle.ilk_unroll.specs.declared.queries.Wanted.{Wanted};
 ghost use Rattle.ilk_unroll.specs.declared.queries.Wanted.TheVariants.{Step};
+ghost use Rattle.ilk_certificate.specs.declared.asked.Asked.{Asked};
+ghost use Rattle.ilk_certificate.specs.Certificate.{IsCertificate};
+ghost use Rattle.ilk_certificate.specs.CertificateText.{all_conflicts, all_hints_from_one, safe_text, spent_text};
+ghost use Rattle.ilk_certificate.specs.Kept.{without_early_steps};
+ghost use Rattle.ilk_induct.specs.declared.verdict.Verdict.{Verdict};
+ghost use Rattle.ilk_induct.specs.declared.verdict.Verdict.TheVariants.{Safe, Spent};
+ghost use Rattle.ilk_induct.specs.Asked.{IsAskedFor};
+ghost use Rattle.ilk_induct.specs.Evidence.{HasRun, IsForever, IsNever, Endangers, Breaks};
+ghost use Rattle.ilk_induct.specs.Spent.{IsSpentText};
 
 /// Where no run from the start of up to k steps reaches a hazard or breaks a family, and no step query
 /// for k steps has a run, no run of any length does. The call does nothing, and tells a proof.
 pub fn no_run_ever()
     ensures { (s : SystemTree) (g : GoalTree) (k : ℕ) → IsTrue (system_valid s) → IsNever k (Endangers (HasRun s g)) → IsNever k (Breaks (HasRun s g)) → ¬ HasRun s g (Step k) → IsForever (HasRun s g) }
+{}
+
+/// The formula of a query is satisfiable exactly where a run exists that the query asks for, over a
+/// valid system whose ranges are of one byte. The call does nothing, and tells a proof.
+pub fn satisfiable_queries_have_runs()
+    ensures { (s : SystemTree) (g : GoalTree) (q : Wanted) → IsTrue (system_valid s) → IsTrue (list_all (λ range. nat_lt range 256) s.ranges) → IsTrue (goal_valid s.ranges g) → IsSatisfiable (query_formula s g q) ↔ HasRun s g q }
+{}
+
+/// What is written of what was asked for a safe verdict is a certificate of that, and of what was asked
+/// for a spent one a spent text. The call does nothing, and tells a proof.
+pub fn texts_are_certificates()
+    ensures safe { (s : SystemTree) (g : GoalTree) (depth conflicts k : ℕ) (asked : List Asked) → depth ≤ 16 → 0 < k → IsAskedFor s g depth conflicts (Safe k) asked → IsCertificate s g k (safe_text k (without_early_steps asked)) }
+    ensures spent { (s : SystemTree) (g : GoalTree) (depth conflicts : ℕ) (asked : List Asked) → IsAskedFor s g depth conflicts Spent asked → IsSpentText s g depth conflicts (spent_text (all_conflicts asked) asked) }
+{}
+
+/// What was asked for a verdict has no step with a hint 0. The call does nothing, and tells a proof.
+#[tactic(auto, using(crate::proofs::Certificates::hints_count))]
+pub fn hints_are_from_one()
+    ensures { (s : SystemTree) (g : GoalTree) (depth conflicts : ℕ) (verdict : Verdict) (asked : List Asked) → IsAskedFor s g depth conflicts verdict asked → IsTrue (all_hints_from_one asked) }
+{}
+
+/// Each query of a spent text is one that may be asked: of at most 16 steps, and of at least one where
+/// it is a step query. The call does nothing, and tells a proof.
+pub fn spent_queries_are_valid()
+    ensures { (s : SystemTree) (g : GoalTree) (depth n : ℕ) (bytes : Bytes) → depth ≤ 16 → (text : IsSpentText s g depth n bytes) → IsTrue (list_all (λ (a : Asked). wanted_valid a.query) text.asked) }
 {}

@@ -6,7 +6,14 @@
 //! which verdict is right. Both speak of whether a run exists that a query asks for, and of nothing
 //! else, so that a layer above reads them of its own runs.
 //!
-//! `specs/Asked` says which queries are asked, in which order, and what is so of each and of its log.
+//! `specs/Order` has the order of the queries, as one list. `specs/Asked` says how far each verdict
+//! went in it, and `specs/Spent` what is so of each query and of its log, and what a spent text is: one
+//! of a prefix of the order, whose last query was given up. Both say of a query that its formula is
+//! satisfiable, which is the same as that a run exists (`satisfiable_queries_have_runs`).
+//!
+//! What a certificate of a safe system is stands in `ilk_certificate`, apart from any search. What is
+//! written for a verdict of `decide` is a certificate or a spent text (`texts_are_certificates`), and
+//! its logs have no hint 0, as the calls that write them ask (`hints_are_from_one`).
 //!
 //! Where no run from the start of up to k steps reaches a hazard or breaks a family, and no run of k
 //! steps leaves the invariant, no run of any length does (`no_run_ever`).
@@ -20,5 +27,9 @@ mod pick;
 mod verdict;
 
 pub use deciding::decide;
-pub use laws::no_run_ever;
-pub use verdict::{Asked, Found, Verdict};
+pub use ilk_certificate::Asked;
+pub use laws::{
+    hints_are_from_one, no_run_ever, satisfiable_queries_have_runs, spent_queries_are_valid,
+    texts_are_certificates,
+};
+pub use verdict::{Found, Verdict};

@@ -10,6 +10,7 @@ use ilk_solver::View;
 pub fn decision(view: &View) -> Lit
     ensures unset { (v : ℕ) → IsTrue (is_unset view.now v) → IsTrue (is_unset view.now result.var) }
     ensures heaviest { (v : ℕ) → IsTrue (is_unset view.now v) → IsHeaviest view.now result.var }
+    ensures none_unset { ((v : ℕ) → is_unset view.now v ≡ false) → result.var ≡ 1 }
     ensures negative { result.positive ≡ false }
 {
     let _ = view.vars();

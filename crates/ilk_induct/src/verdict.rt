@@ -1,6 +1,6 @@
 use ilk_base::Row;
-use ilk_log::Log;
-use ilk_unroll::{Trace, Wanted};
+use ilk_certificate::Asked;
+use ilk_unroll::Trace;
 
 /// What is answered of a system and a goal.
 #[derive(Drop)]
@@ -18,15 +18,6 @@ pub enum Verdict {
     NotInductive(Trace),
     /// The searches took as many conflicts as they might, and another one would be due.
     Spent,
-}
-
-/// A query that was asked, and the log of its search.
-#[derive(Drop)]
-pub struct Asked {
-    /// What was asked.
-    pub query: Wanted,
-    /// The steps of the search.
-    pub log: Log,
 }
 
 /// A verdict, and what was asked for it.

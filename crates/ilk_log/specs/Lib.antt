@@ -1,5 +1,6 @@
 pub mod Propagation
 pub mod Derived
+pub mod Conflicts
 pub mod Fresh
 pub mod StepText
 pub mod StepReading

@@ -1,7 +1,8 @@
-ghost use Rattle.std.specs.Prelude.{◌≡◌, ◌<◌, ◌^◌, List, Bool, false, not, count_by, IsTrue};
+ghost use Rattle.std.specs.Prelude.{◌≡◌, ◌<◌, ◌^◌, List, Bool, false, IsTrue};
 ghost use Rattle.ilk_cnf.specs.Formula.{Formula};
 ghost use Rattle.ilk_cnf.specs.Truth.{satisfies};
-ghost use Rattle.ilk_log.specs.Derived.{is_derived_log, is_empty, is_refutation};
+ghost use Rattle.ilk_log.specs.Conflicts.{conflicts_of};
+ghost use Rattle.ilk_log.specs.Derived.{is_derived_log, is_refutation};
 ghost use Rattle.ilk_log.specs.Fresh.{EachFresh};
 ghost use Rattle.ilk_log.specs.declared.step.Step.{Step as StepValue};
 
@@ -15,5 +16,5 @@ pub fn refutations_refute()
 /// call does nothing, and tells a proof.
 #[tactic(auto, using(crate::proofs::Count::fresh_few))]
 pub fn fresh_steps_are_few()
-    ensures { (f : Formula) (log : List StepValue) → IsTrue (is_derived_log f log) → EachFresh f.clauses log → count_by (λ s. not (is_empty s.clause)) log < 3 ^ f.vars }
+    ensures { (f : Formula) (log : List StepValue) → IsTrue (is_derived_log f log) → EachFresh f.clauses log → conflicts_of log < 3 ^ f.vars }
 {}

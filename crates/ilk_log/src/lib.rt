@@ -7,18 +7,21 @@
 //! give. These definitions speak of lists of clauses and of numbers alone.
 //!
 //! `write_step` gives the one line of a step, `push_step` writes it at the end of a text, and
-//! `read_step` takes exactly these lines.
+//! `read_step` takes exactly these lines. `conflicts_in` counts the steps with a literal.
+//!
 //! Two laws carry the rest: no assignment satisfies a formula that a log refutes
 //! (`refutations_refute`), and over n variables fewer than 3^n derived steps with a literal are fresh
 //! (`fresh_steps_are_few`).
 #![tactic(auto)]
 
+mod conflicts;
 mod hints;
 mod laws;
 mod read;
 mod step;
 mod write;
 
+pub use conflicts::conflicts_in;
 pub use hints::Hints;
 pub use laws::{fresh_steps_are_few, refutations_refute};
 pub use read::read_step;

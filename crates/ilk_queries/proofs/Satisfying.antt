@@ -17,7 +17,7 @@ use Rattle.ilk_unroll.specs.declared.queries.Wanted.{Wanted}
 use Rattle.ilk_queries.specs.Asked.{HasEvents}
 use Rattle.ilk_queries.specs.Goal.{goal_of}
 use Rattle.ilk_queries.specs.Lifting.{IsGoalOf}
-use Rattle.ilk_queries.specs.Satisfied.{IsSatisfiable}
+use Rattle.ilk_unroll.specs.Satisfied.{IsSatisfiable}
 use Rattle.ilk_queries.proofs.Answered.{to-wanted}
 use Rattle.ilk_queries.proofs.Lifted.{has-events}
 use Rattle.ilk_queries.proofs.Steps.{rules-step}

@@ -2,4 +2,3 @@ pub mod Walk
 pub mod Asked
 pub mod Lifting
 pub mod Goal
-pub mod Satisfied

@@ -8,7 +8,7 @@ ghost use Rattle.ilk_unroll.specs.Query.{query_formula};
 ghost use Rattle.ilk_queries.specs.Asked.{HasEvents};
 ghost use Rattle.ilk_queries.specs.Goal.{goal_of};
 ghost use Rattle.ilk_queries.specs.Lifting.{IsGoalOf};
-ghost use Rattle.ilk_queries.specs.Satisfied.{IsSatisfiable};
+ghost use Rattle.ilk_unroll.specs.Satisfied.{IsSatisfiable};
 
 use crate::goals::goal;
 use ilk_behave::behaviour;

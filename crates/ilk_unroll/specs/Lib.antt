@@ -1,5 +1,6 @@
 pub mod Goal
 pub mod Run
 pub mod Query
+pub mod Satisfied
 pub mod Assignment
 pub mod Tables

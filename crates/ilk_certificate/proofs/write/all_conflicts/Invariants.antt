@@ -1,5 +1,5 @@
 use Rattle.std.proofs.Common.{◌≡◌, ◌≤◌, ◌*◌, ◌^◌, take}
-use Rattle.ilk_induct.specs.Asked.{all_conflicts}
+use Rattle.ilk_certificate.specs.CertificateText.{all_conflicts}
 use Rattle.ilk_certificate.proofs.write.all_conflicts.Given as goal
 
 abbrev pub invariant-loop-query : goal.invariant-loop-query

@@ -4,7 +4,7 @@ use Rattle.ilk_unroll.specs.Goal.{goal_tree}
 use Rattle.ilk_unroll.specs.declared.queries.Wanted.TheVariants.{Hazard}
 use Rattle.ilk_induct.specs.declared.due.Next.{Next}
 use Rattle.ilk_induct.specs.declared.due.Due.TheVariants.{Unbroken}
-use Rattle.ilk_induct.specs.declared.verdict.Asked.{Asked}
+use Rattle.ilk_certificate.specs.declared.asked.Asked.{Asked}
 use Rattle.ilk_induct.specs.Due.{IsDue, IsNext, still_due}
 use Rattle.ilk_induct.proofs.Certified.{certifies}
 use Rattle.ilk_induct.proofs.Follows.{first-due, turned}

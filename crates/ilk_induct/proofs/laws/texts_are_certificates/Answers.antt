@@ -1,5 +1,5 @@
-use Rattle.ilk_certificate.proofs.Certificates.{safe_certifies, spent_certifies}
-use Rattle.ilk_certificate.proofs.laws.texts_are_certificates.Goals as goal
+use Rattle.ilk_induct.proofs.Certificates.{safe_certifies, spent_certifies}
+use Rattle.ilk_induct.proofs.laws.texts_are_certificates.Goals as goal
 
 pub returns-clause-safe : goal.returns-clause-safe
 returns-clause-safe c = safe_certifies

@@ -1,5 +1,5 @@
 -- What is written for a verdict is a certificate for it, and its logs have no hint 0.
-use Rattle.std.proofs.Common.{◌≡◌, ℕ, zero, suc, ◌<◌, ◌≤◌, true, List, [], ◌∷◌, ◌++◌, Option, Some, None, IsTrue, refl, ap, subst, arith, All}
+use Rattle.std.proofs.Common.{◌≡◌, ℕ, zero, suc, ◌<◌, ◌≤◌, true, List, [], ◌∷◌, ◌++◌, Option, Some, None, IsTrue, refl, ap, arith, All}
 use Rattle.std.specs.Prelude.{nat_lt}
 use Rattle.std.specs.List.{list_all}
 use Rattle.std.proofs.lemmas.Bool.{and_parts, lt-ltb, and_from}
@@ -10,17 +10,18 @@ use Rattle.ilk_ir.specs.System.{SystemTree}
 use Rattle.ilk_log.specs.declared.step.Step.{Step as LogStep}
 use Rattle.ilk_log.specs.Derived.{opposites, ends_false, is_derived, each_derived}
 use Rattle.ilk_log.specs.Propagation.{after_hint}
-use Rattle.ilk_unroll.specs.declared.queries.Wanted.{Wanted}
-use Rattle.ilk_unroll.specs.Goal.{GoalTree, step_count}
+use Rattle.ilk_unroll.specs.Goal.{GoalTree}
 use Rattle.ilk_unroll.specs.Query.{query_formula}
-use Rattle.ilk_induct.specs.declared.verdict.Asked.{Asked}
+use Rattle.ilk_certificate.specs.declared.asked.Asked.{Asked}
+use Rattle.ilk_certificate.specs.Certificate.{IsCertificate}
+use Rattle.ilk_certificate.specs.CertificateText.{all_conflicts, hints_from_one, all_hints_from_one, safe_text, spent_text}
+use Rattle.ilk_certificate.specs.Kept.{without_early_steps}
 use Rattle.ilk_induct.specs.declared.verdict.Verdict.{Verdict}
 use Rattle.ilk_induct.specs.declared.verdict.Verdict.TheVariants.{Safe, Unsafe, Breach, NotInductive, Spent}
-use Rattle.ilk_induct.specs.Asked.{IsLogOf, IsAskedFor, all_conflicts}
-use Rattle.ilk_induct.specs.Certified.{IsCertified, without_early_steps}
+use Rattle.ilk_induct.specs.Spent.{IsLogOf, IsSpentText}
+use Rattle.ilk_induct.specs.Asked.{IsAskedFor}
+use Rattle.ilk_induct.specs.Certified.{IsCertified}
 use Rattle.ilk_induct.proofs.Certified.{certifies}
-use Rattle.ilk_certificate.specs.Certificate.{IsCertificate, IsSpentText}
-use Rattle.ilk_certificate.specs.CertificateText.{hints_from_one, all_hints_from_one, safe_text, spent_text}
 
 from-one : (h : ℕ) → nat_lt 0 (suc h) ≡ true
 from-one h = lt-ltb 0 (suc h) (omega arith)
@@ -55,16 +56,16 @@ logs-count s g (a ∷ asked) logs =
 -- what was asked for a verdict was asked in order
 pub hints_count : (s : SystemTree) (g : GoalTree) (depth conflicts : ℕ) (verdict : Verdict) (asked : List Asked) → IsAskedFor s g depth conflicts verdict asked → IsTrue (all_hints_from_one asked)
 hints_count s g depth conflicts (Unsafe t) asked h = logs-count s g asked h.1.1.logs
-hints_count s g depth conflicts (Breach t) asked h = logs-count s g asked h.1.logs
-hints_count s g depth conflicts (Safe k) asked h = logs-count s g asked h.1.logs
-hints_count s g depth conflicts (NotInductive t) asked h = logs-count s g asked h.1.logs
+hints_count s g depth conflicts (Breach t) asked h = logs-count s g asked h.ends.1.logs
+hints_count s g depth conflicts (Safe k) asked h = logs-count s g asked h.1.ends.1.logs
+hints_count s g depth conflicts (NotInductive t) asked h = logs-count s g asked h.ends.1.logs
 hints_count s g depth conflicts Spent asked h = logs-count s g asked h.0.1.1.logs
 
 -- what was asked for a safe verdict, without the step queries before the last, is written as a certificate for it
 pub safe_certifies : (s : SystemTree) (g : GoalTree) (depth conflicts k : ℕ) (asked : List Asked) → depth ≤ 16 → 0 < k → IsAskedFor s g depth conflicts (Safe k) asked → IsCertificate s g k (safe_text k (without_early_steps asked))
 safe_certifies s g depth conflicts k asked deep some h =
     let all : IsCertified s g k asked = certifies s g depth conflicts (Safe k) asked h in
-    let within : k ≤ depth = subst (λ (q : Wanted). step_count q ≤ depth) h.2.0 h.1.within in
+    let within = h.0 in
     record {
       asked = without_early_steps asked;
       some = some;
