@@ -47,10 +47,10 @@ impl Clauses {
         requires within { IsTrue (clause_in self.old.vars clause.now) }
         requires differ { IsTrue (vars_differ clause.now) }
         ensures ok { OnOk result (IsClauseAdded self.old clause.now self.new) }
-        ensures err { OnErr result (self.new ≡ record self.old { spare = self.new.spare }) }
+        ensures err { OnErr result (self.new ≡ self.old) }
     {
-        self.arena.reserve(clause.len() as u64 + 8)?;
         self.references.reserve(1)?;
+        self.arena.reserve(clause.len() as u64 + 8)?;
         let reference = self.arena.add(clause);
         self.references.push(reference).unwrap();
         Ok(())

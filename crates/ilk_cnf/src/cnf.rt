@@ -40,7 +40,7 @@ impl Cnf {
         }
     }
 
-    /// Adds a variable, and gives its number.
+    /// Adds a variable, and gives its number. Where memory runs out the formula is unchanged.
     pub fn fresh(&mut self) -> Result<u64, AllocError>
         ensures ok { IfOk result (λ v. v ≡ self.old.vars + 1) }
         ensures numbered { IfOk result (λ v. v ≤ 2 ^ 62) }
@@ -51,7 +51,7 @@ impl Cnf {
         Ok(self.marks.len() as u64)
     }
 
-    /// Adds a clause at the end.
+    /// Adds a clause at the end. Where memory runs out the formula is unchanged.
     pub fn add(&mut self, clause: Clause) -> Result<(), AllocError>
         requires { IsTrue (clause_in self.old.vars clause) }
         ensures ok { OnOk result (self.new ≡ grown self.old self.old.vars (clause ∷ [])) }
@@ -63,7 +63,8 @@ impl Cnf {
     }
 
     /// Demands that one of the literals is true: adds the clause that has each of them once, or
-    /// nothing where the list has both literals of a variable.
+    /// nothing where the list has both literals of a variable. Where memory runs out the formula is
+    /// unchanged.
     pub fn add_lits(&mut self, lits: &[Lit]) -> Result<(), AllocError>
         requires { IsTrue (clause_in self.old.vars lits.now) }
         ensures ok { OnOk result (self.new ≡ grown self.old self.old.vars (as_clause lits.now)) }

@@ -59,7 +59,7 @@ fn add_gate(alloc: Global, cnf: &mut Cnf, gate: Lit, lits: &[Lit]) -> Result<(),
 }
 
 /// Adds a variable that is true exactly where all of the literals are, and answers its positive
-/// literal.
+/// literal. Where memory runs out the formula may have grown, and its owner drops it.
 pub fn all_of(alloc: Global, cnf: &mut Cnf, lits: &[Lit]) -> Result<Lit, AllocError>
     requires { IsTrue (clause_in cnf.old.vars lits.now) }
     ensures lit { IfOk result (λ l. l ≡ plus (cnf.old.vars + 1)) }
@@ -72,7 +72,7 @@ pub fn all_of(alloc: Global, cnf: &mut Cnf, lits: &[Lit]) -> Result<Lit, AllocEr
 }
 
 /// Adds a variable that is true exactly where one of the literals is, or more, and answers its
-/// positive literal.
+/// positive literal. Where memory runs out the formula may have grown, and its owner drops it.
 pub fn any_of(alloc: Global, cnf: &mut Cnf, lits: &[Lit]) -> Result<Lit, AllocError>
     requires { IsTrue (clause_in cnf.old.vars lits.now) }
     ensures lit { IfOk result (λ l. l ≡ plus (cnf.old.vars + 1)) }

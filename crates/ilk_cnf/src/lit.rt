@@ -1,5 +1,5 @@
 ghost use Rattle.std.specs.Prelude.{◌≡◌, ◌≤◌, ◌<◌, ◌^◌};
-ghost use Rattle.ilk_cnf.specs.Literal.{opposite, same_lit};
+ghost use Rattle.ilk_cnf.specs.Literal.{minus, opposite, same_lit};
 
 use std::marker::Model;
 
@@ -23,6 +23,16 @@ impl Model for Lit {
     ghost inverse = { λ l. record { code = code_of l } };
 
     ghost inverse_ok = { λ l h i. record { code = code_of-literal_of l.code i } };
+}
+
+/// What stands in the unused places of a list that keeps its first items in the value itself: the
+/// negative literal of variable 1.
+impl Default for Lit {
+    ghost is_default = { λ l. l ≡ minus 1 };
+
+    fn default() -> Lit {
+        Lit::new(1, false)
+    }
 }
 
 impl Lit {

@@ -69,7 +69,7 @@ fn add_columns(alloc: Global, cnf: &mut Cnf, first: u64, ranges: &[u8]) -> Resul
 
 /// Adds a copy of variables with these ranges: first their bits, then the literals of each, which
 /// it answers. What stood before extends over the copy in exactly one way for each list of values
-/// in range.
+/// in range. Where memory runs out the formula may have grown, and its owner drops it.
 pub fn add_copy(alloc: Global, cnf: &mut Cnf, ranges: &Ranges) -> Result<Table, AllocError>
     requires { IsTrue (list_all (λ range. nat_lt 0 range) ranges.now) }
     ensures table { IfOk result (λ table. table ≡ (copy_part ranges.now cnf.old.vars).columns) }

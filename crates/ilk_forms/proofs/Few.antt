@@ -10,7 +10,7 @@ use Rattle.ilk_ir.specs.Tree.{Tree, yes, no, is, all_of, any_of, negation, Trees
 use Rattle.ilk_copy.specs.declared.copy.Column.{Column}
 use Rattle.ilk_forms.specs.Size.{tree_size, trees_size}
 use Rattle.ilk_forms.specs.Bound.{any_leaf}
-use Rattle.ilk_forms.specs.Gathered.{same_truth, no_literals, literal_or, then_named, gate_part, single_of, single, taken_in, gathered, gathered_each, literal_part}
+use Rattle.ilk_forms.specs.Gathered.{same_truth, no_literals, literal_or, then_named, gate_part, single_of, single, taken_in, gathered, gathered_each}
 use Rattle.ilk_forms.specs.Demand.{some_part, clause_or, demand_of, demand_each}
 
 -- at most one variable and two clauses for each of k, with one clause to spare for each literal
@@ -139,9 +139,6 @@ mutual
       let w = two.vars in
       let d = two.clauses in
       record { vars = omega arith; clauses = omega (arith, length-append p.clauses q.clauses) }
-
-pub literal-few : (t : Tree) (columns : List Column) (n : ℕ) → ((literal_part columns t n).part.vars ≤ n + tree_size t + 1) × (length (literal_part columns t n).part.clauses ≤ 2 * tree_size t + 1)
-literal-few t columns n = single-few true n (tree_size t) (gathered columns true true t n) (gathered-few t columns true true n)
 
 -- the clauses of the formula with a part
 pub with_part-few : (f : Formula) (p : Part) (k : ℕ) → length p.clauses ≤ k → length (with_part f p).clauses ≤ length f.clauses + k

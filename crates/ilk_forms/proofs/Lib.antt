@@ -5,7 +5,6 @@ pub mod GatheredLaw
 pub mod TruthsMean
 pub mod DemandLaw
 pub mod Steps
-pub mod LiteralLaw
 pub mod ViolatedLaw
 pub mod Few
 pub mod CopyTable

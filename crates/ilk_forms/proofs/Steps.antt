@@ -41,18 +41,6 @@ taken_in-made outer inner f h k g ls made is last = last ∙ by_case (same_truth
 pub lits-in : (n : ℕ) (f h : Formula) (g : Named) (ls : List Literal) → Fits n g → h ≡ with_part f g.part → ls ≡ g.lits → clause_in h.vars ls ≡ true
 lits-in n f h g ls fits made is = ap (λ (k : Formula). clause_in k.vars ls) made ∙ ap (clause_in g.part.vars) is ∙ fits.lits
 
--- one literal in place of gathered ones
-pub single-lit : (all : Bool) (f h : Formula) (g : Named) (ls : List Literal) (l : Literal) → h ≡ with_part f g.part → ls ≡ g.lits → l ≡ (single_of all ls h.vars).lit → l ≡ (single all g).lit
-single-lit all f h g ls l made is last =
-    last ∙ ap (λ (ks : List Literal). (single_of all ks h.vars).lit) is ∙ ap (λ (k : Formula). (single_of all g.lits k.vars).lit) made
-
-pub single-made : (all : Bool) (f h k : Formula) (g : Named) (ls : List Literal) → h ≡ with_part f g.part → ls ≡ g.lits → k ≡ with_part h (single_of all ls h.vars).part → k ≡ with_part f (single all g).part
-single-made all f h k g ls made is last =
-    last
-    ∙ ap (λ (ks : List Literal). with_part h (single_of all ks h.vars).part) is
-    ∙ ap (λ (e : Formula). with_part e (single_of all g.lits e.vars).part) made
-    ∙ with_part-and_then f g.part (λ m. (single_of all g.lits m).part)
-
 -- the next form of a list, gathered
 
 pub record Gathering (columns : List Column) (all positive : Bool) (g : Formula) (done : List Literal) (rest : Trees) (whole : List Literal) (end : Formula) : Type 0 where

@@ -76,7 +76,3 @@ abbrev mutual
   gathered_each columns all positive none n = no_literals n
   gathered_each columns all positive (more t ts) n =
       then_named (gathered columns all positive t n) (gathered_each columns all positive ts)
-
--- after n variables, a literal that is true exactly where the form holds
-abbrev pub literal_part : List Column → Tree → ℕ → Single
-literal_part columns t n = single true (gathered columns true true t n)

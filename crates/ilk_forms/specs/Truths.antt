@@ -50,10 +50,6 @@ abbrev mutual
   truths_each ranges ws all positive none = no_truths
   truths_each ranges ws all positive (more t ts) = then_truths (truths ranges ws all positive t) (truths_each ranges ws all positive ts)
 
--- those of a form's literal
-abbrev pub literal_bits : List ℕ → List ℕ → Tree → List Bool
-literal_bits ranges ws t = (truths ranges ws true true t).bits ++ gate_bits true (truths ranges ws true true t).lits
-
 -- those of the demand that a form holds
 abbrev mutual
   pub demand_of_bits : List ℕ → List ℕ → Bool → Tree → List Bool

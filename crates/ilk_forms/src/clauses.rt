@@ -117,7 +117,8 @@ fn demand_each(
 /// values. And at the top becomes several demands, one after another; Or one clause, with Or
 /// within Or taken in; Or of a variable's values up to one is the copy's literal for that, where
 /// there is one; a part that is no literal gets a new variable, which is true exactly where the part
-/// holds. The form is valid over the copy's variables.
+/// holds. The form is valid over the copy's variables. Where memory runs out the formula may have
+/// grown, and its owner drops it.
 pub fn demand(
     alloc: Global,
     cnf: &mut Cnf,

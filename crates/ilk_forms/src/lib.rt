@@ -7,7 +7,7 @@
 //! most this one: where the copy has a literal for that, the Or is this literal (`specs/Bound`). A
 //! part that is no literal gets one new variable, which is true exactly where the part holds
 //! (`specs/Gathered`), so that every assignment of what stood before extends in exactly one way, by
-//! the values of `specs/Truths`. `literal_of` answers a literal for a whole form.
+//! the values of `specs/Truths`.
 //!
 //! Where some form is not to hold, its instances are the parts of And at its top. `some_fails` and
 //! `holds_or_some_fails` give each instance a literal, and `first_violated` demands that some
@@ -20,5 +20,4 @@ mod literals;
 mod violated;
 
 pub use clauses::demand;
-pub use literals::literal_of;
 pub use violated::{first_violated, holds_or_some_fails, some_fails};

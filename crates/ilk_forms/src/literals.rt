@@ -1,17 +1,11 @@
-ghost use Rattle.std.specs.Prelude.{◌≡◌, ℕ, ◌+◌, ◌*◌, ◌≤◌, ◌∷◌, ◌++◌, [], List, Bool, length, OnOk, IfOk, IsTrue};
-ghost use Rattle.ilk_cnf.specs.Extends.{PartExtends, Only};
+ghost use Rattle.std.specs.Prelude.{◌≡◌, ℕ, ◌+◌, ◌∷◌, ◌++◌, [], OnOk, IfOk, IsTrue};
 ghost use Rattle.ilk_cnf.specs.Formula.{lit_in, clause_in};
 ghost use Rattle.ilk_cnf.specs.Literal.{plus};
 ghost use Rattle.ilk_cnf.specs.Part.{with_part, nothing_at};
-ghost use Rattle.ilk_cnf.specs.Truth.{is_true};
 ghost use Rattle.ilk_ir.specs.Form.{tree_of, trees_of};
-ghost use Rattle.ilk_ir.specs.Tree.{tree_holds, tree_valid, each_valid, value_valid};
-ghost use Rattle.ilk_ir.specs.System.{in_ranges};
-ghost use Rattle.ilk_copy.specs.Copy.{LiteralsSay};
+ghost use Rattle.ilk_ir.specs.Tree.{tree_valid, each_valid, value_valid};
 ghost use Rattle.ilk_forms.specs.Leaf.{leaf, columns_in, ranges_of};
-ghost use Rattle.ilk_forms.specs.Gathered.{signed, gate_part, single_of, taken_in, gathered, gathered_each, literal_part};
-ghost use Rattle.ilk_forms.specs.Size.{tree_size};
-ghost use Rattle.ilk_forms.specs.Truths.{literal_bits};
+ghost use Rattle.ilk_forms.specs.Gathered.{signed, gate_part, single_of, taken_in, gathered, gathered_each};
 
 use crate::bound::any_leaf;
 use ilk_cnf::{Cnf, Lit, Lits, all_of, any_of};
@@ -169,30 +163,4 @@ pub fn gather_each(
         push_all(&mut lits, more.as_slice())?;
     }
     Ok(lits)
-}
-
-/// Gives a literal that is true exactly where the form holds of the copy's values: the table's own
-/// where the form is a value of a variable, or Or of its values up to one of which there is a
-/// literal, else the one of a new variable for each part that is no literal. The form is valid over
-/// the copy's variables.
-pub fn literal_of(
-    alloc: Global,
-    cnf: &mut Cnf,
-    table: &Table,
-    form: &Form,
-) -> Result<Lit, AllocError>
-    requires within { IsTrue (columns_in cnf.old.vars table.now) }
-    requires valid { IsTrue (tree_valid (ranges_of table.now) (tree_of form.now)) }
-    ensures lit { IfOk result (λ l. l ≡ (literal_part table.now (tree_of form.now) cnf.old.vars).lit) }
-    ensures made { OnOk result (cnf.new ≡ with_part cnf.old (literal_part table.now (tree_of form.now) cnf.old.vars).part) }
-    ensures law { OnOk result ((a : List Bool) (ranges ws : List ℕ) → length a ≡ cnf.old.vars → LiteralsSay a table.now ranges ws → IsTrue (in_ranges ws ranges) → PartExtends a (literal_part table.now (tree_of form.now) cnf.old.vars).part (Only (literal_bits ranges ws (tree_of form.now)))) }
-    ensures exact { OnOk result ((a c : List Bool) (ranges ws : List ℕ) → length a ≡ cnf.old.vars → LiteralsSay a table.now ranges ws → IsTrue (in_ranges ws ranges) → is_true (a ++ (literal_bits ranges ws (tree_of form.now) ++ c)) (literal_part table.now (tree_of form.now) cnf.old.vars).lit ≡ tree_holds ws (tree_of form.now)) }
-    ensures within { IfOk result (λ l. IsTrue (lit_in cnf.new.vars l)) }
-    ensures more { OnOk result (cnf.old.vars ≤ cnf.new.vars) }
-    ensures vars { OnOk result (cnf.new.vars ≤ cnf.old.vars + tree_size (tree_of form.now) + 1) }
-    ensures clauses { OnOk result (length cnf.new.clauses ≤ length cnf.old.clauses + 2 * tree_size (tree_of form.now) + 1) }
-{
-    let lits = gather(alloc, cnf, table, true, true, form)?;
-    let lit = single(alloc, cnf, true, lits.as_slice())?;
-    Ok(lit)
 }

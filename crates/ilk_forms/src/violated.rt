@@ -91,7 +91,7 @@ fn add_first_violated(alloc: Global, cnf: &mut Cnf, kept: &[Lit]) -> Result<(), 
 /// Demands that one of the instances isn't kept, where each literal says that its instance is. A
 /// new variable for each but the first is false exactly where the instance is the first that isn't
 /// kept, another is true where each so far is kept, and one clause says that some instance is the
-/// first that isn't.
+/// first that isn't. Where memory runs out the formula may have grown, and its owner drops it.
 pub fn first_violated(alloc: Global, cnf: &mut Cnf, kept: &[Lit]) -> Result<(), AllocError>
     requires { IsTrue (clause_in cnf.old.vars kept.now) }
     ensures made { OnOk result (cnf.new ≡ with_part cnf.old (first_violated_part kept.now cnf.old.vars)) }
@@ -163,7 +163,7 @@ fn add_some_fails(
 /// Demands that some of the forms doesn't hold of the copy's values, by the first instance that
 /// isn't kept. The instances are the parts of And at the top of each form, or the form itself.
 /// Where one of these is No, or Or of nothing, nothing is demanded. The forms are valid over the
-/// copy's variables.
+/// copy's variables. Where memory runs out the formula may have grown, and its owner drops it.
 pub fn some_fails(
     alloc: Global,
     cnf: &mut Cnf,
@@ -217,6 +217,7 @@ fn add_holds_or_some_fails(
 /// Demands that the first form holds of the copy's values, or some of the others doesn't, in the
 /// same way: an instance of the first form is a part of Or at its top, which is kept where it
 /// doesn't hold. Or of a variable's values up to one of which there is a literal is one instance.
+/// Where memory runs out the formula may have grown, and its owner drops it.
 pub fn holds_or_some_fails(
     alloc: Global,
     cnf: &mut Cnf,

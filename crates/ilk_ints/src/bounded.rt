@@ -97,7 +97,8 @@ fn rule_out(
 }
 
 /// Adds the variables and the clauses of an integer from 0 to `range` - 1. What stood before
-/// extends over the new variables in exactly one way for each of these values.
+/// extends over the new variables in exactly one way for each of these values. Where memory runs
+/// out the formula may have grown, and its owner drops it.
 pub fn number(alloc: Global, cnf: &mut Cnf, range: u8) -> Result<Bounded, AllocError>
     requires { 0 < range }
     ensures number { IfOk result (λ n. n ≡ record { first = cnf.old.vars + 1; range = range }) }
@@ -112,7 +113,7 @@ pub fn number(alloc: Global, cnf: &mut Cnf, range: u8) -> Result<Bounded, AllocE
 }
 
 /// Adds a variable that is true exactly where the integer has the value, and answers its positive
-/// literal.
+/// literal. Where memory runs out the formula may have grown, and its owner drops it.
 pub fn is(alloc: Global, cnf: &mut Cnf, n: Bounded, value: u8) -> Result<Lit, AllocError>
     requires below { value < n.range }
     requires from_1 { 0 < n.first }

@@ -24,7 +24,7 @@ fn highest_bit_says(range: u8, k: u8) -> bool
 
 /// Gives a literal that is true exactly where the integer is at most `k`: one of a new variable, or
 /// the highest bit's where this says as much. `below` is true where the integer is below `k`, and
-/// `equal` where it is `k`.
+/// `equal` where it is `k`. Where memory runs out the formula may have grown, and its owner drops it.
 pub fn at_most(
     alloc: Global,
     cnf: &mut Cnf,

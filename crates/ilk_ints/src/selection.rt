@@ -51,7 +51,8 @@ fn join_all(cnf: &mut Cnf, queue: Vec<Lit>) -> Result<(), AllocError>
     Ok(())
 }
 
-/// Demands that exactly one of the literals is true.
+/// Demands that exactly one of the literals is true. Where memory runs out the formula may have
+/// grown, and its owner drops it.
 pub fn one_of(alloc: Global, cnf: &mut Cnf, lits: &Clause) -> Result<(), AllocError>
     requires { IsTrue (clause_in cnf.old.vars lits.now) }
     ensures made { OnOk result (cnf.new ≡ with_part cnf.old (one_of_part lits.now cnf.old.vars)) }

@@ -26,7 +26,8 @@ fn add_values(alloc: Global, cnf: &mut Cnf, n: Bounded) -> Result<Lits, AllocErr
 }
 
 /// A literal for each value of the integer, true exactly where the integer has it. Of two values
-/// the one bit's serve, and nothing is added.
+/// the one bit's serve, and nothing is added. Where memory runs out the formula may have grown, and
+/// its owner drops it.
 pub fn values(alloc: Global, cnf: &mut Cnf, n: Bounded) -> Result<Lits, AllocError>
     requires from_1 { 0 < n.first }
     requires within { n.first + bit_count n.range ≤ cnf.old.vars + 1 }
@@ -120,7 +121,8 @@ fn bounds_of(alloc: Global, cnf: &mut Cnf, n: Bounded, values: &[Lit]) -> Result
 
 /// A literal for each k from 1 on, as far as two values of the integer or more lie on each side and
 /// there are no more variables than two a value: true exactly where the integer is at most k.
-/// `values` are the literals of its values, as `values` gives them.
+/// `values` are the literals of its values, as `values` gives them. Where memory runs out the
+/// formula may have grown, and its owner drops it.
 pub fn bounds(alloc: Global, cnf: &mut Cnf, n: Bounded, values: &[Lit]) -> Result<Lits, AllocError>
     requires from_1 { 0 < n.first }
     requires within { n.first + bit_count n.range ≤ cnf.old.vars + 1 }

@@ -73,7 +73,7 @@ filter-same p q (m ∷ c) f =
     ]
 
 -- the literals that are set, of those in hand
-lower-set : (f : Formula) (t : TrailList) (h : Hand) (es : List Entry) (s : Step) → Walking f.vars f.clauses t.entries es s → Keeps t h s → all_set t h.lower ≡ true
+lower-set : (f : Formula) (t : TrailList) (h : Hand) (es : List Entry) (s : Step) → Walking f.vars f.clauses t.entries es s → Keeps t h s → all_set t h.lower.items ≡ true
 lower-set f t h es s w k =
     let q : Literal → Bool = λ m. not (is_current t.entries m) in
     ap (all_set t) k.holds.rest
@@ -90,7 +90,7 @@ far-point f t h c n i e trail k q at p =
     let one = and_parts (nat_lt 0 (level_of t.entries)) (eqb (length (filter (is_current t.entries) s.clause)) 1) parts.1 in
     let has = has-point f.vars f.clauses t.entries e es s w parts.0 in
     let current = entry-current f t h c n i e trail k q at in
-    let lower : without_variable e.lit.var s.clause ≡ h.lower = filter-same (λ m. not (eqb m.var e.lit.var)) (λ m. not (is_current t.entries m)) s.clause (λ m a. ap not (agree m a has current one.1)) ∙ sym k.keeps.holds.rest in
+    let lower : without_variable e.lit.var s.clause ≡ h.lower.items = filter-same (λ m. not (eqb m.var e.lit.var)) (λ m. not (is_current t.entries m)) s.clause (λ m a. ap not (agree m a has current one.1)) ∙ sym k.keeps.holds.rest in
     let found : up_to_point f.clauses t.entries (e ∷ es) s ≡ record s { clause = point_first t.entries e.lit s.clause } = rw p refl in
     record {
       set = lower-set f t h (e ∷ es) s w k.keeps;
@@ -98,7 +98,7 @@ far-point f t h c n i e trail k q at p =
           ∙ ap (λ (xs : List Entry). up_to_point f.clauses t.entries xs s) (ap (λ (m : ℕ). reverse (take m t.entries)) q ∙ reverse-one-more t.entries i e at)
           ∙ found
           ∙ ap (λ (xs : List Literal). let r : Step = record { clause = opposite e.lit ∷ highest_first t.entries xs; hints = s.hints } in r) lower
-          ∙ ap (λ (hs : List ℕ). let r : Step = record { clause = opposite e.lit ∷ highest_first t.entries h.lower; hints = hs } in r) k.keeps.hinted;
+          ∙ ap (λ (hs : List ℕ). let r : Step = record { clause = opposite e.lit ∷ highest_first t.entries h.lower.items; hints = hs } in r) k.keeps.hinted;
     }
   where
     agree : (m : Literal) → has_lit m k.step.clause ≡ true → has_lit (opposite e.lit) k.step.clause ≡ true → is_current t.entries e.lit ≡ true → eqb (length (filter (is_current t.entries) k.step.clause)) 1 ≡ true → eqb m.var e.lit.var ≡ is_current t.entries m

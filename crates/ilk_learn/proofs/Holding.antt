@@ -202,10 +202,6 @@ reason-known f t v r form same reasons set h =
         ]
 
 -- what holds of each result that is no fault
-pub on-ok : {T E P : Type 0} (r : Result T E) → P → OnOk r P
-on-ok (Ok x) p = p
-on-ok (Err e) p = tt
-
 pub both-ok : {T E P Q R : Type 0} (r : Result T E) → OnOk r P → OnOk r Q → (P → Q → R) → OnOk r R
 both-ok (Ok x) p q f = f p q
 both-ok (Err e) p q f = tt
@@ -227,17 +223,17 @@ keeps-same t clauses h e s v at m k =
     subst P (sym (resolved-not clauses e s none)) k
 
 -- one whose variable it has is resolved with
-pub keeps-resolved : (t : TrailList) (clauses : List (List Literal)) (old new : Hand) (e : Entry) (s : Step) (v r : ℕ) → entry_of t.entries v ≡ Some e → option_map (λ (x : Entry). x.reason) (entry_of t.entries v) ≡ Some (Some r) → get_or old.marks.items v false ≡ true → Keeps t old s → ((k : List Literal) → HoldsClause t old.marks.items old.current old.lower k → has_var v k ≡ true → HoldsClause t new.marks.items new.current new.lower (resolvent v k (clause_at clauses r))) → new.hints ≡ old.hints ++ (r + 1) ∷ [] → Keeps t new (resolved clauses e s)
+pub keeps-resolved : (t : TrailList) (clauses : List (List Literal)) (old new : Hand) (e : Entry) (s : Step) (v r : ℕ) → entry_of t.entries v ≡ Some e → option_map (λ (x : Entry). x.reason) (entry_of t.entries v) ≡ Some (Some r) → get_or old.marks.items v false ≡ true → Keeps t old s → ((k : List Literal) → HoldsClause t old.marks.items old.current old.lower.items k → has_var v k ≡ true → HoldsClause t new.marks.items new.current new.lower.items (resolvent v k (clause_at clauses r))) → new.hints.items ≡ old.hints.items ++ (r + 1) ∷ [] → Keeps t new (resolved clauses e s)
 keeps-resolved t clauses old new e s v r at why m k f g =
     let q = entry-var t.entries v e at in
     let has : has_var v s.clause ≡ true = sym (k.holds.marked v) ∙ m in
     let has-e : has_var e.lit.var s.clause ≡ true = ap (λ (w : ℕ). has_var w s.clause) q ∙ has in
     let reason : e.reason ≡ Some r = same_Some e.reason (Some r) (sym (ap (option_map (λ (x : Entry). x.reason)) at) ∙ why) in
     let P : Step → Type 0 = λ x. Keeps t new x in
-    let Q : ℕ → Type 0 = λ w. HoldsClause t new.marks.items new.current new.lower (resolvent w s.clause (clause_at clauses r)) in
+    let Q : ℕ → Type 0 = λ w. HoldsClause t new.marks.items new.current new.lower.items (resolvent w s.clause (clause_at clauses r)) in
     subst P (sym (resolved-is clauses e s r has-e reason)) (record {
       holds = subst Q (sym q) (f s.clause k.holds has);
-      hinted = ap (λ (hs : List ℕ). (r + 1) ∷ hs) k.hinted ∙ sym (ap reverse g ∙ reverse-append old.hints ((r + 1) ∷ []));
+      hinted = ap (λ (hs : List ℕ). (r + 1) ∷ hs) k.hinted ∙ sym (ap reverse g ∙ reverse-append old.hints.items ((r + 1) ∷ []));
     })
 
 -- a clause over different variables, literal by literal
@@ -270,9 +266,9 @@ conflict-set f t c form k =
       list_all-slice_get vars_differ f.clauses c d form.differ at,
     )
 
-pub started-keeps : (f : Formula) (t : TrailList) (h : Hand) (c : ℕ) → IsFormula f → IsConflict f t c → HoldsClause t h.marks.items h.current h.lower (with_each_lit [] (clause_at f.clauses c)) → h.hints ≡ (c + 1) ∷ [] → Keeps t h (conflict_step f.clauses c)
+pub started-keeps : (f : Formula) (t : TrailList) (h : Hand) (c : ℕ) → IsFormula f → IsConflict f t c → HoldsClause t h.marks.items h.current h.lower.items (with_each_lit [] (clause_at f.clauses c)) → h.hints.items ≡ (c + 1) ∷ [] → Keeps t h (conflict_step f.clauses c)
 started-keeps f t h c form k holds hints =
-    let P : List Literal → Type 0 = λ x. HoldsClause t h.marks.items h.current h.lower x in
+    let P : List Literal → Type 0 = λ x. HoldsClause t h.marks.items h.current h.lower.items x in
     record {
       holds = subst P (joined-alone (clause_at f.clauses c) (conflict-set f t c form k).1) holds;
       hinted = sym (ap reverse hints);

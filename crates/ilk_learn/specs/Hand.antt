@@ -27,12 +27,12 @@ pub record HoldsClause (t : TrailList) (marks : List Bool) (current : ℕ) (lowe
 
 -- the same of the fields
 abbrev pub HandHolds : TrailList → Hand → List Literal → Type 0
-HandHolds t h c = HoldsClause t h.marks.items h.current h.lower c
+HandHolds t h c = HoldsClause t h.marks.items h.current h.lower.items c
 
 -- the fields hold the clause of a step, and its hints, the last of them first
 pub record Keeps (t : TrailList) (h : Hand) (s : Step) : Type 0 where
-  pub holds : HoldsClause t h.marks.items h.current h.lower s.clause
-  pub hinted : s.hints ≡ reverse h.hints
+  pub holds : HoldsClause t h.marks.items h.current h.lower.items s.clause
+  pub hinted : s.hints ≡ reverse h.hints.items
 
 -- the clause at point l, where there is one, with the literals of lower levels
 abbrev pub ended : List Entry → Option Literal → List Literal → List Literal
@@ -41,8 +41,8 @@ ended entries (Some l) lower = opposite l ∷ highest_first entries lower
 
 -- the walk for the conflict at clause c ended at this point
 pub record Reached (t : TrailList) (clauses : List (List Literal)) (c : ℕ) (h : Hand) (point : Option Literal) : Type 0 where
-  pub set : IsTrue (all_set t h.lower)
-  pub is : learned clauses t.entries c ≡ record { clause = ended t.entries point h.lower; hints = reverse h.hints }
+  pub set : IsTrue (all_set t h.lower.items)
+  pub is : learned clauses t.entries c ≡ record { clause = ended t.entries point h.lower.items; hints = reverse h.hints.items }
 
 -- where the walk for the conflict at clause c begins
 abbrev pub conflict_step : List (List Literal) → ℕ → Step

@@ -95,10 +95,10 @@ fn analysed(
     let mut hand = started(alloc, clauses, trail, conflict)?;
     let point = hand.walk(clauses, trail, conflict)?;
     let clause = match point {
-        Some(lit) => clause_at_point(alloc, trail, lit, &hand.lower)?,
+        Some(lit) => clause_at_point(alloc, trail, lit, hand.lower.as_slice())?,
         None => Lits::new(alloc),
     };
-    let hints = turned(alloc, &hand.hints)?;
+    let hints = turned(alloc, hand.hints.as_slice())?;
     fitted(alloc, &clause, hints)
 }
 
@@ -130,7 +130,12 @@ fn started(
 }
 
 // The clause with the opposite of `lit` first, and next one of the highest level of the others.
-fn clause_at_point(alloc: Global, trail: &Trail, lit: Lit, lower: &Lits) -> Result<Lits, AllocError>
+fn clause_at_point(
+    alloc: Global,
+    trail: &Trail,
+    lit: Lit,
+    lower: &[Lit],
+) -> Result<Lits, AllocError>
     requires { IsTrue (all_set trail.now lower.now) }
     ensures { IfOk result (λ c. c ≡ opposite lit ∷ highest_first trail.now.entries lower.now) }
 {
@@ -143,12 +148,11 @@ fn clause_at_point(alloc: Global, trail: &Trail, lit: Lit, lower: &Lits) -> Resu
 }
 
 // The clause with this literal, and then the others, at its end.
-fn with_first(mut clause: Lits, first: Lit, lits: &Lits) -> Result<Lits, AllocError>
+fn with_first(mut clause: Lits, first: Lit, lits: &[Lit]) -> Result<Lits, AllocError>
     ensures { IfOk result (λ c. c ≡ clause ++ (first ∷ without_variable first.var lits.now)) }
 {
     clause.push(first)?;
-    let items = lits.as_slice();
-    for other in items {
+    for other in lits {
         if other.var() != first.var() {
             clause.push(*other)?;
         }
@@ -157,13 +161,12 @@ fn with_first(mut clause: Lits, first: Lit, lits: &Lits) -> Result<Lits, AllocEr
 }
 
 // The first literal of the highest level.
-fn first_highest(trail: &Trail, lits: &Lits) -> Option<Lit>
+fn first_highest(trail: &Trail, lits: &[Lit]) -> Option<Lit>
     requires { IsTrue (all_set trail.now lits.now) }
     ensures { result ≡ find (λ l. level_at trail.now.entries l == highest_level trail.now.entries lits.now) lits.now }
 {
     let top = top_level(trail, lits);
-    let items = lits.as_slice();
-    for lit in items {
+    for lit in lits {
         if trail.level_of(*lit) == top {
             return Some(*lit);
         }
@@ -172,13 +175,12 @@ fn first_highest(trail: &Trail, lits: &Lits) -> Option<Lit>
 }
 
 // The highest level of the literals, 0 where there are none.
-fn top_level(trail: &Trail, lits: &Lits) -> u64
+fn top_level(trail: &Trail, lits: &[Lit]) -> u64
     requires { IsTrue (all_set trail.now lits.now) }
     ensures { result ≡ highest_level trail.now.entries lits.now }
 {
     let mut top = 0;
-    let items = lits.as_slice();
-    for lit in items {
+    for lit in lits {
         top = top.max(trail.level_of(*lit));
     }
     top
@@ -197,14 +199,14 @@ fn level_below(trail: &Trail, clause: &Lits) -> u64
 }
 
 // The hints from the last on, in memory of just their size.
-fn turned(alloc: Global, hints: &Hints) -> Result<Hints, AllocError>
+fn turned(alloc: Global, hints: &[u64]) -> Result<Hints, AllocError>
     ensures { IfOk result (λ h. h ≡ reverse hints.now) }
 {
-    let mut turned = Hints::with_capacity(alloc, hints.len())?;
+    let mut turned = Hints::with_capacity(alloc, hints.len() as u64)?;
     let mut i = hints.len();
     while i > 0 {
         i -= 1;
-        turned.push(hints.at(i))?;
+        turned.push(hints[i])?;
     }
     Ok(turned)
 }

@@ -15,12 +15,15 @@ ghost use Rattle.ilk_learn.specs.Learning.{is_implication_point, resolved};
 ghost use Rattle.ilk_learn.specs.Hand.{HandHolds, IsConflict, Keeps, Reached, all_set, conflict_step};
 
 use ilk_clauses::Clauses;
-use ilk_cnf::{Lit, Lits};
-use ilk_log::Hints;
+use ilk_cnf::Lit;
 use ilk_trail::Trail;
+use smallvec::SmallVec;
 use std::alloc::{AllocError, Global};
 
-// A clause, and the hints that show it.
+// How many lower literals, and how many hints, stand in the hand itself.
+const SHORT: usize = 16;
+
+// A clause, and the hints that show it. Short ones take no memory of their own.
 #[derive(Drop)]
 pub struct Hand {
     // by variable: whether the clause has a literal of it
@@ -28,9 +31,9 @@ pub struct Hand {
     // how many of its literals were set at the current level
     pub current: u64,
     // its other literals
-    pub lower: Lits,
+    pub lower: SmallVec<Lit, SHORT>,
     // the last of them first
-    pub hints: Hints,
+    pub hints: SmallVec<u64, SHORT>,
 }
 
 impl Hand {
@@ -39,13 +42,13 @@ impl Hand {
         requires few { vars < 2 ^ 63 }
         requires vars { vars ≡ trail.now.vars }
         ensures holds { IfOk result (λ h. HandHolds trail.now h []) }
-        ensures hints { IfOk result (λ h. h.hints ≡ []) }
+        ensures hints { IfOk result (λ h. h.hints.items ≡ []) }
     {
         Ok(Hand {
             marks: vec![in alloc; false; vars as usize + 1]?,
             current: 0,
-            lower: Lits::new(alloc),
-            hints: Hints::new(alloc),
+            lower: SmallVec::new(alloc),
+            hints: SmallVec::new(alloc),
         })
     }
 
@@ -99,12 +102,13 @@ impl Hand {
         requires numbered { reason + 1 < 2 ^ 64 }
         requires set { IsTrue (all_set trail.now (clause_at clauses.now.clauses reason)) }
         ensures holds { OnOk result ((k : List Literal) → HandHolds trail.now self.old k → IsTrue (has_var lit.var k) → HandHolds trail.now self.new (resolvent lit.var k (clause_at clauses.now.clauses reason))) }
-        ensures hints { OnOk result (self.new.hints ≡ self.old.hints ++ (reason + 1) ∷ []) }
+        ensures hints { OnOk result (self.new.hints.items ≡ self.old.hints.items ++ (reason + 1) ∷ []) }
     {
         self.join(clauses, trail, reason)?;
         self.marks[lit.var() as usize] = false;
         self.current -= 1;
-        self.hints.push(reason + 1)
+        self.hints.push(reason + 1)?;
+        Ok(())
     }
 
     // Passes the entry of `lit`: where the clause has its variable, resolves with its reason.

@@ -1,4 +1,4 @@
-ghost use Rattle.std.specs.Prelude.{◌≡◌, ◌≤◌};
+ghost use Rattle.std.specs.Prelude.{◌≡◌, ◌≤◌, Bool, if◌then◌else◌};
 
 /// When a search goes back to its start: a function of the number of steps so far that have a
 /// literal. It is asked after each of them.
@@ -19,7 +19,8 @@ impl Restart {
 
     // The level to go back to after so many steps: the start where a restart is due, and else `level`.
     pub(crate) fn level_after(&self, steps: u64, level: u64) -> u64
-        ensures { result ≤ level }
+        ensures answered { (due : Bool) × post self.now.asks steps due × result ≡ (if due then 0 else level) }
+        ensures level { result ≤ level }
     {
         if self.is_due(steps) { 0 } else { level }
     }

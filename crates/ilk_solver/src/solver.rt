@@ -30,7 +30,9 @@ impl Solver {
         picker: Picker,
         restart: Restart,
     ) -> Result<Solver, AllocError>
-        ensures { IfOk result (λ solver. solver.search ≡ new_search cnf.now) }
+        ensures search { IfOk result (λ solver. solver.search ≡ new_search cnf.now) }
+        ensures picker { IfOk result (λ solver. solver.picker ≡ picker) }
+        ensures restart { IfOk result (λ solver. solver.restart ≡ restart) }
     {
         Ok(Solver {
             search: Search::new(alloc, cnf)?,

@@ -20,7 +20,8 @@ use std::alloc::{AllocError, Global};
 /// Adds one step from the copy with the literals `now` to the copy with the literals `next`, by
 /// exactly one of the rules: the rule's guard holds in the one copy, the next has what it sets, and
 /// all else keeps its value. The copies are of the same ranges, and the rules are valid over them.
-/// It answers the variables that say which rule is chosen.
+/// It answers the variables that say which rule is chosen. Where memory runs out the formula may
+/// have grown, and its owner drops it.
 pub fn add_step(
     alloc: Global,
     cnf: &mut Cnf,

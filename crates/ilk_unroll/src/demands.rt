@@ -172,7 +172,8 @@ fn add_step_query(
     Ok(())
 }
 
-/// What the query demands of the copies.
+/// What the query demands of the copies. Where memory runs out the formula may have grown, and its
+/// owner drops it.
 pub fn add_demands(
     alloc: Global,
     cnf: &mut Cnf,

@@ -73,7 +73,8 @@ fn bytes_of(ranges: &[u8]) -> &[u8]
     ranges
 }
 
-/// Adds a copy for the first values and one after each step, and then the steps.
+/// Adds a copy for the first values and one after each step, and then the steps. Where memory runs
+/// out the formula may have grown, and its owner drops it.
 pub fn unroll(
     alloc: Global,
     cnf: &mut Cnf,

@@ -1,4 +1,5 @@
 use Rattle.std.proofs.Common.{◌+◌, ◌++◌, ◌∷◌, [], ℕ, List, ap, ◌∙◌}
+use Rattle.smallvec.specs.SmallVec.{SmallVec}
 use Rattle.ilk_clauses.specs.Chained.{formula_of}
 use Rattle.ilk_learn.proofs.Holding.{conflict-set, started-keeps}
 use Rattle.ilk_learn.proofs.analysis.started.Goals as goal
@@ -9,5 +10,5 @@ join-requires-clause-set c =
 
 pub returns : goal.returns
 returns c =
-    let hints = c.in_ok-push.ensures.ok ∙ ap (λ (hs : List ℕ). hs ++ (c.args.conflict + 1) ∷ []) (c.join.ensures.hints ∙ c.in_ok-hand.ensures.hints) in
+    let hints = c.in_ok-push.ensures.ok ∙ ap (λ (hs : List ℕ). hs ++ (c.args.conflict + 1) ∷ []) (ap (λ (hs : SmallVec ℕ). hs.items) c.join.ensures.hints ∙ c.in_ok-hand.ensures.hints) in
     started-keeps (formula_of c.args.clauses.now) c.args.trail.now _ c.args.conflict c.count-count.ensures.formula c.requires (c.in_ok-join.ensures.holds [] c.in_ok-hand.ensures.holds) hints

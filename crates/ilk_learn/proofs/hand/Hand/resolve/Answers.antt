@@ -1,7 +1,7 @@
 use Rattle.ilk_clauses.specs.Reasons.{clause_at}
 use Rattle.ilk_learn.specs.Resolvent.{with_each_lit}
 use Rattle.ilk_learn.proofs.Members.{joined-var-left}
-use Rattle.ilk_learn.proofs.Holding.{on-ok, some-current, holds-drop}
+use Rattle.ilk_learn.proofs.Holding.{some-current, holds-drop}
 use Rattle.ilk_learn.proofs.hand.Hand.resolve.Goals as goal
 
 pub overflow_sub-self : goal.overflow_sub-self
@@ -9,9 +9,11 @@ overflow_sub-self c =
     let h = c.requires.held in
     let d = clause_at c.args.clauses.now.clauses c.args.reason in
     let s = c.join.new.self in
-    some-current c.args.trail.now s.marks.items s.current s.lower (with_each_lit h.0 d) c.args.lit (c.in_ok-join.ensures.holds h.0 h.1) (joined-var-left c.args.lit.var h.0 d h.2) c.requires.current
+    some-current c.args.trail.now s.marks.items s.current s.lower.items (with_each_lit h.0 d) c.args.lit (c.in_ok-join.ensures.holds h.0 h.1) (joined-var-left c.args.lit.var h.0 d h.2) c.requires.current
 
 pub returns-clause-holds : goal.returns-clause-holds
-returns-clause-holds c = on-ok c.push.result (λ k h v. (let d = clause_at c.args.clauses.now.clauses c.args.reason in
+returns-clause-holds c =
+    λ k h v.
+    let d = clause_at c.args.clauses.now.clauses c.args.reason in
     let s = c.join.new.self in
-    rw c.var.ensures (holds-drop c.args.trail.now s.marks.items s.current s.lower (with_each_lit k d) c.args.lit (c.in_ok-join.ensures.holds k h) c.requires.within (joined-var-left c.args.lit.var k d v) c.requires.current)))
+    rw c.var.ensures (holds-drop c.args.trail.now s.marks.items s.current s.lower.items (with_each_lit k d) c.args.lit (c.in_ok-join.ensures.holds k h) c.requires.within (joined-var-left c.args.lit.var k d v) c.requires.current)
