@@ -26,7 +26,6 @@ use Rattle.ilk_queries.proofs.Answered.{first-values, to-asked}
 use Rattle.ilk_queries.proofs.Lifted.{lifted}
 use Rattle.ilk_induct.specs.Evidence.{HasRun}
 use Rattle.ilk_induct.specs.Right.{IsBreach, IsNotInductive, IsRight, IsRun, IsUnsafe}
-use Rattle.ilk_induct.specs.declared.verdict.Verdict.{Verdict as SystemVerdict}
 use Rattle.ilk_induct.specs.declared.verdict.Verdict.TheVariants as system
 use Rattle.ilk_engine.specs.Right.{IsRightFor, broken_after, hazard_after}
 use Rattle.ilk_engine.specs.declared.verdict.Verdict.TheVariants.{Safe, Unsafe, Breach, NotInductive}

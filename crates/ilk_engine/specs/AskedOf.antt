@@ -1,7 +1,6 @@
 -- What was asked for a verdict on a plant: what was asked of its finite system, where the events are those of the rules.
 use Rattle.std.specs.Prelude.{ℕ, ◌≡◌, Some, List}
 use Rattle.ilk_plant.specs.Plant.{PlantLists}
-use Rattle.ilk_model.specs.declared.event.Event.{Event}
 use Rattle.ilk_layout.specs.Image.{image_of}
 use Rattle.ilk_behave.specs.Behaviour.{system_of}
 use Rattle.ilk_unroll.specs.declared.reading.Trace.{Trace}

@@ -22,7 +22,7 @@ pub record IsLogOf (s : SystemTree) (g : GoalTree) (a : Asked) : Type 0 where
   pub fresh : EachFresh (query_formula s g a.query).clauses a.log
 
 -- what came of a query after which the next is asked: a hazard query is refuted; so is a breach query, but for
--- the one of so many steps; a step query is satisfiable
+-- that of the breach which was found; a step query is satisfiable
 abbrev pub IsPassed : SystemTree → GoalTree → Option ℕ → Wanted → List LogStep → Type 0
 IsPassed s g breach (Hazard n) log = IsRefuted s g (Hazard n) log
 IsPassed s g breach (Breach n) log = IsRefuted s g (Breach n) log ⊎ (breach ≡ Some n)

@@ -12,7 +12,7 @@ use Rattle.ilk_unroll.specs.declared.queries.Wanted.TheVariants.{Hazard, Breach 
 use Rattle.ilk_behave.specs.Behaviour.{system_of}
 use Rattle.ilk_queries.specs.Asked.{HasEvents}
 use Rattle.ilk_queries.specs.Goal.{goal_of}
-use Rattle.ilk_queries.specs.Satisfied.{IsSatisfiable}
+use Rattle.ilk_unroll.specs.Satisfied.{IsSatisfiable}
 use Rattle.ilk_engine.specs.CertificateOf.{IsCertificateOf}
 use Rattle.ilk_engine.specs.Forever.{LastsFor}
 use Rattle.ilk_engine.specs.Right.{IsRightFor}
