@@ -1,0 +1,4 @@
+pub mod Alike
+pub mod Reading
+pub mod Strict
+pub mod Frames

@@ -1,0 +1,2 @@
+//! A strict table keeps the invariant.
+#![tactic(auto)]
