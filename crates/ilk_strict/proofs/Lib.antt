@@ -1,7 +1,9 @@
+pub mod Heads
+pub mod Ahead
 pub mod Alike
-pub mod Reading
-pub mod Strict
 pub mod Frames
-pub mod Table
+pub mod Reading
 pub mod RouteFacts
+pub mod Strict
+pub mod Table
 pub mod TrainFacts
