@@ -1,7 +1,10 @@
-pub mod Heads
+pub mod After
 pub mod Ahead
 pub mod Alike
 pub mod Frames
+pub mod Heads
+pub mod KeepsV1
+pub mod KeepsV2
 pub mod Reading
 pub mod RouteFacts
 pub mod Strict
