@@ -5,6 +5,7 @@ pub mod Frames
 pub mod Heads
 pub mod KeepsV1
 pub mod KeepsV2
+pub mod KeepsV3
 pub mod Reading
 pub mod RouteFacts
 pub mod Strict
