@@ -1,6 +1,7 @@
 pub mod After
 pub mod Ahead
 pub mod Alike
+pub mod Boards
 pub mod Frames
 pub mod Heads
 pub mod KeepsV1
@@ -11,3 +12,4 @@ pub mod RouteFacts
 pub mod Strict
 pub mod Table
 pub mod TrainFacts
+pub mod Trains
