@@ -7,6 +7,9 @@ pub mod Heads
 pub mod KeepsV1
 pub mod KeepsV2
 pub mod KeepsV3
+pub mod KeepsV4
+pub mod KeepsV5
+pub mod KeepsV9
 pub mod Reading
 pub mod RouteFacts
 pub mod Strict
