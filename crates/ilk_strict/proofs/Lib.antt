@@ -9,7 +9,9 @@ pub mod KeepsV2
 pub mod KeepsV3
 pub mod KeepsV4
 pub mod KeepsV5
+pub mod KeepsV6
 pub mod KeepsV9
+pub mod Points
 pub mod Reading
 pub mod RouteFacts
 pub mod Strict

@@ -26,6 +26,12 @@ use Rattle.ilk_routes.specs.Claims.{sections_beside, wanted_points}
 use Rattle.ilk_routes.specs.Lies.{listed_position, lists_point}
 use Rattle.ilk_strict.proofs.Reading.{section-at, section-from}
 
+-- the points of some entries
+pub listed-mapped : (entries : List Listed) (j : ℕ) (one : Listed) → slice_get entries j ≡ Some one → slice_get (map (λ (it : Listed). it.point) entries) j ≡ Some one.point
+listed-mapped [] j one at = cc
+listed-mapped (y ∷ entries) zero one at = ap (λ (it : Listed). Some it.point) (same_Some y one at)
+listed-mapped (y ∷ entries) (suc j) one at = listed-mapped entries j one at
+
 module _ (p : PlantLists) (route : Route) (of : IsRouteOf p route) where
   -- a section stands at one place of a path alone
   pub path-once : (i j x : ℕ) → slice_get route.path i ≡ Some x → slice_get route.path j ≡ Some x → i ≡ j
@@ -62,13 +68,8 @@ module _ (p : PlantLists) (route : Route) (of : IsRouteOf p route) where
   pub wanted-locked : (k : ℕ) (listed : Listed) → slice_get (wanted_points route) k ≡ Some listed → has_section listed.point (sections_locked_for route) ≡ true
   wanted-locked k listed here = elim (at-either route.points route.protecting_points k listed here) [
     | inl first ↦ list_any-append (λ y. y == listed.point) (sections_of route) (protecting_points_of route) ∙ or_left (has_section listed.point (sections_of route)) (has_section listed.point (protecting_points_of route)) (listed-passed first.0 listed first.1)
-    | inr second ↦ list_any-append (λ y. y == listed.point) (sections_of route) (protecting_points_of route) ∙ or_right (has_section listed.point (sections_of route)) (has_section listed.point (protecting_points_of route)) (section-from (protecting_points_of route) second.0 listed.point (mapped route.protecting_points second.0 listed second.1))
+    | inr second ↦ list_any-append (λ y. y == listed.point) (sections_of route) (protecting_points_of route) ∙ or_right (has_section listed.point (sections_of route)) (has_section listed.point (protecting_points_of route)) (section-from (protecting_points_of route) second.0 listed.point (listed-mapped route.protecting_points second.0 listed second.1))
   ]
-    where
-      mapped : (xs : List Listed) (j : ℕ) (one : Listed) → slice_get xs j ≡ Some one → slice_get (map (λ (it : Listed). it.point) xs) j ≡ Some one.point
-      mapped [] j one at = cc
-      mapped (y ∷ xs) zero one at = ap (λ (it : Listed). Some it.point) (same_Some y one at)
-      mapped (y ∷ xs) (suc j) one at = mapped xs j one at
 
 -- a section of the path, or beside it, is one of those that are locked for the route
 pub path-locked_for : (route : Route) (i x : ℕ) → slice_get route.path i ≡ Some x → has_section x (sections_locked_for route) ≡ true
