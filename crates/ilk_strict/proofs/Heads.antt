@@ -54,7 +54,7 @@ pub record GoesOn (p : PlantLists) (s : State) (x : ℕ) (d : Dir) (y : ℕ) : T
   pub vacant : (j z : ℕ) → k ≤ j → slice_get route.path j ≡ Some z → is_occupied s z ≡ false
   -- a train at the board passes it while it is Open, and it is that of the route, which is Locked; without a board the
   -- route is Occupied, or Locked with its source Closed
-  pub board : ((board_of p x d ≡ Some route.source) × (now.mode ≡ Locked) × (k ≡ 0)) ⊎ ((board_of p x d ≡ None) × ((now.mode ≡ Occupied) ⊎ ((now.mode ≡ Locked) × (slice_get s.boards route.source ≡ Some Closed))))
+  pub board : ((board_of p x d ≡ Some route.source) × (now.mode ≡ Locked) × (k ≡ 0) × (slice_get s.boards route.source ≡ Some Open)) ⊎ ((board_of p x d ≡ None) × ((now.mode ≡ Occupied) ⊎ ((now.mode ≡ Locked) × (slice_get s.boards route.source ≡ Some Closed))))
 
 open-is : (aspect : Aspect) → is_open aspect ≡ true → aspect ≡ Open
 open-is Open h = refl
@@ -108,7 +108,7 @@ module _ (p : PlantLists) (plant : IsPlant p) (strict : IsStrict p) (s : State) 
         least = omega (arith, none_released);
         seen = omega (arith, none_seen);
         vacant = λ j z less at. open_for.vacant j z at;
-        board = inl (board ∙ ap Some (sym open_for.source), open_for.mode, refl);
+        board = inl (board ∙ ap Some (sym open_for.source), open_for.mode, refl, ap (slice_get s.boards) open_for.source ∙ may);
       }
 
   -- a point that faces ahead on a path leads to the next section of the path
