@@ -10,7 +10,9 @@ pub mod KeepsV3
 pub mod KeepsV4
 pub mod KeepsV5
 pub mod KeepsV6
+pub mod KeepsTrainsApart
 pub mod KeepsV7
+pub mod KeepsV8
 pub mod KeepsV9
 pub mod Points
 pub mod Reading
