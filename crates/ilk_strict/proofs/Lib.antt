@@ -10,6 +10,7 @@ pub mod KeepsV3
 pub mod KeepsV4
 pub mod KeepsV5
 pub mod KeepsV6
+pub mod Invariant
 pub mod KeepsPointsRight
 pub mod KeepsTrainsApart
 pub mod KeepsV7
