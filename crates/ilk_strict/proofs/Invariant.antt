@@ -1,6 +1,6 @@
 -- The start meets the invariant, and an event leads from a state that meets it only to states that meet it, where the table
 -- has what strict safety uses. So every run from the start, of whatever length, ends in a state that meets it.
-use Rattle.std.proofs.Common.{◌≡◌, ℕ, Bool, true, false, Option, Some, None, List, [], ◌∷◌, IfOk, Result, Ok, Err, is_none, length, slice_get, refl, sym, ap, ◌∙◌, subst}
+use Rattle.std.proofs.Common.{◌≡◌, ℕ, Bool, true, false, Option, Some, None, List, [], ◌∷◌, IfOk, OnErr, OnOk, unwrap_or, Result, Ok, Err, is_none, length, slice_get, refl, sym, ap, ◌∙◌, subst}
 use Rattle.std.proofs.lemmas.Option.{cond_some, option_and_then_some, same_Some}
 use Rattle.std.specs.declared.alloc.AllocError.{AllocError}
 use Rattle.ilk_base.proofs.Lists.{copied}
@@ -15,6 +15,7 @@ use Rattle.ilk_plant.specs.declared.state.RouteState.{RouteState}
 use Rattle.ilk_plant.specs.declared.state.State.{State}
 use Rattle.ilk_plant.specs.declared.table.Route.{Route}
 use Rattle.ilk_plant.proofs.Shapes.{start-shape}
+use Rattle.ilk_plant.proofs.Steps.{after_step}
 use Rattle.ilk_motion.proofs.Shape.{after_enter-shape, after_head-shape, after_leave-shape, after_tail-shape}
 use Rattle.ilk_routes.proofs.Shape.{after_allocate-shape, after_cancel-shape, after_finish-shape, after_lock-shape, after_mark-shape, after_release-shape, after_sense-shape, after_settle-shape, after_throw-shape}
 use Rattle.ilk_model.specs.Event.{next}
@@ -315,6 +316,11 @@ pub forever-safe : (p : PlantLists) → IsPlant p → IsStrict p → (events : L
 forever-safe p plant strict events t e = meets-run p plant strict events (start p) t (start-meets p) e
 
 -- a start that was made meets the invariant
-pub begun-meets : (p : PlantLists) (r : Result State AllocError) → IfOk r (λ s. s ≡ start p) → IfOk r (Meets p)
-begun-meets p (Ok s) e = subst (Meets p) (sym e) (start-meets p)
-begun-meets p (Err e) h = tt
+pub begun_meets : (p : PlantLists) (r : Result State AllocError) → IfOk r (λ s. s ≡ start p) → IfOk r (Meets p)
+begun_meets p (Ok s) e = subst (Meets p) (sym e) (start-meets p)
+begun_meets p (Err e) h = tt
+
+-- so does the state after an event that was done, or couldn't be
+pub advanced_meets : (p : PlantLists) (s new : State) (event : Event) (r : Result Bool AllocError) → IsPlant p → IsStrict p → Meets p s → OnOk r (new ≡ unwrap_or (next p s event) s) → OnErr r (new ≡ s) → Meets p new
+advanced_meets p s new event r plant strict meets done undone =
+    after_step (Meets p) r (next p s event) s new meets (λ t e. meets-next p plant strict s t event meets e) done undone

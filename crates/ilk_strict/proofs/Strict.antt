@@ -81,8 +81,8 @@ last-not_plain p d destination path h k x at last =
 border-has_board : (p : PlantLists) (x : ℕ) (d : Dir) → is_border_without_board p x ≡ false → border p x ≡ Some d → has_no_board p d x ≡ false
 border-has_board p x d h at = rw at at h
 
-pub strict-from_rules : (p : PlantLists) → KeepsPathRules p → IsStrict p
-strict-from_rules p rules = record {
+pub strict_from_rules : (p : PlantLists) → KeepsPathRules p → IsStrict p
+strict_from_rules p rules = record {
   leads = λ r route source it k x y at also.
       leads-at p source.dir source.section route.path (source-passes p r route source (λ b. leads_on p b.dir b.section route.path) it (route-passes p (path_leads_on p) r route (rules.c1 r (slice_get_within p.routes r route it.known)) it.known)) k x y at also;
   ends = λ r route source it k x at last.
@@ -122,5 +122,5 @@ rules-from_list p e = record {
     of_rule : (k : ℕ) (rule : Rule) → slice_get column_rules k ≡ Some rule → column_rule_broken p rule ≡ []
     of_rule k rule at = flat_map-none (column_rule_broken p) column_rules k rule e at
 
-pub strict-from_list : (p : PlantLists) → column_rules_broken p ≡ [] → IsStrict p
-strict-from_list p e = strict-from_rules p (rules-from_list p e)
+pub strict_from_list : (p : PlantLists) → column_rules_broken p ≡ [] → IsStrict p
+strict_from_list p e = strict_from_rules p (rules-from_list p e)

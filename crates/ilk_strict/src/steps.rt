@@ -9,6 +9,7 @@ use ilk_plant::{Plant, State};
 use std::alloc::{AllocError, Global};
 
 /// The state at the start. It meets the invariant.
+#[tactic(auto, using(crate::proofs::Invariant::begun_meets))]
 pub fn begin(alloc: Global, plant: &Plant) -> Result<State, AllocError>
     ensures start { IfOk result (λ s. s ≡ start plant.now) }
     ensures meets { IfOk result (Meets plant.now) }
@@ -19,6 +20,7 @@ pub fn begin(alloc: Global, plant: &Plant) -> Result<State, AllocError>
 /// Does the event, if it is enabled, in a state that meets the invariant, over a strict table. True
 /// exactly where it is; on false and for want of memory the state is as it was. The state meets the
 /// invariant afterwards.
+#[tactic(auto, using(crate::proofs::Invariant::advanced_meets))]
 pub fn advance(
     alloc: Global,
     plant: &Plant,
