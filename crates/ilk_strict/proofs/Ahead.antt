@@ -198,12 +198,6 @@ listed_towards-at p points sections x h =
     towards : Listed → Bool
     towards listed = list_any (λ y. is_some_and (slice_get p.sections x) (is_leg listed.at y)) sections
 
--- its leg at its listed position is that section
-pub listed-leg : (p : PlantLists) (points : List Listed) (sections : List ℕ) (x stem plus minus : ℕ) (faces : Dir) → (it : IsListedTo p points sections x) → slice_get p.sections x ≡ Some (Point stem plus minus faces) → leg plus minus it.listed.at ≡ it.w
-listed-leg p points sections x stem plus minus faces it section =
-    let is : is_leg it.listed.at it.w (Point stem plus minus faces) ≡ true = rw section at it.leads in
-    leg-is it.listed.at it.w stem plus minus faces is
-
 -- a listed point that lies as listed
 pub lies-listed : (p : PlantLists) (s : State) (listed : Listed) (x : ℕ) → lies_as_listed p s listed ≡ true → listed.point ≡ x → lie_of p s x ≡ Some (lie_in listed.at)
 lies-listed p s listed x h same =

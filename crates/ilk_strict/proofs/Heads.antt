@@ -18,6 +18,7 @@ use Rattle.ilk_plant.specs.declared.network.Position.{Position}
 use Rattle.ilk_plant.specs.declared.network.Section.TheVariants.{Point}
 use Rattle.ilk_plant.specs.declared.state.Aspect.{Aspect}
 use Rattle.ilk_plant.specs.declared.state.Aspect.TheVariants.{Open, Closed}
+use Rattle.ilk_plant.specs.declared.state.Lie.{Lie}
 use Rattle.ilk_plant.specs.declared.state.Mode.TheVariants.{Locked, Occupied}
 use Rattle.ilk_plant.specs.declared.state.RouteState.{RouteState}
 use Rattle.ilk_plant.specs.declared.state.State.{State}
@@ -29,10 +30,11 @@ use Rattle.ilk_motion.proofs.Shape.{ahead-next_to}
 use Rattle.ilk_routes.specs.Lies.{lie_in}
 use Rattle.ilk_model.specs.Holding.{is_kept_on_path, is_locked_or_occupied, is_plain}
 use Rattle.ilk_strict.specs.IsStrict.{IsFrom, IsStrict}
-use Rattle.ilk_strict.proofs.Ahead.{LeadsToLeg, LegsDiffer, ahead-cases, board-one, leg, leg-no_other, leg_at-lie_in, legs-differ, lies-listed, listed-leg, listed_towards-at, other_leg, stem-before, stem-no_leg, stem-no_other, stem-side}
+use Rattle.ilk_strict.proofs.Ahead.{LeadsToLeg, LegsDiffer, ahead-cases, board-one, leg, leg-no_other, leg_at-lie_in, legs-differ, other_leg, stem-before, stem-no_leg, stem-no_other, stem-side}
 use Rattle.ilk_strict.proofs.Alike.{one_direction}
+use Rattle.ilk_strict.proofs.HeldPoints.{IsSet, held-point, set-leg}
 use Rattle.ilk_strict.proofs.Reading.{RouteIn, kept-from}
-use Rattle.ilk_strict.proofs.RouteFacts.{idle, lies-at, locked-is, open-at, rel-led}
+use Rattle.ilk_strict.proofs.RouteFacts.{IsOpenFor, idle, lies-at, locked-is, open-at, rel-led}
 use Rattle.ilk_strict.proofs.Table.{route-source}
 use Rattle.ilk_strict.proofs.TrainFacts.{IsLedBy, Keeps, head-led, led-locked_or_occupied, runs-from, runs-source}
 
@@ -56,9 +58,10 @@ pub record GoesOn (p : PlantLists) (s : State) (x : ℕ) (d : Dir) (y : ℕ) : T
   -- route is Occupied, or Locked with its source Closed
   pub board : ((board_of p x d ≡ Some route.source) × (now.mode ≡ Locked) × (k ≡ 0) × (slice_get s.boards route.source ≡ Some Open)) ⊎ ((board_of p x d ≡ None) × ((now.mode ≡ Occupied) ⊎ ((now.mode ≡ Locked) × (slice_get s.boards route.source ≡ Some Closed))))
 
-open-is : (aspect : Aspect) → is_open aspect ≡ true → aspect ≡ Open
-open-is Open h = refl
-open-is Closed h = cc
+open-is : (aspect : Option Aspect) → is_some_and aspect is_open ≡ true → aspect ≡ Some Open
+open-is None h = cc
+open-is (Some Open) h = refl
+open-is (Some Closed) h = cc
 
 more-than_none : (n : ℕ) → 0 < n → nat_lt 0 n ≡ true
 more-than_none n less = grind (arith, nat_tests)
@@ -67,35 +70,27 @@ some-length : (x : ℕ) (xs : List ℕ) → has_section x xs ≡ true → 0 < le
 some-length x [] h = cc
 some-length x (y ∷ xs) h = omega arith
 
--- of the section before a place of a path and the one after it
-before-or_next : (path : List ℕ) (i before j w : ℕ) → slice_get (before ∷ take 1 (drop (i + 1) path)) j ≡ Some w → (before ≡ w) ⊎ (slice_get path (suc i) ≡ Some w)
-before-or_next path i before zero w among = inl (same_Some before w among)
-before-or_next path i before (suc j) w among =
-    let taken = taken-before 1 (drop (i + 1) path) j w among in
-    let first = taken.0 in
-    let place : i + 1 + j ≡ suc i = omega (arith, first) in
-    inr (ap (slice_get path) (sym place) ∙ sym (get-dropped path (i + 1) j) ∙ taken.1)
+-- a point that lies at a position leads to its leg there
+leg-ahead : (plus minus : ℕ) (lie : Lie) (to : Position) (y : ℕ) (o : Option Lie) → o ≡ Some lie → o ≡ Some (lie_in to) → leg_at plus minus lie ≡ Some y → leg plus minus to ≡ y
+leg-ahead plus minus lie to y o lies set_to goes =
+    let same : lie ≡ lie_in to = same_Some lie (lie_in to) (sym lies ∙ set_to) in
+    same_Some (leg plus minus to) y (sym (leg_at-lie_in plus minus to) ∙ (rw same at goes))
 
 module _ (p : PlantLists) (plant : IsPlant p) (strict : IsStrict p) (s : State) (keeps : Keeps p s) where
-  -- with a board, which is Open
-  from-board : (x y m : ℕ) (d : Dir) → board_of p x d ≡ Some m → may_pass s (board_of p x d) ≡ true → ahead p s x d ≡ Some y → GoesOn p s x d y
-  from-board x y m d board passes leads =
-      let shown = some-and (slice_get s.boards m) is_open (rw board at passes) in
-      let may : slice_get s.boards m ≡ Some Open = shown.1 ∙ ap Some (open-is shown.0 shown.2) in
-      let open_for = open-at p s keeps.v5 m (plant.boards_known x m d board) may in
-      let route = open_for.route in
-      let of = plant.routes_known open_for.r route open_for.it.known in
+  -- with a board, which is Open for a route
+  open-for : (x y m : ℕ) (d : Dir) → board_of p x d ≡ Some m → slice_get s.boards m ≡ Some Open → ahead p s x d ≡ Some y → (open_for : IsOpenFor p s m) → (z : ℕ) → slice_get open_for.route.path 0 ≡ Some z → GoesOn p s x d y
+  open-for x y m d board shown leads open_for z first =
       let here : Board = record { section = x; dir = d } in
-      let begins : slice_get p.boards route.source ≡ Some here = ap (slice_get p.boards) open_for.source ∙ (plant.boards_listed x m d).0 board in
-      let first = item_at route.path 0 of.path_begins in
-      let next = strict.leads open_for.r route here (record { known = open_for.it.known; begins = begins }) 0 x first.0 refl first.1 in
-      let same : first.0 ≡ y = board-one p x m first.0 y d board next (ahead-next_to p s x y d leads) in
-      let counts = idle p s keeps.v1 open_for.r route open_for.now open_for.it (rw open_for.mode refl) in
+      let source = open_for.source in
+      let begins : slice_get p.boards open_for.route.source ≡ Some here = rw source ((plant.boards_listed x m d).0 board) in
+      let next = strict.leads open_for.r open_for.route here (record { known = open_for.it.known; begins = begins }) 0 x z refl first in
+      let same : z ≡ y = board-one p x m z y d board next (ahead-next_to p s x y d leads) in
+      let counts = idle p s keeps.v1 open_for.r open_for.route open_for.now open_for.it (rw open_for.mode refl) in
       let none_released = counts.1 in
       let none_seen = counts.0 in
       record {
         r = open_for.r;
-        route = route;
+        route = open_for.route;
         now = open_for.now;
         it = open_for.it;
         source = here;
@@ -103,33 +98,41 @@ module _ (p : PlantLists) (plant : IsPlant p) (strict : IsStrict p) (s : State) 
         same = refl;
         k = 0;
         before = refl;
-        at = first.1 ∙ ap Some same;
+        at = rw same at first;
         mode = locked-is open_for.now open_for.mode;
         least = omega (arith, none_released);
         seen = omega (arith, none_seen);
-        vacant = λ j z less at. open_for.vacant j z at;
-        board = inl (board ∙ ap Some (sym open_for.source), open_for.mode, refl, ap (slice_get s.boards) open_for.source ∙ may);
+        vacant = λ j w less at. open_for.vacant j w at;
+        board = inl (rw source board, open_for.mode, refl, rw source shown);
       }
 
+  from-board : (x y m : ℕ) (d : Dir) → board_of p x d ≡ Some m → may_pass s (board_of p x d) ≡ true → ahead p s x d ≡ Some y → GoesOn p s x d y
+  from-board x y m d board passes leads =
+      let shown = open-is (slice_get s.boards m) (rw board at passes) in
+      let open_for = open-at p s keeps.v5 m (plant.boards_known x m d board) shown in
+      let first = item_at open_for.route.path 0 (plant.routes_known open_for.r open_for.route open_for.it.known).path_begins in
+      open-for x y m d board shown leads open_for first.0 first.1
+
   -- a point that faces ahead on a path leads to the next section of the path
+  facing-set : (r : ℕ) (route : Route) (source : Board) → IsFrom p r route source → (before i x y z : ℕ) → slice_get (source.section ∷ route.path) i ≡ Some before → slice_get route.path i ≡ Some x → slice_get route.path (suc i) ≡ Some z → (to_leg : LeadsToLeg p s x source.dir y) → IsSet p s route before i x → y ≡ z
+  facing-set r route source from before i x y z earlier at next to_leg set_to =
+      let plus = to_leg.plus in
+      let minus = to_leg.minus in
+      let leads_to = set-leg p s route before i x to_leg.stem plus minus to_leg.faces set_to to_leg.section in
+      let stem = stem-before p plant before x to_leg.stem plus minus to_leg.faces source.dir to_leg.section to_leg.same (strict.leads r route source from i before x earlier at) in
+      let differ = legs-differ p plant x to_leg.stem plus minus to_leg.faces to_leg.section in
+      let goes = leg-ahead plus minus to_leg.lie set_to.to y (lie_of p s x) to_leg.lies set_to.lies to_leg.to_leg in
+      elim set_to.towards [
+        | inl back ↦ absurd (stem-no_leg to_leg.stem plus minus set_to.to differ (stem ∙ back ∙ sym leads_to))
+        | inr forth ↦ sym goes ∙ leads_to ∙ same_Some set_to.w z (sym forth ∙ next)
+      ]
+
   facing-next : (r : ℕ) (route : Route) (now : RouteState) → RouteIn p s r route now → (source : Board) → IsFrom p r route source → is_locked_or_occupied now ≡ true → (i x y z : ℕ) → now.rel ≤ i → slice_get route.path i ≡ Some x → slice_get route.path (suc i) ≡ Some z → LeadsToLeg p s x source.dir y → y ≡ z
   facing-next r route now it source from mode i x y z least at next to_leg =
       let within = slice_get_within route.path i x at in
       let earlier = item_at (source.section ∷ route.path) i (omega (arith, within)) in
-      let is_point : is_point_section p x ≡ true = rw to_leg.section refl in
-      let sections : List ℕ = earlier.0 ∷ take 1 (drop (i + 1) route.path) in
-      let listed = listed_towards-at p route.points sections x (strict.points r route source from i earlier.0 x earlier.1 at is_point) in
-      let leads_to : leg to_leg.plus to_leg.minus listed.listed.at ≡ listed.w = listed-leg p route.points sections x to_leg.stem to_leg.plus to_leg.minus to_leg.faces listed to_leg.section in
-      let stem : to_leg.stem ≡ earlier.0 = stem-before p plant earlier.0 x to_leg.stem to_leg.plus to_leg.minus to_leg.faces source.dir to_leg.section to_leg.same (strict.leads r route source from i earlier.0 x earlier.1 at) in
-      let differ = legs-differ p plant x to_leg.stem to_leg.plus to_leg.minus to_leg.faces to_leg.section in
-      let on : is_kept_on_path route now listed.listed.point ≡ true = kept-from route now i listed.listed.point least (at ∙ ap Some (sym listed.point)) in
-      let lies = lies-listed p s listed.listed x (lies-at p s keeps.v6 r route now it listed.k listed.listed listed.at mode on).1 listed.point in
-      let lie : to_leg.lie ≡ lie_in listed.listed.at = same_Some to_leg.lie (lie_in listed.listed.at) (sym to_leg.lies ∙ lies) in
-      let goes : leg to_leg.plus to_leg.minus listed.listed.at ≡ y = same_Some (leg to_leg.plus to_leg.minus listed.listed.at) y (sym (leg_at-lie_in to_leg.plus to_leg.minus listed.listed.at) ∙ ap (leg_at to_leg.plus to_leg.minus) (sym lie) ∙ to_leg.to_leg) in
-      elim (before-or_next route.path i earlier.0 listed.j listed.w listed.among) [
-        | inl back ↦ absurd (stem-no_leg to_leg.stem to_leg.plus to_leg.minus listed.listed.at differ (stem ∙ back ∙ sym leads_to))
-        | inr forth ↦ sym goes ∙ leads_to ∙ same_Some listed.w z (sym forth ∙ next)
-      ]
+      facing-set r route source from earlier.0 i x y z earlier.1 at next to_leg (held-point p strict s keeps.v6 r route now it mode source from earlier.0 i x least earlier.1 at (rw to_leg.section refl))
+
   -- without a board, where a route leads the train
   without-board : (x y : ℕ) (d : Dir) → board_of p x d ≡ None → is_plain p d x ≡ true → ahead p s x d ≡ Some y → IsLedBy p s d x → GoesOn p s x d y
   without-board x y d none plain leads led =
@@ -185,19 +188,15 @@ pub record LiesAhead (p : PlantLists) (s : State) (x y plus minus : ℕ) : Type 
 
 pub lies-ahead : (p : PlantLists) → IsPlant p → IsStrict p → (s : State) → Keeps p s → (x y : ℕ) (d : Dir) → GoesOn p s x d y → (stem plus minus : ℕ) (faces : Dir) → slice_get p.sections y ≡ Some (Point stem plus minus faces) → LiesAhead p s x y plus minus
 lies-ahead p plant strict s keeps x y d on stem plus minus faces section =
-    let route = on.route in
-    let from : IsFrom p on.r route on.source = record { known = on.it.known; begins = on.begins } in
-    let is_point : is_point_section p y ≡ true = rw section refl in
-    let listed = listed_towards-at p route.points (x ∷ take 1 (drop (on.k + 1) route.path)) y (strict.points on.r route on.source from on.k x y on.before on.at is_point) in
-    let leads_to : leg plus minus listed.listed.at ≡ listed.w = listed-leg p route.points (x ∷ take 1 (drop (on.k + 1) route.path)) y stem plus minus faces listed section in
+    let from : IsFrom p on.r on.route on.source = record { known = on.it.known; begins = on.begins } in
+    let set_to = held-point p strict s keeps.v6 on.r on.route on.now on.it on.mode on.source from x on.k y on.least on.before on.at (rw section refl) in
+    let leads_to = set-leg p s on.route x on.k y stem plus minus faces set_to section in
     let differ = legs-differ p plant y stem plus minus faces section in
-    let kept : is_kept_on_path route on.now listed.listed.point ≡ true = kept-from route on.now on.k listed.listed.point on.least (on.at ∙ ap Some (sym listed.point)) in
-    let lies = lies-listed p s listed.listed y (lies-at p s keeps.v6 on.r route on.now on.it listed.k listed.listed listed.at on.mode kept).1 listed.point in
-    let beside = strict.leads on.r route on.source from on.k x y on.before on.at in
+    let beside = strict.leads on.r on.route on.source from on.k x y on.before on.at in
     record {
-      to = listed.listed.at;
-      lies = lies;
-      apart = λ other. by_side listed.listed.at listed.w leads_to differ other beside (before-or_next route.path on.k x listed.j listed.w listed.among) from (same_direction faces on.source.dir) refl;
+      to = set_to.to;
+      lies = set_to.lies;
+      apart = λ other. by_side set_to.to set_to.w leads_to differ other beside set_to.towards from (same_direction faces on.source.dir) refl;
     }
   where
     by_side : (to : Position) (w : ℕ) → leg plus minus to ≡ w → LegsDiffer stem plus minus → x ≡ other_leg plus minus to → has_section y (next_to p x on.source.dir) ≡ true → (x ≡ w) ⊎ (slice_get on.route.path (suc on.k) ≡ Some w) → IsFrom p on.r on.route on.source → (b : Bool) → same_direction faces on.source.dir ≡ b → ⊥

@@ -25,6 +25,7 @@ use Rattle.ilk_plant.specs.declared.state.Lie.TheVariants.{Plus as LiesPlus, Min
 use Rattle.ilk_plant.specs.declared.state.PointState.{PointState}
 use Rattle.ilk_plant.specs.declared.state.State.{State}
 use Rattle.ilk_plant.specs.declared.state.Train.{Train}
+use Rattle.ilk_plant.specs.declared.table.Route.{Route}
 use Rattle.ilk_motion.specs.Ahead.{ahead, leads_to, leg_at}
 use Rattle.ilk_motion.specs.Body.{train_on, with_new_head, without_tail}
 use Rattle.ilk_routes.specs.Claims.{wanted_points}
@@ -34,16 +35,17 @@ use Rattle.ilk_model.specs.Hazard.{has_pair, is_wrong, strays}
 use Rattle.ilk_model.specs.Holding.{is_kept_on_path, is_plain}
 use Rattle.ilk_strict.specs.IsStrict.{IsFrom, IsStrict}
 use Rattle.ilk_strict.proofs.After.{wrong-reads}
-use Rattle.ilk_strict.proofs.Ahead.{LegsDiffer, lies-listed, leg, legs-differ, listed_towards-at, only-one, other_leg, stem-no_other, leg-no_other, strays-lie_in, leg_at-lie_in}
+use Rattle.ilk_strict.proofs.Ahead.{LegsDiffer, leg, legs-differ, only-one, other_leg, stem-no_other, leg-no_other, strays-lie_in, leg_at-lie_in}
 use Rattle.ilk_strict.proofs.Alike.{own_lie}
 use Rattle.ilk_strict.proofs.Frames.{ChangesRoute, IsAllocated, IsCancelled, IsEntered, IsFinished, IsHeaded, IsLeft, IsLocked, IsMarked, IsReleased, IsSensed, IsSettled, IsTailed, IsThrown}
 use Rattle.ilk_strict.proofs.Heads.{GoesOn, LiesAhead, lies-ahead}
+use Rattle.ilk_strict.proofs.HeldPoints.{IsSet, held-point}
 use Rattle.ilk_strict.proofs.KeepsV4.{headed-goes_on}
 use Rattle.ilk_strict.proofs.Points.{commanded-at_listed, commanded-is, lie-alike, lie-is, lie-kept, lie-other, lies-new}
 use Rattle.ilk_strict.proofs.Reading.{kept-from, section-at, section-from}
 use Rattle.ilk_strict.proofs.RouteFacts.{lies-at}
 use Rattle.ilk_strict.proofs.Table.{numbered-section, route-source}
-use Rattle.ilk_strict.proofs.TrainFacts.{Keeps, body-kept, wrong-at, wrong-from}
+use Rattle.ilk_strict.proofs.TrainFacts.{IsKeptBy, Keeps, body-kept, wrong-at, wrong-from}
 use Rattle.ilk_strict.proofs.Trains.{enter-trains, head-trains, last-is, leave-trains, longer-has, shorter-has, tail-trains}
 
 -- no train stands on a point that moves or lies wrongly
@@ -202,23 +204,26 @@ module _ (p : PlantLists) (plant : IsPlant p) (strict : IsStrict p) (s t : State
       ])
 
   -- a point under a train lies where it is commanded
-  lies-under : (x m : ℕ) (point : PointState) → point_number p x ≡ Some m → slice_get s.points m ≡ Some point → (i : ℕ) (train : Train) → slice_get s.trains i ≡ Some train → has_section x train.body ≡ true → lies_at point.at point.to ≡ true
-  lies-under x m point number at i train there has =
-      let numbered = numbered-section p x m number in
-      let is_point : is_point_section p x ≡ true = rw numbered.1 numbered.2 in
-      let found = section-at x train.body has in
-      let plain = of_section numbered.0 train.dir numbered.1 numbered.2 in
-      let kept = body-kept p s keeps.v8 i train there found.0 x found.1 plain in
+  lies-set : (x m : ℕ) (point : PointState) → point_number p x ≡ Some m → slice_get s.points m ≡ Some point → (route : Route) (before i : ℕ) → IsSet p s route before i x → lies_at point.at point.to ≡ true
+  lies-set x m point number at route before i set_to =
+      let to : point.to ≡ set_to.to = same_Some point.to set_to.to (sym (commanded-is p s x m point number at) ∙ set_to.commanded) in
+      let lie : point.at ≡ lie_in set_to.to = same_Some point.at (lie_in set_to.to) (sym (lie-is p s x m point number at) ∙ set_to.lies) in
+      rw (lie, to) (own_lie set_to.to)
+
+  lies-kept : (x m : ℕ) (point : PointState) → point_number p x ≡ Some m → slice_get s.points m ≡ Some point → is_point_section p x ≡ true → (d : Dir) → IsKeptBy p s d x → lies_at point.at point.to ≡ true
+  lies-kept x m point number at is_point d kept =
       let source = route-source p kept.route (plant.routes_known kept.r kept.route kept.it.known) in
       let from : IsFrom p kept.r kept.route source.0 = record { known = kept.it.known; begins = source.1 } in
       let within = slice_get_within kept.route.path kept.i x kept.at in
       let before = item_at (source.0.section ∷ kept.route.path) kept.i (omega (arith, within)) in
-      let listed = listed_towards-at p kept.route.points (before.0 ∷ take 1 (drop (kept.i + 1) kept.route.path)) x (strict.points kept.r kept.route source.0 from kept.i before.0 x before.1 kept.at is_point) in
-      let on : is_kept_on_path kept.route kept.now listed.listed.point ≡ true = kept-from kept.route kept.now kept.i listed.listed.point kept.least (kept.at ∙ ap Some (sym listed.point)) in
-      let both = lies-at p s keeps.v6 kept.r kept.route kept.now kept.it listed.k listed.listed listed.at kept.mode on in
-      let to : point.to ≡ listed.listed.at = same_Some point.to listed.listed.at (sym (commanded-is p s x m point number at) ∙ ap (commanded_position p s) (sym listed.point) ∙ commanded-at_listed p s listed.listed both.0) in
-      let lie : point.at ≡ lie_in listed.listed.at = same_Some point.at (lie_in listed.listed.at) (sym (lie-is p s x m point number at) ∙ lies-listed p s listed.listed x both.1 listed.point) in
-      rw (lie, to) (own_lie listed.listed.at)
+      lies-set x m point number at kept.route before.0 kept.i (held-point p strict s keeps.v6 kept.r kept.route kept.now kept.it kept.mode source.0 from before.0 kept.i x kept.least before.1 kept.at is_point)
+
+  lies-under : (x m : ℕ) (point : PointState) → point_number p x ≡ Some m → slice_get s.points m ≡ Some point → (i : ℕ) (train : Train) → slice_get s.trains i ≡ Some train → has_section x train.body ≡ true → lies_at point.at point.to ≡ true
+  lies-under x m point number at i train there has =
+      let numbered = numbered-section p x m number in
+      let found = section-at x train.body has in
+      let plain = of_section numbered.0 train.dir numbered.1 numbered.2 in
+      lies-kept x m point number at (rw numbered.1 numbered.2) train.dir (body-kept p s keeps.v8 i train there found.0 x found.1 plain)
     where
       of_section : (section : Section) (d : Dir) → slice_get p.sections x ≡ Some section → is_point section ≡ true → is_plain p d x ≡ true
       of_section (Linear down up board_down board_up) d section h = cc

@@ -4,6 +4,7 @@ pub mod Alike
 pub mod Boards
 pub mod Frames
 pub mod Heads
+pub mod HeldPoints
 pub mod KeepsV1
 pub mod KeepsV2
 pub mod KeepsV3
