@@ -1,0 +1,530 @@
+-- What each event leaves alone: one law for each of the thirteen events. It has what was asked, what the event changes, and
+-- says of every other list of the state that it is as it was.
+use Rattle.std.proofs.Common.{◌≡◌, ℕ, zero, suc, ◌+◌, ◌≤◌, Bool, true, false, not, ◌==◌, ◌&&◌, ◌||◌, Option, Some, None, List, [], ◌∷◌, ◌++◌, length, nat_le, position, remove, set, slice_get, refl, sym, ap, ◌∙◌, arith}
+use Rattle.std.specs.Prelude.{if◌then◌else◌}
+use Rattle.std.specs.List.{last_or, list_all}
+use Rattle.std.proofs.lemmas.Bool.{and_parts, eqb-true, cases_Bool}
+use Rattle.std.proofs.lemmas.Bool.Decides.{nat_tests}
+use Rattle.std.proofs.lemmas.Option.{cond_some, option_and_then_some, same_Some}
+use Rattle.ilk_base.proofs.Lists.{item_at, last_or-at}
+use Rattle.ilk_base.proofs.Positions.{position-at}
+use Rattle.ilk_base.proofs.Truth.{fails}
+use Rattle.ilk_plant.specs.Plant.{PlantLists, board_of, border, point_number}
+use Rattle.ilk_plant.specs.State.{has_lock, is_clear, is_occupied}
+use Rattle.ilk_plant.specs.TableRules.{sections_locked_for}
+use Rattle.ilk_plant.specs.declared.network.Dir.{Dir}
+use Rattle.ilk_plant.specs.declared.state.Aspect.TheVariants.{Open, Closed}
+use Rattle.ilk_plant.specs.declared.state.Hold.TheVariants.{Free as FreeLock, Locked as LockedLock, Used as UsedLock}
+use Rattle.ilk_plant.specs.declared.state.Lie.TheVariants.{Moving}
+use Rattle.ilk_plant.specs.declared.state.Mode.TheVariants.{Free, Marked, Allocating, Locked, Occupied}
+use Rattle.ilk_plant.specs.declared.state.PointState.{PointState}
+use Rattle.ilk_plant.specs.declared.state.RouteState.{RouteState}
+use Rattle.ilk_plant.specs.declared.state.State.{State}
+use Rattle.ilk_plant.specs.declared.state.Train.{Train}
+use Rattle.ilk_plant.specs.declared.table.Route.{Route}
+use Rattle.ilk_motion.specs.Ahead.{ahead}
+use Rattle.ilk_motion.specs.Body.{has_head, has_tail_before_head, stands_on, train_on, with_new_head, without_tail}
+use Rattle.ilk_motion.specs.Trains.{after_enter, after_head, after_leave, after_tail, may_pass, with_board_closed}
+use Rattle.ilk_routes.specs.Boards.{has_aspect, is_protecting}
+use Rattle.ilk_routes.specs.Claims.{sections_beside, wanted_points}
+use Rattle.ilk_routes.specs.Lies.{is_moving, lie_in, lies_as_listed, lies_at, with_commands}
+use Rattle.ilk_routes.specs.Locks.{with_locks}
+use Rattle.ilk_routes.specs.Modes.{is_claimed, same_mode}
+use Rattle.ilk_routes.specs.Points.{after_settle, after_throw}
+use Rattle.ilk_routes.specs.Routes.{after_allocate, after_cancel, after_finish, after_lock, after_mark, after_release, after_sense, can_claim, can_lock}
+use Rattle.ilk_model.specs.Holding.{is_locked_or_occupied}
+use Rattle.ilk_strict.proofs.Alike.{one_mode}
+
+-- two states that are one have the same lists
+pub record SameLists (s t : State) : Type 0 where
+  pub routes : t.routes ≡ s.routes
+  pub points : t.points ≡ s.points
+  pub boards : t.boards ≡ s.boards
+  pub locks : t.locks ≡ s.locks
+  pub trains : t.trains ≡ s.trains
+
+pub same-lists : (s t : State) → s ≡ t → SameLists s t
+same-lists s t e =
+    let back = sym e in
+    record {
+      routes = ap (λ (u : State). u.routes) back;
+      points = ap (λ (u : State). u.points) back;
+      boards = ap (λ (u : State). u.boards) back;
+      locks = ap (λ (u : State). u.locks) back;
+      trains = ap (λ (u : State). u.trains) back;
+    }
+
+-- from s to t the state of route r changes, from `now` to `new`, and that of no other route
+pub record ChangesRoute (p : PlantLists) (s t : State) (r : ℕ) (route : Route) (now new : RouteState) : Type 0 where
+  pub known : slice_get p.routes r ≡ Some route
+  pub state : slice_get s.routes r ≡ Some now
+  pub routes : t.routes ≡ set s.routes r new
+
+-- mark r: r was Free; points, boards, locks and trains stay
+pub record IsMarked (p : PlantLists) (s t : State) (r : ℕ) : Type 0 where
+  pub route : Route
+  pub now : RouteState
+  pub changes : ChangesRoute p s t r route now (record now { mode = Marked })
+  pub was : now.mode ≡ Free
+  pub points : t.points ≡ s.points
+  pub boards : t.boards ≡ s.boards
+  pub locks : t.locks ≡ s.locks
+  pub trains : t.trains ≡ s.trains
+
+pub mark-frame : (p : PlantLists) (s t : State) (r : ℕ) → after_mark p s r ≡ Some t → IsMarked p s t r
+mark-frame p s t r e =
+    option_and_then_some _ (slice_get p.routes r) t e (λ route known e1.
+    option_and_then_some _ (slice_get s.routes r) t e1 (λ now state e2.
+    let done = cond_some _ _ t e2 in
+    let same = same-lists _ t done.1 in
+    record {
+      route = route;
+      now = now;
+      changes = record { known = known; state = state; routes = same.routes };
+      was = one_mode now.mode Free done.0;
+      points = same.points;
+      boards = same.boards;
+      locks = same.locks;
+      trains = same.trains;
+    }))
+
+-- allocate r: r was Marked, and its sections had lock Free and were vacant; boards and trains stay, and how points lie
+pub record IsAllocated (p : PlantLists) (s t : State) (r : ℕ) : Type 0 where
+  pub route : Route
+  pub now : RouteState
+  pub changes : ChangesRoute p s t r route now (record now { mode = Allocating })
+  pub was : now.mode ≡ Marked
+  pub clear : list_all (is_clear s) (sections_locked_for route) ≡ true
+  pub points : t.points ≡ with_commands p s.points (wanted_points route)
+  pub boards : t.boards ≡ s.boards
+  pub locks : t.locks ≡ with_locks s.locks (sections_locked_for route) LockedLock
+  pub trains : t.trains ≡ s.trains
+
+pub allocate-frame : (p : PlantLists) (s t : State) (r : ℕ) → after_allocate p s r ≡ Some t → IsAllocated p s t r
+allocate-frame p s t r e =
+    option_and_then_some _ (slice_get p.routes r) t e (λ route known e1.
+    option_and_then_some _ (slice_get s.routes r) t e1 (λ now state e2.
+    let done = cond_some _ _ t e2 in
+    let same = same-lists _ t done.1 in
+    let asked = and_parts (same_mode now.mode Marked) (can_claim s route) done.0 in
+    record {
+      route = route;
+      now = now;
+      changes = record { known = known; state = state; routes = same.routes };
+      was = one_mode now.mode Marked asked.0;
+      clear = (and_parts _ (list_all (is_clear s) (sections_locked_for route)) asked.1).1;
+      points = same.points;
+      boards = same.boards;
+      locks = same.locks;
+      trains = same.trains;
+    }))
+
+-- lock r: r was Allocating, its points lay as listed, its protecting boards were Closed, and no Locked route had its source
+-- among its protecting boards; points, locks and trains stay, and all boards but the source
+pub record IsLocked (p : PlantLists) (s t : State) (r : ℕ) : Type 0 where
+  pub route : Route
+  pub now : RouteState
+  pub changes : ChangesRoute p s t r route now (record now { mode = Locked })
+  pub was : now.mode ≡ Allocating
+  pub lie : list_all (lies_as_listed p s) (wanted_points route) ≡ true
+  pub closed : list_all (λ m. has_aspect s m Closed) route.protecting_boards ≡ true
+  pub unprotecting : is_protecting p s route.source ≡ false
+  pub points : t.points ≡ s.points
+  pub boards : t.boards ≡ set s.boards route.source Open
+  pub locks : t.locks ≡ s.locks
+  pub trains : t.trains ≡ s.trains
+
+pub lock-frame : (p : PlantLists) (s t : State) (r : ℕ) → after_lock p s r ≡ Some t → IsLocked p s t r
+lock-frame p s t r e =
+    option_and_then_some _ (slice_get p.routes r) t e (λ route known e1.
+    option_and_then_some _ (slice_get s.routes r) t e1 (λ now state e2.
+    let done = cond_some _ _ t e2 in
+    let same = same-lists _ t done.1 in
+    let asked = and_parts (same_mode now.mode Allocating) (can_lock p s route) done.0 in
+    let lie = list_all (lies_as_listed p s) (wanted_points route) in
+    let closed = list_all (λ m. has_aspect s m Closed) route.protecting_boards in
+    let parts = and_parts (lie && closed) (not (is_protecting p s route.source)) asked.1 in
+    let both = and_parts lie closed parts.0 in
+    record {
+      route = route;
+      now = now;
+      changes = record { known = known; state = state; routes = same.routes };
+      was = one_mode now.mode Allocating asked.0;
+      lie = both.0;
+      closed = both.1;
+      unprotecting = fails (is_protecting p s route.source) parts.1;
+      points = same.points;
+      boards = same.boards;
+      locks = same.locks;
+      trains = same.trains;
+    }))
+
+-- sense r: r was Locked or Occupied, and x, the path section after the seen ones, was occupied and had lock Locked; points
+-- and trains stay, all locks but that of x, and all boards but the source
+pub record IsSensed (p : PlantLists) (s t : State) (r : ℕ) : Type 0 where
+  pub route : Route
+  pub now : RouteState
+  pub x : ℕ
+  pub changes : ChangesRoute p s t r route now (record now { mode = Occupied; seen = now.seen + 1 })
+  pub was : is_locked_or_occupied now ≡ true
+  pub next : slice_get route.path now.seen ≡ Some x
+  pub occupied : is_occupied s x ≡ true
+  pub locked : has_lock s x LockedLock ≡ true
+  pub points : t.points ≡ s.points
+  pub boards : t.boards ≡ (if now.seen == 0 then set s.boards route.source Closed else s.boards)
+  pub locks : t.locks ≡ set s.locks x UsedLock
+  pub trains : t.trains ≡ s.trains
+
+pub sense-frame : (p : PlantLists) (s t : State) (r : ℕ) → after_sense p s r ≡ Some t → IsSensed p s t r
+sense-frame p s t r e =
+    option_and_then_some _ (slice_get p.routes r) t e (λ route known e1.
+    option_and_then_some _ (slice_get s.routes r) t e1 (λ now state e2.
+    option_and_then_some _ (slice_get route.path now.seen) t e2 (λ x next e3.
+    let done = cond_some _ _ t e3 in
+    let same = same-lists _ t done.1 in
+    let asked = and_parts (is_locked_or_occupied now && is_occupied s x) (has_lock s x LockedLock) done.0 in
+    let both = and_parts (is_locked_or_occupied now) (is_occupied s x) asked.0 in
+    record {
+      route = route;
+      now = now;
+      x = x;
+      changes = record { known = known; state = state; routes = same.routes };
+      was = both.0;
+      next = next;
+      occupied = both.1;
+      locked = asked.1;
+      points = same.points;
+      boards = same.boards;
+      locks = same.locks;
+      trains = same.trains;
+    })))
+
+-- release r: r was Occupied, at least two more were seen than released, and x, the path section after the released ones, was
+-- vacant and had lock Used; points, boards and trains stay, and all locks but that of x
+pub record IsReleased (p : PlantLists) (s t : State) (r : ℕ) : Type 0 where
+  pub route : Route
+  pub now : RouteState
+  pub x : ℕ
+  pub changes : ChangesRoute p s t r route now (record now { rel = now.rel + 1 })
+  pub was : now.mode ≡ Occupied
+  pub behind : now.rel + 2 ≤ now.seen
+  pub first : slice_get route.path now.rel ≡ Some x
+  pub vacant : is_occupied s x ≡ false
+  pub used : has_lock s x UsedLock ≡ true
+  pub points : t.points ≡ s.points
+  pub boards : t.boards ≡ s.boards
+  pub locks : t.locks ≡ set s.locks x FreeLock
+  pub trains : t.trains ≡ s.trains
+
+pub release-frame : (p : PlantLists) (s t : State) (r : ℕ) → after_release p s r ≡ Some t → IsReleased p s t r
+release-frame p s t r e =
+    option_and_then_some _ (slice_get p.routes r) t e (λ route known e1.
+    option_and_then_some _ (slice_get s.routes r) t e1 (λ now state e2.
+    option_and_then_some _ (slice_get route.path now.rel) t e2 (λ x first e3.
+    let done = cond_some _ _ t e3 in
+    let same = same-lists _ t done.1 in
+    let mode = same_mode now.mode Occupied in
+    let asked = and_parts (mode && nat_le (now.rel + 2) now.seen && not (is_occupied s x)) (has_lock s x UsedLock) done.0 in
+    let three = and_parts (mode && nat_le (now.rel + 2) now.seen) (not (is_occupied s x)) asked.0 in
+    let both = and_parts mode (nat_le (now.rel + 2) now.seen) three.0 in
+    record {
+      route = route;
+      now = now;
+      x = x;
+      changes = record { known = known; state = state; routes = same.routes };
+      was = one_mode now.mode Occupied both.0;
+      behind = at_most (now.rel + 2) now.seen both.1;
+      first = first;
+      vacant = fails (is_occupied s x) three.1;
+      used = asked.1;
+      points = same.points;
+      boards = same.boards;
+      locks = same.locks;
+      trains = same.trains;
+    })))
+  where
+    at_most : (n m : ℕ) → nat_le n m ≡ true → n ≤ m
+    at_most n m h = grind (arith, nat_tests)
+
+-- the last of a list, by its place
+last-place : (xs : List ℕ) (n x : ℕ) → n + 1 ≡ length xs → last_or None xs ≡ Some x → slice_get xs n ≡ Some x
+last-place xs n x count last =
+    let item = item_at xs n (omega (arith, count)) in
+    item.1 ∙ sym (last_or-at None xs n item.0 count item.1) ∙ last
+
+-- finish r: r was Occupied, its whole path was seen, and all of it but its last section x was released; points, boards and
+-- trains stay, and all locks but those of x and of the sections beside the path
+pub record IsFinished (p : PlantLists) (s t : State) (r : ℕ) : Type 0 where
+  pub route : Route
+  pub now : RouteState
+  pub x : ℕ
+  pub changes : ChangesRoute p s t r route now (record { mode = Free; seen = 0; rel = 0 })
+  pub was : now.mode ≡ Occupied
+  pub all_seen : now.seen ≡ length route.path
+  pub rest : now.rel + 1 ≡ length route.path
+  pub last : slice_get route.path now.rel ≡ Some x
+  pub points : t.points ≡ s.points
+  pub boards : t.boards ≡ s.boards
+  pub locks : t.locks ≡ with_locks (set s.locks x FreeLock) (sections_beside route) FreeLock
+  pub trains : t.trains ≡ s.trains
+
+pub finish-frame : (p : PlantLists) (s t : State) (r : ℕ) → after_finish p s r ≡ Some t → IsFinished p s t r
+finish-frame p s t r e =
+    option_and_then_some _ (slice_get p.routes r) t e (λ route known e1.
+    option_and_then_some _ (slice_get s.routes r) t e1 (λ now state e2.
+    option_and_then_some _ (last_or None route.path) t e2 (λ x last e3.
+    let done = cond_some _ _ t e3 in
+    let same = same-lists _ t done.1 in
+    let asked = and_parts (same_mode now.mode Occupied && now.seen == length route.path) (now.rel + 1 == length route.path) done.0 in
+    let both = and_parts (same_mode now.mode Occupied) (now.seen == length route.path) asked.0 in
+    let rest = eqb-true (now.rel + 1) (length route.path) asked.1 in
+    record {
+      route = route;
+      now = now;
+      x = x;
+      changes = record { known = known; state = state; routes = same.routes };
+      was = one_mode now.mode Occupied both.0;
+      all_seen = eqb-true now.seen (length route.path) both.1;
+      rest = rest;
+      last = last-place route.path now.rel x rest last;
+      points = same.points;
+      boards = same.boards;
+      locks = same.locks;
+      trains = same.trains;
+    })))
+
+-- throw x: the point on x didn't move, and didn't lie where it is commanded; routes, boards, locks and trains stay, all
+-- other points, and where points are commanded
+pub record IsThrown (p : PlantLists) (s t : State) (x : ℕ) : Type 0 where
+  pub n : ℕ
+  pub point : PointState
+  pub number : point_number p x ≡ Some n
+  pub state : slice_get s.points n ≡ Some point
+  pub still : is_moving point.at ≡ false
+  pub elsewhere : lies_at point.at point.to ≡ false
+  pub routes : t.routes ≡ s.routes
+  pub points : t.points ≡ set s.points n (record point { at = Moving })
+  pub boards : t.boards ≡ s.boards
+  pub locks : t.locks ≡ s.locks
+  pub trains : t.trains ≡ s.trains
+
+pub throw-frame : (p : PlantLists) (s t : State) (x : ℕ) → after_throw p s x ≡ Some t → IsThrown p s t x
+throw-frame p s t x e =
+    option_and_then_some _ (point_number p x) t e (λ n number e1.
+    option_and_then_some _ (slice_get s.points n) t e1 (λ point state e2.
+    let done = cond_some _ _ t e2 in
+    let same = same-lists _ t done.1 in
+    let asked = and_parts (not (is_moving point.at)) (not (lies_at point.at point.to)) done.0 in
+    record {
+      n = n;
+      point = point;
+      number = number;
+      state = state;
+      still = fails (is_moving point.at) asked.0;
+      elsewhere = fails (lies_at point.at point.to) asked.1;
+      routes = same.routes;
+      points = same.points;
+      boards = same.boards;
+      locks = same.locks;
+      trains = same.trains;
+    }))
+
+-- settle x: the point on x moved; routes, boards, locks and trains stay, all other points, and where points are commanded
+pub record IsSettled (p : PlantLists) (s t : State) (x : ℕ) : Type 0 where
+  pub n : ℕ
+  pub point : PointState
+  pub number : point_number p x ≡ Some n
+  pub state : slice_get s.points n ≡ Some point
+  pub moved : is_moving point.at ≡ true
+  pub routes : t.routes ≡ s.routes
+  pub points : t.points ≡ set s.points n (record point { at = lie_in point.to })
+  pub boards : t.boards ≡ s.boards
+  pub locks : t.locks ≡ s.locks
+  pub trains : t.trains ≡ s.trains
+
+pub settle-frame : (p : PlantLists) (s t : State) (x : ℕ) → after_settle p s x ≡ Some t → IsSettled p s t x
+settle-frame p s t x e =
+    option_and_then_some _ (point_number p x) t e (λ n number e1.
+    option_and_then_some _ (slice_get s.points n) t e1 (λ point state e2.
+    let done = cond_some _ _ t e2 in
+    let same = same-lists _ t done.1 in
+    record {
+      n = n;
+      point = point;
+      number = number;
+      state = state;
+      moved = done.0;
+      routes = same.routes;
+      points = same.points;
+      boards = same.boards;
+      locks = same.locks;
+      trains = same.trains;
+    }))
+
+-- enter x: x is a border, and was vacant, with lock Free; routes, points, boards and locks stay, and all trains
+pub record IsEntered (p : PlantLists) (s t : State) (x : ℕ) : Type 0 where
+  pub inward : Dir
+  pub borders : border p x ≡ Some inward
+  pub free : has_lock s x FreeLock ≡ true
+  pub vacant : is_occupied s x ≡ false
+  pub routes : t.routes ≡ s.routes
+  pub points : t.points ≡ s.points
+  pub boards : t.boards ≡ s.boards
+  pub locks : t.locks ≡ s.locks
+  pub trains : t.trains ≡ s.trains ++ train_on x inward ∷ []
+
+pub enter-frame : (p : PlantLists) (s t : State) (x : ℕ) → after_enter p s x ≡ Some t → IsEntered p s t x
+enter-frame p s t x e =
+    option_and_then_some _ (border p x) t e (λ inward borders e1.
+    let done = cond_some _ _ t e1 in
+    let same = same-lists _ t done.1 in
+    let asked = and_parts (has_lock s x FreeLock) (not (is_occupied s x)) done.0 in
+    record {
+      inward = inward;
+      borders = borders;
+      free = asked.0;
+      vacant = fails (is_occupied s x) asked.1;
+      routes = same.routes;
+      points = same.points;
+      boards = same.boards;
+      locks = same.locks;
+      trains = same.trains;
+    })
+
+-- closing a board leaves all else alone
+closed-lists : (board : Option ℕ) (s : State) → SameLists (record s { boards = (with_board_closed board s).boards }) (with_board_closed board s)
+closed-lists None s = record { routes = refl; points = refl; boards = refl; locks = refl; trains = refl }
+closed-lists (Some m) s = record { routes = refl; points = refl; boards = refl; locks = refl; trains = refl }
+
+-- the boards, where trains alone change
+closed-boards : (board : Option ℕ) (s : State) (trains : List Train) → (with_board_closed board (record s { trains = trains })).boards ≡ (with_board_closed board s).boards
+closed-boards None s trains = refl
+closed-boards (Some m) s trains = refl
+
+-- head x: train i had its head at x, y lay ahead, and it might pass the board; routes, points and locks stay, all other
+-- trains, and all boards but the one at x
+pub record IsHeaded (p : PlantLists) (s t : State) (x : ℕ) : Type 0 where
+  pub i : ℕ
+  pub train : Train
+  pub y : ℕ
+  pub at : slice_get s.trains i ≡ Some train
+  pub heads : has_head x train ≡ true
+  pub leads : ahead p s x train.dir ≡ Some y
+  pub passes : may_pass s (board_of p x train.dir) ≡ true
+  pub routes : t.routes ≡ s.routes
+  pub points : t.points ≡ s.points
+  pub boards : t.boards ≡ (with_board_closed (board_of p x train.dir) s).boards
+  pub locks : t.locks ≡ s.locks
+  pub trains : t.trains ≡ set s.trains i (with_new_head y train)
+
+pub head-frame : (p : PlantLists) (s t : State) (x : ℕ) → after_head p s x ≡ Some t → IsHeaded p s t x
+head-frame p s t x e =
+    option_and_then_some _ (position (has_head x) s.trains) t e (λ i first e1.
+    option_and_then_some _ (slice_get s.trains i) t e1 (λ train at e2.
+    option_and_then_some _ (ahead p s x train.dir) t e2 (λ y leads e3.
+    let done = cond_some _ _ t e3 in
+    let moved : State = record s { trains = set s.trains i (with_new_head y train) } in
+    let same = same-lists (with_board_closed (board_of p x train.dir) moved) t done.1 in
+    let closed = closed-lists (board_of p x train.dir) moved in
+    record {
+      i = i;
+      train = train;
+      y = y;
+      at = at;
+      heads = position-at (has_head x) s.trains i train first at;
+      leads = leads;
+      passes = done.0;
+      routes = same.routes ∙ closed.routes;
+      points = same.points ∙ closed.points;
+      boards = same.boards ∙ closed-boards (board_of p x train.dir) s (set s.trains i (with_new_head y train));
+      locks = same.locks ∙ closed.locks;
+      trains = same.trains ∙ closed.trains;
+    })))
+
+-- tail x: train i of two or more sections had its tail at x; routes, points, boards and locks stay, and all other trains
+pub record IsTailed (p : PlantLists) (s t : State) (x : ℕ) : Type 0 where
+  pub i : ℕ
+  pub train : Train
+  pub at : slice_get s.trains i ≡ Some train
+  pub several : has_tail_before_head x train ≡ true
+  pub routes : t.routes ≡ s.routes
+  pub points : t.points ≡ s.points
+  pub boards : t.boards ≡ s.boards
+  pub locks : t.locks ≡ s.locks
+  pub trains : t.trains ≡ set s.trains i (without_tail train)
+
+pub tail-frame : (p : PlantLists) (s t : State) (x : ℕ) → after_tail p s x ≡ Some t → IsTailed p s t x
+tail-frame p s t x e =
+    option_and_then_some _ (slice_get p.sections x) t e (λ section known e0.
+    option_and_then_some _ (position (has_tail_before_head x) s.trains) t e0 (λ i first e1.
+    option_and_then_some _ (slice_get s.trains i) t e1 (λ train at e2.
+    let same = same-lists _ t (same_Some _ t e2) in
+    record {
+      i = i;
+      train = train;
+      at = at;
+      several = position-at (has_tail_before_head x) s.trains i train first at;
+      routes = same.routes;
+      points = same.points;
+      boards = same.boards;
+      locks = same.locks;
+      trains = same.trains;
+    })))
+
+-- leave x: train i stood on x alone; routes, points, boards and locks stay, and all other trains
+pub record IsLeft (p : PlantLists) (s t : State) (x : ℕ) : Type 0 where
+  pub i : ℕ
+  pub train : Train
+  pub at : slice_get s.trains i ≡ Some train
+  pub alone : stands_on x train ≡ true
+  pub routes : t.routes ≡ s.routes
+  pub points : t.points ≡ s.points
+  pub boards : t.boards ≡ s.boards
+  pub locks : t.locks ≡ s.locks
+  pub trains : t.trains ≡ remove s.trains i
+
+pub leave-frame : (p : PlantLists) (s t : State) (x : ℕ) → after_leave p s x ≡ Some t → IsLeft p s t x
+leave-frame p s t x e =
+    option_and_then_some _ (slice_get p.sections x) t e (λ section known e0.
+    option_and_then_some _ (position (stands_on x) s.trains) t e0 (λ i first e1.
+    option_and_then_some _ (slice_get s.trains i) t e1 (λ train at e2.
+    let same = same-lists _ t (cond_some _ _ t e2).1 in
+    record {
+      i = i;
+      train = train;
+      at = at;
+      alone = position-at (stands_on x) s.trains i train first at;
+      routes = same.routes;
+      points = same.points;
+      boards = same.boards;
+      locks = same.locks;
+      trains = same.trains;
+    })))
+
+-- cancel r: r was Marked or Allocating; points, boards and trains stay, and all locks unless r was Allocating
+pub record IsCancelled (p : PlantLists) (s t : State) (r : ℕ) : Type 0 where
+  pub route : Route
+  pub now : RouteState
+  pub changes : ChangesRoute p s t r route now (record now { mode = Free })
+  pub was : (same_mode now.mode Marked || same_mode now.mode Allocating) ≡ true
+  pub points : t.points ≡ s.points
+  pub boards : t.boards ≡ s.boards
+  pub locks : t.locks ≡ (if same_mode now.mode Allocating then with_locks s.locks (sections_locked_for route) FreeLock else s.locks)
+  pub trains : t.trains ≡ s.trains
+
+pub cancel-frame : (p : PlantLists) (s t : State) (r : ℕ) → after_cancel p s r ≡ Some t → IsCancelled p s t r
+cancel-frame p s t r e =
+    option_and_then_some _ (slice_get p.routes r) t e (λ route known e1.
+    option_and_then_some _ (slice_get s.routes r) t e1 (λ now state e2.
+    let done = cond_some _ _ t e2 in
+    let same = same-lists _ t done.1 in
+    record {
+      route = route;
+      now = now;
+      changes = record { known = known; state = state; routes = same.routes };
+      was = done.0;
+      points = same.points;
+      boards = same.boards;
+      locks = same.locks;
+      trains = same.trains;
+    }))

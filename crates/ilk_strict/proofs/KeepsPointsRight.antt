@@ -1,0 +1,330 @@
+-- No event lets a train stand on a point that moves or lies wrongly. What is under a train is kept by a route, which needs it
+-- as it lies, so it isn't thrown; a train goes on to a point that lies as its route needs it.
+use Rattle.std.proofs.Common.{◌≡◌, ℕ, zero, suc, ◌+◌, ◌<◌, ◌≤◌, Bool, true, false, ◌==◌, ◌||◌, ◌&&◌, Option, Some, None, List, [], ◌∷◌, ◌++◌, inl, inr, ◌⊎◌, drop, length, nat_lt, remove, set, slice_get, take, zip, refl, sym, ◌∙◌, ap, subst, arith}
+use Rattle.std.specs.Prelude.{if◌then◌else◌}
+use Rattle.std.specs.List.{last_or, list_any}
+use Rattle.std.proofs.lemmas.Bool.{and_from, and_parts, both_ways, cases_Bool, cases_eq, eqb-true, eq-eqb, false_from_ne_true, or_left, or_right}
+use Rattle.std.proofs.lemmas.Bool.Decides.{nat_tests}
+use Rattle.std.proofs.lemmas.Option.{same_Some, slice_get_within}
+use Rattle.ilk_base.specs.Option.{◌>>=◌, is_some_and}
+use Rattle.ilk_base.proofs.Lists.{item_at}
+use Rattle.ilk_base.proofs.Options.{bind_some}
+use Rattle.ilk_base.proofs.Truth.{either}
+use Rattle.ilk_plant.specs.ColumnRules.{has_no_board}
+use Rattle.ilk_plant.specs.Network.{beside, has_section, inward, is_point, same_direction}
+use Rattle.ilk_plant.specs.Plant.{IsPlant, PlantLists, board_of, border, is_point_section, next_to, point_number}
+use Rattle.ilk_plant.specs.State.{is_occupied, lie_of}
+use Rattle.ilk_plant.specs.declared.network.Dir.{Dir}
+use Rattle.ilk_plant.specs.declared.network.Dir.TheVariants.{Up, Down}
+use Rattle.ilk_plant.specs.declared.network.Position.{Position}
+use Rattle.ilk_plant.specs.declared.network.Position.TheVariants.{Plus, Minus}
+use Rattle.ilk_plant.specs.declared.network.Section.{Section}
+use Rattle.ilk_plant.specs.declared.network.Section.TheVariants.{Linear, Point}
+use Rattle.ilk_plant.specs.declared.state.Lie.{Lie}
+use Rattle.ilk_plant.specs.declared.state.Lie.TheVariants.{Plus as LiesPlus, Minus as LiesMinus, Moving}
+use Rattle.ilk_plant.specs.declared.state.PointState.{PointState}
+use Rattle.ilk_plant.specs.declared.state.State.{State}
+use Rattle.ilk_plant.specs.declared.state.Train.{Train}
+use Rattle.ilk_plant.specs.declared.table.Route.{Route}
+use Rattle.ilk_motion.specs.Ahead.{ahead, leads_to, leg_at}
+use Rattle.ilk_motion.specs.Body.{train_on, with_new_head, without_tail}
+use Rattle.ilk_routes.specs.Claims.{wanted_points}
+use Rattle.ilk_routes.specs.Lies.{is_moving, lie_in, lies_at}
+use Rattle.ilk_model.specs.Commanded.{commanded_position}
+use Rattle.ilk_model.specs.Hazard.{has_pair, is_wrong, strays}
+use Rattle.ilk_model.specs.Holding.{is_kept_on_path, is_plain}
+use Rattle.ilk_strict.specs.IsStrict.{IsFrom, IsStrict}
+use Rattle.ilk_strict.proofs.After.{wrong-reads}
+use Rattle.ilk_strict.proofs.Ahead.{LegsDiffer, leg, legs-differ, only-one, other_leg, stem-no_other, leg-no_other, strays-lie_in, leg_at-lie_in}
+use Rattle.ilk_strict.proofs.Alike.{own_lie}
+use Rattle.ilk_strict.proofs.Frames.{ChangesRoute, IsAllocated, IsCancelled, IsEntered, IsFinished, IsHeaded, IsLeft, IsLocked, IsMarked, IsReleased, IsSensed, IsSettled, IsTailed, IsThrown}
+use Rattle.ilk_strict.proofs.Heads.{GoesOn, LiesAhead, lies-ahead}
+use Rattle.ilk_strict.proofs.HeldPoints.{IsSet, held-point}
+use Rattle.ilk_strict.proofs.KeepsV4.{headed-goes_on}
+use Rattle.ilk_strict.proofs.Points.{commanded-at_listed, commanded-is, lie-alike, lie-is, lie-kept, lie-other, lies-new}
+use Rattle.ilk_strict.proofs.Reading.{kept-from, section-at, section-from}
+use Rattle.ilk_strict.proofs.RouteFacts.{lies-at}
+use Rattle.ilk_strict.proofs.Table.{numbered-section, route-source}
+use Rattle.ilk_strict.proofs.TrainFacts.{IsKeptBy, Keeps, body-kept, wrong-at, wrong-from}
+use Rattle.ilk_strict.proofs.Trains.{enter-trains, head-trains, last-is, leave-trains, longer-has, shorter-has, tail-trains}
+
+-- no train stands on a point that moves or lies wrongly
+abbrev pub AreRight : PlantLists → State → Type 0
+AreRight p s = (x : ℕ) → x < length p.sections → is_wrong p s x ≡ false
+
+-- a pair of a body with one more section is a pair of the body, or the last section and the new one
+pair-pushed : (a b x y : ℕ) (body : List ℕ) → last_or None body ≡ Some x → has_pair a b (body ++ y ∷ []) ≡ true → (has_pair a b body ≡ true) ⊎ ((a ≡ x) × (b ≡ y)) ⊎ ((b ≡ x) × (a ≡ y))
+pair-pushed a b x y [] last h = cc
+pair-pushed a b x y (c ∷ []) last h =
+    let same : c ≡ x = same_Some c x last in
+    let pair : ((c == a && y == b) || (c == b && y == a)) ≡ true = first ((c == a && y == b) || (c == b && y == a)) h in
+    elim (either (c == a && y == b) (c == b && y == a) pair) [
+      | inl e ↦ (let parts = and_parts (c == a) (y == b) e in inr (inl (sym (eqb-true c a parts.0) ∙ same, sym (eqb-true y b parts.1))))
+      | inr e ↦ (let parts = and_parts (c == b) (y == a) e in inr (inr (sym (eqb-true c b parts.0) ∙ same, sym (eqb-true y a parts.1))))
+    ]
+  where
+    first : (u : Bool) → (u || false) ≡ true → u ≡ true
+    first true h = refl
+    first false h = h
+pair-pushed a b x y (c ∷ d ∷ rest) last h =
+    elim (either ((c == a && d == b) || (c == b && d == a)) (has_pair a b (d ∷ rest ++ y ∷ [])) h) [
+      | inl here ↦ inl (or_left ((c == a && d == b) || (c == b && d == a)) (has_pair a b (d ∷ rest)) here)
+      | inr later ↦ elim (pair-pushed a b x y (d ∷ rest) last later) [
+        | inl old ↦ inl (or_right ((c == a && d == b) || (c == b && d == a)) (has_pair a b (d ∷ rest)) old)
+        | inr new ↦ inr new
+      ]
+    ]
+
+-- both of a pair stand in the body
+pair-has : (a b : ℕ) (body : List ℕ) → has_pair a b body ≡ true → has_section a body ≡ true
+pair-has a b [] h = cc
+pair-has a b (c ∷ []) h = cc
+pair-has a b (c ∷ d ∷ rest) h =
+    elim (either ((c == a && d == b) || (c == b && d == a)) (has_pair a b (d ∷ rest)) h) [
+      | inl here ↦ elim (either (c == a && d == b) (c == b && d == a) here) [
+        | inl e ↦ or_left (c == a) (has_section a (d ∷ rest)) (and_parts (c == a) (d == b) e).0
+        | inr e ↦ or_right (c == a) (has_section a (d ∷ rest)) (or_left (d == a) (has_section a rest) (and_parts (c == b) (d == a) e).1)
+      ]
+      | inr later ↦ or_right (c == a) (has_section a (d ∷ rest)) (pair-has a b (d ∷ rest) later)
+    ]
+
+-- a pair of a shorter body is one of the body
+pair-shorter : (a b : ℕ) (body : List ℕ) → has_pair a b (remove body 0) ≡ true → has_pair a b body ≡ true
+pair-shorter a b [] h = cc
+pair-shorter a b (c ∷ []) h = cc
+pair-shorter a b (c ∷ d ∷ rest) h = or_right ((c == a && d == b) || (c == b && d == a)) (has_pair a b (d ∷ rest)) h
+
+-- a body that strays on a point has it
+strays-has : (x plus minus : ℕ) (lie : Option Lie) (body : List ℕ) → strays x plus minus lie body ≡ true → has_section x body ≡ true
+strays-has x plus minus None body h = cc
+strays-has x plus minus (Some Moving) body h = h
+strays-has x plus minus (Some LiesPlus) body h = pair-has x minus body h
+strays-has x plus minus (Some LiesMinus) body h = pair-has x plus body h
+
+strays-shorter : (x plus minus : ℕ) (lie : Option Lie) (body : List ℕ) → strays x plus minus lie (remove body 0) ≡ true → strays x plus minus lie body ≡ true
+strays-shorter x plus minus None body h = cc
+strays-shorter x plus minus (Some Moving) body h = shorter-has x body h
+strays-shorter x plus minus (Some LiesPlus) body h = pair-shorter x minus body h
+strays-shorter x plus minus (Some LiesMinus) body h = pair-shorter x plus body h
+
+-- a point is no border, has no board, and has a neighbour on each side
+point-no_border : (p : PlantLists) (x stem plus minus : ℕ) (faces d : Dir) → slice_get p.sections x ≡ Some (Point stem plus minus faces) → border p x ≡ Some d → ⊥
+point-no_border p x stem plus minus faces d section at = let bad : None ≡ Some d = rw section at at in cc
+
+point-plain : (p : PlantLists) (x stem plus minus : ℕ) (faces d : Dir) → slice_get p.sections x ≡ Some (Point stem plus minus faces) → is_plain p d x ≡ true
+point-plain p x stem plus minus faces d section = rw section (by_side (same_direction faces d))
+  where
+    by_side : (b : Bool) → nat_lt 0 (length (if b then plus ∷ minus ∷ [] else stem ∷ [])) ≡ true
+    by_side true = refl
+    by_side false = refl
+
+-- a point that lies at a position leads ahead to no other leg
+ahead-no_other : (p : PlantLists) → IsPlant p → (s : State) → (x y stem plus minus : ℕ) (faces d : Dir) (to : Position) → slice_get p.sections x ≡ Some (Point stem plus minus faces) → lie_of p s x ≡ Some (lie_in to) → ahead p s x d ≡ Some y → y ≡ other_leg plus minus to → ⊥
+ahead-no_other p plant s x y stem plus minus faces d to section lie leads other =
+    let here = bind_some (slice_get p.sections x) (λ it. leads_to it d (lie_of p s x)) y leads in
+    let same : here.0 ≡ Point stem plus minus faces = same_Some here.0 (Point stem plus minus faces) (sym here.1 ∙ section) in
+    let by_side : (if same_direction faces d then lie_of p s x >>= leg_at plus minus else Some stem) ≡ Some y = subst (λ it. leads_to it d (lie_of p s x) ≡ Some y) same here.2 in
+    let differ = legs-differ p plant x stem plus minus faces section in
+    elim (cases_Bool (same_direction faces d)) [
+      | inl facing ↦
+          (let to_leg : (lie_of p s x >>= leg_at plus minus) ≡ Some y = rw facing at by_side in
+          let at_leg : leg_at plus minus (lie_in to) ≡ Some y = rw lie at to_leg in
+          leg-no_other stem plus minus to differ (same_Some (leg plus minus to) y (sym (leg_at-lie_in plus minus to) ∙ at_leg) ∙ other))
+      | inr turned ↦
+          (let to_stem : Some stem ≡ Some y = rw turned at by_side in
+          stem-no_other stem plus minus to differ (same_Some stem y to_stem ∙ other))
+    ]
+
+-- a point either moves or lies at a position
+moves-or_lies : (lie : Lie) → (lie ≡ Moving) ⊎ ((to : Position) × (lie ≡ lie_in to))
+moves-or_lies LiesPlus = inr (Plus, refl)
+moves-or_lies LiesMinus = inr (Minus, refl)
+moves-or_lies Moving = inl refl
+
+moving-is : (lie : Lie) → is_moving lie ≡ true → lie ≡ Moving
+moving-is LiesPlus h = cc
+moving-is LiesMinus h = cc
+moving-is Moving h = refl
+
+moving-not_in : (to : Position) → Moving ≡ lie_in to → ⊥
+moving-not_in Plus e = cc
+moving-not_in Minus e = cc
+
+lie_in-once : (a b : Position) → lie_in a ≡ lie_in b → a ≡ b
+lie_in-once Plus Plus e = refl
+lie_in-once Plus Minus e = cc
+lie_in-once Minus Plus e = cc
+lie_in-once Minus Minus e = refl
+
+module _ (p : PlantLists) (plant : IsPlant p) (strict : IsStrict p) (s t : State) (keeps : Keeps p s) (n : ℕ) where
+  -- a train that stood there doesn't stray
+  no-strays : (z stem plus minus : ℕ) (faces : Dir) → slice_get p.sections z ≡ Some (Point stem plus minus faces) → (i : ℕ) (train : Train) → slice_get s.trains i ≡ Some train → strays z plus minus (lie_of p s z) train.body ≡ false
+  no-strays z stem plus minus faces section i train at =
+      wrong-at p s z (keeps.right_point z (slice_get_within p.sections z (Point stem plus minus faces) section)) stem plus minus faces section i train at
+
+  same-points : t.points ≡ s.points → t.trains ≡ s.trains → AreRight p t
+  same-points points trains x within = wrong-reads p s t x points trains (keeps.right_point x within)
+
+  -- where points lie as before, it is enough that no train strays as points lay
+  lie-as_before : ((x : ℕ) → lie_of p t x ≡ lie_of p s x) → ((z stem plus minus : ℕ) (faces : Dir) → slice_get p.sections z ≡ Some (Point stem plus minus faces) → (i : ℕ) (train : Train) → slice_get t.trains i ≡ Some train → strays z plus minus (lie_of p s z) train.body ≡ false) → AreRight p t
+  lie-as_before lies each z within =
+      wrong-from p t z (λ stem plus minus faces section i train at. rw (lies z) (each z stem plus minus faces section i train at))
+
+  points-lie : t.points ≡ s.points → (x : ℕ) → lie_of p t x ≡ lie_of p s x
+  points-lie points x = lie-alike p s t x (λ m number. ap (λ (l : List PointState). slice_get l m) points)
+
+  pub mark-keeps_right : IsMarked p s t n → AreRight p t
+  mark-keeps_right it = same-points it.points it.trains
+
+  pub allocate-keeps_right : IsAllocated p s t n → AreRight p t
+  allocate-keeps_right it =
+      lie-as_before (lie-kept p s t (wanted_points it.route) it.points) (λ z stem plus minus faces section i train at.
+      no-strays z stem plus minus faces section i train (sym (ap (λ (l : List Train). slice_get l i) it.trains) ∙ at))
+
+  pub lock-keeps_right : IsLocked p s t n → AreRight p t
+  lock-keeps_right it = same-points it.points it.trains
+
+  pub sense-keeps_right : IsSensed p s t n → AreRight p t
+  sense-keeps_right it = same-points it.points it.trains
+
+  pub release-keeps_right : IsReleased p s t n → AreRight p t
+  release-keeps_right it = same-points it.points it.trains
+
+  pub finish-keeps_right : IsFinished p s t n → AreRight p t
+  finish-keeps_right it = same-points it.points it.trains
+
+  -- one point changes how it lies, and no train that stands on it strays
+  point-changes : (x m : ℕ) (point new : PointState) → point_number p x ≡ Some m → slice_get s.points m ≡ Some point → t.points ≡ set s.points m new → t.trains ≡ s.trains → ((i : ℕ) (train : Train) → slice_get s.trains i ≡ Some train → has_section x train.body ≡ true → ⊥) → AreRight p t
+  point-changes x m point new number at points trains free z within =
+      wrong-from p t z (λ stem plus minus faces section i train there.
+      let was : slice_get s.trains i ≡ Some train = sym (ap (λ (l : List Train). slice_get l i) trains) ∙ there in
+      elim (cases_eq z x) [
+        | inl same ↦ false_from_ne_true (strays z plus minus (lie_of p t z) train.body) (λ h. free i train was (rw same at (strays-has z plus minus (lie_of p t z) train.body h)))
+        | inr apart ↦ rw (lie-other p s t x m point new number at points z apart) (no-strays z stem plus minus faces section i train was)
+      ])
+
+  -- a point under a train lies where it is commanded
+  lies-set : (x m : ℕ) (point : PointState) → point_number p x ≡ Some m → slice_get s.points m ≡ Some point → (route : Route) (before i : ℕ) → IsSet p s route before i x → lies_at point.at point.to ≡ true
+  lies-set x m point number at route before i set_to =
+      let to : point.to ≡ set_to.to = same_Some point.to set_to.to (sym (commanded-is p s x m point number at) ∙ set_to.commanded) in
+      let lie : point.at ≡ lie_in set_to.to = same_Some point.at (lie_in set_to.to) (sym (lie-is p s x m point number at) ∙ set_to.lies) in
+      rw (lie, to) (own_lie set_to.to)
+
+  lies-kept : (x m : ℕ) (point : PointState) → point_number p x ≡ Some m → slice_get s.points m ≡ Some point → is_point_section p x ≡ true → (d : Dir) → IsKeptBy p s d x → lies_at point.at point.to ≡ true
+  lies-kept x m point number at is_point d kept =
+      let source = route-source p kept.route (plant.routes_known kept.r kept.route kept.it.known) in
+      let from : IsFrom p kept.r kept.route source.0 = record { known = kept.it.known; begins = source.1 } in
+      let within = slice_get_within kept.route.path kept.i x kept.at in
+      let before = item_at (source.0.section ∷ kept.route.path) kept.i (omega (arith, within)) in
+      lies-set x m point number at kept.route before.0 kept.i (held-point p strict s keeps.v6 kept.r kept.route kept.now kept.it kept.mode source.0 from before.0 kept.i x kept.least before.1 kept.at is_point)
+
+  lies-under : (x m : ℕ) (point : PointState) → point_number p x ≡ Some m → slice_get s.points m ≡ Some point → (i : ℕ) (train : Train) → slice_get s.trains i ≡ Some train → has_section x train.body ≡ true → lies_at point.at point.to ≡ true
+  lies-under x m point number at i train there has =
+      let numbered = numbered-section p x m number in
+      let found = section-at x train.body has in
+      let plain = of_section numbered.0 train.dir numbered.1 numbered.2 in
+      lies-kept x m point number at (rw numbered.1 numbered.2) train.dir (body-kept p s keeps.v8 i train there found.0 x found.1 plain)
+    where
+      of_section : (section : Section) (d : Dir) → slice_get p.sections x ≡ Some section → is_point section ≡ true → is_plain p d x ≡ true
+      of_section (Linear down up board_down board_up) d section h = cc
+      of_section (Point stem plus minus faces) d section h = point-plain p x stem plus minus faces d section
+
+  pub throw-keeps_right : IsThrown p s t n → AreRight p t
+  throw-keeps_right it =
+      let point = it.point in
+      point-changes n it.n point (record point { at = Moving }) it.number it.state it.points it.trains (λ i train at has.
+      both_ways (lies_at point.at point.to) it.elsewhere (lies-under n it.n point it.number it.state i train at has))
+
+  pub settle-keeps_right : IsSettled p s t n → AreRight p t
+  settle-keeps_right it =
+      let point = it.point in
+      point-changes n it.n point (record point { at = lie_in point.to }) it.number it.state it.points it.trains vacant
+    where
+      -- no train stood on the point while it moved
+      vacant : (i : ℕ) (train : Train) → slice_get s.trains i ≡ Some train → has_section n train.body ≡ true → ⊥
+      vacant i train at has =
+          let numbered = numbered-section p n it.n it.number in
+          of_section numbered.0 numbered.1 numbered.2
+        where
+          of_section : (section : Section) → slice_get p.sections n ≡ Some section → is_point section ≡ true → ⊥
+          of_section (Linear down up board_down board_up) section h = cc
+          of_section (Point stem plus minus faces) section h =
+              let lie : lie_of p s n ≡ Some Moving = lie-is p s n it.n it.point it.number it.state ∙ ap Some (moving-is it.point.at it.moved) in
+              let none : has_section n train.body ≡ false = rw lie at (no-strays n stem plus minus faces section i train at) in
+              both_ways (has_section n train.body) none has
+
+  pub enter-keeps_right : IsEntered p s t n → AreRight p t
+  enter-keeps_right it =
+      lie-as_before (points-lie it.points) (λ z stem plus minus faces section i train at. elim (enter-trains p s t n it i train at) [
+        | inl old ↦ no-strays z stem plus minus faces section i train old
+        | inr new ↦ false_from_ne_true (strays z plus minus (lie_of p s z) train.body) (λ h.
+          let has = strays-has z plus minus (lie_of p s z) train.body h in
+          let here : n ≡ z = only-one z n (subst (λ (one : Train). has_section z one.body ≡ true) new.1 has) in
+          point-no_border p z stem plus minus faces it.inward section (rw here at it.borders))
+      ])
+
+  pub head-keeps_right : IsHeaded p s t n → AreRight p t
+  head-keeps_right it =
+      lie-as_before (points-lie it.points) (λ z stem plus minus faces section i train at. elim (head-trains p s t n it i train at) [
+        | inl moved ↦ subst (λ (one : Train). strays z plus minus (lie_of p s z) one.body ≡ false) (sym moved.1) (false_from_ne_true (strays z plus minus (lie_of p s z) (it.train.body ++ it.y ∷ [])) (strayed z stem plus minus faces section (lie_of p s z) refl))
+        | inr other ↦ no-strays z stem plus minus faces section i train other.1
+      ])
+    where
+      on : GoesOn p s n it.train.dir it.y
+      on = headed-goes_on p plant strict s t keeps n it
+
+      head-at : last_or None it.train.body ≡ Some n
+      head-at = last-is n it.train.body it.heads None
+
+      -- the body didn't stray, nor does it with its new head
+      at_position : (z stem plus minus : ℕ) (faces : Dir) → slice_get p.sections z ≡ Some (Point stem plus minus faces) → (to : Position) → lie_of p s z ≡ Some (lie_in to) → has_pair z (other_leg plus minus to) (it.train.body ++ it.y ∷ []) ≡ true → ⊥
+      at_position z stem plus minus faces section to lie h = elim (pair-pushed z (other_leg plus minus to) n it.y it.train.body head-at h) [
+        | inl old ↦
+            (let none = no-strays z stem plus minus faces section it.i it.train it.at in
+            let was : has_pair z (other_leg plus minus to) it.train.body ≡ false = sym (strays-lie_in z plus minus to it.train.body) ∙ (rw lie at none) in
+            both_ways (has_pair z (other_leg plus minus to) it.train.body) was old)
+        | inr new ↦ elim new [
+          | inl from ↦ ahead-no_other p plant s z it.y stem plus minus faces it.train.dir to section lie (ap (λ (v : ℕ). ahead p s v it.train.dir) from.0 ∙ it.leads) (sym from.1)
+          | inr onto ↦
+              (let here : slice_get p.sections it.y ≡ Some (Point stem plus minus faces) = rw onto.1 at section in
+              let right = lies-ahead p plant strict s keeps n it.y it.train.dir on stem plus minus faces here in
+              let same : right.to ≡ to = lie_in-once right.to to (same_Some (lie_in right.to) (lie_in to) (sym right.lies ∙ ap (lie_of p s) (sym onto.1) ∙ lie)) in
+              right.apart (sym onto.0 ∙ ap (other_leg plus minus) (sym same)))
+        ]
+      ]
+
+      strayed : (z stem plus minus : ℕ) (faces : Dir) → slice_get p.sections z ≡ Some (Point stem plus minus faces) → (o : Option Lie) → lie_of p s z ≡ o → strays z plus minus (lie_of p s z) (it.train.body ++ it.y ∷ []) ≡ true → ⊥
+      strayed z stem plus minus faces section None lie h = let bad : false ≡ true = rw lie at h in cc
+      strayed z stem plus minus faces section (Some lie) lies h = elim (moves-or_lies lie) [
+        | inl moves ↦
+            (let moving : lie_of p s z ≡ Some Moving = lies ∙ ap Some moves in
+            let has : has_section z (it.train.body ++ it.y ∷ []) ≡ true = rw moving at h in
+            elim (longer-has z it.y it.train.body has) [
+              | inl old ↦
+                  (let none : has_section z it.train.body ≡ false = rw moving at (no-strays z stem plus minus faces section it.i it.train it.at) in
+                  both_ways (has_section z it.train.body) none old)
+              | inr new ↦
+                  (let here : slice_get p.sections it.y ≡ Some (Point stem plus minus faces) = rw new at section in
+                  let right = lies-ahead p plant strict s keeps n it.y it.train.dir on stem plus minus faces here in
+                  moving-not_in right.to (same_Some Moving (lie_in right.to) (sym moving ∙ ap (lie_of p s) new ∙ right.lies)))
+            ])
+        | inr at ↦
+            (let lie_at : lie_of p s z ≡ Some (lie_in at.0) = lies ∙ ap Some at.1 in
+            at_position z stem plus minus faces section at.0 lie_at (sym (strays-lie_in z plus minus at.0 (it.train.body ++ it.y ∷ [])) ∙ (rw lie_at at h)))
+      ]
+
+  pub tail-keeps_right : IsTailed p s t n → AreRight p t
+  tail-keeps_right it =
+      lie-as_before (points-lie it.points) (λ z stem plus minus faces section i train at. elim (tail-trains p s t n it i train at) [
+        | inl moved ↦ subst (λ (one : Train). strays z plus minus (lie_of p s z) one.body ≡ false) (sym moved.1) (false_from_ne_true (strays z plus minus (lie_of p s z) (remove it.train.body 0)) (λ h.
+          both_ways (strays z plus minus (lie_of p s z) it.train.body) (no-strays z stem plus minus faces section it.i it.train it.at) (strays-shorter z plus minus (lie_of p s z) it.train.body h)))
+        | inr other ↦ no-strays z stem plus minus faces section i train other.1
+      ])
+
+  pub leave-keeps_right : IsLeft p s t n → AreRight p t
+  leave-keeps_right it =
+      lie-as_before (points-lie it.points) (λ z stem plus minus faces section i train at.
+      let old = leave-trains p s t n it i train at in no-strays z stem plus minus faces section old.0 train old.1)
+
+  pub cancel-keeps_right : IsCancelled p s t n → AreRight p t
+  cancel-keeps_right it = same-points it.points it.trains

@@ -1,0 +1,180 @@
+-- No event breaks V5: each Open board is the source of a Locked route whose path sections are all vacant. A board opens as
+-- the source of an Allocating route, whose path is vacant; a train that comes to a path closes its source, or is on another.
+use Rattle.std.proofs.Common.{◌≡◌, ℕ, zero, suc, ◌+◌, ◌<◌, ◌≤◌, Bool, true, false, ◌==◌, ◌||◌, ◌&&◌, Option, Some, None, List, [], ◌∷◌, ◌++◌, inl, inr, ◌⊎◌, length, set, slice_get, refl, sym, ◌∙◌, ap, subst, arith}
+use Rattle.std.specs.Prelude.{if◌then◌else◌}
+use Rattle.std.proofs.lemmas.Bool.{both_ways, cases_eq}
+use Rattle.std.proofs.lemmas.Option.{same_Some}
+use Rattle.ilk_plant.specs.Plant.{IsPlant, PlantLists, board_of}
+use Rattle.ilk_plant.specs.Shape.{HasShape}
+use Rattle.ilk_plant.specs.State.{is_occupied}
+use Rattle.ilk_plant.specs.declared.state.Aspect.{Aspect}
+use Rattle.ilk_plant.specs.declared.state.Aspect.TheVariants.{Open, Closed}
+use Rattle.ilk_plant.specs.declared.state.Hold.TheVariants.{Free as FreeLock}
+use Rattle.ilk_plant.specs.declared.state.Mode.{Mode}
+use Rattle.ilk_plant.specs.declared.state.Mode.TheVariants.{Free, Marked, Allocating, Locked, Occupied}
+use Rattle.ilk_plant.specs.declared.state.RouteState.{RouteState}
+use Rattle.ilk_plant.specs.declared.state.State.{State}
+use Rattle.ilk_plant.specs.declared.table.Route.{Route}
+use Rattle.ilk_routes.specs.Modes.{same_mode}
+use Rattle.ilk_model.specs.Families.{keeps_v5}
+use Rattle.ilk_model.specs.Holding.{holds_section}
+use Rattle.ilk_strict.specs.IsStrict.{IsStrict}
+use Rattle.ilk_strict.proofs.After.{after-change, before-change, one-state, other-stays, route-stays, same-occupied, v5-reads}
+use Rattle.ilk_strict.proofs.Alike.{one_mode}
+use Rattle.ilk_strict.proofs.Boards.{head-open, other-board, sense-open}
+use Rattle.ilk_strict.proofs.Frames.{ChangesRoute, IsAllocated, IsCancelled, IsEntered, IsFinished, IsHeaded, IsLeft, IsLocked, IsMarked, IsReleased, IsSensed, IsSettled, IsTailed, IsThrown}
+use Rattle.ilk_strict.proofs.KeepsV4.{headed-goes_on}
+use Rattle.ilk_strict.proofs.Reading.{RouteIn, has_lock-at}
+use Rattle.ilk_strict.proofs.RouteFacts.{IsOpenFor, alone, held-not_free, holds-path, idle, locked-holds, locked-is, open-at, open-from, vacant-path}
+use Rattle.ilk_strict.proofs.Table.{path-section}
+use Rattle.ilk_strict.proofs.TrainFacts.{Keeps}
+use Rattle.ilk_strict.proofs.Trains.{enter-vacant, head-vacant, leave-vacant, tail-vacant}
+
+module _ (p : PlantLists) (plant : IsPlant p) (strict : IsStrict p) (s t : State) (keeps : Keeps p s) (n : ℕ) where
+  -- one route changes that isn't Locked before, and trains stay: a board that was Open is so for the same route
+  other-open : (route : Route) (now new : RouteState) → ChangesRoute p s t n route now new → t.trains ≡ s.trains → (m : ℕ) → (open_for : IsOpenFor p s m) → (open_for.r ≡ n → ⊥) → IsOpenFor p t m
+  other-open route now new changes trains m open_for apart = record {
+    r = open_for.r;
+    route = open_for.route;
+    now = open_for.now;
+    it = other-stays p s t n route now new changes open_for.r open_for.route open_for.now apart open_for.it;
+    source = open_for.source;
+    mode = open_for.mode;
+    vacant = λ i x at. same-occupied s t trains x ∙ open_for.vacant i x at;
+  }
+
+  -- the route for which a board is Open is another than one that isn't Locked
+  is-another : (route : Route) (now new : RouteState) → ChangesRoute p s t n route now new → (now.mode ≡ Locked → ⊥) → (m : ℕ) → (open_for : IsOpenFor p s m) → open_for.r ≡ n → ⊥
+  is-another route now new changes unlocked m open_for same =
+      let is = one-state p s open_for.r n open_for.route route open_for.now now open_for.it (before-change p s t n route now new changes) same in
+      unlocked (ap (λ (v : RouteState). v.mode) (sym is.1) ∙ open_for.mode)
+
+  -- boards stay
+  same-boards : (route : Route) (now new : RouteState) → ChangesRoute p s t n route now new → t.trains ≡ s.trains → t.boards ≡ s.boards → (now.mode ≡ Locked → ⊥) → keeps_v5 p t ≡ true
+  same-boards route now new changes trains boards unlocked =
+      open-from p t (λ m within shown.
+      let open_for = open-at p s keeps.v5 m within (sym (ap (λ (l : List Aspect). slice_get l m) boards) ∙ shown) in
+      other-open route now new changes trains m open_for (is-another route now new changes unlocked m open_for))
+
+  pub mark-keeps_v5 : IsMarked p s t n → keeps_v5 p t ≡ true
+  mark-keeps_v5 it = let now = it.now in same-boards it.route now (record now { mode = Marked }) it.changes it.trains it.boards (λ e. let bad : Free ≡ Locked = sym it.was ∙ e in cc)
+
+  pub allocate-keeps_v5 : IsAllocated p s t n → keeps_v5 p t ≡ true
+  allocate-keeps_v5 it = let now = it.now in same-boards it.route now (record now { mode = Allocating }) it.changes it.trains it.boards (λ e. let bad : Marked ≡ Locked = sym it.was ∙ e in cc)
+
+  pub lock-keeps_v5 : IsLocked p s t n → keeps_v5 p t ≡ true
+  lock-keeps_v5 it =
+      open-from p t (λ m within shown. elim (cases_eq m it.route.source) [
+        | inl same ↦ record {
+          r = n;
+          route = it.route;
+          now = new;
+          it = after-change p s t n it.route it.now new it.changes;
+          source = sym same;
+          mode = refl;
+          vacant = λ i x at. same-occupied s t it.trains x ∙ vacant-path p s keeps.v4 n it.route it.now (before-change p s t n it.route it.now new it.changes) it.was i x at;
+        }
+        | inr apart ↦
+            (let was : slice_get s.boards m ≡ Some Open = sym (other-board s.boards it.route.source m Open apart) ∙ sym (ap (λ (l : List Aspect). slice_get l m) it.boards) ∙ shown in
+            let open_for = open-at p s keeps.v5 m within was in
+            other-open it.route it.now new it.changes it.trains m open_for (is-another it.route it.now new it.changes (λ e. let bad : Allocating ≡ Locked = sym it.was ∙ e in cc) m open_for))
+      ])
+    where
+      new : RouteState
+      new = let now = it.now in record now { mode = Locked }
+
+  pub sense-keeps_v5 : IsSensed p s t n → keeps_v5 p t ≡ true
+  sense-keeps_v5 it =
+      open-from p t (λ m within shown.
+      let open_for = open-at p s keeps.v5 m within (sense-open p s t n it m shown) in
+      other-open it.route it.now new it.changes it.trains m open_for (apart m open_for))
+    where
+      new : RouteState
+      new = let now = it.now in record now { mode = Occupied; seen = now.seen + 1 }
+
+      -- the first section of a path that is sensed is occupied
+      apart : (m : ℕ) → (open_for : IsOpenFor p s m) → open_for.r ≡ n → ⊥
+      apart m open_for same =
+          let is = one-state p s open_for.r n open_for.route it.route open_for.now it.now open_for.it (before-change p s t n it.route it.now new it.changes) same in
+          let vacant = open_for.vacant it.now.seen it.x (ap (λ (route : Route). slice_get route.path it.now.seen) is.0 ∙ it.next) in
+          both_ways (is_occupied s it.x) vacant it.occupied
+
+  pub release-keeps_v5 : IsReleased p s t n → keeps_v5 p t ≡ true
+  release-keeps_v5 it = let now = it.now in same-boards it.route now (record now { rel = now.rel + 1 }) it.changes it.trains it.boards (λ e. let bad : Occupied ≡ Locked = sym it.was ∙ e in cc)
+
+  pub finish-keeps_v5 : IsFinished p s t n → keeps_v5 p t ≡ true
+  finish-keeps_v5 it = same-boards it.route it.now (record { mode = Free; seen = 0; rel = 0 }) it.changes it.trains it.boards (λ e. let bad : Occupied ≡ Locked = sym it.was ∙ e in cc)
+
+  pub throw-keeps_v5 : IsThrown p s t n → keeps_v5 p t ≡ true
+  throw-keeps_v5 it = v5-reads p s t it.routes it.boards it.trains keeps.v5
+
+  pub settle-keeps_v5 : IsSettled p s t n → keeps_v5 p t ≡ true
+  settle-keeps_v5 it = v5-reads p s t it.routes it.boards it.trains keeps.v5
+
+  -- routes stay, and what was Open was so; the paths of the Locked routes stay vacant
+  still-open : t.routes ≡ s.routes → (m : ℕ) → (open_for : IsOpenFor p s m) → ((i x : ℕ) → slice_get open_for.route.path i ≡ Some x → is_occupied s x ≡ false → is_occupied t x ≡ false) → IsOpenFor p t m
+  still-open routes m open_for stay = record {
+    r = open_for.r;
+    route = open_for.route;
+    now = open_for.now;
+    it = route-stays p s t routes open_for.r open_for.route open_for.now open_for.it;
+    source = open_for.source;
+    mode = open_for.mode;
+    vacant = λ i x at. stay i x at (open_for.vacant i x at);
+  }
+
+  -- a Locked route holds its whole path
+  holds-whole : (m : ℕ) → (open_for : IsOpenFor p s m) → (i x : ℕ) → slice_get open_for.route.path i ≡ Some x → holds_section x open_for.route open_for.now ≡ true
+  holds-whole m open_for i x at =
+      let counts = idle p s keeps.v1 open_for.r open_for.route open_for.now open_for.it (rw open_for.mode refl) in
+      let none = counts.1 in
+      holds-path open_for.route open_for.now i x (locked-holds open_for.now (locked-is open_for.now open_for.mode)) (omega (arith, none)) at
+
+  pub enter-keeps_v5 : IsEntered p s t n → keeps_v5 p t ≡ true
+  enter-keeps_v5 it =
+      open-from p t (λ m within shown.
+      let open_for = open-at p s keeps.v5 m within (sym (ap (λ (l : List Aspect). slice_get l m) it.boards) ∙ shown) in
+      still-open it.routes m open_for (λ i x at vacant. enter-vacant p s t n it x vacant (λ same.
+      held-not_free p s keeps.v3 open_for.r open_for.route open_for.now open_for.it x (holds-whole m open_for i x at) (ap (slice_get s.locks) same ∙ has_lock-at s n FreeLock it.free))))
+
+  pub head-keeps_v5 : IsHeaded p s t n → keeps_v5 p t ≡ true
+  head-keeps_v5 it =
+      open-from p t (λ m within shown.
+      let was = head-open p s t n it m shown in
+      let open_for = open-at p s keeps.v5 m within was.0 in
+      still-open it.routes m open_for (λ i x at vacant. head-vacant p s t n it x vacant (λ same. clash m was.0 was.1 open_for i x at same)))
+    where
+      -- the route on which the train goes on is another
+      clash : (m : ℕ) → slice_get s.boards m ≡ Some Open → (board_of p n it.train.dir ≡ Some m → ⊥) → (open_for : IsOpenFor p s m) → (i x : ℕ) → slice_get open_for.route.path i ≡ Some x → x ≡ it.y → ⊥
+      clash m shown elsewhere open_for i x at same =
+          let on = headed-goes_on p plant strict s t keeps n it in
+          let mine = holds-path on.route on.now on.k x (locked-holds on.now on.mode) on.least (on.at ∙ ap Some (sym same)) in
+          let one_route = alone p s keeps.v2 open_for.r open_for.route open_for.now open_for.it on.r on.route on.now on.it x (path-section p open_for.route (plant.routes_known open_for.r open_for.route open_for.it.known) i x at) (holds-whole m open_for i x at) mine in
+          let is = one-state p s open_for.r on.r open_for.route on.route open_for.now on.now open_for.it on.it one_route in
+          let source : on.route.source ≡ m = ap (λ (route : Route). route.source) (sym is.0) ∙ open_for.source in
+          let mode : on.now.mode ≡ Locked = ap (λ (v : RouteState). v.mode) (sym is.1) ∙ open_for.mode in
+          elim on.board [
+            | inl board ↦ elsewhere (board.0 ∙ ap Some source)
+            | inr none ↦ elim none.1 [
+              | inl occupied ↦ (let bad : Occupied ≡ Locked = sym occupied ∙ mode in cc)
+              | inr closed ↦ (let bad : Some Closed ≡ Some Open = sym closed.1 ∙ ap (slice_get s.boards) source ∙ shown in cc)
+            ]
+          ]
+
+  pub tail-keeps_v5 : IsTailed p s t n → keeps_v5 p t ≡ true
+  tail-keeps_v5 it =
+      open-from p t (λ m within shown.
+      let open_for = open-at p s keeps.v5 m within (sym (ap (λ (l : List Aspect). slice_get l m) it.boards) ∙ shown) in
+      still-open it.routes m open_for (λ i x at vacant. tail-vacant p s t n it x vacant))
+
+  pub leave-keeps_v5 : IsLeft p s t n → keeps_v5 p t ≡ true
+  leave-keeps_v5 it =
+      open-from p t (λ m within shown.
+      let open_for = open-at p s keeps.v5 m within (sym (ap (λ (l : List Aspect). slice_get l m) it.boards) ∙ shown) in
+      still-open it.routes m open_for (λ i x at vacant. leave-vacant p s t n it x vacant))
+
+  pub cancel-keeps_v5 : IsCancelled p s t n → keeps_v5 p t ≡ true
+  cancel-keeps_v5 it =
+      let now = it.now in
+      same-boards it.route now (record now { mode = Free }) it.changes it.trains it.boards (λ e.
+      let bad : (same_mode Locked Marked || same_mode Locked Allocating) ≡ true = rw e at it.was in cc)

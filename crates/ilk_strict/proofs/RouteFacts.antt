@@ -1,0 +1,299 @@
+-- What the families that speak of routes say, route by route, and what has to be shown of each route for a state to keep
+-- them: V1 to V6 and V9.
+use Rattle.std.proofs.Common.{◌≡◌, ℕ, ◌+◌, ◌<◌, ◌≤◌, Bool, true, false, not, ◌==◌, ◌&&◌, ◌||◌, Some, List, inl, inr, ◌⊎◌, drop, length, nat_le, nat_lt, slice_get, refl, sym, ap, ◌∙◌, arith}
+use Rattle.std.specs.Prelude.{if◌then◌else◌}
+use Rattle.std.specs.List.{list_all}
+use Rattle.std.proofs.lemmas.Bool.{and_from, and_parts, both_ways, cases_Bool, eqb-true, eq-eqb, or_left, or_right}
+use Rattle.std.proofs.lemmas.Bool.Decides.{nat_tests}
+use Rattle.std.proofs.lemmas.Option.{same_Some, slice_get_within}
+use Rattle.ilk_base.specs.Each.{each_below}
+use Rattle.ilk_base.proofs.Tested.{all-pass, list_all-slice_get}
+use Rattle.ilk_base.proofs.Truth.{either, fails}
+use Rattle.ilk_plant.specs.Network.{has_section}
+use Rattle.ilk_plant.specs.Plant.{PlantLists}
+use Rattle.ilk_plant.specs.State.{has_lock, is_occupied}
+use Rattle.ilk_plant.specs.declared.state.Aspect.TheVariants.{Open, Closed}
+use Rattle.ilk_plant.specs.declared.state.Hold.TheVariants.{Free as FreeLock, Locked as LockedLock, Used as UsedLock}
+use Rattle.ilk_plant.specs.declared.state.Mode.TheVariants.{Allocating, Locked, Occupied}
+use Rattle.ilk_plant.specs.declared.state.RouteState.{RouteState}
+use Rattle.ilk_plant.specs.declared.state.State.{State}
+use Rattle.ilk_plant.specs.declared.table.Listed.{Listed}
+use Rattle.ilk_plant.specs.declared.table.Route.{Route}
+use Rattle.ilk_routes.specs.Boards.{has_aspect}
+use Rattle.ilk_routes.specs.Claims.{sections_beside}
+use Rattle.ilk_routes.specs.Lies.{lies_as_listed}
+use Rattle.ilk_routes.specs.Modes.{same_mode}
+use Rattle.ilk_model.specs.Commanded.{is_commanded_as_listed}
+use Rattle.ilk_model.specs.Families.{has_its_locks, is_commanded_for, keeps_v1, keeps_v2, keeps_v3, keeps_v4, keeps_v5, keeps_v6, keeps_v9, lies_for, lock_on_path}
+use Rattle.ilk_model.specs.Holding.{each_place, holds_section, holds_sections, is_kept_on_path, is_locked_or_occupied, is_vacant, route_holds}
+use Rattle.ilk_strict.proofs.Alike.{one_mode, own_mode}
+use Rattle.ilk_strict.proofs.Reading.{RouteIn, each_below-at, each_below-from, each_place-at, each_place-from, each_route-at, each_route-from, has_aspect-at, has_aspect-from, has_lock-at, has_lock-from, kept-at, kept-from, passes-at, passes-from, section-at, section-from, some_route-at, some_route-from}
+
+-- a test that is asked only where another passes
+pub asked : (a b : Bool) → (if a then b else true) ≡ true → a ≡ true → b ≡ true
+asked a b h e = rw e at h
+
+pub unless : (a b : Bool) → (a ≡ true → b ≡ true) → (if a then b else true) ≡ true
+unless true b f = f refl
+unless false b f = refl
+
+-- sections that are all vacant
+pub all_vacant-at : (s : State) (xs : List ℕ) → list_all (is_vacant s) xs ≡ true → (i x : ℕ) → slice_get xs i ≡ Some x → is_occupied s x ≡ false
+all_vacant-at s xs h i x at = fails (is_occupied s x) (list_all-slice_get (is_vacant s) xs i x h at)
+
+pub all_vacant-from : (s : State) (xs : List ℕ) → ((i x : ℕ) → slice_get xs i ≡ Some x → is_occupied s x ≡ false) → list_all (is_vacant s) xs ≡ true
+all_vacant-from s xs each = all-pass (is_vacant s) xs (λ i x at. rw (each i x at) refl)
+
+-- modes
+pub mode-differs : (now : RouteState) → now.mode ≡ Allocating → (same_mode now.mode Occupied ≡ false) × (same_mode now.mode Locked ≡ false)
+mode-differs now e = (rw e refl, rw e refl)
+
+pub locked-or_occupied : (now : RouteState) → is_locked_or_occupied now ≡ true → (now.mode ≡ Locked) ⊎ (now.mode ≡ Occupied)
+locked-or_occupied now h =
+    elim (either (same_mode now.mode Locked) (same_mode now.mode Occupied) h) [
+      | inl e ↦ inl (one_mode now.mode Locked e)
+      | inr e ↦ inr (one_mode now.mode Occupied e)
+    ]
+
+pub locked-is : (now : RouteState) → now.mode ≡ Locked → is_locked_or_occupied now ≡ true
+locked-is now e = rw e refl
+
+pub occupied-is : (now : RouteState) → now.mode ≡ Occupied → is_locked_or_occupied now ≡ true
+occupied-is now e = rw e refl
+
+pub allocating-holds : (now : RouteState) → now.mode ≡ Allocating → holds_sections now ≡ true
+allocating-holds now e = rw e refl
+
+pub locked-holds : (now : RouteState) → is_locked_or_occupied now ≡ true → holds_sections now ≡ true
+locked-holds now h = or_right (same_mode now.mode Allocating) (is_locked_or_occupied now) h
+
+-- a section that a route holds
+pub holds-path : (route : Route) (now : RouteState) (i x : ℕ) → holds_sections now ≡ true → now.rel ≤ i → slice_get route.path i ≡ Some x → holds_section x route now ≡ true
+holds-path route now i x holds least at =
+    and_from (holds_sections now) (has_section x (sections_beside route) || is_kept_on_path route now x) holds (or_right (has_section x (sections_beside route)) (is_kept_on_path route now x) (kept-from route now i x least at))
+
+pub holds-beside : (route : Route) (now : RouteState) (x : ℕ) → holds_sections now ≡ true → has_section x (sections_beside route) ≡ true → holds_section x route now ≡ true
+holds-beside route now x holds beside =
+    and_from (holds_sections now) (has_section x (sections_beside route) || is_kept_on_path route now x) holds (or_left (has_section x (sections_beside route)) (is_kept_on_path route now x) beside)
+
+pub holds-cases : (route : Route) (now : RouteState) (x : ℕ) → holds_section x route now ≡ true → (holds_sections now ≡ true) × ((has_section x (sections_beside route) ≡ true) ⊎ ((i : ℕ) × (now.rel ≤ i) × (slice_get route.path i ≡ Some x)))
+holds-cases route now x h =
+    let parts = and_parts (holds_sections now) (has_section x (sections_beside route) || is_kept_on_path route now x) h in
+    (parts.0, elim (either (has_section x (sections_beside route)) (is_kept_on_path route now x) parts.1) [
+      | inl beside ↦ inl beside
+      | inr kept ↦ inr (kept-at route now x kept)
+    ])
+
+-- V1, of a route
+abbrev pub counts_right : Route → RouteState → Bool
+counts_right route now =
+    if same_mode now.mode Occupied
+    then nat_lt now.rel now.seen && nat_le now.seen (length route.path)
+    else now.seen == 0 && now.rel == 0
+
+pub counts-idle : (route : Route) (now : RouteState) → same_mode now.mode Occupied ≡ false → now.seen ≡ 0 → now.rel ≡ 0 → counts_right route now ≡ true
+counts-idle route now idle seen rel =
+    rw idle (and_from (now.seen == 0) (now.rel == 0) (eq-eqb now.seen 0 seen) (eq-eqb now.rel 0 rel))
+
+pub counts-in_use : (route : Route) (now : RouteState) → same_mode now.mode Occupied ≡ true → now.rel < now.seen → now.seen ≤ length route.path → counts_right route now ≡ true
+counts-in_use route now busy behind within =
+    let first : nat_lt now.rel now.seen ≡ true = grind (arith, nat_tests) in
+    let second : nat_le now.seen (length route.path) ≡ true = grind (arith, nat_tests) in
+    rw busy (and_from (nat_lt now.rel now.seen) (nat_le now.seen (length route.path)) first second)
+
+module _ (p : PlantLists) (s : State) where
+  -- V1
+  pub idle : keeps_v1 p s ≡ true → (r : ℕ) (route : Route) (now : RouteState) → RouteIn p s r route now → same_mode now.mode Occupied ≡ false → (now.seen ≡ 0) × (now.rel ≡ 0)
+  idle kept r route now it mode =
+      let here : (now.seen == 0 && now.rel == 0) ≡ true = rw mode at (each_route-at p s counts_right kept r route now it) in
+      let parts = and_parts (now.seen == 0) (now.rel == 0) here in
+      (eqb-true now.seen 0 parts.0, eqb-true now.rel 0 parts.1)
+
+  pub in_use : keeps_v1 p s ≡ true → (r : ℕ) (route : Route) (now : RouteState) → RouteIn p s r route now → same_mode now.mode Occupied ≡ true → (now.rel < now.seen) × (now.seen ≤ length route.path)
+  in_use kept r route now it mode =
+      let here : (nat_lt now.rel now.seen && nat_le now.seen (length route.path)) ≡ true = rw mode at (each_route-at p s counts_right kept r route now it) in
+      let parts = and_parts (nat_lt now.rel now.seen) (nat_le now.seen (length route.path)) here in
+      let first : nat_lt now.rel now.seen ≡ true = parts.0 in
+      let second : nat_le now.seen (length route.path) ≡ true = parts.1 in
+      (grind (arith, nat_tests), grind (arith, nat_tests))
+
+  -- no more is released than seen; and where as many are seen as a place and one more, no more is released than the place
+  pub rel-seen : keeps_v1 p s ≡ true → (r : ℕ) (route : Route) (now : RouteState) → RouteIn p s r route now → now.rel ≤ now.seen
+  rel-seen kept r route now it = elim (cases_Bool (same_mode now.mode Occupied)) [
+    | inl busy ↦ (let counts = in_use kept r route now it busy in let less = counts.0 in omega (arith, less))
+    | inr away ↦ (let counts = idle kept r route now it away in let none = counts.1 in omega (arith, none))
+  ]
+
+  pub rel-led : keeps_v1 p s ≡ true → (r : ℕ) (route : Route) (now : RouteState) → RouteIn p s r route now → (i : ℕ) → now.seen ≤ i + 1 → now.rel ≤ i
+  rel-led kept r route now it i few = elim (cases_Bool (same_mode now.mode Occupied)) [
+    | inl busy ↦ (let counts = in_use kept r route now it busy in let less = counts.0 in omega (arith, less, few))
+    | inr away ↦ (let counts = idle kept r route now it away in let none = counts.1 in omega (arith, none))
+  ]
+
+  -- V2
+  pub alone : keeps_v2 p s ≡ true → (r : ℕ) (route : Route) (now : RouteState) → RouteIn p s r route now → (q : ℕ) (other : Route) (its : RouteState) → RouteIn p s q other its → (x : ℕ) → x < length p.sections → holds_section x route now ≡ true → holds_section x other its ≡ true → r ≡ q
+  alone kept r route now it q other its that x within here there =
+      let row = each_below-at (length p.routes) (λ a. each_below (length p.routes) (λ b. a == b || each_below (length p.sections) (λ y. not (route_holds p s a y && route_holds p s b y)))) kept r (slice_get_within p.routes r route it.known) in
+      let cell = each_below-at (length p.routes) (λ b. r == b || each_below (length p.sections) (λ y. not (route_holds p s r y && route_holds p s b y))) row q (slice_get_within p.routes q other that.known) in
+      elim (either (r == q) (each_below (length p.sections) (λ y. not (route_holds p s r y && route_holds p s q y))) cell) [
+        | inl same ↦ eqb-true r q same
+        | inr apart ↦
+            (let none = each_below-at (length p.sections) (λ y. not (route_holds p s r y && route_holds p s q y)) apart x within in
+            let both = and_from (route_holds p s r x) (route_holds p s q x) (passes-from p s r (holds_section x) route now it here) (passes-from p s q (holds_section x) other its that there) in
+            absurd (both_ways (route_holds p s r x && route_holds p s q x) (fails (route_holds p s r x && route_holds p s q x) none) both))
+      ]
+
+  pub alone-from : ((r : ℕ) (route : Route) (now : RouteState) → RouteIn p s r route now → (q : ℕ) (other : Route) (its : RouteState) → RouteIn p s q other its → (x : ℕ) → x < length p.sections → holds_section x route now ≡ true → holds_section x other its ≡ true → r ≡ q) → keeps_v2 p s ≡ true
+  alone-from each =
+      each_below-from (length p.routes) (λ a. each_below (length p.routes) (λ b. a == b || each_below (length p.sections) (λ y. not (route_holds p s a y && route_holds p s b y)))) (λ r less.
+      each_below-from (length p.routes) (λ b. r == b || each_below (length p.sections) (λ y. not (route_holds p s r y && route_holds p s b y))) (λ q fewer. pair r q))
+    where
+      not_both : (a b : Bool) → (a ≡ true → b ≡ true → ⊥) → not (a && b) ≡ true
+      not_both true true apart = absurd (apart refl refl)
+      not_both true false apart = refl
+      not_both false b apart = refl
+
+      pair : (r q : ℕ) → (r == q || each_below (length p.sections) (λ y. not (route_holds p s r y && route_holds p s q y))) ≡ true
+      pair r q = elim (cases_Bool (r == q)) [
+        | inl same ↦ or_left (r == q) (each_below (length p.sections) (λ y. not (route_holds p s r y && route_holds p s q y))) same
+        | inr differ ↦ or_right (r == q) (each_below (length p.sections) (λ y. not (route_holds p s r y && route_holds p s q y)))
+          (each_below-from (length p.sections) (λ y. not (route_holds p s r y && route_holds p s q y)) (λ x within. not_both (route_holds p s r x) (route_holds p s q x) (λ first second.
+          let one = passes-at p s r (holds_section x) first in
+          let two = passes-at p s q (holds_section x) second in
+          let same = each r one.0 one.1 one.2 q two.0 two.1 two.2 x within one.3 two.3 in
+          both_ways (r == q) differ (eq-eqb r q same))))
+      ]
+
+  -- V3
+  pub lock-path : keeps_v3 p s ≡ true → (r : ℕ) (route : Route) (now : RouteState) → RouteIn p s r route now → holds_sections now ≡ true → (i x : ℕ) → now.rel ≤ i → slice_get route.path i ≡ Some x → slice_get s.locks x ≡ Some (lock_on_path now i)
+  lock-path kept r route now it holds i x least at =
+      let locks : has_its_locks s route now ≡ true = asked (holds_sections now) (has_its_locks s route now) (each_route-at p s (λ route now. if holds_sections now then has_its_locks s route now else true) kept r route now it) holds in
+      let places = (and_parts (each_place route (λ i x. not (nat_le now.rel i) || has_lock s x (lock_on_path now i))) (list_all (λ x. has_lock s x LockedLock) (sections_beside route)) locks).0 in
+      let test : nat_le now.rel i ≡ true = grind (arith, nat_tests) in
+      has_lock-at s x (lock_on_path now i) (counted (nat_le now.rel i) (has_lock s x (lock_on_path now i)) test (each_place-at route (λ i x. not (nat_le now.rel i) || has_lock s x (lock_on_path now i)) places i x at))
+    where
+      counted : (a b : Bool) → a ≡ true → (not a || b) ≡ true → b ≡ true
+      counted a b e h = rw e at h
+
+  pub lock-beside : keeps_v3 p s ≡ true → (r : ℕ) (route : Route) (now : RouteState) → RouteIn p s r route now → holds_sections now ≡ true → (x : ℕ) → has_section x (sections_beside route) ≡ true → slice_get s.locks x ≡ Some LockedLock
+  lock-beside kept r route now it holds x beside =
+      let locks : has_its_locks s route now ≡ true = asked (holds_sections now) (has_its_locks s route now) (each_route-at p s (λ route now. if holds_sections now then has_its_locks s route now else true) kept r route now it) holds in
+      let others = (and_parts (each_place route (λ i x. not (nat_le now.rel i) || has_lock s x (lock_on_path now i))) (list_all (λ x. has_lock s x LockedLock) (sections_beside route)) locks).1 in
+      let found = section-at x (sections_beside route) beside in
+      has_lock-at s x LockedLock (list_all-slice_get (λ x. has_lock s x LockedLock) (sections_beside route) found.0 x others found.1)
+
+  pub locks-from : length s.routes ≡ length p.routes → ((r : ℕ) (route : Route) (now : RouteState) → RouteIn p s r route now → holds_sections now ≡ true → ((i x : ℕ) → now.rel ≤ i → slice_get route.path i ≡ Some x → slice_get s.locks x ≡ Some (lock_on_path now i)) × ((x : ℕ) → has_section x (sections_beside route) ≡ true → slice_get s.locks x ≡ Some LockedLock)) → keeps_v3 p s ≡ true
+  locks-from count each =
+      each_route-from p s (λ route now. if holds_sections now then has_its_locks s route now else true) count (λ r route now it.
+      unless (holds_sections now) (has_its_locks s route now) (λ holds.
+      let both = each r route now it holds in
+      and_from (each_place route (λ i x. not (nat_le now.rel i) || has_lock s x (lock_on_path now i))) (list_all (λ x. has_lock s x LockedLock) (sections_beside route))
+        (each_place-from route (λ i x. not (nat_le now.rel i) || has_lock s x (lock_on_path now i)) (λ i x at. at_place now.rel i (has_lock s x (lock_on_path now i)) (λ least. has_lock-from s x (lock_on_path now i) (both.0 i x least at))))
+        (all-pass (λ x. has_lock s x LockedLock) (sections_beside route) (λ k x at. has_lock-from s x LockedLock (both.1 x (section-from (sections_beside route) k x at))))))
+    where
+      at_place : (rel i : ℕ) (b : Bool) → (rel ≤ i → b ≡ true) → (not (nat_le rel i) || b) ≡ true
+      at_place rel i b f = elim (cases_Bool (nat_le rel i)) [
+        | inl test ↦ (let least : rel ≤ i = grind (arith, nat_tests) in or_right (not (nat_le rel i)) b (f least))
+        | inr test ↦ (rw test refl)
+      ]
+
+  -- what a route holds isn't free
+  pub held-not_free : keeps_v3 p s ≡ true → (r : ℕ) (route : Route) (now : RouteState) → RouteIn p s r route now → (x : ℕ) → holds_section x route now ≡ true → slice_get s.locks x ≡ Some FreeLock → ⊥
+  held-not_free kept r route now it x held free =
+      let cases = holds-cases route now x held in
+      elim cases.1 [
+        | inl beside ↦ (let lock = lock-beside kept r route now it cases.0 x beside in let same : LockedLock ≡ FreeLock = same_Some LockedLock FreeLock (sym lock ∙ free) in absurd (cc))
+        | inr place ↦ used-or_locked (nat_lt place.0 now.seen) (sym (lock-path kept r route now it cases.0 place.0 x place.1 place.2) ∙ free)
+      ]
+    where
+      used-or_locked : (b : Bool) → Some (if b then UsedLock else LockedLock) ≡ Some FreeLock → ⊥
+      used-or_locked true e = cc
+      used-or_locked false e = cc
+
+  -- V4
+  pub vacant-path : keeps_v4 p s ≡ true → (r : ℕ) (route : Route) (now : RouteState) → RouteIn p s r route now → now.mode ≡ Allocating → (i x : ℕ) → slice_get route.path i ≡ Some x → is_occupied s x ≡ false
+  vacant-path kept r route now it mode i x at =
+      all_vacant-at s route.path (asked (same_mode now.mode Allocating) (list_all (is_vacant s) route.path) (each_route-at p s (λ route now. if same_mode now.mode Allocating then list_all (is_vacant s) route.path else true) kept r route now it) (rw mode refl)) i x at
+
+  pub vacant-from : length s.routes ≡ length p.routes → ((r : ℕ) (route : Route) (now : RouteState) → RouteIn p s r route now → now.mode ≡ Allocating → (i x : ℕ) → slice_get route.path i ≡ Some x → is_occupied s x ≡ false) → keeps_v4 p s ≡ true
+  vacant-from count each =
+      each_route-from p s (λ route now. if same_mode now.mode Allocating then list_all (is_vacant s) route.path else true) count (λ r route now it.
+      unless (same_mode now.mode Allocating) (list_all (is_vacant s) route.path) (λ mode. all_vacant-from s route.path (each r route now it (one_mode now.mode Allocating mode))))
+
+-- V5: the route for which a board is open
+pub record IsOpenFor (p : PlantLists) (s : State) (m : ℕ) : Type 0 where
+  pub r : ℕ
+  pub route : Route
+  pub now : RouteState
+  pub it : RouteIn p s r route now
+  pub source : route.source ≡ m
+  pub mode : now.mode ≡ Locked
+  pub vacant : (i x : ℕ) → slice_get route.path i ≡ Some x → is_occupied s x ≡ false
+
+module _ (p : PlantLists) (s : State) where
+  abbrev opens : ℕ → Route → RouteState → Bool
+  opens m route now = (route.source == m) && same_mode now.mode Locked && list_all (is_vacant s) route.path
+
+  pub open-at : keeps_v5 p s ≡ true → (m : ℕ) → m < length p.boards → slice_get s.boards m ≡ Some Open → IsOpenFor p s m
+  open-at kept m within shown =
+      let found = some_route-at p s (opens m) (asked (has_aspect s m Open) _ (each_below-at (length p.boards) _ kept m within) (has_aspect-from s m Open shown)) in
+      let parts = and_parts ((found.1.source == m) && same_mode found.2.mode Locked) (list_all (is_vacant s) found.1.path) found.4 in
+      let both = and_parts (found.1.source == m) (same_mode found.2.mode Locked) parts.0 in
+      record {
+        r = found.0;
+        route = found.1;
+        now = found.2;
+        it = found.3;
+        source = eqb-true found.1.source m both.0;
+        mode = one_mode found.2.mode Locked both.1;
+        vacant = all_vacant-at s found.1.path parts.1;
+      }
+
+  pub open-from : ((m : ℕ) → m < length p.boards → slice_get s.boards m ≡ Some Open → IsOpenFor p s m) → keeps_v5 p s ≡ true
+  open-from each =
+      each_below-from (length p.boards) _ (λ m within. unless (has_aspect s m Open) _ (λ shown.
+      let one = each m within (has_aspect-at s m Open shown) in
+      let mode : same_mode one.now.mode Locked ≡ true = rw one.mode refl in
+      some_route-from p s (opens m) one.r one.route one.now one.it (and_from ((one.route.source == m) && same_mode one.now.mode Locked) (list_all (is_vacant s) one.route.path) (and_from (one.route.source == m) (same_mode one.now.mode Locked) (eq-eqb one.route.source m one.source) mode) (all_vacant-from s one.route.path one.vacant))))
+
+  -- V6
+  abbrev points_fit : Route → RouteState → Bool
+  points_fit route now = list_all (λ listed. is_commanded_for p s route now listed && lies_for p s route now listed) route.points
+
+  pub commanded-at : keeps_v6 p s ≡ true → (r : ℕ) (route : Route) (now : RouteState) → RouteIn p s r route now → (k : ℕ) (listed : Listed) → slice_get route.points k ≡ Some listed → now.mode ≡ Allocating → has_section listed.point route.path ≡ true → is_commanded_as_listed p s listed ≡ true
+  commanded-at kept r route now it k listed at mode on =
+      let both = and_parts (is_commanded_for p s route now listed) (lies_for p s route now listed) (list_all-slice_get (λ listed. is_commanded_for p s route now listed && lies_for p s route now listed) route.points k listed (each_route-at p s points_fit kept r route now it) at) in
+      asked (same_mode now.mode Allocating && has_section listed.point route.path) (is_commanded_as_listed p s listed) both.0 (and_from (same_mode now.mode Allocating) (has_section listed.point route.path) (rw mode refl) on)
+
+  pub lies-at : keeps_v6 p s ≡ true → (r : ℕ) (route : Route) (now : RouteState) → RouteIn p s r route now → (k : ℕ) (listed : Listed) → slice_get route.points k ≡ Some listed → is_locked_or_occupied now ≡ true → is_kept_on_path route now listed.point ≡ true → (is_commanded_as_listed p s listed ≡ true) × (lies_as_listed p s listed ≡ true)
+  lies-at kept r route now it k listed at mode on =
+      let both = and_parts (is_commanded_for p s route now listed) (lies_for p s route now listed) (list_all-slice_get (λ listed. is_commanded_for p s route now listed && lies_for p s route now listed) route.points k listed (each_route-at p s points_fit kept r route now it) at) in
+      and_parts (is_commanded_as_listed p s listed) (lies_as_listed p s listed) (asked (is_locked_or_occupied now && is_kept_on_path route now listed.point) (is_commanded_as_listed p s listed && lies_as_listed p s listed) both.1 (and_from (is_locked_or_occupied now) (is_kept_on_path route now listed.point) mode on))
+
+  pub points-from : length s.routes ≡ length p.routes → ((r : ℕ) (route : Route) (now : RouteState) → RouteIn p s r route now → (k : ℕ) (listed : Listed) → slice_get route.points k ≡ Some listed → (now.mode ≡ Allocating → has_section listed.point route.path ≡ true → is_commanded_as_listed p s listed ≡ true) × (is_locked_or_occupied now ≡ true → is_kept_on_path route now listed.point ≡ true → (is_commanded_as_listed p s listed ≡ true) × (lies_as_listed p s listed ≡ true))) → keeps_v6 p s ≡ true
+  points-from count each =
+      each_route-from p s points_fit count (λ r route now it.
+      all-pass (λ listed. is_commanded_for p s route now listed && lies_for p s route now listed) route.points (λ k listed at.
+      let both = each r route now it k listed at in
+      and_from (is_commanded_for p s route now listed) (lies_for p s route now listed)
+        (unless (same_mode now.mode Allocating && has_section listed.point route.path) (is_commanded_as_listed p s listed) (λ h.
+        let parts = and_parts (same_mode now.mode Allocating) (has_section listed.point route.path) h in
+        both.0 (one_mode now.mode Allocating parts.0) parts.1))
+        (unless (is_locked_or_occupied now && is_kept_on_path route now listed.point) (is_commanded_as_listed p s listed && lies_as_listed p s listed) (λ h.
+        let parts = and_parts (is_locked_or_occupied now) (is_kept_on_path route now listed.point) h in
+        let lies = both.1 parts.0 parts.1 in
+        and_from (is_commanded_as_listed p s listed) (lies_as_listed p s listed) lies.0 lies.1))))
+
+  -- V9
+  abbrev is_protected : Route → RouteState → Bool
+  is_protected route now = if same_mode now.mode Locked then list_all (λ m. has_aspect s m Closed) route.protecting_boards else true
+
+  pub protected-at : keeps_v9 p s ≡ true → (r : ℕ) (route : Route) (now : RouteState) → RouteIn p s r route now → now.mode ≡ Locked → (k m : ℕ) → slice_get route.protecting_boards k ≡ Some m → slice_get s.boards m ≡ Some Closed
+  protected-at kept r route now it mode k m at =
+      has_aspect-at s m Closed (list_all-slice_get (λ m. has_aspect s m Closed) route.protecting_boards k m (asked (same_mode now.mode Locked) (list_all (λ m. has_aspect s m Closed) route.protecting_boards) (each_route-at p s is_protected kept r route now it) (rw mode refl)) at)
+
+  pub protected-from : length s.routes ≡ length p.routes → ((r : ℕ) (route : Route) (now : RouteState) → RouteIn p s r route now → now.mode ≡ Locked → (k m : ℕ) → slice_get route.protecting_boards k ≡ Some m → slice_get s.boards m ≡ Some Closed) → keeps_v9 p s ≡ true
+  protected-from count each =
+      each_route-from p s is_protected count (λ r route now it.
+      unless (same_mode now.mode Locked) (list_all (λ m. has_aspect s m Closed) route.protecting_boards) (λ mode.
+      all-pass (λ m. has_aspect s m Closed) route.protecting_boards (λ k m at. has_aspect-from s m Closed (each r route now it (one_mode now.mode Locked mode) k m at))))

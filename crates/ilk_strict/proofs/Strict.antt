@@ -1,0 +1,126 @@
+-- A table in which C1, C2, C3 in its part on the path, and C7 are broken at no place has what strict safety uses; so has
+-- one in which no rule of the columns is broken.
+use Rattle.std.proofs.Common.{◌≡◌, ℕ, zero, suc, ◌+◌, ◌-◌, ◌<◌, Bool, true, false, not, ◌==◌, ◌&&◌, ◌||◌, Option, Some, None, List, [], ◌∷◌, drop, length, nat_lt, slice_get, take, refl, sym, ap, ◌∙◌, subst, arith}
+use Rattle.std.specs.List.{filter, range_with_len}
+use Rattle.std.proofs.lemmas.Bool.{and_parts, eqb-true, not_from_true, cases_Bool}
+use Rattle.std.proofs.lemmas.Option.{option_and_then_some, same_Some, slice_get_within}
+use Rattle.ilk_base.specs.Option.{is_some_and}
+use Rattle.ilk_base.proofs.FlatMaps.{flat_map-none}
+use Rattle.ilk_base.proofs.Lists.{map-none}
+use Rattle.ilk_base.proofs.Options.{some-and}
+use Rattle.ilk_base.proofs.Ranges.{range-at}
+use Rattle.ilk_base.proofs.Tested.{filter-none}
+use Rattle.ilk_plant.specs.Broken.{broken_at}
+use Rattle.ilk_plant.specs.ColumnRules.{all_but_last, breaks_columns, column_rule_broken, column_rules, column_rules_broken, ends_path, has_no_board, is_between_boards, is_border_without_board, is_listed_towards, last_of, path_ends_at_board, path_leads_on, points_are_set, points_lead_along, source_passes}
+use Rattle.ilk_plant.specs.Network.{has_section, inward}
+use Rattle.ilk_plant.specs.Plant.{PlantLists, border, board_of, is_point_section, next_to}
+use Rattle.ilk_plant.specs.Shape.{leads_on}
+use Rattle.ilk_plant.specs.TableRules.{route_fails}
+use Rattle.ilk_plant.specs.declared.broken.Rule.{Rule}
+use Rattle.ilk_plant.specs.declared.broken.Rule.TheVariants.{C1, C2, C3, C7}
+use Rattle.ilk_plant.specs.declared.network.Board.{Board}
+use Rattle.ilk_plant.specs.declared.network.Dir.{Dir}
+use Rattle.ilk_plant.specs.declared.table.Listed.{Listed}
+use Rattle.ilk_plant.specs.declared.table.Route.{Route}
+use Rattle.ilk_plant.proofs.RoutesOf.{route-passes}
+use Rattle.ilk_motion.proofs.Shape.{border-known}
+use Rattle.ilk_model.specs.Holding.{is_plain}
+use Rattle.ilk_strict.specs.IsStrict.{IsFrom, IsStrict, KeepsPathRules, path_points_are_set}
+
+-- a route that passes a test of its source
+source-passes : (p : PlantLists) (r : ℕ) (route : Route) (source : Board) (test : Board → Bool) → IsFrom p r route source → source_passes p route test ≡ true → test source ≡ true
+source-passes p r route source test it h = rw it.begins at h
+
+-- sections that lead on, by place
+leads-at : (p : PlantLists) (d : Dir) (x : ℕ) (rest : List ℕ) → leads_on p d x rest ≡ true → (k y z : ℕ) → slice_get (x ∷ rest) k ≡ Some y → slice_get rest k ≡ Some z → has_section z (next_to p y d) ≡ true
+leads-at p d x [] h k y z at also = cc
+leads-at p d x (w ∷ rest) h zero y z at also =
+    let here : x ≡ y = same_Some x y at in
+    let there : w ≡ z = same_Some w z also in
+    rw (here, there) at (and_parts (has_section w (next_to p x d)) (leads_on p d w rest) h).0
+leads-at p d x (w ∷ rest) h (suc k) y z at also =
+    leads-at p d w rest (and_parts (has_section w (next_to p x d)) (leads_on p d w rest) h).1 k y z at also
+
+listed_if : (a b : Bool) → a ≡ true → (not a || b) ≡ true → b ≡ true
+listed_if a b e h = rw e at h
+
+-- the points of a path that lead along it, by place
+points-at : (p : PlantLists) (points : List Listed) (before : ℕ) (path : List ℕ) → points_lead_along p points before path ≡ true → (k b x : ℕ) → slice_get (before ∷ path) k ≡ Some b → slice_get path k ≡ Some x → is_point_section p x ≡ true → is_listed_towards p points (b ∷ take 1 (drop (suc k) path)) x ≡ true
+points-at p points before [] h k b x at also is_point = cc
+points-at p points before (y ∷ path) h zero b x at also is_point =
+    let here : before ≡ b = same_Some before b at in
+    let there : y ≡ x = same_Some y x also in
+    let first : (not (is_point_section p y) || is_listed_towards p points (before ∷ take 1 path) y) ≡ true = (and_parts (not (is_point_section p y) || is_listed_towards p points (before ∷ take 1 path) y) (points_lead_along p points y path) h).0 in
+    let Before : ℕ → Type 0 = λ a. (not (is_point_section p y) || is_listed_towards p points (a ∷ take 1 path) y) ≡ true in
+    let Here : ℕ → Type 0 = λ z. (not (is_point_section p z) || is_listed_towards p points (b ∷ take 1 path) z) ≡ true in
+    listed_if (is_point_section p x) (is_listed_towards p points (b ∷ take 1 path) x) is_point (subst Here there (subst Before here first))
+points-at p points before (y ∷ path) h (suc k) b x at also is_point =
+    points-at p points y path (and_parts (not (is_point_section p y) || is_listed_towards p points (before ∷ take 1 path) y) (points_lead_along p points y path) h).1 k b x at also is_point
+
+-- where a path ends rightly, its last section isn't plain
+end-not_plain : (p : PlantLists) (d : Dir) (destination : Option ℕ) (x : ℕ) → ends_path p d destination x ≡ true → is_plain p d x ≡ false
+end-not_plain p d (Some m) x h =
+    let board = some-and (board_of p x d) (λ n. n == m) h in rw board.1 refl
+end-not_plain p d None x h =
+    let none : length (next_to p x d) ≡ 0 = eqb-true (length (next_to p x d)) 0 h in
+    nothing (has_no_board p d x) (length (next_to p x d)) none
+  where
+    nothing : (b : Bool) (n : ℕ) → n ≡ 0 → (b && nat_lt 0 n) ≡ false
+    nothing true n e = rw e refl
+    nothing false n e = refl
+
+-- the last section of a path that lies between boards isn't plain
+last-not_plain : (p : PlantLists) (d : Dir) (destination : Option ℕ) (path : List ℕ) → is_between_boards p d destination path ≡ true → (k x : ℕ) → slice_get path k ≡ Some x → k + 1 ≡ length path → is_plain p d x ≡ false
+last-not_plain p d destination path h k x at last =
+    let ending = some-and (last_of path) (ends_path p d destination) (and_parts _ (is_some_and (last_of path) (ends_path p d destination)) h).1 in
+    let place : length path - 1 ≡ k = omega (arith, last) in
+    let same : ending.0 ≡ x = same_Some ending.0 x (sym ending.1 ∙ ap (slice_get path) place ∙ at) in
+    end-not_plain p d destination x (rw same at ending.2)
+
+-- a border that isn't without a board has one
+border-has_board : (p : PlantLists) (x : ℕ) (d : Dir) → is_border_without_board p x ≡ false → border p x ≡ Some d → has_no_board p d x ≡ false
+border-has_board p x d h at = rw at at h
+
+pub strict_from_rules : (p : PlantLists) → KeepsPathRules p → IsStrict p
+strict_from_rules p rules = record {
+  leads = λ r route source it k x y at also.
+      leads-at p source.dir source.section route.path (source-passes p r route source (λ b. leads_on p b.dir b.section route.path) it (route-passes p (path_leads_on p) r route (rules.c1 r (slice_get_within p.routes r route it.known)) it.known)) k x y at also;
+  ends = λ r route source it k x at last.
+      last-not_plain p source.dir route.destination route.path (source-passes p r route source (λ b. is_between_boards p b.dir route.destination route.path) it (route-passes p (path_ends_at_board p) r route (rules.c2 r (slice_get_within p.routes r route it.known)) it.known)) k x at last;
+  points = λ r route source it k before x at also is_point.
+      let Next : ℕ → Type 0 = λ n. is_listed_towards p route.points (before ∷ take 1 (drop n route.path)) x ≡ true in
+      let next : suc k ≡ k + 1 = omega arith in
+      subst Next next (points-at p route.points source.section route.path (source-passes p r route source (λ b. points_lead_along p route.points b.section route.path) it (route-passes p (path_points_are_set p) r route (rules.c3 r (slice_get_within p.routes r route it.known)) it.known)) k before x at also is_point);
+  borders = λ x d at. border-has_board p x d (rules.c7 x (border-known p x d at)) at;
+}
+
+-- a rule that is broken at no place
+rule-kept : (rule : Rule) (n : ℕ) (test : ℕ → Bool) → broken_at rule n test ≡ [] → (i : ℕ) → i < n → test i ≡ false
+rule-kept rule n test e i h =
+    filter-none test (range_with_len 0 n) i i (map-none (λ j. record { rule = rule; first = j; second = None }) (filter test (range_with_len 0 n)) e) (range-at n i h)
+
+-- C3 asks more than its part on the path
+part-fails : (p : PlantLists) (i : ℕ) → route_fails p (points_are_set p) i ≡ false → route_fails p (path_points_are_set p) i ≡ false
+part-fails p i h = of_route (slice_get p.routes i) h
+  where
+    first : (a b : Bool) → not (a && b) ≡ false → not a ≡ false
+    first true b h = refl
+    first false b h = h
+
+    of_route : (o : Option Route) → is_some_and o (λ route. not (points_are_set p route)) ≡ false → is_some_and o (λ route. not (path_points_are_set p route)) ≡ false
+    of_route None h = refl
+    of_route (Some route) h = first (path_points_are_set p route) _ h
+
+pub rules-from_list : (p : PlantLists) → column_rules_broken p ≡ [] → KeepsPathRules p
+rules-from_list p e = record {
+  c1 = rule-kept C1 (length p.routes) (breaks_columns p C1) (of_rule 0 C1 refl);
+  c2 = rule-kept C2 (length p.routes) (breaks_columns p C2) (of_rule 1 C2 refl);
+  c3 = λ i less. part-fails p i (rule-kept C3 (length p.routes) (breaks_columns p C3) (of_rule 2 C3 refl) i less);
+  c7 = rule-kept C7 (length p.sections) (breaks_columns p C7) (of_rule 6 C7 refl);
+}
+  where
+    of_rule : (k : ℕ) (rule : Rule) → slice_get column_rules k ≡ Some rule → column_rule_broken p rule ≡ []
+    of_rule k rule at = flat_map-none (column_rule_broken p) column_rules k rule e at
+
+pub strict_from_list : (p : PlantLists) → column_rules_broken p ≡ [] → IsStrict p
+strict_from_list p e = strict_from_rules p (rules-from_list p e)

@@ -1,0 +1,163 @@
+-- What a route of a plant has, by the places of its path and of its points.
+use Rattle.std.proofs.Common.{◌≡◌, ℕ, zero, suc, ◌+◌, ◌<◌, Bool, true, false, ◌==◌, ◌||◌, not, Option, Some, None, All, List, [], ◌∷◌, ◌++◌, count_by, cond, inl, inr, ◌⊎◌, length, map, slice_get, take, refl, sym, ap, ◌∙◌, subst, arith}
+use Rattle.std.specs.Option.{option_or}
+use Rattle.std.proofs.lemmas.Bool.{eqb-true, eq-eqb, or_left, or_right, both_ways, cases_Bool}
+use Rattle.std.proofs.lemmas.List.Folds.{list_any-append}
+use Rattle.std.proofs.lemmas.List.Sums.{sum_by-cons}
+use Rattle.std.proofs.lemmas.Option.{cond_some, same_Some, slice_get_within}
+use Rattle.ilk_base.specs.Option.{is_some_and, only_if}
+use Rattle.ilk_base.proofs.Lists.{at-before, at-either, at-past, item_at, map-at}
+use Rattle.ilk_base.proofs.ListTests.{all-at}
+use Rattle.ilk_base.proofs.Once.{EachOnce}
+use Rattle.ilk_base.proofs.Options.{bind_some, or_cases, some-and}
+use Rattle.ilk_base.proofs.Tested.{counted, list_any-at}
+use Rattle.ilk_base.proofs.Truth.{either}
+use Rattle.ilk_plant.specs.Network.{has_section, is_point}
+use Rattle.ilk_plant.specs.Plant.{IsPlant, IsRouteOf, PlantLists, point_number}
+use Rattle.ilk_plant.specs.TableRules.{protecting_points_of, sections_locked_for, sections_of}
+use Rattle.ilk_plant.specs.declared.network.Board.{Board}
+use Rattle.ilk_plant.specs.declared.network.Position.{Position}
+use Rattle.ilk_plant.specs.declared.network.Section.{Section}
+use Rattle.ilk_plant.specs.declared.table.Listed.{Listed}
+use Rattle.ilk_plant.specs.declared.table.Route.{Route}
+use Rattle.ilk_plant.proofs.Once.{none_twice-places}
+use Rattle.ilk_plant.proofs.Sides.{once-apart}
+use Rattle.ilk_routes.specs.Claims.{sections_beside, wanted_points}
+use Rattle.ilk_routes.specs.Lies.{listed_position, lists_point}
+use Rattle.ilk_strict.proofs.Reading.{section-at, section-from}
+
+-- the points of some entries
+pub listed-mapped : (entries : List Listed) (j : ℕ) (one : Listed) → slice_get entries j ≡ Some one → slice_get (map (λ (it : Listed). it.point) entries) j ≡ Some one.point
+listed-mapped [] j one at = cc
+listed-mapped (y ∷ entries) zero one at = ap (λ (it : Listed). Some it.point) (same_Some y one at)
+listed-mapped (y ∷ entries) (suc j) one at = listed-mapped entries j one at
+
+module _ (p : PlantLists) (route : Route) (of : IsRouteOf p route) where
+  -- a section stands at one place of a path alone
+  pub path-once : (i j x : ℕ) → slice_get route.path i ≡ Some x → slice_get route.path j ≡ Some x → i ≡ j
+  path-once i j x here there =
+      none_twice-places (route.path ++ route.overlap) of.sections_once i j x (at-before route.path route.overlap i x here) (at-before route.path route.overlap j x there)
+
+  -- and isn't beside the path
+  pub path-apart : (i x : ℕ) → slice_get route.path i ≡ Some x → has_section x (sections_beside route) ≡ true → ⊥
+  path-apart i x here beside =
+      let cases : (has_section x route.overlap || has_section x (protecting_points_of route)) ≡ true = sym (list_any-append (λ y. y == x) route.overlap (protecting_points_of route)) ∙ beside in
+      elim (either (has_section x route.overlap) (has_section x (protecting_points_of route)) cases) [
+        | inl overlap ↦ once-apart route.path route.overlap x of.sections_once (section-from route.path i x here) overlap
+        | inr protecting ↦
+            (let found = section-at x (protecting_points_of route) protecting in
+            let listed = map-at (λ (one : Listed). one.point) route.protecting_points found.0 x found.1 in
+            let away : has_section listed.0.point (route.path ++ route.overlap) ≡ false = all-at (λ one. has_section one.point (route.path ++ route.overlap) ≡ false) route.protecting_points found.0 listed.0 of.protecting_points_apart listed.1 in
+            let on : has_section x (route.path ++ route.overlap) ≡ true = section-from (route.path ++ route.overlap) i x (at-before route.path route.overlap i x here) in
+            both_ways (has_section x (route.path ++ route.overlap)) (rw listed.2 at away) on)
+      ]
+
+  -- it is a section of the plant
+  pub path-section : (i x : ℕ) → slice_get route.path i ≡ Some x → x < length p.sections
+  path-section i x here = all-at (λ y. y < length p.sections) route.path i x of.path here
+
+  -- the board at which the route begins
+  pub route-source : (source : Board) × (slice_get p.boards route.source ≡ Some source)
+  route-source = item_at p.boards route.source of.source
+
+  -- a listed point is on the path or on the overlap
+  pub listed-passed : (k : ℕ) (listed : Listed) → slice_get route.points k ≡ Some listed → has_section listed.point (sections_of route) ≡ true
+  listed-passed k listed here = all-at (λ one. has_section one.point (route.path ++ route.overlap) ≡ true) route.points k listed of.points_passed here
+
+  -- a wanted point is one of the sections that are locked for the route
+  pub wanted-locked : (k : ℕ) (listed : Listed) → slice_get (wanted_points route) k ≡ Some listed → has_section listed.point (sections_locked_for route) ≡ true
+  wanted-locked k listed here = elim (at-either route.points route.protecting_points k listed here) [
+    | inl first ↦ list_any-append (λ y. y == listed.point) (sections_of route) (protecting_points_of route) ∙ or_left (has_section listed.point (sections_of route)) (has_section listed.point (protecting_points_of route)) (listed-passed first.0 listed first.1)
+    | inr second ↦ list_any-append (λ y. y == listed.point) (sections_of route) (protecting_points_of route) ∙ or_right (has_section listed.point (sections_of route)) (has_section listed.point (protecting_points_of route)) (section-from (protecting_points_of route) second.0 listed.point (listed-mapped route.protecting_points second.0 listed second.1))
+  ]
+
+-- a section of the path, or beside it, is one of those that are locked for the route
+pub path-locked_for : (route : Route) (i x : ℕ) → slice_get route.path i ≡ Some x → has_section x (sections_locked_for route) ≡ true
+path-locked_for route i x here =
+    section-from (sections_locked_for route) i x (at-before (sections_of route) (protecting_points_of route) i x (at-before route.path route.overlap i x here))
+
+pub beside-locked_for : (route : Route) (x : ℕ) → has_section x (sections_beside route) ≡ true → has_section x (sections_locked_for route) ≡ true
+beside-locked_for route x beside =
+    let found = section-at x (sections_beside route) beside in
+    elim (at-either route.overlap (protecting_points_of route) found.0 x found.1) [
+      | inl overlap ↦ section-from (sections_locked_for route) (length route.path + overlap.0) x (at-before (sections_of route) (protecting_points_of route) (length route.path + overlap.0) x (at-past route.path route.overlap overlap.0 x overlap.1))
+      | inr protecting ↦ section-from (sections_locked_for route) (length (sections_of route) + protecting.0) x (at-past (sections_of route) (protecting_points_of route) protecting.0 x protecting.1)
+    ]
+
+-- and the sections that are locked for a route are no others
+pub locked_for-cases : (route : Route) (x : ℕ) → has_section x (sections_locked_for route) ≡ true → ((i : ℕ) × (slice_get route.path i ≡ Some x)) ⊎ (has_section x (sections_beside route) ≡ true)
+locked_for-cases route x h =
+    let found = section-at x (sections_locked_for route) h in
+    elim (at-either (sections_of route) (protecting_points_of route) found.0 x found.1) [
+      | inl of_route ↦ elim (at-either route.path route.overlap of_route.0 x of_route.1) [
+        | inl path ↦ inl (path.0, path.1)
+        | inr overlap ↦ inr (section-from (sections_beside route) overlap.0 x (at-before route.overlap (protecting_points_of route) overlap.0 x overlap.1))
+      ]
+      | inr protecting ↦ inr (section-from (sections_beside route) (length route.overlap + protecting.0) x (at-past route.overlap (protecting_points_of route) protecting.0 x protecting.1))
+    ]
+
+-- points that have one number are one section
+same-count : (xs : List Section) (i j : ℕ) (a b : Section) → slice_get xs i ≡ Some a → slice_get xs j ≡ Some b → is_point a ≡ true → is_point b ≡ true → count_by is_point (take i xs) ≡ count_by is_point (take j xs) → i ≡ j
+same-count [] i j a b at also pa pb e = cc
+same-count (z ∷ xs) zero zero a b at also pa pb e = refl
+same-count (z ∷ xs) zero (suc j) a b at also pa pb e =
+    let first : ◌≡◌ {A = ℕ} (cond (is_point z) 1 0) 1 = ap (λ v. cond v 1 0) (ap is_point (same_Some z a at) ∙ pa) in
+    let step = sum_by-cons (λ v. cond (is_point v) 1 0) z (take j xs) in
+    absurd (omega (arith, first, step, e))
+same-count (z ∷ xs) (suc i) zero a b at also pa pb e =
+    let first : ◌≡◌ {A = ℕ} (cond (is_point z) 1 0) 1 = ap (λ v. cond v 1 0) (ap is_point (same_Some z b also) ∙ pb) in
+    let step = sum_by-cons (λ v. cond (is_point v) 1 0) z (take i xs) in
+    absurd (omega (arith, first, step, e))
+same-count (z ∷ xs) (suc i) (suc j) a b at also pa pb e =
+    let one = sum_by-cons (λ v. cond (is_point v) 1 0) z (take i xs) in
+    let two = sum_by-cons (λ v. cond (is_point v) 1 0) z (take j xs) in
+    ap suc (same-count xs i j a b at also pa pb (omega (arith, one, two, e)))
+
+pub numbered-section : (p : PlantLists) (x n : ℕ) → point_number p x ≡ Some n → (section : Section) × (slice_get p.sections x ≡ Some section) × (is_point section ≡ true) × (count_by is_point (take x p.sections) ≡ n)
+numbered-section p x n e =
+    let section = bind_some (slice_get p.sections x) _ n e in
+    let is = cond_some (is_point section.0) (count_by is_point (take x p.sections)) n section.2 in
+    (section.0, section.1, is.0, is.1)
+
+pub number-once : (p : PlantLists) (x y n : ℕ) → point_number p x ≡ Some n → point_number p y ≡ Some n → x ≡ y
+number-once p x y n e f =
+    let a = numbered-section p x n e in
+    let b = numbered-section p y n f in
+    same-count p.sections x y a.0 b.0 a.1 b.1 a.2 b.2 (a.3 ∙ sym b.3)
+
+-- the position that counts for a point is one at which an entry lists it
+counts-at : (p : PlantLists) (n : ℕ) (entries : List Listed) (to : Position) → listed_position p n entries ≡ Some to → (j : ℕ) × (one : Listed) × (slice_get entries j ≡ Some one) × (lists_point p n one ≡ true) × (one.at ≡ to)
+counts-at p n [] to e = cc
+counts-at p n (one ∷ rest) to e =
+    or_cases ((j : ℕ) × (it : Listed) × (slice_get (one ∷ rest) j ≡ Some it) × (lists_point p n it ≡ true) × (it.at ≡ to)) (listed_position p n rest) (only_if (lists_point p n one) one.at) to e
+      (λ later. let found = counts-at p n rest to later in (suc found.0, found.1, found.2, found.3, found.4))
+      (λ here. let first = cond_some (lists_point p n one) one.at to here in (zero, one, refl, first.0, first.1))
+
+-- where an entry lists a point, some position counts for it
+counts-some : (p : PlantLists) (n : ℕ) (entries : List Listed) (k : ℕ) (listed : Listed) → slice_get entries k ≡ Some listed → lists_point p n listed ≡ true → (to : Position) × (listed_position p n entries ≡ Some to)
+counts-some p n [] k listed at lists = cc
+counts-some p n (one ∷ rest) zero listed at lists =
+    let same : one ≡ listed = same_Some one listed at in
+    let first : lists_point p n one ≡ true = rw (← same) at lists in
+    either_counts (listed_position p n rest) one.at first
+  where
+    either_counts : (o : Option Position) (to : Position) → lists_point p n one ≡ true → (other : Position) × (option_or o (only_if (lists_point p n one) to) ≡ Some other)
+    either_counts None to first = (to, rw first refl)
+    either_counts (Some later) to first = (later, refl)
+counts-some p n (one ∷ rest) (suc k) listed at lists =
+    let later = counts-some p n rest k listed at lists in (later.0, rw later.1 refl)
+
+-- where entries list a point, each of them at one position, that counts
+pub listed-position : (p : PlantLists) (n : ℕ) (to : Position) (entries : List Listed) → ((j : ℕ) (one : Listed) → slice_get entries j ≡ Some one → lists_point p n one ≡ true → one.at ≡ to) → (k : ℕ) (listed : Listed) → slice_get entries k ≡ Some listed → lists_point p n listed ≡ true → listed_position p n entries ≡ Some to
+listed-position p n to entries alike k listed at lists =
+    let some = counts-some p n entries k listed at lists in
+    let from = counts-at p n entries some.0 some.1 in
+    some.1 ∙ ap Some (sym from.4 ∙ alike from.0 from.1 from.2 from.3)
+
+-- where no entry lists it, none counts
+pub listed-none : (p : PlantLists) (n : ℕ) (entries : List Listed) → ((j : ℕ) (one : Listed) → slice_get entries j ≡ Some one → lists_point p n one ≡ true → ⊥) → listed_position p n entries ≡ None
+listed-none p n entries none = by_position (listed_position p n entries) refl
+  where
+    by_position : (o : Option Position) → listed_position p n entries ≡ o → listed_position p n entries ≡ None
+    by_position None e = e
+    by_position (Some to) e = let from = counts-at p n entries to e in absurd (none from.0 from.1 from.2 from.3)

@@ -1,0 +1,39 @@
+ghost use Rattle.std.specs.Prelude.{◌≡◌, IfOk, OnOk, OnErr, is_some, unwrap_or};
+ghost use Rattle.ilk_plant.specs.Start.{start};
+ghost use Rattle.ilk_model.specs.Event.{next};
+ghost use Rattle.ilk_model.specs.Meets.{Meets};
+ghost use Rattle.ilk_strict.specs.IsStrict.{IsStrict};
+
+use ilk_model::{Event, apply, start};
+use ilk_plant::{Plant, State};
+use std::alloc::{AllocError, Global};
+
+/// The state at the start. It meets the invariant.
+#[tactic(auto, using(crate::proofs::Invariant::begun_meets))]
+pub fn begin(alloc: Global, plant: &Plant) -> Result<State, AllocError>
+    ensures start { IfOk result (λ s. s ≡ start plant.now) }
+    ensures meets { IfOk result (Meets plant.now) }
+{
+    start(alloc, plant)
+}
+
+/// Does the event, if it is enabled, in a state that meets the invariant, over a strict table. True
+/// exactly where it is; on false and for want of memory the state is as it was. The state meets the
+/// invariant afterwards.
+#[tactic(auto, using(crate::proofs::Invariant::advanced_meets))]
+pub fn advance(
+    alloc: Global,
+    plant: &Plant,
+    s: &mut State,
+    event: Event,
+) -> Result<bool, AllocError>
+    requires strict { IsStrict plant.now }
+    requires meets { Meets plant.now s.old }
+    ensures answer { IfOk result (λ enabled. enabled ≡ is_some (next plant.now s.old event)) }
+    ensures next { OnOk result (s.new ≡ unwrap_or (next plant.now s.old event) s.old) }
+    ensures err { OnErr result (s.new ≡ s.old) }
+    ensures meets { Meets plant.now s.new }
+{
+    plant.is_sound();
+    apply(alloc, plant, s, event)
+}
