@@ -5,3 +5,5 @@ pub mod LeastHazard
 pub mod HeldTwice
 pub mod LeastBroken
 pub mod LastItem
+pub mod Alike
+pub mod Frames

@@ -29,7 +29,7 @@ use Rattle.ilk_plant.proofs.Sides.{back-opposite}
 use Rattle.ilk_motion.specs.Ahead.{ahead, leads_to, leg_at}
 use Rattle.ilk_routes.specs.Lies.{lie_in, lies_as_listed, lies_at}
 use Rattle.ilk_model.specs.Hazard.{has_pair, strays}
-use Rattle.ilk_strict.proofs.Alike.{one_direction, one_lie, own_direction}
+use Rattle.ilk_model.proofs.Alike.{one_direction, one_lie, own_direction}
 
 -- what stands in a list of one
 pub only-one : (x y : ℕ) → has_section x (y ∷ []) ≡ true → y ≡ x

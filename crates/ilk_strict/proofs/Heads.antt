@@ -31,7 +31,7 @@ use Rattle.ilk_routes.specs.Lies.{lie_in}
 use Rattle.ilk_model.specs.Holding.{is_kept_on_path, is_locked_or_occupied, is_plain}
 use Rattle.ilk_strict.specs.IsStrict.{IsFrom, IsStrict}
 use Rattle.ilk_strict.proofs.Ahead.{LeadsToLeg, LegsDiffer, ahead-cases, board-one, leg, leg-no_other, leg_at-lie_in, legs-differ, other_leg, stem-before, stem-no_leg, stem-no_other, stem-side}
-use Rattle.ilk_strict.proofs.Alike.{one_direction}
+use Rattle.ilk_model.proofs.Alike.{one_direction}
 use Rattle.ilk_strict.proofs.HeldPoints.{IsSet, held-point, set-leg}
 use Rattle.ilk_strict.proofs.Reading.{RouteIn, kept-from}
 use Rattle.ilk_strict.proofs.RouteFacts.{IsOpenFor, idle, lies-at, locked-is, open-at, rel-led}

@@ -26,7 +26,7 @@ use Rattle.ilk_model.specs.Run.{run, step}
 use Rattle.ilk_model.specs.declared.event.Event.{Event}
 use Rattle.ilk_model.specs.declared.event.Event.TheVariants.{Mark, Allocate, Lock, Sense, Release, Finish, Throw, Settle, Enter, Head, Tail, Leave, Cancel}
 use Rattle.ilk_strict.specs.IsStrict.{IsStrict}
-use Rattle.ilk_strict.proofs.Frames.{IsAllocated, IsCancelled, IsEntered, IsFinished, IsHeaded, IsLeft, IsLocked, IsMarked, IsReleased, IsSensed, IsSettled, IsTailed, IsThrown, allocate-frame, cancel-frame, enter-frame, finish-frame, head-frame, leave-frame, lock-frame, mark-frame, release-frame, sense-frame, settle-frame, tail-frame, throw-frame}
+use Rattle.ilk_model.proofs.Frames.{IsAllocated, IsCancelled, IsEntered, IsFinished, IsHeaded, IsLeft, IsLocked, IsMarked, IsReleased, IsSensed, IsSettled, IsTailed, IsThrown, allocate-frame, cancel-frame, enter-frame, finish-frame, head-frame, leave-frame, lock-frame, mark-frame, release-frame, sense-frame, settle-frame, tail-frame, throw-frame}
 use Rattle.ilk_strict.proofs.KeepsV1.{allocate-keeps_v1, cancel-keeps_v1, enter-keeps_v1, finish-keeps_v1, head-keeps_v1, leave-keeps_v1, lock-keeps_v1, mark-keeps_v1, release-keeps_v1, sense-keeps_v1, settle-keeps_v1, tail-keeps_v1, throw-keeps_v1}
 use Rattle.ilk_strict.proofs.KeepsV2.{allocate-keeps_v2, cancel-keeps_v2, enter-keeps_v2, finish-keeps_v2, head-keeps_v2, leave-keeps_v2, lock-keeps_v2, mark-keeps_v2, release-keeps_v2, sense-keeps_v2, settle-keeps_v2, tail-keeps_v2, throw-keeps_v2}
 use Rattle.ilk_strict.proofs.KeepsV3.{allocate-keeps_v3, cancel-keeps_v3, enter-keeps_v3, finish-keeps_v3, head-keeps_v3, leave-keeps_v3, lock-keeps_v3, mark-keeps_v3, release-keeps_v3, sense-keeps_v3, settle-keeps_v3, tail-keeps_v3, throw-keeps_v3}

@@ -36,8 +36,8 @@ use Rattle.ilk_model.specs.Holding.{is_kept_on_path, is_plain}
 use Rattle.ilk_strict.specs.IsStrict.{IsFrom, IsStrict}
 use Rattle.ilk_strict.proofs.After.{wrong-reads}
 use Rattle.ilk_strict.proofs.Ahead.{LegsDiffer, leg, legs-differ, only-one, other_leg, stem-no_other, leg-no_other, strays-lie_in, leg_at-lie_in}
-use Rattle.ilk_strict.proofs.Alike.{own_lie}
-use Rattle.ilk_strict.proofs.Frames.{ChangesRoute, IsAllocated, IsCancelled, IsEntered, IsFinished, IsHeaded, IsLeft, IsLocked, IsMarked, IsReleased, IsSensed, IsSettled, IsTailed, IsThrown}
+use Rattle.ilk_model.proofs.Alike.{own_lie}
+use Rattle.ilk_model.proofs.Frames.{ChangesRoute, IsAllocated, IsCancelled, IsEntered, IsFinished, IsHeaded, IsLeft, IsLocked, IsMarked, IsReleased, IsSensed, IsSettled, IsTailed, IsThrown}
 use Rattle.ilk_strict.proofs.Heads.{GoesOn, LiesAhead, lies-ahead}
 use Rattle.ilk_strict.proofs.HeldPoints.{IsSet, held-point}
 use Rattle.ilk_strict.proofs.KeepsV4.{headed-goes_on}

@@ -13,8 +13,8 @@ use Rattle.ilk_plant.specs.declared.table.Route.{Route}
 use Rattle.ilk_routes.specs.Modes.{same_mode}
 use Rattle.ilk_model.specs.Families.{keeps_v1}
 use Rattle.ilk_strict.proofs.After.{after-cases, before-change, same-here, v1-reads}
-use Rattle.ilk_strict.proofs.Alike.{one_mode}
-use Rattle.ilk_strict.proofs.Frames.{ChangesRoute, IsAllocated, IsCancelled, IsEntered, IsFinished, IsHeaded, IsLeft, IsLocked, IsMarked, IsReleased, IsSensed, IsSettled, IsTailed, IsThrown}
+use Rattle.ilk_model.proofs.Alike.{one_mode}
+use Rattle.ilk_model.proofs.Frames.{ChangesRoute, IsAllocated, IsCancelled, IsEntered, IsFinished, IsHeaded, IsLeft, IsLocked, IsMarked, IsReleased, IsSensed, IsSettled, IsTailed, IsThrown}
 use Rattle.ilk_strict.proofs.Reading.{RouteIn, each_route-at, each_route-from}
 use Rattle.ilk_strict.proofs.RouteFacts.{counts-idle, counts-in_use, counts_right, idle, in_use, rel-seen}
 use Rattle.ilk_strict.proofs.TrainFacts.{Keeps}

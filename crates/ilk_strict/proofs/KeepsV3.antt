@@ -25,8 +25,8 @@ use Rattle.ilk_routes.specs.Modes.{same_mode}
 use Rattle.ilk_model.specs.Families.{keeps_v3, lock_on_path}
 use Rattle.ilk_model.specs.Holding.{holds_section, holds_sections}
 use Rattle.ilk_strict.proofs.After.{after-cases, before-change, given-lock, one-state, other-lock, same-here, v3-reads}
-use Rattle.ilk_strict.proofs.Alike.{one_mode}
-use Rattle.ilk_strict.proofs.Frames.{ChangesRoute, IsAllocated, IsCancelled, IsEntered, IsFinished, IsHeaded, IsLeft, IsLocked, IsMarked, IsReleased, IsSensed, IsSettled, IsTailed, IsThrown}
+use Rattle.ilk_model.proofs.Alike.{one_mode}
+use Rattle.ilk_model.proofs.Frames.{ChangesRoute, IsAllocated, IsCancelled, IsEntered, IsFinished, IsHeaded, IsLeft, IsLocked, IsMarked, IsReleased, IsSensed, IsSettled, IsTailed, IsThrown}
 use Rattle.ilk_strict.proofs.KeepsV2.{cleared}
 use Rattle.ilk_strict.proofs.Reading.{RouteIn, section-at}
 use Rattle.ilk_strict.proofs.RouteFacts.{allocating-holds, alone, held-not_free, holds-beside, holds-cases, holds-path, idle, lock-beside, lock-path, locked-holds, locks-from, rel-seen}

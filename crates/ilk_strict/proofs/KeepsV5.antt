@@ -20,9 +20,9 @@ use Rattle.ilk_model.specs.Families.{keeps_v5}
 use Rattle.ilk_model.specs.Holding.{holds_section}
 use Rattle.ilk_strict.specs.IsStrict.{IsStrict}
 use Rattle.ilk_strict.proofs.After.{after-change, before-change, one-state, other-stays, route-stays, same-occupied, v5-reads}
-use Rattle.ilk_strict.proofs.Alike.{one_mode}
+use Rattle.ilk_model.proofs.Alike.{one_mode}
 use Rattle.ilk_strict.proofs.Boards.{head-open, other-board, sense-open}
-use Rattle.ilk_strict.proofs.Frames.{ChangesRoute, IsAllocated, IsCancelled, IsEntered, IsFinished, IsHeaded, IsLeft, IsLocked, IsMarked, IsReleased, IsSensed, IsSettled, IsTailed, IsThrown}
+use Rattle.ilk_model.proofs.Frames.{ChangesRoute, IsAllocated, IsCancelled, IsEntered, IsFinished, IsHeaded, IsLeft, IsLocked, IsMarked, IsReleased, IsSensed, IsSettled, IsTailed, IsThrown}
 use Rattle.ilk_strict.proofs.KeepsV4.{headed-goes_on}
 use Rattle.ilk_strict.proofs.Reading.{RouteIn, has_lock-at}
 use Rattle.ilk_strict.proofs.RouteFacts.{IsOpenFor, alone, held-not_free, holds-path, idle, locked-holds, locked-is, open-at, open-from, vacant-path}

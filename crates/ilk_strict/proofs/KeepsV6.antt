@@ -33,8 +33,8 @@ use Rattle.ilk_model.specs.Families.{keeps_v6}
 use Rattle.ilk_model.specs.Holding.{holds_section, is_kept_on_path, is_locked_or_occupied}
 use Rattle.ilk_strict.proofs.After.{after-cases, before-change, same-here, same-route, v6-reads}
 use Rattle.ilk_strict.proofs.Ahead.{lies-listed}
-use Rattle.ilk_strict.proofs.Alike.{own_lie}
-use Rattle.ilk_strict.proofs.Frames.{ChangesRoute, IsAllocated, IsCancelled, IsEntered, IsFinished, IsHeaded, IsLeft, IsLocked, IsMarked, IsReleased, IsSensed, IsSettled, IsTailed, IsThrown}
+use Rattle.ilk_model.proofs.Alike.{own_lie}
+use Rattle.ilk_model.proofs.Frames.{ChangesRoute, IsAllocated, IsCancelled, IsEntered, IsFinished, IsHeaded, IsLeft, IsLocked, IsMarked, IsReleased, IsSensed, IsSettled, IsTailed, IsThrown}
 use Rattle.ilk_strict.proofs.KeepsV2.{cleared}
 use Rattle.ilk_strict.proofs.Points.{commanded-alike, commanded-at_listed, commanded-from, commanded-is, commanded-kept, commanded-new, commanded-same, lie-alike, lie-is, lie-kept, lie-other, lies-from, lists-named, lists-own}
 use Rattle.ilk_strict.proofs.Reading.{RouteIn, kept-at, kept-from, section-at, section-from}

@@ -31,9 +31,9 @@ use Rattle.ilk_model.specs.Holding.{holds_section, is_locked_or_occupied, is_pla
 use Rattle.ilk_strict.specs.IsStrict.{IsFrom, IsStrict}
 use Rattle.ilk_strict.proofs.After.{after-change, before-change, one-state, other-stays, route-stays, same-occupied, v7-reads}
 use Rattle.ilk_strict.proofs.Ahead.{board-one}
-use Rattle.ilk_strict.proofs.Alike.{one_mode}
+use Rattle.ilk_model.proofs.Alike.{one_mode}
 use Rattle.ilk_strict.proofs.Boards.{head-closed, head-shut, other-board, sense-closed}
-use Rattle.ilk_strict.proofs.Frames.{ChangesRoute, IsAllocated, IsCancelled, IsEntered, IsFinished, IsHeaded, IsLeft, IsLocked, IsMarked, IsReleased, IsSensed, IsSettled, IsTailed, IsThrown}
+use Rattle.ilk_model.proofs.Frames.{ChangesRoute, IsAllocated, IsCancelled, IsEntered, IsFinished, IsHeaded, IsLeft, IsLocked, IsMarked, IsReleased, IsSensed, IsSettled, IsTailed, IsThrown}
 use Rattle.ilk_strict.proofs.Heads.{GoesOn}
 use Rattle.ilk_strict.proofs.KeepsV4.{headed-goes_on}
 use Rattle.ilk_strict.proofs.Reading.{RouteIn, has_lock-at, occupied-from, section-from}

@@ -21,7 +21,7 @@ use Rattle.ilk_routes.specs.Modes.{has_mode}
 use Rattle.ilk_model.specs.Families.{keeps_v9}
 use Rattle.ilk_strict.proofs.After.{after-cases, before-change, same-here, same-route, v9-reads}
 use Rattle.ilk_strict.proofs.Boards.{head-closed, other-board, sense-closed}
-use Rattle.ilk_strict.proofs.Frames.{ChangesRoute, IsAllocated, IsCancelled, IsEntered, IsFinished, IsHeaded, IsLeft, IsLocked, IsMarked, IsReleased, IsSensed, IsSettled, IsTailed, IsThrown}
+use Rattle.ilk_model.proofs.Frames.{ChangesRoute, IsAllocated, IsCancelled, IsEntered, IsFinished, IsHeaded, IsLeft, IsLocked, IsMarked, IsReleased, IsSensed, IsSettled, IsTailed, IsThrown}
 use Rattle.ilk_strict.proofs.Reading.{RouteIn, has_aspect-at, some_below-from}
 use Rattle.ilk_strict.proofs.RouteFacts.{protected-at, protected-from}
 use Rattle.ilk_strict.proofs.TrainFacts.{Keeps}

@@ -1,9 +1,7 @@
 pub mod After
 pub mod Ahead
-pub mod Alike
 pub mod Boards
 pub mod Examples
-pub mod Frames
 pub mod Heads
 pub mod HeldPoints
 pub mod KeepsV1

@@ -22,7 +22,7 @@ use Rattle.ilk_plant.specs.declared.state.Train.{Train}
 use Rattle.ilk_plant.specs.declared.table.Route.{Route}
 use Rattle.ilk_routes.specs.Boards.{has_aspect, same_aspect}
 use Rattle.ilk_model.specs.Holding.{each_place, each_route, is_kept_on_path, is_vacant, route_passes, some_place, some_route}
-use Rattle.ilk_strict.proofs.Alike.{one_aspect, one_hold, own_aspect, own_hold}
+use Rattle.ilk_model.proofs.Alike.{one_aspect, one_hold, own_aspect, own_hold}
 
 -- the lock of a section
 pub has_lock-at : (s : State) (x : ℕ) (hold : Hold) → has_lock s x hold ≡ true → slice_get s.locks x ≡ Some hold

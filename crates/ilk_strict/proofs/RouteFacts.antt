@@ -26,7 +26,7 @@ use Rattle.ilk_routes.specs.Modes.{same_mode}
 use Rattle.ilk_model.specs.Commanded.{is_commanded_as_listed}
 use Rattle.ilk_model.specs.Families.{has_its_locks, is_commanded_for, keeps_v1, keeps_v2, keeps_v3, keeps_v4, keeps_v5, keeps_v6, keeps_v9, lies_for, lock_on_path}
 use Rattle.ilk_model.specs.Holding.{each_place, holds_section, holds_sections, is_kept_on_path, is_locked_or_occupied, is_vacant, route_holds}
-use Rattle.ilk_strict.proofs.Alike.{one_mode, own_mode}
+use Rattle.ilk_model.proofs.Alike.{one_mode, own_mode}
 use Rattle.ilk_strict.proofs.Reading.{RouteIn, each_below-at, each_below-from, each_place-at, each_place-from, each_route-at, each_route-from, has_aspect-at, has_aspect-from, has_lock-at, has_lock-from, kept-at, kept-from, passes-at, passes-from, section-at, section-from, some_route-at, some_route-from}
 
 -- a test that is asked only where another passes

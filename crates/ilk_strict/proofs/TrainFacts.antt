@@ -32,7 +32,7 @@ use Rattle.ilk_model.specs.Families.{is_kept_for, is_led, keeps_v1, keeps_v2, ke
 use Rattle.ilk_model.specs.Hazard.{hazard, is_hazardous, is_two, is_wrong, strays}
 use Rattle.ilk_model.specs.Holding.{is_kept_on_path, is_locked_or_occupied, is_plain, is_vacant, runs_in, some_place}
 use Rattle.ilk_model.specs.Meets.{Meets}
-use Rattle.ilk_strict.proofs.Alike.{one_direction, one_mode, own_direction}
+use Rattle.ilk_model.proofs.Alike.{one_direction, one_mode, own_direction}
 use Rattle.ilk_strict.proofs.Reading.{RouteIn, has_aspect-at, has_aspect-from, kept-at, kept-from, some_place-at, some_place-from, some_route-at, some_route-from}
 use Rattle.ilk_strict.proofs.RouteFacts.{all_vacant-at, all_vacant-from, asked, locked-is, occupied-is, unless}
 

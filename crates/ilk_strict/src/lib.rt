@@ -4,7 +4,7 @@
 //! `begin` gives the start and `advance` does an event, with the invariant in their contracts. The two laws under `laws`
 //! say of which tables this holds, and that every run from the start, of whatever length, ends in a state that meets the
 //! invariant. `specs/IsStrict.antt` is what the table has to have; the proof stands in `proofs/`: what each event leaves
-//! alone (`Frames`), where a train's head goes on (`Heads`), and for each family and each hazard that no event breaks it
+//! alone (`Frames` of `ilk_model`), where a train's head goes on (`Heads`), and for each family and each hazard that no event breaks it
 //! (`KeepsV1` to `KeepsV9`, `KeepsTrainsApart`, `KeepsPointsRight`).
 #![tactic(auto)]
 

@@ -33,7 +33,7 @@ use Rattle.ilk_routes.specs.Modes.{is_claimed, same_mode}
 use Rattle.ilk_routes.specs.Points.{after_settle, after_throw}
 use Rattle.ilk_routes.specs.Routes.{after_allocate, after_cancel, after_finish, after_lock, after_mark, after_release, after_sense, can_claim, can_lock}
 use Rattle.ilk_model.specs.Holding.{is_locked_or_occupied}
-use Rattle.ilk_strict.proofs.Alike.{one_mode}
+use Rattle.ilk_model.proofs.Alike.{one_mode}
 
 -- two states that are one have the same lists
 pub record SameLists (s t : State) : Type 0 where
