@@ -2,15 +2,14 @@
 use Rattle.std.specs.Prelude.{ℕ, Option, Some, None, List, option_map}
 use Rattle.ilk_words.specs.Words.{command_of}
 use Rattle.ilk_words.specs.declared.command.Command.{Command}
-use Rattle.ilk_words.specs.declared.command.Command.TheVariants.{Check, Verify, Replay, Export}
+use Rattle.ilk_words.specs.declared.command.Command.TheVariants.{Verify, Replay}
 use Rattle.ilk_words.specs.declared.files.FileNames.{FileNames}
 
 -- verify writes its certificate to a file, and replay reads the file of its run
 abbrev pub files_of : Command → FileNames
-files_of (Check columns) = record { extra = None; cert = None }
 files_of (Verify columns depth conflicts cert) = record { extra = None; cert = Some cert }
 files_of (Replay columns run) = record { extra = Some run; cert = None }
-files_of (Export columns query number) = record { extra = None; cert = None }
+files_of _ = record { extra = None; cert = None }
 
 -- none where the words give no command
 abbrev pub files_named : List (List ℕ) → Option FileNames

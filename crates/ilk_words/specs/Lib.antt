@@ -7,3 +7,4 @@ pub mod Places
 pub mod Words
 pub mod Limits
 pub mod Files
+pub mod Plan

@@ -27,7 +27,7 @@ fn files_of(command: Command) -> FileNames
     ensures { result ≡ files_of command }
 {
     match command {
-        Command::Check { .. } => FileNames {
+        Command::Check { .. } | Command::Export { .. } => FileNames {
             extra: None,
             cert: None,
         },
@@ -37,10 +37,6 @@ fn files_of(command: Command) -> FileNames
         },
         Command::Replay { run, .. } => FileNames {
             extra: Some(run),
-            cert: None,
-        },
-        Command::Export { .. } => FileNames {
-            extra: None,
             cert: None,
         },
     }
