@@ -37,18 +37,18 @@ pub read-needed : {S : Type 0} (left : S → Option (List ℕ)) (needed : Option
 read-needed left needed None came old new h r = r
 read-needed left needed (Some limit) came old new h r = record {
   taken = r.taken;
-  unread = λ no. absurd (h no);
+  unread = λ spared. absurd (h spared);
   end = λ e. elim (r.end e) [ inl same ↦ absurd (same.0 refl) | inr ended ↦ inr ended ];
 }
 
 -- a count that is told by one fault is told by another that comes exactly there
 pub rises-as : (fault told : Type 0) (old new : ℕ) → (told → fault) → RisesOnlyAt told old new → RisesOnlyAt fault old new
 rises-as fault told old new from r =
-    record { counted = r.counted; unraised = λ no. r.unraised (λ yes. no (from yes)) }
+    record { counted = r.counted; unraised = λ untold. r.unraised (λ it. untold (from it)) }
 
 -- a count that stands still
 pub rises-not : (fault : Type 0) (n : ℕ) → RisesOnlyAt fault n n
-rises-not fault n = record { counted = omega arith; unraised = λ no. refl }
+rises-not fault n = record { counted = omega arith; unraised = λ untold. refl }
 
 -- ---- the configuration, and what comes of it
 
@@ -105,9 +105,9 @@ module _ {C D : Type 0} (conf_left : C → Option (List ℕ)) (conf_faults : C �
 
   -- it did, and the second source was handled, or wasn't needed
   pub conf-first : (fault told : Type 0) (came : Bool) (extra_old extra_new : D) → ¬ told → SourceHandled conf_left conf_faults (Some true) (Some MAX_CONFIGURATION) told true conf_old conf_new → ReadByPlan extra_left (comes_to_extra plan (conf_left conf_old)) plan.extra came extra_old extra_new → (fault → RoseByOne (extra_faults extra_old) (extra_faults extra_new)) → RisesOnlyAt fault (extra_faults extra_old) (extra_faults extra_new) → SourcesHandled conf_left conf_faults extra_left extra_faults plan fault came conf_old conf_new extra_old extra_new
-  conf-first fault told came extra_old extra_new no h read failed rises = record {
-    read_fault = λ f. inr (h.rises.unraised no, failed f);
-    conf_rises = record { counted = h.rises.counted; unraised = λ n. h.rises.unraised no };
+  conf-first fault told came extra_old extra_new never h read failed rises = record {
+    read_fault = λ f. inr (h.rises.unraised never, failed f);
+    conf_rises = record { counted = h.rises.counted; unraised = λ n. h.rises.unraised never };
     extra_rises = rises;
     conf_read = conf-read came (read-came conf_left (Some true) (Some MAX_CONFIGURATION) true came conf_old conf_new (λ c. refl) h.read);
     extra_read = read;

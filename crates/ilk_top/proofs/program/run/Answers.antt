@@ -1,0 +1,21 @@
+use Rattle.std.proofs.Common.{Option, subst, sym, ◌∙◌}
+use Rattle.ilk_answers.specs.Answer.{IsAnswerTo}
+use Rattle.ilk_answers.specs.declared.status.Status.TheVariants.{Usage}
+use Rattle.ilk_words.specs.declared.command.Command.{Command}
+use Rattle.ilk_top.proofs.Ends.{Tells-usage}
+use Rattle.ilk_top.proofs.Joined.{untouched}
+use Rattle.ilk_top.specs.Outside.{Tells}
+use Rattle.ilk_top.proofs.program.run.Goals as goal
+
+-- where the words give no command
+pub returns-in-Ok-None-clause-answer : goal.returns-in-Ok-None-clause-answer
+returns-in-Ok-None-clause-answer g c =
+    let Told : Option Command → Type 0 = λ asked. Tells (IsAnswerTo asked (g.C.Source.left c.args.conf.now) (g.D.Source.left c.args.extra.now)) g.L.Sink.written g.L.Sink.faults g.O.Sink.written g.O.Sink.faults Usage c.args.cert.now c.args.cert.now c.args.out.now c.args.out.now in
+    subst Told (sym c.in-Ok-None.field-0-is ∙ c.in-Ok-None.ensures.command) (Tells-usage g.L.Sink.written g.L.Sink.faults g.O.Sink.written g.O.Sink.faults (g.C.Source.left c.args.conf.now) (g.D.Source.left c.args.extra.now) c.args.cert.now c.args.out.now)
+
+-- without memory nothing is touched
+pub returns-in-Err-clause-conf_read : goal.returns-in-Err-clause-conf_read
+returns-in-Err-clause-conf_read g c = untouched g.C.Source.left _ _ _ _ (λ e. cc)
+
+pub returns-in-Err-clause-extra_read : goal.returns-in-Err-clause-extra_read
+returns-in-Err-clause-extra_read g c = untouched g.D.Source.left _ _ _ _ (λ e. cc)
