@@ -11,6 +11,7 @@ pub mod Law
 pub mod Updates
 pub mod Rewatching
 pub mod AddedClauses
+pub mod LongClauses
 pub mod Cursors
 pub mod Readings
 pub mod Watching

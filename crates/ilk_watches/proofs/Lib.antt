@@ -4,6 +4,7 @@ pub mod Propagations
 pub mod Others
 pub mod Scanned
 pub mod Walks
+pub mod Visiting
 pub mod Finding
 pub mod Satisfied
 pub mod Looks

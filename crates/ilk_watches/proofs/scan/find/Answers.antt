@@ -1,4 +1,4 @@
-use Rattle.std.proofs.Common.{◌<◌, ◌&&◌, ℕ, not, length, true, arith, ap, sym, ◌∙◌}
+use Rattle.std.proofs.Common.{◌<◌, ◌&&◌, ℕ, not, length, arith, ap, sym, ◌∙◌}
 use Rattle.ilk_cnf.specs.Literal.{plus}
 use Rattle.ilk_cnf.specs.Formula.{lit_in}
 use Rattle.ilk_trail.specs.Laws.{is_set}

@@ -1,4 +1,4 @@
-use Rattle.std.proofs.Common.{◌-◌, ◌∷◌, [], List, Some, length, arith, ap, sym, ◌∙◌, subst, length-append}
+use Rattle.std.proofs.Common.{◌∷◌, [], List, Some, length, arith, ap, sym, ◌∙◌, subst, length-append}
 use Rattle.ilk_trail.specs.declared.entry.Entry.{Entry}
 use Rattle.ilk_trail.specs.Trail.{TrailList, assigned, level_of}
 use Rattle.ilk_watches.specs.Propagated.{IsPropagated}

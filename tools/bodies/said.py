@@ -1,0 +1,86 @@
+"""What the prover said of the functions that edits changed."""
+
+import re
+from enum import Enum
+
+LINE = re.compile(r"^fn (\S+): (.*)$", re.M)
+# the reasons in a function's line, each of which begins so
+CALLS = re.compile(r"it calls .*which (?:is|are) not proved")
+OPEN_GOAL = re.compile(r"`search` did not prove|`grind` did not prove|`\w[\w-]*` is not answered")
+STANDS_ON = re.compile(r"it stands on `[\w.+-]*?\.(\w+)\.([\w+'-]+)`")
+ERROR = re.compile(r"^(?:\./)?(\S+?):\d+:\d+: error: (?:`([^`]*)`: )?(.*)", re.M)
+# an error that says that a name is gone, and nothing of what is stated
+GONE = re.compile(r"has no field|is not in scope|has no `|was not admitted|is no name")
+UNREAD = re.compile(r"is not in scope|has no field|is no name|operand is missing|expected the end|"
+                    r"cannot continue")
+LAST = re.compile(r"^(?:only=\d+ )?holes=\d+\n\Z", re.M)
+
+
+class Verdict(Enum):
+    """What a check says of an edit's function."""
+
+    REFUSED = "refused"
+    PROVED = "still proved"
+    CALLS = "its own goals are proved, and it calls what isn't"
+    GONE = "a proof file names what it took away, so nothing is said of the contract"
+    UNKNOWN = "the prover gave no verdict"
+
+
+class Said:
+    """What one check said."""
+
+    def __init__(self, text, status):
+        self.text, self.status = text, status
+        self.lines = dict(LINE.findall(text))
+        self.errors = [(path, name, what) for path, name, what in ERROR.findall(text)]
+
+    def why_unread(self):
+        """Why the prover couldn't read the sources, if it couldn't."""
+        if self.status == 1 and LAST.search(self.text):
+            unread = (f"{path}: {re.sub('`[^`]*`', '..', what)}" for path, name, what in self.errors
+                      if path.startswith(("src/", "specs/"))
+                      and (not name or UNREAD.search(re.sub("`[^`]*`", "", what))))
+            return next(unread, None)
+        if LAST.search(self.text):
+            return None
+        told = [line for line in self.text.split("\n") if "error" in line] or self.text.split("\n")
+        return told[0][:160] or f"status {self.status}"
+
+    def names_of(self, function):
+        """The lines that are a function's: its own, and those of its closures."""
+        end, inside = f"::{function.path}", f"::fn::{function.path}::"
+        if not function.owner:
+            inside = f"::{function.module}::fn::{function.name}::".replace("::::", "::")
+        return [name for name in self.lines
+                if name.endswith(end) or inside in name and "+Fn" not in name]
+
+    def verdict(self, function):
+        """The verdict on a function, and the reason."""
+        found = [self.of_line(name) for name in self.names_of(function)]
+        order = (Verdict.REFUSED, Verdict.UNKNOWN, Verdict.GONE, Verdict.CALLS, Verdict.PROVED)
+        return min(found, key=lambda it: order.index(it[0]),
+                   default=(Verdict.UNKNOWN, "no line of the check speaks of it"))
+
+    def of_line(self, name):
+        """The verdict of one line of the check."""
+        said = self.lines[name]
+        if said == "no holes":
+            return Verdict.PROVED, said
+        if not said.startswith(("not proved", "no proof")):
+            return Verdict.UNKNOWN, said
+        if OPEN_GOAL.search(said):
+            return Verdict.REFUSED, said
+        stands = STANDS_ON.findall(said)
+        if stands:
+            return self.of_answers(name, stands, said)
+        return (Verdict.CALLS if CALLS.search(said) else Verdict.UNKNOWN), said
+
+    def of_answers(self, name, stands, said):
+        """The verdict where answers of a proof file are refused: by what is said of them."""
+        folder = "proofs/" + name.split("::", 1)[1].replace("::", "/") + "/"
+        own = [what for path, answer, what in self.errors
+               if path.startswith(folder) and (not answer or answer.split(".")[0] in
+                                               [it for _, it in stands])]
+        if any(not GONE.search(what) for what in own):
+            return Verdict.REFUSED, said
+        return (Verdict.GONE if own else Verdict.UNKNOWN), said
