@@ -1,21 +1,19 @@
--- What a call did to sources and sinks, told of one end, told of another; and what is known of the answer.
-use Rattle.std.proofs.Common.{◌≡◌, ℕ, Bool, true, false, Option, Some, None, IfOk, IfSome, Result, Ok, Err, List, [], append-nil, inl, inr, refl, ap, subst, sym, is_ok, option_map, ◌&&◌}
-use Rattle.std.specs.Prelude.{◌≢◌, if◌then◌else◌}
+-- What a call told its sinks, and what it told them with each status.
+use Rattle.std.proofs.Common.{◌≡◌, ℕ, true, false, Option, Some, None, List, [], append-nil, refl, ap, subst, sym}
+use Rattle.std.specs.Prelude.{◌≢◌}
+use Rattle.ilk_answers.specs.Answer.{IsAnswerTo, reply}
+use Rattle.ilk_answers.specs.Status.{came_to_writing, is_answer}
+use Rattle.ilk_answers.specs.declared.reply.Reply.{Reply}
+use Rattle.ilk_answers.specs.declared.status.Status.{Status}
+use Rattle.ilk_answers.specs.declared.status.Status.TheVariants.{Usage, ReadFault, WriteFault}
 use Rattle.ilk_io.specs.Sink.{Adds}
-use Rattle.ilk_plant.specs.Plant.{PlantLists}
-use Rattle.ilk_words.specs.declared.command.Columns.{Columns}
-use Rattle.ilk_words.specs.declared.command.Command.{Command}
-use Rattle.ilk_top.specs.Answer.{Answers, IsAnswerTo, command_columns, plant_of, reads_extra, reply, takes_extra}
-use Rattle.ilk_top.specs.Outside.{ReadWhereNeeded, ReadWithin, Tells}
-use Rattle.ilk_top.specs.Status.{is_answer}
-use Rattle.ilk_top.specs.declared.refusals.Refusals.{Refusals}
-use Rattle.ilk_top.specs.declared.reply.Reply.{Reply}
-use Rattle.ilk_top.specs.declared.status.Status.{Status}
-use Rattle.ilk_top.specs.declared.status.Status.TheVariants.{Usage, WriteFault}
+use Rattle.ilk_top.specs.Handled.{SinksHandled}
+use Rattle.ilk_top.specs.Outside.{Tells}
+use Rattle.ilk_top.proofs.Joined.{rises-not}
 
--- a source that was read up to one end was read up to another that comes no further
-pub ReadWithin-came : (limit : ℕ) (b c : Bool) (old new : Option (List ℕ)) → ReadWithin limit b old new → (c ≡ true → b ≡ true) → ReadWithin limit c old new
-ReadWithin-came limit b c old new r h = record { taken = r.taken; end = λ came. r.end (h came) }
+-- a call that came to the writing told no read fault
+pub told-no_read_fault : (s : Status) → came_to_writing s ≡ true → s ≢ ReadFault
+told-no_read_fault s came e = absurd (cc)
 
 module _ {L O : Type 0} (cert_written : L → Option (List ℕ)) (cert_faults : L → ℕ) (out_written : O → Option (List ℕ)) (out_faults : O → ℕ) where
   -- where there is no answer nothing has to be told
@@ -53,27 +51,20 @@ Tells-usage cert_written cert_faults out_written out_faults left extra cert out 
   cut = λ e. cc;
 }
 
--- what answers what the configuration gave answers the configuration
-pub answer-known : {E : Type 0} (command : Command) (columns : Columns) (left extra : Option (List ℕ)) (found : Result PlantLists Refusals) (made : Result Reply E) → columns ≡ command_columns command → IfSome left (λ c. found ≡ plant_of columns c) → IfOk made (Answers command found extra) → IfOk made (IsAnswerTo (Some command) left extra)
-answer-known command columns left extra found (Err e) is k known = tt
-answer-known command columns None extra found (Ok made) is k known = tt
-answer-known command columns (Some c) extra found (Ok made) is k known =
-    let Found : Columns → Type 0 = λ x. found ≡ plant_of x c in
-    let Known : Result PlantLists Refusals → Type 0 = λ f. Answers command f extra made in
-    subst Known (subst Found is k) known
-
--- a source that is read where there is a plant, by a command that takes one, is read where that is so of the configuration's plant
-extra-read-of : {S : Type 0} (tells : S → Option (List ℕ)) (takes : Bool) (columns : Columns) (left : Option (List ℕ)) (found : Result PlantLists Refusals) (limit : ℕ) (came : Bool) (old new : S) → IfSome left (λ c. found ≡ plant_of columns c) → ReadWhereNeeded tells (Some (takes && is_ok found)) limit came old new → ReadWhereNeeded tells (if takes then option_map (λ c. is_ok (plant_of columns c)) left else Some false) limit came old new
-extra-read-of tells false columns left found limit came old new k r = r
-extra-read-of tells true columns None found limit came old new k r = record {
-  taken = r.taken;
-  unread = λ h. cc;
-  end = λ h. elim (r.end h) [ inl same ↦ inl ((λ e. cc), same.1) | inr ended ↦ inr ended ];
+-- sinks that weren't touched
+pub sinks-untouched : {O L : Type 0} (out_faults : O → ℕ) (cert_faults : L → ℕ) (none : Type 0) (s : Status) (out : O) (cert : L) → SinksHandled out_faults cert_faults none s out out cert cert
+sinks-untouched out_faults cert_faults none s out cert = record {
+  out_rises = rises-not (s ≡ WriteFault) (out_faults out);
+  cert_rises = rises-not (s ≡ WriteFault) (cert_faults cert);
+  unwritten = λ h. (refl, refl);
+  uncertified = λ h. refl;
 }
-extra-read-of tells true columns (Some c) found limit came old new k r =
-    let Read : Result PlantLists Refusals → Type 0 = λ f. ReadWhereNeeded tells (Some (is_ok f)) limit came old new in subst Read k r
 
-pub extra-read : {S : Type 0} (tells : S → Option (List ℕ)) (command : Command) (columns : Columns) (left : Option (List ℕ)) (found : Result PlantLists Refusals) (limit : ℕ) (came : Bool) (old new : S) → columns ≡ command_columns command → IfSome left (λ c. found ≡ plant_of columns c) → ReadWhereNeeded tells (Some (takes_extra command && is_ok found)) limit came old new → ReadWhereNeeded tells (reads_extra (Some command) left) limit came old new
-extra-read tells command columns left found limit came old new is k r =
-    let Found : Columns → Type 0 = λ x. IfSome left (λ c. found ≡ plant_of x c) in
-    extra-read-of tells (takes_extra command) (command_columns command) left found limit came old new (subst Found is k) r
+-- what holds of the sinks for one cause of no certificate holds for another that leads to it
+pub sinks-as : {O L : Type 0} (out_faults : O → ℕ) (cert_faults : L → ℕ) (none cause : Type 0) (s : Status) (out_old out_new : O) (cert_old cert_new : L) → (none → cause) → SinksHandled out_faults cert_faults cause s out_old out_new cert_old cert_new → SinksHandled out_faults cert_faults none s out_old out_new cert_old cert_new
+sinks-as out_faults cert_faults none cause s out_old out_new cert_old cert_new leads h = record {
+  out_rises = h.out_rises;
+  cert_rises = h.cert_rises;
+  unwritten = h.unwritten;
+  uncertified = λ n. h.uncertified (leads n);
+}

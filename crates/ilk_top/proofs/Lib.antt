@@ -1,3 +1,4 @@
 pub mod Ends
-pub mod Checked
-pub mod Written
+pub mod Fed
+pub mod Joined
+pub mod Poured

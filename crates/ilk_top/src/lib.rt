@@ -3,36 +3,24 @@
 //!
 //! So the promise of the program is a clause of a call that `main` really makes: for every list of
 //! words and all bytes, the status, the report and the certificate are those of an answer
-//! (`specs/Answer.antt`; `specs/Verdicts.antt` for verdicts and formulas). A run goes by stages, a
-//! file each: the words (`ilk_words`), the configuration to a plant or all that it is refused with
-//! (`plant_stage`, over `checks`), then what the command asks: the list of these (`check_stage`),
-//! the verdict with its run or its certificate (`verify_stage`), the run text and its replay
-//! (`replay_stage`), the formula of a query (`export_stage`). The lines of reports are those of
-//! `report` and `refusal`. Last come the status and the writes (`program`).
+//! (`ilk_answers/specs/Answer.antt`). What is answered is a value, made by `ilk_answers` of what was
+//! read; here stand reading, writing and their faults. A run goes by stages: the words (`ilk_words`),
+//! with the plan of what their command reads, asks and writes; the configuration to a plant or all
+//! that it is refused with (`conf_stage`); what is read besides, in pieces (`extra_stage`, over
+//! `pieces`); last the writes, in pieces too (`writing`), and the status (`command`).
+//!
+//! What holds of sources and sinks with each status is one record, `Handled` (`specs/Handled.antt`),
+//! of which each stage ensures its part; the contract of `run` spells it out.
 #![tactic(auto)]
 
-mod check_stage;
-mod checks;
-mod content;
-mod export_stage;
-mod limits;
+mod command;
+mod conf_stage;
+mod extra_stage;
 mod no_reply;
-mod plant_stage;
+mod pieces;
 mod program;
-mod refusal;
-mod refusals;
-mod replay_stage;
-mod reply;
-mod report;
-mod status;
-mod verify_stage;
+mod writing;
 
-pub use content::Content;
+pub use ilk_answers::Status;
 pub use ilk_words::{FileNames, names_of};
-pub use limits::{MAX_CONFIGURATION, MAX_RUN_TEXT};
-pub use no_reply::NoReply;
 pub use program::run;
-pub use refusal::Refusal;
-pub use refusals::Refusals;
-pub use reply::Reply;
-pub use status::Status;

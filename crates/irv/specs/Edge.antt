@@ -2,8 +2,8 @@
 use Rattle.std.specs.Prelude.{ℕ, Option, Some, None, List, codes}
 use Rattle.std.specs.declared.io.ErrorKind.{ErrorKind}
 use Rattle.std.specs.declared.io.ErrorKind.TheVariants.{OutOfMemory as NoMemory}
-use Rattle.ilk_top.specs.declared.status.Status.{Status}
-use Rattle.ilk_top.specs.declared.status.Status.TheVariants.{Usage, ReadFault, WriteFault, OutOfMemory}
+use Rattle.ilk_answers.specs.declared.status.Status.{Status}
+use Rattle.ilk_answers.specs.declared.status.Status.TheVariants.{Usage, ReadFault, WriteFault, OutOfMemory}
 
 -- where the words can't be read for another cause than memory, one isn't UTF-8, and is no right word
 abbrev pub unread_words : ErrorKind → Status

@@ -1,0 +1,43 @@
+-- The run of a right verdict can be written.
+use Rattle.std.proofs.Common.{◌≡◌, ℕ, All, Some, List, [], ◌∷◌, ◌⊎◌, length, inl, inr, is_some}
+use Rattle.std.specs.Prelude.{option_and_then}
+use Rattle.std.proofs.lemmas.List.Elements.{All-nil, All-cons}
+use Rattle.ilk_base.proofs.Options.{bind_some, mapped-Some, some-and}
+use Rattle.ilk_plant.specs.Plant.{PlantLists}
+use Rattle.ilk_plant.specs.Start.{start}
+use Rattle.ilk_plant.specs.declared.state.State.{State}
+use Rattle.ilk_model.specs.Event.{next}
+use Rattle.ilk_model.specs.Hazard.{hazard}
+use Rattle.ilk_model.specs.Run.{run}
+use Rattle.ilk_model.specs.declared.event.Event.{Event}
+use Rattle.ilk_replay.specs.Writable.{IsAbout}
+use Rattle.ilk_replay.proofs.Enabled.{enabled-about, run-about}
+use Rattle.ilk_queries.specs.Asked.{leaves_at}
+use Rattle.ilk_queries.specs.Walk.{states_from}
+use Rattle.ilk_engine.specs.Right.{IsRightFor}
+use Rattle.ilk_engine.specs.declared.verdict.Verdict.{Verdict}
+use Rattle.ilk_engine.specs.declared.verdict.Verdict.TheVariants.{Safe, Unsafe, Breach, NotInductive, Spent}
+use Rattle.ilk_answers.specs.Writable.{HasRuns}
+
+states-about : (p : PlantLists) (s : State) (events : List Event) (states : List State) → states_from p s events ≡ Some states → All (IsAbout p) events
+states-about p s [] states e = All-nil (IsAbout p)
+states-about p s (event ∷ rest) states e =
+    let more = mapped-Some (λ left. s ∷ left) (option_and_then (λ t. states_from p t rest) (next p s event)) states e in
+    let led = bind_some (next p s event) (λ t. states_from p t rest) more.0 more.1 in
+    All-cons (IsAbout p) event rest (enabled-about p s led.0 event led.1) (states-about p led.0 rest more.0 led.2)
+
+pub verdict-written : (p : PlantLists) (depth : ℕ) (verdict : Verdict) → IsRightFor p depth verdict ⊎ (verdict ≡ Spent) → HasRuns p verdict
+verdict-written p depth (Safe k) right = tt
+verdict-written p depth (Unsafe events at) (inl right) =
+    let ends = some-and (run p (start p) events) (λ t. is_some (hazard p t)) right.1.2 in
+    run-about p (start p) ends.0 events ends.1
+verdict-written p depth (Unsafe events at) (inr spent) = absurd (cc)
+verdict-written p depth (Breach events family) (inl right) =
+    let ends = some-and (run p (start p) events) _ right.1.2 in
+    run-about p (start p) ends.0 events ends.1
+verdict-written p depth (Breach events family) (inr spent) = absurd (cc)
+verdict-written p depth (NotInductive first events) (inl right) =
+    let ends = some-and (states_from p first events) (leaves_at p (length events)) right.1.2 in
+    (right.1.0, states-about p first events ends.0 ends.1)
+verdict-written p depth (NotInductive first events) (inr spent) = absurd (cc)
+verdict-written p depth Spent right = tt

@@ -1,0 +1,9 @@
+pub mod Status
+pub mod Refusal
+pub mod Report
+pub mod Stages
+pub mod Verdicts
+pub mod Answer
+pub mod Reader
+pub mod Reply
+pub mod Writable

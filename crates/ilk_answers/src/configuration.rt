@@ -1,0 +1,28 @@
+ghost use Rattle.std.specs.Prelude.{◌≡◌, ◌≤◌, IfOk, length};
+ghost use Rattle.ilk_answers.specs.Answer.{plant_of};
+ghost use Rattle.ilk_words.specs.declared.lengths.TheConstants.{MAX_CONFIGURATION};
+
+use crate::Refusals;
+use crate::checks::check_drafts;
+use ilk_net_read::FormError;
+use ilk_plant::Plant;
+use ilk_table_read::read_drafts;
+use ilk_words::Stages;
+use std::alloc::{AllocError, Global};
+
+/// The plant of a configuration of these bytes, which are no more than there may be, or all that it
+/// is refused with by these stages of rules. The only error is want of memory.
+pub fn plant_of(
+    alloc: Global,
+    stages: Stages,
+    conf: &[u8],
+) -> Result<Result<Plant, Refusals>, AllocError>
+    requires { length conf.now ≤ MAX_CONFIGURATION }
+    ensures { IfOk result (λ found. found ≡ plant_of stages conf.now) }
+{
+    match read_drafts(alloc, conf) {
+        Ok((net, table)) => check_drafts(alloc, stages, &net, &table),
+        Err(FormError::Fault(fault)) => Ok(Err(Refusals::of_form(alloc, fault))),
+        Err(FormError::OutOfMemory) => Err(AllocError),
+    }
+}

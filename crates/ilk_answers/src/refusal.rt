@@ -1,0 +1,82 @@
+ghost use Rattle.std.specs.Prelude.{◌≡◌, ◌++◌, IfOk, codes, string_bytes};
+ghost use Rattle.ilk_answers.specs.Refusal.{form_name, place_text, broken_places, entry_text, refusal_line};
+
+use ilk_net_read::{Form, FormFault, Place};
+use ilk_plant::{Broken, Worded};
+use std::alloc::{AllocError, Global};
+
+/// Why a configuration is refused.
+#[derive(Clone, Copy, PartialEq, Eq, Debug)]
+pub enum Refusal {
+    /// A rule of the form is broken.
+    Form(FormFault),
+    /// A rule of the network or of the table of routes is broken.
+    Rule(Broken),
+}
+
+// The name of a rule of the form.
+fn form_name(form: Form) -> &'static str
+    ensures { result.now ≡ form_name form }
+{
+    match form {
+        Form::F1 => "F1",
+        Form::F2 => "F2",
+        Form::F3 => "F3",
+        Form::F4 => "F4",
+        Form::F5 => "F5",
+        Form::F6 => "F6",
+    }
+}
+
+// The text of a place of the form.
+fn place_text(alloc: Global, place: Place) -> Result<String, AllocError>
+    ensures { IfOk result (λ text. string_bytes text ≡ place_text place) }
+{
+    match place {
+        Place::Document => String::from_str(alloc, "document"),
+        Place::Extra => String::from_str(alloc, "extra"),
+        Place::Section(i) => entry_text(alloc, "sections", i),
+        Place::Route(i) => entry_text(alloc, "routes", i),
+    }
+}
+
+// One entry of these places, as `routes[3]`.
+fn entry_text(alloc: Global, places: &str, i: u32) -> Result<String, AllocError>
+    ensures { IfOk result (λ text. string_bytes text ≡ entry_text places.now i) }
+{
+    format!(in alloc; "{places}[{i}]")
+}
+
+// The text of the one or two places of a broken rule.
+fn broken_text(alloc: Global, broken: Broken) -> Result<String, AllocError>
+    ensures { IfOk result (λ text. string_bytes text ≡ broken_places broken) }
+{
+    let places = broken.rule.places().word();
+    let first = entry_text(alloc, places, broken.first)?;
+    match broken.second {
+        None => Ok(first),
+        Some(second) => {
+            let second = entry_text(alloc, places, second)?;
+            joined(alloc, first.as_str(), second.as_str())
+        }
+    }
+}
+
+// Two texts with a space between them.
+fn joined(alloc: Global, first: &str, second: &str) -> Result<String, AllocError>
+    ensures { IfOk result (λ text. string_bytes text ≡ first.now ++ (codes " " ++ second.now)) }
+{
+    format!(in alloc; "{first} {second}")
+}
+
+/// The line that a refusal prints: its rule, and where it is broken.
+pub fn refusal_line(alloc: Global, refusal: Refusal) -> Result<String, AllocError>
+    ensures { IfOk result (λ line. string_bytes line ≡ refusal_line refusal) }
+{
+    let (rule, place) = match refusal {
+        Refusal::Form(fault) => (form_name(fault.rule), place_text(alloc, fault.place)?),
+        Refusal::Rule(broken) => (broken.rule.word(), broken_text(alloc, broken)?),
+    };
+    let place = place.as_str();
+    format!(in alloc; "refused {rule} {place}\n")
+}

@@ -1,0 +1,37 @@
+ghost use Rattle.std.specs.Prelude.{◌≡◌, ◌++◌, IfOk, string_bytes};
+ghost use Rattle.ilk_answers.specs.Answer.{broken_lines, refused_by};
+ghost use Rattle.ilk_answers.specs.Refusal.{refusal_line};
+ghost use Rattle.ilk_answers.specs.Reply.{IsPlanned};
+ghost use Rattle.ilk_words.specs.Plan.{plan_of};
+
+use crate::refusal::refusal_line;
+use crate::{Refusal, Refusals, Reply, Status};
+use ilk_words::Command;
+use std::alloc::{AllocError, Global};
+
+// A line for each of the refusals.
+fn refusal_lines(alloc: Global, refusals: &Refusals) -> Result<String, AllocError>
+    ensures { IfOk result (λ lines. string_bytes lines ≡ refusal_line refusals.now.first ++ broken_lines refusals.now.rest) }
+{
+    let mut lines = refusal_line(alloc, refusals.first)?;
+    for broken in refusals.rest.as_slice() {
+        let line = refusal_line(alloc, Refusal::Rule(*broken))?;
+        lines.push_str(line.as_str())?;
+    }
+    Ok(lines)
+}
+
+/// The reply of a command to a configuration that is refused: check lists all that it is refused
+/// with, every other command names the first.
+pub fn refuse(alloc: Global, command: &Command, refusals: &Refusals) -> Result<Reply, AllocError>
+    ensures reply { IfOk result (λ made. made ≡ refused_by command.now refusals.now) }
+    ensures planned { IfOk result (IsPlanned (plan_of command.now)) }
+{
+    match command {
+        Command::Check { .. } => {
+            let lines = refusal_lines(alloc, refusals)?;
+            Ok(Reply::of(alloc, Status::Refused, lines))
+        }
+        _ => Reply::refused(alloc, refusals.first),
+    }
+}

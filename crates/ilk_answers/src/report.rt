@@ -1,0 +1,95 @@
+ghost use Rattle.std.specs.Prelude.{◌≡◌, IfOk, string_bytes};
+ghost use Rattle.ilk_answers.specs.Report.{hazard_line, hazard_text, not_a_run_line, rejected_line, section_name, unsafe_line};
+ghost use Rattle.ilk_answers.specs.Verdicts.{verdict_line};
+
+use ilk_engine::Verdict;
+use ilk_model::HazardAt;
+use ilk_plant::Plant;
+use std::alloc::{AllocError, Global};
+
+// The name of section `x`; empty where there is no such section.
+fn section_name(plant: &Plant, x: u32) -> &str
+    ensures { result.now ≡ section_name plant.now x }
+{
+    plant.is_sound();
+    if x < plant.sections() {
+        plant.section_name(x)
+    } else {
+        ""
+    }
+}
+
+// A hazard, by its kind and its section.
+fn hazard_text(alloc: Global, plant: &Plant, hazard: HazardAt) -> Result<String, AllocError>
+    ensures { IfOk result (λ text. string_bytes text ≡ hazard_text plant.now hazard) }
+{
+    match hazard {
+        HazardAt::Two(x) => {
+            let name = section_name(plant, x);
+            format!(in alloc; "two {name}")
+        }
+        HazardAt::Wrong(x) => {
+            let name = section_name(plant, x);
+            format!(in alloc; "wrong {name}")
+        }
+    }
+}
+
+/// The line that names a hazard.
+pub fn hazard_line(alloc: Global, plant: &Plant, hazard: HazardAt) -> Result<String, AllocError>
+    ensures { IfOk result (λ line. string_bytes line ≡ hazard_line plant.now hazard) }
+{
+    let text = hazard_text(alloc, plant, hazard)?;
+    format!(in alloc; "hazard {text}\n")
+}
+
+// The line that tells an unsafe verdict, by a run of so many events to this hazard.
+fn unsafe_line(
+    alloc: Global,
+    plant: &Plant,
+    steps: u64,
+    hazard: HazardAt,
+) -> Result<String, AllocError>
+    ensures { IfOk result (λ line. string_bytes line ≡ unsafe_line plant.now steps hazard) }
+{
+    let text = hazard_text(alloc, plant, hazard)?;
+    format!(in alloc; "unsafe steps={steps} hazard={text}\n")
+}
+
+/// The line that tells a verdict, where so many conflicts were given to the searches.
+pub fn verdict_line(
+    alloc: Global,
+    plant: &Plant,
+    conflicts: u64,
+    verdict: &Verdict,
+) -> Result<String, AllocError>
+    ensures { IfOk result (λ line. string_bytes line ≡ verdict_line plant.now conflicts verdict.now) }
+{
+    match verdict {
+        Verdict::Safe { k } => format!(in alloc; "safe k={k}\n"),
+        Verdict::Unsafe { events, hazard } => unsafe_line(alloc, plant, events.len(), *hazard),
+        Verdict::Breach { events, family } => {
+            let steps = events.len();
+            format!(in alloc; "breach steps={steps} family=V{family}\n")
+        }
+        Verdict::NotInductive { events, .. } => {
+            let steps = events.len();
+            format!(in alloc; "not inductive steps={steps}\n")
+        }
+        Verdict::Spent => format!(in alloc; "spent conflicts={conflicts}\n"),
+    }
+}
+
+/// The line that names the first bad line of a text.
+pub fn rejected_line(alloc: Global, line: u64) -> Result<String, AllocError>
+    ensures { IfOk result (λ text. string_bytes text ≡ rejected_line line) }
+{
+    format!(in alloc; "rejected line {line}\n")
+}
+
+/// The line that names the first event that is no step of a run.
+pub fn not_a_run_line(alloc: Global, at: u64) -> Result<String, AllocError>
+    ensures { IfOk result (λ text. string_bytes text ≡ not_a_run_line at) }
+{
+    format!(in alloc; "not a run at {at}\n")
+}

@@ -1,0 +1,27 @@
+ghost use Rattle.std.specs.Prelude.{◌≡◌};
+ghost use Rattle.ilk_answers.specs.Status.{code};
+
+/// How a call of the program ends.
+#[derive(Clone, Copy, PartialEq, Eq, Debug)]
+pub enum Status {
+    Good,
+    Unsafe,
+    NotInductive,
+    Breach,
+    Spent,
+    Refused,
+    Rejected,
+    Usage,
+    ReadFault,
+    WriteFault,
+    OutOfMemory,
+}
+
+impl Status {
+    /// The exit status of the process, 0 to 10 in the order of the variants.
+    pub fn code(self) -> u8
+        ensures { result ≡ code self }
+    {
+        self as u8
+    }
+}

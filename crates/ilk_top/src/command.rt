@@ -1,0 +1,80 @@
+ghost use Rattle.std.specs.Prelude.{◌≡◌, ◌≢◌, IfOk, IsTrue, Err, Some, [], is_ok};
+ghost use Rattle.ilk_answers.specs.Answer.{IsAnswerTo};
+ghost use Rattle.ilk_answers.specs.Reply.{IsPlanned};
+ghost use Rattle.ilk_answers.specs.Status.{came_to_writing, is_reply};
+ghost use Rattle.ilk_top.specs.Handled.{Handled, SinksHandled, SourcesHandled};
+ghost use Rattle.ilk_top.specs.Outside.{Tells};
+ghost use Rattle.ilk_words.specs.Limits.{has_option_limits};
+ghost use Rattle.ilk_words.specs.Plan.{plan_of};
+
+use crate::conf_stage::read_plant;
+use crate::extra_stage::plant_reply;
+use crate::no_reply::NoReply;
+use crate::writing::write_content;
+use ilk_answers::{Reply, Status, refuse};
+use ilk_io::{Sink, Source};
+use ilk_words::Command;
+use std::alloc::Global;
+
+// Reads what the command reads, and finds the reply.
+fn command_reply<C: Source, D: Source>(
+    alloc: Global,
+    command: &Command,
+    conf: &mut C,
+    extra: &mut D,
+) -> Result<Reply, NoReply>
+    requires { IsTrue (has_option_limits command.now) }
+    ensures reply { IfOk result (IsAnswerTo (Some command.now) (C.left conf.old) (D.left extra.old)) }
+    ensures planned { IfOk result (IsPlanned (plan_of command.now)) }
+    ensures handled { SourcesHandled C.left C.faults D.left D.faults (plan_of command.now) (result ≡ Err NoReply.ReadFault) (is_ok result) conf.old conf.new extra.old extra.new }
+{
+    // every command reads a configuration
+    let stages = command.plan().stages.unwrap();
+    match read_plant(alloc, stages, conf)? {
+        Ok(plant) => plant_reply(alloc, command, &plant, extra),
+        Err(refusals) => Ok(refuse(alloc, command, &refusals)?),
+    }
+}
+
+// Writes the certificate of a reply, and then its report. WriteFault where a sink failed, which
+// then gained a prefix.
+fn tell<O: Sink, L: Sink>(reply: Reply, out: &mut O, cert: &mut L) -> Status
+    requires { IsTrue (is_reply reply.status) }
+    ensures answer { Tells (λ made. made ≡ reply) L.written L.faults O.written O.faults result cert.old cert.new out.old out.new }
+    ensures told { IsTrue (came_to_writing result) }
+    ensures handled { SinksHandled O.faults L.faults (reply.certificate ≡ []) result out.old out.new cert.old cert.new }
+{
+    let Reply {
+        status,
+        mut report,
+        mut certificate,
+    } = reply;
+    if write_content(cert, &mut certificate).is_err() {
+        return Status::WriteFault;
+    }
+    match write_content(out, &mut report) {
+        Ok(()) => status,
+        Err(_) => Status::WriteFault,
+    }
+}
+
+/// Does what a command asks: the clauses of `run`, for that command, as one record.
+pub fn perform<C: Source, D: Source, O: Sink, L: Sink>(
+    alloc: Global,
+    command: &Command,
+    conf: &mut C,
+    extra: &mut D,
+    out: &mut O,
+    cert: &mut L,
+) -> Status
+    requires { IsTrue (has_option_limits command.now) }
+    ensures answer { Tells (IsAnswerTo (Some command.now) (C.left conf.old) (D.left extra.old)) L.written L.faults O.written O.faults result cert.old cert.new out.old out.new }
+    ensures handled { Handled C.left C.faults D.left D.faults O.faults L.faults (plan_of command.now) result conf.old conf.new extra.old extra.new out.old out.new cert.old cert.new }
+    ensures no_usage { result ≢ Status.Usage }
+{
+    match command_reply(alloc, command, conf, extra) {
+        Ok(reply) => tell(reply, out, cert),
+        Err(NoReply::ReadFault) => Status::ReadFault,
+        Err(NoReply::OutOfMemory) => Status::OutOfMemory,
+    }
+}

@@ -1,0 +1,29 @@
+ghost use Rattle.std.specs.Prelude.{◌≡◌, true, IfOk, IfSome, Err, Some, is_ok};
+ghost use Rattle.ilk_answers.specs.Answer.{plant_of};
+ghost use Rattle.ilk_top.specs.Handled.{SourceHandled};
+ghost use Rattle.ilk_words.specs.declared.lengths.TheConstants.{MAX_CONFIGURATION};
+
+use crate::no_reply::NoReply;
+use ilk_answers::{Refusals, plant_of};
+use ilk_io::{ReadError, Source, read_all};
+use ilk_plant::Plant;
+use ilk_words::{MAX_CONFIGURATION, Stages};
+use std::alloc::Global;
+
+/// Reads a configuration to its end, and makes its plant, or finds all that it is refused with.
+/// ReadFault comes at the first fault of the source, which is not called again.
+pub fn read_plant<C: Source>(
+    alloc: Global,
+    stages: Stages,
+    conf: &mut C,
+) -> Result<Result<Plant, Refusals>, NoReply>
+    ensures found { IfOk result (λ found. IfSome (C.left conf.old) (λ c. found ≡ plant_of stages c)) }
+    ensures handled { SourceHandled C.left C.faults (Some true) (Some MAX_CONFIGURATION) (result ≡ Err NoReply.ReadFault) (is_ok result) conf.old conf.new }
+{
+    match read_all(alloc, conf, MAX_CONFIGURATION) {
+        Ok(text) => Ok(plant_of(alloc, stages, text.as_slice())?),
+        Err(ReadError::TooLong) => Ok(Err(Refusals::too_long(alloc))),
+        Err(ReadError::Failed) => Err(NoReply::ReadFault),
+        Err(ReadError::OutOfMemory) => Err(NoReply::OutOfMemory),
+    }
+}

@@ -1,0 +1,58 @@
+ghost use Rattle.std.specs.Prelude.{◌≡◌, ◌^◌, ◌<◌, true, IfOk, IsTrue, Err, Some, is_ok};
+ghost use Rattle.ilk_answers.specs.Answer.{AnswersPlant};
+ghost use Rattle.ilk_answers.specs.Reply.{IsPlanned};
+ghost use Rattle.ilk_top.specs.Handled.{SourceHandled};
+ghost use Rattle.ilk_words.specs.Limits.{has_option_limits};
+ghost use Rattle.ilk_words.specs.Plan.{plan_of};
+
+use crate::no_reply::NoReply;
+use crate::pieces::read_pieces;
+use ilk_answers::{Reader, Reply, answer};
+use ilk_io::{ReadError, Source};
+use ilk_plant::Plant;
+use ilk_words::Command;
+use std::alloc::Global;
+
+// Reads what the command reads besides the configuration, to its end, and finds the reply. Refused
+// where it is longer than the limit; ReadFault at the first fault of the source.
+fn reply_to_extra<D: Source>(
+    alloc: Global,
+    command: &Command,
+    plant: &Plant,
+    limit: u64,
+    extra: &mut D,
+) -> Result<Reply, NoReply>
+    requires options { IsTrue (has_option_limits command.now) }
+    requires limit { (plan_of command.now).extra ≡ Some limit }
+    requires small { limit < 2 ^ 40 }
+    ensures reply { IfOk result (AnswersPlant (plan_of command.now).extra command.now plant.now (D.left extra.old)) }
+    ensures planned { IfOk result (IsPlanned (plan_of command.now)) }
+    ensures handled { SourceHandled D.left D.faults (Some true) (plan_of command.now).extra (result ≡ Err NoReply.ReadFault) (is_ok result) extra.old extra.new }
+{
+    let mut reader = Reader::new(alloc);
+    match read_pieces(extra, limit, &mut reader) {
+        Ok(()) => Ok(answer(alloc, command, plant, &reader)?),
+        Err(ReadError::TooLong) => Ok(Reply::too_long(alloc)?),
+        Err(ReadError::Failed) => Err(NoReply::ReadFault),
+        Err(ReadError::OutOfMemory) => Err(NoReply::OutOfMemory),
+    }
+}
+
+/// The reply of a command to a plant, and to what it reads besides the configuration, if it reads
+/// anything: that is read to its end, in pieces.
+pub fn plant_reply<D: Source>(
+    alloc: Global,
+    command: &Command,
+    plant: &Plant,
+    extra: &mut D,
+) -> Result<Reply, NoReply>
+    requires { IsTrue (has_option_limits command.now) }
+    ensures reply { IfOk result (AnswersPlant (plan_of command.now).extra command.now plant.now (D.left extra.old)) }
+    ensures planned { IfOk result (IsPlanned (plan_of command.now)) }
+    ensures handled { SourceHandled D.left D.faults (Some true) (plan_of command.now).extra (result ≡ Err NoReply.ReadFault) (is_ok result) extra.old extra.new }
+{
+    match command.plan().extra {
+        Some(limit) => reply_to_extra(alloc, command, plant, limit, extra),
+        None => Ok(answer(alloc, command, plant, &Reader::new(alloc))?),
+    }
+}
