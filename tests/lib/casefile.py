@@ -15,7 +15,7 @@ STANDARD_ERROR = {7: b"irv: usage\n", 8: b"irv: read fault\n",
                   9: b"irv: write fault\n", 10: b"irv: out of memory\n"}
 STATUSES = set(range(11))
 KEYS = {"why", "words", "conf", "replace", "replace all", "pad", "file", "folder",
-        "stdout", "stderr", "status", "output", "memory", "verdict", "certificate", "formula"}
+        "stdout", "stderr", "status", "output", "closed", "memory", "verdict", "certificate", "formula"}
 
 
 class CaseError(Exception):
@@ -33,6 +33,7 @@ class Case:
         self.conf = None
         self.conf_is_folder = False
         self.output_is_full = False
+        self.closed = []
         self.memory_mebibytes = None
         self.files = {}
         self.folders = []
@@ -157,6 +158,14 @@ def assignments_of(value):
     return None if value == "any" else int(count)
 
 
+def streams_of(value):
+    """The standard streams of these numbers: 0 is input, 1 output, 2 errors."""
+    streams = [int(word) for word in value.split()]
+    if not streams or not set(streams) <= {0, 1, 2}:
+        raise ValueError(f"no standard streams: {value}")
+    return streams
+
+
 def apply_key(case, key, value, block):
     """Takes one key of a case file into a case."""
     word, _, rest = key.partition(" ")
@@ -185,6 +194,8 @@ def apply_key(case, key, value, block):
         case.memory_mebibytes = int(value)
     elif key == "output" and value == "full":
         case.output_is_full = True
+    elif key == "closed":
+        case.closed = streams_of(value)
     elif key == "verdict":
         case.verdicts = value.split(" or ")
     elif key == "certificate":

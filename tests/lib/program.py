@@ -10,10 +10,13 @@ class NoAnswer(Exception):
     """A call that didn't end, or didn't begin: the message says which."""
 
 
-def call(program, words, conf, folder, memory_mebibytes=None, output_is_full=False):
+def call(program, words, conf, folder, memory_mebibytes=None, output_is_full=False, closed=()):
     """Calls the program in a folder: its output, its standard error, its status. The configuration
-    is bytes, or none where standard input is to be a folder."""
+    is bytes, or none where standard input is to be a folder. The standard streams of these numbers
+    are closed."""
     command = [str(program), *words]
+    if closed:
+        command = ["sh", "-c", 'exec "$0" "$@"' + "".join(f" {n}>&-" for n in closed), *command]
     if memory_mebibytes is not None:
         limited = f'ulimit -v {memory_mebibytes * 1024} && exec "$0" "$@"'
         command = ["sh", "-c", limited, *command]

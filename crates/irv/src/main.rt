@@ -11,8 +11,13 @@ use ilk_io::{FileSink, FileSource, Sink, StdSink, StdSource, SteadySink, SteadyS
 use ilk_plant::Text;
 use ilk_top::{FileNames, Status, names_of, run};
 use std::alloc::{AllocError, Global};
+use std::fs::File;
+use std::os::fd::AsRawFd;
 use std::process::ExitCode;
 use std::{env, io};
+
+// The descriptors of the standard streams are those from 0 to this one.
+const LAST_STREAM: i32 = 2;
 
 // The words of the command line, the program's name first.
 fn words(rt: &HostRuntime) -> Result<Vec<String>, Status> {
@@ -96,7 +101,21 @@ fn complaint(status: Status) -> Option<&'static str>
     }
 }
 
+// A folder that is opened for reading, where that took the descriptor of a standard stream that is
+// closed.
+fn held_stream(rt: &HostRuntime) -> Option<File> {
+    let folder = File::open(rt, "/").ok()?;
+    if folder.as_raw_fd() <= LAST_STREAM {
+        Some(folder)
+    } else {
+        None
+    }
+}
+
 fn main(rt: HostRuntime) -> ExitCode {
+    // A file takes the least descriptor that is free. So the streams that are closed are held until
+    // the end, each by a folder, which can be neither read nor written as a file in its place could be.
+    let _held = [held_stream(&rt), held_stream(&rt), held_stream(&rt)];
     let status = status(&rt);
     if let Some(line) = complaint(status) {
         let _ = rt.eprintln(line);
