@@ -14,6 +14,10 @@ use std::fs::{File, Files};
 /// also after a failure, and each write goes on where the one before it ended. A write that was
 /// interrupted is tried again at most 1000 times. Each failure is counted, up to the greatest `u64`;
 /// that the file takes no byte of a piece that isn't empty is one.
+///
+/// Of the call that opens the file no clause says where its bytes go: nothing can be said of what a
+/// file holds. That it is the file of this name, emptied first, and that one whose sink is never called
+/// is as it was, is tried by the test `writes_the_named_file`.
 #[derive(Drop)]
 pub struct FileSink<'a, R: Files> {
     rt: &'a R,

@@ -13,6 +13,10 @@ use std::fs::{File, Files};
 /// A refused opening is a failure, and the next call tries it again. Once open, the file stays open,
 /// also after a failure, and each read goes on where the one before it ended. A read that was
 /// interrupted is tried again at most 1000 times. Each failure is counted, up to the greatest `u64`.
+///
+/// Of the call that opens the file no clause says which bytes it gives: nothing can be said of what a
+/// file holds. That it is the file of this name, read from its front, is tried by the test
+/// `reads_the_named_file`.
 #[derive(Drop)]
 pub struct FileSource<'a, R: Files> {
     rt: &'a R,

@@ -1,5 +1,5 @@
 -- What a call told its sinks, and what it told them with each status.
-use Rattle.std.proofs.Common.{◌≡◌, ℕ, Bool, true, false, Option, Some, None, List, [], append-nil, refl, ap, subst, sym}
+use Rattle.std.proofs.Common.{◌≡◌, ℕ, true, false, Option, Some, None, List, [], append-nil, refl, ap, subst, sym}
 use Rattle.std.specs.Prelude.{◌≢◌}
 use Rattle.ilk_answers.specs.Answer.{IsAnswerTo, reply}
 use Rattle.ilk_answers.specs.Status.{came_to_writing, is_answer}

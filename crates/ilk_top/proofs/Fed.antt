@@ -1,5 +1,5 @@
 -- What a reader took of a source, by calls that follow one another.
-use Rattle.std.proofs.Common.{◌≡◌, ℕ, ◌+◌, ◌<◌, ◌≤◌, Option, Some, None, IfSome, List, [], ◌++◌, length, refl, sym, ap, subst, length-append, arith}
+use Rattle.std.proofs.Common.{◌≡◌, ℕ, ◌+◌, ◌<◌, ◌≤◌, Option, Some, None, IfSome, List, [], ◌++◌, length, refl, ap, subst, length-append, arith}
 use Rattle.ilk_answers.specs.Reader.{HasRead}
 use Rattle.ilk_answers.specs.declared.reader.Reader.{Reader}
 use Rattle.ilk_io.proofs.Taken.{Takes-none, Takes-then, Takes-whole, Takes-longer}

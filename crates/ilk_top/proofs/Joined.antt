@@ -1,5 +1,5 @@
 -- What the stages did to their sources, joined.
-use Rattle.std.proofs.Common.{◌≡◌, ℕ, ◌≤◌, Bool, true, false, IsTrue, Option, Some, None, IfOk, IfSome, Result, Ok, Err, List, [], inl, inr, refl, ap, subst, sym, is_ok, option_map, arith, ◌∙◌}
+use Rattle.std.proofs.Common.{◌≡◌, ℕ, Bool, true, false, Option, Some, None, IfOk, IfSome, Result, Ok, Err, List, [], inl, inr, refl, ap, subst, sym, is_ok, option_map, arith, ◌∙◌}
 use Rattle.std.specs.Prelude.{◌≢◌}
 use Rattle.ilk_answers.specs.Answer.{AnswersFound, IsAnswerTo, comes_to_extra, conf_limit, found_by, plant_of}
 use Rattle.ilk_answers.specs.declared.refusals.Refusals.{Refusals}
@@ -13,7 +13,7 @@ use Rattle.ilk_words.specs.declared.lengths.TheConstants.{MAX_CONFIGURATION}
 use Rattle.ilk_words.specs.declared.plan.Plan.{Plan}
 use Rattle.ilk_words.specs.declared.plan.Stages.{Stages}
 use Rattle.ilk_top.specs.Handled.{SourceHandled, SourcesHandled}
-use Rattle.ilk_top.specs.Outside.{ReadByPlan, ReadWhereNeeded, RisesOnlyAt}
+use Rattle.ilk_top.specs.Outside.{ReadByPlan, RisesOnlyAt}
 
 -- ---- one source
 

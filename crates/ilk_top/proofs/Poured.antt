@@ -1,5 +1,5 @@
 -- What was written of a content to a sink, in pieces that follow one another.
-use Rattle.std.proofs.Common.{◌≡◌, ℕ, Bool, false, Option, Result, Ok, Err, OnOk, List, ◌++◌, take, drop, sym, ap, ◌∙◌, append_assoc, is_err}
+use Rattle.std.proofs.Common.{◌≡◌, ℕ, false, Option, Result, Ok, Err, OnOk, List, ◌++◌, take, drop, sym, ap, ◌∙◌, append_assoc, is_err}
 use Rattle.std.proofs.lemmas.List.{take-append-drop}
 use Rattle.ilk_io.proofs.Added.{Adds-then, Written, Written-prefix}
 use Rattle.ilk_io.specs.Sink.{Adds, AddsPrefix}
