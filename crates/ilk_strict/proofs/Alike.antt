@@ -11,7 +11,7 @@ use Rattle.ilk_plant.specs.declared.state.Aspect.TheVariants.{Open, Closed}
 use Rattle.ilk_plant.specs.declared.state.Hold.{Hold}
 use Rattle.ilk_plant.specs.declared.state.Hold.TheVariants.{Free as FreeLock, Locked as LockedLock, Used as UsedLock}
 use Rattle.ilk_plant.specs.declared.state.Lie.{Lie}
-use Rattle.ilk_plant.specs.declared.state.Lie.TheVariants.{Plus as LiesPlus, Minus as LiesMinus, Moving}
+use Rattle.ilk_plant.specs.declared.state.Lie.TheVariants.{Plus as LiesPlus, Minus as LiesMinus}
 use Rattle.ilk_plant.specs.declared.state.Mode.{Mode}
 use Rattle.ilk_plant.specs.declared.state.Mode.TheVariants.{Free, Marked, Allocating, Locked, Occupied}
 use Rattle.ilk_routes.specs.Boards.{same_aspect}
