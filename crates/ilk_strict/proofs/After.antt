@@ -1,14 +1,14 @@
 -- Lists after a change: routes where the state of one changes, locks where some sections are given one, trains where one
 -- changes, joins or leaves. And what each family reads: it is kept by whatever leaves that alone.
-use Rattle.std.proofs.Common.{◌≡◌, ℕ, zero, suc, ◌+◌, ◌<◌, Bool, true, false, Option, Some, None, option_map, List, [], ◌∷◌, ◌++◌, inl, inr, ◌⊎◌, length, remove, set, slice_get, refl, sym, ap, ◌∙◌, subst, arith}
+use Rattle.std.proofs.Common.{◌≡◌, ℕ, ◌<◌, Bool, true, false, Option, Some, None, option_map, List, inl, inr, ◌⊎◌, length, set, slice_get, refl, sym, ap, ◌∙◌, subst}
 use Rattle.std.specs.Prelude.{if◌then◌else◌}
-use Rattle.std.proofs.lemmas.Bool.{cases_eq, both_ways}
+use Rattle.std.proofs.lemmas.Bool.{cases_eq}
 use Rattle.std.proofs.lemmas.Option.{same_Some, slice_get_within}
 use Rattle.ilk_base.proofs.Lists.{item_at, slice_get-set_other, slice_get-set_same}
 use Rattle.ilk_base.proofs.Numbered.{slice_get-map_numbered}
 use Rattle.ilk_plant.specs.Network.{has_section}
 use Rattle.ilk_plant.specs.Plant.{PlantLists}
-use Rattle.ilk_plant.specs.State.{is_occupied, lie_of}
+use Rattle.ilk_plant.specs.State.{is_occupied}
 use Rattle.ilk_plant.specs.declared.state.Aspect.{Aspect}
 use Rattle.ilk_plant.specs.declared.state.Hold.{Hold}
 use Rattle.ilk_plant.specs.declared.state.PointState.{PointState}

@@ -1,19 +1,19 @@
 -- What lies ahead of a section, and which of its neighbours is the one; the legs and the stem of a point.
-use Rattle.std.proofs.Common.{◌≡◌, ℕ, zero, suc, ◌+◌, ◌<◌, Bool, true, false, ◌==◌, ◌&&◌, ◌||◌, Option, Some, None, option_to_list, List, [], ◌∷◌, ◌++◌, inl, inr, ◌⊎◌, length, nat_lt, slice_get, take, drop, refl, sym, ap, ◌∙◌, subst, arith}
+use Rattle.std.proofs.Common.{◌≡◌, ℕ, Bool, true, false, ◌==◌, ◌&&◌, Option, Some, None, option_to_list, List, [], ◌∷◌, ◌++◌, inl, inr, ◌⊎◌, slice_get, refl, sym, ap, ◌∙◌, arith}
 use Rattle.std.specs.Prelude.{if◌then◌else◌}
 use Rattle.std.specs.List.{list_any}
-use Rattle.std.proofs.lemmas.Bool.{and_parts, both_ways, cases_Bool, eqb-true, eq-eqb, ne_eqb}
+use Rattle.std.proofs.lemmas.Bool.{and_parts, cases_Bool, eqb-true}
 use Rattle.std.proofs.lemmas.Bool.Decides.{nat_tests}
-use Rattle.std.proofs.lemmas.Option.{same_Some, slice_get_within}
+use Rattle.std.proofs.lemmas.Option.{same_Some}
 use Rattle.ilk_base.specs.Option.{◌>>=◌, is_some_and}
 use Rattle.ilk_base.proofs.Options.{bind_some, some-and}
 use Rattle.ilk_base.proofs.Tested.{list_any-at}
 use Rattle.ilk_base.proofs.Truth.{either}
 use Rattle.ilk_plant.specs.ColumnRules.{is_leg, is_listed_towards}
-use Rattle.ilk_plant.specs.Network.{beside, board_on, has_section, is_point, same_direction}
+use Rattle.ilk_plant.specs.Network.{beside, board_on, has_section, same_direction}
 use Rattle.ilk_plant.specs.NetworkRules.{opposite_direction}
 use Rattle.ilk_plant.specs.Once.{none_twice}
-use Rattle.ilk_plant.specs.Plant.{IsPlant, PlantLists, board_of, is_point_section, next_to}
+use Rattle.ilk_plant.specs.Plant.{IsPlant, PlantLists, board_of, next_to}
 use Rattle.ilk_plant.specs.State.{lie_of}
 use Rattle.ilk_plant.specs.declared.network.Dir.{Dir}
 use Rattle.ilk_plant.specs.declared.network.Dir.TheVariants.{Up, Down}
@@ -22,14 +22,13 @@ use Rattle.ilk_plant.specs.declared.network.Position.TheVariants.{Plus, Minus}
 use Rattle.ilk_plant.specs.declared.network.Section.{Section}
 use Rattle.ilk_plant.specs.declared.network.Section.TheVariants.{Linear, Point}
 use Rattle.ilk_plant.specs.declared.state.Lie.{Lie}
-use Rattle.ilk_plant.specs.declared.state.Lie.TheVariants.{Plus as LiesPlus, Minus as LiesMinus, Moving}
 use Rattle.ilk_plant.specs.declared.state.State.{State}
 use Rattle.ilk_plant.specs.declared.table.Listed.{Listed}
 use Rattle.ilk_plant.proofs.Sides.{back-opposite}
 use Rattle.ilk_motion.specs.Ahead.{ahead, leads_to, leg_at}
 use Rattle.ilk_routes.specs.Lies.{lie_in, lies_as_listed, lies_at}
 use Rattle.ilk_model.specs.Hazard.{has_pair, strays}
-use Rattle.ilk_model.proofs.Alike.{one_direction, one_lie, own_direction}
+use Rattle.ilk_model.proofs.Alike.{one_direction, one_lie}
 
 -- what stands in a list of one
 pub only-one : (x y : ℕ) → has_section x (y ∷ []) ≡ true → y ≡ x

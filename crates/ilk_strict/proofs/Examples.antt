@@ -25,7 +25,7 @@ use Rattle.ilk_model.specs.declared.event.Event.TheVariants.{Mark, Allocate, Loc
 use Rattle.ilk_model.specs.declared.hazards.HazardAt.{HazardAt}
 use Rattle.ilk_model.specs.declared.hazards.HazardAt.TheVariants.{Two, Wrong}
 use Rattle.ilk_model.proofs.Examples.{station}
-use Rattle.ilk_strict.specs.IsStrict.{IsStrict, KeepsPathRules, path_points_are_set}
+use Rattle.ilk_strict.specs.IsStrict.{IsStrict, path_points_are_set}
 use Rattle.ilk_strict.proofs.Reading.{each_below-at}
 use Rattle.ilk_strict.proofs.Strict.{strict_from_list, strict_from_rules}
 

@@ -1,16 +1,15 @@
 -- Where a train's head may go on in a state that meets the invariant: the section ahead is the next one of the path of a
 -- route that holds it, it is vacant, and if it is a point it lies as that route needs it.
-use Rattle.std.proofs.Common.{◌≡◌, ℕ, zero, suc, ◌+◌, ◌<◌, ◌≤◌, Bool, true, false, ◌&&◌, Option, Some, None, is_none, List, [], ◌∷◌, inl, inr, ◌⊎◌, drop, length, nat_lt, slice_get, take, refl, sym, ap, ◌∙◌, subst, arith}
+use Rattle.std.proofs.Common.{◌≡◌, ℕ, suc, ◌+◌, ◌<◌, ◌≤◌, Bool, true, false, Option, Some, None, List, [], ◌∷◌, inl, inr, ◌⊎◌, length, nat_lt, slice_get, refl, sym, ap, ◌∙◌, subst, arith}
 use Rattle.std.specs.List.{last_or}
-use Rattle.std.proofs.lemmas.Bool.{and_from, both_ways, cases_Bool}
+use Rattle.std.proofs.lemmas.Bool.{and_from, both_ways}
 use Rattle.std.proofs.lemmas.Bool.Decides.{nat_tests}
 use Rattle.std.proofs.lemmas.Option.{same_Some, slice_get_within}
 use Rattle.ilk_base.specs.Option.{is_some_and}
-use Rattle.ilk_base.proofs.Lists.{item_at, get-dropped, taken-before}
-use Rattle.ilk_base.proofs.Options.{some-and}
+use Rattle.ilk_base.proofs.Lists.{item_at}
 use Rattle.ilk_plant.specs.ColumnRules.{has_no_board}
-use Rattle.ilk_plant.specs.Network.{has_section, is_point, same_direction}
-use Rattle.ilk_plant.specs.Plant.{IsPlant, PlantLists, board_of, is_point_section, next_to}
+use Rattle.ilk_plant.specs.Network.{has_section, same_direction}
+use Rattle.ilk_plant.specs.Plant.{IsPlant, PlantLists, board_of, next_to}
 use Rattle.ilk_plant.specs.State.{is_occupied, lie_of}
 use Rattle.ilk_plant.specs.declared.network.Board.{Board}
 use Rattle.ilk_plant.specs.declared.network.Dir.{Dir}
@@ -28,15 +27,15 @@ use Rattle.ilk_motion.specs.Ahead.{ahead, leg_at}
 use Rattle.ilk_motion.specs.Trains.{is_open, may_pass}
 use Rattle.ilk_motion.proofs.Shape.{ahead-next_to}
 use Rattle.ilk_routes.specs.Lies.{lie_in}
-use Rattle.ilk_model.specs.Holding.{is_kept_on_path, is_locked_or_occupied, is_plain}
+use Rattle.ilk_model.specs.Holding.{is_locked_or_occupied, is_plain}
 use Rattle.ilk_strict.specs.IsStrict.{IsFrom, IsStrict}
 use Rattle.ilk_strict.proofs.Ahead.{LeadsToLeg, LegsDiffer, ahead-cases, board-one, leg, leg-no_other, leg_at-lie_in, legs-differ, other_leg, stem-before, stem-no_leg, stem-no_other, stem-side}
 use Rattle.ilk_model.proofs.Alike.{one_direction}
 use Rattle.ilk_strict.proofs.HeldPoints.{IsSet, held-point, set-leg}
-use Rattle.ilk_strict.proofs.Reading.{RouteIn, kept-from}
-use Rattle.ilk_strict.proofs.RouteFacts.{IsOpenFor, idle, lies-at, locked-is, open-at, rel-led}
+use Rattle.ilk_strict.proofs.Reading.{RouteIn}
+use Rattle.ilk_strict.proofs.RouteFacts.{IsOpenFor, idle, locked-is, open-at, rel-led}
 use Rattle.ilk_strict.proofs.Table.{route-source}
-use Rattle.ilk_strict.proofs.TrainFacts.{IsLedBy, Keeps, head-led, led-locked_or_occupied, runs-from, runs-source}
+use Rattle.ilk_strict.proofs.TrainFacts.{IsLedBy, Keeps, head-led, led-locked_or_occupied, runs-source}
 
 -- the route on whose path y is the next section after x in direction d
 pub record GoesOn (p : PlantLists) (s : State) (x : ℕ) (d : Dir) (y : ℕ) : Type 0 where

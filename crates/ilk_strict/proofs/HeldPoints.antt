@@ -1,6 +1,6 @@
 -- A point on the path of a Locked or Occupied route that holds it is commanded, and lies, so that it leads to the section
 -- before it or to the one after it on the path.
-use Rattle.std.proofs.Common.{◌≡◌, ℕ, zero, suc, ◌+◌, ◌<◌, ◌≤◌, Bool, true, Option, Some, List, ◌∷◌, inl, inr, ◌⊎◌, drop, length, slice_get, take, refl, sym, ap, ◌∙◌, arith}
+use Rattle.std.proofs.Common.{◌≡◌, ℕ, zero, suc, ◌+◌, ◌≤◌, true, Some, List, ◌∷◌, inl, inr, ◌⊎◌, drop, slice_get, take, sym, ap, ◌∙◌, arith}
 use Rattle.std.proofs.lemmas.Option.{same_Some}
 use Rattle.ilk_base.specs.Option.{is_some_and}
 use Rattle.ilk_base.proofs.Lists.{get-dropped, taken-before}

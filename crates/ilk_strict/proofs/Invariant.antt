@@ -1,15 +1,13 @@
 -- The start meets the invariant, and an event leads from a state that meets it only to states that meet it, where the table
 -- has what strict safety uses. So every run from the start, of whatever length, ends in a state that meets it.
-use Rattle.std.proofs.Common.{◌≡◌, ℕ, Bool, true, false, Option, Some, None, List, [], ◌∷◌, IfOk, OnErr, OnOk, unwrap_or, Result, Ok, Err, is_none, length, slice_get, refl, sym, ap, ◌∙◌, subst}
+use Rattle.std.proofs.Common.{◌≡◌, ℕ, Bool, true, Some, List, [], ◌∷◌, IfOk, OnErr, OnOk, unwrap_or, Result, Ok, Err, is_none, length, refl, sym, ap, ◌∙◌, subst}
 use Rattle.std.proofs.lemmas.Option.{cond_some, option_and_then_some, same_Some}
 use Rattle.std.specs.declared.alloc.AllocError.{AllocError}
 use Rattle.ilk_base.proofs.Lists.{copied}
-use Rattle.ilk_plant.specs.Plant.{IsPlant, PlantLists, point_count}
+use Rattle.ilk_plant.specs.Plant.{IsPlant, PlantLists}
 use Rattle.ilk_plant.specs.Shape.{HasShape}
 use Rattle.ilk_plant.specs.Start.{free_route, start}
-use Rattle.ilk_plant.specs.declared.state.Aspect.{Aspect}
 use Rattle.ilk_plant.specs.declared.state.Aspect.TheVariants.{Open, Closed}
-use Rattle.ilk_plant.specs.declared.state.Mode.{Mode}
 use Rattle.ilk_plant.specs.declared.state.Mode.TheVariants.{Free, Allocating, Locked}
 use Rattle.ilk_plant.specs.declared.state.RouteState.{RouteState}
 use Rattle.ilk_plant.specs.declared.state.State.{State}
@@ -20,7 +18,7 @@ use Rattle.ilk_motion.proofs.Shape.{after_enter-shape, after_head-shape, after_l
 use Rattle.ilk_routes.proofs.Shape.{after_allocate-shape, after_cancel-shape, after_finish-shape, after_lock-shape, after_mark-shape, after_release-shape, after_sense-shape, after_settle-shape, after_throw-shape}
 use Rattle.ilk_model.specs.Event.{next}
 use Rattle.ilk_model.specs.Hazard.{hazard}
-use Rattle.ilk_model.specs.Holding.{holds_section, holds_sections}
+use Rattle.ilk_model.specs.Holding.{holds_sections}
 use Rattle.ilk_model.specs.Meets.{Meets}
 use Rattle.ilk_model.specs.Run.{run, step}
 use Rattle.ilk_model.specs.declared.event.Event.{Event}
@@ -301,9 +299,10 @@ start-meets p = meets-from p (start p) (record {
   v3 = locks-from p (start p) (start-shape p).routes (λ r route now it holds. absurd (start-holds_none p r route now it holds));
   v4 = vacant-from p (start p) (start-shape p).routes (λ r route now it mode i x at. refl);
   v5 = open-from p (start p) (λ m within shown. let bad : Closed ≡ Open = copied (length p.boards) m Closed Open shown in cc);
-  v6 = points-from p (start p) (start-shape p).routes (λ r route now it k listed at.
-      (λ mode on. (let bad : Free ≡ Allocating = sym (start-mode p r route now it) ∙ mode in cc),
-      λ mode kept. absurd (start-holds_none p r route now it (locked-holds now mode))));
+  v6 = points-from p (start p) (start-shape p).routes (λ r route now it k listed at. (
+    λ mode on. (let bad : Free ≡ Allocating = sym (start-mode p r route now it) ∙ mode in cc),
+    λ mode kept. absurd (start-holds_none p r route now it (locked-holds now mode)),
+  ));
   v7 = refl;
   v8 = refl;
   v9 = protected-from p (start p) (start-shape p).routes (λ r route now it mode k m at. let bad : Free ≡ Locked = sym (start-mode p r route now it) ∙ mode in cc);

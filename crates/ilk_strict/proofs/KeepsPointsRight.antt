@@ -1,21 +1,18 @@
 -- No event lets a train stand on a point that moves or lies wrongly. What is under a train is kept by a route, which needs it
 -- as it lies, so it isn't thrown; a train goes on to a point that lies as its route needs it.
-use Rattle.std.proofs.Common.{◌≡◌, ℕ, zero, suc, ◌+◌, ◌<◌, ◌≤◌, Bool, true, false, ◌==◌, ◌||◌, ◌&&◌, Option, Some, None, List, [], ◌∷◌, ◌++◌, inl, inr, ◌⊎◌, drop, length, nat_lt, remove, set, slice_get, take, zip, refl, sym, ◌∙◌, ap, subst, arith}
+use Rattle.std.proofs.Common.{◌≡◌, ℕ, ◌<◌, Bool, true, false, ◌==◌, ◌||◌, ◌&&◌, Option, Some, None, List, [], ◌∷◌, ◌++◌, inl, inr, ◌⊎◌, length, nat_lt, remove, set, slice_get, refl, sym, ◌∙◌, ap, subst, arith}
 use Rattle.std.specs.Prelude.{if◌then◌else◌}
-use Rattle.std.specs.List.{last_or, list_any}
-use Rattle.std.proofs.lemmas.Bool.{and_from, and_parts, both_ways, cases_Bool, cases_eq, eqb-true, eq-eqb, false_from_ne_true, or_left, or_right}
-use Rattle.std.proofs.lemmas.Bool.Decides.{nat_tests}
+use Rattle.std.specs.List.{last_or}
+use Rattle.std.proofs.lemmas.Bool.{and_parts, both_ways, cases_Bool, cases_eq, eqb-true, false_from_ne_true, or_left, or_right}
 use Rattle.std.proofs.lemmas.Option.{same_Some, slice_get_within}
-use Rattle.ilk_base.specs.Option.{◌>>=◌, is_some_and}
+use Rattle.ilk_base.specs.Option.{◌>>=◌}
 use Rattle.ilk_base.proofs.Lists.{item_at}
 use Rattle.ilk_base.proofs.Options.{bind_some}
 use Rattle.ilk_base.proofs.Truth.{either}
-use Rattle.ilk_plant.specs.ColumnRules.{has_no_board}
-use Rattle.ilk_plant.specs.Network.{beside, has_section, inward, is_point, same_direction}
-use Rattle.ilk_plant.specs.Plant.{IsPlant, PlantLists, board_of, border, is_point_section, next_to, point_number}
-use Rattle.ilk_plant.specs.State.{is_occupied, lie_of}
+use Rattle.ilk_plant.specs.Network.{has_section, is_point, same_direction}
+use Rattle.ilk_plant.specs.Plant.{IsPlant, PlantLists, border, is_point_section, point_number}
+use Rattle.ilk_plant.specs.State.{lie_of}
 use Rattle.ilk_plant.specs.declared.network.Dir.{Dir}
-use Rattle.ilk_plant.specs.declared.network.Dir.TheVariants.{Up, Down}
 use Rattle.ilk_plant.specs.declared.network.Position.{Position}
 use Rattle.ilk_plant.specs.declared.network.Position.TheVariants.{Plus, Minus}
 use Rattle.ilk_plant.specs.declared.network.Section.{Section}
@@ -27,23 +24,20 @@ use Rattle.ilk_plant.specs.declared.state.State.{State}
 use Rattle.ilk_plant.specs.declared.state.Train.{Train}
 use Rattle.ilk_plant.specs.declared.table.Route.{Route}
 use Rattle.ilk_motion.specs.Ahead.{ahead, leads_to, leg_at}
-use Rattle.ilk_motion.specs.Body.{train_on, with_new_head, without_tail}
 use Rattle.ilk_routes.specs.Claims.{wanted_points}
 use Rattle.ilk_routes.specs.Lies.{is_moving, lie_in, lies_at}
-use Rattle.ilk_model.specs.Commanded.{commanded_position}
 use Rattle.ilk_model.specs.Hazard.{has_pair, is_wrong, strays}
-use Rattle.ilk_model.specs.Holding.{is_kept_on_path, is_plain}
+use Rattle.ilk_model.specs.Holding.{is_plain}
 use Rattle.ilk_strict.specs.IsStrict.{IsFrom, IsStrict}
 use Rattle.ilk_strict.proofs.After.{wrong-reads}
-use Rattle.ilk_strict.proofs.Ahead.{LegsDiffer, leg, legs-differ, only-one, other_leg, stem-no_other, leg-no_other, strays-lie_in, leg_at-lie_in}
+use Rattle.ilk_strict.proofs.Ahead.{leg, legs-differ, only-one, other_leg, stem-no_other, leg-no_other, strays-lie_in, leg_at-lie_in}
 use Rattle.ilk_model.proofs.Alike.{own_lie}
-use Rattle.ilk_model.proofs.Frames.{ChangesRoute, IsAllocated, IsCancelled, IsEntered, IsFinished, IsHeaded, IsLeft, IsLocked, IsMarked, IsReleased, IsSensed, IsSettled, IsTailed, IsThrown}
-use Rattle.ilk_strict.proofs.Heads.{GoesOn, LiesAhead, lies-ahead}
+use Rattle.ilk_model.proofs.Frames.{IsAllocated, IsCancelled, IsEntered, IsFinished, IsHeaded, IsLeft, IsLocked, IsMarked, IsReleased, IsSensed, IsSettled, IsTailed, IsThrown}
+use Rattle.ilk_strict.proofs.Heads.{GoesOn, lies-ahead}
 use Rattle.ilk_strict.proofs.HeldPoints.{IsSet, held-point}
 use Rattle.ilk_strict.proofs.KeepsV4.{headed-goes_on}
-use Rattle.ilk_strict.proofs.Points.{commanded-at_listed, commanded-is, lie-alike, lie-is, lie-kept, lie-other, lies-new}
-use Rattle.ilk_strict.proofs.Reading.{kept-from, section-at, section-from}
-use Rattle.ilk_strict.proofs.RouteFacts.{lies-at}
+use Rattle.ilk_strict.proofs.Points.{commanded-is, lie-alike, lie-is, lie-kept, lie-other}
+use Rattle.ilk_strict.proofs.Reading.{section-at}
 use Rattle.ilk_strict.proofs.Table.{numbered-section, route-source}
 use Rattle.ilk_strict.proofs.TrainFacts.{IsKeptBy, Keeps, body-kept, wrong-at, wrong-from}
 use Rattle.ilk_strict.proofs.Trains.{enter-trains, head-trains, last-is, leave-trains, longer-has, shorter-has, tail-trains}
@@ -258,9 +252,9 @@ module _ (p : PlantLists) (plant : IsPlant p) (strict : IsStrict p) (s t : State
       lie-as_before (points-lie it.points) (λ z stem plus minus faces section i train at. elim (enter-trains p s t n it i train at) [
         | inl old ↦ no-strays z stem plus minus faces section i train old
         | inr new ↦ false_from_ne_true (strays z plus minus (lie_of p s z) train.body) (λ h.
-          let has = strays-has z plus minus (lie_of p s z) train.body h in
-          let here : n ≡ z = only-one z n (subst (λ (one : Train). has_section z one.body ≡ true) new.1 has) in
-          point-no_border p z stem plus minus faces it.inward section (rw here at it.borders))
+            let has = strays-has z plus minus (lie_of p s z) train.body h in
+            let here : n ≡ z = only-one z n (subst (λ (one : Train). has_section z one.body ≡ true) new.1 has) in
+            point-no_border p z stem plus minus faces it.inward section (rw here at it.borders))
       ])
 
   pub head-keeps_right : IsHeaded p s t n → AreRight p t
@@ -317,7 +311,7 @@ module _ (p : PlantLists) (plant : IsPlant p) (strict : IsStrict p) (s t : State
   tail-keeps_right it =
       lie-as_before (points-lie it.points) (λ z stem plus minus faces section i train at. elim (tail-trains p s t n it i train at) [
         | inl moved ↦ subst (λ (one : Train). strays z plus minus (lie_of p s z) one.body ≡ false) (sym moved.1) (false_from_ne_true (strays z plus minus (lie_of p s z) (remove it.train.body 0)) (λ h.
-          both_ways (strays z plus minus (lie_of p s z) it.train.body) (no-strays z stem plus minus faces section it.i it.train it.at) (strays-shorter z plus minus (lie_of p s z) it.train.body h)))
+            both_ways (strays z plus minus (lie_of p s z) it.train.body) (no-strays z stem plus minus faces section it.i it.train it.at) (strays-shorter z plus minus (lie_of p s z) it.train.body h)))
         | inr other ↦ no-strays z stem plus minus faces section i train other.1
       ])
 

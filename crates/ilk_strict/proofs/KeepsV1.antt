@@ -1,6 +1,6 @@
 -- No event breaks V1: a route that isn't Occupied has seen = rel = 0; an Occupied one has rel below seen, and seen is at most
 -- the path's length.
-use Rattle.std.proofs.Common.{◌≡◌, ℕ, suc, ◌+◌, ◌<◌, ◌≤◌, Bool, true, false, ◌||◌, Some, inl, inr, ◌⊎◌, length, slice_get, refl, sym, ◌∙◌, ap, arith}
+use Rattle.std.proofs.Common.{◌≡◌, ℕ, ◌+◌, true, false, inl, inr, refl, arith}
 use Rattle.std.proofs.lemmas.Option.{slice_get_within}
 use Rattle.ilk_base.proofs.Truth.{either}
 use Rattle.ilk_plant.specs.Plant.{PlantLists}
@@ -15,7 +15,7 @@ use Rattle.ilk_model.specs.Families.{keeps_v1}
 use Rattle.ilk_strict.proofs.After.{after-cases, before-change, same-here, v1-reads}
 use Rattle.ilk_model.proofs.Alike.{one_mode}
 use Rattle.ilk_model.proofs.Frames.{ChangesRoute, IsAllocated, IsCancelled, IsEntered, IsFinished, IsHeaded, IsLeft, IsLocked, IsMarked, IsReleased, IsSensed, IsSettled, IsTailed, IsThrown}
-use Rattle.ilk_strict.proofs.Reading.{RouteIn, each_route-at, each_route-from}
+use Rattle.ilk_strict.proofs.Reading.{each_route-at, each_route-from}
 use Rattle.ilk_strict.proofs.RouteFacts.{counts-idle, counts-in_use, counts_right, idle, in_use, rel-seen}
 use Rattle.ilk_strict.proofs.TrainFacts.{Keeps}
 

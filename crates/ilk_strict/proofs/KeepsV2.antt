@@ -1,13 +1,12 @@
 -- No event breaks V2: no two routes hold one section. Only an allocation lets a route hold more, and the locks of what it
 -- takes were Free, while V3 says that what is held isn't.
-use Rattle.std.proofs.Common.{◌≡◌, ℕ, suc, ◌+◌, ◌<◌, ◌≤◌, Bool, true, false, ◌||◌, Some, inl, inr, ◌⊎◌, length, slice_get, refl, sym, ◌∙◌, ap, arith}
+use Rattle.std.proofs.Common.{◌≡◌, ℕ, ◌+◌, ◌<◌, ◌≤◌, true, false, Some, inl, inr, length, slice_get, refl, sym, ◌∙◌, ap, arith}
 use Rattle.std.specs.List.{list_all}
 use Rattle.std.proofs.lemmas.Bool.{and_parts, both_ways, cases_eq}
 use Rattle.ilk_base.proofs.Tested.{list_all-slice_get}
 use Rattle.ilk_base.proofs.Truth.{fails}
 use Rattle.ilk_plant.specs.Network.{has_section}
 use Rattle.ilk_plant.specs.Plant.{PlantLists}
-use Rattle.ilk_plant.specs.Shape.{HasShape}
 use Rattle.ilk_plant.specs.State.{has_lock, is_clear, is_occupied}
 use Rattle.ilk_plant.specs.TableRules.{sections_locked_for}
 use Rattle.ilk_plant.specs.declared.state.Hold.TheVariants.{Free as FreeLock}
@@ -17,7 +16,7 @@ use Rattle.ilk_plant.specs.declared.state.State.{State}
 use Rattle.ilk_plant.specs.declared.table.Route.{Route}
 use Rattle.ilk_model.specs.Families.{keeps_v2}
 use Rattle.ilk_model.specs.Holding.{holds_section, holds_sections}
-use Rattle.ilk_strict.proofs.After.{after-cases, before-change, one-state, v2-reads}
+use Rattle.ilk_strict.proofs.After.{after-cases, v2-reads}
 use Rattle.ilk_model.proofs.Frames.{ChangesRoute, IsAllocated, IsCancelled, IsEntered, IsFinished, IsHeaded, IsLeft, IsLocked, IsMarked, IsReleased, IsSensed, IsSettled, IsTailed, IsThrown}
 use Rattle.ilk_strict.proofs.Reading.{RouteIn, has_lock-at, section-at}
 use Rattle.ilk_strict.proofs.RouteFacts.{allocating-holds, alone, alone-from, held-not_free, holds-beside, holds-cases, holds-path, locked-holds}

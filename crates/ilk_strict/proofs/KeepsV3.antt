@@ -1,13 +1,12 @@
 -- No event breaks V3: a section that a route holds as path[i] has lock Used where i is below seen; every other section that
 -- it holds has lock Locked. An event gives a lock to sections alone that its own route holds, or that were free; by V2 no
 -- other route holds them.
-use Rattle.std.proofs.Common.{◌≡◌, ℕ, suc, ◌+◌, ◌<◌, ◌≤◌, Bool, true, false, ◌||◌, Some, None, List, inl, inr, ◌⊎◌, length, nat_lt, set, slice_get, refl, sym, ◌∙◌, ap, subst, arith, length-set}
+use Rattle.std.proofs.Common.{◌≡◌, ℕ, ◌+◌, ◌<◌, ◌≤◌, true, false, Some, List, inl, inr, ◌⊎◌, length, nat_lt, set, slice_get, refl, sym, ◌∙◌, ap, subst, arith}
 use Rattle.std.specs.Prelude.{if◌then◌else◌}
-use Rattle.std.proofs.lemmas.Bool.{both_ways, cases_Bool, cases_eq, false_from_ne_true}
+use Rattle.std.proofs.lemmas.Bool.{cases_Bool, cases_eq, false_from_ne_true}
 use Rattle.std.proofs.lemmas.Bool.Decides.{nat_tests}
-use Rattle.std.proofs.lemmas.Option.{same_Some, slice_get_within}
+use Rattle.std.proofs.lemmas.Option.{same_Some}
 use Rattle.ilk_base.proofs.Lists.{slice_get-set_other, slice_get-set_same}
-use Rattle.ilk_base.proofs.Truth.{either}
 use Rattle.ilk_plant.specs.Network.{has_section}
 use Rattle.ilk_plant.specs.Plant.{IsPlant, IsRouteOf, PlantLists}
 use Rattle.ilk_plant.specs.Shape.{HasShape}
@@ -24,12 +23,12 @@ use Rattle.ilk_routes.specs.Locks.{with_locks}
 use Rattle.ilk_routes.specs.Modes.{same_mode}
 use Rattle.ilk_model.specs.Families.{keeps_v3, lock_on_path}
 use Rattle.ilk_model.specs.Holding.{holds_section, holds_sections}
-use Rattle.ilk_strict.proofs.After.{after-cases, before-change, given-lock, one-state, other-lock, same-here, v3-reads}
+use Rattle.ilk_strict.proofs.After.{after-cases, before-change, given-lock, other-lock, same-here, v3-reads}
 use Rattle.ilk_model.proofs.Alike.{one_mode}
 use Rattle.ilk_model.proofs.Frames.{ChangesRoute, IsAllocated, IsCancelled, IsEntered, IsFinished, IsHeaded, IsLeft, IsLocked, IsMarked, IsReleased, IsSensed, IsSettled, IsTailed, IsThrown}
 use Rattle.ilk_strict.proofs.KeepsV2.{cleared}
 use Rattle.ilk_strict.proofs.Reading.{RouteIn, section-at}
-use Rattle.ilk_strict.proofs.RouteFacts.{allocating-holds, alone, held-not_free, holds-beside, holds-cases, holds-path, idle, lock-beside, lock-path, locked-holds, locks-from, rel-seen}
+use Rattle.ilk_strict.proofs.RouteFacts.{allocating-holds, alone, held-not_free, holds-beside, holds-path, idle, lock-beside, lock-path, locked-holds, locks-from, rel-seen}
 use Rattle.ilk_strict.proofs.Table.{beside-locked_for, locked_for-cases, path-apart, path-locked_for, path-once, path-section}
 use Rattle.ilk_strict.proofs.TrainFacts.{Keeps}
 
@@ -44,9 +43,10 @@ module _ (p : PlantLists) (plant : IsPlant p) (s t : State) (keeps : Keeps p s) 
   changed route now new changes Touched same apart mine =
       locks-from p t shape.routes (λ q one its it holds. elim (after-cases p s t n route now new changes q one its it) [
         | inl here ↦ same-here (λ u v. holds_sections v ≡ true → ((i x : ℕ) → v.rel ≤ i → slice_get u.path i ≡ Some x → slice_get t.locks x ≡ Some (lock_on_path v i)) × ((x : ℕ) → has_section x (sections_beside u) ≡ true → slice_get t.locks x ≡ Some LockedLock)) one route its new here.1 here.2 (λ h. let all = mine h in (all.on_path, all.beside)) holds
-        | inr other ↦
-            (λ i x least at. same x (apart q one its other.0 other.1 x (holds-path one its i x holds least at)) ∙ lock-path p s keeps.v3 q one its other.1 holds i x least at,
-            λ x beside. same x (apart q one its other.0 other.1 x (holds-beside one its x holds beside)) ∙ lock-beside p s keeps.v3 q one its other.1 holds x beside)
+        | inr other ↦ (
+          λ i x least at. same x (apart q one its other.0 other.1 x (holds-path one its i x holds least at)) ∙ lock-path p s keeps.v3 q one its other.1 holds i x least at,
+          λ x beside. same x (apart q one its other.0 other.1 x (holds-beside one its x holds beside)) ∙ lock-beside p s keeps.v3 q one its other.1 holds x beside,
+        )
       ])
 
   -- locks stay

@@ -1,16 +1,12 @@
 -- No event breaks V5: each Open board is the source of a Locked route whose path sections are all vacant. A board opens as
 -- the source of an Allocating route, whose path is vacant; a train that comes to a path closes its source, or is on another.
-use Rattle.std.proofs.Common.{◌≡◌, ℕ, zero, suc, ◌+◌, ◌<◌, ◌≤◌, Bool, true, false, ◌==◌, ◌||◌, ◌&&◌, Option, Some, None, List, [], ◌∷◌, ◌++◌, inl, inr, ◌⊎◌, length, set, slice_get, refl, sym, ◌∙◌, ap, subst, arith}
-use Rattle.std.specs.Prelude.{if◌then◌else◌}
+use Rattle.std.proofs.Common.{◌≡◌, ℕ, ◌+◌, true, false, ◌||◌, Some, List, inl, inr, slice_get, refl, sym, ◌∙◌, ap, arith}
 use Rattle.std.proofs.lemmas.Bool.{both_ways, cases_eq}
-use Rattle.std.proofs.lemmas.Option.{same_Some}
 use Rattle.ilk_plant.specs.Plant.{IsPlant, PlantLists, board_of}
-use Rattle.ilk_plant.specs.Shape.{HasShape}
 use Rattle.ilk_plant.specs.State.{is_occupied}
 use Rattle.ilk_plant.specs.declared.state.Aspect.{Aspect}
 use Rattle.ilk_plant.specs.declared.state.Aspect.TheVariants.{Open, Closed}
 use Rattle.ilk_plant.specs.declared.state.Hold.TheVariants.{Free as FreeLock}
-use Rattle.ilk_plant.specs.declared.state.Mode.{Mode}
 use Rattle.ilk_plant.specs.declared.state.Mode.TheVariants.{Free, Marked, Allocating, Locked, Occupied}
 use Rattle.ilk_plant.specs.declared.state.RouteState.{RouteState}
 use Rattle.ilk_plant.specs.declared.state.State.{State}
@@ -20,11 +16,10 @@ use Rattle.ilk_model.specs.Families.{keeps_v5}
 use Rattle.ilk_model.specs.Holding.{holds_section}
 use Rattle.ilk_strict.specs.IsStrict.{IsStrict}
 use Rattle.ilk_strict.proofs.After.{after-change, before-change, one-state, other-stays, route-stays, same-occupied, v5-reads}
-use Rattle.ilk_model.proofs.Alike.{one_mode}
 use Rattle.ilk_strict.proofs.Boards.{head-open, other-board, sense-open}
 use Rattle.ilk_model.proofs.Frames.{ChangesRoute, IsAllocated, IsCancelled, IsEntered, IsFinished, IsHeaded, IsLeft, IsLocked, IsMarked, IsReleased, IsSensed, IsSettled, IsTailed, IsThrown}
 use Rattle.ilk_strict.proofs.KeepsV4.{headed-goes_on}
-use Rattle.ilk_strict.proofs.Reading.{RouteIn, has_lock-at}
+use Rattle.ilk_strict.proofs.Reading.{has_lock-at}
 use Rattle.ilk_strict.proofs.RouteFacts.{IsOpenFor, alone, held-not_free, holds-path, idle, locked-holds, locked-is, open-at, open-from, vacant-path}
 use Rattle.ilk_strict.proofs.Table.{path-section}
 use Rattle.ilk_strict.proofs.TrainFacts.{Keeps}

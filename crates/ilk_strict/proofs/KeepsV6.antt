@@ -1,22 +1,19 @@
 -- No event breaks V6: a listed point of an Allocating route's path is commanded to its listed position; a listed point that a
 -- Locked or Occupied route holds on its path is commanded to that position and lies there. An allocation commands points
 -- alone whose locks were Free; a point that lies where it is commanded isn't thrown, and one that moves lies nowhere.
-use Rattle.std.proofs.Common.{◌≡◌, ℕ, zero, suc, ◌+◌, ◌<◌, ◌≤◌, Bool, true, false, ◌==◌, ◌||◌, ◌&&◌, Option, Some, None, IsSome, List, [], ◌∷◌, ◌++◌, inl, inr, ◌⊎◌, length, map, set, slice_get, refl, sym, ◌∙◌, ap, subst, arith}
-use Rattle.std.proofs.lemmas.Bool.{both_ways, cases_eq}
-use Rattle.std.proofs.lemmas.Option.{same_Some, slice_get_within}
+use Rattle.std.proofs.Common.{◌≡◌, ℕ, ◌+◌, ◌<◌, ◌≤◌, true, false, Some, IsSome, List, ◌++◌, inl, inr, length, map, set, slice_get, refl, sym, ◌∙◌, ap, arith}
+use Rattle.std.proofs.lemmas.Bool.{both_ways}
+use Rattle.std.proofs.lemmas.Option.{same_Some}
 use Rattle.ilk_base.proofs.Lists.{at-before, at-either, item_at}
 use Rattle.ilk_base.proofs.ListTests.{all-at}
-use Rattle.ilk_base.proofs.Options.{IfSome-from, some-is}
+use Rattle.ilk_base.proofs.Options.{some-is}
 use Rattle.ilk_base.proofs.Tested.{list_all-slice_get}
 use Rattle.ilk_plant.specs.Network.{has_section}
-use Rattle.ilk_plant.specs.Plant.{IsPlant, IsRouteOf, PlantLists, point_count, point_number}
+use Rattle.ilk_plant.specs.Plant.{IsPlant, IsRouteOf, PlantLists, point_number}
 use Rattle.ilk_plant.specs.Shape.{HasShape}
 use Rattle.ilk_plant.specs.State.{lie_of}
-use Rattle.ilk_plant.specs.TableRules.{sections_of}
 use Rattle.ilk_plant.specs.declared.network.Position.{Position}
 use Rattle.ilk_plant.specs.declared.network.Position.TheVariants.{Plus, Minus}
-use Rattle.ilk_plant.specs.declared.state.Hold.TheVariants.{Free as FreeLock}
-use Rattle.ilk_plant.specs.declared.state.Lie.{Lie}
 use Rattle.ilk_plant.specs.declared.state.Lie.TheVariants.{Moving}
 use Rattle.ilk_plant.specs.declared.state.Mode.TheVariants.{Free, Marked, Allocating, Locked, Occupied}
 use Rattle.ilk_plant.specs.declared.state.PointState.{PointState}
@@ -64,9 +61,10 @@ module _ (p : PlantLists) (plant : IsPlant p) (s t : State) (keeps : Keeps p s) 
     lies = λ mode kept.
         (let place = kept-at one its listed.point kept in
         let held = holds-path one its place.0 listed.point (locked-holds its mode) place.1 place.2 in
-        let both = lies-at p s keeps.v6 q one its it k listed at mode kept in
-        (commanded-from p t listed (same_command held ∙ commanded-at_listed p s listed both.0),
-        lies-from p t listed (same_lie mode kept ∙ lies-listed p s listed listed.point both.1 refl)));
+        let both = lies-at p s keeps.v6 q one its it k listed at mode kept in (
+          commanded-from p t listed (same_command held ∙ commanded-at_listed p s listed both.0),
+          lies-from p t listed (same_lie mode kept ∙ lies-listed p s listed listed.point both.1 refl),
+        ));
   }
 
   from-fits : ((q : ℕ) (one : Route) (its : RouteState) → RouteIn p t q one its → (k : ℕ) (listed : Listed) → slice_get one.points k ≡ Some listed → PointFits p t one its listed) → keeps_v6 p t ≡ true
@@ -104,9 +102,10 @@ module _ (p : PlantLists) (plant : IsPlant p) (s t : State) (keeps : Keeps p s) 
             (let place = kept-at route new listed.point kept in
             let least = place.1 in
             let was = before-change p s t n route now new changes in
-            let both = lies-at p s keeps.v6 n route now was k listed at mode (kept-from route now place.0 listed.point (omega (arith, more, least)) place.2) in
-            (commanded-from p t listed (commanded-alike p s t listed.point (λ m number. ap (λ (l : List PointState). slice_get l m) points) ∙ commanded-at_listed p s listed both.0),
-            lies-from p t listed (lie-alike p s t listed.point (λ m number. ap (λ (l : List PointState). slice_get l m) points) ∙ lies-listed p s listed listed.point both.1 refl)));
+            let both = lies-at p s keeps.v6 n route now was k listed at mode (kept-from route now place.0 listed.point (omega (arith, more, least)) place.2) in (
+              commanded-from p t listed (commanded-alike p s t listed.point (λ m number. ap (λ (l : List PointState). slice_get l m) points) ∙ commanded-at_listed p s listed both.0),
+              lies-from p t listed (lie-alike p s t listed.point (λ m number. ap (λ (l : List PointState). slice_get l m) points) ∙ lies-listed p s listed listed.point both.1 refl),
+            ));
       })
 
   pub mark-keeps_v6 : IsMarked p s t n → keeps_v6 p t ≡ true
@@ -161,9 +160,9 @@ module _ (p : PlantLists) (plant : IsPlant p) (s t : State) (keeps : Keeps p s) 
       others q one its that k listed at held =
           let number = numbered one (plant.routes_known q one that.known) k listed at in
           let none = listed-none p number.0 (wanted_points it.route) (λ j entry there lists.
-            (let same = lists-named p entry listed.point number.0 number.1 lists in
-            let among = wanted-locked p it.route of j entry there in
-            held-not_free p s keeps.v3 q one its that listed.point held (cleared s it.route it.clear listed.point (rw same at among)).0)) in
+          (let same = lists-named p entry listed.point number.0 number.1 lists in
+          let among = wanted-locked p it.route of j entry there in
+          held-not_free p s keeps.v3 q one its that listed.point held (cleared s it.route it.clear listed.point (rw same at among)).0)) in
           commanded-kept p s t (wanted_points it.route) it.points listed.point number.0 number.1 none
 
   pub lock-keeps_v6 : IsLocked p s t n → keeps_v6 p t ≡ true
@@ -173,9 +172,10 @@ module _ (p : PlantLists) (plant : IsPlant p) (s t : State) (keeps : Keeps p s) 
       let was = before-change p s t n it.route now new it.changes in
       changed it.route now new it.changes it.points (λ k listed at. record {
         commanded = λ mode on. cc;
-        lies = λ mode kept.
-            (commanded-from p t listed (commanded-alike p s t listed.point (λ m number. ap (λ (l : List PointState). slice_get l m) it.points) ∙ commanded-at_listed p s listed (commanded-at p s keeps.v6 n it.route now was k listed at it.was (kept-on_path it.route new listed.point kept))),
-            lies-from p t listed (lie-alike p s t listed.point (λ m number. ap (λ (l : List PointState). slice_get l m) it.points) ∙ lies-listed p s listed listed.point (list_all-slice_get (lies_as_listed p s) (wanted_points it.route) k listed it.lie (at-before it.route.points it.route.protecting_points k listed at)) refl));
+        lies = λ mode kept. (
+          commanded-from p t listed (commanded-alike p s t listed.point (λ m number. ap (λ (l : List PointState). slice_get l m) it.points) ∙ commanded-at_listed p s listed (commanded-at p s keeps.v6 n it.route now was k listed at it.was (kept-on_path it.route new listed.point kept))),
+          lies-from p t listed (lie-alike p s t listed.point (λ m number. ap (λ (l : List PointState). slice_get l m) it.points) ∙ lies-listed p s listed listed.point (list_all-slice_get (lies_as_listed p s) (wanted_points it.route) k listed it.lie (at-before it.route.points it.route.protecting_points k listed at)) refl),
+        );
       })
 
   pub sense-keeps_v6 : IsSensed p s t n → keeps_v6 p t ≡ true

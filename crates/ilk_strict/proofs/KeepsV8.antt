@@ -1,6 +1,6 @@
 -- No event breaks V8: each section of a body that is plain for its train is path[i], with i at least rel, of a Locked or
 -- Occupied route of the train's direction. A route gives back only what is vacant, and at its end what isn't plain.
-use Rattle.std.proofs.Common.{◌≡◌, ℕ, zero, suc, ◌+◌, ◌<◌, ◌≤◌, Bool, true, false, ◌==◌, ◌||◌, ◌&&◌, Option, Some, None, List, [], ◌∷◌, ◌++◌, inl, inr, ◌⊎◌, drop, length, nat_lt, remove, set, slice_get, refl, sym, ◌∙◌, ap, subst, arith}
+use Rattle.std.proofs.Common.{◌≡◌, ℕ, suc, ◌+◌, ◌≤◌, true, false, Some, List, [], ◌∷◌, ◌++◌, inl, inr, length, remove, slice_get, refl, sym, ◌∙◌, ap, subst, arith}
 use Rattle.std.proofs.lemmas.Bool.{both_ways, cases_eq}
 use Rattle.std.proofs.lemmas.Option.{same_Some, slice_get_within}
 use Rattle.ilk_base.proofs.Lists.{slice_get-push_cases}
@@ -22,10 +22,9 @@ use Rattle.ilk_strict.proofs.After.{after-change, before-change, one-state, othe
 use Rattle.ilk_strict.proofs.Ahead.{only-one}
 use Rattle.ilk_model.proofs.Alike.{one_mode}
 use Rattle.ilk_model.proofs.Frames.{ChangesRoute, IsAllocated, IsCancelled, IsEntered, IsFinished, IsHeaded, IsLeft, IsLocked, IsMarked, IsReleased, IsSensed, IsSettled, IsTailed, IsThrown}
-use Rattle.ilk_strict.proofs.Heads.{GoesOn}
 use Rattle.ilk_strict.proofs.KeepsV4.{headed-goes_on}
 use Rattle.ilk_strict.proofs.KeepsV7.{board-not_plain}
-use Rattle.ilk_strict.proofs.Reading.{RouteIn, occupied-from, section-from}
+use Rattle.ilk_strict.proofs.Reading.{occupied-from, section-from}
 use Rattle.ilk_strict.proofs.Table.{route-source}
 use Rattle.ilk_strict.proofs.TrainFacts.{IsKeptBy, Keeps, bodies-from, body-kept, runs-from, runs-source}
 use Rattle.ilk_strict.proofs.Trains.{enter-trains, head-trains, leave-trains, shorter-at, tail-trains}

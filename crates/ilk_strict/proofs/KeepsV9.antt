@@ -1,9 +1,8 @@
 -- No event breaks V9: each protecting board of a Locked route is Closed. A board is opened as a source alone, where no Locked
 -- route protects itself by it.
-use Rattle.std.proofs.Common.{◌≡◌, ℕ, zero, suc, ◌+◌, ◌<◌, ◌≤◌, Bool, true, false, ◌==◌, ◌||◌, ◌&&◌, Option, Some, None, List, [], ◌∷◌, ◌++◌, inl, inr, ◌⊎◌, length, set, slice_get, refl, sym, ◌∙◌, ap, subst, arith}
-use Rattle.std.specs.Prelude.{if◌then◌else◌}
-use Rattle.std.specs.List.{list_all, list_any}
-use Rattle.std.proofs.lemmas.Bool.{and_from, both_ways, cases_eq, eq-eqb}
+use Rattle.std.proofs.Common.{◌≡◌, ℕ, ◌+◌, true, ◌==◌, ◌&&◌, Some, List, inl, inr, length, slice_get, refl, sym, ◌∙◌, ap}
+use Rattle.std.specs.List.{list_any}
+use Rattle.std.proofs.lemmas.Bool.{and_from, both_ways, eq-eqb}
 use Rattle.std.proofs.lemmas.Option.{slice_get_within}
 use Rattle.ilk_base.proofs.ListTests.{all-at}
 use Rattle.ilk_base.proofs.Tested.{list_all-slice_get, list_any-from}
@@ -11,7 +10,6 @@ use Rattle.ilk_plant.specs.Plant.{IsPlant, PlantLists}
 use Rattle.ilk_plant.specs.Shape.{HasShape}
 use Rattle.ilk_plant.specs.declared.state.Aspect.{Aspect}
 use Rattle.ilk_plant.specs.declared.state.Aspect.TheVariants.{Open, Closed}
-use Rattle.ilk_plant.specs.declared.state.Mode.{Mode}
 use Rattle.ilk_plant.specs.declared.state.Mode.TheVariants.{Free, Marked, Allocating, Locked, Occupied}
 use Rattle.ilk_plant.specs.declared.state.RouteState.{RouteState}
 use Rattle.ilk_plant.specs.declared.state.State.{State}
@@ -19,7 +17,7 @@ use Rattle.ilk_plant.specs.declared.table.Route.{Route}
 use Rattle.ilk_routes.specs.Boards.{has_aspect, is_protecting, protects_by}
 use Rattle.ilk_routes.specs.Modes.{has_mode}
 use Rattle.ilk_model.specs.Families.{keeps_v9}
-use Rattle.ilk_strict.proofs.After.{after-cases, before-change, same-here, same-route, v9-reads}
+use Rattle.ilk_strict.proofs.After.{after-cases, same-here, same-route, v9-reads}
 use Rattle.ilk_strict.proofs.Boards.{head-closed, other-board, sense-closed}
 use Rattle.ilk_model.proofs.Frames.{ChangesRoute, IsAllocated, IsCancelled, IsEntered, IsFinished, IsHeaded, IsLeft, IsLocked, IsMarked, IsReleased, IsSensed, IsSettled, IsTailed, IsThrown}
 use Rattle.ilk_strict.proofs.Reading.{RouteIn, has_aspect-at, some_below-from}
@@ -65,7 +63,7 @@ module _ (p : PlantLists) (plant : IsPlant p) (s t : State) (keeps : Keeps p s) 
           let among : list_any (λ b. b == it.route.source) one.protecting_boards ≡ true = list_any-from (λ b. b == it.route.source) one.protecting_boards k m at (eq-eqb m it.route.source same) in
           let protects : protects_by p q it.route.source ≡ true = rw that.known among in
           both_ways (is_protecting p s it.route.source) it.unprotecting
-            (some_below-from (length p.routes) (λ q. has_mode s q Locked && protects_by p q it.route.source) q (slice_get_within p.routes q one that.known) (and_from (has_mode s q Locked) (protects_by p q it.route.source) is_locked protects))
+          (some_below-from (length p.routes) (λ q. has_mode s q Locked && protects_by p q it.route.source) q (slice_get_within p.routes q one that.known) (and_from (has_mode s q Locked) (protects_by p q it.route.source) is_locked protects))
 
   pub sense-keeps_v9 : IsSensed p s t n → keeps_v9 p t ≡ true
   sense-keeps_v9 it =

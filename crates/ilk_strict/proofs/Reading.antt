@@ -1,8 +1,8 @@
 -- What tests of a state say, read place by place: of locks, boards and trains, of each number below a bound, of each
 -- route, of each place of a path.
-use Rattle.std.proofs.Common.{◌≡◌, ℕ, zero, suc, ◌+◌, ◌<◌, ◌≤◌, Bool, true, false, ◌==◌, ◌&&◌, Some, List, [], ◌∷◌, length, nat_le, slice_get, refl, sym, ap, ◌∙◌, arith}
-use Rattle.std.specs.List.{enumerate_from, list_all, list_any, range_with_len}
-use Rattle.std.proofs.lemmas.Bool.{and_from, and_parts, eqb-true, eq-eqb, false_from_ne_true, false≢true}
+use Rattle.std.proofs.Common.{◌≡◌, ℕ, zero, suc, ◌+◌, ◌<◌, ◌≤◌, Bool, true, ◌==◌, ◌&&◌, Some, List, [], ◌∷◌, length, nat_le, slice_get, refl, sym, ap, ◌∙◌, arith}
+use Rattle.std.specs.List.{enumerate_from, range_with_len}
+use Rattle.std.proofs.lemmas.Bool.{and_from, and_parts, eqb-true, eq-eqb}
 use Rattle.std.proofs.lemmas.Bool.Decides.{nat_tests}
 use Rattle.std.proofs.lemmas.Option.{same_Some, slice_get_within}
 use Rattle.ilk_base.specs.Each.{each_below, some_below}
@@ -21,7 +21,7 @@ use Rattle.ilk_plant.specs.declared.state.State.{State}
 use Rattle.ilk_plant.specs.declared.state.Train.{Train}
 use Rattle.ilk_plant.specs.declared.table.Route.{Route}
 use Rattle.ilk_routes.specs.Boards.{has_aspect, same_aspect}
-use Rattle.ilk_model.specs.Holding.{each_place, each_route, is_kept_on_path, is_vacant, route_passes, some_place, some_route}
+use Rattle.ilk_model.specs.Holding.{each_place, each_route, is_kept_on_path, route_passes, some_place, some_route}
 use Rattle.ilk_model.proofs.Alike.{one_aspect, one_hold, own_aspect, own_hold}
 
 -- the lock of a section

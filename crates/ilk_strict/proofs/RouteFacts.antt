@@ -1,6 +1,6 @@
 -- What the families that speak of routes say, route by route, and what has to be shown of each route for a state to keep
 -- them: V1 to V6 and V9.
-use Rattle.std.proofs.Common.{◌≡◌, ℕ, ◌+◌, ◌<◌, ◌≤◌, Bool, true, false, not, ◌==◌, ◌&&◌, ◌||◌, Some, List, inl, inr, ◌⊎◌, drop, length, nat_le, nat_lt, slice_get, refl, sym, ap, ◌∙◌, arith}
+use Rattle.std.proofs.Common.{◌≡◌, ℕ, ◌+◌, ◌<◌, ◌≤◌, Bool, true, false, not, ◌==◌, ◌&&◌, ◌||◌, Some, List, inl, inr, ◌⊎◌, length, nat_le, nat_lt, slice_get, refl, sym, ◌∙◌, arith}
 use Rattle.std.specs.Prelude.{if◌then◌else◌}
 use Rattle.std.specs.List.{list_all}
 use Rattle.std.proofs.lemmas.Bool.{and_from, and_parts, both_ways, cases_Bool, eqb-true, eq-eqb, or_left, or_right}
@@ -26,7 +26,7 @@ use Rattle.ilk_routes.specs.Modes.{same_mode}
 use Rattle.ilk_model.specs.Commanded.{is_commanded_as_listed}
 use Rattle.ilk_model.specs.Families.{has_its_locks, is_commanded_for, keeps_v1, keeps_v2, keeps_v3, keeps_v4, keeps_v5, keeps_v6, keeps_v9, lies_for, lock_on_path}
 use Rattle.ilk_model.specs.Holding.{each_place, holds_section, holds_sections, is_kept_on_path, is_locked_or_occupied, is_vacant, route_holds}
-use Rattle.ilk_model.proofs.Alike.{one_mode, own_mode}
+use Rattle.ilk_model.proofs.Alike.{one_mode}
 use Rattle.ilk_strict.proofs.Reading.{RouteIn, each_below-at, each_below-from, each_place-at, each_place-from, each_route-at, each_route-from, has_aspect-at, has_aspect-from, has_lock-at, has_lock-from, kept-at, kept-from, passes-at, passes-from, section-at, section-from, some_route-at, some_route-from}
 
 -- a test that is asked only where another passes
@@ -78,11 +78,13 @@ holds-beside route now x holds beside =
 
 pub holds-cases : (route : Route) (now : RouteState) (x : ℕ) → holds_section x route now ≡ true → (holds_sections now ≡ true) × ((has_section x (sections_beside route) ≡ true) ⊎ ((i : ℕ) × (now.rel ≤ i) × (slice_get route.path i ≡ Some x)))
 holds-cases route now x h =
-    let parts = and_parts (holds_sections now) (has_section x (sections_beside route) || is_kept_on_path route now x) h in
-    (parts.0, elim (either (has_section x (sections_beside route)) (is_kept_on_path route now x) parts.1) [
-      | inl beside ↦ inl beside
-      | inr kept ↦ inr (kept-at route now x kept)
-    ])
+    let parts = and_parts (holds_sections now) (has_section x (sections_beside route) || is_kept_on_path route now x) h in (
+      parts.0,
+      elim (either (has_section x (sections_beside route)) (is_kept_on_path route now x) parts.1) [
+        | inl beside ↦ inl beside
+        | inr kept ↦ inr (kept-at route now x kept)
+      ],
+    )
 
 -- V1, of a route
 abbrev pub counts_right : Route → RouteState → Bool
@@ -157,11 +159,11 @@ module _ (p : PlantLists) (s : State) where
       pair r q = elim (cases_Bool (r == q)) [
         | inl same ↦ or_left (r == q) (each_below (length p.sections) (λ y. not (route_holds p s r y && route_holds p s q y))) same
         | inr differ ↦ or_right (r == q) (each_below (length p.sections) (λ y. not (route_holds p s r y && route_holds p s q y)))
-          (each_below-from (length p.sections) (λ y. not (route_holds p s r y && route_holds p s q y)) (λ x within. not_both (route_holds p s r x) (route_holds p s q x) (λ first second.
-          let one = passes-at p s r (holds_section x) first in
-          let two = passes-at p s q (holds_section x) second in
-          let same = each r one.0 one.1 one.2 q two.0 two.1 two.2 x within one.3 two.3 in
-          both_ways (r == q) differ (eq-eqb r q same))))
+            (each_below-from (length p.sections) (λ y. not (route_holds p s r y && route_holds p s q y)) (λ x within. not_both (route_holds p s r x) (route_holds p s q x) (λ first second.
+            let one = passes-at p s r (holds_section x) first in
+            let two = passes-at p s q (holds_section x) second in
+            let same = each r one.0 one.1 one.2 q two.0 two.1 two.2 x within one.3 two.3 in
+            both_ways (r == q) differ (eq-eqb r q same))))
       ]
 
   -- V3
@@ -188,8 +190,8 @@ module _ (p : PlantLists) (s : State) where
       unless (holds_sections now) (has_its_locks s route now) (λ holds.
       let both = each r route now it holds in
       and_from (each_place route (λ i x. not (nat_le now.rel i) || has_lock s x (lock_on_path now i))) (list_all (λ x. has_lock s x LockedLock) (sections_beside route))
-        (each_place-from route (λ i x. not (nat_le now.rel i) || has_lock s x (lock_on_path now i)) (λ i x at. at_place now.rel i (has_lock s x (lock_on_path now i)) (λ least. has_lock-from s x (lock_on_path now i) (both.0 i x least at))))
-        (all-pass (λ x. has_lock s x LockedLock) (sections_beside route) (λ k x at. has_lock-from s x LockedLock (both.1 x (section-from (sections_beside route) k x at))))))
+      (each_place-from route (λ i x. not (nat_le now.rel i) || has_lock s x (lock_on_path now i)) (λ i x at. at_place now.rel i (has_lock s x (lock_on_path now i)) (λ least. has_lock-from s x (lock_on_path now i) (both.0 i x least at))))
+      (all-pass (λ x. has_lock s x LockedLock) (sections_beside route) (λ k x at. has_lock-from s x LockedLock (both.1 x (section-from (sections_beside route) k x at))))))
     where
       at_place : (rel i : ℕ) (b : Bool) → (rel ≤ i → b ≡ true) → (not (nat_le rel i) || b) ≡ true
       at_place rel i b f = elim (cases_Bool (nat_le rel i)) [
@@ -276,13 +278,13 @@ module _ (p : PlantLists) (s : State) where
       all-pass (λ listed. is_commanded_for p s route now listed && lies_for p s route now listed) route.points (λ k listed at.
       let both = each r route now it k listed at in
       and_from (is_commanded_for p s route now listed) (lies_for p s route now listed)
-        (unless (same_mode now.mode Allocating && has_section listed.point route.path) (is_commanded_as_listed p s listed) (λ h.
-        let parts = and_parts (same_mode now.mode Allocating) (has_section listed.point route.path) h in
-        both.0 (one_mode now.mode Allocating parts.0) parts.1))
-        (unless (is_locked_or_occupied now && is_kept_on_path route now listed.point) (is_commanded_as_listed p s listed && lies_as_listed p s listed) (λ h.
-        let parts = and_parts (is_locked_or_occupied now) (is_kept_on_path route now listed.point) h in
-        let lies = both.1 parts.0 parts.1 in
-        and_from (is_commanded_as_listed p s listed) (lies_as_listed p s listed) lies.0 lies.1))))
+      (unless (same_mode now.mode Allocating && has_section listed.point route.path) (is_commanded_as_listed p s listed) (λ h.
+      let parts = and_parts (same_mode now.mode Allocating) (has_section listed.point route.path) h in
+      both.0 (one_mode now.mode Allocating parts.0) parts.1))
+      (unless (is_locked_or_occupied now && is_kept_on_path route now listed.point) (is_commanded_as_listed p s listed && lies_as_listed p s listed) (λ h.
+      let parts = and_parts (is_locked_or_occupied now) (is_kept_on_path route now listed.point) h in
+      let lies = both.1 parts.0 parts.1 in
+      and_from (is_commanded_as_listed p s listed) (lies_as_listed p s listed) lies.0 lies.1))))
 
   -- V9
   abbrev is_protected : Route → RouteState → Bool

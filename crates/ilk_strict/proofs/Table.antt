@@ -1,19 +1,17 @@
 -- What a route of a plant has, by the places of its path and of its points.
-use Rattle.std.proofs.Common.{◌≡◌, ℕ, zero, suc, ◌+◌, ◌<◌, Bool, true, false, ◌==◌, ◌||◌, not, Option, Some, None, All, List, [], ◌∷◌, ◌++◌, count_by, cond, inl, inr, ◌⊎◌, length, map, slice_get, take, refl, sym, ap, ◌∙◌, subst, arith}
+use Rattle.std.proofs.Common.{◌≡◌, ℕ, zero, suc, ◌+◌, ◌<◌, true, false, ◌==◌, ◌||◌, Option, Some, None, List, [], ◌∷◌, ◌++◌, count_by, cond, inl, inr, ◌⊎◌, length, map, slice_get, take, refl, sym, ap, ◌∙◌, arith}
 use Rattle.std.specs.Option.{option_or}
-use Rattle.std.proofs.lemmas.Bool.{eqb-true, eq-eqb, or_left, or_right, both_ways, cases_Bool}
+use Rattle.std.proofs.lemmas.Bool.{or_left, or_right, both_ways}
 use Rattle.std.proofs.lemmas.List.Folds.{list_any-append}
 use Rattle.std.proofs.lemmas.List.Sums.{sum_by-cons}
-use Rattle.std.proofs.lemmas.Option.{cond_some, same_Some, slice_get_within}
-use Rattle.ilk_base.specs.Option.{is_some_and, only_if}
+use Rattle.std.proofs.lemmas.Option.{cond_some, same_Some}
+use Rattle.ilk_base.specs.Option.{only_if}
 use Rattle.ilk_base.proofs.Lists.{at-before, at-either, at-past, item_at, map-at}
 use Rattle.ilk_base.proofs.ListTests.{all-at}
-use Rattle.ilk_base.proofs.Once.{EachOnce}
-use Rattle.ilk_base.proofs.Options.{bind_some, or_cases, some-and}
-use Rattle.ilk_base.proofs.Tested.{counted, list_any-at}
+use Rattle.ilk_base.proofs.Options.{bind_some, or_cases}
 use Rattle.ilk_base.proofs.Truth.{either}
 use Rattle.ilk_plant.specs.Network.{has_section, is_point}
-use Rattle.ilk_plant.specs.Plant.{IsPlant, IsRouteOf, PlantLists, point_number}
+use Rattle.ilk_plant.specs.Plant.{IsRouteOf, PlantLists, point_number}
 use Rattle.ilk_plant.specs.TableRules.{protecting_points_of, sections_locked_for, sections_of}
 use Rattle.ilk_plant.specs.declared.network.Board.{Board}
 use Rattle.ilk_plant.specs.declared.network.Position.{Position}
@@ -130,8 +128,8 @@ counts-at : (p : PlantLists) (n : ℕ) (entries : List Listed) (to : Position) �
 counts-at p n [] to e = cc
 counts-at p n (one ∷ rest) to e =
     or_cases ((j : ℕ) × (it : Listed) × (slice_get (one ∷ rest) j ≡ Some it) × (lists_point p n it ≡ true) × (it.at ≡ to)) (listed_position p n rest) (only_if (lists_point p n one) one.at) to e
-      (λ later. let found = counts-at p n rest to later in (suc found.0, found.1, found.2, found.3, found.4))
-      (λ here. let first = cond_some (lists_point p n one) one.at to here in (zero, one, refl, first.0, first.1))
+    (λ later. let found = counts-at p n rest to later in (suc found.0, found.1, found.2, found.3, found.4))
+    (λ here. let first = cond_some (lists_point p n one) one.at to here in (zero, one, refl, first.0, first.1))
 
 -- where an entry lists a point, some position counts for it
 counts-some : (p : PlantLists) (n : ℕ) (entries : List Listed) (k : ℕ) (listed : Listed) → slice_get entries k ≡ Some listed → lists_point p n listed ≡ true → (to : Position) × (listed_position p n entries ≡ Some to)

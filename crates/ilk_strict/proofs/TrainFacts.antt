@@ -1,18 +1,17 @@
 -- What the families that speak of trains, and the absence of hazards, say of each train, and what has to be shown of each
 -- train for a state to keep them: V7, V8, two trains in one section, a train on a wrong point.
-use Rattle.std.proofs.Common.{◌≡◌, ℕ, zero, suc, ◌+◌, ◌-◌, ◌<◌, ◌≤◌, Bool, true, false, not, ◌==◌, ◌&&◌, ◌||◌, Option, Some, None, option_map, List, [], ◌∷◌, ◌++◌, inl, inr, ◌⊎◌, count_by, drop, find, length, nat_le, nat_lt, slice_get, refl, sym, ap, ◌∙◌, arith}
+use Rattle.std.proofs.Common.{◌≡◌, ℕ, zero, suc, ◌+◌, ◌-◌, ◌<◌, ◌≤◌, Bool, true, false, ◌==◌, ◌&&◌, ◌||◌, Option, Some, None, option_map, List, [], ◌∷◌, inl, inr, ◌⊎◌, count_by, drop, find, length, nat_le, nat_lt, slice_get, refl, sym, ap, ◌∙◌, arith}
 use Rattle.std.specs.Prelude.{if◌then◌else◌}
 use Rattle.std.specs.List.{last_or, list_all, list_any, range_with_len}
-use Rattle.std.proofs.lemmas.Bool.{and_from, and_parts, both_ways, cases_Bool, eqb-true, eq-eqb, false_from_ne_true, or_from, or_left, or_parts, or_right}
+use Rattle.std.proofs.lemmas.Bool.{and_from, and_parts, both_ways, cases_Bool, eqb-true, eq-eqb, or_from, or_parts}
 use Rattle.std.proofs.lemmas.Bool.Decides.{nat_tests}
-use Rattle.std.proofs.lemmas.Option.{none-some, same_Some, slice_get_within}
+use Rattle.std.proofs.lemmas.Option.{none-some, same_Some}
 use Rattle.ilk_base.specs.Option.{is_some_and}
 use Rattle.ilk_base.proofs.Lists.{get-dropped, last-some}
-use Rattle.ilk_base.proofs.Options.{some-and}
 use Rattle.ilk_base.proofs.Ranges.{range-at, range_within}
-use Rattle.ilk_base.proofs.Tested.{all-pass, count-one, few-from_places, find-at, list_all-slice_get, list_any-from, list_any-none, none-pass}
+use Rattle.ilk_base.proofs.Tested.{all-pass, count-one, few-from_places, find-at, list_all-slice_get, list_any-none, none-pass}
 use Rattle.ilk_base.proofs.Truth.{either}
-use Rattle.ilk_plant.specs.Network.{has_section, same_direction}
+use Rattle.ilk_plant.specs.Network.{has_section}
 use Rattle.ilk_plant.specs.Plant.{PlantLists}
 use Rattle.ilk_plant.specs.Shape.{HasShape, is_body}
 use Rattle.ilk_plant.specs.State.{is_occupied, lie_of}
@@ -29,7 +28,7 @@ use Rattle.ilk_plant.specs.declared.table.Route.{Route}
 use Rattle.ilk_routes.specs.Boards.{has_aspect}
 use Rattle.ilk_routes.specs.Modes.{same_mode}
 use Rattle.ilk_model.specs.Families.{is_kept_for, is_led, keeps_v1, keeps_v2, keeps_v3, keeps_v4, keeps_v5, keeps_v6, keeps_v7, keeps_v8, keeps_v9}
-use Rattle.ilk_model.specs.Hazard.{hazard, is_hazardous, is_two, is_wrong, strays}
+use Rattle.ilk_model.specs.Hazard.{is_hazardous, is_two, is_wrong, strays}
 use Rattle.ilk_model.specs.Holding.{is_kept_on_path, is_locked_or_occupied, is_plain, is_vacant, runs_in, some_place}
 use Rattle.ilk_model.specs.Meets.{Meets}
 use Rattle.ilk_model.proofs.Alike.{one_direction, one_mode, own_direction}

@@ -1,17 +1,14 @@
 -- Trains after an event of a train: which there are, what they occupy, and their heads.
-use Rattle.std.proofs.Common.{◌≡◌, ℕ, zero, suc, ◌+◌, ◌<◌, ◌≤◌, Bool, true, false, ◌==◌, ◌||◌, Option, Some, None, List, [], ◌∷◌, ◌++◌, inl, inr, ◌⊎◌, length, remove, set, slice_get, refl, sym, ap, ◌∙◌, subst, arith}
-use Rattle.std.specs.List.{last_or, list_any}
-use Rattle.std.proofs.lemmas.Bool.{both_ways, cases_Bool, eqb-true, eq-eqb, false_from_ne_true}
-use Rattle.std.proofs.lemmas.Bool.Decides.{nat_tests}
-use Rattle.std.proofs.lemmas.Option.{same_Some}
+use Rattle.std.proofs.Common.{◌≡◌, ℕ, zero, suc, ◌<◌, ◌≤◌, true, false, Option, Some, None, List, [], ◌∷◌, ◌++◌, inl, inr, ◌⊎◌, length, remove, slice_get, refl, sym, ap, ◌∙◌, subst, arith}
+use Rattle.std.specs.List.{last_or}
+use Rattle.std.proofs.lemmas.Bool.{both_ways, eqb-true, false_from_ne_true}
 use Rattle.ilk_base.proofs.Lists.{slice_get-push_cases}
 use Rattle.ilk_plant.specs.Network.{has_section}
 use Rattle.ilk_plant.specs.Plant.{PlantLists}
 use Rattle.ilk_plant.specs.State.{is_occupied}
-use Rattle.ilk_plant.specs.declared.network.Dir.{Dir}
 use Rattle.ilk_plant.specs.declared.state.State.{State}
 use Rattle.ilk_plant.specs.declared.state.Train.{Train}
-use Rattle.ilk_motion.specs.Body.{has_head, is_first_of_several, is_last, train_on, with_new_head, without_tail}
+use Rattle.ilk_motion.specs.Body.{is_first_of_several, is_last, train_on, with_new_head, without_tail}
 use Rattle.ilk_strict.proofs.After.{set-cases}
 use Rattle.ilk_strict.proofs.Ahead.{only-one}
 use Rattle.ilk_model.proofs.Frames.{IsEntered, IsHeaded, IsLeft, IsTailed}
@@ -45,11 +42,14 @@ removed-at [] (suc i) j z at = cc
 removed-at (x ∷ xs) zero j z at = (suc j, at, inr (omega arith, refl))
 removed-at (x ∷ xs) (suc i) zero z at = (zero, at, inl (omega arith, refl))
 removed-at (x ∷ xs) (suc i) (suc j) z at =
-    let rest = removed-at xs i j z at in
-    (suc rest.0, rest.1, elim rest.2 [
-      | inl e ↦ (let less = e.0 in inl (omega (arith, less), ap suc e.1))
-      | inr e ↦ (let less = e.0 in inr (omega (arith, less), ap suc e.1))
-    ])
+    let rest = removed-at xs i j z at in (
+      suc rest.0,
+      rest.1,
+      elim rest.2 [
+        | inl e ↦ (let less = e.0 in inl (omega (arith, less), ap suc e.1))
+        | inr e ↦ (let less = e.0 in inr (omega (arith, less), ap suc e.1))
+      ],
+    )
 
 pub removed-once : (i j l a b : ℕ) → ((j < i) × (a ≡ j)) ⊎ ((i ≤ j) × (a ≡ suc j)) → ((l < i) × (b ≡ l)) ⊎ ((i ≤ l) × (b ≡ suc l)) → a ≡ b → j ≡ l
 removed-once i j l a b (inl e) (inl f) same = omega (arith, e.0, e.1, f.0, f.1, same)

@@ -17,16 +17,14 @@ use ilk_plant::Plant;
 pub fn kept_is_strict(plant: &Plant)
     requires { KeepsPathRules plant.now }
     ensures { IsStrict plant.now }
-{
-}
+{}
 
 /// A table that breaks no rule of the columns is strict. It does nothing, and tells a proof.
 #[tactic(auto, using(crate::proofs::Strict::strict_from_list))]
 pub fn clean_is_strict(plant: &Plant)
     requires { column_rules_broken plant.now ≡ [] }
     ensures { IsStrict plant.now }
-{
-}
+{}
 
 /// Over a strict table the start meets the invariant, and an event leads from a state that meets it
 /// only to states that meet it; so every run from the start, of whatever length, ends in a state that
