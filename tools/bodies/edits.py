@@ -17,8 +17,8 @@ class BadEdit(Exception):
 
 @dataclass(frozen=True)
 class Edit:
-    """An edit: its file, its changes (path, old text, new text), the functions that it changes, and
-    whether all else is as it was for the proofs of other functions."""
+    """An edit: its file, its changes (path, old text, new text), the functions that it changes or adds,
+    and whether all else is as it was for the proofs of other functions."""
 
     file: Path
     changes: tuple
@@ -91,6 +91,12 @@ def is_named_elsewhere(function, sources):
                for line in uses)
 
 
+def added(path, before, after):
+    """The functions that a file has after a change and hadn't before."""
+    there = {it.path for it in functions_of(path, before)}
+    return [it for it in functions_of(path, after) if it.path not in there]
+
+
 def read_edit(file, sources):
     """The edit of this file over its crate's sources, by path."""
     changes = changes_of(file.read_text())
@@ -103,6 +109,7 @@ def read_edit(file, sources):
         is_confined = is_confined and bool(function) and (
             is_in_body or not is_named_elsewhere(function, sources))
         texts[path] = texts[path].replace(old, new)
+        functions += added(path, sources[path], texts[path])
     return Edit(file, tuple(changes), tuple(functions), is_confined)
 
 

@@ -70,17 +70,17 @@ class Said:
             return Verdict.UNKNOWN, said
         if OPEN_GOAL.search(said):
             return Verdict.REFUSED, said
-        stands = STANDS_ON.findall(said)
-        if stands:
-            return self.of_answers(name, stands, said)
-        return (Verdict.CALLS if CALLS.search(said) else Verdict.UNKNOWN), said
+        if STANDS_ON.search(said) or not CALLS.search(said):
+            return self.of_answers(name, said)
+        return Verdict.CALLS, said
 
-    def of_answers(self, name, stands, said):
-        """The verdict where answers of a proof file are refused: by what is said of them."""
+    def of_answers(self, name, said):
+        """The verdict where answers of a proof file are refused: by what is said of those that the line
+        names, or of all of the file where it names none."""
         folder = "proofs/" + name.split("::", 1)[1].replace("::", "/") + "/"
-        own = [what for path, answer, what in self.errors
-               if path.startswith(folder) and (not answer or answer.split(".")[0] in
-                                               [it for _, it in stands])]
+        named = [answer for _, answer in STANDS_ON.findall(said)]
+        own = [what for path, answer, what in self.errors if path.startswith(folder)
+               and (not named or not answer or answer.split(".")[0] in named)]
         if any(not GONE.search(what) for what in own):
             return Verdict.REFUSED, said
         return (Verdict.GONE if own else Verdict.UNKNOWN), said
