@@ -10,9 +10,11 @@ import random
 import time
 
 from events import apply, hazard
-from state import State
+from state import ROUTE_WORDS, State
 
 MOST_EVENTS = 240       # of a run
+LONGER = 4              # seconds to look on for a shorter run
+MOVES = ("enter", "head", "throw", "settle")   # the events after which there may be a hazard
 NEXT = {"free": ("mark",), "marked": ("allocate",), "allocating": ("lock",), "locked": ("sense",),
         "occupied": ("release", "finish", "sense")}
 
@@ -24,19 +26,25 @@ class Hunt:
         self.plant = plant
         self.random = random.Random(seed)
         self.suspects = [r for r in suspects if r is not None]
-        self.runs = self.events = 0
+        self.runs = self.events = self.longest = 0
         self.used = {}          # of each route that a run set, used and finished: the run
         self.begin = State(plant)
 
     def for_hazard(self, seconds, most_runs=None):
-        """Hunts for so long; answers a run to a hazard, shortened, or None."""
-        end = time.monotonic() + seconds
+        """Hunts for so long; answers a run to a hazard, shortened, or None. Once it has found one, it
+        looks a little longer for one that is shorter."""
+        begin = time.monotonic()
+        end, best = begin + seconds, None
         while time.monotonic() < end and (most_runs is None or self.runs < most_runs):
             run = self.walk()
-            if run is not None:
-                return shortened(self.plant, run, lambda state: hazard(self.plant, state) is not None,
-                                 end + 5)
-        return None
+            if run is None or best is not None and len(run) > 6 * len(best):
+                continue
+            run = shortened(self.plant, run, end)
+            if best is None:
+                end = min(end, begin + 2 * (time.monotonic() - begin) + LONGER)
+            if best is None or len(run) < len(best):
+                best = run
+        return best
 
     def chosen(self):
         """The routes and the borders of a run."""
@@ -65,9 +73,10 @@ class Hunt:
                 return None
             run.append(event)
             self.events += 1
+            self.longest = max(self.longest, len(run))
             if event[0] == "finish" and event[1] not in self.used:
                 self.used[event[1]] = list(run)
-            if event[0] in ("enter", "head", "throw", "settle") and hazard(plant, state):
+            if event[0] in MOVES and hazard(plant, state):
                 return run
         return None
 
@@ -102,47 +111,79 @@ class Hunt:
         return going, new
 
 
-def end_of(plant, run):
-    """The last state of a run from the start; None where the events are no run."""
+def to_hazard(plant, events):
+    """Those of some events that are enabled in turn, up to a hazard; None where they come to none."""
+    state, run = State(plant), []
+    for event in events:
+        if apply(plant, state, event):
+            run.append(event)
+            if event[0] in MOVES and hazard(plant, state):
+                return run
+    return None
+
+
+def groups(plant, run):
+    """What belongs together in a run, by the places of its events: the use of a route, and the way of
+    a train."""
     state = State(plant)
-    for place, event in enumerate(run):
-        if not apply(plant, state, event):
-            return None
-        if event[0] in ("enter", "head", "throw", "settle") and place < len(run) - 1 \
-                and hazard(plant, state):
-            return None
-    return state
+    uses, ways, open_ = [], {}, {}
+    for place, (word, number) in enumerate(run):
+        if word in ROUTE_WORDS:
+            if word == "mark":
+                open_[number] = []
+                uses.append(open_[number])
+            open_[number].append(place)
+        elif word in ("head", "tail", "leave"):
+            end = 0 if word == "tail" else -1
+            body = next(body for _, body in state.trains
+                        if body[end] == number and (word != "tail" or len(body) > 1))
+            ways[id(body)].append(place)
+        apply(plant, state, (word, number))
+        if word == "enter":
+            ways[id(state.trains[-1][1])] = [place]
+    return uses, list(ways.values())
 
 
-def shortened(plant, run, is_wanted, until):
-    """A run with events left out, as long as its last state is still wanted. Until a time on the
-    clock."""
-    def is_good(trial):
-        state = end_of(plant, trial)
-        return state is not None and is_wanted(state)
+def without(run, places):
+    """A run without the events of some places."""
+    return [event for place, event in enumerate(run) if place not in places]
 
-    length = None
-    while length != len(run) and time.monotonic() < until:
-        length = len(run)
-        for size in (32, 16, 8, 4, 3, 2, 1):
-            place = 0
-            while place + size <= len(run):
-                trial = run[:place] + run[place + size:]
-                if is_good(trial):
-                    run = trial
-                else:
-                    place += 1
-        run = without_pair(run, is_good, until)
+
+def shorter_by_groups(plant, run, until):
+    """A run with a use, a train, or both less, if there is one."""
+    uses, ways = groups(plant, run)
+    for use in [(), *uses]:
+        for way in [(), *ways]:
+            if time.monotonic() > until:
+                return None
+            trial = to_hazard(plant, without(run, {*use, *way}))
+            if trial is not None and len(trial) < len(run):
+                return trial
+    return None
+
+
+def shorter_by_pieces(plant, run, until):
+    """A run with some events in a row less."""
+    for size in (16, 8, 4, 2, 1):
+        place = 0
+        while place + size <= len(run) and time.monotonic() < until:
+            trial = to_hazard(plant, run[:place] + run[place + size:])
+            if trial is not None and len(trial) < len(run):
+                run = trial
+            else:
+                place += 1
     return run
 
 
-def without_pair(run, is_good, until):
-    """A run without two events that go together, if there are such."""
-    for first in range(len(run)):
-        if time.monotonic() > until:
-            break
-        for second in range(first + 1, len(run)):
-            trial = run[:first] + run[first + 1:second] + run[second + 1:]
-            if is_good(trial):
-                return trial
+def shortened(plant, run, until):
+    """A run to a hazard with events left out, as long as it comes to one; until a time on the
+    clock."""
+    length = None
+    while length != len(run) and time.monotonic() < until:
+        length = len(run)
+        trial = shorter_by_groups(plant, run, until)
+        while trial is not None:
+            run = trial
+            trial = shorter_by_groups(plant, run, until)
+        run = shorter_by_pieces(plant, run, until)
     return run

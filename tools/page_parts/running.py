@@ -1,0 +1,111 @@
+"""A run, step by step in the plan: a frame for each event.
+
+Each prefix of the run is answered by `irv replay`, and so is the rest of the run from each state that
+is drawn. Where the page's own states don't agree with these answers, the run ends there with a plain
+word.
+"""
+
+import time
+
+from asking import replay_line
+from drawing import Marks
+from events import hazard
+from events import replayed as states_of
+from markup import tag, text
+from state import event_line, run_text
+from wording import event_words, hazard_words, state_words
+
+MOST_SECONDS = 25       # for the answers about one run
+
+
+class Disagreement(Exception):
+    """What the page draws isn't what `irv replay` answers."""
+
+
+class RunView:
+    """Draws runs over a plant, with the answers of a program under some columns."""
+
+    def __init__(self, program, columns, plant, drawing):
+        self.program, self.columns = program, columns
+        self.plant, self.drawing = plant, drawing
+
+    def answer(self, events, state=None):
+        """What replay says of a run."""
+        return self.program.replay(self.columns, run_text(self.plant, events, state)).said
+
+    def checked(self, place, events, states, first, deadline):
+        """Replay's answer on a prefix, once it agrees with what is drawn."""
+        own = replay_line(self.plant, hazard(self.plant, states[place]))
+        said = self.answer(events[:place], first)
+        if said != own:
+            raise Disagreement(f"irv replay says “{said}” of the run up to here, and the page's own "
+                               f"model says “{own}”.")
+        if time.monotonic() < deadline:
+            rest, last = self.answer(events[place:], states[place]), \
+                replay_line(self.plant, hazard(self.plant, states[-1]))
+            if rest != last:
+                raise Disagreement(f"irv replay says “{rest}” of the rest of the run from the state "
+                                   f"that is drawn, and the page's own model says “{last}”.")
+        return said
+
+    def frames(self, events, first=None, marks_at_end=None, after_end=""):
+        """The frames of a run, from a state or from the start. The last one may have marks of its own
+        and markup after it."""
+        states = states_of(self.plant, events, first)
+        if states is None:
+            return trouble("The page's own model takes these events for no run, so they aren't drawn.")
+        shown, deadline = [], time.monotonic() + MOST_SECONDS
+        for place, state in enumerate(states):
+            try:
+                said = self.checked(place, events, states, first, deadline)
+            except Disagreement as fault:
+                return "".join(shown) + trouble(f"Here the page stops. {fault}")
+            last = place == len(states) - 1
+            marks = marks_at_end if last and marks_at_end else self.marks(events, place, states)
+            shown.append(self.frame(events, place, states, marks, said)
+                         + (after_end if last else ""))
+        return "".join(shown)
+
+    def marks(self, events, place, states):
+        """What an event is about, and the hazard after it."""
+        at = hazard(self.plant, states[place])
+        where = at[1] if at else None
+        if not place:
+            return Marks([where], hazard=where)
+        word, number = events[place - 1]
+        if word in ("mark", "allocate", "cancel"):
+            route = self.plant.routes[number]
+            return Marks([], [route.source]).with_route(route)
+        if word == "lock":
+            return Marks([], [self.plant.routes[number].source])
+        if word == "sense":
+            section = self.plant.routes[number].path[states[place - 1].seen[number]]
+        elif word == "release":
+            section = self.plant.routes[number].path[states[place - 1].rel[number]]
+        elif word == "finish":
+            section = self.plant.routes[number].path[-1]
+        else:
+            section = number
+        return Marks([section, where], hazard=where)
+
+    def frame(self, events, place, states, marks, said):
+        """A frame: the event, what it does, what is in use, replay's answer, and the plan."""
+        plant, state = self.plant, states[place]
+        if place:
+            title = f"{place}. {event_line(plant, events[place - 1])}"
+            what = event_words(plant, states[place - 1], events[place - 1], state)
+        else:
+            title, what = "At first", "" if events else "The state."
+        words = [tag("span", text(title), class_="what"), text(what)]
+        at = hazard(plant, state)
+        if at:
+            words.append(tag("b", text(hazard_words(plant, at)), class_="bad"))
+        small = " · ".join(filter(None, [text(state_words(plant, state)),
+                                         f"irv replay: <code>{text(said)}</code>"]))
+        return tag("div", tag("p", " ".join(words)) + tag("p", small, class_="small")
+                   + self.drawing.frame(state, marks, title), class_="frame")
+
+
+def trouble(words):
+    """A plain word where the page can't go on."""
+    return tag("p", text(words), class_="own bad")
