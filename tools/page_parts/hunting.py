@@ -39,7 +39,7 @@ class Hunt:
             run = self.walk()
             if run is None or best is not None and len(run) > 6 * len(best):
                 continue
-            run = shortened(self.plant, run, end)
+            run = in_order(self.plant, shortened(self.plant, run, end))
             if best is None:
                 end = min(end, begin + 2 * (time.monotonic() - begin) + LONGER)
             if best is None or len(run) < len(best):
@@ -186,4 +186,21 @@ def shortened(plant, run, until):
             run = trial
             trial = shorter_by_groups(plant, run, until)
         run = shorter_by_pieces(plant, run, until)
+    return run
+
+
+def in_order(plant, run):
+    """The same events, easier to follow: a route is asked for just before it is allocated, and a train
+    comes in just before it moves, where that makes no difference."""
+    for place in reversed(range(len(run))):
+        word, number = run[place]
+        if word not in ("mark", "enter"):
+            continue
+        wanted = ("allocate" if word == "mark" else "head", number)
+        for later in range(place + 1, len(run)):
+            if run[later] == wanted:
+                trial = run[:place] + run[place + 1:later] + [run[place]] + run[later:]
+                if to_hazard(plant, trial) == trial:
+                    run = trial
+                break
     return run
