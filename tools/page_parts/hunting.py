@@ -13,17 +13,17 @@ from events import apply, hazard
 from state import ROUTE_WORDS, State
 
 MOST_EVENTS = 240       # of a run
-LONGER = 4              # seconds to look on for a shorter run
 MOVES = ("enter", "head", "throw", "settle")   # the events after which there may be a hazard
 NEXT = {"free": ("mark",), "marked": ("allocate",), "allocating": ("lock",), "locked": ("sense",),
         "occupied": ("release", "finish", "sense")}
 
 
 class Hunt:
-    """A hunt over a plant. `suspects` are routes that should be used often."""
+    """A hunt over a plant. `suspects` are routes that should be used often; `longer` is for how many
+    seconds it looks on for a shorter run than its first."""
 
-    def __init__(self, plant, seed=1, suspects=()):
-        self.plant = plant
+    def __init__(self, plant, seed=1, suspects=(), longer=4):
+        self.plant, self.longer = plant, longer
         self.random = random.Random(seed)
         self.suspects = [r for r in suspects if r is not None]
         self.runs = self.events = self.longest = 0
@@ -41,7 +41,7 @@ class Hunt:
                 continue
             run = in_order(self.plant, shortened(self.plant, run, end))
             if best is None:
-                end = min(end, begin + 2 * (time.monotonic() - begin) + LONGER)
+                end = min(end, begin + 2 * (time.monotonic() - begin) + self.longer)
             if best is None or len(run) < len(best):
                 best = run
         return best

@@ -21,7 +21,7 @@ def code(word):
     return tag("code", text(word))
 
 
-def table(head, rows):
+def table(head, rows, class_=None):
     """A table of texts; a cell that is a pair of a class and markup is taken as it is."""
     def cell(name, what):
         if isinstance(what, tuple):
@@ -29,4 +29,4 @@ def table(head, rows):
         return tag(name, text(what))
     lines = [tag("tr", "".join(cell("th", word) for word in head))] if head else []
     lines += [tag("tr", "".join(cell("td", word) for word in row)) for row in rows]
-    return tag("table", "\n".join(lines))
+    return tag("table", "\n".join(lines), class_=class_)

@@ -5,7 +5,7 @@ Each function of EXPLAINED takes a plant and the numbers of the places, and give
 tells what to mark in the plan.
 """
 
-from drawing import Marks
+from marks import Marks
 from plant import OPPOSITE, OTHER_LEG
 
 NEEDED = ("A plant that breaks it isn't one: nothing further is asked of it, and no verdict is to be "

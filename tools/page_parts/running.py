@@ -8,7 +8,7 @@ word.
 import time
 
 from asking import replay_line
-from drawing import Marks
+from marks import Marks
 from events import hazard
 from events import replayed as states_of
 from markup import tag, text
@@ -16,6 +16,10 @@ from state import event_line, run_text
 from wording import event_words, hazard_words, state_words
 
 MOST_SECONDS = 25       # for the answers about one run
+LEGEND = ("Orange, green and grey: sections whose lock is used, locked, free. Red and green boards are "
+          "closed and open. The leg to which a point doesn't lie is dashed; a point with a red dot "
+          "moves. Trains are violet where they run up, and blue where they run down. Yellow is what "
+          "the event is about.")
 
 
 class Disagreement(Exception):

@@ -8,7 +8,8 @@ h3{font-size:15px;margin:22px 0 4px}p{margin:6px 0;max-width:110ch}
 code,pre,.line{font:13px/1.4 ui-monospace,"DejaVu Sans Mono",monospace;overflow-wrap:anywhere}
 pre{background:#f1f3f5;padding:8px 10px;white-space:pre-wrap;margin:6px 0}
 table{border-collapse:collapse;margin:8px 0}td,th{border:1px solid #dee2e6;padding:3px 7px;
-  text-align:left;vertical-align:top;font-size:12.5px;overflow-wrap:anywhere}th{background:#f8f9fa}
+  text-align:left;vertical-align:top;font-size:12.5px;overflow-wrap:break-word}th{background:#f8f9fa}
+table.tight td,table.tight th{overflow-wrap:anywhere}ul.sum{margin:8px 0;padding-left:20px}
 .answer{background:#e7f5ff;border-left:4px solid #1971c2;padding:2px 8px;margin:6px 0;
   display:block;width:fit-content;max-width:100%}
 .own{background:#fff9db;border-left:4px solid #f08c00;padding:2px 8px;margin:6px 0}
@@ -34,5 +35,5 @@ use.b{color:#1864ab}use.open{color:#2b8a3e}use.closed{color:#c92a2a}
 .ah{fill:#3b2a94}.ah.down{fill:#064b58}
 .hz{fill:none;stroke:#c92a2a;stroke-width:3}
 details{margin:2px 0}summary{cursor:pointer}
-@media print{body{margin:0;max-width:none}details>*{display:block}.frame{break-inside:avoid}}
+@media print{body{margin:0;max-width:none}details::details-content{content-visibility:visible}}
 """

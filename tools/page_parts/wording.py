@@ -17,6 +17,11 @@ FAMILIES = {
     "V9": "the protecting boards of a locked route are closed"}
 
 
+def counted(number, word):
+    """A number of things."""
+    return f"{number} {word}{'' if number == 1 else 's'}"
+
+
 def hazard_words(plant, hazard):
     """A hazard as a sentence."""
     return HAZARDS[hazard[0]].format(plant.name(hazard[1]))

@@ -1,0 +1,82 @@
+"""The table of routes on the page, with what each route is good for."""
+
+import time
+
+from markup import table, tag, text
+from running import RunView
+from state import event_line
+from uses import uses
+
+USE_SECONDS = 8         # for the runs through each route
+LONGEST_CELL = 6000     # characters of a cell
+
+
+def routes_part(page, columns):
+    """The table of routes, and what each is good for."""
+    page.head("What each route is good for")
+    if not page.plant.routes:
+        page.add(tag("p", text("The table has no routes.")))
+        return
+    begin = time.monotonic()
+    if page.hunt.runs == 0:
+        page.hunt.for_hazard(min(2.0, page.wishes.hunt), 400)
+    found, left = uses(page.plant, page.hunt, USE_SECONDS)
+    view = RunView(page.program, columns, page.plant, page.drawing)
+    rows, good, asked = [], 0, 0
+    for r, route in enumerate(page.plant.routes):
+        run, said = found.get(r), ""
+        if run and time.monotonic() - begin < 1.5 * USE_SECONDS:
+            said = view.answer(run)
+            asked += 1
+            good += said == "no hazard"
+        use = use_cell(page.plant, run, said, r in found)
+        rows.append([str(r), route.name, *route_cells(route), use])
+    introduce(page, good, len(rows))
+    unasked = sum(run is not None for run in found.values()) - asked
+    if left or unasked:
+        page.own(f"Left out for want of time: runs for {left} routes, and answers of irv replay for "
+                 f"{unasked}.")
+    names = [one.name for one in (*page.plant.sections, *page.plant.boards, *page.plant.routes)]
+    tight = "tight" if max(map(len, names)) > 14 else None
+    page.add(table(["no.", "route", "from", "to", "path", "overlap", "points", "protected by",
+                    "conflicts", "a train uses it"], rows, tight))
+
+
+def introduce(page, good, count):
+    """What the table of routes shows, in words."""
+    page.summary.append(tag("b", text("Routes that a train can use: ")) + text(
+        f"{good} of {count}, by runs that irv replay answered"))
+    page.add(tag("p", text(
+        f"For {good} of {count} routes a run from the start was found in which one train uses "
+        "the route whole, from its being asked for to its being finished; irv replay answered "
+        "“no hazard” to each. The runs are the page's own. A route for which none is found may be "
+        "of no use: a table whose routes can't be used is safe.")))
+
+
+def route_cells(route):
+    """A route's columns."""
+    def cut(words):
+        line = " ".join(words)
+        return line if len(line) <= LONGEST_CELL else line[:LONGEST_CELL] + " … (left out)"
+
+    def positions(member):
+        return [one["point"] + ("+" if one["position"] == "plus" else "−")
+                for one in route.member.get(member, [])]
+    member = route.member
+    return [member["source"], member["destination"] or "out", cut(member["path"]),
+            cut(member["overlap"]), cut(positions("points")),
+            cut([*positions("protecting_points"), *member.get("protecting_boards", [])]),
+            cut(member["conflicts"])]
+
+
+def use_cell(plant, run, said, is_looked_at):
+    """The run that uses a route."""
+    if run is None:
+        return "bad" if is_looked_at else "", text("not found" if is_looked_at else "left out")
+    if not said:
+        return "", text("found, not answered by irv replay")
+    if said != "no hazard":
+        return "bad", text(f"irv replay: {said}")
+    events = "\n".join(event_line(plant, event) for event in run)
+    return "", tag("details", tag("summary", text(f"{len(run)} events; irv replay: {said}"))
+                   + tag("pre", text(events)))
