@@ -159,6 +159,12 @@ class Drawing:
         """The strip that has most of a name."""
         return max(self.strips, key=lambda strip: min(high, strip[0] + strip[2]) - max(low, strip[0]))
 
+    def is_torn(self):
+        """Whether some joint couldn't be drawn as one."""
+        return self.layout.is_cut or any(
+            not joint.is_aside() and self.layout.row(joint.low) != self.layout.row(joint.high)
+            for joint in self.layout.joints)
+
     # -- views
 
     def view(self, content, title):
@@ -281,5 +287,5 @@ def arrow(base, tip, direction):
     length = max((dx * dx + dy * dy) ** 0.5, 0.1)
     ux, uy = dx / length, dy / length
     bx, by = base[0] + ux * 2, base[1] + uy * 2
-    corners = [(bx + uy * 8, by - ux * 8), (bx + ux * 14, by + uy * 14), (bx - uy * 8, by + ux * 8)]
+    corners = [(bx + uy * 7, by - ux * 7), (bx + ux * 14, by + uy * 14), (bx - uy * 7, by + ux * 7)]
     return f'<path d="{line(corners)}z" class="ah {direction}"/>'

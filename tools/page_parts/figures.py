@@ -51,23 +51,37 @@ def toolchain():
     return said_by(["rt", "version"]) or "rt isn't on this machine"
 
 
+def version():
+    """The version of the sources, where they tell one."""
+    try:
+        return (TOP / "VERSION").read_text(encoding="utf-8").strip()
+    except OSError:
+        return None
+
+
 def premises():
     """The premises of docs/QUALIFICATION.md, each with its number; none where the page isn't there."""
     try:
-        lines = QUALIFICATION.read_text(encoding="utf-8").splitlines()
+        return premises_in(QUALIFICATION.read_text(encoding="utf-8"))
     except OSError:
         return []
+
+
+def premises_in(document):
+    """The numbered lines under the heading of the premises: of each its number, and what it says in
+    bold, or all that it says."""
     found, inside = [], False
-    for line in lines:
+    for line in document.splitlines():
         if line.startswith("#"):
             inside = "premise" in line.lower()
-        match = re.match(r"\s*(?:\|\s*)?\**(P?[0-9]+)[.\s*|]+(.*)", line)
-        if inside and match and match[2].strip(" |-"):
-            found.append((match[1], plain(match[2])))
+        match = re.match(r"([0-9]+)\.\s+(.*)", line)
+        if inside and match:
+            bold = re.match(r"\*\*(.+?)\*\*", match[2])
+            found.append((match[1], plain(bold[1] if bold else match[2])))
     return found
 
 
 def plain(line):
-    """A line of a document without its links and its stars."""
+    """A line of a document without its links and its signs."""
     line = re.sub(r"\[([^\]]*)\]\([^)]*\)", r"\1", line)
-    return line.replace("**", "").replace("`", "").strip(" |")
+    return line.replace("**", "").replace("`", "").strip()

@@ -42,7 +42,8 @@ class Joint:
 
 
 def make_joints(plant):
-    """The joints between sections, in the order of the sections and their ends."""
+    """The joints between sections, in the order of the sections and their ends; and whether some
+    were left out since they close a circle."""
     joints = {}
     for x, section in enumerate(plant.sections):
         for side, leg, name in section.ends:
@@ -55,7 +56,8 @@ def make_joints(plant):
                 joint.low_leg = joint.low_leg or leg
             else:
                 joint.high_leg = joint.high_leg or leg
-    return without_circles(len(plant.sections), list(joints.values()))
+    kept = without_circles(len(plant.sections), list(joints.values()))
+    return kept, len(kept) < len(joints)
 
 
 def without_circles(count, joints):
@@ -87,7 +89,7 @@ class Layout:
 
     def __init__(self, plant):
         self.plant = plant
-        self.joints = make_joints(plant)
+        self.joints, self.is_cut = make_joints(plant)
         self.at = [{} for _ in plant.sections]      # of each section: leg or side, and the joint
         self.place_joints()
         self.tracks = self.make_tracks()

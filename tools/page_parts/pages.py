@@ -100,6 +100,9 @@ class Page:
             f"{len(plant.boards)}; routes: {len(plant.routes)}.")))
         self.head("Track plan")
         self.add(self.drawing.plan())
+        if self.drawing.is_torn():
+            self.own("Sections that don't fit: a joint that no row fits is a dotted red line, and one "
+                     "that would close a circle is left out.")
         self.add(tag("p", text("Boards above a line stand for trains that run up, from left to right, "
                                "and those below it for trains that run down. The names of points are "
                                "slanted. The plan is drawn by the neighbours that the configuration "

@@ -6,6 +6,7 @@ from markup import table, tag, text
 from running import RunView
 from state import event_line
 from uses import uses
+from wording import counted
 
 USE_SECONDS = 8         # for the runs through each route
 LONGEST_CELL = 6000     # characters of a cell
@@ -20,7 +21,7 @@ def routes_part(page, columns):
     begin = time.monotonic()
     if page.hunt.runs == 0:
         page.hunt.for_hazard(min(2.0, page.wishes.hunt), 400)
-    found, left = uses(page.plant, page.hunt, USE_SECONDS)
+    found, is_all = uses(page.plant, page.hunt, USE_SECONDS)
     view = RunView(page.program, columns, page.plant, page.drawing)
     rows, good, asked = [], 0, 0
     for r, route in enumerate(page.plant.routes):
@@ -29,13 +30,13 @@ def routes_part(page, columns):
             said = view.answer(run)
             asked += 1
             good += said == "no hazard"
-        use = use_cell(page.plant, run, said, r in found)
+        use = use_cell(page.plant, run, said)
         rows.append([str(r), route.name, *route_cells(route), use])
     introduce(page, good, len(rows))
-    unasked = sum(run is not None for run in found.values()) - asked
-    if left or unasked:
-        page.own(f"Left out for want of time: runs for {left} routes, and answers of irv replay for "
-                 f"{unasked}.")
+    if not is_all or asked < len(found):
+        page.own(f"Left out for want of time: {'' if is_all else 'runs that use further routes, and '}"
+                 f"answers of irv replay about {counted(len(found) - asked, 'run')}.")
+        page.summary[-1] += text("; others were left out for want of time")
     names = [one.name for one in (*page.plant.sections, *page.plant.boards, *page.plant.routes)]
     tight = "tight" if max(map(len, names)) > 14 else None
     page.add(table(["no.", "route", "from", "to", "path", "overlap", "points", "protected by",
@@ -69,12 +70,12 @@ def route_cells(route):
             cut(member["conflicts"])]
 
 
-def use_cell(plant, run, said, is_looked_at):
+def use_cell(plant, run, said):
     """The run that uses a route."""
     if run is None:
-        return "bad" if is_looked_at else "", text("not found" if is_looked_at else "left out")
+        return "bad", text("not found")
     if not said:
-        return "", text("found, not answered by irv replay")
+        return "", text("found, and not answered by irv replay")
     if said != "no hazard":
         return "bad", text(f"irv replay: {said}")
     events = "\n".join(event_line(plant, event) for event in run)

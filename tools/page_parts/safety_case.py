@@ -15,8 +15,9 @@ def safety_part(page):
             ("certificate", cert),
             ("program", f"{page.wishes.program}: sha256 "
              f"{figures.sum_of_file(page.wishes.program)}"),
-            ("sources", figures.sources()), ("toolchain (rt version)", figures.toolchain())]
-    page.add(table([], [[name, ("", code(value))] for name, value in rows]))
+            ("version", figures.version()), ("sources", figures.sources()),
+            ("toolchain (rt version)", figures.toolchain())]
+    page.add(table([], [[name, ("", code(value))] for name, value in rows if value]))
     page.add(table(["call", "status", "first line"], [
         [("", code("irv " + " ".join(call.words))),
          "none" if call.status is None else str(call.status), ("", code(call.said))]

@@ -41,7 +41,7 @@ class Strips:
     def beside_signs(self, x, way):
         """A place moved on as far as it would go through a sign."""
         for sign in self.signs if way > 0 else reversed(self.signs):
-            if abs(sign - x) < 8:
+            if abs(sign - x) < 6.5:
                 x = sign + 8 * way
         return x
 

@@ -1,24 +1,37 @@
 """What each route is good for: a run from the start in which one train uses it whole.
 
-A train comes in at a border, and route after route is set before it, until the wanted one is set,
-used and finished. The fewest routes are tried first. Where that finds none, random runs may.
+A train comes in at a border and runs to the first board. From each board at which a train may stand
+so, by the shortest run that is known, each route that begins there is set, used and finished, which
+brings a train to the next board. A route that no train comes to in this way may be found used in the
+random runs of the hunt.
 """
 
+import heapq
 import time
 
 from events import apply, hazard
 from state import State
 
-MOST_CHAINS = 60        # tried for one route
 MOST_HEADS = 300        # sections that a train passes where no board stops it
 
 
 class Drive:
     """A run that is being made: one train, and routes before it."""
 
-    def __init__(self, plant):
-        self.plant, self.state, self.run = plant, State(plant), []
+    def __init__(self, plant, state=None, run=()):
+        self.plant, self.run = plant, list(run)
+        self.state = State(plant) if state is None else state.copy()
         self.is_good = True
+
+    def copy(self):
+        """The same, to be gone on with by itself."""
+        return Drive(self.plant, self.state, self.run)
+
+    @property
+    def board(self):
+        """The board at which the train stands, or None."""
+        direction, body = self.state.trains[0]
+        return self.plant.board_on.get((body[-1], direction))
 
     def do(self, word, number):
         """Does an event; the drive is no good where it isn't enabled or makes a hazard."""
@@ -68,64 +81,33 @@ class Drive:
         return self.do("finish", r)
 
 
-def chains(plant, r):
-    """Lists of routes by which a train may come in and use a route at their end, the shortest first;
-    each with the border."""
-    at_board = {}
-    for other, route in enumerate(plant.routes):
-        at_board.setdefault(route.destination, []).append(other)
-    entries = {}
-    for x, direction in plant.inward.items():
-        entries.setdefault(first_board(plant, x, direction), []).append(x)
-    queue = [[r]]
-    for chain in queue:
-        source = plant.routes[chain[0]].source
-        for x in entries.get(source, []):
-            yield x, chain
-        for other in at_board.get(source, []):
-            if other not in chain and len(queue) < 40 * MOST_CHAINS:
-                queue.append([other, *chain])
-
-
-def first_board(plant, x, direction):
-    """The board that stops a train that comes in at a border; None where there is none on its way
-    straight on."""
-    for _ in range(len(plant.sections)):
-        if (x, direction) in plant.board_on:
-            return plant.board_on[x, direction]
-        following = plant.nexts[x, direction]
-        if not following:
-            return None
-        x = following[0]
-    return None
-
-
-def use_of(plant, r):
-    """A run in which a train uses a route whole; None where none is found so."""
-    for number, (x, chain) in enumerate(chains(plant, r)):
-        if number == MOST_CHAINS:
-            break
+def arrivals(plant):
+    """Drives that bring a train in at each border, to where it stops or the network ends."""
+    for x in plant.inward:
         drive = Drive(plant)
         if drive.do("enter", x):
             drive.roll()
-            for one in chain:
-                if not (drive.is_good and drive.set(one) and drive.use(one)):
-                    break
-            else:
-                return drive.run
-    return None
+        if drive.is_good:
+            yield drive
 
 
 def uses(plant, hunt, seconds):
-    """A run for each route, or None; and how many routes weren't looked at in that time."""
+    """A run for each route that is found used; and whether there was time to look at all."""
     end = time.monotonic() + seconds
-    found, left = {}, 0
-    for r in range(len(plant.routes)):
-        if time.monotonic() > end:
-            left += 1
+    found, stood, count = {}, set(), 0
+    queue = [(len(drive.run), number, drive) for number, drive in enumerate(arrivals(plant))]
+    heapq.heapify(queue)
+    while queue and time.monotonic() < end:
+        drive = heapq.heappop(queue)[2]
+        if drive.board is None or drive.board in stood:
             continue
-        run = use_of(plant, r)
-        if run is None:
-            run = hunt.used.get(r)
-        found[r] = run
-    return found, left
+        stood.add(drive.board)
+        for r, route in enumerate(plant.routes):
+            if route.source != drive.board or r in found:
+                continue
+            further = drive.copy()
+            if further.set(r) and further.use(r):
+                found[r] = further.run
+                count += 1
+                heapq.heappush(queue, (len(further.run), -count, further))
+    return {**hunt.used, **found}, not queue
