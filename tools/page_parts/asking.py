@@ -1,5 +1,6 @@
 """Asks the proved program. What the page calls an answer comes from here, and from nowhere else."""
 
+import itertools
 import subprocess
 import tempfile
 import time
@@ -33,7 +34,7 @@ class Program:
     def __init__(self, file, given):
         self.file, self.given = str(file), given
         self.room = tempfile.TemporaryDirectory(prefix="irv-page-")
-        self.replays = 0
+        self.replays, self.numbers = 0, itertools.count()
 
     def ask(self, words, seconds):
         """Calls it, and waits so many seconds at most. A call that isn't waited for is ended."""
@@ -52,10 +53,12 @@ class Program:
 
     def replay(self, columns, run):
         """What it says of the text of a run."""
-        file = Path(self.room.name, "run")
+        file = Path(self.room.name, f"run{next(self.numbers)}")
         file.write_text(run, encoding="ascii")
         self.replays += 1
-        return self.ask(["replay", "--columns", columns, "--run", str(file)], REPLAY_SECONDS)
+        answer = self.ask(["replay", "--columns", columns, "--run", str(file)], REPLAY_SECONDS)
+        file.unlink()
+        return answer
 
 
 def replay_line(plant, hazard):

@@ -56,6 +56,11 @@ def shown_line(text, fault):
     return f"{'… ' if begin else ''}{before} ⟵ here: {after or 'the end of the line'}"
 
 
+def short(name):
+    """A text as it is shown, cut where it is long."""
+    return name if len(name) <= SHOWN else f"{name[:SHOWN // 2]}…"
+
+
 def kind_of(value):
     """What a value is, as JSON calls it."""
     if value is None:
@@ -88,7 +93,7 @@ def member_faults(value, members, what):
             yield f"{what} lacks the member {member}."
     for member in value:
         if member not in members:
-            yield f"{what} has a member {member}, which isn't one of its members " \
+            yield f"{what} has a member {short(member)}, which isn't one of its members " \
                   f"({', '.join(members)})."
     for member, kind in members.items():
         if member in value:
@@ -109,7 +114,7 @@ def value_faults(value, member, kind, what):
             yield from member_faults(entry, {"point": TEXT, "position": TEXT},
                                      f"an entry of {member} of {what}")
     elif member in CHOICES and value not in CHOICES[member]:
-        yield f"The member {member} of {what} is “{value}”, and should be " \
+        yield f"The member {member} of {what} is “{short(value)}”, and should be " \
               f"{' or '.join(CHOICES[member])}."
 
 
@@ -134,7 +139,7 @@ def name_faults(value, what):
         if not NAME.fullmatch(name):
             why = f"has {len(name)} characters" if len(name) > 32 or not name else \
                 "has the character “%s”" % next(c for c in name if not NAME.fullmatch(c))
-            yield (f"The name “{name}”, of {member} of {what}, {why}; a name has 1 to 32 of the "
+            yield (f"The name “{short(name)}”, of {member} of {what}, {why}; a name has 1 to 32 of the "
                    "characters A to Z, a to z, 0 to 9, _ and -.")
 
 
@@ -181,7 +186,7 @@ def entry_faults(rule, value, place):
     entry = value[list_][int(number)]
     what = "the section" if list_ == "sections" else "the route"
     if isinstance(entry, dict) and isinstance(entry.get("name"), str):
-        what += f" {entry['name']}"
+        what += f" {short(entry['name'])}"
     what += f" (number {number})"
     if list_ == "sections":
         members = POINT if isinstance(entry, dict) and entry.get("kind") == "point" else LINEAR

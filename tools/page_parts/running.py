@@ -1,29 +1,27 @@
 """A run, step by step in the plan: a frame for each event.
 
-Each prefix of the run is answered by `irv replay`, and so is the rest of the run from each state that
-is drawn. Where the page's own states don't agree with these answers, the run ends there with a plain
-word.
+Each prefix that is drawn is answered by `irv replay`, and so is the rest of the run from each state
+that is drawn. Where the page's own states don't agree with these answers, the run ends there with a
+plain word.
 """
 
 import time
+from concurrent.futures import ThreadPoolExecutor
 
 from asking import replay_line
-from marks import Marks
 from events import hazard
 from events import replayed as states_of
 from markup import tag, text
+from marks import Marks
 from state import event_line, run_text
 from wording import event_words, hazard_words, state_words
 
-MOST_SECONDS = 25       # for the answers about one run
+MOST_SECONDS = 12       # for the answers about one run
+AT_ONCE = 4             # calls
 LEGEND = ("Orange, green and grey: sections whose lock is used, locked, free. Red and green boards are "
           "closed and open. The leg to which a point doesn't lie is dashed; a point with a red dot "
           "moves. Trains are violet where they run up, and blue where they run down. Yellow is what "
           "the event is about.")
-
-
-class Disagreement(Exception):
-    """What the page draws isn't what `irv replay` answers."""
 
 
 class RunView:
@@ -37,20 +35,32 @@ class RunView:
         """What replay says of a run."""
         return self.program.replay(self.columns, run_text(self.plant, events, state)).said
 
-    def checked(self, place, events, states, first, deadline):
-        """Replay's answer on a prefix, once it agrees with what is drawn."""
-        own = replay_line(self.plant, hazard(self.plant, states[place]))
-        said = self.answer(events[:place], first)
+    def own(self, state):
+        """What the page's own model says of a run that ends in a state."""
+        return replay_line(self.plant, hazard(self.plant, state))
+
+    def asked(self, place, events, states, first):
+        """Replay's answer on a prefix of a run, and what doesn't agree with it, if anything."""
+        said, own = self.answer(events[:place], first), self.own(states[place])
         if said != own:
-            raise Disagreement(f"irv replay says “{said}” of the run up to here, and the page's own "
-                               f"model says “{own}”.")
-        if time.monotonic() < deadline:
-            rest, last = self.answer(events[place:], states[place]), \
-                replay_line(self.plant, hazard(self.plant, states[-1]))
-            if rest != last:
-                raise Disagreement(f"irv replay says “{rest}” of the rest of the run from the state "
-                                   f"that is drawn, and the page's own model says “{last}”.")
-        return said
+            return said, (f"irv replay says “{said}” of the run up to here, and the page's own model "
+                          f"says “{own}”.")
+        rest, last = self.answer(events[place:], states[place]), self.own(states[-1])
+        if rest != last:
+            return said, (f"irv replay says “{rest}” of the rest of the run from the state that is "
+                          f"drawn, and the page's own model says “{last}”.")
+        return said, None
+
+    def all_asked(self, events, states, first):
+        """Replay's answers by place, the last place first, as many as there is time for."""
+        places = [len(events), *range(len(events))]
+        answers, end = {}, time.monotonic() + MOST_SECONDS
+        with ThreadPoolExecutor(AT_ONCE) as pool:
+            while places and time.monotonic() < end:
+                some, places = places[:AT_ONCE], places[AT_ONCE:]
+                answers.update(zip(some, pool.map(
+                    lambda place: self.asked(place, events, states, first), some)))
+        return answers
 
     def frames(self, events, first=None, marks_at_end=None, after_end=""):
         """The frames of a run, from a state or from the start. The last one may have marks of its own
@@ -58,16 +68,20 @@ class RunView:
         states = states_of(self.plant, events, first)
         if states is None:
             return trouble("The page's own model takes these events for no run, so they aren't drawn.")
-        shown, deadline = [], time.monotonic() + MOST_SECONDS
-        for place, state in enumerate(states):
-            try:
-                said = self.checked(place, events, states, first, deadline)
-            except Disagreement as fault:
+        answers, shown = self.all_asked(events, states, first), []
+        for place in range(len(states)):
+            if place not in answers:
+                continue
+            said, fault = answers[place]
+            if fault:
                 return "".join(shown) + trouble(f"Here the page stops. {fault}")
             last = place == len(states) - 1
             marks = marks_at_end if last and marks_at_end else self.marks(events, place, states)
             shown.append(self.frame(events, place, states, marks, said)
                          + (after_end if last else ""))
+        if len(answers) < len(states):
+            shown.append(trouble(f"Left out for want of time: {len(states) - len(answers)} of "
+                                 f"{len(states)} frames, before the last one."))
         return "".join(shown)
 
     def marks(self, events, place, states):
