@@ -31,7 +31,8 @@ ROUTES = [
     "S3_S5 from S3 to S5 path PA U3 points PA=plus",
     "S3_S7 from S3 to S7 path PA L1 points PA=minus",
     "S5_U from S5 to . path PB PC U4 U5 points PB=plus PC=plus",
-    "S7_U from S7 to . path PB PC U4 U5 points PB=minus PC=plus",
+    "S7_U from S7 to . path PB PC U4 U5 points PB=minus PC=plus "
+    "protecting_points PD=plus",
     "S5_D from S5 to . path PB PC PD D4 D5 points PB=plus PC=minus PD=minus",
     "S7_D from S7 to . path PB PC PD D4 D5 points PB=minus PC=minus PD=minus",
     "S2_S4 from S2 to S4 path D4",
@@ -46,7 +47,7 @@ ROUTES = [
 def listed_conflicts(routes):
     """Gives each route the others with which it has a section as its conflicts."""
     def locked(one):
-        return {*one["path"], *one["overlap"]}
+        return {*one["path"], *one["overlap"], *(p["point"] for p in one["protecting_points"])}
     for one in routes:
         one["conflicts"] = [other["name"] for other in routes
                             if other is not one and locked(other) & locked(one)]

@@ -2,7 +2,7 @@
 of tests/cases, by file and name. The words are worked out by hand from the configuration."""
 
 SENTENCES = [
-    # file, case, line of check, words that have to stand in the sentences
+    # file, case, line of check, words that have to stand in the sentences; how many, if not one
     ("form", "one byte more than is read", "refused F1 document", ["4194305 bytes", "4194304"]),
     ("form", "a configuration without its last brace", "refused F2 document", ["Line 8, column 1"]),
     ("form", "version 3", "refused F4 document", ["3", "1 or 2"]),

@@ -59,15 +59,18 @@ def run_part(page, view, events, answer):
     states = states_of(page.plant, events)
     marks, after = None, ""
     if answer.status == 3 and states:
-        marks, after = broken_marks(page, states[-1])
+        marks, after = broken_marks(page, states[-1], answer.line.partition("family=")[2])
     page.add(view.frames(events, None, marks, after))
 
 
-def broken_marks(page, state):
-    """What of the invariant a state breaks: marks, and words."""
+def broken_marks(page, state, family=None):
+    """What of the invariant a state breaks: marks, and words. Where `irv` told the least family, the
+    page's own reading has to give the same."""
     what = broken(page.plant, state)
-    if not what:
-        return None, trouble("The page's own reading finds no broken family here.")
+    least = what[0][0] if what else "none"
+    if not what or family not in (None, least):
+        return None, trouble(f"The page's own reading doesn't agree: the least family that is broken "
+                             f"here is {least}.")
     marks = Marks(what[0][2], what[0][3])
     words = "".join(tag("p", tag("b", f"{family} is broken: {text(sentence)}.")
                         + text(f" It says that {FAMILIES[family]}."), class_="own")
