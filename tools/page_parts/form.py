@@ -137,8 +137,9 @@ def name_faults(value, what):
     """Names that aren't of the allowed characters."""
     for member, name in names_of(value):
         if not NAME.fullmatch(name):
-            why = f"has {len(name)} characters" if len(name) > 32 or not name else \
-                "has the character “%s”" % next(c for c in name if not NAME.fullmatch(c))
+            wrong = next((one for one in name if not NAME.fullmatch(one)), None)
+            why = f"has the character “{wrong}”" if wrong and len(name) <= 32 \
+                else f"has {len(name)} characters"
             yield (f"The name “{short(name)}”, of {member} of {what}, {why}; a name has 1 to 32 of the "
                    "characters A to Z, a to z, 0 to 9, _ and -.")
 

@@ -1,14 +1,16 @@
 """The table of routes on the page, with what each route is good for."""
 
 import time
+from concurrent.futures import ThreadPoolExecutor
 
 from markup import table, tag, text
-from running import RunView
+from running import AT_ONCE, RunView
 from state import event_line
 from uses import uses
 from wording import counted
 
-USE_SECONDS = 8         # for the runs through each route
+USE_SECONDS = 8         # to find the runs that use routes
+ANSWER_SECONDS = 8      # for the answers about them
 LONGEST_CELL = 6000     # characters of a cell
 
 
@@ -18,29 +20,33 @@ def routes_part(page, columns):
     if not page.plant.routes:
         page.add(tag("p", text("The table has no routes.")))
         return
-    begin = time.monotonic()
     if page.hunt.runs == 0:
         page.hunt.for_hazard(min(2.0, page.wishes.hunt), 400)
     found, is_all = uses(page.plant, page.hunt, USE_SECONDS)
-    view = RunView(page.program, columns, page.plant, page.drawing)
-    rows, good, asked = [], 0, 0
-    for r, route in enumerate(page.plant.routes):
-        run, said = found.get(r), ""
-        if run and time.monotonic() - begin < 1.5 * USE_SECONDS:
-            said = view.answer(run)
-            asked += 1
-            good += said == "no hazard"
-        use = use_cell(page.plant, run, said)
-        rows.append([str(r), route.name, *route_cells(route), use])
+    answers = answered(RunView(page.program, columns, page.plant, page.drawing), found)
+    good = sum(said == "no hazard" for said in answers.values())
+    rows = [[str(r), route.name, *route_cells(route),
+             use_cell(page.plant, found.get(r), answers.get(r))]
+            for r, route in enumerate(page.plant.routes)]
     introduce(page, good, len(rows))
-    if not is_all or asked < len(found):
+    if not is_all or len(answers) < len(found):
         page.own(f"Left out for want of time: {'' if is_all else 'runs that use further routes, and '}"
-                 f"answers of irv replay about {counted(len(found) - asked, 'run')}.")
+                 f"answers of irv replay about {counted(len(found) - len(answers), 'run')}.")
         page.summary[-1] += text("; others were left out for want of time")
     names = [one.name for one in (*page.plant.sections, *page.plant.boards, *page.plant.routes)]
     tight = "tight" if max(map(len, names)) > 14 else None
     page.add(table(["no.", "route", "from", "to", "path", "overlap", "points", "protected by",
                     "conflicts", "a train uses it"], rows, tight))
+
+
+def answered(view, found):
+    """Replay's answers to runs, as many as there is time for."""
+    answers, left, end = {}, sorted(found), time.monotonic() + ANSWER_SECONDS
+    with ThreadPoolExecutor(AT_ONCE) as pool:
+        while left and time.monotonic() < end:
+            some, left = left[:AT_ONCE], left[AT_ONCE:]
+            answers.update(zip(some, pool.map(lambda r: view.answer(found[r]), some)))
+    return answers
 
 
 def introduce(page, good, count):

@@ -300,31 +300,40 @@ def points_wrong(plant, i):
     positions = dict(route.points)
     for x in route.overlap:
         if plant.sections[x].is_point and x not in positions:
-            yield f"Route {route.name} has the point {plant.name(x)} in its overlap, and doesn't list it."
+            yield (f"Route {route.name} has the point {plant.name(x)} in its overlap, and doesn't list "
+                   "it.")
+
+
+def wrong_on_path(plant, route):
+    """The points of a route's path that it doesn't list as its path wants them, each with the positions
+    that would do."""
+    positions = dict(route.points)
+    way = [plant.boards[route.source].section, *route.path]
+    for place in range(1, len(way)):
+        x = way[place]
+        if plant.sections[x].is_point:
+            near = [way[place - 1], *way[place + 1:place + 2]]
+            needed = [leg for leg in ("plus", "minus") if plant.sections[x].neighbours[leg] in near]
+            if positions.get(x) not in needed:
+                yield x, needed
 
 
 def points_of_path_wrong(plant, route):
     """C3, as far as safety rests on it."""
     positions = dict(route.points)
-    way = [plant.boards[route.source].section, *route.path]
-    for place in range(1, len(way)):
-        x = way[place]
-        if not plant.sections[x].is_point:
-            continue
-        near = [way[place - 1], *way[place + 1:place + 2]]
-        needed = [leg for leg in ("plus", "minus") if plant.sections[x].neighbours[leg] in near]
+    for x, needed in wrong_on_path(plant, route):
         if x not in positions:
             should = f", in position {join(needed, 'or')}" if needed else ""
             yield (f"Route {route.name} goes over the point {plant.name(x)} and doesn't list it; it "
                    f"should{should}.")
-        elif positions[x] not in needed:
-            leg = positions[x]
-            leads = plant.name(plant.sections[x].neighbours[leg])
-            other = plant.name(plant.sections[x].neighbours[OTHER_LEG[leg]])
-            yield (f"Route {route.name} lists the point {plant.name(x)} in position {leg}, which "
-                   f"leads to {leads}; " + (f"its path goes over {other}: it should be "
-                                            f"{OTHER_LEG[leg]}." if needed else
-                                            f"its path goes neither over {leads} nor over {other}."))
+            continue
+        leg = positions[x]
+        leads = plant.name(plant.sections[x].neighbours[leg])
+        other = plant.name(plant.sections[x].neighbours[OTHER_LEG[leg]])
+        goes = f"its path goes over {other}: it should be {OTHER_LEG[leg]}." if needed \
+            else f"its path goes neither over {leads} nor over {other}."
+        yield (f"Route {route.name} lists the point {plant.name(x)} in position {leg}, which leads to "
+               f"{leads}; {goes}")
 
 
 def overlap_gap(plant, i):
@@ -431,7 +440,9 @@ def of_route(plant, rule, numbers):
         marked = passed or [route.path[-1]]
         return Marks(marked, boards + [plant.board_on.get((x, route.direction)) for x in marked])
     if rule == "C3":
-        return Marks([x for x in route.path + route.overlap if plant.sections[x].is_point], boards)
+        unlisted = [x for x in route.overlap if plant.sections[x].is_point
+                    and x not in dict(route.points)]
+        return Marks([x for x, _ in wrong_on_path(plant, route)] + unlisted, boards)
     if rule == "C6":
         return Marks(shared(plant, *numbers), boards + [plant.routes[numbers[1]].source])
     if rule in ("C5", "C8"):

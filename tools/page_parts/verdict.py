@@ -1,4 +1,4 @@
-"""The verdict on the page: what verify answers, the run that shows it, and a hunt where it shows none."""
+"""The verdict on the page: what verify answers, the run that shows it, and a hunt where none does."""
 
 import time
 from pathlib import Path
