@@ -58,6 +58,36 @@ SENTENCES = [
     ("columns", "C8 broken", "refused C8 routes[0] routes[1]",
      ["r2 begins at m4", "protecting board of route r1", "r1 doesn't list r2"])]
 
+# of faults in the line of `line.py`: a line of check, and all that the page says of it
+LINE_SENTENCES = [
+    ("facing-point-wrong", "refused C3 routes[2]",
+     "Route S3_S7 lists the point PA in position plus, which leads to U3; its path goes over L1: it "
+     "should be minus."),
+    ("point-not-listed", "refused C3 routes[3]",
+     "Route S5_U goes over the point PC and doesn't list it; it should, in position plus."),
+    ("path-skips-section", "refused C1 routes[12]",
+     "Route S8_X, which runs down, has U1 after PA in its path; after PA comes U2."),
+    ("path-begins-late", "refused C1 routes[1]",
+     "Route S3_S5, which runs up, begins at S3, on section U2, and its path goes on with U3; after U2 "
+     "comes PA."),
+    ("path-ends-early", "refused C2 routes[3]",
+     "The path of route S5_U ends in section U4, where no board stops a train that runs up: it goes on "
+     "to U5, which the route doesn't lock. The path should go on to a board, or out of the network."),
+    ("board-passed", "refused C2 routes[0]",
+     "The path of route S1_S5 goes on past the board S3 on section U2: a train stops there. A route "
+     "ends at the first board for its direction."),
+    ("overlap-does-not-follow", "refused C4 routes[0]",
+     "The overlap of route S1_S3, which runs up, has U3 after U2; after U2 comes PA."),
+    ("conflict-missing", "refused C6 routes[1] routes[11]",
+     "Routes S3_S5 and S4_S10 both lock U3, and S3_S5 doesn't list S4_S10 as a conflict; each should "
+     "list the other."),
+    ("border-without-board", "refused C7 sections[8]",
+     "The network ends at section U5, and there is no board for trains that come in there and run "
+     "down: nothing stops them. It should have a board for direction down."),
+    ("protection-not-listed", "refused C8 routes[0] routes[8]",
+     "Route S4_S6 begins at S4, which is a protecting board of route S1_S3, and S1_S3 doesn't list "
+     "S4_S6 as a conflict; it should.")]
+
 # refusals of which the page finds no words, since Python reads what `irv` refuses, or the other way
 WORDLESS = {"half of a surrogate pair", "arrays within one another, 128 levels",
             "a version 128 levels deep in all", "objects within one another, 128 levels", "version -0",

@@ -10,6 +10,7 @@ from uses import uses
 from wording import counted
 
 USE_SECONDS = 8         # to find the runs that use routes
+HUNT_SECONDS = 2        # for random runs through others
 ANSWER_SECONDS = 8      # for the answers about them
 LONGEST_CELL = 6000     # characters of a cell
 
@@ -20,9 +21,11 @@ def routes_part(page, columns):
     if not page.plant.routes:
         page.add(tag("p", text("The table has no routes.")))
         return
-    if page.hunt.runs == 0:
-        page.hunt.for_hazard(min(2.0, page.wishes.hunt), 400)
-    found, is_all = uses(page.plant, page.hunt, USE_SECONDS)
+    found, is_all = uses(page.plant, USE_SECONDS)
+    if len(found) < len(page.plant.routes):
+        if page.hunt.runs == 0:
+            page.hunt.for_hazard(min(HUNT_SECONDS, page.wishes.hunt))
+        found = {**page.hunt.used, **found}
     answers = answered(RunView(page.program, columns, page.plant, page.drawing), found)
     good = sum(said == "no hazard" for said in answers.values())
     rows = [[str(r), route.name, *route_cells(route),

@@ -2,8 +2,7 @@
 
 A train comes in at a border and runs to the first board. From each board at which a train may stand
 so, by the shortest run that is known, each route that begins there is set, used and finished, which
-brings a train to the next board. A route that no train comes to in this way may be found used in the
-random runs of the hunt.
+brings a train to the next board.
 """
 
 import heapq
@@ -91,7 +90,7 @@ def arrivals(plant):
             yield drive
 
 
-def uses(plant, hunt, seconds):
+def uses(plant, seconds):
     """A run for each route that is found used; and whether there was time to look at all."""
     end = time.monotonic() + seconds
     found, stood, count = {}, set(), 0
@@ -110,4 +109,4 @@ def uses(plant, hunt, seconds):
                 found[r] = further.run
                 count += 1
                 heapq.heappush(queue, (len(further.run), -count, further))
-    return {**hunt.used, **found}, not queue
+    return found, not queue
