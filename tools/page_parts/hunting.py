@@ -74,7 +74,8 @@ class Hunt:
             run.append(event)
             self.events += 1
             self.longest = max(self.longest, len(run))
-            if event[0] == "finish" and event[1] not in self.used:
+            if event[0] == "finish" and event[1] not in self.used \
+                    and is_use(plant, run, event[1]):
                 self.used[event[1]] = list(run)
             if event[0] in MOVES and hazard(plant, state):
                 return run
@@ -120,6 +121,23 @@ def to_hazard(plant, events):
             if event[0] in MOVES and hazard(plant, state):
                 return run
     return None
+
+
+def is_use(plant, run, r):
+    """Whether a run that ends with a route's finish shows one train that passed its source and was in
+    each section of its path when that was sensed."""
+    state, route, train = State(plant), plant.routes[r], None
+    source = plant.boards[route.source]
+    for word, number in run:
+        if (word, number) == ("mark", r):
+            train = None
+        if word == "head" and number == source.section and state.mode[r] == "locked":
+            way, body = next(train for train in state.trains if train[1][-1] == number)
+            train = body if way == source.direction else train
+        if (word, number) == ("sense", r) and route.path[state.seen[r]] not in (train or []):
+            return False
+        apply(plant, state, (word, number))
+    return train is not None
 
 
 def groups(plant, run):
