@@ -6,7 +6,8 @@ cross no track, and among equals tracks lie in the order of the configuration. T
 
 ROW = 68                # from row to row
 GAP = 34                # between tracks on one row
-MOST_TRIALS = 6000      # of the descent
+MOST_PAIRS = 1000       # of legs that may cross
+MOST_WORK = 1200000     # of the descent: tracks, legs and pairs of legs that are looked at
 
 
 class Rows:
@@ -20,16 +21,26 @@ class Rows:
             low, high = layout.ends_of(track)
             self.is_open.append((low.low is None, high.high is None))
         self.count = len(layout.tracks)
-        self.legs = []          # of each leg its tracks, and from where to where it reaches
-        for joint in layout.aside:
-            low, high = layout.track_of[joint.low], layout.track_of[joint.high]
-            self.legs.append((low, high, joint.x - ROW / 2, joint.x + ROW / 2))
+        self.legs = [self.leg(joint) for joint in layout.aside]
+        self.pairs = [(one, other) for place, one in enumerate(self.legs)
+                      for other in self.legs[:place]
+                      if min(one[3], other[3]) > max(one[2], other[2]) + 1]
+        if len(self.pairs) > MOST_PAIRS:
+            self.pairs = []     # so many can't be looked at; nobody could follow them either
         self.near = [[] for _ in range(self.count)]
         for low, high, *_ in self.legs:
             if low != high:
                 self.near[low].append(high)
                 self.near[high].append(low)
-        self.trials = 0
+        self.work, self.price = 0, self.count + 2 * len(self.legs) + len(self.pairs)
+
+    def leg(self, joint):
+        """A leg: the tracks at its lower and its higher end, and from where to where it reaches."""
+        layout = self.layout
+        low, high = layout.track_of[joint.low], layout.track_of[joint.high]
+        begin = layout.frog(joint.low) if joint.low_leg == "minus" else joint.x
+        end = layout.frog(joint.high) if joint.high_leg == "minus" else joint.x
+        return low, high, begin, max(begin, end)
 
     def choose(self):
         """The rows with the least cost that the descent finds."""
@@ -79,6 +90,7 @@ class Rows:
             for row in range(first + 1, last):
                 total += sum(12 for t in by_row.get(row, ())
                              if self.spans[t][0] < end and self.spans[t][1] > begin)
+        total += sum(8 for one, other in self.pairs if crosses(one, other, named))
         return total + 0.3 * (max(by_row) - min(by_row)) + self.order_cost(named)
 
     def order_cost(self, named):
@@ -95,7 +107,7 @@ class Rows:
         """Moves tracks one by one, to another row, into a new row, or with another track, as long as
         that costs less."""
         cost, moved = self.cost(rows), True
-        while moved and self.trials < MOST_TRIALS:
+        while moved and self.work < MOST_WORK:
             moved = False
             for t in range(self.count):
                 best = min(((self.tried(trial), trial) for trial in self.moves(rows, t)),
@@ -106,12 +118,12 @@ class Rows:
 
     def tried(self, rows):
         """The cost of a trial."""
-        self.trials += 1
+        self.work += self.price
         return self.cost(rows)
 
     def moves(self, rows, t):
         """Rows with one track elsewhere."""
-        if self.trials >= MOST_TRIALS:
+        if self.work >= MOST_WORK:
             return
         around = {rows[n] for n in self.near[t]} | {rows[t]}
         for at in range(min(around) - 2, max(around) + 3):
@@ -121,6 +133,22 @@ class Rows:
             swapped = list(rows)
             swapped[t], swapped[other] = rows[other], rows[t]
             yield swapped
+
+
+def height(leg, x, rows):
+    """The row of a leg at a place, between the rows of its ends."""
+    low, high, begin, end = leg
+    part = (x - begin) / (end - begin) if end > begin else 0.5
+    return rows[low] + (rows[high] - rows[low]) * part
+
+
+def crosses(one, other, rows):
+    """Whether two legs cross, where all their tracks have rows."""
+    if any(track not in rows for track in (*one[:2], *other[:2])):
+        return False
+    begin, end = max(one[2], other[2]), min(one[3], other[3])
+    return (height(one, begin, rows) - height(other, begin, rows)) \
+        * (height(one, end, rows) - height(other, end, rows)) < 0
 
 
 def ranks(rows):
