@@ -1,0 +1,66 @@
+"""Asks the proved program. What the page calls an answer comes from here, and from nowhere else."""
+
+import itertools
+import subprocess
+import tempfile
+import time
+from pathlib import Path
+
+REPLAY_SECONDS = 60
+
+
+class Answer:
+    """What a call said. `status` is None where it wasn't waited for, or where nothing could be
+    called; `trouble` then says which."""
+
+    def __init__(self, words, status, output, seconds, trouble=""):
+        self.words, self.status, self.output = words, status, output
+        self.seconds, self.trouble = seconds, trouble
+
+    @property
+    def line(self):
+        """The first line of the report."""
+        return self.output.partition("\n")[0]
+
+    @property
+    def said(self):
+        """The first line, or what came in its place."""
+        return self.line or self.trouble or f"nothing, with status {self.status}"
+
+
+class Program:
+    """The program over one configuration."""
+
+    def __init__(self, file, given):
+        self.file, self.given = str(file), given
+        self.room = tempfile.TemporaryDirectory(prefix="irv-page-")
+        self.replays, self.numbers = 0, itertools.count()
+
+    def ask(self, words, seconds):
+        """Calls it, and waits so many seconds at most. A call that isn't waited for is ended."""
+        begin = time.monotonic()
+        try:
+            done = subprocess.run([self.file, *words], input=self.given, capture_output=True,
+                                  timeout=seconds, check=False)
+        except subprocess.TimeoutExpired:
+            return Answer(words, None, "", time.monotonic() - begin,
+                          f"not waited for: no answer within {seconds:g} seconds")
+        except OSError as fault:
+            return Answer(words, None, "", 0.0, f"not called: {fault}")
+        errors = done.stderr.decode(errors="replace").strip()
+        return Answer(words, done.returncode, done.stdout.decode(errors="replace"),
+                      time.monotonic() - begin, errors)
+
+    def replay(self, columns, run):
+        """What it says of the text of a run."""
+        file = Path(self.room.name, f"run{next(self.numbers)}")
+        file.write_text(run, encoding="ascii")
+        self.replays += 1
+        answer = self.ask(["replay", "--columns", columns, "--run", str(file)], REPLAY_SECONDS)
+        file.unlink()
+        return answer
+
+
+def replay_line(plant, hazard):
+    """The line by which replay tells a hazard of the page's own model, or none."""
+    return "no hazard" if hazard is None else f"hazard {hazard[0]} {plant.name(hazard[1])}"

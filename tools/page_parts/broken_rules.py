@@ -1,0 +1,63 @@
+"""The broken rules on the page."""
+
+import form
+import rules
+from markup import code, tag, text
+from running import trouble
+from wording import counted
+
+PICTURED = 24           # broken rules with a picture
+WORDED = 600            # broken rules with a sentence
+
+
+def rules_part(page, answer, lines):
+    """The broken rules."""
+    page.head("Rules")
+    page.show(answer)
+    names = list(dict.fromkeys(line.split(" ")[1] for line in lines))
+    page.summary.append(tag("b", text("Rules: ")) + (
+        text(f"{counted(len(lines), 'rule')} broken, of {rules.join(names)}" if len(lines) > 1
+             else f"one rule broken, {names[0]}") if lines else text(answer.said)))
+    if answer.status == 0:
+        page.add(tag("p", text("No rule of the form, the network, the table and its columns is "
+                               "broken.")))
+    elif not lines:
+        page.add(trouble("That is no answer about the configuration, so the page ends here."))
+    elif lines[0].startswith("refused F"):
+        form_part(page, lines[0])
+    elif page.plant:
+        broken_part(page, lines)
+
+
+def form_part(page, line):
+    """What is wrong with the form."""
+    _, rule, place = line.split(" ")
+    sentences = form.faults(rule, place, page.given)
+    if not sentences:
+        page.own("The page finds no words for this; docs/FORMATS.md says what the rule asks for.")
+    for sentence in sentences[:PICTURED]:
+        page.add(tag("p", tag("b", text(sentence))))
+    page.add(tag("p", text("These words are the page's own. A configuration of another form isn't "
+                           "read, and nothing further is asked of it."), class_="small"))
+
+
+def broken_part(page, lines):
+    """The broken rules of the network, of the table or of its columns."""
+    page.add(tag("p", text(f"{len(lines)} rules are broken. Which and where, irv answered; the "
+                           "sentences and the pictures are the page's own."
+                           if len(lines) > 1 else
+                           "One rule is broken. Which and where, irv answered; the sentence and "
+                           "the picture are the page's own.")))
+    for number, line in enumerate(lines[:WORDED]):
+        rule, places = rules.read_line(line)
+        page.suspects += [i for kind, i in places if kind == "routes"]
+        sentences = rules.sentences(page.plant, rule, places)
+        words = tag("p", code(line)) + "".join(
+            tag("p", tag("b", text(sentence))) for sentence in sentences)
+        words += tag("p", text(rules.safety(page.plant, rule, places)), class_="small")
+        if number < PICTURED:
+            words += page.drawing.plan(rules.where(page.plant, rule, places), line)
+        page.add(tag("div", words, class_="broken"))
+    if len(lines) > PICTURED:
+        page.own(f"Left out: pictures of all but the first {PICTURED} broken rules"
+                 + (f", and words for all but the first {WORDED}." if len(lines) > WORDED else "."))

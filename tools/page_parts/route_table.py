@@ -1,0 +1,92 @@
+"""The table of routes on the page, with what each route is good for."""
+
+import time
+from concurrent.futures import ThreadPoolExecutor
+
+from markup import table, tag, text
+from running import AT_ONCE, RunView
+from state import event_line
+from uses import uses
+from wording import counted
+
+USE_SECONDS = 8         # to find the runs that use routes
+HUNT_SECONDS = 2        # for random runs through others
+ANSWER_SECONDS = 8      # for the answers about them
+LONGEST_CELL = 6000     # characters of a cell
+
+
+def routes_part(page, columns):
+    """The table of routes, and what each is good for."""
+    page.head("What each route is good for")
+    if not page.plant.routes:
+        page.add(tag("p", text("The table has no routes.")))
+        return
+    found, is_all = uses(page.plant, USE_SECONDS)
+    if len(found) < len(page.plant.routes):
+        if page.hunt.runs == 0:
+            page.hunt.for_hazard(min(HUNT_SECONDS, page.wishes.hunt))
+        found = {**page.hunt.used, **found}
+    answers = answered(RunView(page.program, columns, page.plant, page.drawing), found)
+    good = sum(said == "no hazard" for said in answers.values())
+    rows = [[str(r), route.name, *route_cells(route),
+             use_cell(page.plant, found.get(r), answers.get(r))]
+            for r, route in enumerate(page.plant.routes)]
+    introduce(page, good, len(rows))
+    if not is_all or len(answers) < len(found):
+        page.own(f"Left out for want of time: {'' if is_all else 'runs that use further routes, and '}"
+                 f"answers of irv replay about {counted(len(found) - len(answers), 'run')}.")
+        page.summary[-1] += text("; others were left out for want of time")
+    names = [one.name for one in (*page.plant.sections, *page.plant.boards, *page.plant.routes)]
+    tight = "tight" if max(map(len, names)) > 14 else None
+    page.add(table(["no.", "route", "from", "to", "path", "overlap", "points", "protected by",
+                    "conflicts", "a train uses it"], rows, tight))
+
+
+def answered(view, found):
+    """Replay's answers to runs, as many as there is time for."""
+    answers, left, end = {}, sorted(found), time.monotonic() + ANSWER_SECONDS
+    with ThreadPoolExecutor(AT_ONCE) as pool:
+        while left and time.monotonic() < end:
+            some, left = left[:AT_ONCE], left[AT_ONCE:]
+            answers.update(zip(some, pool.map(lambda r: view.answer(found[r]), some)))
+    return answers
+
+
+def introduce(page, good, count):
+    """What the table of routes shows, in words."""
+    page.summary.append(tag("b", text("Routes that a train can use: ")) + text(
+        f"{good} of {count}, by runs that irv replay answered"))
+    page.add(tag("p", text(
+        f"For {good} of {count} routes a run from the start was found in which one train uses "
+        "the route whole, from its being asked for to its being finished; irv replay answered "
+        "“no hazard” to each. The runs are the page's own. A route for which none is found may be "
+        "of no use: a table whose routes can't be used is safe.")))
+
+
+def route_cells(route):
+    """A route's columns."""
+    def cut(words):
+        line = " ".join(words)
+        return line if len(line) <= LONGEST_CELL else line[:LONGEST_CELL] + " … (left out)"
+
+    def positions(member):
+        return [one["point"] + ("+" if one["position"] == "plus" else "−")
+                for one in route.member.get(member, [])]
+    member = route.member
+    return [member["source"], member["destination"] or "out", cut(member["path"]),
+            cut(member["overlap"]), cut(positions("points")),
+            cut([*positions("protecting_points"), *member.get("protecting_boards", [])]),
+            cut(member["conflicts"])]
+
+
+def use_cell(plant, run, said):
+    """The run that uses a route."""
+    if run is None:
+        return "bad", text("not found")
+    if not said:
+        return "", text("found, and not answered by irv replay")
+    if said != "no hazard":
+        return "bad", text(f"irv replay: {said}")
+    events = "\n".join(event_line(plant, event) for event in run)
+    return "", tag("details", tag("summary", text(f"{len(run)} events; irv replay: {said}"))
+                   + tag("pre", text(events)))

@@ -1,0 +1,130 @@
+"""The verdict on the page: what verify answers, the run that shows it, and a hunt where none does."""
+
+import time
+from pathlib import Path
+
+from marks import Marks
+from events import apply, hazard
+from events import replayed as states_of
+from families import broken
+from markup import code, tag, text
+from running import LEGEND, RunView, trouble
+from shrinking import shrunk
+from state import read_run, run_text
+from wishes import without
+from wording import FAMILIES, counted, hazard_words, verdict_words
+
+
+def verdict_part(page, columns, is_forced):
+    """The verdict, and the run that shows it or one that was hunted."""
+    page.head("Verdict")
+    if is_forced and page.wishes.columns == "strict":
+        page.add(tag("p", text("Under strict columns verify refuses this table, by the rules above. "
+                               "What follows is asked under free columns, so that one sees what "
+                               "the table does.")))
+    answer = ask_verify(page, columns)
+    page.line = answer.said
+    page.show(answer)
+    page.summary.append(tag("b", text("Verdict: ")) + code(answer.said)
+                        + (text(", under free columns") if is_forced else ""))
+    page.add(tag("p", text(verdict_words(answer))))
+    if answer.status in (0, 4):
+        page.add(tag("p", f"Its certificate is in {code(page.wishes.cert)}."))
+    view = RunView(page.program, columns, page.plant, page.drawing)
+    run = answer.output.partition("\n")[2]
+    if answer.status in (1, 2, 3) and run.startswith("run 1"):
+        state, events = read_run(page.plant, run)
+        if answer.status == 2:
+            not_inductive_part(page, view, state, events)
+        else:
+            run_part(page, view, events, answer)
+    if answer.status in (None, 2, 3, 4):
+        hunt_part(page, view)
+
+
+def ask_verify(page, columns):
+    """Asks verify, with the words that were given and a file for its certificate."""
+    cert = Path(page.wishes.cert)
+    words = without(without(page.wishes.words, "--columns"), "--cert")
+    was_there = cert.exists()
+    answer = page.ask(["verify", "--columns", columns, *words, "--cert", str(cert)], page.wishes.wait)
+    if answer.status is None and not was_there:
+        cert.unlink(missing_ok=True)        # what was written of it, if anything
+    return answer
+
+
+def run_part(page, view, events, answer):
+    """The run that verify found."""
+    page.add(tag("h3", text("How it comes about")), tag("p", text(LEGEND), class_="small"))
+    states = states_of(page.plant, events)
+    marks, after = None, ""
+    if answer.status == 3 and states:
+        marks, after = broken_marks(page, states[-1], answer.line.partition("family=")[2])
+    page.add(view.frames(events, None, marks, after))
+
+
+def broken_marks(page, state, family=None):
+    """What of the invariant a state breaks: marks, and words. Where `irv` told the least family, the
+    page's own reading has to give the same."""
+    what = broken(page.plant, state)
+    least = what[0][0] if what else "none"
+    if not what or family not in (None, least):
+        return None, trouble(f"The page's own reading doesn't agree: the least family that is broken "
+                             f"here is {least}.")
+    marks = Marks(what[0][2], what[0][3])
+    words = "".join(tag("p", tag("b", f"{family} is broken: {text(sentence)}.")
+                        + text(f" It says that {FAMILIES[family]}."), class_="own")
+                    for family, sentence, _, _ in what[:4])
+    return marks, words
+
+
+def not_inductive_part(page, view, first, events):
+    """The event that leads out of the invariant, from a state with all left out that can be."""
+    page.add(tag("h3", text("The event that leads out of the invariant")))
+    states = states_of(page.plant, events, first)
+    state = shrunk(page.plant, states[-2], events[-1]) if states else None
+    if state is None:
+        page.add(trouble("The page's own reading of the invariant doesn't agree with this verdict, "
+                         "so no state is shown."))
+        return
+    used = sum(mode != "free" for mode in states[-2].mode)
+    left = sum(mode != "free" for mode in state.mode)
+    page.own(f"Not a fault that was reached. Of verify's run the page shows the last event, from a "
+             f"state with all left out that isn't needed for it: {counted(len(state.trains), 'train')} "
+             f"and {counted(left, 'route')} in use are left of {len(states[-2].trains)} and "
+             f"{used}. That the first state meets the invariant, and which family the second one "
+             "breaks, is the page's own reading of it; that the event leads from the one to the "
+             "other, irv replay answered.")
+    after = state.copy()
+    apply(page.plant, after, events[-1])
+    marks, words = (None, "") if hazard(page.plant, after) else broken_marks(page, after)
+    page.add(tag("p", text(LEGEND), class_="small"))
+    page.add(view.frames(events[-1:], state, marks, words))
+
+
+def hunt_part(page, view):
+    """A run to a hazard, by random runs."""
+    page.add(tag("h3", text("A hunt for a run from the start to a hazard")))
+    if not page.wishes.hunt:
+        page.own("No hunt was asked for.")
+        return
+    begin = time.monotonic()
+    run = page.hunt.for_hazard(page.wishes.hunt)
+    seconds = time.monotonic() - begin
+    hunted = (f"{page.hunt.runs} random runs of up to {page.hunt.longest} events, "
+              f"{page.hunt.events} events in all, {seconds:.0f} s")
+    if run is None:
+        page.own(f"None found in {hunted}. That isn't an answer: it doesn't show that there is "
+                 "none.")
+        return
+    said = view.answer(run)
+    at = hazard(page.plant, states_of(page.plant, run)[-1])
+    page.summary.append(tag("b", text(f"A run of {len(run)} events from the start to a hazard: "))
+                        + text(f"{hazard_words(page.plant, at)} It was found by the page, and irv "
+                               "replay answers ") + code(said))
+    page.own(f"A run of {len(run)} events was found, by {hunted}, and shortened. It needn't be the "
+             "shortest. It is the page's own; what irv replay says of it stands beside each step, "
+             f"and of the whole: {said}.")
+    page.add(tag("p", text(LEGEND), class_="small"), view.frames(run))
+    page.add(tag("p", text("The run, for irv replay:"), class_="small"),
+             tag("pre", text(run_text(page.plant, run))))
