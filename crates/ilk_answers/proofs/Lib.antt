@@ -1,2 +1,3 @@
 pub mod Checked
 pub mod Written
+pub mod Strict

@@ -7,3 +7,4 @@ pub mod Answer
 pub mod Reader
 pub mod Reply
 pub mod Writable
+pub mod Strict

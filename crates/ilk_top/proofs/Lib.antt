@@ -2,3 +2,4 @@ pub mod Ends
 pub mod Fed
 pub mod Joined
 pub mod Poured
+pub mod Strict

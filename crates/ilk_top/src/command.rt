@@ -2,6 +2,7 @@ ghost use Rattle.std.specs.Prelude.{◌≡◌, ◌≢◌, IfOk, IsTrue, Err, Som
 ghost use Rattle.ilk_answers.specs.Answer.{IsAnswerTo};
 ghost use Rattle.ilk_answers.specs.Reply.{IsPlanned};
 ghost use Rattle.ilk_answers.specs.Status.{came_to_writing, is_reply};
+ghost use Rattle.ilk_answers.specs.Strict.{IsStrictlyRight};
 ghost use Rattle.ilk_top.specs.Handled.{Handled, SinksHandled, SourcesHandled};
 ghost use Rattle.ilk_top.specs.Outside.{Tells};
 ghost use Rattle.ilk_words.specs.Limits.{has_option_limits};
@@ -25,13 +26,17 @@ fn command_reply<C: Source, D: Source>(
 ) -> Result<Reply, NoReply>
     requires { IsTrue (has_option_limits command.now) }
     ensures reply { IfOk result (IsAnswerTo (Some command.now) (C.left conf.old) (D.left extra.old)) }
+    ensures strict { IfOk result (IsStrictlyRight (Some command.now) (C.left conf.old)) }
     ensures planned { IfOk result (IsPlanned (plan_of command.now)) }
     ensures handled { SourcesHandled C.left C.faults D.left D.faults (plan_of command.now) (result ≡ Err NoReply.ReadFault) (is_ok result) conf.old conf.new extra.old extra.new }
 {
     // every command reads a configuration
     let stages = command.plan().stages.unwrap();
     match read_plant(alloc, stages, conf)? {
-        Ok(plant) => plant_reply(alloc, command, &plant, extra),
+        Ok(plant) => {
+            plant.is_sound();
+            plant_reply(alloc, command, &plant, extra)
+        }
         Err(refusals) => Ok(refuse(alloc, command, &refusals)?),
     }
 }
@@ -69,6 +74,7 @@ pub fn perform<C: Source, D: Source, O: Sink, L: Sink>(
 ) -> Status
     requires { IsTrue (has_option_limits command.now) }
     ensures answer { Tells (IsAnswerTo (Some command.now) (C.left conf.old) (D.left extra.old)) L.written L.faults O.written O.faults result cert.old cert.new out.old out.new }
+    ensures strict { Tells (IsStrictlyRight (Some command.now) (C.left conf.old)) L.written L.faults O.written O.faults result cert.old cert.new out.old out.new }
     ensures handled { Handled C.left C.faults D.left D.faults O.faults L.faults (plan_of command.now) result conf.old conf.new extra.old extra.new out.old out.new cert.old cert.new }
     ensures no_usage { result ≢ Status.Usage }
 {

@@ -1,14 +1,16 @@
-ghost use Rattle.std.specs.Prelude.{◌≡◌, ◌≢◌, ◌⊎◌, ◌↔◌, Some, None, true, false, map, string_bytes};
+ghost use Rattle.std.specs.Prelude.{ℕ, ◌≡◌, ◌≢◌, ◌⊎◌, ◌↔◌, Some, None, IfSome, List, true, false, map, string_bytes};
 ghost use Rattle.ilk_answers.specs.Answer.{IsAnswerTo, comes_to_extra, conf_limit, plan_asked};
 ghost use Rattle.ilk_answers.specs.Status.{came_to_writing};
+ghost use Rattle.ilk_answers.specs.Strict.{IsCleanAndSafe, IsCleanFor, SaysSafeAtOneOrSpent};
 ghost use Rattle.ilk_io.specs.Faults.{RoseByOne};
+ghost use Rattle.ilk_plant.specs.Plant.{PlantLists};
 ghost use Rattle.ilk_top.specs.Outside.{ReadByPlan, RisesOnlyAt, Tells};
 ghost use Rattle.ilk_words.specs.Words.{command_of};
 
 use crate::command::perform;
 use ilk_answers::Status;
 use ilk_io::{Sink, Source};
-use ilk_words::read_words;
+use ilk_words::{Columns, Command, read_words};
 use std::alloc::Global;
 
 /// Does what the words of the command line ask, the program's name first: reads the configuration
@@ -28,6 +30,16 @@ pub fn run<C: Source, D: Source, O: Sink, L: Sink>(
     // the answer, where the sources that are read tell what is left: its status, its whole certificate and its whole report; after a write fault, which exactly one call of one sink met, these up to the fault
     ensures answer { let asked = command_of (map string_bytes words.now.items) in
         Tells (IsAnswerTo asked (C.left conf.old) (D.left extra.old)) L.written L.faults O.written O.faults result cert.old cert.new out.old out.new }
+
+    // check under strict columns is Good only where the configuration breaks no rule and is safe for ever: each run from the start, of whatever length, ends in a state that meets the invariant
+    ensures strict_check { let asked = command_of (map string_bytes words.now.items) in
+        asked ≡ Some (Command.Check Columns.Strict) → result ≡ Status.Good → IfSome (C.left conf.old) IsCleanAndSafe }
+
+    // verify under strict columns of a configuration that breaks no rule answers Good, with `safe k=1` and the certificate for that, or Spent, unless a source or sink failed or memory was wanting; after a write fault what was written is of such an answer
+    ensures strict_verify { let asked = command_of (map string_bytes words.now.items) in
+        (depth conflicts : ℕ) (name : List ℕ) (bytes : List ℕ) (p : PlantLists)
+        → asked ≡ Some (Command.Verify Columns.Strict depth conflicts name) → C.left conf.old ≡ Some bytes → IsCleanFor bytes p
+        → Tells (SaysSafeAtOneOrSpent p depth conflicts) L.written L.faults O.written O.faults result cert.old cert.new out.old out.new }
 
     // with a read fault exactly one call of one source failed, so that nothing is called again after it; a count that rose is told as a fault
     ensures read_fault { result ≡ Status.ReadFault

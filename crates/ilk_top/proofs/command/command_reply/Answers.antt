@@ -1,10 +1,12 @@
-use Rattle.std.proofs.Common.{◌≡◌, true, Some, Ok, IfSome, Result, ap, subst, sym, is_ok, ◌∙◌}
+use Rattle.std.proofs.Common.{◌≡◌, true, Some, Ok, Err, IfSome, Result, ap, subst, sym, is_ok, ◌∙◌}
 use Rattle.ilk_answers.specs.Answer.{plant_of}
 use Rattle.ilk_answers.specs.declared.refusals.Refusals.{Refusals}
+use Rattle.ilk_answers.proofs.Strict.{strictly-right}
 use Rattle.ilk_plant.specs.Plant.{PlantLists}
 use Rattle.ilk_words.specs.Plan.{plan_of}
 use Rattle.ilk_words.specs.declared.plan.Plan.{Plan}
 use Rattle.ilk_top.proofs.Joined.{answer-told, comes-maybe, comes-not, conf-first, read-needed, rises-not, untouched}
+use Rattle.ilk_top.specs.declared.no_reply.NoReply.{NoReply}
 use Rattle.ilk_top.proofs.command.command_reply.Goals as goal
 
 pub returns-in-Ok-clause-reply : goal.returns-in-Ok-clause-reply
@@ -12,6 +14,12 @@ returns-in-Ok-clause-reply g c =
     let planned : (plan_of c.args.command.now).stages ≡ Some c.unwrap-stages.result = sym (ap (λ (p : Plan). p.stages) c.plan.ensures.plan) ∙ c.unwrap-stages.ensures in
     let Found : Result PlantLists Refusals → Type 0 = λ found. IfSome (g.C.Source.left c.args.conf.now) (λ x. found ≡ plant_of c.unwrap-stages.result x) in
     answer-told c.args.command.now c.unwrap-stages.result (g.C.Source.left c.args.conf.now) (g.D.Source.left c.args.extra.now) (Ok c.in-Ok.plant) c.plant_reply.result planned (subst Found c.in-Ok.is c.in_ok-plant.ensures.found) c.plant_reply.ensures.reply
+
+pub returns-in-Ok-clause-strict : goal.returns-in-Ok-clause-strict
+returns-in-Ok-clause-strict g c =
+    let planned : (plan_of c.args.command.now).stages ≡ Some c.unwrap-stages.result = sym (ap (λ (p : Plan). p.stages) c.plan.ensures.plan) ∙ c.unwrap-stages.ensures in
+    let Found : Result PlantLists Refusals → Type 0 = λ found. IfSome (g.C.Source.left c.args.conf.now) (λ x. found ≡ plant_of c.unwrap-stages.result x) in
+    strictly-right c.args.command.now c.unwrap-stages.result (g.C.Source.left c.args.conf.now) (g.D.Source.left c.args.extra.now) (Ok c.in-Ok.plant) c.plant_reply.result planned c.requires (subst Found c.in-Ok.is c.in_ok-plant.ensures.found) c.is_sound.ensures c.plant_reply.ensures.reply
 
 pub returns-in-Ok-clause-handled : goal.returns-in-Ok-clause-handled
 returns-in-Ok-clause-handled g c =
@@ -25,3 +33,9 @@ returns-in_ok-refuse-in-Err-clause-handled g c =
     let planned : (plan_of c.args.command.now).stages ≡ Some c.unwrap-stages.result = sym (ap (λ (p : Plan). p.stages) c.plan.ensures.plan) ∙ c.unwrap-stages.ensures in
     let Found : Result PlantLists Refusals → Type 0 = λ found. IfSome (g.C.Source.left c.args.conf.now) (λ x. found ≡ plant_of c.unwrap-stages.result x) in
     conf-first _ _ g.D.Source.left g.D.Source.faults (plan_of c.args.command.now) c.unwrap-stages.result _ _ planned _ _ true _ _ (λ e. cc) c.in_ok-plant.ensures.handled (untouched g.D.Source.left _ _ true c.args.extra.now (λ e. comes-not (plan_of c.args.command.now) c.unwrap-stages.result (g.C.Source.left c.args.conf.now) c.in-Err.refusals planned (subst Found c.in-Err.is c.in_ok-plant.ensures.found))) (λ f. cc) (rises-not _ _)
+
+pub returns-in_ok-refuse-in-Err-clause-strict : goal.returns-in_ok-refuse-in-Err-clause-strict
+returns-in_ok-refuse-in-Err-clause-strict g c =
+    let planned : (plan_of c.args.command.now).stages ≡ Some c.unwrap-stages.result = sym (ap (λ (p : Plan). p.stages) c.plan.ensures.plan) ∙ c.unwrap-stages.ensures in
+    let Found : Result PlantLists Refusals → Type 0 = λ found. IfSome (g.C.Source.left c.args.conf.now) (λ x. found ≡ plant_of c.unwrap-stages.result x) in
+    strictly-right {NoReply} c.args.command.now c.unwrap-stages.result (g.C.Source.left c.args.conf.now) (g.D.Source.left c.args.extra.now) (Err c.in-Err.refusals) (Ok c.in_ok-refuse-in-Err.field-0) planned c.requires (subst Found c.in-Err.is c.in_ok-plant.ensures.found) tt c.in_ok-refuse-in-Err.ensures.reply

@@ -1,0 +1,122 @@
+-- Under strict columns a configuration that breaks no rule is safe for ever, so check is good only for such ones, and verify
+-- says `safe k=1` of them, or that all conflicts are spent.
+use Rattle.std.proofs.Common.{◌≡◌, ◌⊎◌, inl, inr, ℕ, ◌<◌, Bool, true, false, ◌&&◌, if◌then◌else◌, Option, Some, None, IfOk, IfSome, IsTrue, Result, Ok, Err, List, [], ◌∷◌, ◌++◌, length, nat_le, nat_lt, refl, sym, ap, ◌∙◌, subst, arith}
+use Rattle.std.proofs.lemmas.Bool.{leb-true}
+use Rattle.std.proofs.lemmas.Option.{same_Some}
+use Rattle.ilk_plant.specs.ColumnRules.{column_rules_broken}
+use Rattle.ilk_plant.specs.Draft.{numbered}
+use Rattle.ilk_plant.specs.NetworkRules.{network_rules_broken}
+use Rattle.ilk_plant.specs.Plant.{IsPlant, PlantLists}
+use Rattle.ilk_plant.specs.TableRules.{table_rules_broken}
+use Rattle.ilk_plant.specs.declared.broken.Broken.{Broken}
+use Rattle.ilk_plant.specs.declared.draft.NetDraft.{NetDraft}
+use Rattle.ilk_plant.specs.declared.draft.TableDraft.{TableDraft}
+use Rattle.ilk_net_read.specs.Fault.{broken}
+use Rattle.ilk_net_read.specs.declared.fault.Form.TheVariants.{F1}
+use Rattle.ilk_net_read.specs.declared.fault.FormFault.{FormFault}
+use Rattle.ilk_net_read.specs.declared.fault.Place.TheVariants.{Document}
+use Rattle.ilk_table_read.specs.Table.{drafts_of}
+use Rattle.ilk_engine.specs.CertificateOf.{IsCertificateOf}
+use Rattle.ilk_engine.proofs.Strict.{clean-forever, clean-verdict}
+use Rattle.ilk_words.specs.Limits.{has_option_limits}
+use Rattle.ilk_words.specs.Plan.{plan_of}
+use Rattle.ilk_words.specs.declared.command.Columns.TheVariants.{Strict}
+use Rattle.ilk_words.specs.declared.command.Command.{Command}
+use Rattle.ilk_words.specs.declared.command.Command.TheVariants.{Check, Verify}
+use Rattle.ilk_words.specs.declared.lengths.TheConstants.{MAX_CONFIGURATION}
+use Rattle.ilk_words.specs.declared.limits.TheConstants.{MAX_DEPTH, MAX_SEARCH_CONFLICTS}
+use Rattle.ilk_words.specs.declared.plan.Stages.{Stages}
+use Rattle.ilk_words.specs.declared.plan.Stages.TheVariants.{All}
+use Rattle.ilk_answers.specs.Answer.{AnswersFound, form_refused, or_refused, plant_of, plant_of_drafts, refusals_of}
+use Rattle.ilk_answers.specs.Stages.{columns_broken, or_later, rules_broken}
+use Rattle.ilk_answers.specs.Strict.{IsCleanAndSafe, IsCleanFor, IsStrictlyRight, SaysSafeAtOneOrSpent}
+use Rattle.ilk_answers.specs.Verdicts.{TellsVerdict, verdict_line, verdict_run, verdict_status}
+use Rattle.ilk_answers.specs.declared.refusals.Refusals.{Refusals}
+use Rattle.ilk_answers.specs.declared.reply.Reply.{Reply}
+use Rattle.ilk_answers.specs.declared.status.Status.TheVariants.{Good, Refused as IsRefused}
+use Rattle.ilk_answers.proofs.Checked.{none-broken, not-refused}
+
+-- where two stages find nothing the later one finds nothing
+later-none : (first later : List Broken) → or_later first later ≡ [] → later ≡ []
+later-none [] later e = e
+later-none (b ∷ rest) later e = absurd (cc)
+
+-- a configuration that breaks no rule breaks none of the columns
+clean-columns : (conf : List ℕ) (p : PlantLists) → IsCleanFor conf p → column_rules_broken p ≡ []
+clean-columns conf p clean = of_length (nat_lt MAX_CONFIGURATION (length conf)) clean
+  where
+    of_drafts : (drafts : Result (NetDraft × TableDraft) FormFault) → plant_of_drafts (All Strict) drafts ≡ Ok p → column_rules_broken p ≡ []
+    of_drafts (Err fault) e = absurd (cc)
+    of_drafts (Ok (net, table)) e =
+        let kept : (refusals_of (rules_broken (All Strict) net table) ≡ None) × (p ≡ numbered net table) = not-refused (refusals_of (rules_broken (All Strict) net table)) (numbered net table) p e in
+        let none : rules_broken (All Strict) net table ≡ [] = none-broken (rules_broken (All Strict) net table) kept.0 in
+        let later : or_later (table_rules_broken net table) (columns_broken Strict (numbered net table)) ≡ [] = later-none (network_rules_broken net) (or_later (table_rules_broken net table) (columns_broken Strict (numbered net table))) none in
+        ap column_rules_broken kept.1 ∙ later-none (table_rules_broken net table) (columns_broken Strict (numbered net table)) later
+
+    of_length : (b : Bool) → (if b then Err (form_refused (broken F1 Document)) else plant_of_drafts (All Strict) (drafts_of conf)) ≡ Ok p → column_rules_broken p ≡ []
+    of_length true e = absurd (cc)
+    of_length false e = of_drafts (drafts_of conf) e
+
+-- check is good only where there is a plant
+check-safe : (conf : List ℕ) (found : Result PlantLists Refusals) (extra : Option (List ℕ)) (made : Reply) → found ≡ plant_of (All Strict) conf → IfOk found IsPlant → AnswersFound (Check Strict) found extra made → made.status ≡ Good → IsCleanAndSafe conf
+check-safe conf (Err refusals) extra made known sound told good =
+    let refused : IsRefused ≡ Good = ap (λ (r : Reply). r.status) (sym told) ∙ good in absurd (cc)
+check-safe conf (Ok p) extra made known sound told good = record {
+  plant = p;
+  clean = sym known;
+  safe = clean-forever p sound (clean-columns conf p (sym known));
+}
+
+-- a verdict on a plant that breaks no rule of the columns
+tells-at_one : (p : PlantLists) (depth conflicts : ℕ) (made : Reply) → IsPlant p → column_rules_broken p ≡ [] → 0 < depth → TellsVerdict p depth conflicts made → SaysSafeAtOneOrSpent p depth conflicts made
+tells-at_one p depth conflicts made plant none some told =
+    elim (clean-verdict p depth told.verdict plant none some told.right) [
+      | inl safe ↦ inl (record {
+          status = told.status ∙ ap verdict_status safe;
+          report = told.report ∙ ap (λ v. verdict_line p conflicts v ++ verdict_run p v) safe;
+          certificate = subst (λ v. IsCertificateOf p depth conflicts v made.certificate) safe told.certificate;
+        })
+      | inr spent ↦ inr (told.status ∙ ap verdict_status spent)
+    ]
+
+-- the depth of a command is at least 1
+first-true : (a b c : Bool) → (a && b && c) ≡ true → a ≡ true
+first-true true b c e = refl
+first-true false b c e = absurd (cc)
+
+some-depth : (depth conflicts : ℕ) (cert : List ℕ) → has_option_limits (Verify Strict depth conflicts cert) ≡ true → 0 < depth
+some-depth depth conflicts cert limits = leb-true 1 depth (first-true (nat_le 1 depth) (nat_le depth MAX_DEPTH) (nat_le conflicts MAX_SEARCH_CONFLICTS) limits)
+
+-- verify tells the verdict
+verify-safe : (found : Result PlantLists Refusals) (conf : List ℕ) (depth conflicts : ℕ) (cert : List ℕ) (extra : Option (List ℕ)) (made : Reply) (p : PlantLists) → found ≡ Ok p → IfOk found IsPlant → has_option_limits (Verify Strict depth conflicts cert) ≡ true → AnswersFound (Verify Strict depth conflicts cert) found extra made → IsCleanFor conf p → SaysSafeAtOneOrSpent p depth conflicts made
+verify-safe (Err refusals) conf depth conflicts cert extra made p is sound limits told clean = absurd (cc)
+verify-safe (Ok q) conf depth conflicts cert extra made p is sound limits told clean =
+    let same : q ≡ p = cc in
+    let tells : TellsVerdict q depth conflicts made = told in
+    tells-at_one p depth conflicts made (subst IsPlant same sound) (clean-columns conf p clean) (some-depth depth conflicts cert limits) (subst (λ r. TellsVerdict r depth conflicts made) same tells)
+
+-- what answers what came of a configuration has what strict columns give besides
+module _ (command : Command) (stages : Stages) (planned : (plan_of command).stages ≡ Some stages) (found : Result PlantLists Refusals) (sound : IfOk found IsPlant) (extra : Option (List ℕ)) (made : Reply) (told : AnswersFound command found extra made) where
+  -- the rules of the columns are asked under strict ones
+  all-asked : (c : List ℕ) (asked : Command) → command ≡ asked → (plan_of asked).stages ≡ Some (All Strict) → found ≡ plant_of stages c → found ≡ plant_of (All Strict) c
+  all-asked c asked is strict known =
+      let same : Some stages ≡ Some (All Strict) = sym planned ∙ ap (λ k. (plan_of k).stages) is ∙ strict in
+      known ∙ ap (λ s. plant_of s c) (same_Some stages (All Strict) same)
+
+  check-right : (conf : Option (List ℕ)) → IfSome conf (λ c. found ≡ plant_of stages c) → command ≡ Check Strict → made.status ≡ Good → IfSome conf IsCleanAndSafe
+  check-right None known is good = tt
+  check-right (Some c) known is good =
+      check-safe c found extra made (all-asked c (Check Strict) is refl known) sound (subst (λ k. AnswersFound k found extra made) is told) good
+
+  verify-right : (conf : Option (List ℕ)) → has_option_limits command ≡ true → IfSome conf (λ c. found ≡ plant_of stages c) → (depth conflicts : ℕ) (cert : List ℕ) → command ≡ Verify Strict depth conflicts cert → (bytes : List ℕ) (p : PlantLists) → conf ≡ Some bytes → IsCleanFor bytes p → SaysSafeAtOneOrSpent p depth conflicts made
+  verify-right None limits known depth conflicts cert is bytes p at clean = absurd (cc)
+  verify-right (Some c) limits known depth conflicts cert is bytes p at clean =
+      let here : found ≡ Ok p = all-asked c (Verify Strict depth conflicts cert) is refl known ∙ ap (plant_of (All Strict)) (same_Some c bytes at) ∙ clean in
+      verify-safe found bytes depth conflicts cert extra made p here sound (subst (λ k. has_option_limits k ≡ true) is limits) (subst (λ k. AnswersFound k found extra made) is told) clean
+
+pub strictly-right : {E : Type 0} (command : Command) (stages : Stages) (conf extra : Option (List ℕ)) (found : Result PlantLists Refusals) (made : Result Reply E) → (plan_of command).stages ≡ Some stages → has_option_limits command ≡ true → IfSome conf (λ c. found ≡ plant_of stages c) → IfOk found IsPlant → IfOk made (AnswersFound command found extra) → IfOk made (IsStrictlyRight (Some command) conf)
+strictly-right command stages conf extra found (Err e) planned limits known sound told = tt
+strictly-right command stages conf extra found (Ok made) planned limits known sound told = record {
+  check = λ asked good. check-right command stages planned found sound extra made told conf known (same_Some command (Check Strict) asked) good;
+  verify = λ depth conflicts cert asked. verify-right command stages planned found sound extra made told conf limits known depth conflicts cert (same_Some command (Verify Strict depth conflicts cert) asked);
+}

@@ -1,0 +1,41 @@
+-- What the answers say under strict columns, where a configuration that breaks no rule is safe for ever.
+use Rattle.std.specs.Prelude.{ℕ, ◌≡◌, ◌⊎◌, ◌++◌, Option, Some, IfSome, Ok, List, [], ◌∷◌, codes}
+use Rattle.ilk_plant.specs.Plant.{PlantLists}
+use Rattle.ilk_engine.specs.CertificateOf.{IsCertificateOf}
+use Rattle.ilk_engine.specs.Forever.{IsForeverSafe}
+use Rattle.ilk_engine.specs.declared.verdict.Verdict.TheVariants.{Safe}
+use Rattle.ilk_words.specs.declared.command.Columns.TheVariants.{Strict}
+use Rattle.ilk_words.specs.declared.command.Command.{Command}
+use Rattle.ilk_words.specs.declared.command.Command.TheVariants.{Check, Verify}
+use Rattle.ilk_words.specs.declared.plan.Stages.TheVariants.{All}
+use Rattle.ilk_answers.specs.Answer.{plant_of}
+use Rattle.ilk_answers.specs.declared.reply.Reply.{Reply}
+use Rattle.ilk_answers.specs.declared.status.Status.TheVariants.{Good, Spent}
+
+-- a configuration of these bytes breaks no rule, those of the columns among them, and this is its plant
+abbrev pub IsCleanFor : List ℕ → PlantLists → Type 0
+IsCleanFor conf p = plant_of (All Strict) conf ≡ Ok p
+
+-- it breaks none, and each run of its plant from the start, of whatever length, ends in a state that meets the invariant
+pub record IsCleanAndSafe (conf : List ℕ) : Type 0 where
+  pub plant : PlantLists
+  pub clean : IsCleanFor conf plant
+  pub safe : IsForeverSafe plant
+
+-- a reply says that a plant is safe, from one event on, and comes with the certificate for that
+pub record SaysSafeAtOne (p : PlantLists) (depth conflicts : ℕ) (made : Reply) : Type 0 where
+  pub status : made.status ≡ Good
+  pub report : made.report ≡ codes "safe k=1" ++ 10 ∷ []
+  pub certificate : IsCertificateOf p depth conflicts (Safe 1) made.certificate
+
+-- it says so, or that all conflicts are spent
+abbrev pub SaysSafeAtOneOrSpent : PlantLists → ℕ → ℕ → Reply → Type 0
+SaysSafeAtOneOrSpent p depth conflicts made = SaysSafeAtOne p depth conflicts made ⊎ (made.status ≡ Spent)
+
+-- what a reply has besides, under strict columns, that answers words which give this command, or none, and a configuration,
+-- where that is told
+pub record IsStrictlyRight (asked : Option Command) (conf : Option (List ℕ)) (made : Reply) : Type 0 where
+  -- check is good only where the configuration is safe for ever
+  pub check : asked ≡ Some (Check Strict) → made.status ≡ Good → IfSome conf IsCleanAndSafe
+  -- verify says of one that breaks no rule that it is safe with k = 1, or that all conflicts are spent
+  pub verify : (depth conflicts : ℕ) (cert : List ℕ) → asked ≡ Some (Verify Strict depth conflicts cert) → (bytes : List ℕ) (p : PlantLists) → conf ≡ Some bytes → IsCleanFor bytes p → SaysSafeAtOneOrSpent p depth conflicts made

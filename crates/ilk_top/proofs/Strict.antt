@@ -1,0 +1,30 @@
+-- What a call that tells answers under strict columns says of the configuration, and what it tells.
+use Rattle.std.proofs.Common.{◌≡◌, ℕ, true, Option, Some, IfSome, List, refl, sym, ◌∙◌, subst}
+use Rattle.ilk_plant.specs.Plant.{PlantLists}
+use Rattle.ilk_answers.specs.Status.{is_answer}
+use Rattle.ilk_answers.specs.Strict.{IsCleanAndSafe, IsCleanFor, IsStrictlyRight, SaysSafeAtOneOrSpent}
+use Rattle.ilk_answers.specs.declared.reply.Reply.{Reply}
+use Rattle.ilk_answers.specs.declared.status.Status.{Status}
+use Rattle.ilk_answers.specs.declared.status.Status.TheVariants.{Good}
+use Rattle.ilk_words.specs.declared.command.Columns.TheVariants.{Strict}
+use Rattle.ilk_words.specs.declared.command.Command.{Command}
+use Rattle.ilk_words.specs.declared.command.Command.TheVariants.{Check, Verify}
+use Rattle.ilk_top.specs.Outside.{Tells}
+
+module _ {L O : Type 0} (cert_written : L → Option (List ℕ)) (cert_faults : L → ℕ) (out_written : O → Option (List ℕ)) (out_faults : O → ℕ) (status : Status) (cert_old cert_new : L) (out_old out_new : O) where
+  -- what is told of answers is told of what they lead to
+  Tells-as : (IsMade IsToo : Reply → Type 0) → ((made : Reply) → IsMade made → IsToo made) → Tells IsMade cert_written cert_faults out_written out_faults status cert_old cert_new out_old out_new → Tells IsToo cert_written cert_faults out_written out_faults status cert_old cert_new out_old out_new
+  Tells-as IsMade IsToo leads told = record {
+    whole = λ h. (let t = told.whole h in (t.0, leads t.0 t.1, t.2, t.3));
+    cut = λ h. (let t = told.cut h in (t.0, leads t.0 t.1, t.2));
+  }
+
+  -- check is good only where the configuration is safe for ever
+  pub check-told : (asked : Option Command) (conf : Option (List ℕ)) → Tells (IsStrictlyRight asked conf) cert_written cert_faults out_written out_faults status cert_old cert_new out_old out_new → asked ≡ Some (Check Strict) → status ≡ Good → IfSome conf IsCleanAndSafe
+  check-told asked conf told is good =
+      let t = told.whole (subst (λ s. is_answer s ≡ true) (sym good) refl) in t.1.check is (sym t.2 ∙ good)
+
+  -- verify tells of what breaks no rule that it is safe, or that all conflicts are spent
+  pub verify-told : (asked : Option Command) (conf : Option (List ℕ)) → Tells (IsStrictlyRight asked conf) cert_written cert_faults out_written out_faults status cert_old cert_new out_old out_new → (depth conflicts : ℕ) (name bytes : List ℕ) (p : PlantLists) → asked ≡ Some (Verify Strict depth conflicts name) → conf ≡ Some bytes → IsCleanFor bytes p → Tells (SaysSafeAtOneOrSpent p depth conflicts) cert_written cert_faults out_written out_faults status cert_old cert_new out_old out_new
+  verify-told asked conf told depth conflicts name bytes p is at clean =
+      Tells-as (IsStrictlyRight asked conf) (SaysSafeAtOneOrSpent p depth conflicts) (λ made right. right.verify depth conflicts name is bytes p at clean) told
