@@ -113,13 +113,23 @@ def read_edit(file, sources):
     return Edit(file, tuple(changes), tuple(functions), is_confined)
 
 
-def rounds_of(edits):
-    """Sorts edits into rounds, in none of which two change one function or cycle of calls. One that
-    others see has a round of its own."""
+def can_share(edits, edit, sources):
+    """Whether an edit can be tried beside others: none of them changes what it changes, or is seen by
+    other functions, and each still finds its text once."""
+    if not all(it.is_confined for it in (edit, *edits)) or any(edit.keys() & it.keys() for it in edits):
+        return False
+    try:
+        edited(sources, [change for it in (*edits, edit) for change in it.changes])
+    except BadEdit:
+        return False
+    return True
+
+
+def rounds_of(edits, sources):
+    """Sorts edits into rounds, in each of which they are tried together."""
     rounds = []
     for edit in edits:
-        room = next((it for it in rounds if edit.is_confined and all(
-            other.is_confined and not edit.keys() & other.keys() for other in it)), None)
+        room = next((it for it in rounds if can_share(it, edit, sources)), None)
         if room is None:
             rounds.append([edit])
         else:

@@ -92,7 +92,7 @@ class Trial:
     def try_all(self, edits, is_alone):
         """What comes of each edit: refused, with the reason, or what is wrong with it."""
         done = {}
-        for edits_together in [[it] for it in edits] if is_alone else rounds_of(edits):
+        for edits_together in [[it] for it in edits] if is_alone else rounds_of(edits, self.sources):
             found, left = self.try_round(edits_together)
             done.update(found)
             for edit in left:
