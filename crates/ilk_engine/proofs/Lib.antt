@@ -6,3 +6,4 @@ pub mod Ends
 pub mod Verdicts
 pub mod Made
 pub mod Certificates
+pub mod Strict

@@ -4,6 +4,7 @@ ghost use Rattle.ilk_engine.specs.AskedOf.{IsAskedOf};
 ghost use Rattle.ilk_engine.specs.CertificateOf.{IsCertificateOf, certificate_text_of};
 ghost use Rattle.ilk_engine.specs.Forever.{LastsFor};
 ghost use Rattle.ilk_engine.specs.Right.{IsRightFor};
+ghost use Rattle.ilk_strict.specs.IsStrict.{IsStrict};
 
 use crate::lifting::lift;
 use crate::verdict::{Found, Verdict};
@@ -28,6 +29,9 @@ pub fn decide(alloc: Global, plant: &Plant, depth: u32, conflicts: u64) -> Resul
 
     // What is safe is so for runs of any length.
     ensures lasts { IfOk result (λ found. LastsFor plant.now found.verdict) }
+
+    // Over a strict table it is safe with k = 1, or all conflicts are spent.
+    ensures strict { IfOk result (λ found. IsStrict plant.now → (found.verdict ≡ Verdict.Safe 1) ⊎ (found.verdict ≡ Verdict.Spent)) }
     ensures asked { IfOk result (λ found. IsAskedOf plant.now depth conflicts found.verdict found.asked) }
     ensures few { IfOk result (λ found. all_conflicts found.asked ≤ conflicts) }
 
@@ -35,6 +39,7 @@ pub fn decide(alloc: Global, plant: &Plant, depth: u32, conflicts: u64) -> Resul
     ensures certified { IfOk result (λ found. IsCertificateOf plant.now depth conflicts found.verdict (certificate_text_of found.verdict found.asked)) }
     ensures hints { IfOk result (λ found. IsTrue (all_hints_from_one found.asked)) }
 {
+    plant.is_sound();
     let system = behaviour(alloc, plant)?;
     let goal = goal(alloc, plant)?;
     let SystemFound { verdict, asked } = decide_system(alloc, &system, &goal, depth, conflicts)?;

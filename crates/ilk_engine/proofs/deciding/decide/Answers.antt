@@ -7,6 +7,7 @@ use Rattle.ilk_induct.specs.Right.{Lasts}
 use Rattle.ilk_engine.specs.AskedOf.{IsAskedOf}
 use Rattle.ilk_engine.proofs.Certificates.{asked_from_one, text_certifies}
 use Rattle.ilk_engine.proofs.Made.{over}
+use Rattle.ilk_engine.proofs.Strict.{strict-verdict}
 use Rattle.ilk_engine.proofs.deciding.decide.Goals as goal
 
 pub lift-requires-clause-lasts : goal.lift-requires-clause-lasts
@@ -26,6 +27,7 @@ returns c =
     record {
       right = made.right;
       lasts = made.lasts;
+      strict = λ strict. strict-verdict c.args.plant.now c.args.depth verdict c.is_sound.ensures strict c.requires.some_depth made.right;
       asked = asked;
       few = c.in_ok-verdict.ensures.few;
       certified = text_certifies c.args.plant.now c.args.depth c.args.conflicts verdict queries c.requires.depth made.right asked;
