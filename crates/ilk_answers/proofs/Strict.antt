@@ -73,10 +73,10 @@ tells-at_one : (p : PlantLists) (depth conflicts : ℕ) (made : Reply) → IsPla
 tells-at_one p depth conflicts made plant none some told =
     elim (clean-verdict p depth told.verdict plant none some told.right) [
       | inl safe ↦ inl (record {
-          status = told.status ∙ ap verdict_status safe;
-          report = told.report ∙ ap (λ v. verdict_line p conflicts v ++ verdict_run p v) safe ∙ append-nil (verdict_line p conflicts (Safe 1));
-          certificate = subst (λ v. IsCertificateOf p depth conflicts v made.certificate) safe told.certificate;
-        })
+        status = told.status ∙ ap verdict_status safe;
+        report = told.report ∙ ap (λ v. verdict_line p conflicts v ++ verdict_run p v) safe ∙ append-nil (verdict_line p conflicts (Safe 1));
+        certificate = subst (λ v. IsCertificateOf p depth conflicts v made.certificate) safe told.certificate;
+      })
       | inr spent ↦ inr (told.status ∙ ap verdict_status spent)
     ]
 
