@@ -18,7 +18,7 @@ later-found [] later none = refl
 later-found (first ∷ rest) later none = absurd (cc)
 
 -- what was not refused is what was asked
-not-refused : {A : Type 0} (refusals : Option Refusals) (asked kept : A) → or_refused refusals asked ≡ Ok kept → (refusals ≡ None) × (kept ≡ asked)
+pub not-refused : {A : Type 0} (refusals : Option Refusals) (asked kept : A) → or_refused refusals asked ≡ Ok kept → (refusals ≡ None) × (kept ≡ asked)
 not-refused None asked kept is = (refl, cc)
 not-refused (Some refusals) asked kept is = absurd (cc)
 

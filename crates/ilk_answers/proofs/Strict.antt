@@ -1,6 +1,6 @@
 -- Under strict columns a configuration that breaks no rule is safe for ever, so check is good only for such ones, and verify
 -- says `safe k=1` of them, or that all conflicts are spent.
-use Rattle.std.proofs.Common.{◌≡◌, ◌⊎◌, inl, inr, ℕ, ◌<◌, Bool, true, false, ◌&&◌, if◌then◌else◌, Option, Some, None, IfOk, IfSome, IsTrue, Result, Ok, Err, List, [], ◌∷◌, ◌++◌, length, nat_le, nat_lt, refl, sym, ap, ◌∙◌, subst, arith}
+use Rattle.std.proofs.Common.{◌≡◌, ◌⊎◌, inl, inr, ℕ, ◌<◌, Bool, true, false, ◌&&◌, if◌then◌else◌, Option, Some, None, IfOk, IfSome, IsTrue, Result, Ok, Err, List, [], ◌∷◌, ◌++◌, append-nil, length, nat_le, nat_lt, refl, sym, ap, ◌∙◌, subst, arith}
 use Rattle.std.proofs.lemmas.Bool.{leb-true}
 use Rattle.std.proofs.lemmas.Option.{same_Some}
 use Rattle.ilk_plant.specs.ColumnRules.{column_rules_broken}
@@ -17,6 +17,7 @@ use Rattle.ilk_net_read.specs.declared.fault.FormFault.{FormFault}
 use Rattle.ilk_net_read.specs.declared.fault.Place.TheVariants.{Document}
 use Rattle.ilk_table_read.specs.Table.{drafts_of}
 use Rattle.ilk_engine.specs.CertificateOf.{IsCertificateOf}
+use Rattle.ilk_engine.specs.declared.verdict.Verdict.TheVariants.{Safe}
 use Rattle.ilk_engine.proofs.Strict.{clean-forever, clean-verdict}
 use Rattle.ilk_words.specs.Limits.{has_option_limits}
 use Rattle.ilk_words.specs.Plan.{plan_of}
@@ -72,10 +73,10 @@ tells-at_one : (p : PlantLists) (depth conflicts : ℕ) (made : Reply) → IsPla
 tells-at_one p depth conflicts made plant none some told =
     elim (clean-verdict p depth told.verdict plant none some told.right) [
       | inl safe ↦ inl (record {
-          status = told.status ∙ ap verdict_status safe;
-          report = told.report ∙ ap (λ v. verdict_line p conflicts v ++ verdict_run p v) safe;
-          certificate = subst (λ v. IsCertificateOf p depth conflicts v made.certificate) safe told.certificate;
-        })
+        status = told.status ∙ ap verdict_status safe;
+        report = told.report ∙ ap (λ v. verdict_line p conflicts v ++ verdict_run p v) safe ∙ append-nil (verdict_line p conflicts (Safe 1));
+        certificate = subst (λ v. IsCertificateOf p depth conflicts v made.certificate) safe told.certificate;
+      })
       | inr spent ↦ inr (told.status ∙ ap verdict_status spent)
     ]
 

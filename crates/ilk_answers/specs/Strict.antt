@@ -1,5 +1,5 @@
 -- What the answers say under strict columns, where a configuration that breaks no rule is safe for ever.
-use Rattle.std.specs.Prelude.{ℕ, ◌≡◌, ◌⊎◌, ◌++◌, Option, Some, IfSome, Ok, List, [], ◌∷◌, codes}
+use Rattle.std.specs.Prelude.{ℕ, ◌≡◌, ◌⊎◌, ◌++◌, Option, Some, IfSome, Ok, List, [], ◌∷◌, codes, decimal}
 use Rattle.ilk_plant.specs.Plant.{PlantLists}
 use Rattle.ilk_engine.specs.CertificateOf.{IsCertificateOf}
 use Rattle.ilk_engine.specs.Forever.{IsForeverSafe}
@@ -22,10 +22,10 @@ pub record IsCleanAndSafe (conf : List ℕ) : Type 0 where
   pub clean : IsCleanFor conf plant
   pub safe : IsForeverSafe plant
 
--- a reply says that a plant is safe, from one event on, and comes with the certificate for that
+-- a reply says `safe k=1` of a plant, and comes with the certificate for that
 pub record SaysSafeAtOne (p : PlantLists) (depth conflicts : ℕ) (made : Reply) : Type 0 where
   pub status : made.status ≡ Good
-  pub report : made.report ≡ codes "safe k=1" ++ 10 ∷ []
+  pub report : made.report ≡ codes "safe k=" ++ decimal 1 ++ 10 ∷ []
   pub certificate : IsCertificateOf p depth conflicts (Safe 1) made.certificate
 
 -- it says so, or that all conflicts are spent

@@ -51,7 +51,7 @@ no-breach p safe n has =
 -- ---- one event, which leads from a state that meets the invariant only to such states
 
 -- an event leads from states that meet the invariant only to such states
-KeepsInvariant : PlantLists → Type 0
+abbrev KeepsInvariant : PlantLists → Type 0
 KeepsInvariant p = (s t : State) (event : Event) → Meets p s → next p s event ≡ Some t → Meets p t
 
 meets-true : (p : PlantLists) (s : State) → Meets p s → meets_invariant p s ≡ true
