@@ -1,5 +1,5 @@
--- The run of a right verdict can be written.
-use Rattle.std.proofs.Common.{◌≡◌, ℕ, All, Some, List, [], ◌∷◌, ◌⊎◌, length, inl, inr, is_some}
+-- The run of a right verdict can be written, and what is written tells the verdict.
+use Rattle.std.proofs.Common.{◌≡◌, ℕ, All, Some, List, [], ◌∷◌, ◌++◌, ◌⊎◌, length, inl, inr, is_some, IfOk, Result, Ok, Err, sym, subst, ◌∙◌}
 use Rattle.std.specs.Prelude.{option_and_then}
 use Rattle.std.proofs.lemmas.List.Elements.{All-nil, All-cons}
 use Rattle.ilk_base.proofs.Options.{bind_some, mapped-Some, some-and}
@@ -14,10 +14,14 @@ use Rattle.ilk_replay.specs.Writable.{IsAbout}
 use Rattle.ilk_replay.proofs.Enabled.{enabled-about, run-about}
 use Rattle.ilk_queries.specs.Asked.{leaves_at}
 use Rattle.ilk_queries.specs.Walk.{states_from}
+use Rattle.ilk_engine.specs.CertificateOf.{IsCertificateOf}
+use Rattle.ilk_engine.specs.Forever.{LastsFor}
 use Rattle.ilk_engine.specs.Right.{IsRightFor}
 use Rattle.ilk_engine.specs.declared.verdict.Verdict.{Verdict}
 use Rattle.ilk_engine.specs.declared.verdict.Verdict.TheVariants.{Safe, Unsafe, Breach, NotInductive, Spent}
+use Rattle.ilk_answers.specs.Verdicts.{TellsVerdict, verdict_line, verdict_run, verdict_status}
 use Rattle.ilk_answers.specs.Writable.{HasRuns}
+use Rattle.ilk_answers.specs.declared.reply.Reply.{Reply}
 
 states-about : (p : PlantLists) (s : State) (events : List Event) (states : List State) → states_from p s events ≡ Some states → All (IsAbout p) events
 states-about p s [] states e = All-nil (IsAbout p)
@@ -41,3 +45,15 @@ verdict-written p depth (NotInductive first events) (inl right) =
     (right.1.0, states-about p first events ends.0 ends.1)
 verdict-written p depth (NotInductive first events) (inr spent) = absurd (cc)
 verdict-written p depth Spent right = tt
+
+-- a reply with the status, the line, the run and the certificate of a verdict tells it
+pub verdict-told : {E : Type 0} (p : PlantLists) (depth conflicts : ℕ) (verdict : Verdict) (text wanted : List ℕ) (made : Result Reply E) → IsRightFor p depth verdict ⊎ (verdict ≡ Spent) → LastsFor p verdict → IsCertificateOf p depth conflicts verdict wanted → text ≡ wanted → IfOk made (λ r. r.status ≡ verdict_status verdict) → IfOk made (λ r. r.report ≡ verdict_line p conflicts verdict ++ verdict_run p verdict) → IfOk made (λ r. r.certificate ≡ text) → IfOk made (TellsVerdict p depth conflicts)
+verdict-told p depth conflicts verdict text wanted (Err e) right lasts certified same status report certificate = tt
+verdict-told p depth conflicts verdict text wanted (Ok r) right lasts certified same status report certificate = record {
+  verdict = verdict;
+  right = right;
+  lasts = lasts;
+  certificate = subst (IsCertificateOf p depth conflicts verdict) (sym (certificate ∙ same)) certified;
+  status = status;
+  report = report;
+}

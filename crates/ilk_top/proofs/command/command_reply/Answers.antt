@@ -38,4 +38,4 @@ pub returns-in_ok-refuse-in-Err-clause-strict : goal.returns-in_ok-refuse-in-Err
 returns-in_ok-refuse-in-Err-clause-strict g c =
     let planned : (plan_of c.args.command.now).stages ≡ Some c.unwrap-stages.result = sym (ap (λ (p : Plan). p.stages) c.plan.ensures.plan) ∙ c.unwrap-stages.ensures in
     let Found : Result PlantLists Refusals → Type 0 = λ found. IfSome (g.C.Source.left c.args.conf.now) (λ x. found ≡ plant_of c.unwrap-stages.result x) in
-    strictly-right {NoReply} c.args.command.now c.unwrap-stages.result (g.C.Source.left c.args.conf.now) (g.D.Source.left c.args.extra.now) (Err c.in-Err.refusals) (Ok c.in_ok-refuse-in-Err.field-0) planned c.requires (subst Found c.in-Err.is c.in_ok-plant.ensures.found) tt c.in_ok-refuse-in-Err.ensures.reply
+    strictly-right {E = NoReply} c.args.command.now c.unwrap-stages.result (g.C.Source.left c.args.conf.now) (g.D.Source.left c.args.extra.now) (Err c.in-Err.refusals) (Ok c.in_ok-refuse-in-Err.field-0) planned c.requires (subst Found c.in-Err.is c.in_ok-plant.ensures.found) tt c.in_ok-refuse-in-Err.ensures.reply
