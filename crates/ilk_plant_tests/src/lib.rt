@@ -3,13 +3,16 @@
 //!
 //! `walk_tests` goes through many states of a plant, and compares each event with the rules of the
 //! plant's system, and each state with the forms over its image. `form_tests` has states that are made
-//! by hand, and values; `decide_tests` has verdicts.
+//! by hand, and values; `decide_tests` has verdicts. `strict_tests` walks over plants whose tables break
+//! no rule, and asks the invariant after each event.
 #![tactic(auto)]
 
 #[cfg(test)]
 mod changes;
 #[cfg(test)]
 mod decide_tests;
+#[cfg(test)]
+mod examples;
 #[cfg(test)]
 mod form_tests;
 #[cfg(test)]
@@ -18,6 +21,12 @@ mod forms;
 mod plants;
 #[cfg(test)]
 mod rules;
+#[cfg(test)]
+mod stations;
+#[cfg(test)]
+mod strict_tests;
+#[cfg(test)]
+mod strict_walks;
 #[cfg(test)]
 mod texts;
 #[cfg(test)]

@@ -1,12 +1,14 @@
-ghost use Rattle.std.specs.Prelude.{◌≡◌, [], IsTrue};
+ghost use Rattle.std.specs.Prelude.{◌≡◌, IfOk, [], IsTrue};
 ghost use Rattle.ilk_plant.specs.Limits.{HasLimits};
+ghost use Rattle.ilk_strict.specs.IsStrict.{IsStrict};
 
 use ilk_ir::Values;
 use ilk_layout::image;
 use ilk_model::{Event, apply};
 use ilk_net_check::check_network;
 use ilk_plant::{Broken, NetDraft, Plant, Row, State, TableDraft};
-use ilk_table_check::check_table;
+use ilk_strict::clean_is_strict;
+use ilk_table_check::{check_columns, check_table};
 use ilk_table_read::read_drafts;
 use std::alloc::Global;
 use std::test::Fail;
@@ -39,6 +41,20 @@ pub fn plant_of(alloc: Global, text: &str) -> Result<Plant, Fail> {
     match read_drafts(alloc, text.as_bytes()) {
         Ok((net, table)) => plant_of_drafts(alloc, &net, &table),
         Err(_) => Err(Fail::new("the form is broken")),
+    }
+}
+
+/// The plant of a configuration that breaks no rule of the columns either.
+pub fn strict_plant_of(alloc: Global, text: &str) -> Result<Plant, Fail>
+    ensures { IfOk result IsStrict }
+{
+    let plant = plant_of(alloc, text)?;
+    let columns = check_columns(alloc, &plant)?;
+    if is_clean(&columns) {
+        clean_is_strict(&plant);
+        Ok(plant)
+    } else {
+        Err(Fail::new("a rule of the columns is broken"))
     }
 }
 

@@ -111,8 +111,8 @@ impl<'a> Compared<'a> {
     }
 }
 
-// The number after this one in a row of numbers that look random.
-fn scrambled(number: u64) -> u64 {
+/// The number after this one in a row of numbers that look random.
+pub fn scrambled(number: u64) -> u64 {
     number
         .wrapping_mul(6364136223846793005)
         .wrapping_add(1442695040888963407)

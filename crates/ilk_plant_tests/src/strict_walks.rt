@@ -1,0 +1,130 @@
+//! Walks over the states of a plant with a strict table. After each event it is asked whether the
+//! state has a hazard, and which family of the invariant it breaks.
+ghost use Rattle.ilk_plant.specs.Shape.{HasShape};
+ghost use Rattle.ilk_model.specs.Meets.{Meets};
+ghost use Rattle.ilk_strict.specs.IsStrict.{IsStrict};
+
+use crate::plants::event;
+use crate::walks::scrambled;
+use ilk_model::{Event, broken_family, hazard};
+use ilk_plant::{Plant, State};
+use ilk_strict::{advance, begin};
+use std::alloc::Global;
+use std::test::Fail;
+
+/// How many events were enabled, and how many of two kinds that come late on a train's way.
+#[derive(Clone, Copy, Drop)]
+pub struct Counts {
+    /// All of them.
+    pub events: u32,
+    /// Those by which a train's head came to a section.
+    pub heads: u32,
+    /// Those by which a section of a path was released.
+    pub releases: u32,
+}
+
+impl Counts {
+    /// Whether there are at least as many of each.
+    pub fn has(&self, least: Counts) -> bool {
+        self.events >= least.events && self.heads >= least.heads && self.releases >= least.releases
+    }
+
+    // Counts an event.
+    fn count(&mut self, event: Event) {
+        self.events = self.events.saturating_add(1);
+        match event {
+            Event::Head(_) => self.heads = self.heads.saturating_add(1),
+            Event::Release(_) => self.releases = self.releases.saturating_add(1),
+            _ => {}
+        }
+    }
+}
+
+// Fails where a state has a hazard or breaks a family.
+fn ask(plant: &Plant, s: &State) -> Result<(), Fail>
+    requires { HasShape plant.now s.now }
+{
+    if hazard(plant, s).is_some() {
+        return Err(Fail::new("a hazard"));
+    }
+    if broken_family(plant, s).is_some() {
+        return Err(Fail::new("a family is broken"));
+    }
+    Ok(())
+}
+
+// Does an event, if it is enabled, counts it, and asks the state after it.
+fn try_event(
+    alloc: Global,
+    plant: &Plant,
+    s: &mut State,
+    event: Event,
+    counts: &mut Counts,
+) -> Result<(), Fail>
+    requires strict { IsStrict plant.now }
+    requires meets { Meets plant.now s.old }
+    ensures meets { Meets plant.now s.new }
+{
+    if advance(alloc, plant, s, event)? {
+        counts.count(event);
+        ask(plant, s)?;
+    }
+    Ok(())
+}
+
+// The kinds of events but for `enter` and `cancel`.
+const USUAL: [u32; 11] = [0, 1, 2, 3, 4, 5, 6, 7, 9, 10, 11];
+
+// The kind of an event, by a number: `enter` and `cancel` come seldom, so that trains have room to run
+// on and routes stay set.
+fn kind_of_number(number: u64) -> u32 {
+    match number % 46 {
+        44 => 8,
+        45 => 12,
+        i => *USUAL.get((i % 11) as usize).unwrap_or(&0),
+    }
+}
+
+// The event that a number which looks random stands for: of any kind, of any route or section.
+fn event_of_number(plant: &Plant, number: u64) -> Event {
+    let many = u64::from(plant.routes().max(plant.sections()));
+    let high = number >> 33;
+    let subject = (high / 46).checked_rem(many).unwrap_or(0);
+    event(kind_of_number(high), subject as u32)
+}
+
+// Tries so many events from the start on, and answers the number of the last.
+fn walk_from_start(
+    alloc: Global,
+    plant: &Plant,
+    first: u64,
+    tries: u32,
+    counts: &mut Counts,
+) -> Result<u64, Fail>
+    requires { IsStrict plant.now }
+{
+    let mut s = begin(alloc, plant)?;
+    let mut number = first;
+    for _ in 0..tries {
+        number = scrambled(number);
+        try_event(alloc, plant, &mut s, event_of_number(plant, number), counts)?;
+    }
+    Ok(number)
+}
+
+/// Tries so many events, one after the other, so many times from the start on: after a while trains
+/// stand before each other, and nothing goes on.
+pub fn walk(alloc: Global, plant: &Plant, times: u32, tries: u32) -> Result<Counts, Fail>
+    requires { IsStrict plant.now }
+{
+    let mut counts = Counts {
+        events: 0,
+        heads: 0,
+        releases: 0,
+    };
+    let mut number = 1;
+    for _ in 0..times {
+        number = walk_from_start(alloc, plant, number, tries, &mut counts)?;
+    }
+    Ok(counts)
+}
