@@ -1,6 +1,8 @@
 """Checks certificates, by the rules of docs/FORMATS.md alone, over formulas that another gives.
 
-Nothing of a search is needed for it: each step names the clauses from which it follows.
+Nothing of a search is needed for it: each step names the clauses from which it follows. `audited`
+reads the bytes of a certificate line by line and names the first bad one. `check` tells what is wrong
+with a certificate, also with a spent one.
 """
 
 import re
@@ -12,6 +14,14 @@ MOST_HINT = 2 ** 64 - 1
 TOLD = re.compile(r"(safe ([1-9]|1[0-6])|spent (0|[1-9][0-9]*))")
 QUERY = re.compile(r"query (hazard|breach|step) (0|[1-9][0-9]*)")
 STEP = re.compile(r"step ((?:-?[1-9][0-9]* )*)0 ((?:[1-9][0-9]* )*)0")
+
+
+HEAD = b"irv certificate 3"
+SAFE = re.compile(rb"safe ([1-9]|1[0-6])")
+
+
+class BadLine(Exception):
+    """A line that can't stand where it stands."""
 
 
 class CertificateError(Exception):
@@ -100,6 +110,67 @@ def checked_steps(name, formula, steps, want_fresh):
     return clauses
 
 
+def queries_of(most):
+    """The queries that a safe certificate with this number rests on, in order."""
+    bases = [(kind, number) for number in range(most + 1) for kind in ("hazard", "breach")]
+    return [*bases, ("step", most)]
+
+
+def taken(line, variables, clauses):
+    """The clause of a step's line, which follows from the clauses before it."""
+    try:
+        clause, hints = read_step(line.decode("ascii"), 0)
+    except (UnicodeDecodeError, CertificateError) as fault:
+        raise BadLine from fault
+    numbers = [abs(literal) for literal in clause]
+    if any(variable > variables for variable in numbers) or len(set(numbers)) < len(numbers):
+        raise BadLine
+    if not follows(clauses, clause, hints):
+        raise BadLine
+    return clause
+
+
+def stand(line, wanted):
+    """Refuses a line that isn't the one that has to stand there."""
+    if line != wanted:
+        raise BadLine
+
+
+def lines_taken(formula_of):
+    """Takes the lines of a certificate, one by one, each sent to it. It raises BadLine at the first
+    bad one, and yields the number of the certificate after the last."""
+    stand((yield None), HEAD)
+    told = SAFE.fullmatch((yield None))
+    if not told:
+        raise BadLine
+    for kind, number in queries_of(int(told[1])):
+        stand((yield None), f"query {kind} {number}".encode())
+        variables, clauses = formula_of(kind, number)
+        clauses, clause = list(clauses), None
+        while clause != ():
+            clause = taken((yield None), variables, clauses)
+            clauses.append(clause)
+    stand((yield None), b"end")
+    yield int(told[1])
+    raise BadLine
+
+
+def audited(text, formula_of):
+    """What an audit answers to these bytes: `accepted k=K`, or `rejected line N` with the first bad
+    line. A line is bad too where it is missing, or where no line feed ends it."""
+    *lines, rest = text.split(b"\n")
+    reading = lines_taken(formula_of)
+    told = next(reading)
+    for number, line in enumerate(lines, 1):
+        try:
+            told = reading.send(line)
+        except BadLine:
+            return f"rejected line {number}"
+    if told is None or rest:
+        return f"rejected line {len(lines) + 1}"
+    return f"accepted k={told}"
+
+
 def is_refuted(steps):
     """Whether the last step has the empty clause."""
     return bool(steps) and steps[-1][0] == ()
@@ -107,9 +178,8 @@ def is_refuted(steps):
 
 def check_safe(most, queries, formula_of):
     """Each query that the verdict rests on, and no other, is refuted."""
-    wanted = [(kind, number) for number in range(most + 1) for kind in ("hazard", "breach")]
-    wanted.append(("step", most))
-    need([query[:2] for query in queries] == wanted, "not the queries that the verdict rests on")
+    need([query[:2] for query in queries] == queries_of(most),
+         "not the queries that the verdict rests on")
     for kind, number, steps in queries:
         name = f"{kind} {number}"
         checked_steps(name, formula_of(kind, number), steps, False)
@@ -151,4 +221,6 @@ def check(text, formula_of):
     """Checks a certificate over the formulas of its queries; answers its second line."""
     told, number, queries = read(text)
     (check_safe if told == "safe" else check_spent)(int(number), queries, formula_of)
+    answer = audited(text, formula_of)
+    need(told == "spent" or answer == f"accepted k={number}", f"read line by line: {answer}")
     return f"{told} {number}"

@@ -61,6 +61,35 @@ TRIALS = [
 ]
 
 
+# a whole text, over TWO for each query, and what an audit answers
+WHOLE = f"irv certificate 3|{SAFE}|end|"
+AUDITS = [
+    (WHOLE, "accepted k=1"),
+    (WHOLE.removesuffix("end|"), "rejected line 18"),
+    (WHOLE.removesuffix("|"), "rejected line 18"),
+    (WHOLE + "|", "rejected line 19"),
+    (WHOLE + "e", "rejected line 19"),
+    ("", "rejected line 1"),
+    ("irv certificate 3|safe 0|", "rejected line 2"),
+    ("irv certificate 3", "rejected line 1"),
+    (WHOLE.replace("|", "\r|", 1), "rejected line 1"),
+    (WHOLE.replace("certificate 3", "certificate 2"), "rejected line 1"),
+    (WHOLE.replace("safe 1", "safe 17"), "rejected line 2"),
+    (WHOLE.replace("safe 1", "spent 1"), "rejected line 2"),
+    (WHOLE.replace("safe 1", "safe 2"), "rejected line 15"),
+    (WHOLE.replace("query hazard 0|", "query hazard 0|query hazard 0|"), "rejected line 4"),
+    (WHOLE.replace("|query breach 0", "|step 0 5 3 4 0|query breach 0"), "rejected line 6"),
+    (WHOLE.replace("step 0 5 3 4 0|query breach 0", "query breach 0", 1), "rejected line 5"),
+    (WHOLE.replace("step 1 0 1 2 0", "step 0 0", 1), "rejected line 4"),
+    (WHOLE.replace("step 1 0 1 2 0", "step 1 0 1 18446744073709551616 0", 1), "rejected line 4"),
+    (WHOLE.replace("step 1 0 1 2 0", "step 1 0 3 0", 1), "rejected line 4"),
+    (WHOLE.replace("step 1 0 1 2 0", "step 1 0 9 0", 1), "rejected line 4"),
+    (WHOLE.replace("step 1 0 1 2 0", "step 7 0 1 0", 1), "rejected line 4"),
+    (WHOLE.replace("step 1 0 1 2 0", "step 1 0 1 2 4 0", 1), "rejected line 4"),
+    (WHOLE.replace("step 1 0 1 2 0", "step 1 0 1 2 0\xff", 1), "rejected line 4"),
+]
+
+
 def said_of(text, formula):
     """What the checker says of a text over one formula for each query: nothing where it accepts."""
     try:
@@ -76,7 +105,12 @@ def check_trials():
         said = said_of(f"irv certificate 3|{lines}|end|".replace("|", "\n").encode(), formula)
         if (wanted not in said) if wanted else said:
             raise certificate.CertificateError(f"{lines}: wanted {wanted!r}, said {said!r}")
+    for lines, wanted in AUDITS:
+        said = certificate.audited(lines.replace("|", "\n").encode("latin-1"),
+                                   lambda kind, number: TWO)
+        if said != wanted:
+            raise certificate.CertificateError(f"{lines}: wanted {wanted!r}, said {said!r}")
     counted = [dimacs.count_assignments(formula, 9) for formula in (TWO, THREE, NONE)]
     if counted != [0, 0, 4]:
         raise certificate.CertificateError(f"the formulas have {counted} assignments")
-    return len(TRIALS)
+    return len(TRIALS) + len(AUDITS)

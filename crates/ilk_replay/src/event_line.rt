@@ -63,8 +63,8 @@ fn event_told(plant: &Plant, word: &[u8], name: &[u8]) -> Option<Event>
     event_with(word, Subject::Section(section_named(plant, name)?))
 }
 
-/// The event that a line tells. None where it is no event's line.
-pub(crate) fn event_of(plant: &Plant, line: &[u8]) -> Option<Event>
+/// The event that a line tells. None exactly where it is no event's line.
+pub fn event_of(plant: &Plant, line: &[u8]) -> Option<Event>
     ensures { result ≡ event_of plant.now line.now }
 {
     let (word, name) = first_word(line)?;

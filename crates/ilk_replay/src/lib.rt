@@ -26,6 +26,7 @@ mod state_reading;
 mod state_writing;
 mod told;
 
+pub use event_line::event_of;
 pub use laws::texts_are_those_written;
 pub use reading::read_run;
 pub use run_writing::write_run;

@@ -1,0 +1,5 @@
+pub mod Audited
+pub mod Taken
+pub mod Hinted
+pub mod Codes
+pub mod Stored

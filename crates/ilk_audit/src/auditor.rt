@@ -1,0 +1,125 @@
+ghost use Rattle.std.specs.Prelude.{◌≡◌, ◌<◌, ◌^◌, ◌++◌, ◌∷◌, [], false, length, if◌then◌else◌, IfOk, IsTrue, OnOk, OnErr};
+ghost use Rattle.ilk_cnf.specs.Formula.{clause_in, IsFormula};
+ghost use Rattle.ilk_cnf.specs.Literal.{vars_differ};
+ghost use Rattle.ilk_log.specs.Derived.{is_empty};
+ghost use Rattle.ilk_audit.specs.declared.taken.Taken.TheVariants.{Closed, Good};
+ghost use Rattle.ilk_audit.specs.Taken.{after_step, taken_of};
+
+use crate::block::Block;
+use crate::fault::fault;
+use crate::partial::Partial;
+use crate::taken::Taken;
+use ilk_cnf::{Cnf, Lit};
+use ilk_log::{Hints, Step};
+use std::alloc::{AllocError, Global};
+use std::marker::Model;
+
+/// A formula and the steps that were taken so far, each of which follows from the formula and the
+/// steps before it.
+#[derive(Drop)]
+pub struct Auditor {
+    clauses: Block,
+    // nothing is set between two steps
+    partial: Partial,
+    closed: bool,
+}
+
+impl Model for Auditor {
+    ghost use Rattle.std.specs.Prelude.{◌≡◌, []};
+    ghost use Rattle.ilk_audit.specs.Audited.{Audited};
+
+    ghost Value = { Audited };
+
+    ghost view = { λ a. record { vars = a.clauses.vars; clauses = a.clauses.clauses; closed = a.closed } };
+
+    ghost invariant = { λ a. a.partial ≡ record { vars = a.clauses.vars; set = [] } };
+}
+
+// The clauses of a formula.
+fn clauses_of(alloc: Global, cnf: &Cnf) -> Result<Block, AllocError>
+    ensures { IfOk result (λ block. block ≡ cnf.now) }
+{
+    let mut block = Block::new(alloc, cnf.vars())?;
+    for number in 0..cnf.clauses() {
+        block.push(cnf.clause(number + 1).as_slice())?;
+    }
+    Ok(block)
+}
+
+// The hints as a list.
+fn listed(alloc: Global, hints: &Hints) -> Result<Vec<u64>, AllocError>
+    ensures { IfOk result (λ list. list.items ≡ hints.now) }
+{
+    let mut list = Vec::new(alloc);
+    for i in 0..hints.len() {
+        list.push(hints.at(i))?;
+    }
+    Ok(list)
+}
+
+impl Auditor {
+    /// The formula, and no step. Its clauses are numbered from 1, in order, and the steps after them.
+    pub fn new(alloc: Global, cnf: &Cnf) -> Result<Auditor, AllocError>
+        ensures { IfOk result (λ a. a ≡ record { vars = cnf.now.vars; clauses = cnf.now.clauses; closed = false }) }
+    {
+        Ok(Auditor {
+            clauses: clauses_of(alloc, cnf)?,
+            partial: Partial::new(alloc, cnf.vars())?,
+            closed: false,
+        })
+    }
+
+    /// Whether a step was answered with `Closed`.
+    pub fn closed(&self) -> bool
+        ensures closed { result ≡ self.now.closed }
+        ensures formula { IsFormula (record { vars = self.now.vars; clauses = self.now.clauses }) }
+        ensures few { length self.now.clauses < 2 ^ 64 }
+    {
+        let _ = self.clauses.vars();
+        self.closed
+    }
+
+    // Adds the clause of a step that follows.
+    fn add(&mut self, clause: &[Lit]) -> Result<Taken, AllocError>
+        requires within { IsTrue (clause_in self.old.vars clause.now) }
+        requires differ { IsTrue (vars_differ clause.now) }
+        ensures taken { IfOk result (λ taken. taken ≡ (if is_empty clause.now then Closed else Good)) }
+        ensures after { OnOk result (self.new ≡ record { vars = self.old.vars; clauses = self.old.clauses ++ clause.now ∷ []; closed = is_empty clause.now }) }
+        ensures err { OnErr result (self.new ≡ self.old) }
+    {
+        self.clauses.push(clause)?;
+        self.closed = clause.is_empty();
+        Ok(if self.closed {
+            Taken::Closed
+        } else {
+            Taken::Good
+        })
+    }
+
+    /// Takes the next step, if it follows: its literals are asked first, and then its hints in order.
+    /// After `Bad`, and where memory runs out, the auditor is unchanged.
+    pub fn take(&mut self, alloc: Global, step: &Step) -> Result<Taken, AllocError>
+        requires open { self.old.closed ≡ false }
+        ensures taken { IfOk result (λ taken. taken ≡ taken_of self.old step.now) }
+        ensures after { OnOk result (self.new ≡ after_step self.old step.now) }
+        ensures err { OnErr result (self.new ≡ self.old) }
+    {
+        let hints = listed(alloc, &step.hints)?;
+        self.take_parts(step.clause.as_slice(), hints.as_slice())
+    }
+
+    /// The same of a step whose clause and hints stand in lists.
+    pub fn take_parts(&mut self, clause: &[Lit], hints: &[u64]) -> Result<Taken, AllocError>
+        requires open { self.old.closed ≡ false }
+        ensures taken { IfOk result (λ taken. taken ≡ taken_of self.old (record { clause = clause.now; hints = hints.now })) }
+        ensures after { OnOk result (self.new ≡ after_step self.old (record { clause = clause.now; hints = hints.now })) }
+        ensures err { OnErr result (self.new ≡ self.old) }
+    {
+        let fault = fault(&self.clauses, &mut self.partial, clause, hints);
+        self.partial.clear();
+        match fault? {
+            Some(why) => Ok(Taken::Bad(why)),
+            None => self.add(clause),
+        }
+    }
+}

@@ -1,0 +1,165 @@
+//! All clauses in one block of memory: the numbers of their literals, one clause after another, and
+//! where each ends. A number takes four bytes, unless there are so many variables that some don't fit.
+
+ghost use Rattle.std.specs.Prelude.{◌≡◌, ◌≤◌, ◌<◌, ◌-◌, ◌^◌, ◌⊎◌, ◌∷◌, [], Some, drop, length, option_to_list, slice_get, take, IfNone, IfOk, IfSome, IsTrue, OnOk, OnErr};
+ghost use Rattle.ilk_cnf.specs.Formula.{clause_in, grown, IsFormula};
+ghost use Rattle.ilk_cnf.specs.Literal.{vars_differ};
+ghost use Rattle.ilk_audit.specs.Codes.{codes_in};
+ghost use Rattle.ilk_audit.specs.Hinted.{found_at, found_in, found_open, IsSettable};
+ghost use Rattle.ilk_audit.specs.Stored.{literals_of};
+
+use crate::codes::{Codes, literal_of};
+use crate::hinted::Hinted;
+use crate::partial::Partial;
+use ilk_cnf::{Cnf, Lit};
+use std::alloc::{AllocError, Global};
+use std::marker::Model;
+
+/// Clauses over the variables 1 to `vars`, each over different ones.
+#[derive(Drop)]
+pub struct Block {
+    vars: u64,
+    codes: Codes,
+    // where the first clause begins, and where each ends
+    bounds: Vec<usize>,
+}
+
+impl Model for Block {
+    ghost use Rattle.std.specs.Prelude.{length};
+    ghost use Rattle.ilk_cnf.specs.Formula.{Formula};
+    ghost use Rattle.ilk_audit.specs.Codes.{codes_in};
+    ghost use Rattle.ilk_audit.specs.Stored.{IsBlock, clauses_between};
+
+    ghost Value = { Formula };
+
+    ghost view = { λ b. record { vars = b.vars; clauses = clauses_between b.bounds.items (codes_in b.codes) } };
+
+    ghost invariant = { λ b. IsBlock b.vars b.codes b.bounds.items };
+}
+
+// What is found where the one literal that isn't false, if there is one, is this.
+fn found_open(partial: &Partial, lone: Option<Lit>) -> Hinted
+    requires { IsTrue (clause_in partial.now.vars (option_to_list lone)) }
+    ensures { result ≡ found_open partial.now.set (option_to_list lone) }
+{
+    match lone {
+        None => Hinted::AllFalse,
+        Some(l) if partial.is_false(l.negated()) => Hinted::Other,
+        Some(l) => Hinted::OneUnset(l),
+    }
+}
+
+// What is found in a clause, by the numbers of its literals.
+fn found_in_narrow(partial: &Partial, codes: &[u32]) -> Hinted
+    requires few { partial.now.vars ≤ 2 ^ 62 }
+    requires within { IsTrue (clause_in partial.now.vars (literals_of codes.now)) }
+    ensures { result ≡ found_in partial.now.set (literals_of codes.now) }
+{
+    let mut lone = None;
+    for code in codes {
+        let l = literal_of(*code as u64);
+        if !partial.is_false(l) {
+            if lone.is_some() {
+                return Hinted::Other;
+            }
+            lone = Some(l);
+        }
+    }
+    found_open(partial, lone)
+}
+
+// The same, where the numbers may be of any size.
+fn found_in_wide(partial: &Partial, codes: &[u64]) -> Hinted
+    requires few { partial.now.vars ≤ 2 ^ 62 }
+    requires within { IsTrue (clause_in partial.now.vars (literals_of codes.now)) }
+    ensures { result ≡ found_in partial.now.set (literals_of codes.now) }
+{
+    let mut lone = None;
+    for code in codes {
+        let l = literal_of(*code);
+        if !partial.is_false(l) {
+            if lone.is_some() {
+                return Hinted::Other;
+            }
+            lone = Some(l);
+        }
+    }
+    found_open(partial, lone)
+}
+
+// What is found in the part of these numbers that is a clause.
+fn found_between(partial: &Partial, codes: &Codes, from: usize, to: usize) -> Hinted
+    requires few { partial.now.vars ≤ 2 ^ 62 }
+    requires ascend { from ≤ to }
+    requires fit { to ≤ length (codes_in codes.now) }
+    requires within { IsTrue (clause_in partial.now.vars (literals_of (take (to - from) (drop from (codes_in codes.now))))) }
+    ensures { result ≡ found_in partial.now.set (literals_of (take (to - from) (drop from (codes_in codes.now)))) }
+{
+    match codes {
+        Codes::Narrow(codes) => found_in_narrow(partial, &codes[from..to]),
+        Codes::Wide(codes) => found_in_wide(partial, &codes[from..to]),
+    }
+}
+
+// Where the part with a number, from 1, begins and ends; none where there are fewer.
+fn part_at(bounds: &[usize], number: u64) -> Option<(usize, usize)>
+    ensures some { IfSome result (λ part. (0 < number) × (slice_get bounds.now (number - 1) ≡ Some part.0) × (slice_get bounds.now number ≡ Some part.1)) }
+    ensures none { IfNone result ((number ≡ 0) ⊎ (length bounds.now ≤ number)) }
+{
+    let number = number as usize;
+    if number == 0 || number >= bounds.len() {
+        return None;
+    }
+    Some((bounds[number - 1], bounds[number]))
+}
+
+impl Block {
+    /// No clause, over the variables 1 to `vars`.
+    pub fn new(alloc: Global, vars: u64) -> Result<Block, AllocError>
+        requires { vars ≤ 2 ^ 62 }
+        ensures { IfOk result (λ b. b ≡ record { vars = vars; clauses = [] }) }
+    {
+        Ok(Block {
+            vars,
+            codes: Codes::new(alloc, vars),
+            bounds: vec![in alloc; 0]?,
+        })
+    }
+
+    /// How many variables there are.
+    pub fn vars(&self) -> u64
+        ensures count { result ≡ self.now.vars }
+        ensures numbered { result ≤ 2 ^ 62 }
+        ensures formula { IsFormula self.now }
+        ensures few { length self.now.clauses < 2 ^ 64 }
+    {
+        let _ = self.bounds.len();
+        self.vars
+    }
+
+    /// Adds a clause at the end.
+    pub fn push(&mut self, clause: &[Lit]) -> Result<(), AllocError>
+        requires within { IsTrue (clause_in self.old.vars clause.now) }
+        requires differ { IsTrue (vars_differ clause.now) }
+        ensures ok { OnOk result (self.new ≡ grown self.old self.old.vars (clause.now ∷ [])) }
+        ensures err { OnErr result (self.new ≡ self.old) }
+    {
+        self.codes.reserve(clause.len())?;
+        self.bounds.reserve(1)?;
+        self.codes.append(self.vars, clause);
+        self.bounds.push(self.codes.len()).unwrap();
+        Ok(())
+    }
+
+    /// What the clause with a number, from 1, is where some literals are set.
+    pub fn found_at(&self, partial: &Partial, number: u64) -> Hinted
+        requires { partial.now.vars ≡ self.now.vars }
+        ensures found { result ≡ found_at self.now.clauses partial.now.set number }
+        ensures unit { IsSettable partial.now.vars partial.now.set result }
+    {
+        match part_at(self.bounds.as_slice(), number) {
+            Some((from, to)) => found_between(partial, &self.codes, from, to),
+            None => Hinted::Missing,
+        }
+    }
+}

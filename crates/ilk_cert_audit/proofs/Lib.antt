@@ -1,0 +1,12 @@
+pub mod Steps
+pub mod Plain
+pub mod Whole
+pub mod Cuts
+pub mod Numbers
+pub mod Stages
+pub mod Taking
+pub mod Ends
+pub mod Pieces
+pub mod Words
+pub mod Answered
+pub mod Feeding

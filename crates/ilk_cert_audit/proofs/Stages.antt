@@ -1,0 +1,128 @@
+-- The stage after a line: what may follow there is what may follow the line.
+use Rattle.std.proofs.Common.{◌≡◌, ℕ, suc, ◌+◌, ◌-◌, ◌<◌, ◌≤◌, Bool, true, false, List, [], ◌∷◌, ◌++◌, codes, refl, sym, ap, ◌∙◌, subst, arith, add-one, Option, Some, None}
+use Rattle.std.specs.Prelude.{flat_map, nat_le, nat_lt}
+use Rattle.std.specs.List.{range_with_len}
+use Rattle.std.specs.Fmt.{decimal}
+use Rattle.std.proofs.lemmas.Bool.{and_parts, leb-true, ltb-true}
+use Rattle.std.proofs.lemmas.List.{append_cancel_left}
+use Rattle.std.proofs.lemmas.Option.{same_Some}
+use Rattle.ilk_cnf.specs.Formula.{Formula}
+use Rattle.ilk_ir.specs.System.{SystemTree}
+use Rattle.ilk_lines.specs.Decimal.{decimal_up_to}
+use Rattle.ilk_lines.specs.Lines.{Bytes}
+use Rattle.ilk_lines.proofs.Decimals.{decimal_back}
+use Rattle.ilk_log.specs.declared.step.Step.{Step as LogStep}
+use Rattle.ilk_log.specs.Derived.{is_empty}
+use Rattle.ilk_unroll.specs.declared.queries.Wanted.{Wanted}
+use Rattle.ilk_unroll.specs.declared.queries.Wanted.TheVariants as wanted
+use Rattle.ilk_unroll.specs.Goal.{GoalTree}
+use Rattle.ilk_unroll.specs.Query.{query_formula}
+use Rattle.ilk_audit.specs.Audited.{Audited}
+use Rattle.ilk_certificate.specs.Certificate.{base_queries, certified_queries}
+use Rattle.ilk_certificate.specs.CertificateText.{query_line}
+use Rattle.ilk_cert_audit.specs.Grammar.{Either, QueryLines, safe_line, StepLines, ToldLines}
+use Rattle.ilk_cert_audit.specs.Stages.{IsLineOf, is_number, IsNext, queries_after, queries_from}
+use Rattle.ilk_cert_audit.specs.declared.next.Line.TheVariants.{Bad, Closes, Follows}
+use Rattle.ilk_cert_audit.specs.declared.stage.Stage.TheVariants.{Head, Told, Between, Within, Ended}
+
+pub number-parts : (k : ℕ) → is_number k ≡ true → (0 < k) × (k ≤ 16)
+number-parts k h = (let p = and_parts (nat_lt 0 k) (nat_le k 16) h in (ltb-true 0 k p.0, leb-true k 16 p.1))
+
+-- the head
+pub next-head : (s : SystemTree) (g : GoalTree) (line : Bytes) → line ≡ codes "irv certificate 3" → IsNext s g Head line (Some Told)
+next-head s g line e may k lines = ((λ h. h.1), (λ told. (e, told)))
+
+pub bad-head : (s : SystemTree) (g : GoalTree) (line : Bytes) → ¬ (line ≡ codes "irv certificate 3") → IsNext s g Head line None
+bad-head s g line differs may k lines h = differs h.0
+
+-- the line that tells the number
+-- a line tells one number
+pub safe-same : (k m : ℕ) → k ≤ 16 → m ≤ 16 → safe_line k ≡ safe_line m → k ≡ m
+safe-same k m hk hm e =
+    let d : decimal k ≡ decimal m = append_cancel_left (codes "safe ") (decimal k) (decimal m) e in
+    same_Some k m (sym (decimal_back 16 k (omega arith) hk) ∙ ap (decimal_up_to 16) d ∙ decimal_back 16 m (omega arith) hm)
+
+pub certified-first : (k : ℕ) → certified_queries k ≡ queries_from k (Some (wanted.Hazard 0))
+certified-first k =
+    let more : range_with_len 0 (k + 1) ≡ 0 ∷ range_with_len 1 k = ap (range_with_len 0) (add-one k) in
+    let rest : k - 0 ≡ k = omega arith in
+    ap (λ (ns : List ℕ). flat_map base_queries ns ++ wanted.Step k ∷ []) more
+    ∙ ap (λ n. wanted.Hazard 0 ∷ (wanted.Breach 0 ∷ (flat_map base_queries (range_with_len 1 n) ++ wanted.Step k ∷ []))) (sym rest)
+
+pub next-told : (s : SystemTree) (g : GoalTree) (line : Bytes) (m : ℕ) → line ≡ safe_line m → is_number m ≡ true → IsNext s g Told line (Some (Between m (Some (wanted.Hazard 0))))
+next-told s g line m e num may k lines =
+    let p = number-parts m num in
+    let Q : List Wanted → Type 0 = λ qs. QueryLines may s g qs lines in (
+      λ h. (let same = safe-same k m h.2 p.1 (sym h.0 ∙ e) in
+          let K : ℕ → Type 0 = λ n. QueryLines may s g (certified_queries n) lines in
+          (same, subst Q (certified-first m) (subst K same h.3))),
+      λ h. (let K : ℕ → Type 0 = λ n. ToldLines may s g n (line ∷ lines) in
+          subst K (sym h.0) (e, p.0, p.1, subst Q (sym (certified-first m)) h.1)),
+    )
+
+pub bad-told : (s : SystemTree) (g : GoalTree) (line : Bytes) → ((k : ℕ) → 0 < k → k ≤ 16 → ¬ (line ≡ safe_line k)) → IsNext s g Told line None
+bad-told s g line none may k lines h = none k h.1 h.2 h.0
+
+-- the line of a query
+pub next-query : (s : SystemTree) (g : GoalTree) (m : ℕ) (q : Wanted) (line : Bytes) (f : Formula) (a : Audited) → line ≡ query_line q → f ≡ query_formula s g q → a ≡ record { vars = f.vars; clauses = f.clauses; closed = false } → IsNext s g (Between m (Some q)) line (Some (Within m q a))
+next-query s g m q line f a e made new may k lines =
+    let F : Formula → Type 0 = λ x. StepLines may x.vars x.clauses (QueryLines may s g (queries_after m q)) lines in
+    let A : Audited → Type 0 = λ x. StepLines may x.vars x.clauses (QueryLines may s g (queries_after m q)) lines in (
+      λ h. (h.0, subst A (sym new) (subst F (sym made) h.1.1)),
+      λ h. (h.0, (e, subst F made (subst A new h.1))),
+    )
+
+pub bad-query : (s : SystemTree) (g : GoalTree) (m : ℕ) (q : Wanted) (line : Bytes) → ¬ (line ≡ query_line q) → IsNext s g (Between m (Some q)) line None
+bad-query s g m q line differs may k lines h = differs h.1.0
+
+-- the last line
+pub next-end : (s : SystemTree) (g : GoalTree) (m : ℕ) (line : Bytes) → line ≡ codes "end" → IsNext s g (Between m None) line (Some (Ended m))
+next-end s g m line e may k lines = ((λ h. (h.0, h.1.1)), (λ h. (h.0, (e, h.1))))
+
+pub bad-end : (s : SystemTree) (g : GoalTree) (m : ℕ) (line : Bytes) → ¬ (line ≡ codes "end") → IsNext s g (Between m None) line None
+bad-end s g m line differs may k lines h = differs h.1.0
+
+pub bad-ended : (s : SystemTree) (g : GoalTree) (m : ℕ) (line : Bytes) → IsNext s g (Ended m) line None
+bad-ended s g m line may k lines h = (let z = h.1 in cc)
+
+-- among the steps of a query
+pub bad-step : (s : SystemTree) (g : GoalTree) (m : ℕ) (q : Wanted) (a new : Audited) (line : Bytes) → IsLineOf line a new Bad → IsNext s g (Within m q a) line None
+bad-step s g m q a new line bad may k lines h = bad h.1.0 h.1.1 h.1.2
+
+pub next-good : (s : SystemTree) (g : GoalTree) (m : ℕ) (q : Wanted) (a new : Audited) (line : Bytes) → IsLineOf line a new Follows → IsNext s g (Within m q a) line (Some (Within m q new))
+next-good s g m q a new line taken may k lines =
+    let f = taken.0 in
+    let t = f.step in
+    let After : List Bytes → Type 0 = QueryLines may s g (queries_after m q) in
+    let Rest : LogStep → Type 0 = λ u. Either (is_empty u.clause) (After lines) (StepLines may a.vars (a.clauses ++ u.clause ∷ []) After lines) in
+    let B : Bool → Type 0 = λ b. Either b (After lines) (StepLines may a.vars (a.clauses ++ t.clause ∷ []) After lines) in
+    let A : Audited → Type 0 = λ x. StepLines may x.vars x.clauses After lines in (
+      λ h. (let same = f.only h.1.0 h.1.1 h.1.2 in (h.0, subst A (sym f.after) (subst B taken.1 (subst Rest (sym same) h.1.3)))),
+      λ h. (h.0, (t, f.own, f.derived, subst B (sym taken.1) (subst A f.after h.1))),
+    )
+
+pub next-closed : (s : SystemTree) (g : GoalTree) (m : ℕ) (q : Wanted) (next : Option Wanted) (a new : Audited) (line : Bytes) → IsLineOf line a new Closes → queries_from m next ≡ queries_after m q → IsNext s g (Within m q a) line (Some (Between m next))
+next-closed s g m q next a new line taken left may k lines =
+    let f = taken.0 in
+    let t = f.step in
+    let After : List Bytes → Type 0 = QueryLines may s g (queries_after m q) in
+    let Rest : LogStep → Type 0 = λ u. Either (is_empty u.clause) (After lines) (StepLines may a.vars (a.clauses ++ u.clause ∷ []) After lines) in
+    let B : Bool → Type 0 = λ b. Either b (After lines) (StepLines may a.vars (a.clauses ++ t.clause ∷ []) After lines) in
+    let Q : List Wanted → Type 0 = λ qs. QueryLines may s g qs lines in (
+      λ h. (let same = f.only h.1.0 h.1.1 h.1.2 in (h.0, subst Q (sym left) (subst B taken.1 (subst Rest (sym same) h.1.3)))),
+      λ h. (h.0, (t, f.own, f.derived, subst B (sym taken.1) (subst Q left h.1))),
+    )
+
+-- the queries after one
+pub after-hazard : (k n : ℕ) → queries_from k (Some (wanted.Breach n)) ≡ queries_after k (wanted.Hazard n)
+after-hazard k n = refl
+
+pub after-breach : (k n : ℕ) → n < k → queries_from k (Some (wanted.Hazard (n + 1))) ≡ queries_after k (wanted.Breach n)
+after-breach k n lt =
+    let one : k - n ≡ suc (k - (n + 1)) = omega (arith, lt) in
+    ap (λ i. flat_map base_queries (range_with_len (n + 1) i) ++ wanted.Step k ∷ []) (sym one)
+
+pub after-last : (k n : ℕ) → k ≤ n → queries_from k (Some (wanted.Step k)) ≡ queries_after k (wanted.Breach n)
+after-last k n le =
+    let none : k - n ≡ 0 = omega (arith, le) in
+    ap (λ i. flat_map base_queries (range_with_len (n + 1) i) ++ wanted.Step k ∷ []) (sym none)

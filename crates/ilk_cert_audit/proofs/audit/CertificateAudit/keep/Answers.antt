@@ -1,0 +1,16 @@
+use Rattle.std.proofs.Common.{sym, ◌∙◌, ◌++◌, subst}
+use Rattle.ilk_lines.specs.Lines.{Bytes}
+use Rattle.ilk_cert_audit.specs.Fed.{IsFedTo}
+use Rattle.ilk_cert_audit.proofs.Feeding.{refused-fed, rest-fed}
+use Rattle.ilk_cert_audit.proofs.audit.CertificateAudit.keep.Goals as goal
+
+pub returns-then-is_refused : goal.returns-then-is_refused
+returns-then-is_refused c = λ s g bytes h. refused-fed s g c.args.self.now.lines c.args.self.now.unfinished.items bytes c.args.rest.now (sym c.is_refused.ensures ∙ c.if-is_refused.true) h
+
+pub returns : goal.returns
+returns c = λ s g bytes h.
+    (let old = c.args.self.now in
+    let rest = c.args.rest.now in
+    let fed = rest-fed s g old.lines old.unfinished.items bytes rest (sym c.is_refused.ensures ∙ c.if-is_refused.false) c.requires h in
+    let P : Bytes → Type 0 = λ u. IsFedTo s g old.lines u (bytes ++ rest) in
+    subst P (sym (c.in_ok-extend_from_slice.ensures {u = tt}).items) fed)

@@ -1,0 +1,131 @@
+//! The stage after a line.
+
+ghost use Rattle.std.specs.Prelude.{◌≡◌, false, Some, IfOk, IfSome, IsTrue};
+ghost use Rattle.ilk_certificate.specs.CertificateText.{query_line};
+ghost use Rattle.ilk_ir.specs.System.{SystemTree, system_tree, system_valid};
+ghost use Rattle.ilk_unroll.specs.Goal.{GoalTree, goal_tree, goal_valid};
+ghost use Rattle.ilk_cert_audit.specs.Stages.{IsLineOf, IsNext, is_number, is_stage, may_ask};
+ghost use Rattle.ilk_cert_audit.specs.declared.stage.Stage.TheVariants.{Between, Told, Within};
+
+use crate::queries::{is_query_line, query_after, told_number};
+use crate::stage::Stage;
+use crate::step_line::{StepLine, read_step};
+use ilk_audit::{Auditor, Taken};
+use ilk_ir::System;
+use ilk_unroll::{Goal, Wanted, query};
+use std::alloc::{AllocError, Global};
+
+// The stage after the line of a query: its formula is made, and no step is taken.
+fn after_query(
+    alloc: Global,
+    system: &System,
+    goal: &Goal,
+    k: u32,
+    wanted: Wanted,
+) -> Result<Stage, AllocError>
+    requires system { IsTrue (system_valid (system_tree system.now)) }
+    requires goal { IsTrue (goal_valid system.now.ranges (goal_tree goal.now)) }
+    requires number { IsTrue (is_number k) }
+    requires asked { IsTrue (may_ask k wanted) }
+    ensures stage { IfOk result (λ stage. IsTrue (is_stage stage)) }
+    ensures next { IfOk result (λ stage. IsNext (system_tree system.now) (goal_tree goal.now) (Between k (Some wanted)) (query_line wanted) (Some stage)) }
+{
+    let cnf = query(alloc, system, goal, wanted)?;
+    Ok(Stage::Within {
+        k,
+        query: wanted,
+        auditor: Auditor::new(alloc, &cnf)?,
+    })
+}
+
+// What a line is among the steps of a query.
+#[derive(Clone, Copy)]
+enum Line {
+    // that of a step with a literal, which follows
+    Follows,
+    // that of the empty step, which follows
+    Closes,
+    Bad,
+}
+
+// Takes the step whose line this is, if it follows.
+fn take_step(step: &mut StepLine, auditor: &mut Auditor, line: &[u8]) -> Result<Line, AllocError>
+    requires unfinished { auditor.old.closed ≡ false }
+    ensures { IfOk result (IsLineOf line.now auditor.old auditor.new) }
+{
+    let _ = auditor.closed();
+    if !read_step(step, line)? {
+        return Ok(Line::Bad);
+    }
+    match auditor.take_parts(step.clause.as_slice(), step.hints.as_slice())? {
+        Taken::Good => Ok(Line::Follows),
+        Taken::Closed => Ok(Line::Closes),
+        Taken::Bad(_) => Ok(Line::Bad),
+    }
+}
+
+// The stage after a line among the steps of a query; none where the line is bad.
+fn after_step(
+    step: &mut StepLine,
+    k: u32,
+    query: Wanted,
+    mut auditor: Auditor,
+    line: &[u8],
+) -> Result<Option<Stage>, AllocError>
+    requires number { IsTrue (is_number k) }
+    requires asked { IsTrue (may_ask k query) }
+    requires unfinished { auditor.closed ≡ false }
+    ensures stage { IfOk result (λ next. IfSome next (λ stage. IsTrue (is_stage stage))) }
+    ensures next { IfOk result (λ next. (s : SystemTree) (g : GoalTree) → IsNext s g (Within k query auditor) line.now next) }
+{
+    match take_step(step, &mut auditor, line)? {
+        Line::Follows => Ok(Some(Stage::Within { k, query, auditor })),
+        Line::Closes => Ok(Some(Stage::Between {
+            k,
+            next: query_after(k, query),
+        })),
+        Line::Bad => Ok(None),
+    }
+}
+
+// The stage after the line that tells the number; none where the line tells none.
+fn after_told(line: &[u8]) -> Option<Stage>
+    ensures stage { IfSome result (λ stage. IsTrue (is_stage stage)) }
+    ensures next { (s : SystemTree) (g : GoalTree) → IsNext s g Told line.now result }
+{
+    let k = told_number(line)?;
+    Some(Stage::Between {
+        k,
+        next: Some(Wanted::Hazard(0)),
+    })
+}
+
+/// The stage after a line; none where the line is bad.
+pub fn next_stage(
+    alloc: Global,
+    system: &System,
+    goal: &Goal,
+    step: &mut StepLine,
+    stage: Stage,
+    line: &[u8],
+) -> Result<Option<Stage>, AllocError>
+    requires system { IsTrue (system_valid (system_tree system.now)) }
+    requires goal { IsTrue (goal_valid system.now.ranges (goal_tree goal.now)) }
+    requires stage { IsTrue (is_stage stage) }
+    ensures stage { IfOk result (λ next. IfSome next (λ stage. IsTrue (is_stage stage))) }
+    ensures next { IfOk result (IsNext (system_tree system.now) (goal_tree goal.now) stage line.now) }
+{
+    match stage {
+        Stage::Head if line == b"irv certificate 3".as_slice() => Ok(Some(Stage::Told)),
+        Stage::Told => Ok(after_told(line)),
+        Stage::Between {
+            k,
+            next: Some(query),
+        } if is_query_line(line, query) => { Ok(Some(after_query(alloc, system, goal, k, query)?)) }
+        Stage::Between { k, next: None } if line == b"end".as_slice() => {
+            Ok(Some(Stage::Ended { k }))
+        }
+        Stage::Within { k, query, auditor } => after_step(step, k, query, auditor, line),
+        _ => Ok(None),
+    }
+}

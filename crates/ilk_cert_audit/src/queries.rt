@@ -1,0 +1,71 @@
+ghost use Rattle.std.specs.Prelude.{ℕ, ◌≡◌, ◌<◌, ◌≤◌, ◌↔◌, IfNone, IfSome, IsTrue, codes};
+ghost use Rattle.std.specs.Fmt.{decimal};
+ghost use Rattle.ilk_certificate.specs.CertificateText.{query_line};
+ghost use Rattle.ilk_lines.specs.Written.{spaced};
+ghost use Rattle.ilk_cert_audit.specs.Grammar.{safe_line};
+ghost use Rattle.ilk_cert_audit.specs.Stages.{is_number, may_ask, queries_after, queries_from};
+
+use ilk_lines::{after_word, decimal_up_to};
+use ilk_unroll::Wanted;
+
+/// The query after one of those of a certificate for `k`. None after the last.
+pub fn query_after(k: u32, query: Wanted) -> Option<Wanted>
+    requires number { IsTrue (is_number k) }
+    requires asked { IsTrue (may_ask k query) }
+    ensures next { queries_from k result ≡ queries_after k query }
+    ensures asked { IfSome result (λ next. IsTrue (may_ask k next)) }
+{
+    match query {
+        Wanted::Hazard(n) => Some(Wanted::Breach(n)),
+        Wanted::Breach(n) if n < k => Some(Wanted::Hazard(n + 1)),
+        Wanted::Breach(_) => Some(Wanted::Step(k)),
+        Wanted::Step(_) => None,
+    }
+}
+
+// The number up to the limit that stands after this word and a space, with which the line ends.
+fn number_after(line: &[u8], word: &[u8], limit: u64) -> Option<u64>
+    ensures some { IfSome result (λ n. (line.now ≡ spaced word.now (decimal n)) × (n ≤ limit)) }
+    ensures none { IfNone result ((n : ℕ) → n ≤ limit → ¬ (line.now ≡ spaced word.now (decimal n))) }
+{
+    let Some(rest) = after_word(line, word) else {
+        return None;
+    };
+    decimal_up_to(rest, limit)
+}
+
+// Whether a line is this word, a space, and the number.
+fn is_numbered(line: &[u8], word: &[u8], number: u32) -> bool
+    ensures { IsTrue result ↔ (line.now ≡ spaced word.now (decimal number)) }
+{
+    match number_after(line, word, u32::MAX as u64) {
+        Some(n) => n == number as u64,
+        None => false,
+    }
+}
+
+/// Whether a line is that of a query.
+pub fn is_query_line(line: &[u8], query: Wanted) -> bool
+    ensures { IsTrue result ↔ (line.now ≡ query_line query) }
+{
+    let Some(rest) = after_word(line, b"query") else {
+        return false;
+    };
+    match query {
+        Wanted::Hazard(n) => is_numbered(rest, b"hazard", n),
+        Wanted::Breach(n) => is_numbered(rest, b"breach", n),
+        Wanted::Step(n) => is_numbered(rest, b"step", n),
+    }
+}
+
+/// The number from 1 to 16 at which a line tells that a system is safe. None exactly where it tells
+/// none.
+pub fn told_number(line: &[u8]) -> Option<u32>
+    ensures told { IfSome result (λ k. (line.now ≡ safe_line k) × IsTrue (is_number k)) }
+    ensures none { IfNone result ((k : ℕ) → 0 < k → k ≤ 16 → ¬ (line.now ≡ safe_line k)) }
+{
+    match number_after(line, b"safe", 16) {
+        Some(k) if k > 0 => Some(k as u32),
+        _ => None,
+    }
+}

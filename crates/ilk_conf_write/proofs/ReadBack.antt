@@ -1,0 +1,253 @@
+-- What is written of drafts is read as exactly these drafts.
+use Rattle.std.proofs.Common.{◌≡◌, ◌∙◌, ℕ, suc, ◌+◌, ◌≤◌, Bool, true, ◌==◌, ◌&&◌, Option, Some, None, IfOk, Result, Ok, Err, List, [], ◌∷◌, All, length, map, false, refl, sym, ap, ap₂, subst, arith}
+use Rattle.std.specs.List.{list_all}
+use Rattle.std.proofs.lemmas.Bool.{eqb-true, le-leb}
+use Rattle.std.proofs.lemmas.List.Elements.{All-cons, All-head, All-nil, All-tail}
+use Rattle.std.specs.Str.{IsUtf8}
+use Rattle.serde_json.specs.Data.{Data, string, depth, items_depth}
+use Rattle.serde_json.specs.Read.{read, max_depth}
+use Rattle.serde_json.specs.Written.{compact_text, has_float, items_have_float}
+use Rattle.serde_json.specs.Events.{items_len}
+use Rattle.serde_json.specs.Find.{as_str}
+use Rattle.serde_json.specs.View.{items_of}
+use Rattle.ilk_base.specs.Result.{in_order}
+use Rattle.ilk_plant.specs.Limits.{HasLimits, counts_are_allowed, route_has_limits, route_has_names, section_has_names}
+use Rattle.ilk_plant.specs.Name.{Name}
+use Rattle.ilk_plant.specs.Words.{direction_of_word, direction_word, position_of_word, position_word}
+use Rattle.ilk_plant.specs.declared.draft.KindDraft.{KindDraft}
+use Rattle.ilk_plant.specs.declared.draft.KindDraft.TheVariants.{Linear, Point}
+use Rattle.ilk_plant.specs.declared.draft.ListedDraft.{ListedDraft}
+use Rattle.ilk_plant.specs.declared.draft.NetDraft.{NetDraft}
+use Rattle.ilk_plant.specs.declared.draft.RouteDraft.{RouteDraft}
+use Rattle.ilk_plant.specs.declared.draft.SectionDraft.{SectionDraft}
+use Rattle.ilk_plant.specs.declared.draft.TableDraft.{TableDraft}
+use Rattle.ilk_plant.specs.declared.limits.TheConstants.{MAX_ROUTES, MAX_SECTIONS}
+use Rattle.ilk_plant.specs.declared.network.Dir.{Dir}
+use Rattle.ilk_plant.specs.declared.network.Dir.TheVariants.{Up, Down}
+use Rattle.ilk_plant.specs.declared.network.Position.{Position}
+use Rattle.ilk_plant.specs.declared.network.Position.TheVariants.{Plus, Minus}
+use Rattle.ilk_net_read.specs.Document.{Parts, has_allowed_counts}
+use Rattle.ilk_net_read.specs.Member.{as_optional_text, each_as, entries_of}
+use Rattle.ilk_net_read.specs.Network.{document_of, network_of, section_of}
+use Rattle.ilk_net_read.specs.Section.{as_section}
+use Rattle.ilk_net_read.specs.declared.version.Version.{Version}
+use Rattle.ilk_net_read.specs.declared.version.Version.TheVariants.{First, Second}
+use Rattle.ilk_table_read.specs.Route.{as_listed, as_route}
+use Rattle.ilk_table_read.specs.Table.{drafts_of, route_of, table_of}
+use Rattle.ilk_net_read.proofs.Values.{value_of-read}
+use Rattle.ilk_conf_write.specs.ConfigurationText.{configuration_text, configuration_value, is_table_in, is_unprotected, listed_value, optional_value, route_value, section_value}
+
+and-first : (a b : Bool) → (a && b) ≡ true → a ≡ true
+and-first true b e = refl
+and-first false b e = absurd (cc)
+
+and-second : (a b : Bool) → (a && b) ≡ true → b ≡ true
+and-second true b e = e
+and-second false b e = absurd (cc)
+
+-- ---- the routes of a version
+
+-- a route of version 1 lists nothing that protects it
+abbrev IsRouteIn : Version → RouteDraft → Type 0
+IsRouteIn First route = (route.protecting_points ≡ []) × (route.protecting_boards ≡ [])
+IsRouteIn Second route = Unit {0}
+
+none-of : {A : Type 0} (xs : List A) → (length xs == 0) ≡ true → xs ≡ []
+none-of [] e = refl
+none-of (x ∷ xs) e = absurd (omega (arith, eqb-true (length (x ∷ xs)) 0 e))
+
+unprotected : (r : RouteDraft) → is_unprotected r ≡ true → IsRouteIn First r
+unprotected r e = (
+  none-of r.protecting_points (and-first (length r.protecting_points == 0) (length r.protecting_boards == 0) e),
+  none-of r.protecting_boards (and-second (length r.protecting_points == 0) (length r.protecting_boards == 0) e),
+)
+
+all-unprotected : (rs : List RouteDraft) → list_all is_unprotected rs ≡ true → All (IsRouteIn First) rs
+all-unprotected [] e = All-nil (IsRouteIn First)
+all-unprotected (r ∷ rs) e =
+    All-cons (IsRouteIn First) r rs (unprotected r (and-first (is_unprotected r) (list_all is_unprotected rs) e)) (all-unprotected rs (and-second (is_unprotected r) (list_all is_unprotected rs) e))
+
+each-in : (version : Version) (table : TableDraft) → is_table_in version table ≡ true → All (IsRouteIn version) table.routes
+each-in First table e = all-unprotected table.routes e
+each-in Second table e = λ k d lt. tt
+
+-- ---- one value
+
+optional-read : (x : Option Name) → as_optional_text (optional_value x) ≡ Some x
+optional-read None = refl
+optional-read (Some text) = refl
+
+direction-read : (d : Dir) → direction_of_word (direction_word d) ≡ Some d
+direction-read Up = refl
+direction-read Down = refl
+
+position-read : (at : Position) → position_of_word (position_word at) ≡ Some at
+position-read Plus = refl
+position-read Minus = refl
+
+section-read : (s : SectionDraft) → as_section (section_value s) ≡ Some s
+section-read s = by_kind s.kind
+  where
+    by_kind : (kind : KindDraft) → as_section (section_value (record { name = s.name; kind = kind })) ≡ Some (record { name = s.name; kind = kind })
+    by_kind (Linear down up board_down board_up) = rw (optional-read down, optional-read up, optional-read board_down, optional-read board_up) refl
+    by_kind (Point stem plus minus faces) = rw (direction-read faces) refl
+
+listed-read : (l : ListedDraft) → as_listed (listed_value l) ≡ Some l
+listed-read l = rw (position-read l.at) refl
+
+-- ---- lists of values
+
+texts-read : (texts : List Name) → each_as as_str (items_of (map string texts)) ≡ Some texts
+texts-read [] = refl
+texts-read (text ∷ texts) = rw (texts-read texts) refl
+
+points-read : (points : List ListedDraft) → each_as as_listed (items_of (map listed_value points)) ≡ Some points
+points-read [] = refl
+points-read (point ∷ points) = rw (listed-read point, points-read points) refl
+
+entries : (ds : List Data) → entries_of (items_of ds) ≡ ds
+entries [] = refl
+entries (d ∷ ds) = ap (λ rest. d ∷ rest) (entries ds)
+
+count : {A : Type 0} (value : A → Data) (xs : List A) → items_len (items_of (map value xs)) ≡ length xs
+count value [] = refl
+count value (x ∷ xs) = ap suc (count value xs)
+
+-- ---- a route
+
+route-read : (version : Version) (r : RouteDraft) → IsRouteIn version r → as_route version (route_value version r) ≡ Some r
+route-read First r none =
+    rw (optional-read r.destination, texts-read r.path, texts-read r.overlap, points-read r.points, texts-read r.conflicts) (ap Some (bare r none.0 none.1))
+  where
+    bare : (r : RouteDraft) → r.protecting_points ≡ [] → r.protecting_boards ≡ [] → record r { protecting_points = []; protecting_boards = [] } ≡ r
+    bare r points boards = ap₂ (λ p b. record r { protecting_points = p; protecting_boards = b }) (sym points) (sym boards)
+route-read Second r none =
+    rw (optional-read r.destination, texts-read r.path, texts-read r.overlap, points-read r.points, texts-read r.conflicts, points-read r.protecting_points, texts-read r.protecting_boards) refl
+
+-- ---- each in its order
+
+section-of-read : (i : ℕ) (s : SectionDraft) → section_has_names s ≡ true → section_of i (section_value s) ≡ Ok s
+section-of-read i s named = rw (section-read s, named) refl
+
+sections-read : (i : ℕ) (ss : List SectionDraft) → list_all section_has_names ss ≡ true → in_order section_of i (map section_value ss) ≡ Ok ss
+sections-read i [] named = refl
+sections-read i (s ∷ ss) named =
+    rw (section-of-read i s (and-first (section_has_names s) (list_all section_has_names ss) named), sections-read (i + 1) ss (and-second (section_has_names s) (list_all section_has_names ss) named)) refl
+
+route-of-read : (version : Version) (i : ℕ) (r : RouteDraft) → IsRouteIn version r → route_has_names r ≡ true → route_has_limits r ≡ true → route_of version i (route_value version r) ≡ Ok r
+route-of-read version i r in_version named limited = rw (route-read version r in_version, named, limited) refl
+
+routes-read : (version : Version) (i : ℕ) (rs : List RouteDraft) → All (IsRouteIn version) rs → list_all route_has_names rs ≡ true → list_all route_has_limits rs ≡ true → in_order (route_of version) i (map (route_value version) rs) ≡ Ok rs
+routes-read version i [] in_version named limited = refl
+routes-read version i (r ∷ rs) in_version named limited =
+    let first : route_of version i (route_value version r) ≡ Ok r = route-of-read version i r (All-head (IsRouteIn version) r rs in_version) (and-first (route_has_names r) (list_all route_has_names rs) named) (and-first (route_has_limits r) (list_all route_has_limits rs) limited) in
+    let rest : in_order (route_of version) (i + 1) (map (route_value version) rs) ≡ Ok rs = routes-read version (i + 1) rs (All-tail (IsRouteIn version) r rs in_version) (and-second (route_has_names r) (list_all route_has_names rs) named) (and-second (route_has_limits r) (list_all route_has_limits rs) limited) in
+    rw (first, rest) refl
+
+-- ---- the document
+
+abbrev parts_of : Version → NetDraft → TableDraft → Parts
+parts_of version net table = record {
+  version = version;
+  sections = items_of (map section_value net.sections);
+  routes = items_of (map (route_value version) table.routes);
+}
+
+counts-read : (version : Version) (net : NetDraft) (table : TableDraft) → HasLimits net table → has_allowed_counts (parts_of version net table) ≡ true
+counts-read version net table limits =
+    ap₂ counts_are_allowed (count section_value net.sections) (count (route_value version) table.routes)
+    ∙ rw (le-leb 1 (length net.sections) limits.of_network.some, le-leb (length net.sections) MAX_SECTIONS limits.of_network.few, le-leb (length table.routes) MAX_ROUTES limits.of_table.few) refl
+
+document-read : (version : Version) (net : NetDraft) (table : TableDraft) → HasLimits net table → document_of (configuration_value version net table) ≡ Ok (parts_of version net table)
+document-read First net table limits = rw (counts-read First net table limits) refl
+document-read Second net table limits = rw (counts-read Second net table limits) refl
+
+network-read : (version : Version) (net : NetDraft) (table : TableDraft) → HasLimits net table → network_of (configuration_value version net table) ≡ Ok net
+network-read version net table limits =
+    rw (document-read version net table limits, entries (map section_value net.sections), sections-read 0 net.sections limits.of_network.named) refl
+
+table-read : (version : Version) (net : NetDraft) (table : TableDraft) → HasLimits net table → is_table_in version table ≡ true → table_of (configuration_value version net table) ≡ Ok table
+table-read version net table limits in_version =
+    rw (document-read version net table limits, entries (map (route_value version) table.routes), routes-read version 0 table.routes (each-in version table in_version) limits.of_table.named limits.of_table.each) refl
+
+-- ---- the text
+
+-- items each of which is shallow
+items-shallow : {A : Type 0} (value : A → Data) (n : ℕ) → ((x : A) → depth (value x) ≤ n) → (xs : List A) → items_depth (items_of (map value xs)) ≤ n
+items-shallow value n each [] = omega arith
+items-shallow value n each (x ∷ xs) = omega (arith, each x, items-shallow value n each xs)
+
+optional-flat : (x : Option Name) → depth (optional_value x) ≡ 0
+optional-flat None = refl
+optional-flat (Some text) = refl
+
+section-shallow : (s : SectionDraft) → depth (section_value s) ≤ 1
+section-shallow s = by_kind s.kind
+  where
+    by_kind : (kind : KindDraft) → depth (section_value (record { name = s.name; kind = kind })) ≤ 1
+    by_kind (Linear down up board_down board_up) = rw (optional-flat down, optional-flat up, optional-flat board_down, optional-flat board_up) (omega arith)
+    by_kind (Point stem plus minus faces) = omega arith
+
+texts-shallow : (texts : List Name) → items_depth (items_of (map string texts)) ≤ 0
+texts-shallow = items-shallow string 0 (λ x. omega arith)
+
+points-shallow : (points : List ListedDraft) → items_depth (items_of (map listed_value points)) ≤ 1
+points-shallow = items-shallow listed_value 1 (λ x. omega arith)
+
+route-shallow : (version : Version) (r : RouteDraft) → depth (route_value version r) ≤ 3
+route-shallow First r = omega (arith, optional-flat r.destination, texts-shallow r.path, texts-shallow r.overlap, points-shallow r.points, texts-shallow r.conflicts)
+route-shallow Second r =
+    omega (arith, optional-flat r.destination, texts-shallow r.path, texts-shallow r.overlap, points-shallow r.points, texts-shallow r.conflicts, points-shallow r.protecting_points, texts-shallow r.protecting_boards)
+
+pub depth-few : (version : Version) (net : NetDraft) (table : TableDraft) → depth (configuration_value version net table) ≤ max_depth
+depth-few version net table =
+    omega (arith, items-shallow section_value 1 section-shallow net.sections, items-shallow (route_value version) 3 (route-shallow version) table.routes)
+
+pub text-read : (version : Version) (net : NetDraft) (table : TableDraft) (text : List ℕ) → HasLimits net table → is_table_in version table ≡ true → IsUtf8 text → read text ≡ Some (configuration_value version net table) → drafts_of text ≡ Ok (net, table)
+text-read version net table text limits in_version utf8 is =
+    rw (value_of-read text (configuration_value version net table) utf8 is, network-read version net table limits, table-read version net table limits in_version) refl
+
+-- ---- no value is a float
+
+items-whole : {A : Type 0} (value : A → Data) → ((x : A) → has_float (value x) ≡ false) → (xs : List A) → items_have_float (items_of (map value xs)) ≡ false
+items-whole value each [] = refl
+items-whole value each (x ∷ xs) = rw (each x, items-whole value each xs) refl
+
+optional-whole : (x : Option Name) → has_float (optional_value x) ≡ false
+optional-whole None = refl
+optional-whole (Some text) = refl
+
+section-whole : (s : SectionDraft) → has_float (section_value s) ≡ false
+section-whole s = by_kind s.kind
+  where
+    by_kind : (kind : KindDraft) → has_float (section_value (record { name = s.name; kind = kind })) ≡ false
+    by_kind (Linear down up board_down board_up) = rw (optional-whole down, optional-whole up, optional-whole board_down, optional-whole board_up) refl
+    by_kind (Point stem plus minus faces) = refl
+
+texts-whole : (texts : List Name) → items_have_float (items_of (map string texts)) ≡ false
+texts-whole = items-whole string (λ x. refl)
+
+points-whole : (points : List ListedDraft) → items_have_float (items_of (map listed_value points)) ≡ false
+points-whole = items-whole listed_value (λ x. refl)
+
+route-whole : (version : Version) (r : RouteDraft) → has_float (route_value version r) ≡ false
+route-whole First r = rw (optional-whole r.destination, texts-whole r.path, texts-whole r.overlap, points-whole r.points, texts-whole r.conflicts) refl
+route-whole Second r =
+    rw (optional-whole r.destination, texts-whole r.path, texts-whole r.overlap, points-whole r.points, texts-whole r.conflicts, points-whole r.protecting_points, texts-whole r.protecting_boards) refl
+
+pub no-float : (version : Version) (net : NetDraft) (table : TableDraft) → has_float (configuration_value version net table) ≡ false
+no-float First net table = rw (items-whole section_value section-whole net.sections, items-whole (route_value First) (route-whole First) table.routes) refl
+no-float Second net table = rw (items-whole section_value section-whole net.sections, items-whole (route_value Second) (route-whole Second) table.routes) refl
+
+-- ---- what was written
+
+pub text-of : {A E : Type 0} (bytes : A → List ℕ) (written : Result A E) (d : Data) (version : Version) (net : NetDraft) (table : TableDraft) → d ≡ configuration_value version net table → IfOk written (λ b. has_float d ≡ false → bytes b ≡ compact_text d) → IfOk written (λ b. bytes b ≡ configuration_text version net table)
+text-of bytes (Err e) d version net table same told = tt
+text-of bytes (Ok b) d version net table same told =
+    told (ap has_float same ∙ no-float version net table) ∙ ap compact_text same
+
+pub read-of : {A E : Type 0} (bytes : A → List ℕ) (written : Result A E) (d : Data) (version : Version) (net : NetDraft) (table : TableDraft) → HasLimits net table → is_table_in version table ≡ true → d ≡ configuration_value version net table → IfOk written (λ b. IsUtf8 (bytes b)) → IfOk written (λ b. depth d ≤ max_depth → read (bytes b) ≡ Some d) → IfOk written (λ b. drafts_of (bytes b) ≡ Ok (net, table))
+read-of bytes (Err e) d version net table limits in_version same utf8 told = tt
+read-of bytes (Ok b) d version net table limits in_version same utf8 told =
+    let shallow : depth d ≤ max_depth = subst (λ (v : Data). depth v ≤ max_depth) (sym same) (depth-few version net table) in
+    text-read version net table (bytes b) limits in_version utf8 (told shallow ∙ ap Some same)

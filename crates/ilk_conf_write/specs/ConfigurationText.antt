@@ -1,0 +1,71 @@
+-- The text of a configuration: the JSON value in which two drafts are written, without spaces. The members of an object
+-- stand in the order of their names, as `serde_json` writes them.
+use Rattle.std.specs.Prelude.{ℕ, Bool, true, ◌==◌, ◌&&◌, Option, Some, None, List, codes, length, map}
+use Rattle.std.specs.List.{list_all}
+use Rattle.serde_json.specs.Data.{Data, null, number, unsigned, string, array, object, no_members, member}
+use Rattle.serde_json.specs.View.{items_of}
+use Rattle.serde_json.specs.Written.{compact_text}
+use Rattle.ilk_plant.specs.Name.{Name}
+use Rattle.ilk_plant.specs.Words.{direction_word, position_word}
+use Rattle.ilk_plant.specs.declared.draft.KindDraft.{KindDraft}
+use Rattle.ilk_plant.specs.declared.draft.KindDraft.TheVariants.{Linear, Point}
+use Rattle.ilk_plant.specs.declared.draft.ListedDraft.{ListedDraft}
+use Rattle.ilk_plant.specs.declared.draft.NetDraft.{NetDraft}
+use Rattle.ilk_plant.specs.declared.draft.RouteDraft.{RouteDraft}
+use Rattle.ilk_plant.specs.declared.draft.SectionDraft.{SectionDraft}
+use Rattle.ilk_plant.specs.declared.draft.TableDraft.{TableDraft}
+use Rattle.ilk_net_read.specs.declared.version.Version.{Version}
+use Rattle.ilk_net_read.specs.declared.version.Version.TheVariants.{First, Second}
+
+-- an array of what is written for each item of a list
+abbrev pub array_of : {A : Type 0} → (A → Data) → List A → Data
+array_of value list = array (items_of (map value list))
+
+-- a text, or null where it is missing
+abbrev pub optional_value : Option Name → Data
+optional_value None = null
+optional_value (Some text) = string text
+
+-- a section of this name, by its kind
+abbrev pub kind_value : Name → KindDraft → Data
+kind_value name (Linear down up board_down board_up) =
+    object (member (codes "board_down") (optional_value board_down) (member (codes "board_up") (optional_value board_up) (member (codes "down") (optional_value down) (member (codes "kind") (string (codes "linear")) (member (codes "name") (string name) (member (codes "up") (optional_value up) no_members))))))
+kind_value name (Point stem plus minus faces) =
+    object (member (codes "faces") (string (direction_word faces)) (member (codes "kind") (string (codes "point")) (member (codes "minus") (string minus) (member (codes "name") (string name) (member (codes "plus") (string plus) (member (codes "stem") (string stem) no_members))))))
+
+abbrev pub section_value : SectionDraft → Data
+section_value section = kind_value section.name section.kind
+
+-- a point with the position in which a route wants it
+abbrev pub listed_value : ListedDraft → Data
+listed_value listed = object (member (codes "point") (string listed.point) (member (codes "position") (string (position_word listed.at)) no_members))
+
+-- the number of a version
+abbrev pub version_number : Version → ℕ
+version_number First = 1
+version_number Second = 2
+
+-- a route: in version 1 without what protects it
+abbrev pub route_value : Version → RouteDraft → Data
+route_value First route =
+    object (member (codes "conflicts") (array_of string route.conflicts) (member (codes "destination") (optional_value route.destination) (member (codes "name") (string route.name) (member (codes "overlap") (array_of string route.overlap) (member (codes "path") (array_of string route.path) (member (codes "points") (array_of listed_value route.points) (member (codes "source") (string route.source) no_members)))))))
+route_value Second route =
+    object (member (codes "conflicts") (array_of string route.conflicts) (member (codes "destination") (optional_value route.destination) (member (codes "name") (string route.name) (member (codes "overlap") (array_of string route.overlap) (member (codes "path") (array_of string route.path) (member (codes "points") (array_of listed_value route.points) (member (codes "protecting_boards") (array_of string route.protecting_boards) (member (codes "protecting_points") (array_of listed_value route.protecting_points) (member (codes "source") (string route.source) no_members)))))))))
+
+-- the document of a network and a table of routes
+abbrev pub configuration_value : Version → NetDraft → TableDraft → Data
+configuration_value version net table =
+    object (member (codes "routes") (array_of (route_value version) table.routes) (member (codes "sections") (array_of section_value net.sections) (member (codes "version") (number (unsigned (version_number version))) no_members)))
+
+-- its text, without spaces and without a line end
+abbrev pub configuration_text : Version → NetDraft → TableDraft → List ℕ
+configuration_text version net table = compact_text (configuration_value version net table)
+
+-- whether a route lists nothing that protects it
+abbrev pub is_unprotected : RouteDraft → Bool
+is_unprotected route = length route.protecting_points == 0 && length route.protecting_boards == 0
+
+-- whether a table can be written in a version: in version 1 no route lists what protects it
+abbrev pub is_table_in : Version → TableDraft → Bool
+is_table_in First table = list_all is_unprotected table.routes
+is_table_in Second table = true

@@ -1,0 +1,15 @@
+pub mod Walks
+pub mod Potential
+pub mod Lowers
+pub mod Shapes
+pub mod Turns
+pub mod Drives
+pub mod Found
+pub mod Scenes
+pub mod Examples
+pub mod Back
+pub mod Changes
+pub mod TrainChanges
+pub mod Awakes
+pub mod Held
+pub mod Covered

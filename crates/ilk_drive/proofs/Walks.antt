@@ -1,0 +1,145 @@
+-- How many sections lie ahead of a section: with each step there are fewer.
+use Rattle.std.proofs.Common.{◌≡◌, ℕ, zero, suc, ◌+◌, ◌<◌, ◌≤◌, Bool, true, false, not, ◌&&◌, ◌||◌, ◌==◌, Option, Some, List, [], ◌∷◌, ◌++◌, length, slice_get, count_by, cond, inl, inr, refl, sym, ap, ◌∙◌, subst, arith}
+use Rattle.std.specs.List.{last_or, range_with_len}
+use Rattle.std.proofs.lemmas.Bool.{and_parts, eq-eqb, false_from_ne_true}
+use Rattle.std.proofs.lemmas.List.FromFn.{length-range_with_len}
+use Rattle.std.proofs.lemmas.List.Sums.{count_by-le-length, sum_by-cons}
+use Rattle.std.proofs.lemmas.Option.{same_Some}
+use Rattle.std.specs.Cmp.Derive.{both_true}
+use Rattle.ilk_base.proofs.Ranges.{range-at}
+use Rattle.ilk_base.proofs.Truth.{either}
+use Rattle.ilk_plant.proofs.Leads.{leads-step, leads-through}
+use Rattle.ilk_plant.specs.Network.{has_section}
+use Rattle.ilk_plant.specs.NetworkRules.{leads_by}
+use Rattle.ilk_plant.specs.Once.{none_twice}
+use Rattle.ilk_plant.specs.Plant.{IsPlant, PlantLists, next_to}
+use Rattle.ilk_plant.specs.Shape.{leads_on}
+use Rattle.ilk_plant.specs.Sound.{NeverReturns}
+use Rattle.ilk_plant.specs.declared.network.Dir.{Dir}
+
+-- whether y is next to x on side d
+abbrev pub is_step : PlantLists → Dir → ℕ → ℕ → Bool
+is_step p d x y = has_section y (next_to p x d)
+
+-- whether some walk in direction d leads from x to y
+abbrev pub reaches : PlantLists → Dir → ℕ → ℕ → Bool
+reaches p d x y = leads_by (is_step p d) (length p.sections) x y
+
+-- how many sections some walk in direction d leads to from x
+abbrev pub far : PlantLists → Dir → ℕ → ℕ
+far p d x = count_by (reaches p d x) (range_with_len 0 (length p.sections))
+
+-- a walk in direction d from x to y, of one or more steps
+record WalkTo (p : PlantLists) (d : Dir) (x y : ℕ) : Type 0 where
+  walk : List ℕ
+  on : leads_on p d x walk ≡ true
+  comes : has_section y walk ≡ true
+  ends : last_or (Some x) walk ≡ Some y
+
+walk-joined : (p : PlantLists) (d : Dir) (x z : ℕ) (front back : List ℕ) → leads_on p d x front ≡ true → last_or (Some x) front ≡ Some z → leads_on p d z back ≡ true → leads_on p d x (front ++ back) ≡ true
+walk-joined p d x z [] back on ends next = subst (λ (v : ℕ). leads_on p d v back ≡ true) (sym (same_Some _ _ ends)) next
+walk-joined p d x z (u ∷ front) back on ends next =
+    let goes = and_parts (has_section u (next_to p x d)) (leads_on p d u front) on in
+    both_true goes.0 (walk-joined p d u z front back goes.1 ends next)
+
+ends-joined : (o : Option ℕ) (z : ℕ) (front back : List ℕ) → last_or o front ≡ Some z → last_or o (front ++ back) ≡ last_or (Some z) back
+ends-joined o z [] back e = ap (λ (v : Option ℕ). last_or v back) e
+ends-joined o z (u ∷ front) back e = ends-joined (Some u) z front back e
+
+comes-joined : (y : ℕ) (front back : List ℕ) → has_section y back ≡ true → has_section y (front ++ back) ≡ true
+comes-joined y [] back h = h
+comes-joined y (u ∷ front) back h = later (u == y) (comes-joined y front back h)
+  where
+    later : (b : Bool) → has_section y (front ++ back) ≡ true → (b || has_section y (front ++ back)) ≡ true
+    later true h = refl
+    later false h = h
+
+-- what is reached is reached by a walk
+walk-to : (p : PlantLists) (d : Dir) (n x y : ℕ) → leads_by (is_step p d) n x y ≡ true → WalkTo p d x y
+walk-to p d zero x y h = record {
+  walk = y ∷ [];
+  on = both_true h refl;
+  comes = ap (λ (b : Bool). b || false) (eq-eqb y y refl);
+  ends = refl;
+}
+walk-to p d (suc n) x y h =
+    elim (either (leads_by (is_step p d) n x y) (leads_by (is_step p d) n x n && leads_by (is_step p d) n n y) h) [
+      | inl e ↦ walk-to p d n x y e
+      | inr e ↦
+          let parts = and_parts (leads_by (is_step p d) n x n) (leads_by (is_step p d) n n y) e in
+          let a = walk-to p d n x n parts.0 in
+          let b = walk-to p d n n y parts.1 in
+          record {
+            walk = a.walk ++ b.walk;
+            on = walk-joined p d x n a.walk b.walk a.on a.ends b.on;
+            comes = comes-joined y a.walk b.walk b.comes;
+            ends = ends-joined (Some x) n a.walk b.walk a.ends ∙ from-last n x b;
+          }
+    ]
+  where
+    from-last : (z x : ℕ) → (b : WalkTo p d z y) → last_or (Some z) b.walk ≡ Some y
+    from-last z x b = b.ends
+
+-- no section is reached from itself
+never-back : (p : PlantLists) → NeverReturns p → (d : Dir) (x : ℕ) → reaches p d x x ≡ false
+never-back p never d x = false_from_ne_true (reaches p d x x) (λ h.
+    let w = walk-to p d (length p.sections) x x h in
+    let once : (not (has_section x w.walk) && none_twice w.walk) ≡ true = never d x w.walk w.on in
+    let not_there : not (has_section x w.walk) ≡ true = (and_parts (not (has_section x w.walk)) (none_twice w.walk) once).0 in
+    let bad : not true ≡ true = subst (λ (b : Bool). not b ≡ true) w.comes not_there in
+    cc)
+
+-- one, where a test passes, or else none
+abbrev one_if : Bool → ℕ
+one_if b = cond b 1 0
+
+-- where each that passes one test passes another, and some passes the other alone, fewer pass the one
+fewer : {X : Type 0} (f g : X → Bool) → ((x : X) → f x ≡ true → g x ≡ true) → (xs : List X) → count_by f xs ≤ count_by g xs
+fewer f g more [] = omega arith
+fewer f g more (x ∷ xs) =
+    let one = sum_by-cons (λ y. one_if (f y)) x xs in
+    let other = sum_by-cons (λ y. one_if (g y)) x xs in
+    let here : one_if (f x) ≤ one_if (g x) = at_one (f x) (g x) (more x) in
+    let rest : count_by f xs ≤ count_by g xs = fewer f g more xs in
+    omega (arith, one, other, here, rest)
+  where
+    at_one : (a b : Bool) → (a ≡ true → b ≡ true) → one_if a ≤ one_if b
+    at_one false b h = omega arith
+    at_one true b h = rw (h refl) (omega arith)
+
+fewer-by_one : {X : Type 0} (f g : X → Bool) → ((x : X) → f x ≡ true → g x ≡ true) → (xs : List X) (i : ℕ) (y : X) → slice_get xs i ≡ Some y → f y ≡ false → g y ≡ true → count_by f xs < count_by g xs
+fewer-by_one f g more [] i y at fails passes = cc
+fewer-by_one f g more (x ∷ xs) zero y at fails passes =
+    let same : x ≡ y = same_Some _ _ at in
+    let one = sum_by-cons (λ z. one_if (f z)) x xs in
+    let other = sum_by-cons (λ z. one_if (g z)) x xs in
+    let none : one_if (f x) ≡ 0 = ap (λ z. one_if (f z)) same ∙ ap one_if fails in
+    let some : one_if (g x) ≡ 1 = ap (λ z. one_if (g z)) same ∙ ap one_if passes in
+    let rest = fewer f g more xs in
+    omega (arith, one, other, none, some, rest)
+fewer-by_one f g more (x ∷ xs) (suc i) y at fails passes =
+    let one = sum_by-cons (λ z. one_if (f z)) x xs in
+    let other = sum_by-cons (λ z. one_if (g z)) x xs in
+    let here = fewer f g more (x ∷ []) in
+    let first = sum_by-cons (λ z. one_if (f z)) x [] in
+    let second = sum_by-cons (λ z. one_if (g z)) x [] in
+    let rest = fewer-by_one f g more xs i y at fails passes in
+    omega (arith, one, other, here, first, second, rest)
+
+-- with each step fewer sections lie ahead
+pub far-falls : (p : PlantLists) → IsPlant p → NeverReturns p → (d : Dir) (x y : ℕ) → is_step p d x y ≡ true → far p d y + 1 ≤ far p d x
+far-falls p plant never d x y step =
+    let known = plant.neighbours x y d step in
+    let here = leads-step (is_step p d) (length p.sections) x y step in
+    let less = fewer-by_one (reaches p d y) (reaches p d x)
+    (λ z h. leads-through (is_step p d) (length p.sections) y x z known here h)
+    (range_with_len 0 (length p.sections)) y y (range-at (length p.sections) y known) (never-back p never d y) here in
+    omega (arith, less)
+
+-- fewer sections lie ahead of a section than there are
+pub far-few : (p : PlantLists) → NeverReturns p → (d : Dir) (x : ℕ) → x < length p.sections → far p d x + 1 ≤ length p.sections
+far-few p never d x known =
+    let less = fewer-by_one (reaches p d x) (λ z. true) (λ z h. refl) (range_with_len 0 (length p.sections)) x x (range-at (length p.sections) x known) (never-back p never d x) refl in
+    let all = count_by-le-length (λ (z : ℕ). true) (range_with_len 0 (length p.sections)) in
+    let long = length-range_with_len 0 (length p.sections) in
+    omega (arith, less, all, long)

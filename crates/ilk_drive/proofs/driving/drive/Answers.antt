@@ -1,0 +1,54 @@
+use Rattle.std.proofs.Common.{◌≡◌, None, arith, rules}
+use Rattle.ilk_drive.specs.Drive.{beginning}
+use Rattle.ilk_drive.specs.Progress.{moment_of}
+use Rattle.ilk_drive.specs.declared.outcome.Driven.{Driven}
+use Rattle.ilk_drive.proofs.Drives.{drive-few, drive-run, drive-safe, drive-writable, drives-end, drives-more}
+use Rattle.ilk_drive.proofs.Turns.{came, leads-by, turn-lowers}
+use Rattle.ilk_drive.proofs.driving.drive.Goals as goal
+
+pub loop-events-smaller : goal.loop-events-smaller
+loop-events-smaller c =
+    let now = moment_of c.args.scene.now c.loop-events.now.state c.loop-events.now.given in
+    let after = moment_of c.args.scene.now c.take_turn.new.now.state c.take_turn.new.now.given in
+    let taken = came _ now after c.in_ok-event.field-0 c.in-Some.event c.in_ok-event.ensures.turn c.in-Some.is in
+    let less = turn-lowers c.args.plant.now c.is_sound.ensures c.is_of_drafts.ensures.walks now after c.in-Some.event c.loop-events.invariant.shape (leads-by c.args.plant.now now after c.in-Some.event taken) in
+    omega (arith, less)
+
+pub loop-events-preserved : goal.loop-events-preserved
+loop-events-preserved c =
+    let now = moment_of c.args.scene.now c.loop-events.now.state c.loop-events.now.given in
+    let after = moment_of c.args.scene.now c.take_turn.new.now.state c.take_turn.new.now.given in
+    let taken = came _ now after c.in_ok-event.field-0 c.in-Some.event c.in_ok-event.ensures.turn c.in-Some.is in
+    record {
+      drives = λ later rest more. drives-more c.args.plant.now (beginning c.args.plant.now c.args.scene.now) now after c.loop-events.events c.push.new.self later c.in-Some.event rest c.loop-events.invariant.drives taken c.in_ok-push.ensures.ok more;
+      shape = c.in_ok-event.ensures.shape;
+      within = c.in_ok-event.ensures.within c.loop-events.invariant.within;
+      covers = c.in_ok-event.ensures.covers;
+    }
+
+pub returns-clause-drive : goal.returns-clause-drive
+returns-clause-drive c =
+    let now = moment_of c.args.scene.now c.loop-events.now.state c.loop-events.now.given in
+    let after = moment_of c.args.scene.now c.take_turn.new.now.state c.take_turn.new.now.given in
+    let none : c.in_ok-event.field-0 ≡ None = search rules in
+    drives-end c.args.plant.now c.args.scene.now now after c.loop-events.events c.in_ok-event.field-0 c.rest_at.result c.loop-events.invariant.drives c.in_ok-event.ensures.turn none c.rest_at.ensures
+
+pub returns-clause-run : goal.returns-clause-run
+returns-clause-run c =
+    let driven : Driven = record { rest = c.rest_at.result; events = c.loop-events.events } in
+    drive-run c.args.plant.now c.args.scene.now driven (returns-clause-drive c)
+
+pub returns-clause-told : goal.returns-clause-told
+returns-clause-told c =
+    let driven : Driven = record { rest = c.rest_at.result; events = c.loop-events.events } in
+    drive-writable c.args.plant.now c.args.scene.now driven (returns-clause-drive c)
+
+pub returns-clause-few : goal.returns-clause-few
+returns-clause-few c =
+    let driven : Driven = record { rest = c.rest_at.result; events = c.loop-events.events } in
+    drive-few c.args.plant.now c.is_sound.ensures c.is_of_drafts.ensures.walks c.args.scene.now driven (returns-clause-drive c)
+
+pub returns-clause-strict : goal.returns-clause-strict
+returns-clause-strict c strict =
+    let driven : Driven = record { rest = c.rest_at.result; events = c.loop-events.events } in
+    drive-safe c.args.plant.now c.is_sound.ensures strict c.args.scene.now driven (returns-clause-drive c)

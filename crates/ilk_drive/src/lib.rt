@@ -1,0 +1,30 @@
+//! Scenarios: a text of commands, and what comes of them where the plant does all else by itself.
+//!
+//! An engineer tries a table with a timetable: trains that enter, routes that are requested, requests
+//! that are withdrawn. `read_scene` reads such a text over a plant, by the parts of `ilk_lines`, and
+//! `drive` runs it to its rest. `specs/Scene.antt` says what a text tells, with its first bad line.
+//! `specs/Drive.antt` says what comes next in a drive and how it rests; it knows nothing of how the
+//! next event is found.
+//!
+//! A drive ends: each automatic event brings a train nearer to its way out, or a route or a point
+//! nearer to its rest, and a command sets them back by less than `MAX_EVENTS_FOR_A_COMMAND`
+//! (`proofs/Potential.antt`). The laws say that a scenario has one drive, that its events are a run
+//! from the start (`drives_are_runs`), and that their text is read and replayed with the same end
+//! (`drives_are_read_again`).
+#![tactic(auto)]
+
+mod automatic;
+mod candidates;
+mod command_line;
+mod driving;
+mod laws;
+mod limits;
+mod outcome;
+mod scene;
+mod waking;
+
+pub use driving::drive;
+pub use laws::{drives_are_read_again, drives_are_runs};
+pub use limits::MAX_EVENTS_FOR_A_COMMAND;
+pub use outcome::{Driven, Rest};
+pub use scene::{Scene, read_scene};

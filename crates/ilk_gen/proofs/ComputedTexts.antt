@@ -1,0 +1,44 @@
+-- The texts of 1 to 16 stations are read as their drafts, by computing.
+use Rattle.std.proofs.Common.{◌≡◌, ℕ, ◌≤◌, true, Some, Ok, refl, ltb}
+use Rattle.std.specs.Fmt.{digits}
+use Rattle.std.specs.List.{list_all}
+use Rattle.ilk_base.proofs.Ascii.{ascii}
+use Rattle.ilk_gen.proofs.Reading.{read_as}
+use Rattle.ilk_gen.proofs.Sixteen.{any_of_sixteen}
+use Rattle.ilk_gen.specs.StationRoutes.{stations_table}
+use Rattle.ilk_gen.specs.Stations.{stations_net}
+use Rattle.ilk_gen.specs.StationsText.{stations_text}
+use Rattle.ilk_conf_write.specs.ConfigurationText.{configuration_value}
+use Rattle.ilk_net_read.specs.Network.{network_of}
+use Rattle.ilk_net_read.specs.declared.version.Version.TheVariants.{First}
+use Rattle.ilk_table_read.specs.Table.{drafts_of, table_of}
+use Rattle.serde_json.proofs.OnLiterals.{serde_json_on_literals}
+use Rattle.serde_json.specs.Data.{Data}
+use Rattle.serde_json.specs.Read.{read}
+
+abbrev stations_value : ℕ → Data
+stations_value n = configuration_value First (stations_net n) (stations_table n)
+
+-- the text has no characters but those of ASCII
+ascii-text : (n : ℕ) → 1 ≤ n → n ≤ 16 → list_all (λ b. ltb b 128) (stations_text n) ≡ true
+unfolding digits serde_json_on_literals
+ascii-text = any_of_sixteen (λ n. list_all (λ b. ltb b 128) (stations_text n) ≡ true) refl refl refl refl refl refl refl refl refl refl refl refl refl refl refl refl
+
+-- and reads as the value that it was written for
+value-read : (n : ℕ) → 1 ≤ n → n ≤ 16 → read (stations_text n) ≡ Some (stations_value n)
+unfolding digits serde_json_on_literals
+value-read = any_of_sixteen (λ n. read (stations_text n) ≡ Some (stations_value n)) refl refl refl refl refl refl refl refl refl refl refl refl refl refl refl refl
+
+-- which gives the network
+network-read : (n : ℕ) → 1 ≤ n → n ≤ 16 → network_of (stations_value n) ≡ Ok (stations_net n)
+unfolding digits
+network-read = any_of_sixteen (λ n. network_of (stations_value n) ≡ Ok (stations_net n)) refl refl refl refl refl refl refl refl refl refl refl refl refl refl refl refl
+
+-- and the table
+table-read : (n : ℕ) → 1 ≤ n → n ≤ 16 → table_of (stations_value n) ≡ Ok (stations_table n)
+unfolding digits
+table-read = any_of_sixteen (λ n. table_of (stations_value n) ≡ Ok (stations_table n)) refl refl refl refl refl refl refl refl refl refl refl refl refl refl refl refl
+
+pub stations-read : (n : ℕ) → 1 ≤ n → n ≤ 16 → drafts_of (stations_text n) ≡ Ok (stations_net n, stations_table n)
+stations-read n some few =
+    read_as (stations_text n) (stations_value n) (stations_net n) (stations_table n) (ascii (stations_text n) (ascii-text n some few)) (value-read n some few) (network-read n some few) (table-read n some few)

@@ -1,0 +1,13 @@
+-- A text that reads as a value from which drafts are read is read as these.
+use Rattle.std.proofs.Common.{◌≡◌, ℕ, List, Some, Ok, refl}
+use Rattle.std.specs.Str.{IsUtf8}
+use Rattle.serde_json.specs.Data.{Data}
+use Rattle.serde_json.specs.Read.{read}
+use Rattle.ilk_net_read.proofs.Values.{value_of-read}
+use Rattle.ilk_net_read.specs.Network.{network_of}
+use Rattle.ilk_plant.specs.declared.draft.NetDraft.{NetDraft}
+use Rattle.ilk_plant.specs.declared.draft.TableDraft.{TableDraft}
+use Rattle.ilk_table_read.specs.Table.{drafts_of, table_of}
+
+pub read_as : (text : List ℕ) (d : Data) (net : NetDraft) (table : TableDraft) → IsUtf8 text → read text ≡ Some d → network_of d ≡ Ok net → table_of d ≡ Ok table → drafts_of text ≡ Ok (net, table)
+read_as text d net table utf8 reads sections routes = rw (value_of-read text d utf8 reads, sections, routes) refl

@@ -1,0 +1,4 @@
+pub mod Stations
+pub mod StationRoutes
+pub mod WrittenRoutes
+pub mod StationsText

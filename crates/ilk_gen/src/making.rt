@@ -1,0 +1,45 @@
+ghost use Rattle.std.specs.Prelude.{◌≡◌, ◌≤◌, ◌+◌, ◌*◌, IfOk, length};
+ghost use Rattle.ilk_plant.specs.Draft.{numbered};
+ghost use Rattle.ilk_gen.specs.StationsText.{stations_text};
+ghost use Rattle.ilk_gen.specs.StationRoutes.{stations_table};
+ghost use Rattle.ilk_gen.specs.Stations.{stations_net};
+
+use crate::routes::stations_table;
+use crate::sections::stations_net;
+use crate::{stations_are_counted, stations_break_no_rule};
+use ilk_conf_write::{Version, write_configuration};
+use ilk_plant::Plant;
+use std::alloc::{AllocError, Global};
+
+/// The greatest number of stations in a line.
+pub const MAX_STATIONS: u32 = 16;
+
+/// The configuration of a line of `n` stations, 1 to `MAX_STATIONS`, in version 1: JSON without spaces
+/// and without a line end. It has `5 * n + 1` sections and `8 * n` routes. The only refusal is want of
+/// memory.
+pub fn stations(alloc: Global, n: u32) -> Result<Vec<u8>, AllocError>
+    requires some { 1 ≤ n }
+    requires few { n ≤ MAX_STATIONS }
+    ensures { IfOk result (λ text. text.items ≡ stations_text n) }
+{
+    let net = stations_net(alloc, n)?;
+    let table = stations_table(alloc, n)?;
+    stations_break_no_rule(n);
+    write_configuration(alloc, Version::First, &net, &table)
+}
+
+/// The plant of a line of `n` stations, 1 to `MAX_STATIONS`: that of the configuration which
+/// `stations` writes. The only refusal is want of memory.
+pub fn stations_plant(alloc: Global, n: u32) -> Result<Plant, AllocError>
+    requires some { 1 ≤ n }
+    requires few { n ≤ MAX_STATIONS }
+    ensures plant { IfOk result (λ plant. plant ≡ numbered (stations_net n) (stations_table n)) }
+    ensures sections { IfOk result (λ plant. length plant.sections ≡ 5 * n + 1) }
+    ensures routes { IfOk result (λ plant. length plant.routes ≡ 8 * n) }
+{
+    let net = stations_net(alloc, n)?;
+    let table = stations_table(alloc, n)?;
+    stations_break_no_rule(n);
+    stations_are_counted(n);
+    Plant::make(alloc, &net, &table)
+}

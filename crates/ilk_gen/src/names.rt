@@ -1,0 +1,109 @@
+//! The names of sections, boards and routes.
+
+ghost use Rattle.std.specs.Prelude.{◌≡◌, ◌≤◌, ◌<◌, IfOk};
+ghost use Rattle.ilk_gen.specs.StationRoutes as routes;
+ghost use Rattle.ilk_gen.specs.Stations as stations;
+ghost use Rattle.ilk_gen.specs.declared.making.TheConstants.{MAX_STATIONS};
+
+use ilk_plant::{Position, Text};
+use std::alloc::{AllocError, Global};
+
+// Line `j`.
+pub(crate) fn line(alloc: Global, j: u32) -> Result<Text, AllocError>
+    ensures { IfOk result (λ name. name ≡ stations.line j) }
+{
+    Ok(Text::of(format!(in alloc; "l{j}")?))
+}
+
+// The point at the down end of station `j`.
+pub(crate) fn down_point(alloc: Global, j: u32) -> Result<Text, AllocError>
+    ensures { IfOk result (λ name. name ≡ stations.down_point j) }
+{
+    Ok(Text::of(format!(in alloc; "p{j}")?))
+}
+
+// The track of station `j` on the legs of its points at a position.
+pub(crate) fn track(alloc: Global, j: u32, at: Position) -> Result<Text, AllocError>
+    ensures { IfOk result (λ name. name ≡ stations.track j at) }
+{
+    match at {
+        Position::Plus => Ok(Text::of(format!(in alloc; "t{j}")?)),
+        Position::Minus => Ok(Text::of(format!(in alloc; "u{j}")?)),
+    }
+}
+
+// The point at the up end of station `j`.
+pub(crate) fn up_point(alloc: Global, j: u32) -> Result<Text, AllocError>
+    ensures { IfOk result (λ name. name ≡ stations.up_point j) }
+{
+    Ok(Text::of(format!(in alloc; "q{j}")?))
+}
+
+// The board on a section for trains that run up.
+pub(crate) fn up_board(alloc: Global, section: &Text) -> Result<Text, AllocError>
+    ensures { IfOk result (λ name. name ≡ stations.up_board section.now) }
+{
+    let section = section.as_str();
+    Ok(Text::of(format!(in alloc; "{section}U")?))
+}
+
+// The board on a section for trains that run down.
+pub(crate) fn down_board(alloc: Global, section: &Text) -> Result<Text, AllocError>
+    ensures { IfOk result (λ name. name ≡ stations.down_board section.now) }
+{
+    let section = section.as_str();
+    Ok(Text::of(format!(in alloc; "{section}D")?))
+}
+
+// The board for up on line `j` of `n` stations. None on the last line.
+pub(crate) fn line_up_board(alloc: Global, n: u32, j: u32) -> Result<Option<Text>, AllocError>
+    ensures { IfOk result (λ name. name ≡ stations.line_up_board n j) }
+{
+    if j < n {
+        let line = line(alloc, j)?;
+        Ok(Some(up_board(alloc, &line)?))
+    } else {
+        Ok(None)
+    }
+}
+
+// The board for down on line `j`. None on line 0.
+pub(crate) fn line_down_board(alloc: Global, j: u32) -> Result<Option<Text>, AllocError>
+    ensures { IfOk result (λ name. name ≡ stations.line_down_board j) }
+{
+    if 0 < j {
+        let line = line(alloc, j)?;
+        Ok(Some(down_board(alloc, &line)?))
+    } else {
+        Ok(None)
+    }
+}
+
+// What lies down from line `j`. None for line 0.
+pub(crate) fn point_below(alloc: Global, j: u32) -> Result<Option<Text>, AllocError>
+    ensures { IfOk result (λ name. name ≡ stations.point_below j) }
+{
+    if 0 < j {
+        Ok(Some(up_point(alloc, j)?))
+    } else {
+        Ok(None)
+    }
+}
+
+// What lies up from line `j` of `n` stations. None for the last line.
+pub(crate) fn point_above(alloc: Global, n: u32, j: u32) -> Result<Option<Text>, AllocError>
+    ensures { IfOk result (λ name. name ≡ stations.point_above n j) }
+{
+    if j < n {
+        Ok(Some(down_point(alloc, j + 1)?))
+    } else {
+        Ok(None)
+    }
+}
+
+// Route `k` of station `j`.
+pub(crate) fn route_name(alloc: Global, j: u32, k: u32) -> Result<Text, AllocError>
+    ensures { IfOk result (λ name. name ≡ routes.route_name j k) }
+{
+    Ok(Text::of(format!(in alloc; "s{j}r{k}")?))
+}

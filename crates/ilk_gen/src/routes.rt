@@ -1,0 +1,268 @@
+//! The table: the routes of the stations. `WrittenRoutes` has them as they are written here, with the
+//! numbers of their conflicts; a proof says that these are the conflicts.
+
+ghost use Rattle.std.specs.Prelude.{◌≡◌, ◌≤◌, ◌∷◌, ◌++◌, [], IfOk, OnOk};
+ghost use Rattle.ilk_gen.specs.StationRoutes as stations;
+ghost use Rattle.ilk_gen.specs.WrittenRoutes as written;
+ghost use Rattle.ilk_gen.specs.declared.making.TheConstants.{MAX_STATIONS};
+
+use crate::names::{
+    down_board, down_point, line, line_down_board, line_up_board, route_name, track, up_board,
+    up_point,
+};
+use ilk_plant::{ListedDraft, Position, RouteDraft, Row, TableDraft, Text};
+use std::alloc::{AllocError, Global};
+
+// A path of two sections.
+fn path_of(alloc: Global, first: &Text, last: &Text) -> Result<Row<Text>, AllocError>
+    ensures { IfOk result (λ path. path ≡ first.now ∷ last.now ∷ []) }
+{
+    let mut path = Row::new(alloc);
+    path.push(first.copy(alloc)?)?;
+    path.push(last.copy(alloc)?)?;
+    Ok(path)
+}
+
+// One point, listed in a position.
+fn listed(alloc: Global, point: &Text, at: Position) -> Result<Row<ListedDraft>, AllocError>
+    ensures { IfOk result (λ points. points ≡ record { point = point.now; at = at } ∷ []) }
+{
+    let mut points = Row::new(alloc);
+    let point = point.copy(alloc)?;
+    points.push(ListedDraft { point, at })?;
+    Ok(points)
+}
+
+// The ends of a route: its name and its boards.
+#[derive(Drop)]
+struct Ends {
+    name: Text,
+    source: Text,
+    destination: Option<Text>,
+}
+
+// A route over a point in one position and the section behind it, with these conflicts.
+fn over_point(
+    alloc: Global,
+    ends: Ends,
+    point: &Text,
+    at: Position,
+    behind: &Text,
+    conflicts: Row<Text>,
+) -> Result<RouteDraft, AllocError>
+    ensures { IfOk result (λ route. route ≡ written.listing conflicts (stations.over_point ends.name ends.source ends.destination point.now at behind.now)) }
+{
+    let path = path_of(alloc, point, behind)?;
+    let points = listed(alloc, point, at)?;
+    let Ends {
+        name,
+        source,
+        destination,
+    } = ends;
+    Ok(RouteDraft {
+        name,
+        source,
+        destination,
+        path,
+        overlap: Row::new(alloc),
+        points,
+        conflicts,
+        protecting_points: Row::new(alloc),
+        protecting_boards: Row::new(alloc),
+    })
+}
+
+// Route `k` of station `j`, up into it by one track.
+fn up_into(
+    alloc: Global,
+    j: u32,
+    k: u32,
+    at: Position,
+    conflicts: Row<Text>,
+) -> Result<RouteDraft, AllocError>
+    requires { 1 ≤ j }
+    ensures { IfOk result (λ route. route ≡ written.listing conflicts (stations.up_into j k at)) }
+{
+    let below = line(alloc, j - 1)?;
+    let point = down_point(alloc, j)?;
+    let track = track(alloc, j, at)?;
+    let name = route_name(alloc, j, k)?;
+    let source = up_board(alloc, &below)?;
+    let destination = Some(up_board(alloc, &track)?);
+    let ends = Ends {
+        name,
+        source,
+        destination,
+    };
+    over_point(alloc, ends, &point, at, &track, conflicts)
+}
+
+// Route `k` of station `j` of `n`, up out of it by one track.
+fn up_out_of(
+    alloc: Global,
+    n: u32,
+    j: u32,
+    k: u32,
+    at: Position,
+    conflicts: Row<Text>,
+) -> Result<RouteDraft, AllocError>
+    ensures { IfOk result (λ route. route ≡ written.listing conflicts (stations.up_out_of n j k at)) }
+{
+    let above = line(alloc, j)?;
+    let point = up_point(alloc, j)?;
+    let track = track(alloc, j, at)?;
+    let name = route_name(alloc, j, k)?;
+    let source = up_board(alloc, &track)?;
+    let destination = line_up_board(alloc, n, j)?;
+    let ends = Ends {
+        name,
+        source,
+        destination,
+    };
+    over_point(alloc, ends, &point, at, &above, conflicts)
+}
+
+// Route `k` of station `j`, down into it by one track.
+fn down_into(
+    alloc: Global,
+    j: u32,
+    k: u32,
+    at: Position,
+    conflicts: Row<Text>,
+) -> Result<RouteDraft, AllocError>
+    ensures { IfOk result (λ route. route ≡ written.listing conflicts (stations.down_into j k at)) }
+{
+    let above = line(alloc, j)?;
+    let point = up_point(alloc, j)?;
+    let track = track(alloc, j, at)?;
+    let name = route_name(alloc, j, k)?;
+    let source = down_board(alloc, &above)?;
+    let destination = Some(down_board(alloc, &track)?);
+    let ends = Ends {
+        name,
+        source,
+        destination,
+    };
+    over_point(alloc, ends, &point, at, &track, conflicts)
+}
+
+// Route `k` of station `j`, down out of it by one track.
+fn down_out_of(
+    alloc: Global,
+    j: u32,
+    k: u32,
+    at: Position,
+    conflicts: Row<Text>,
+) -> Result<RouteDraft, AllocError>
+    requires { 1 ≤ j }
+    ensures { IfOk result (λ route. route ≡ written.listing conflicts (stations.down_out_of j k at)) }
+{
+    let below = line(alloc, j - 1)?;
+    let point = down_point(alloc, j)?;
+    let track = track(alloc, j, at)?;
+    let name = route_name(alloc, j, k)?;
+    let source = down_board(alloc, &track)?;
+    let destination = line_down_board(alloc, j - 1)?;
+    let ends = Ends {
+        name,
+        source,
+        destination,
+    };
+    over_point(alloc, ends, &point, at, &below, conflicts)
+}
+
+// Adds the names of these routes of station `j`.
+fn push_names(
+    alloc: Global,
+    j: u32,
+    numbers: &[u32],
+    names: &mut Row<Text>,
+) -> Result<(), AllocError>
+    ensures { OnOk result (names.new ≡ names.old ++ written.route_names j numbers.now) }
+{
+    for k in numbers {
+        names.push(route_name(alloc, j, *k)?)?;
+    }
+    Ok(())
+}
+
+// The names of these routes of station `j`.
+fn names_of(alloc: Global, j: u32, own: &[u32]) -> Result<Row<Text>, AllocError>
+    ensures { IfOk result (λ names. names ≡ written.route_names j own.now) }
+{
+    let mut names = Row::new(alloc);
+    push_names(alloc, j, own, &mut names)?;
+    Ok(names)
+}
+
+// The conflicts of a route up out of station `j` of `n`.
+fn names_up_out(alloc: Global, n: u32, j: u32, own: &[u32]) -> Result<Row<Text>, AllocError>
+    ensures { IfOk result (λ names. names ≡ written.names_up_out n j own.now) }
+{
+    let mut names = names_of(alloc, j, own)?;
+    if j < n {
+        push_names(alloc, j + 1, &[7, 8], &mut names)?;
+    }
+    Ok(names)
+}
+
+// The conflicts of a route down out of station `j`.
+fn names_down_out(alloc: Global, j: u32, own: &[u32]) -> Result<Row<Text>, AllocError>
+    ensures { IfOk result (λ names. names ≡ written.names_down_out j own.now) }
+{
+    let mut names = Row::new(alloc);
+    if 1 < j {
+        push_names(alloc, j - 1, &[3, 4], &mut names)?;
+    }
+    push_names(alloc, j, own, &mut names)?;
+    Ok(names)
+}
+
+// Adds the routes of station `j` of `n`.
+fn push_station(
+    alloc: Global,
+    n: u32,
+    j: u32,
+    routes: &mut Row<RouteDraft>,
+) -> Result<(), AllocError>
+    requires { 1 ≤ j }
+    ensures { OnOk result (routes.new ≡ routes.old ++ written.written_routes n j) }
+{
+    let (plus, minus) = (Position::Plus, Position::Minus);
+    routes.push(up_into(alloc, j, 1, plus, names_of(alloc, j, &[2, 5, 7, 8])?)?)?;
+    routes.push(up_into(alloc, j, 2, minus, names_of(alloc, j, &[1, 6, 7, 8])?)?)?;
+    routes.push(up_out_of(alloc, n, j, 3, plus, names_up_out(alloc, n, j, &[4, 5, 6])?)?)?;
+    routes.push(up_out_of(
+        alloc,
+        n,
+        j,
+        4,
+        minus,
+        names_up_out(alloc, n, j, &[3, 5, 6])?,
+    )?)?;
+    routes.push(down_into(alloc, j, 5, plus, names_of(alloc, j, &[1, 3, 4, 6])?)?)?;
+    routes.push(down_into(alloc, j, 6, minus, names_of(alloc, j, &[2, 3, 4, 5])?)?)?;
+    routes.push(down_out_of(alloc, j, 7, plus, names_down_out(alloc, j, &[1, 2, 8])?)?)?;
+    routes.push(down_out_of(alloc, j, 8, minus, names_down_out(alloc, j, &[1, 2, 7])?)?)
+}
+
+// Adds the routes of the stations 1 to `n`.
+fn push_routes(alloc: Global, n: u32, routes: &mut Row<RouteDraft>) -> Result<(), AllocError>
+    ensures { OnOk result (routes.new ≡ routes.old ++ written.all_written_routes n) }
+{
+    for i in 0..n {
+        push_station(alloc, n, i + 1, routes)?;
+    }
+    Ok(())
+}
+
+/// The table of `n` stations.
+pub(crate) fn stations_table(alloc: Global, n: u32) -> Result<TableDraft, AllocError>
+    requires some { 1 ≤ n }
+    requires few { n ≤ MAX_STATIONS }
+    ensures { IfOk result (λ table. table ≡ stations.stations_table n) }
+{
+    let mut routes = Row::new(alloc);
+    push_routes(alloc, n, &mut routes)?;
+    Ok(TableDraft { routes })
+}

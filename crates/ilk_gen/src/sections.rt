@@ -1,0 +1,120 @@
+//! The network: the sections of the stations.
+
+ghost use Rattle.std.specs.Prelude.{◌≡◌, ◌≤◌, ◌++◌, IfOk, OnOk};
+ghost use Rattle.ilk_gen.specs.Stations as stations;
+ghost use Rattle.ilk_gen.specs.declared.making.TheConstants.{MAX_STATIONS};
+
+use crate::names::{
+    down_board, down_point, line, line_down_board, line_up_board, point_above, point_below, track,
+    up_board, up_point,
+};
+use ilk_plant::{Dir, KindDraft, NetDraft, Position, Row, SectionDraft};
+use std::alloc::{AllocError, Global};
+
+// Line `j` of `n` stations.
+fn line_section(alloc: Global, n: u32, j: u32) -> Result<SectionDraft, AllocError>
+    ensures { IfOk result (λ section. section ≡ stations.line_section n j) }
+{
+    let name = line(alloc, j)?;
+    let down = point_below(alloc, j)?;
+    let up = point_above(alloc, n, j)?;
+    let board_down = line_down_board(alloc, j)?;
+    let board_up = line_up_board(alloc, n, j)?;
+    let kind = KindDraft::Linear {
+        down,
+        up,
+        board_down,
+        board_up,
+    };
+    Ok(SectionDraft { name, kind })
+}
+
+// A track of station `j`.
+fn track_section(alloc: Global, j: u32, at: Position) -> Result<SectionDraft, AllocError>
+    ensures { IfOk result (λ section. section ≡ stations.track_section j at) }
+{
+    let name = track(alloc, j, at)?;
+    let down = down_point(alloc, j)?;
+    let up = up_point(alloc, j)?;
+    let board_down = down_board(alloc, &name)?;
+    let board_up = up_board(alloc, &name)?;
+    let kind = KindDraft::Linear {
+        down: Some(down),
+        up: Some(up),
+        board_down: Some(board_down),
+        board_up: Some(board_up),
+    };
+    Ok(SectionDraft { name, kind })
+}
+
+// The point at the down end of station `j`.
+fn down_point_section(alloc: Global, j: u32) -> Result<SectionDraft, AllocError>
+    requires { 1 ≤ j }
+    ensures { IfOk result (λ section. section ≡ stations.down_point_section j) }
+{
+    let name = down_point(alloc, j)?;
+    let stem = line(alloc, j - 1)?;
+    let plus = track(alloc, j, Position::Plus)?;
+    let minus = track(alloc, j, Position::Minus)?;
+    let kind = KindDraft::Point {
+        stem,
+        plus,
+        minus,
+        faces: Dir::Up,
+    };
+    Ok(SectionDraft { name, kind })
+}
+
+// The point at the up end of station `j`.
+fn up_point_section(alloc: Global, j: u32) -> Result<SectionDraft, AllocError>
+    ensures { IfOk result (λ section. section ≡ stations.up_point_section j) }
+{
+    let name = up_point(alloc, j)?;
+    let stem = line(alloc, j)?;
+    let plus = track(alloc, j, Position::Plus)?;
+    let minus = track(alloc, j, Position::Minus)?;
+    let kind = KindDraft::Point {
+        stem,
+        plus,
+        minus,
+        faces: Dir::Down,
+    };
+    Ok(SectionDraft { name, kind })
+}
+
+// Adds the sections of station `j` of `n`, and the line behind it.
+fn push_station(
+    alloc: Global,
+    n: u32,
+    j: u32,
+    sections: &mut Row<SectionDraft>,
+) -> Result<(), AllocError>
+    requires { 1 ≤ j }
+    ensures { OnOk result (sections.new ≡ sections.old ++ stations.station_sections n j) }
+{
+    sections.push(down_point_section(alloc, j)?)?;
+    sections.push(track_section(alloc, j, Position::Plus)?)?;
+    sections.push(track_section(alloc, j, Position::Minus)?)?;
+    sections.push(up_point_section(alloc, j)?)?;
+    sections.push(line_section(alloc, n, j)?)
+}
+
+// Adds the sections of the stations 1 to `n`.
+fn push_stations(alloc: Global, n: u32, sections: &mut Row<SectionDraft>) -> Result<(), AllocError>
+    ensures { OnOk result (sections.new ≡ sections.old ++ stations.all_station_sections n) }
+{
+    for i in 0..n {
+        push_station(alloc, n, i + 1, sections)?;
+    }
+    Ok(())
+}
+
+/// The network of `n` stations.
+pub(crate) fn stations_net(alloc: Global, n: u32) -> Result<NetDraft, AllocError>
+    ensures { IfOk result (λ net. net ≡ stations.stations_net n) }
+{
+    let mut sections = Row::new(alloc);
+    sections.push(line_section(alloc, n, 0)?)?;
+    push_stations(alloc, n, &mut sections)?;
+    Ok(NetDraft { sections })
+}

@@ -1,0 +1,307 @@
+-- How the items of a text are read, word by word.
+use Rattle.std.proofs.Common.{◌≡◌, ◌<◌, ◌≤◌, ◌+◌, ◌++◌, ◌∷◌, [], ◌⊎◌, ◌||◌, ◌&&◌, eqb, ℕ, suc, inl, inr, Bool, true, false, not, List, Option, Some, None, length, refl, sym, ap, ◌∙◌, subst, arith, append_assoc, option_map}
+use Rattle.std.specs.Prelude.{bytes_eq, codes, nat_le, nat_lt}
+use Rattle.std.specs.Str.Parse.{digits_value}
+use Rattle.std.proofs.lemmas.Slice.Eq.{bytes_eq-Decides}
+use Rattle.ilk_base.proofs.Options.{bind_some, mapped-Some}
+use Rattle.ilk_lines.specs.Decimal.{decimal_up_to, is_decimal}
+use Rattle.ilk_rup.specs.Standing.{IsClauseOf}
+use Rattle.std.specs.List.{list_any}
+use Rattle.std.proofs.lemmas.Bool.{and_from, and_parts, cases_Bool, not-true, not_from_false, or_cases, or_left, or_parts, or_right, true≢false}
+use Rattle.std.proofs.lemmas.List.{append-nil}
+use Rattle.std.proofs.lemmas.List.Folds.{list_any-append}
+use Rattle.std.proofs.lemmas.Option.{same_Some}
+use Rattle.ilk_base.specs.Option.{◌>>=◌, only_if}
+use Rattle.ilk_cnf.specs.Literal.{Literal, opposite, same_lit, has_lit, has_var, vars_differ}
+use Rattle.ilk_cnf.specs.Formula.{as_clause, clause_in, distinct, is_tautology, lit_in}
+use Rattle.ilk_cnf.proofs.Gates.{opposite-opposite}
+use Rattle.ilk_cnf.proofs.SameLiterals.{same-lit, lit-is, has-var}
+use Rattle.ilk_lines.specs.Lines.{Bytes}
+use Rattle.ilk_learn.proofs.Members.{each-within, var-of}
+use Rattle.ilk_rup.specs.RefutationText.{added_by, in_first, is_end, items_of, literal_of, literals_of, var_of}
+use Rattle.ilk_rup.specs.Items.{AreRead, IsItemRead, IsPut, IsRead, kept_item, plain_item, there, clash, more}
+use Rattle.ilk_rup.proofs.Signs.{var-either}
+use Rattle.ilk_rup.proofs.Needing.{pushed-lit, push-old, push-new}
+
+-- where words and literals were read before these words: what the first item of all is
+pub record Before (n : ℕ) (words now : List Bytes) (ls : List Literal) : Type 0 where
+  pub front : List Bytes
+  pub whole : words ≡ front ++ now
+  pub lits : (w : Bytes) (ws : List Bytes) → literals_of n (front ++ w ∷ ws) ≡ option_map (λ ms. ls ++ ms) (literals_of n (w ∷ ws))
+  pub items : (w : Bytes) (ws item : List Bytes) (rest : List (List Bytes)) → items_of (w ∷ ws) ≡ item ∷ rest → items_of (front ++ w ∷ ws) ≡ (front ++ item) ∷ rest
+
+pub before-start : (n : ℕ) (words : List Bytes) → Before n words words []
+before-start n words = record {
+  front = [];
+  whole = refl;
+  lits = λ w ws. same (literals_of n (w ∷ ws));
+  items = λ w ws item rest e. e;
+}
+  where
+    same : (o : Option (List Literal)) → o ≡ option_map (λ ms. [] ++ ms) o
+    same None = refl
+    same (Some ms) = refl
+
+first-lits : (n : ℕ) (word w : Bytes) (ws : List Bytes) (l : Literal) (ls : List Literal) → literal_of n word ≡ Some l → option_map (λ ms. ls ++ ms) (literals_of n (word ∷ (w ∷ ws))) ≡ option_map (λ ms. (ls ++ l ∷ []) ++ ms) (literals_of n (w ∷ ws))
+first-lits n word w ws l ls e = ap (λ (o : Option Literal). option_map (λ ms. ls ++ ms) (o >>= λ x. literals_of n (w ∷ ws) >>= λ xs. Some (x ∷ xs))) e ∙ go (literals_of n (w ∷ ws))
+  where
+    go : (o : Option (List Literal)) → option_map (λ ms. ls ++ ms) (o >>= λ xs. Some (l ∷ xs)) ≡ option_map (λ ms. (ls ++ l ∷ []) ++ ms) o
+    go None = refl
+    go (Some ms) = ap (λ (xs : List Literal). Some xs) (sym (append_assoc ls (l ∷ []) ms))
+
+pub before-next : (n : ℕ) (words rest : List Bytes) (word : Bytes) (ls : List Literal) (l : Literal) → Before n words (word ∷ rest) ls → is_end word ≡ false → literal_of n word ≡ Some l → Before n words rest (ls ++ l ∷ [])
+before-next n words rest word ls l b e k = record {
+  front = b.front ++ word ∷ [];
+  whole = b.whole ∙ sym (append_assoc b.front (word ∷ []) rest);
+  lits = λ w ws. ap (literals_of n) (append_assoc b.front (word ∷ []) (w ∷ ws)) ∙ b.lits word (w ∷ ws) ∙ first-lits n word w ws l ls k;
+  items = λ w ws item more h. (let inner : items_of (word ∷ (w ∷ ws)) ≡ (word ∷ item) ∷ more = rw e (ap (in_first word) h) in
+      ap items_of (append_assoc b.front (word ∷ []) (w ∷ ws)) ∙ b.items word (w ∷ ws) (word ∷ item) more inner ∙ ap (λ (xs : List Bytes). xs ∷ more) (sym (append_assoc b.front (word ∷ []) item)));
+}
+
+-- the word 0
+pub read-end : (n : ℕ) (words rest : List Bytes) (word : Bytes) (ls : List Literal) → Before n words (word ∷ rest) ls → is_end word ≡ true → (item : List Bytes) × (items_of words ≡ item ∷ items_of rest) × (literals_of n item ≡ Some ls)
+read-end n words rest word ls b e =
+    let inner : items_of (word ∷ rest) ≡ (word ∷ []) ∷ items_of rest = rw e refl in
+    let last : literals_of n (word ∷ []) ≡ Some [] = rw e refl in (
+      b.front ++ word ∷ [],
+      ap items_of b.whole ∙ b.items word rest (word ∷ []) (items_of rest) inner,
+      b.lits word [] ∙ ap (option_map (λ ms. ls ++ ms)) last ∙ ap (λ (xs : List Literal). Some xs) (append-nil ls),
+    )
+
+-- the first item of some words
+first-item : (word : Bytes) (rest : List Bytes) → is_end word ≡ false → (tail : List Bytes) × (items : List (List Bytes)) × (items_of (word ∷ rest) ≡ (word ∷ tail) ∷ items)
+first-item word rest e = go (items_of rest) refl
+  where
+    go : (xs : List (List Bytes)) → items_of rest ≡ xs → (tail : List Bytes) × (items : List (List Bytes)) × (items_of (word ∷ rest) ≡ (word ∷ tail) ∷ items)
+    go [] h = ([], [], rw e (ap (in_first word) h))
+    go (item ∷ items) h = (item, items, rw e (ap (in_first word) h))
+
+-- a word that is none of the two
+pub read-bad : (n : ℕ) (words rest : List Bytes) (word : Bytes) (ls : List Literal) → Before n words (word ∷ rest) ls → is_end word ≡ false → literal_of n word ≡ None → (item : List Bytes) × (items : List (List Bytes)) × (items_of words ≡ item ∷ items) × (literals_of n item ≡ None)
+read-bad n words rest word ls b e k =
+    let f = first-item word rest e in (
+      b.front ++ word ∷ f.0,
+      f.1,
+      ap items_of b.whole ∙ b.items word rest (word ∷ f.0) f.1 f.2,
+      b.lits word f.0 ∙ ap (option_map (λ ms. ls ++ ms)) (bad f.0),
+    )
+  where
+    bad : (tail : List Bytes) → literals_of n (word ∷ tail) ≡ None
+    bad [] = rw e refl
+    bad (w ∷ ws) = ap (λ (o : Option Literal). o >>= λ x. literals_of n (w ∷ ws) >>= λ xs. Some (x ∷ xs)) k
+
+-- no word is left
+pub read-cut : (n : ℕ) (words : List Bytes) (word : Bytes) (ls : List Literal) → Before n words (word ∷ []) ls → is_end word ≡ false → (item : List Bytes) × (items : List (List Bytes)) × (items_of words ≡ item ∷ items) × (literals_of n item ≡ None)
+read-cut n words word ls b e =
+    let inner : items_of (word ∷ []) ≡ (word ∷ []) ∷ [] = rw e refl in
+    let last : literals_of n (word ∷ []) ≡ None = rw e refl in (
+      b.front ++ word ∷ [],
+      [],
+      ap items_of b.whole ∙ b.items word [] (word ∷ []) [] inner,
+      b.lits word [] ∙ ap (option_map (λ ms. ls ++ ms)) last,
+    )
+
+-- literals, with one more
+taut-push : (ls : List Literal) (l : Literal) → is_tautology (ls ++ l ∷ []) ≡ (is_tautology ls || has_lit (opposite l) ls)
+taut-push [] l = refl
+taut-push (m ∷ ls) l =
+    ap (λ b. b || is_tautology (ls ++ l ∷ [])) (list_any-append (same_lit (opposite m)) ls (l ∷ [])) ∙ ap (λ b. (has_lit (opposite m) ls || has_lit (opposite m) (l ∷ [])) || b) (taut-push ls l) ∙ mix (has_lit (opposite m) ls) (same_lit (opposite m) l) (is_tautology ls) (has_lit (opposite l) ls) ∙ ap (λ b. (has_lit (opposite m) ls || is_tautology ls) || (b || has_lit (opposite l) ls)) (turn m l)
+  where
+    mix : (a b c d : Bool) → ((a || (b || false)) || (c || d)) ≡ ((a || c) || (b || d))
+    mix true b c d = refl
+    mix false true true d = refl
+    mix false true false d = refl
+    mix false false true d = refl
+    mix false false false d = refl
+
+    turn : (m l : Literal) → same_lit (opposite m) l ≡ same_lit (opposite l) m
+    turn m l = elim (cases_Bool (same_lit (opposite m) l)) [
+      | inl t ↦ t ∙ sym (ap (same_lit (opposite l)) (sym (opposite-opposite m) ∙ ap opposite (lit-is (opposite m) l t)) ∙ same-lit (opposite l))
+      | inr t ↦ elim (cases_Bool (same_lit (opposite l) m)) [
+        | inl u ↦ absurd (true≢false (sym (ap (same_lit (opposite m)) (sym (opposite-opposite l) ∙ ap opposite (lit-is (opposite l) m u)) ∙ same-lit (opposite m)) ∙ t))
+        | inr u ↦ t ∙ sym u
+      ]
+    ]
+
+-- where no variable has both, a literal's opposite isn't there with it
+both-split : (xs : List Literal) (l x : Literal) → ((has_lit l xs ≡ true) → (has_lit (opposite l) xs ≡ true) → ⊥) → has_lit (opposite x) xs ≡ false → (same_lit l x ≡ true) ⊎ (has_lit l xs ≡ true) → (same_lit (opposite l) x ≡ true) ⊎ (has_lit (opposite l) xs ≡ true) → ⊥
+both-split xs l x rest t (inl a) (inl b) = never l.positive (ap (λ (z : Literal). z.positive) (lit-is (opposite l) x b ∙ sym (lit-is l x a)))
+  where
+    never : (p : Bool) → not p ≡ p → ⊥
+    never true e = cc
+    never false e = cc
+both-split xs l x rest t (inl a) (inr b) = true≢false (sym b ∙ ap (λ (z : Literal). has_lit (opposite z) xs) (lit-is l x a) ∙ t)
+both-split xs l x rest t (inr a) (inl b) = true≢false (sym a ∙ ap (λ (z : Literal). has_lit z xs) (sym (opposite-opposite l) ∙ ap opposite (lit-is (opposite l) x b)) ∙ t)
+both-split xs l x rest t (inr a) (inr b) = rest a b
+
+never-both : (xs : List Literal) (l : Literal) → is_tautology xs ≡ false → has_lit l xs ≡ true → has_lit (opposite l) xs ≡ true → ⊥
+never-both [] l t a b = true≢false (sym a)
+never-both (x ∷ xs) l t a b =
+    let p = or_parts (has_lit (opposite x) xs) (is_tautology xs) t in
+    both-split xs l x (λ c d. never-both xs l p.1 c d) p.0 (or_cases (same_lit l x) (has_lit l xs) a) (or_cases (same_lit (opposite l) x) (has_lit (opposite l) xs) b)
+
+not-both-there : (ls : List Literal) (l : Literal) → is_tautology ls ≡ false → has_lit l ls ≡ true → has_lit (opposite l) ls ≡ false
+not-both-there ls l t own = elim (cases_Bool (has_lit (opposite l) ls)) [ inl x ↦ absurd (never-both ls l t own x) | inr x ↦ x ]
+
+-- a variable without the literal has its opposite
+pub other-sign : (ls : List Literal) (l : Literal) → has_var l.var ls ≡ true → has_lit l ls ≡ false → has_lit (opposite l) ls ≡ true
+other-sign ls l v n =
+    let x = var-of ls l.var v in
+    elim (var-either x.0 l ls x.1 x.2) [ inl t ↦ absurd (true≢false (sym t ∙ n)) | inr t ↦ t ]
+
+pub are-none : AreRead [] [] false
+are-none = record { clash = refl; fewer = λ e m h. h; members = λ e m h. h }
+
+pub are-more : (ls old new : List Literal) (l : Literal) (was one : Bool) → AreRead ls old was → IsPut l old new one → AreRead (ls ++ l ∷ []) new (one || was)
+are-more ls old new l was one k p = by was k p
+  where
+    yes : (b : Bool) → is_tautology (ls ++ l ∷ []) ≡ true → b ≡ true → AreRead (ls ++ l ∷ []) new b
+    yes b t e = record { clash = t ∙ sym e; fewer = λ f. absurd (true≢false (sym e ∙ f)); members = λ f. absurd (true≢false (sym e ∙ f)) }
+
+    or-true : (b : Bool) → (b || true) ≡ true
+    or-true true = refl
+    or-true false = refl
+
+    by : (was : Bool) → AreRead ls old was → IsPut l old new one → AreRead (ls ++ l ∷ []) new (one || was)
+    by true k p = yes (one || true) (taut-push ls l ∙ ap (λ b. b || has_lit (opposite l) ls) k.clash) (or-true one)
+    by false k (there e h f) = (let P : Bool → Type 0 = λ b. AreRead (ls ++ l ∷ []) new (b || false) in
+        let Q : List Literal → Type 0 = λ s. AreRead (ls ++ l ∷ []) s false in
+        let own = k.fewer refl l h in
+        subst P (sym f) (subst Q (sym e) (record {
+          clash = taut-push ls l ∙ ap (λ b. b || has_lit (opposite l) ls) k.clash ∙ not-both-there ls l k.clash own;
+          fewer = λ _ m x. push-old ls l m (k.fewer refl m x);
+          members = λ _ m x. elim (pushed-lit ls l m x) [ inl y ↦ k.members refl m y | inr y ↦ ap (λ (z : Literal). has_lit z old) y ∙ h ];
+        })))
+    by false k (clash e h f) = (let P : Bool → Type 0 = λ b. AreRead (ls ++ l ∷ []) new (b || false) in
+        subst P (sym f) (yes true (taut-push ls l ∙ ap (λ b. is_tautology ls || b) (k.fewer refl (opposite l) h) ∙ or-true (is_tautology ls)) refl))
+    by false k (more e h f) = (let P : Bool → Type 0 = λ b. AreRead (ls ++ l ∷ []) new (b || false) in
+        let Q : List Literal → Type 0 = λ s. AreRead (ls ++ l ∷ []) s false in
+        subst P (sym f) (subst Q (sym e) (record {
+          clash = taut-push ls l ∙ ap (λ b. b || has_lit (opposite l) ls) k.clash ∙ elim (cases_Bool (has_lit (opposite l) ls)) [
+            | inl t ↦ absurd (true≢false (sym (k.members refl (opposite l) t) ∙ h))
+            | inr t ↦ t
+          ];
+          fewer = λ _ m x. elim (pushed-lit old l m x) [ inl y ↦ push-old ls l m (k.fewer refl m y) | inr y ↦ ap (λ (z : Literal). has_lit z (ls ++ l ∷ [])) y ∙ push-new ls l ];
+          members = λ _ m x. elim (pushed-lit ls l m x) [ inl y ↦ push-old old l m (k.members refl m y) | inr y ↦ ap (λ (z : Literal). has_lit z (old ++ l ∷ [])) y ∙ push-new old l ];
+        })))
+
+-- a test that passed
+only-some : {X : Type 0} (b : Bool) (x y : X) → only_if b x ≡ Some y → (b ≡ true) × (x ≡ y)
+only-some true x y e = (refl, same_Some x y e)
+only-some false x y e = absurd (cc)
+
+var-in : (n v : ℕ) (word : Bytes) → var_of n word ≡ Some v → (nat_lt 0 v ≡ true) × (nat_le v n ≡ true)
+var-in n v word e =
+    let b = bind_some (decimal_up_to n word) (λ (x : ℕ). only_if (nat_lt 0 x) x) v e in
+    let low = only-some (nat_lt 0 b.0) b.0 v b.2 in
+    let d = only-some (is_decimal word && nat_le (digits_value 10 word) n) (digits_value 10 word) b.0 b.1 in
+    let high = and_parts (is_decimal word) (nat_le (digits_value 10 word) n) d.0 in
+    (ap (nat_lt 0) (sym low.1) ∙ low.0, ap (λ (x : ℕ). nat_le x n) (sym (d.1 ∙ low.1)) ∙ high.1)
+
+pub literal-in : (n : ℕ) (word : Bytes) (l : Literal) → literal_of n word ≡ Some l → lit_in n l ≡ true
+literal-in n [] l e = absurd (cc)
+literal-in n (b ∷ word) l e = elim (cases_Bool (eqb b 45)) [
+  | inl t ↦ (let m = mapped-Some (λ (v : ℕ). let x : Literal = record { var = v; positive = false } in x) (var_of n word) l (rw t at e) in made m.0 false m.2 (var-in n m.0 word m.1))
+  | inr t ↦ (let m = mapped-Some (λ (v : ℕ). let x : Literal = record { var = v; positive = true } in x) (var_of n (b ∷ word)) l (rw t at e) in made m.0 true m.2 (var-in n m.0 (b ∷ word) m.1))
+]
+  where
+    made : (v : ℕ) (p : Bool) → ◌≡◌ {A = Literal} (record { var = v; positive = p }) l → (nat_lt 0 v ≡ true) × (nat_le v n ≡ true) → lit_in n l ≡ true
+    made v p e h = ap (lit_in n) (sym e) ∙ and_from (nat_lt 0 v) (nat_le v n) h.0 h.1
+
+literals-in : (n : ℕ) (item : List Bytes) (ls : List Literal) → literals_of n item ≡ Some ls → clause_in n ls ≡ true
+literals-in n [] ls e = absurd (cc)
+literals-in n (w ∷ []) ls e = (let o = only-some (is_end w) [] ls e in ap (clause_in n) (sym o.1))
+literals-in n (w ∷ (v ∷ ws)) ls e =
+    let b = bind_some (literal_of n w) (λ (l : Literal). literals_of n (v ∷ ws) >>= λ xs. Some (l ∷ xs)) ls e in
+    let c = bind_some (literals_of n (v ∷ ws)) (λ (xs : List Literal). Some (b.0 ∷ xs)) ls b.2 in
+    ap (clause_in n) (sym (same_Some (b.0 ∷ c.0) ls c.2)) ∙ and_from (lit_in n b.0) (clause_in n c.0) (literal-in n w b.0 b.1) (literals-in n (v ∷ ws) c.0 c.1)
+
+-- each literal once
+distinct-fewer : (ls : List Literal) (m : Literal) → has_lit m (distinct ls) ≡ true → has_lit m ls ≡ true
+distinct-fewer [] m h = h
+distinct-fewer (l ∷ ls) m h = elim (cases_Bool (has_lit l ls)) [
+  | inl t ↦ or_right (same_lit m l) (has_lit m ls) (distinct-fewer ls m (rw t at h))
+  | inr t ↦ (let k : has_lit m (l ∷ distinct ls) ≡ true = rw t at h in
+      elim (or_cases (same_lit m l) (has_lit m (distinct ls)) k) [
+        | inl y ↦ or_left (same_lit m l) (has_lit m ls) y
+        | inr y ↦ or_right (same_lit m l) (has_lit m ls) (distinct-fewer ls m y)
+      ])
+]
+
+distinct-more : (ls : List Literal) (m : Literal) → has_lit m ls ≡ true → has_lit m (distinct ls) ≡ true
+distinct-more [] m h = h
+distinct-more (l ∷ ls) m h = elim (cases_Bool (has_lit l ls)) [
+  | inl t ↦ rw t (elim (or_cases (same_lit m l) (has_lit m ls) h) [
+    | inl y ↦ distinct-more ls m (ap (λ (z : Literal). has_lit z ls) (lit-is m l y) ∙ t)
+    | inr y ↦ distinct-more ls m y
+  ])
+  | inr t ↦ rw t (elim (or_cases (same_lit m l) (has_lit m ls) h) [
+    | inl y ↦ or_left (same_lit m l) (has_lit m (distinct ls)) y
+    | inr y ↦ or_right (same_lit m l) (has_lit m (distinct ls)) (distinct-more ls m y)
+  ])
+]
+
+distinct-differ : (ls : List Literal) → is_tautology ls ≡ false → vars_differ (distinct ls) ≡ true
+distinct-differ [] t = refl
+distinct-differ (l ∷ ls) t =
+    let p = or_parts (has_lit (opposite l) ls) (is_tautology ls) t in
+    elim (cases_Bool (has_lit l ls)) [
+      | inl y ↦ rw y (distinct-differ ls p.1)
+      | inr y ↦ rw y (and_from (not (has_var l.var (distinct ls))) (vars_differ (distinct ls)) (not_from_false (has_var l.var (distinct ls)) (elim (cases_Bool (has_var l.var (distinct ls))) [
+        | inl z ↦ absurd (let x = var-of (distinct ls) l.var z in
+            elim (var-either x.0 l ls x.1 (distinct-fewer ls x.0 x.2)) [
+              | inl w ↦ true≢false (sym w ∙ y)
+              | inr w ↦ true≢false (sym w ∙ p.0)
+            ])
+        | inr z ↦ z
+      ])) (distinct-differ ls p.1))
+    ]
+
+-- the clause of the literals that were read
+pub clause-read : (n : ℕ) (item : List Bytes) (ls set : List Literal) → literals_of n item ≡ Some ls → AreRead ls set false → IsClauseOf n set (distinct ls)
+clause-read n item ls set e k = record {
+  within = each-within n (distinct ls) ls (λ m h. distinct-fewer ls m h) (literals-in n item ls e);
+  differ = distinct-differ ls k.clash;
+  fewer = λ m h. k.members refl m (distinct-fewer ls m h);
+  more = λ m h. distinct-more ls m (k.fewer refl m h);
+}
+
+-- the word d isn't 0
+not-end : (word : Bytes) → bytes_eq word (codes "d") ≡ true → is_end word ≡ false
+not-end word d = ap is_end ((bytes_eq-Decides word (codes "d")).0 d)
+
+begins : {P : Type 0} (word : Bytes) (rest item : List Bytes) (items : List (List Bytes)) → items_of (word ∷ rest) ≡ item ∷ items → ((tail : List Bytes) → item ≡ word ∷ tail → P) → P
+begins {P} word rest item items e f = elim (cases_Bool (is_end word)) [
+  | inl t ↦ (let z : (word ∷ []) ∷ items_of rest ≡ item ∷ items = rw t at e in f [] (sym (cc)))
+  | inr t ↦ (let x = first-item word rest t in let z = sym x.2 ∙ e in f x.0 (sym (cc)))
+]
+
+-- an item without the word d
+pub plain-none : (n : ℕ) (word : Bytes) (rest : List Bytes) (item : List Bytes) (items : List (List Bytes)) → bytes_eq word (codes "d") ≡ false → items_of (word ∷ rest) ≡ item ∷ items → literals_of n item ≡ None → added_by n item ≡ None
+plain-none n word rest item items d e k = begins word rest item items e (λ tail is. (let P : List Bytes → Type 0 = λ xs. literals_of n xs ≡ None → added_by n xs ≡ None in subst P (sym is) (λ h. rw d (ap (option_map as_clause) h)) k))
+
+pub plain-some : (n : ℕ) (word : Bytes) (rest : List Bytes) (item : List Bytes) (items : List (List Bytes)) (ls : List Literal) → bytes_eq word (codes "d") ≡ false → items_of (word ∷ rest) ≡ item ∷ items → literals_of n item ≡ Some ls → added_by n item ≡ Some (as_clause ls)
+plain-some n word rest item items ls d e k = begins word rest item items e (λ tail is. (let P : List Bytes → Type 0 = λ xs. literals_of n xs ≡ Some ls → added_by n xs ≡ Some (as_clause ls) in subst P (sym is) (λ h. rw d (ap (option_map as_clause) h)) k))
+
+-- the word d, before the words of an item
+pub kept-items : (word : Bytes) (rest item : List Bytes) (items : List (List Bytes)) → bytes_eq word (codes "d") ≡ true → items_of rest ≡ item ∷ items → items_of (word ∷ rest) ≡ (word ∷ item) ∷ items
+kept-items word rest item items d e = rw (not-end word d) (ap (in_first word) e)
+
+pub kept-none : (n : ℕ) (word : Bytes) (item : List Bytes) → bytes_eq word (codes "d") ≡ true → literals_of n item ≡ None → added_by n (word ∷ item) ≡ None
+kept-none n word item d k = rw d (ap (option_map (λ ls. [])) k)
+
+pub kept-some : (n : ℕ) (word : Bytes) (item : List Bytes) (ls : List Literal) → bytes_eq word (codes "d") ≡ true → literals_of n item ≡ Some ls → added_by n (word ∷ item) ≡ Some []
+kept-some n word item ls d k = rw d (ap (option_map (λ xs. [])) k)
+
+pub kept-alone : (n : ℕ) (word : Bytes) → bytes_eq word (codes "d") ≡ true → (items_of (word ∷ []) ≡ (word ∷ []) ∷ []) × (added_by n (word ∷ []) ≡ None)
+kept-alone n word d = (rw (not-end word d) refl, rw d refl)
+
+-- what was read is the item
+pub plain-read : (n : ℕ) (word : Bytes) (rest : List Bytes) (set : List Literal) (left : List Bytes) (r : Option Bool) → bytes_eq word (codes "d") ≡ false → IsRead n (word ∷ rest) set left r → IsItemRead n (word ∷ rest) set left (plain_item r)
+plain-read n word rest set left None d k = (k.0, k.1, k.2, plain-none n word rest k.0 k.1 d k.2 k.3)
+plain-read n word rest set left (Some true) d k = (k.0, k.2, plain-some n word rest k.0 (items_of left) k.1 d k.2 k.3 ∙ rw k.4.clash refl, k.5)
+plain-read n word rest set left (Some false) d k = (k.0, distinct k.1, k.2, plain-some n word rest k.0 (items_of left) k.1 d k.2 k.3 ∙ rw k.4.clash refl, clause-read n k.0 k.1 set k.3 k.4, k.5)
+
+pub kept-read : (n : ℕ) (word : Bytes) (rest : List Bytes) (set : List Literal) (left : List Bytes) (r : Option Bool) → bytes_eq word (codes "d") ≡ true → IsRead n rest set left r → IsItemRead n (word ∷ rest) set left (kept_item r)
+kept-read n word rest set left None d k = (word ∷ k.0, k.1, kept-items word rest k.0 k.1 d k.2, kept-none n word k.0 d k.3)
+kept-read n word rest set left (Some b) d k = (word ∷ k.0, kept-items word rest k.0 (items_of left) d k.2, kept-some n word k.0 k.1 d k.3, omega (arith, k.5))

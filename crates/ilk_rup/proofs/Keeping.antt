@@ -1,0 +1,163 @@
+-- What is known, as a clause of one literal is added.
+use Rattle.std.proofs.Common.{◌≡◌, ◌<◌, ◌≤◌, ◌+◌, ◌&&◌, ◌++◌, ◌∷◌, [], ◌⊎◌, ℕ, zero, suc, inl, inr, true, false, eqb, List, Some, length, take, set, get_or, refl, sym, ap, ◌∙◌, subst, arith, add-one, length-append}
+use Rattle.std.specs.Prelude.{Option, None, IsSomeAnd, slice_get, not, nat_lt, Result, OnOk}
+use Rattle.std.specs.List.{list_all}
+use Rattle.std.proofs.lemmas.Bool.{and_from, and_parts, cases_Bool, eqb-true, eqb-false, true≢false, or_left, or_cases, ltb-true, le-leb}
+use Rattle.std.proofs.lemmas.List.{get_or-set_same, get_or-set_other}
+use Rattle.std.proofs.Math.ListN.{get_or-append, length-set, length-take}
+use Rattle.std.proofs.lemmas.Option.{same_Some, slice_get_within}
+use Rattle.ilk_base.proofs.Lists.{at-before, at-past, slice_get-push_cases}
+use Rattle.ilk_base.proofs.Ranges.{below_or_past}
+use Rattle.ilk_base.proofs.Tested.{list_all-more}
+use Rattle.ilk_cnf.specs.Literal.{Literal, opposite, same_lit, has_lit, has_var, vars_differ}
+use Rattle.ilk_cnf.specs.Formula.{Formula, clause_in}
+use Rattle.ilk_cnf.proofs.SameLiterals.{same-lit, lit-is}
+use Rattle.ilk_clauses.specs.Reasons.{clause_at, is_conflict, is_reason}
+use Rattle.ilk_log.specs.declared.step.Step.{Step}
+use Rattle.ilk_log.specs.Derived.{each_derived, ends_empty, ends_false, is_derived, is_derived_log, is_empty, is_refutation, opposites, step_clauses}
+use Rattle.ilk_log.specs.Fresh.{others}
+use Rattle.ilk_log.specs.Propagation.{is_falsified}
+use Rattle.ilk_trail.specs.declared.entry.Entry.{Entry}
+use Rattle.ilk_trail.specs.Laws.{lits_of}
+use Rattle.ilk_watches.proofs.Entries.{entry-of-lit, one-entry}
+use Rattle.ilk_learn.proofs.Derived.{false-at}
+use Rattle.ilk_learn.proofs.Members.{kept-at, no-var}
+use Rattle.ilk_learn.proofs.Latest.{take-one-more}
+use Rattle.ilk_learn.proofs.Walk.{stands}
+use Rattle.std.proofs.lemmas.List.{append-nil}
+use Rattle.std.proofs.Common.{append_assoc}
+use Rattle.std.proofs.lemmas.Bool.{not_from_false}
+use Rattle.ilk_rup.specs.Backed.{Alone, Backed, Same}
+use Rattle.ilk_rup.specs.Needs.{AreHints, Explains, IsForced, IsKnown}
+use Rattle.ilk_rup.specs.Standing.{IsClauseOf, IsLogged}
+use Rattle.ilk_rup.proofs.Backing.{backed-alone, backed-same}
+use Rattle.ilk_rup.proofs.Explaining.{not-in}
+use Rattle.ilk_rup.proofs.Passing.{at-taken, next-at, reason-in}
+
+-- one clause more at the end
+last-at : {X : Type 0} (xs : List X) (x : X) → slice_get (xs ++ x ∷ []) (length xs) ≡ Some x
+last-at [] x = refl
+last-at (y ∷ xs) x = last-at xs x
+
+pub reason-more : (cs more : List (List Literal)) (set : List Literal) (l : Literal) (r : ℕ) → is_reason cs set l r ≡ true → is_reason (cs ++ more) set l r ≡ true
+reason-more cs more set l r h =
+    let same : clause_at (cs ++ more) r ≡ clause_at cs r = get_or-append cs more [] r (reason-in cs set l r h) in
+    ap (λ (k : List Literal). has_lit l k && is_falsified set (others l k)) same ∙ h
+
+pub forced-more : (cs more : List (List Literal)) (es : List Entry) (i : ℕ) → IsForced cs es i → IsForced (cs ++ more) es i
+forced-more cs more es i h = λ e at. go e e.reason (h e at)
+  where
+    go : (e : Entry) (o : Option ℕ) → IsSomeAnd o (λ c. is_reason cs (lits_of (take i es)) e.lit c ≡ true) → IsSomeAnd o (λ c. is_reason (cs ++ more) (lits_of (take i es)) e.lit c ≡ true)
+    go e None h = absurd h
+    go e (Some c) h = reason-more cs more (lits_of (take i es)) e.lit c h
+
+pub conflict-more : (cs more : List (List Literal)) (set : List Literal) (c : ℕ) → is_conflict cs set c ≡ true → is_conflict (cs ++ more) set c ≡ true
+conflict-more cs more set c h =
+    let p = and_parts (nat_lt c (length cs)) (is_falsified set (clause_at cs c)) h in
+    let b = ltb-true c (length cs) p.0 in
+    let same : clause_at (cs ++ more) c ≡ clause_at cs c = get_or-append cs more [] c b in
+    let n = length-append cs more in
+    and_from (nat_lt c (length (cs ++ more))) (is_falsified set (clause_at (cs ++ more) c)) (le-leb (suc c) (length (cs ++ more)) (omega (arith, b, n))) (ap (is_falsified set) same ∙ p.1)
+
+pub known-more : (units : List ℕ) (cs : List (List Literal)) (es : List Entry) (n k count : ℕ) (e : Entry) → IsKnown units cs es n k → slice_get es k ≡ Some e → vars_differ (lits_of es) ≡ true → e.lit.var < length units → count ≡ length cs + 1 → IsKnown (set units e.lit.var count) (cs ++ (e.lit ∷ []) ∷ []) es n (k + 1)
+known-more units cs es n k count e h at once room size = record {
+  sized = length-set units e.lit.var count ∙ h.sized;
+  within = (let w = slice_get_within es k e at in omega (arith, w));
+  told = λ i x b s. elim (below_or_past i k) [
+    | inl q ↦ (let t = h.told i x q s in
+        let apart : x.lit.var ≡ e.lit.var → ⊥ = λ v. (let j = one-entry es k i e x once at s (sym v) in omega (arith, j, q)) in
+        (t.0, get_or-set_other units e.lit.var x.lit.var count 0 apart ∙ t.1, at-before cs ((e.lit ∷ []) ∷ []) t.0 (x.lit ∷ []) t.2))
+    | inr q ↦ (let same : i ≡ k = omega (arith, q, b) in
+        let is : e ≡ x = same_Some e x (sym at ∙ ap (slice_get es) (sym same) ∙ s) in
+        let P : Entry → Type 0 = λ y. (u : ℕ) × (get_or (set units e.lit.var count) y.lit.var 0 ≡ suc u) × (slice_get (cs ++ (e.lit ∷ []) ∷ []) u ≡ Some (y.lit ∷ [])) in
+        subst P is (length cs, get_or-set_same units e.lit.var count 0 room ∙ size ∙ add-one (length cs), last-at cs (e.lit ∷ [])))
+  ];
+  only = λ v u q. elim (cases_Bool (eqb e.lit.var v)) [
+    | inl t ↦ (k, e, omega arith, at, eqb-true e.lit.var v t)
+    | inr t ↦ (let o = h.only v u (sym (get_or-set_other units e.lit.var v count 0 (λ w. eqb-false e.lit.var v t (sym w))) ∙ q) in (o.0, o.1, omega (arith, o.2), o.3, o.4))
+  ];
+}
+
+pub same-more : (ds : List (List Literal)) (d s : List Literal) → Same ds s ⊎ Alone ds s → Same (ds ++ d ∷ []) s ⊎ Alone (ds ++ d ∷ []) s
+same-more ds d s (inl k) = inl (record {
+  index = k.index;
+  clause = k.clause;
+  stands = at-before ds (d ∷ []) k.index k.clause k.stands;
+  differ = k.differ;
+  fewer = k.fewer;
+  more = k.more;
+})
+same-more ds d s (inr k) = inr (record { lit = k.lit; has = k.has; index = k.index; stands = at-before ds (d ∷ []) k.index (k.lit ∷ []) k.stands })
+
+pub backed-more : (given ds : List (List Literal)) (d : List Literal) → ((i : ℕ) (c : List Literal) → slice_get ds i ≡ Some c → Backed given c) → Backed given d → (i : ℕ) (c : List Literal) → slice_get (ds ++ d ∷ []) i ≡ Some c → Backed given c
+backed-more given ds d h k i c at = elim (slice_get-push_cases ds d c i at) [
+  | inl s ↦ h i c s
+  | inr s ↦ (let P : List Literal → Type 0 = λ x. Backed given x in subst P s.1 k)
+]
+
+-- the literal of an entry stands alone behind the clauses given
+pub entry-backed : (given cs : List (List Literal)) (es : List Entry) (units : List ℕ) (n k r : ℕ) (e : Entry) → ((i : ℕ) (c : List Literal) → slice_get cs i ≡ Some c → Backed given c) → IsKnown units cs es n k → slice_get es k ≡ Some e → is_reason cs (lits_of (take k es)) e.lit r ≡ true → Backed given (e.lit ∷ [])
+entry-backed given cs es units n k r e h known at reason =
+    let d = clause_at cs r in
+    let p = and_parts (has_lit e.lit d) (is_falsified (lits_of (take k es)) (others e.lit d)) reason in
+    backed-alone given d e.lit (h r d (stands cs r e.lit p.0)) p.0 (λ m x q. (let o = false-at (lits_of (take k es)) (others e.lit d) m p.1 (kept-at (λ (y : Literal). not (same_lit e.lit y)) d m x (not_from_false (same_lit e.lit m) q)) in
+    let y = entry-of-lit (take k es) (opposite m) o in
+    let w = slice_get_within (take k es) y.index y.entry y.stands in
+    let few = length-take k es in
+    let t = known.told y.index y.entry (omega (arith, w, few)) (at-taken es k y.index y.entry y.stands) in
+    let P : Literal → Type 0 = λ z. Backed given (z ∷ []) in
+    subst P y.is (h t.0 (y.entry.lit ∷ []) t.2)))
+
+pub name-explains : (cs : List (List Literal)) (es : List Entry) (k r : ℕ) (e : Entry) → slice_get es k ≡ Some e → vars_differ (lits_of es) ≡ true → r < length cs → is_reason cs (lits_of (take k es)) e.lit r ≡ true → Explains cs es (e.lit ∷ []) r k k k
+name-explains cs es k r e at once b reason =
+    let d = clause_at cs r in
+    let p = and_parts (has_lit e.lit d) (is_falsified (lits_of (take k es)) (others e.lit d)) reason in
+    record {
+      clause = b;
+      known_in = omega arith;
+      from_in = omega arith;
+      top_in = (let w = slice_get_within es k e at in omega (arith, w));
+      denied = λ m h. elim (cases_Bool (same_lit e.lit m)) [
+        | inl t ↦ inl (or_left (same_lit m e.lit) false (ap (λ (y : Literal). same_lit y e.lit) (sym (lit-is e.lit m t)) ∙ same-lit e.lit))
+        | inr t ↦ inr (false-at (lits_of (take k es)) (others e.lit d) m p.1 (kept-at (λ (y : Literal). not (same_lit e.lit y)) d m h (not_from_false (same_lit e.lit m) t)))
+      ];
+      walk = λ i x le lt s. absurd (omega (arith, le, lt));
+      assumed = λ i x le lt s. absurd (omega (arith, le, lt));
+      untrue = λ m h. not-in m (lits_of (take k es)) (λ t. elim (or_cases (same_lit m e.lit) false h) [
+        | inl q ↦ no-var (lits_of (take k es)) m (ap (λ (y : Literal). has_var y.var (lits_of (take k es))) (lit-is m e.lit q) ∙ (next-at es k e at once).unset) t
+        | inr q ↦ true≢false (sym q)
+      ]);
+    }
+
+pub step-derived : (n : ℕ) (cs : List (List Literal)) (set c : List Literal) (hints : List ℕ) → AreHints cs set hints → IsClauseOf n set c → is_derived n cs (record { clause = c; hints = hints }) ≡ true
+step-derived n cs set c hints h k = and_from (clause_in n c && vars_differ c) (ends_false cs (opposites c) hints) (and_from (clause_in n c) (vars_differ c) k.within k.differ) (h c k.differ k.fewer k.more)
+
+derived-push : (n : ℕ) (cs : List (List Literal)) (log : List Step) (s : Step) → each_derived n cs log ≡ true → is_derived n (cs ++ step_clauses log) s ≡ true → each_derived n cs (log ++ s ∷ []) ≡ true
+derived-push n cs [] s h d = and_from (is_derived n cs s) true (ap (λ xs. is_derived n xs s) (sym (append-nil cs)) ∙ d) refl
+derived-push n cs (t ∷ log) s h d =
+    let p = and_parts (is_derived n cs t) (each_derived n (cs ++ t.clause ∷ []) log) h in
+    and_from (is_derived n cs t) (each_derived n (cs ++ t.clause ∷ []) (log ++ s ∷ [])) p.0 (derived-push n (cs ++ t.clause ∷ []) log s p.1 (ap (λ xs. is_derived n xs s) (append_assoc cs (t.clause ∷ []) (step_clauses log)) ∙ d))
+
+ends-push : (log : List Step) (s : Step) → list_all (λ (t : Step). not (is_empty t.clause)) log ≡ true → is_empty s.clause ≡ true → ends_empty (log ++ s ∷ []) ≡ true
+ends-push [] s h e = e
+ends-push (t ∷ []) s h e = (let p = and_parts (not (is_empty t.clause)) true h in and_from (not (is_empty t.clause)) (is_empty s.clause) p.0 e)
+ends-push (t ∷ (u ∷ log)) s h e =
+    let p = and_parts (not (is_empty t.clause)) (list_all (λ (x : Step). not (is_empty x.clause)) (u ∷ log)) h in
+    and_from (not (is_empty t.clause)) (ends_empty ((u ∷ log) ++ s ∷ [])) p.0 (ends-push (u ∷ log) s p.1 e)
+
+clauses-push : (log : List Step) (s : Step) → step_clauses (log ++ s ∷ []) ≡ step_clauses log ++ s.clause ∷ []
+clauses-push [] s = refl
+clauses-push (t ∷ log) s = ap (λ (cs : List (List Literal)). t.clause ∷ cs) (clauses-push log s)
+
+pub logged-more : (f : Formula) (cs : List (List Literal)) (log : List Step) (s : Step) → IsLogged f cs log → is_derived f.vars cs s ≡ true → is_empty s.clause ≡ false → IsLogged f (cs ++ s.clause ∷ []) (log ++ s ∷ [])
+logged-more f cs log s k d e = record {
+  clauses_are = ap (λ (xs : List (List Literal)). xs ++ s.clause ∷ []) k.clauses_are ∙ append_assoc f.clauses (step_clauses log) (s.clause ∷ []) ∙ ap (λ (xs : List (List Literal)). f.clauses ++ xs) (sym (clauses-push log s));
+  derived = derived-push f.vars f.clauses log s k.derived (ap (λ (xs : List (List Literal)). is_derived f.vars xs s) (sym k.clauses_are) ∙ d);
+  unended = list_all-more (λ (t : Step). not (is_empty t.clause)) log s k.unended (not_from_false (is_empty s.clause) e);
+}
+
+pub log-refutes : (f : Formula) (cs : List (List Literal)) (log : List Step) (s : Step) → IsLogged f cs log → is_derived f.vars cs s ≡ true → is_empty s.clause ≡ true → is_refutation f (log ++ s ∷ []) ≡ true
+log-refutes f cs log s k d e = and_from (is_derived_log f (log ++ s ∷ [])) (ends_empty (log ++ s ∷ [])) (derived-push f.vars f.clauses log s k.derived (ap (λ (xs : List (List Literal)). is_derived f.vars xs s) (sym k.clauses_are) ∙ d)) (ends-push log s k.unended e)
+
+pub copied-more : (f : Formula) (c : ℕ) (x : List Literal) → c < length f.clauses → slice_get f.clauses c ≡ Some x → take c f.clauses ++ x ∷ [] ≡ take (c + 1) f.clauses
+copied-more f c x h e = sym (ap (λ (n : ℕ). take n f.clauses) (add-one c) ∙ take-one-more f.clauses c x e)

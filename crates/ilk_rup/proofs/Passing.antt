@@ -1,0 +1,121 @@
+-- An entry is passed on the walk back.
+use Rattle.std.proofs.Common.{◌≡◌, ◌<◌, ◌≤◌, ◌+◌, ◌&&◌, ◌++◌, ◌∷◌, [], ℕ, zero, suc, true, false, inl, inr, Bool, List, Option, Some, None, length, take, reverse, refl, sym, ap, ◌∙◌, subst, arith, add-one, option_map, get_or, drop}
+use Rattle.std.specs.Prelude.{IsSomeAnd, nat_eq, slice_get, not}
+use Rattle.std.specs.Option.{IsSome}
+use Rattle.std.specs.List.{filter}
+use Rattle.std.proofs.lemmas.Bool.{and_from, and_parts, cases_Bool, not-true, not_from_false, true≢false}
+use Rattle.std.proofs.lemmas.List.{reverse-append, take-append-drop}
+use Rattle.std.proofs.Math.ListN.{length-take}
+use Rattle.std.proofs.lemmas.List.Elements.{filter-append}
+use Rattle.std.proofs.lemmas.Option.{same_Some, slice_get_within}
+use Rattle.ilk_base.proofs.Ranges.{below_or_past}
+use Rattle.ilk_base.proofs.Lists.{at-before}
+use Rattle.ilk_base.proofs.Tested.{list_all-slice_get}
+use Rattle.ilk_cnf.specs.Literal.{Literal, has_lit, has_var, vars_differ}
+use Rattle.ilk_cnf.specs.Formula.{Formula, IsFormula}
+use Rattle.ilk_clauses.specs.Reasons.{clause_at, is_reason}
+use Rattle.ilk_log.specs.Fresh.{others}
+use Rattle.ilk_log.specs.Propagation.{is_falsified}
+use Rattle.ilk_trail.specs.declared.entry.Entry.{Entry}
+use Rattle.ilk_trail.specs.Trail.{entry_of}
+use Rattle.ilk_trail.specs.Laws.{lits_of}
+use Rattle.ilk_trail.proofs.Entries.{lits_of-push, set-at}
+use Rattle.ilk_watches.proofs.Entries.{entry-of-lit, one-entry, lit-kept}
+use Rattle.ilk_learn.proofs.Latest.{entry-at, take-one-more}
+use Rattle.ilk_learn.proofs.Members.{var-of}
+use Rattle.ilk_learn.proofs.Walk.{stands}
+use Rattle.ilk_rup.specs.Needs.{CanWalk, IsForced, IsNeeded, IsPassed, IsReasonAt, Shows, unit_hints}
+use Rattle.ilk_rup.proofs.Explaining.{Next, shows-skip, shows-step}
+use Rattle.ilk_rup.proofs.Needing.{pushed-lit, push-old, push-new}
+
+pub at-taken : (es : List Entry) (n j : ℕ) (e : Entry) → slice_get (take n es) j ≡ Some e → slice_get es j ≡ Some e
+at-taken es n j e h = (let P : List Entry → Type 0 = λ xs. slice_get xs j ≡ Some e in subst P (take-append-drop n es) (at-before (take n es) (drop n es) j e h))
+
+-- the entries before one, and with it
+pub next-at : (es : List Entry) (i : ℕ) (e : Entry) → slice_get es i ≡ Some e → vars_differ (lits_of es) ≡ true → Next (lits_of (take i es)) (lits_of (take (i + 1) es)) e.lit
+next-at es i e at once =
+    let more : lits_of (take (i + 1) es) ≡ lits_of (take i es) ++ e.lit ∷ [] = ap (λ (n : ℕ). lits_of (take n es)) (add-one i) ∙ ap lits_of (take-one-more es i e at) ∙ lits_of-push (take i es) e in
+    let P : List Literal → Type 0 = λ ls. Next (lits_of (take i es)) ls e.lit in
+    subst P (sym more) (record {
+      kept = λ m h. push-old (lits_of (take i es)) e.lit m h;
+      last = push-new (lits_of (take i es)) e.lit;
+      only = λ m h. pushed-lit (lits_of (take i es)) e.lit m h;
+      unset = elim (cases_Bool (has_var e.lit.var (lits_of (take i es)))) [
+        | inl t ↦ absurd (let x = var-of (lits_of (take i es)) e.lit.var t in
+            let y = entry-of-lit (take i es) x.0 x.2 in
+            let w = slice_get_within (take i es) y.index y.entry y.stands in
+            let j = one-entry es y.index i y.entry e once (at-taken es i y.index y.entry y.stands) at (ap (λ (l : Literal). l.var) y.is ∙ x.1) in
+            let few = length-take i es in
+            omega (arith, w, j, few))
+        | inr t ↦ t
+      ];
+    })
+
+-- a reason
+pub reason-at : (es : List Entry) (i : ℕ) (e : Entry) (l : Literal) (o : Option ℕ) → vars_differ (lits_of es) ≡ true → slice_get es i ≡ Some e → e.lit ≡ l → option_map (λ (x : Entry). x.reason) (entry_of es l.var) ≡ Some o → e.reason ≡ o
+reason-at es i e l o once at is h = same_Some e.reason o (sym (ap (option_map (λ (x : Entry). x.reason)) (ap (λ (y : Literal). entry_of es y.var) (sym is) ∙ entry-at es i e once at)) ∙ h)
+
+pub some-reason : (o p : Option ℕ) (P : ℕ → Type 0) → o ≡ p → IsSomeAnd o P → IsSome p
+some-reason o p P e h = (let Q : Option ℕ → Type 0 = λ x. IsSome x in subst Q e (go o h))
+  where
+    go : (o : Option ℕ) → IsSomeAnd o P → IsSome o
+    go None h = absurd h
+    go (Some x) h = refl
+
+pub that-reason : (o : Option ℕ) (r : ℕ) (P : ℕ → Type 0) → o ≡ Some r → IsSomeAnd o P → P r
+that-reason o r P e h = (let Q : Option ℕ → Type 0 = λ x. IsSomeAnd x P in subst Q e h)
+
+pub reason-in : (cs : List (List Literal)) (set : List Literal) (l : Literal) (r : ℕ) → is_reason cs set l r ≡ true → r < length cs
+reason-in cs set l r h =
+    let p = and_parts (has_lit l (clause_at cs r)) (is_falsified set (others l (clause_at cs r))) h in
+    slice_get_within cs r (clause_at cs r) (stands cs r l p.0)
+
+-- the literals of the first entries are among those of more
+pub lits-taken : (es : List Entry) (i top : ℕ) (m : Literal) → i ≤ top → has_lit m (lits_of (take i es)) ≡ true → has_lit m (lits_of (take top es)) ≡ true
+lits-taken es i top m le h = lit-kept (take i es) (take top es) m (same i top es le) h
+  where
+    same : (i top : ℕ) (es : List Entry) → i ≤ top → take (length (take i es)) (take top es) ≡ take i es
+    same zero top es le = refl
+    same (suc i) zero es le = absurd (omega (arith, le))
+    same (suc i) (suc top) [] le = refl
+    same (suc i) (suc top) (e ∷ es) le = ap (λ (xs : List Entry). e ∷ xs) (same i top es (omega (arith, le)))
+
+pub once-taken : (es : List Entry) (top : ℕ) → vars_differ (lits_of es) ≡ true → vars_differ (lits_of (take top es)) ≡ true
+once-taken es zero d = refl
+once-taken [] (suc top) d = refl
+once-taken (e ∷ es) (suc top) d =
+    let p = and_parts (not (has_var e.lit.var (lits_of es))) (vars_differ (lits_of es)) d in
+    and_from (not (has_var e.lit.var (lits_of (take top es)))) (vars_differ (lits_of (take top es))) (away e.lit.var es top p.0) (once-taken es top p.1)
+  where
+    away : (v : ℕ) (es : List Entry) (top : ℕ) → not (has_var v (lits_of es)) ≡ true → not (has_var v (lits_of (take top es))) ≡ true
+    away v es top h = not_from_false (has_var v (lits_of (take top es))) (elim (cases_Bool (has_var v (lits_of (take top es)))) [
+      | inl t ↦ absurd (let x = var-of (lits_of (take top es)) v t in
+          let y = entry-of-lit (take top es) x.0 x.2 in
+          true≢false (sym (ap (λ (w : ℕ). has_var w (lits_of es)) (sym (ap (λ (l : Literal). l.var) y.is ∙ x.1)) ∙ set-at es y.index y.entry (at-taken es top y.index y.entry y.stands)) ∙ not-true (has_var v (lits_of es)) h))
+      | inr t ↦ t
+    ])
+
+-- an entry that isn't needed
+pub passed-skip : (cs : List (List Literal)) (es : List Entry) (set needed : List Literal) (i : ℕ) (e : Entry) (hints : List ℕ) → slice_get es i ≡ Some e → vars_differ (lits_of es) ≡ true → has_lit e.lit needed ≡ false → IsPassed cs es set i needed hints needed hints
+passed-skip cs es set needed i e hints at once u = λ top b le s. shows-skip cs (lits_of (take top es)) (lits_of (take i es)) (lits_of (take (i + 1) es)) set needed e.lit hints (next-at es i e at once) u s
+
+-- an entry that is
+pub passed-step : (f : Formula) (es : List Entry) (set needed next : List Literal) (i r : ℕ) (e : Entry) (reasons : List ℕ) → IsFormula f → slice_get es i ≡ Some e → vars_differ (lits_of es) ≡ true → has_lit e.lit needed ≡ true → is_reason f.clauses (lits_of (take i es)) e.lit r ≡ true → has_var e.lit.var set ≡ false → IsNeeded set (clause_at f.clauses r) needed next → IsPassed f.clauses es set i needed (reverse reasons) next (reverse (reasons ++ (r + 1) ∷ []))
+passed-step f es set needed next i r e reasons k at once u reason away n = λ top b le s.
+    (let cs = f.clauses in
+    let p = and_parts (has_lit e.lit (clause_at cs r)) (is_falsified (lits_of (take i es)) (others e.lit (clause_at cs r))) reason in
+    let there = stands cs r e.lit p.0 in
+    let turned : (r + 1) ∷ reverse reasons ≡ reverse (reasons ++ (r + 1) ∷ []) = sym (reverse-append reasons ((r + 1) ∷ [])) in
+    let P : List ℕ → Type 0 = λ hs. Shows cs (lits_of (take top es)) (lits_of (take i es)) set next hs in
+    subst P (ap (λ (h : ℕ). h ∷ reverse reasons) (sym (add-one r)) ∙ turned) (shows-step cs (lits_of (take top es)) (lits_of (take i es)) (lits_of (take (i + 1) es)) set needed next (clause_at cs r) e.lit r (reverse reasons) (next-at es i e at once) u there (list_all-slice_get vars_differ cs r (clause_at cs r) k.differ there) p.0 p.1 away (once-taken es top once) (λ m h. lits-taken es i top m (omega (arith, b)) h) n s))
+
+-- the hints of the first needed literals, with one more
+pub units-more : (units : List ℕ) (ls : List Literal) (i : ℕ) (l : Literal) → slice_get ls i ≡ Some l → unit_hints units (take (i + 1) ls) ≡ unit_hints units (take i ls) ++ unit_hints units (l ∷ [])
+units-more units ls i l at = ap (λ (n : ℕ). unit_hints units (take n ls)) (add-one i) ∙ ap (unit_hints units) (take-one-more ls i l at) ∙ hints-append (take i ls) (l ∷ [])
+  where
+    hints-append : (xs ys : List Literal) → unit_hints units (xs ++ ys) ≡ unit_hints units xs ++ unit_hints units ys
+    hints-append [] ys = refl
+    hints-append (x ∷ xs) ys = elim (cases_Bool (not (nat_eq (get_or units x.var 0) 0))) [
+      | inl t ↦ rw t (ap (λ (hs : List ℕ). get_or units x.var 0 ∷ hs) (hints-append xs ys))
+      | inr t ↦ rw t (hints-append xs ys)
+    ]

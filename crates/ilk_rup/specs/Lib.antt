@@ -1,0 +1,10 @@
+pub mod RefutationText
+pub mod Accepted
+pub mod WordsLeft
+pub mod LitSet
+pub mod Needs
+pub mod Backed
+pub mod Standing
+pub mod Taken
+pub mod Items
+pub mod Stepped

@@ -1,0 +1,113 @@
+//! The literals of a set, made false; and its clause.
+
+ghost use Rattle.std.specs.Prelude.{◌≡◌, ◌≤◌, ◌++◌, ◌∷◌, [], if◌then◌else◌, not, IfOk, OnOk, IsTrue};
+ghost use Rattle.std.specs.List.{filter};
+ghost use Rattle.ilk_cnf.specs.Formula.{lit_in};
+ghost use Rattle.ilk_trail.specs.Trail.{level_of};
+ghost use Rattle.ilk_cnf.specs.Literal.{has_lit};
+ghost use Rattle.ilk_trail.specs.Laws.{is_set, lits_of};
+ghost use Rattle.ilk_rup.specs.Needs.{AssumesOne, IsAssumed, unset_first};
+
+use crate::set::LitSet;
+use ilk_cnf::{Lit, Lits};
+use ilk_trail::Trail;
+use std::alloc::{AllocError, Global};
+
+// Makes a literal false at level 1, where its variable isn't set. No reason is asked of such an entry, and
+// 0 stands in its place where the level isn't opened by it.
+fn assume_one(trail: &mut Trail, l: Lit)
+    requires within { IsTrue (lit_in trail.old.vars l) }
+    requires low { level_of trail.old.entries ≤ 1 }
+    ensures trail { trail.new ≡ record trail.old { entries = trail.new.entries } }
+    ensures assumed { AssumesOne l trail.old.entries trail.new.entries }
+{
+    if is_set(trail, l) {
+        return;
+    }
+    if trail.level() == 0 {
+        trail.decide(l.negated());
+    } else {
+        trail.assign(l.negated(), 0);
+    }
+}
+
+#[tactic(auto, using(crate::proofs::Sets::some_set, crate::proofs::Sets::none_set))]
+// Whether the variable of a literal is set.
+fn is_set(trail: &Trail, l: Lit) -> bool
+    requires { IsTrue (lit_in trail.now.vars l) }
+    ensures { result ≡ is_set trail.now.entries l.var }
+{
+    match trail.value(l) {
+        Some(_) => true,
+        None => false,
+    }
+}
+
+#[tactic(auto, using(crate::proofs::Sets::has_value, crate::proofs::Sets::no_value))]
+/// Whether a literal is true.
+pub fn is_true(trail: &Trail, l: Lit) -> bool
+    requires { IsTrue (lit_in trail.now.vars l) }
+    ensures { result ≡ has_lit l (lits_of trail.now.entries) }
+{
+    let _ = trail.level();
+    match trail.value(l) {
+        Some(value) => value,
+        None => false,
+    }
+}
+
+/// Makes the literals of a set false at level 1, where their variables aren't set.
+pub fn assume(trail: &mut Trail, set: &LitSet)
+    requires vars { set.now.vars ≡ trail.old.vars }
+    requires level { level_of trail.old.entries ≡ 0 }
+    ensures trail { trail.new ≡ record trail.old { entries = trail.new.entries } }
+    ensures assumed { IsAssumed set.now.lits trail.old.entries trail.new.entries }
+{
+    for i in 0..set.len() {
+        assume_one(trail, set.at(i));
+    }
+}
+
+// Adds a literal, where it is wanted.
+fn push_if(clause: &mut Lits, l: Lit, wanted: bool) -> Result<(), AllocError>
+    ensures { OnOk result (clause.new ≡ clause.old ++ (if wanted then l ∷ [] else [])) }
+{
+    if wanted {
+        clause.push(l)?;
+    }
+    Ok(())
+}
+
+// Adds the literals whose variables are set, or those whose variables aren't.
+fn push_where(clause: &mut Lits, trail: &Trail, set: &LitSet) -> Result<(), AllocError>
+    requires { set.now.vars ≡ trail.now.vars }
+    ensures { OnOk result (clause.new ≡ clause.old ++ filter (λ l. is_set trail.now.entries l.var) set.now.lits) }
+{
+    for i in 0..set.len() {
+        let l = set.at(i);
+        push_if(clause, l, is_set(trail, l))?;
+    }
+    Ok(())
+}
+
+fn push_unset(clause: &mut Lits, trail: &Trail, set: &LitSet) -> Result<(), AllocError>
+    requires { set.now.vars ≡ trail.now.vars }
+    ensures { OnOk result (clause.new ≡ clause.old ++ filter (λ l. not (is_set trail.now.entries l.var)) set.now.lits) }
+{
+    for i in 0..set.len() {
+        let l = set.at(i);
+        push_if(clause, l, !is_set(trail, l))?;
+    }
+    Ok(())
+}
+
+/// The literals of a set, those that are unset first, in memory of just their size.
+pub fn unset_first(alloc: Global, trail: &Trail, set: &LitSet) -> Result<Lits, AllocError>
+    requires { set.now.vars ≡ trail.now.vars }
+    ensures { IfOk result (λ clause. clause ≡ unset_first trail.now.entries set.now.lits) }
+{
+    let mut clause = Lits::new(alloc);
+    push_unset(&mut clause, trail, set)?;
+    push_where(&mut clause, trail, set)?;
+    clause.copy(alloc)
+}

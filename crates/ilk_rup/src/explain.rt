@@ -1,0 +1,231 @@
+//! The hints of a conflict: only those that it needs, found on a walk back over the trail.
+
+ghost use Rattle.std.specs.Prelude.{◌≡◌, ◌<◌, ◌≤◌, ◌+◌, ◌++◌, ◌∷◌, [], ◌==◌, not, length, reverse, slice_index, take, IfOk, OnOk, IsTrue};
+ghost use Rattle.ilk_cnf.specs.Formula.{lit_in};
+ghost use Rattle.ilk_clauses.specs.Reasons.{clause_at};
+ghost use Rattle.std.specs.List.{filter};
+ghost use Rattle.ilk_trail.specs.Laws.{lits_of};
+ghost use Rattle.ilk_rup.specs.Needs.{AreHints, CanWalk, Explains, IsKnown, IsForced, IsNeeded, IsPassed, IsReasonAt, NeedsOne, Shows, unit_hints};
+
+use crate::set::LitSet;
+use ilk_clauses::Clauses;
+use ilk_cnf::Lit;
+use ilk_log::Hints;
+use ilk_trail::Trail;
+use std::alloc::{AllocError, Global};
+
+// Looks at a literal of a clause: where the set doesn't have it, its opposite is needed.
+fn need_one(needed: &mut LitSet, set: &LitSet, l: Lit)
+    requires within { IsTrue (lit_in needed.old.vars l) }
+    requires vars { set.now.vars ≡ needed.old.vars }
+    ensures needed { NeedsOne set.now.lits l needed.old.lits needed.new.lits }
+    ensures vars { needed.new.vars ≡ needed.old.vars }
+{
+    if set.has(l) || needed.has_var(l) {
+        return;
+    }
+    needed.put(l.negated());
+}
+
+// What clause `c` needs.
+fn need(needed: &mut LitSet, clauses: &Clauses, set: &LitSet, c: u64)
+    requires known { c < length clauses.now.clauses }
+    requires vars { needed.old.vars ≡ clauses.now.vars }
+    requires set { set.now.vars ≡ clauses.now.vars }
+    ensures needed { IsNeeded set.now.lits (clause_at clauses.now.clauses c) needed.old.lits needed.new.lits }
+    ensures vars { needed.new.vars ≡ needed.old.vars }
+{
+    for i in 0..clauses.length(c) {
+        need_one(needed, set, clauses.literal(c, i));
+    }
+}
+
+// The clause that forces entry `i`.
+pub fn reason_of(clauses: &Clauses, trail: &Trail, i: u64) -> u64
+    requires trail { trail.now.vars ≡ clauses.now.vars }
+    requires below { i < length trail.now.entries }
+    requires forced { IsForced clauses.now.clauses trail.now.entries i }
+    ensures known { result < length clauses.now.clauses }
+    ensures reason { IsReasonAt clauses.now.clauses trail.now.entries i result }
+{
+    let _trail = trail.count();
+    let _clauses = clauses.count();
+    trail.reason(trail.at(i)).unwrap()
+}
+
+// Passes entry `i`: where it is needed, so are the literals of its reason.
+fn pass(
+    reasons: &mut Vec<u64>,
+    needed: &mut LitSet,
+    clauses: &Clauses,
+    set: &LitSet,
+    trail: &Trail,
+    i: u64,
+) -> Result<(), AllocError>
+    requires vars { needed.old.vars ≡ clauses.now.vars }
+    requires set { set.now.vars ≡ clauses.now.vars }
+    requires trail { trail.now.vars ≡ clauses.now.vars }
+    requires below { i < length trail.now.entries }
+    requires walk { CanWalk clauses.now.clauses trail.now.entries set.now.lits i (i + 1) }
+    ensures passed { OnOk result (IsPassed clauses.now.clauses trail.now.entries set.now.lits i needed.old.lits (reverse reasons.old.items) needed.new.lits (reverse reasons.new.items)) }
+    ensures vars { needed.new.vars ≡ needed.old.vars }
+{
+    let _clauses = clauses.count();
+    let _trail = trail.count();
+    if !needed.has(trail.at(i)) {
+        return Ok(());
+    }
+    let reason = reason_of(clauses, trail, i);
+    reasons.push(reason + 1)?;
+    need(needed, clauses, set, reason);
+    Ok(())
+}
+
+// Goes through the entries before `top` from the latest on, as far as `from`, and adds the reasons of
+// those that are needed, the last of them first.
+fn walk(
+    reasons: &mut Vec<u64>,
+    needed: &mut LitSet,
+    clauses: &Clauses,
+    set: &LitSet,
+    trail: &Trail,
+    from: u64,
+    top: u64,
+) -> Result<(), AllocError>
+    requires vars { needed.old.vars ≡ clauses.now.vars }
+    requires set { set.now.vars ≡ clauses.now.vars }
+    requires trail { trail.now.vars ≡ clauses.now.vars }
+    requires from { from ≤ top }
+    requires top { top ≤ length trail.now.entries }
+    requires walk { CanWalk clauses.now.clauses trail.now.entries set.now.lits from top }
+    requires shows { Shows clauses.now.clauses (lits_of (take top trail.now.entries)) (lits_of (take top trail.now.entries)) set.now.lits needed.old.lits (reverse reasons.old.items) }
+    ensures shows { OnOk result (Shows clauses.now.clauses (lits_of (take top trail.now.entries)) (lits_of (take from trail.now.entries)) set.now.lits needed.new.lits (reverse reasons.new.items)) }
+    ensures vars { needed.new.vars ≡ needed.old.vars }
+{
+    let mut i = top;
+    while i > from {
+        i -= 1;
+        pass(reasons, needed, clauses, set, trail, i)?;
+    }
+    Ok(())
+}
+
+// The hint of the variable of a literal, or 0.
+fn unit_of(units: &[u64], l: Lit) -> u64
+    ensures { result ≡ slice_index units.now l.var }
+{
+    match units.get(l.var() as usize) {
+        Some(unit) => *unit,
+        None => 0,
+    }
+}
+
+// How many of the needed literals have a clause of their own.
+fn count_units(needed: &LitSet, units: &[u64]) -> u64 {
+    let mut count: u64 = 0;
+    for i in 0..needed.len() {
+        if unit_of(units, needed.at(i)) != 0 {
+            count = count.saturating_add(1);
+        }
+    }
+    count
+}
+
+// The hints of the needed literals that have a clause of their own, and then those of the reasons, in
+// memory of just their size.
+fn gather(
+    alloc: Global,
+    needed: &LitSet,
+    units: &[u64],
+    reasons: &[u64],
+) -> Result<Hints, AllocError>
+    ensures { IfOk result (λ hints. hints ≡ unit_hints units.now needed.now.lits ++ reverse reasons.now) }
+{
+    let count = count_units(needed, units).saturating_add(reasons.len() as u64);
+    let mut hints = Hints::with_capacity(alloc, count)?;
+    push_units(&mut hints, needed, units)?;
+    push_turned(&mut hints, reasons)?;
+    Ok(hints)
+}
+
+// Adds a hint that isn't 0.
+fn push_unit(hints: &mut Hints, unit: u64) -> Result<(), AllocError>
+    ensures { OnOk result (hints.new ≡ hints.old ++ filter (λ u. not (u == 0)) (unit ∷ [])) }
+{
+    if unit != 0 {
+        hints.push(unit)?;
+    }
+    Ok(())
+}
+
+// Adds the hints of the needed literals that have a clause of their own.
+fn push_units(hints: &mut Hints, needed: &LitSet, units: &[u64]) -> Result<(), AllocError>
+    ensures { OnOk result (hints.new ≡ hints.old ++ unit_hints units.now needed.now.lits) }
+{
+    for i in 0..needed.len() {
+        push_unit(hints, unit_of(units, needed.at(i)))?;
+    }
+    Ok(())
+}
+
+// Adds numbers, the last of them first.
+fn push_turned(hints: &mut Hints, numbers: &[u64]) -> Result<(), AllocError>
+    ensures { OnOk result (hints.new ≡ hints.old ++ reverse numbers.now) }
+{
+    let mut i = numbers.len();
+    while i > 0 {
+        i -= 1;
+        hints.push(numbers[i])?;
+    }
+    Ok(())
+}
+
+/// The hints that derive a clause of these literals, where clause `conflict` is false by the set and
+/// the entries before `top`: see `Explains`.
+pub fn explain(
+    alloc: Global,
+    scratch: &mut Scratch,
+    clauses: &Clauses,
+    trail: &Trail,
+    set: &LitSet,
+    units: &[u64],
+    conflict: u64,
+    from: u64,
+    top: u64,
+    known: u64,
+) -> Result<Hints, AllocError>
+    requires vars { scratch.old.needed.vars ≡ clauses.now.vars }
+    requires set { set.now.vars ≡ clauses.now.vars }
+    requires trail { trail.now.vars ≡ clauses.now.vars }
+    requires units { IsKnown units.now clauses.now.clauses trail.now.entries clauses.now.vars known }
+    requires explains { Explains clauses.now.clauses trail.now.entries set.now.lits conflict from top known }
+    ensures hints { IfOk result (λ hints. AreHints clauses.now.clauses set.now.lits hints) }
+    ensures vars { scratch.new.needed.vars ≡ scratch.old.needed.vars }
+{
+    let _ = clauses.count();
+    let _ = trail.count();
+    scratch.needed.clear();
+    scratch.reasons.clear();
+    scratch.reasons.push(conflict + 1)?;
+    need(&mut scratch.needed, clauses, set, conflict);
+    walk(
+        &mut scratch.reasons,
+        &mut scratch.needed,
+        clauses,
+        set,
+        trail,
+        from,
+        top,
+    )?;
+    let hints = gather(alloc, &scratch.needed, units, scratch.reasons.as_slice())?;
+    let _ = scratch.needed.len();
+    Ok(hints)
+}
+
+/// What is used anew for each conflict: the needed literals, and the hints of reasons, the last of them
+/// first.
+#[derive(Drop)]
+pub struct Scratch {
+    pub needed: LitSet,
+    pub reasons: Vec<u64>,
+}

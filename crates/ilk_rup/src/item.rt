@@ -1,0 +1,159 @@
+//! An item of a text: what it is, and the literals of the clause that it adds.
+
+ghost use Rattle.std.specs.Prelude.{◌≡◌, ◌≤◌, ◌^◌, ◌∷◌, [], ◌||◌, IsTrue, bytes_eq, codes};
+ghost use Rattle.ilk_cnf.specs.Formula.{lit_in};
+ghost use Rattle.ilk_rup.specs.RefutationText.{is_end, literal_of, var_of};
+ghost use Rattle.ilk_rup.specs.Items.{IsItemRead, IsPut, IsRead, kept_item, plain_item};
+
+use crate::set::LitSet;
+use crate::words::Words;
+use ilk_cnf::Lit;
+use ilk_lines::decimal_up_to;
+
+/// What was read where an item may begin.
+#[derive(Clone, Copy)]
+pub enum Item {
+    /// Nothing: the text is at its end.
+    End,
+    /// An item that isn't of the form, or isn't finished.
+    Malformed,
+    /// An item that adds nothing.
+    Idle,
+    /// An item that adds a clause.
+    Adds,
+}
+
+// The number of a variable, of the variables 1 to `vars`.
+fn var_of(word: &[u8], vars: u64) -> Option<u64>
+    ensures { result ≡ var_of vars word.now }
+{
+    let v = decimal_up_to(word, vars)?;
+    if v > 0 { Some(v) } else { None }
+}
+
+// The literal that a word writes, of the variables 1 to `vars`.
+fn literal_of(word: &[u8], vars: u64) -> Option<Lit>
+    requires { vars ≤ 2 ^ 62 }
+    ensures { result ≡ literal_of vars word.now }
+{
+    match word {
+        [b'-', var @ ..] => Some(Lit::new(var_of(var, vars)?, false)),
+        _ => Some(Lit::new(var_of(word, vars)?, true)),
+    }
+}
+
+// Puts a literal into a set. Answers whether the set has its opposite, and then leaves it out.
+fn put(set: &mut LitSet, l: Lit) -> bool
+    requires { IsTrue (lit_in set.old.vars l) }
+    ensures put { IsPut l set.old.lits set.new.lits result }
+    ensures vars { set.new.vars ≡ set.old.vars }
+{
+    if set.has(l) {
+        return false;
+    }
+    if set.has_var(l) {
+        return true;
+    }
+    set.put(l);
+    false
+}
+
+// Whether a word is 0, which ends an item.
+fn is_end(word: &[u8]) -> bool
+    ensures { result ≡ is_end word.now }
+{
+    word == b"0".as_slice()
+}
+
+// Whether a word is d, which begins an item that adds nothing.
+fn is_keep(word: &[u8]) -> bool
+    ensures { result ≡ bytes_eq word.now (codes "d") }
+{
+    word == b"d".as_slice()
+}
+
+// Whether one of the two is so.
+fn either(a: bool, b: bool) -> bool
+    ensures { result ≡ (a || b) }
+{
+    a || b
+}
+
+// Reads the literals from a first word on, as far as the word 0, into a set that has none. Answers
+// whether they have both literals of a variable. None where a word is no literal, or none is 0.
+fn read_literals(first: &[u8], words: &mut Words, set: &mut LitSet, vars: u64) -> Option<bool>
+    requires numbered { vars ≤ 2 ^ 62 }
+    requires vars { set.old.vars ≡ vars }
+    requires empty { set.old.lits ≡ [] }
+    ensures read { IsRead vars (first.now ∷ words.old) set.new.lits words.new result }
+    ensures vars { set.new.vars ≡ set.old.vars }
+{
+    let mut word = first;
+    let mut both = false;
+    'words: loop {
+        if is_end(word) {
+            return Some(both);
+        }
+        match literal_of(word, vars) {
+            None => return None,
+            Some(l) => both = either(put(set, l), both),
+        }
+        match words.next() {
+            None => return None,
+            Some(next) => word = next,
+        }
+    }
+}
+
+// What an item without the word d is.
+fn plain_item(read: Option<bool>) -> Item
+    ensures { result ≡ plain_item read }
+{
+    match read {
+        None => Item::Malformed,
+        Some(true) => Item::Idle,
+        Some(false) => Item::Adds,
+    }
+}
+
+// What an item with the word d is.
+fn kept_item(read: Option<bool>) -> Item
+    ensures { result ≡ kept_item read }
+{
+    match read {
+        None => Item::Malformed,
+        Some(_) => Item::Idle,
+    }
+}
+
+/// Reads the next item, with a set that has no literals: where the item adds a clause, the set then has
+/// its literals.
+pub fn read_item(words: &mut Words, set: &mut LitSet, vars: u64) -> Item
+    requires numbered { vars ≤ 2 ^ 62 }
+    requires vars { set.old.vars ≡ vars }
+    requires empty { set.old.lits ≡ [] }
+    ensures read { IsItemRead vars words.old set.new.lits words.new result }
+    ensures vars { set.new.vars ≡ set.old.vars }
+{
+    match words.next() {
+        None => Item::End,
+        Some(word) => read_after(word, words, set, vars),
+    }
+}
+
+// Reads an item from its first word on.
+fn read_after(word: &[u8], words: &mut Words, set: &mut LitSet, vars: u64) -> Item
+    requires numbered { vars ≤ 2 ^ 62 }
+    requires vars { set.old.vars ≡ vars }
+    requires empty { set.old.lits ≡ [] }
+    ensures read { IsItemRead vars (word.now ∷ words.old) set.new.lits words.new result }
+    ensures vars { set.new.vars ≡ set.old.vars }
+{
+    if !is_keep(word) {
+        return plain_item(read_literals(word, words, set, vars));
+    }
+    match words.next() {
+        None => Item::Malformed,
+        Some(first) => kept_item(read_literals(first, words, set, vars)),
+    }
+}

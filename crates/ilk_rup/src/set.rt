@@ -1,0 +1,106 @@
+//! Sets of literals over different variables, of which each question takes one step.
+
+ghost use Rattle.std.specs.Prelude.{◌≡◌, ◌<◌, ◌≤◌, ◌^◌, ◌++◌, ◌∷◌, [], false, length, slice_get, Some, IfOk, IsTrue};
+ghost use Rattle.ilk_cnf.specs.Formula.{clause_in, lit_in};
+ghost use Rattle.ilk_cnf.specs.Literal.{has_lit, has_var, vars_differ};
+ghost use Rattle.ilk_trail.specs.Laws.{lits_of, is_set, IsTrail};
+
+use ilk_cnf::Lit;
+use ilk_trail::Trail;
+use std::alloc::{AllocError, Global};
+use std::marker::Model;
+
+/// A set of literals over different variables, in the order in which they were put into it.
+#[derive(Drop)]
+pub struct LitSet {
+    // each literal is decided on a level of its own
+    trail: Trail,
+}
+
+impl Model for LitSet {
+    ghost use Rattle.ilk_trail.specs.Laws.{lits_of};
+    ghost use Rattle.ilk_rup.specs.LitSet.{LitSetList, AllDecided};
+
+    ghost Value = { LitSetList };
+
+    ghost view = { λ s. record { vars = s.trail.vars; lits = lits_of s.trail.entries } };
+
+    ghost invariant = { λ s. AllDecided s.trail.entries };
+}
+
+impl LitSet {
+    /// The set without literals, over the variables 1 to `vars`.
+    pub fn new(alloc: Global, vars: u64) -> Result<LitSet, AllocError>
+        requires { vars ≤ 2 ^ 62 }
+        ensures { IfOk result (λ s. s ≡ record { vars = vars; lits = [] }) }
+    {
+        Ok(LitSet {
+            trail: Trail::new(alloc, vars)?,
+        })
+    }
+
+    #[inline(always)]
+    #[tactic(auto, using(crate::proofs::Sets::has_value, crate::proofs::Sets::no_value))]
+    /// Whether the set has the literal.
+    pub fn has(&self, l: Lit) -> bool
+        requires { IsTrue (lit_in self.now.vars l) }
+        ensures { result ≡ has_lit l self.now.lits }
+    {
+        let _ = self.trail.level();
+        match self.trail.value(l) {
+            Some(value) => value,
+            None => false,
+        }
+    }
+
+    #[inline(always)]
+    #[tactic(auto, using(crate::proofs::Sets::some_set, crate::proofs::Sets::none_set))]
+    /// Whether the set has a literal of the variable.
+    pub fn has_var(&self, l: Lit) -> bool
+        requires { IsTrue (lit_in self.now.vars l) }
+        ensures { result ≡ has_var l.var self.now.lits }
+    {
+        match self.trail.value(l) {
+            Some(_) => true,
+            None => false,
+        }
+    }
+
+    #[tactic(auto, using(crate::proofs::Sets::decided_lits, crate::proofs::Sets::decided_all))]
+    /// Puts a literal into the set.
+    pub fn put(&mut self, l: Lit)
+        requires within { IsTrue (lit_in self.old.vars l) }
+        requires unset { has_var l.var self.old.lits ≡ false }
+        ensures { self.new ≡ record self.old { lits = self.old.lits ++ l ∷ [] } }
+    {
+        self.trail.decide(l);
+    }
+
+    #[tactic(auto, using(crate::proofs::Sets::lits_length))]
+    /// How many literals the set has.
+    pub fn len(&self) -> u64
+        ensures count { result ≡ length self.now.lits }
+        ensures differ { IsTrue (vars_differ self.now.lits) }
+        ensures within { IsTrue (clause_in self.now.vars self.now.lits) }
+    {
+        self.trail.count()
+    }
+
+    #[tactic(auto, using(crate::proofs::Sets::lits_length, crate::proofs::Sets::lits_at))]
+    /// Literal `i`.
+    pub fn at(&self, i: u64) -> Lit
+        requires { i < length self.now.lits }
+        ensures { slice_get self.now.lits i ≡ Some result }
+    {
+        self.trail.at(i)
+    }
+
+    #[tactic(auto, using(crate::proofs::Sets::none_left, crate::proofs::Sets::none_decided))]
+    /// Takes all literals out.
+    pub fn clear(&mut self)
+        ensures { self.new ≡ record self.old { lits = [] } }
+    {
+        let _ = self.trail.level();
+        self.trail.back_to(0);
+    }
+}

@@ -1,0 +1,165 @@
+//! The words of a text, one after another.
+
+ghost use Rattle.std.specs.Prelude.{◌≡◌, ◌<◌, [], ◌∷◌, ◌++◌, ◌==◌, length, position, IfNone, IfSome};
+ghost use Rattle.std.specs.List.{slice_split};
+ghost use Rattle.std.specs.Option.{option_map_or};
+ghost use Rattle.ilk_lines.specs.Lines.{parts_at};
+ghost use Rattle.ilk_rup.specs.RefutationText.{is_blank, line_words, text_words, words_in};
+ghost use Rattle.ilk_rup.specs.WordsLeft.{words_left};
+
+use std::marker::Model;
+
+/// The words of a text that are still to be read.
+#[derive(Drop)]
+pub struct Words<'a> {
+    // what is left of the line at hand
+    line: &'a [u8],
+    // the lines after it, where there is one
+    lines: Option<&'a [u8]>,
+}
+
+impl<'a> Model for Words<'a> {
+    ghost use Rattle.std.specs.Prelude.{List};
+    ghost use Rattle.ilk_lines.specs.Lines.{Bytes};
+    ghost use Rattle.ilk_rup.specs.WordsLeft.{words_left};
+
+    ghost Value = { List Bytes };
+
+    ghost view = { λ w. words_left w.line.now w.lines };
+}
+
+impl<'a> Words<'a> {
+    /// The words of a text.
+    pub fn of(text: &'a [u8]) -> Words<'a>
+        ensures { result ≡ text_words text.now }
+    {
+        Words {
+            line: &[],
+            lines: Some(text),
+        }
+    }
+
+    /// Reads the next word. None exactly where no word is left.
+    pub fn next(&mut self) -> Option<&'a [u8]>
+        ensures word { IfSome result (λ word. self.old ≡ word.now ∷ self.new) }
+        ensures none { IfNone result (self.old ≡ []) }
+    {
+        let (word, line, lines) = next_word(self.line, self.lines)?;
+        self.line = line;
+        self.lines = lines;
+        Some(word)
+    }
+}
+
+// The next word of a line and the lines after it, and what is left of both. None exactly where no word
+// is left.
+fn next_word<'a>(
+    line: &'a [u8],
+    lines: Option<&'a [u8]>,
+) -> Option<(&'a [u8], &'a [u8], Option<&'a [u8]>)>
+    ensures { words_left line.now lines.entry ≡ option_map_or (λ next. next.0.now ∷ words_left next.1.now next.2) result [] }
+{
+    let mut left = line;
+    let mut after = lines;
+    'lines: loop {
+        if let Some((word, rest)) = next_in(left) {
+            return Some((word, rest, after));
+        }
+        let Some(text) = after else {
+            return None;
+        };
+        (left, after) = next_line(text);
+    }
+}
+
+// The first line of a text, or nothing in the place of a comment, and what stands after it, if there is
+// a line feed.
+fn next_line(text: &[u8]) -> (&[u8], Option<&[u8]>)
+    ensures words { text_words text.now ≡ words_in result.0.now ++ option_map_or (λ rest. text_words rest.now) result.1 [] }
+    ensures shorter { IfSome result.1 (λ rest. length rest.now < length text.now) }
+{
+    let (line, rest) = cut_line(text);
+    (without_comment(line), rest)
+}
+
+// A line, where it is no comment; else nothing.
+fn without_comment(line: &[u8]) -> &[u8]
+    ensures { words_in result.now ≡ line_words line.now }
+{
+    match line {
+        [b'c', ..] => &[],
+        _ => line,
+    }
+}
+
+#[tactic(auto, using(crate::proofs::Cuts::cut_none, crate::proofs::Cuts::cut_some, std::proofs::lemmas::List::take_rest))]
+// What stands before the first line feed, and what stands after it, if there is one.
+fn cut_line(text: &[u8]) -> (&[u8], Option<&[u8]>)
+    ensures parts { parts_at 10 text.now ≡ result.0.now ∷ option_map_or (λ rest. parts_at 10 rest.now) result.1 [] }
+    ensures shorter { IfSome result.1 (λ rest. length rest.now < length text.now) }
+{
+    match place_of(text, b'\n') {
+        Some(i) => (&text[..i], Some(&text[i + 1..])),
+        None => (text, None),
+    }
+}
+
+// The place of the first byte `at`.
+fn place_of(text: &[u8], at: u8) -> Option<usize>
+    ensures { result ≡ position (λ b. b == at) text.now }
+{
+    text.iter().position(|b| *b == at)
+}
+
+// Whether a byte is a space, a tab or a carriage return.
+fn is_blank(b: u8) -> bool
+    ensures { result ≡ is_blank b }
+{
+    b == b' ' || b == b'\t' || b == b'\r'
+}
+
+// The place of the first blank.
+fn place_of_blank(line: &[u8]) -> Option<usize>
+    ensures { result ≡ position is_blank line.now }
+{
+    line.iter().position(|b| is_blank(*b))
+}
+
+#[tactic(auto, using(crate::proofs::Cuts::cut_none, crate::proofs::Cuts::cut_some, std::proofs::lemmas::List::take_rest))]
+// What stands before the first blank of a line, and what stands after it, if there is one.
+fn cut_blank(line: &[u8]) -> (&[u8], Option<&[u8]>)
+    ensures parts { slice_split is_blank line.now ≡ result.0.now ∷ option_map_or (λ rest. slice_split is_blank rest.now) result.1 [] }
+    ensures shorter { IfSome result.1 (λ rest. length rest.now < length line.now) }
+{
+    match place_of_blank(line) {
+        Some(i) => (&line[..i], Some(&line[i + 1..])),
+        None => (line, None),
+    }
+}
+
+// The first word of a line, and what stands after it. None exactly where the line has no word.
+fn next_in(line: &[u8]) -> Option<(&[u8], &[u8])>
+    ensures { words_in line.now ≡ option_map_or (λ cut. cut.0.now ∷ words_in cut.1.now) result [] }
+{
+    let mut left = line;
+    'blanks: loop {
+        let (part, rest) = cut_blank(left);
+        if !part.is_empty() {
+            return Some((part, rest_of(rest)));
+        }
+        let Some(rest) = rest else {
+            return None;
+        };
+        left = rest;
+    }
+}
+
+// What stands after a blank, or nothing.
+fn rest_of(rest: Option<&[u8]>) -> &[u8]
+    ensures { words_in result.now ≡ option_map_or (λ after. words_in after.now) rest.entry [] }
+{
+    match rest {
+        Some(rest) => rest,
+        None => &[],
+    }
+}

@@ -1,0 +1,17 @@
+mod AllListed
+mod AtPlaces
+mod BarePlant
+mod ConflictFacts
+mod Enumerated
+mod Examples
+mod Flagged
+mod Grown
+mod IsWay
+mod KeepsRules
+mod NumberedBack
+mod PathPoints
+mod Rounds
+mod RouteNames
+mod RoutesTold
+mod WayFacts
+mod WayRules

@@ -1,0 +1,7 @@
+pub mod Ways
+pub mod Routes
+pub mod Table
+pub mod Rounds
+pub mod Flags
+pub mod Rules
+pub mod EachWay

@@ -1,0 +1,57 @@
+-- The table of routes of a network, by names, and when a network has none.
+use Rattle.std.specs.Prelude.{ℕ, Option, Some, None, List, [], ◌++◌, codes, decimal, if◌then◌else◌, length, map, nat_lt, option_map, slice_index_or}
+use Rattle.std.specs.List.{enumerate_from}
+use Rattle.ilk_plant.specs.Name.{Name}
+use Rattle.ilk_plant.specs.Plant.{PlantLists}
+use Rattle.ilk_plant.specs.declared.draft.ListedDraft.{ListedDraft}
+use Rattle.ilk_plant.specs.declared.draft.RouteDraft.{RouteDraft}
+use Rattle.ilk_plant.specs.declared.draft.TableDraft.{TableDraft}
+use Rattle.ilk_plant.specs.declared.limits.TheConstants.{MAX_ROUTES}
+use Rattle.ilk_plant.specs.declared.table.Listed.{Listed}
+use Rattle.ilk_plant.specs.declared.table.Route.{Route}
+use Rattle.ilk_tablegen.specs.Routes.{network_routes}
+use Rattle.ilk_tablegen.specs.Ways.{all_ways, first_without_end}
+use Rattle.ilk_tablegen.specs.declared.walks.Walks.{Walks}
+use Rattle.ilk_tablegen.specs.declared.walks.Walks.TheVariants.{Routes, TooLong, TooMany}
+
+-- the name with this number
+abbrev pub name_of : List Name → ℕ → Name
+name_of names i = slice_index_or names i []
+
+-- the name of route n, which is the letter g and the number in decimal
+abbrev pub route_name : ℕ → Name
+route_name n = codes "g" ++ decimal n
+
+abbrev pub named_point : PlantLists → Listed → ListedDraft
+named_point p listed = record { point = name_of p.section_names listed.point; at = listed.at }
+
+-- route n, with names for its numbers
+abbrev pub named_route : PlantLists → ℕ → Route → RouteDraft
+named_route p n route = record {
+  name = route_name n;
+  source = name_of p.board_names route.source;
+  destination = option_map (name_of p.board_names) route.destination;
+  path = map (name_of p.section_names) route.path;
+  overlap = map (name_of p.section_names) route.overlap;
+  points = map (named_point p) route.points;
+  conflicts = map route_name route.conflicts;
+  protecting_points = map (named_point p) route.protecting_points;
+  protecting_boards = map (name_of p.board_names) route.protecting_boards;
+}
+
+-- the table of these routes
+abbrev pub named_table : PlantLists → List Route → TableDraft
+named_table p routes = record { routes = map (λ numbered. named_route p numbered.0 numbered.1) (enumerate_from 0 routes) }
+
+-- the table of the network's routes
+abbrev pub network_table : PlantLists → TableDraft
+network_table p = named_table p (network_routes p)
+
+-- what the network has: a board from which a way doesn't end within MAX_PATH sections, and else more than MAX_ROUTES
+-- ways, and else its table of routes
+abbrev pub walks : PlantLists → Walks
+walks p = unless_endless (first_without_end p)
+  where
+    unless_endless : Option ℕ → Walks
+    unless_endless (Some m) = TooLong m
+    unless_endless None = if nat_lt MAX_ROUTES (length (all_ways p)) then TooMany else Routes (network_table p)

@@ -1,0 +1,53 @@
+ghost use Rattle.std.specs.Prelude.{◌≡◌, ◌<◌, IfOk, false, length, map, replicate, set, slice_index_or, true};
+ghost use Rattle.ilk_tablegen.specs.Flags.{any_flagged, flags_of};
+
+use ilk_plant::Row;
+use std::alloc::{AllocError, Global};
+
+/// Flag `x`; false where there is none.
+pub fn flag_at(flags: &[bool], x: u32) -> bool
+    ensures { result ≡ slice_index_or flags.now x false }
+{
+    match flags.get(x as usize) {
+        Some(flag) => *flag,
+        None => false,
+    }
+}
+
+/// Whether one of these sections has its flag.
+pub fn any_flagged(flags: &[bool], sections: &[u32]) -> bool
+    ensures { result ≡ any_flagged flags.now sections.now }
+{
+    sections.iter().any(|x| flag_at(flags, *x))
+}
+
+/// So many flags, all alike.
+pub fn all_alike(alloc: Global, count: u32, flag: bool) -> Result<Row<bool>, AllocError>
+    ensures { IfOk result (λ flags. flags ≡ replicate count flag) }
+{
+    let mut flags = Row::new(alloc);
+    for _x in 0..count {
+        flags.push(flag)?;
+    }
+    Ok(flags)
+}
+
+// Sets flag `x`, if there is one.
+fn set_flag(flags: &mut Row<bool>, x: u32)
+    ensures { flags.new ≡ set flags.old x true }
+{
+    if (x as u64) < flags.len() {
+        *flags.at_mut(x as u64) = true;
+    }
+}
+
+/// A flag for each number below `count`: whether it is one of these sections.
+pub fn flags_of(alloc: Global, count: u32, path: &[u32]) -> Result<Row<bool>, AllocError>
+    ensures { IfOk result (λ flags. flags ≡ flags_of count path.now) }
+{
+    let mut flags = all_alike(alloc, count, false)?;
+    for x in path {
+        set_flag(&mut flags, *x);
+    }
+    Ok(flags)
+}

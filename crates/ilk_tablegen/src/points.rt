@@ -1,0 +1,83 @@
+ghost use Rattle.std.specs.Prelude.{◌≡◌, ◌∷◌, ◌++◌, ◌<◌, [], All, IfOk, OnOk, length, slice_get, take};
+ghost use Rattle.std.specs.List.{list_any};
+ghost use Rattle.ilk_base.specs.Option.{is_some_and};
+ghost use Rattle.ilk_plant.specs.ColumnRules.{is_leg};
+ghost use Rattle.ilk_tablegen.specs.Routes.{listed_between, points_along, position_towards};
+
+use ilk_plant::{Listed, Plant, Position, Row, Section};
+use std::alloc::{AllocError, Global};
+
+// Whether section `y` is the leg of section `x` at a position.
+fn is_leg(plant: &Plant, x: u32, at: Position, y: u32) -> bool
+    ensures { result ≡ is_some_and (slice_get plant.now.sections x) (is_leg at y) }
+{
+    if x >= plant.sections() {
+        return false;
+    }
+    match (plant.section(x), at) {
+        (Section::Point { plus, .. }, Position::Plus) => *plus == y,
+        (Section::Point { minus, .. }, Position::Minus) => *minus == y,
+        _ => false,
+    }
+}
+
+// Whether the leg of section `x` at a position is the section before it or the first after it.
+fn leads_along(plant: &Plant, x: u32, at: Position, before: u32, after: &[u32]) -> bool
+    ensures { result ≡ list_any (λ y. is_some_and (slice_get plant.now.sections x) (is_leg at y)) (before ∷ take 1 after.now) }
+{
+    is_leg(plant, x, at, before)
+        || match after {
+            [next, ..] => is_leg(plant, x, at, *next),
+            [] => false,
+        }
+}
+
+// The position of section `x` whose leg is the section before it or the first after it. None where it
+// is no point.
+fn position_towards(plant: &Plant, before: u32, x: u32, after: &[u32]) -> Option<Position>
+    ensures { result ≡ position_towards plant.now (before ∷ take 1 after.now) x }
+{
+    if leads_along(plant, x, Position::Plus, before, after) {
+        Some(Position::Plus)
+    } else if leads_along(plant, x, Position::Minus, before, after) {
+        Some(Position::Minus)
+    } else {
+        None
+    }
+}
+
+// Adds section `x`, if it is a point, in the position that leads between the section before it and
+// the first after it.
+fn push_listed(
+    plant: &Plant,
+    points: &mut Row<Listed>,
+    before: u32,
+    x: u32,
+    after: &[u32],
+) -> Result<(), AllocError>
+    ensures { OnOk result (points.new ≡ points.old ++ listed_between plant.now before x after.now) }
+{
+    if let Some(at) = position_towards(plant, before, x, after) {
+        points.push(Listed { point: x, at })?;
+    }
+    Ok(())
+}
+
+/// Each point of a path that begins behind section `start`, in order, in the position whose leg is the
+/// section before it or the one after it.
+pub fn points_along(
+    alloc: Global,
+    plant: &Plant,
+    start: u32,
+    path: &[u32],
+) -> Result<Row<Listed>, AllocError>
+    ensures { IfOk result (λ points. points ≡ points_along plant.now start path.now) }
+{
+    let mut points = Row::new(alloc);
+    let mut before = start;
+    for (i, x) in path.iter().enumerate() {
+        push_listed(plant, &mut points, before, *x, &path[i + 1..])?;
+        before = *x;
+    }
+    Ok(points)
+}

@@ -1,0 +1,111 @@
+ghost use Rattle.std.specs.Prelude.{◌≡◌, ◌==◌, ◌&&◌, ◌∷◌, ◌++◌, ◌≤◌, [], IfOk, OnOk, if◌then◌else◌, length, map, not};
+ghost use Rattle.ilk_plant.specs.declared.limits.TheConstants.{MAX_ROUTES};
+ghost use Rattle.ilk_tablegen.specs.Flags.{any_flagged, conflicts_flagged, flags_of, paths_of, route_by_flags};
+ghost use Rattle.ilk_tablegen.specs.Routes.{destination_of, network_routes};
+ghost use Rattle.ilk_tablegen.specs.Ways.{all_ways};
+
+use crate::flags::{any_flagged, flags_of};
+use crate::points::points_along;
+use crate::ways::Way;
+use ilk_plant::{Plant, Route, Row};
+use std::alloc::{AllocError, Global};
+
+// For each way a flag for each section: whether it is on the path.
+fn path_flags(alloc: Global, count: u32, ways: &Row<Way>) -> Result<Row<Row<bool>>, AllocError>
+    ensures { IfOk result (λ flags. flags ≡ map (flags_of count) (paths_of ways.now)) }
+{
+    let mut flags = Row::new(alloc);
+    for way in ways.as_slice() {
+        flags.push(flags_of(alloc, count, way.path.as_slice())?)?;
+    }
+    Ok(flags)
+}
+
+// Adds a number, if it is to be added.
+fn push_if(numbers: &mut Row<u32>, is_one: bool, number: u32) -> Result<(), AllocError>
+    ensures { OnOk result (numbers.new ≡ numbers.old ++ (if is_one then number ∷ [] else [])) }
+{
+    if is_one {
+        numbers.push(number)?;
+    }
+    Ok(())
+}
+
+// Whether list `k` is another than list `n`, and one of these sections has its flag in it.
+fn is_conflict(n: u32, k: u32, other: &Row<bool>, path: &[u32]) -> bool
+    ensures { result ≡ (not (k == n) && any_flagged other.now path.now) }
+{
+    k != n && any_flagged(other.as_slice(), path)
+}
+
+// The numbers of the other lists of flags in which one of these sections has its flag.
+fn conflicts_flagged(
+    alloc: Global,
+    flags: &Row<Row<bool>>,
+    n: u32,
+    path: &[u32],
+) -> Result<Row<u32>, AllocError>
+    requires { length flags.now ≤ MAX_ROUTES }
+    ensures { IfOk result (λ conflicts. conflicts ≡ conflicts_flagged flags.now n path.now) }
+{
+    let mut conflicts = Row::new(alloc);
+    for (k, other) in flags.as_slice().iter().enumerate() {
+        let shares = is_conflict(n, k as u32, other, path);
+        push_if(&mut conflicts, shares, k as u32)?;
+    }
+    Ok(conflicts)
+}
+
+// The board for the way's direction at its last section. None where the way leads to the end of the
+// track.
+fn destination_of(plant: &Plant, way: &Way) -> Option<u32>
+    ensures { result ≡ destination_of plant.now way.now }
+{
+    match way.path.as_slice().last() {
+        Some(x) if *x < plant.sections() => plant.board_of(*x, way.from.dir),
+        _ => None,
+    }
+}
+
+// The route of way `n`; `flags` has for each way its sections.
+fn route_of_way(
+    alloc: Global,
+    plant: &Plant,
+    flags: &Row<Row<bool>>,
+    n: u32,
+    way: &Way,
+) -> Result<Route, AllocError>
+    requires { length flags.now ≤ MAX_ROUTES }
+    ensures { IfOk result (λ route. route ≡ route_by_flags plant.now flags.now n way.now) }
+{
+    Ok(Route {
+        source: way.source,
+        destination: destination_of(plant, way),
+        path: way.path.copy(alloc)?,
+        overlap: Row::new(alloc),
+        points: points_along(alloc, plant, way.from.section, way.path.as_slice())?,
+        conflicts: conflicts_flagged(alloc, flags, n, way.path.as_slice())?,
+        protecting_points: Row::new(alloc),
+        protecting_boards: Row::new(alloc),
+    })
+}
+
+/// The routes of the network's ways, one for each.
+pub fn routes_of_ways(
+    alloc: Global,
+    plant: &Plant,
+    ways: &Row<Way>,
+) -> Result<Row<Route>, AllocError>
+    requires all { ways.now ≡ all_ways plant.now }
+    requires few { length ways.now ≤ MAX_ROUTES }
+    ensures exact { IfOk result (λ routes. routes ≡ network_routes plant.now) }
+    ensures few { IfOk result (λ routes. length routes ≤ MAX_ROUTES) }
+{
+    plant.is_sound();
+    let flags = path_flags(alloc, plant.sections(), ways)?;
+    let mut routes = Row::new(alloc);
+    for (n, way) in ways.as_slice().iter().enumerate() {
+        routes.push(route_of_way(alloc, plant, &flags, n as u32, way)?)?;
+    }
+    Ok(routes)
+}
