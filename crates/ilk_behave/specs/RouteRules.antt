@@ -1,7 +1,7 @@
 -- The rules of the seven events of routes. Each has a condition for each of the words of the event's row in the table
 -- of events, and then sets what the row changes.
 use Rattle.std.specs.Prelude.{ℕ, ◌+◌, ◌-◌, None, List, [], ◌∷◌, ◌++◌, ◌==◌, length, map, filter, flat_map, slice_get, if◌then◌else◌}
-use Rattle.std.specs.List.{enumerate_from, last_or, range_with_len}
+use Rattle.std.specs.List.{enumerate_from, range_with_len}
 use Rattle.ilk_ir.specs.System.{RuleTree}
 use Rattle.ilk_ir.specs.Tree.{Tree, any_of, negation, trees}
 use Rattle.ilk_plant.specs.ColumnRules.{all_but_last}
@@ -16,6 +16,7 @@ use Rattle.ilk_routes.specs.Claims.{sections_beside, wanted_points}
 use Rattle.ilk_conditions.specs.Conditions.{board_is, lies_at_listed, lock_is, mode_is, train_at, rel_is, seen_is, no_train_at}
 use Rattle.ilk_behave.specs.Guards.{clear_at, unclaimed}
 use Rattle.ilk_behave.specs.Settings.{board_becomes, commanded, lock_becomes, locks_become, mode_becomes, rel_becomes, rule, rules_for, seen_becomes}
+use Rattle.ilk_plant.specs.Network.{last_of}
 
 -- mark r: r is Free; r is Marked
 abbrev pub rules_of_mark : PlantLists → ℕ → List RuleTree
@@ -103,7 +104,7 @@ finish_rule p r route x =
 
 abbrev pub rules_of_finish : PlantLists → ℕ → List RuleTree
 rules_of_finish p r =
-    rules_for (slice_get p.routes r) (λ route. rules_for (last_or None route.path) (λ x. finish_rule p r route x ∷ []))
+    rules_for (slice_get p.routes r) (λ route. rules_for (last_of route.path) (λ x. finish_rule p r route x ∷ []))
 
 -- cancel r: r is Marked, and is Free; or r is Allocating, and it and the locks of path, overlap and protecting points are
 -- Free

@@ -1,5 +1,4 @@
-ghost use Rattle.std.specs.Prelude.{◌≡◌, ◌≤◌, ◌<◌, ◌+◌, ◌-◌, ◌==◌, ◌++◌, ◌∷◌, [], if◌then◌else◌, length, map, slice_get, IfOk, None, OnOk, Some};
-ghost use Rattle.std.specs.List.{last_or};
+ghost use Rattle.std.specs.Prelude.{◌≡◌, ◌≤◌, ◌<◌, ◌+◌, ◌-◌, ◌==◌, ◌++◌, ◌∷◌, [], if◌then◌else◌, length, map, IfOk, OnOk};
 ghost use Rattle.ilk_ir.specs.Form.{tree_of};
 ghost use Rattle.ilk_ir.specs.System.{rule_tree};
 ghost use Rattle.ilk_ir.specs.Tree.{any_of, trees};
@@ -20,6 +19,7 @@ use crate::settings::{
 use ilk_conditions::{lock_is, mode_is, no_train_at, rel_is, seen_is, train_at};
 use ilk_ir::{Form, Rules, Sets};
 use ilk_plant::{Aspect, Hold, Mode, Plant, Route, Row};
+use ilk_routes::last_of;
 use std::alloc::{AllocError, Global};
 
 // Route `r` is Locked or Occupied.
@@ -210,15 +210,6 @@ fn finish_sets(
     sets.push(seen_becomes(plant, r, 0))?;
     sets.push(rel_becomes(plant, r, 0))?;
     Ok(sets)
-}
-
-// The last of some sections.
-fn last_of(sections: &Row<u32>) -> u32
-    requires { 0 < length sections.now }
-    ensures last { last_or None sections.now ≡ Some result }
-    ensures at_end { slice_get sections.now (length sections.now - 1) ≡ Some result }
-{
-    *sections.at(sections.len() - 1)
 }
 
 /// Adds the rule of finish for route `r`.

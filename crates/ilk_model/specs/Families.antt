@@ -1,10 +1,10 @@
 -- The nine families of the invariant, V1 to V9: what states that keep trains apart have in common. Each is a test of a
 -- state of the plant that has the shape.
 use Rattle.std.specs.Prelude.{ℕ, ◌+◌, Bool, true, ◌==◌, ◌&&◌, ◌||◌, not, None, if◌then◌else◌, length, drop, nat_le, nat_lt}
-use Rattle.std.specs.List.{last_or, list_all}
+use Rattle.std.specs.List.{list_all}
 use Rattle.ilk_base.specs.Each.{each_below}
 use Rattle.ilk_base.specs.Option.{is_some_and}
-use Rattle.ilk_plant.specs.Network.{has_section}
+use Rattle.ilk_plant.specs.Network.{has_section, last_of}
 use Rattle.ilk_plant.specs.Plant.{PlantLists}
 use Rattle.ilk_plant.specs.State.{has_lock}
 use Rattle.ilk_plant.specs.declared.network.Dir.{Dir}
@@ -96,7 +96,7 @@ is_led p s d x = some_route p s (λ route now. some_place route (λ i y.
 
 -- V7: a train's head at a section that is plain for it is led by a route
 abbrev pub keeps_v7 : PlantLists → State → Bool
-keeps_v7 p s = list_all (λ train. is_some_and (last_or None train.body) (λ x.
+keeps_v7 p s = list_all (λ train. is_some_and (last_of train.body) (λ x.
     if is_plain p train.dir x then is_led p s train.dir x else true)) s.trains
 
 -- whether x in direction d is kept by a route: it is path[i], with i at least rel, of a Locked or Occupied route in that

@@ -20,8 +20,12 @@ keeps p s j = is_some_and (slice_get families (j - 1)) (λ keeps_it. keeps_it p 
 abbrev pub least_broken : PlantLists → State → Option ℕ
 least_broken p s = find (λ j. not (keeps p s j)) (range_with_len 1 (length families))
 
+-- whether s keeps all nine families
+abbrev pub keeps_all : PlantLists → State → Bool
+keeps_all p s = list_all (λ keeps_it. keeps_it p s) families
+
 -- s has the shape, has no hazard, and keeps all nine families
 pub record Meets (p : PlantLists) (s : State) : Type 0 where
   pub shape : HasShape p s
   pub no_hazard : hazard p s ≡ None
-  pub families_kept : IsTrue (list_all (λ keeps_it. keeps_it p s) families)
+  pub families_kept : IsTrue (keeps_all p s)

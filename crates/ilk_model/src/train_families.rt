@@ -1,6 +1,7 @@
 //! The families of the invariant that speak of trains: V7 and V8.
-ghost use Rattle.std.specs.Prelude.{◌≡◌, ◌+◌, ◌==◌, ◌&&◌, ◌||◌, true, None, drop, if◌then◌else◌, nat_le};
-ghost use Rattle.std.specs.List.{last_or, list_all};
+ghost use Rattle.std.specs.Prelude.{◌≡◌, ◌+◌, ◌==◌, ◌&&◌, ◌||◌, true, drop, if◌then◌else◌, nat_le};
+ghost use Rattle.std.specs.List.{list_all};
+ghost use Rattle.ilk_plant.specs.Network.{last_of};
 ghost use Rattle.ilk_base.specs.Option.{is_some_and};
 ghost use Rattle.ilk_plant.specs.Shape.{HasShape};
 ghost use Rattle.ilk_plant.specs.declared.state.Aspect.TheVariants.{Closed};
@@ -56,7 +57,7 @@ fn is_led(plant: &Plant, s: &State, d: Dir, x: u32) -> bool
 // The section of a train's head. None where its body is empty.
 #[tactic(auto, using(crate::proofs::LastItem::last_item))]
 fn head_of(train: &Train) -> Option<u32>
-    ensures { result ≡ last_or None train.now.body }
+    ensures { result ≡ last_of train.now.body }
 {
     train.body.as_slice().last().copied()
 }
@@ -64,7 +65,7 @@ fn head_of(train: &Train) -> Option<u32>
 // Whether a train's head is led by a route, where its section is plain for it.
 fn head_is_led(plant: &Plant, s: &State, train: &Train) -> bool
     requires { HasShape plant.now s.now }
-    ensures { result ≡ is_some_and (last_or None train.now.body) (λ x. if is_plain plant.now train.now.dir x then is_led plant.now s.now train.now.dir x else true) }
+    ensures { result ≡ is_some_and (last_of train.now.body) (λ x. if is_plain plant.now train.now.dir x then is_led plant.now s.now train.now.dir x else true) }
 {
     match head_of(train) {
         Some(x) => !is_plain(plant, train.dir, x) || is_led(plant, s, train.dir, x),

@@ -4,7 +4,7 @@ use Rattle.std.specs.Prelude.{ℕ, Bool, true, false, not, Option, Some, None, L
 use Rattle.std.specs.List.{list_any, list_all}
 use Rattle.ilk_base.specs.Option.{is_some_and}
 use Rattle.ilk_plant.specs.Broken.{broken_at, broken_at_pairs, places_of}
-use Rattle.ilk_plant.specs.Network.{has_section}
+use Rattle.ilk_plant.specs.Network.{has_section, last_of}
 use Rattle.ilk_plant.specs.Plant.{PlantLists, next_to, board_of, border, is_point_section}
 use Rattle.ilk_plant.specs.Shape.{leads_on}
 use Rattle.ilk_plant.specs.TableRules.{count_in_plant, points_of, route_fails, sections_locked_for}
@@ -25,10 +25,6 @@ use Rattle.ilk_plant.specs.declared.table.Route.{Route}
 -- whether the board at which a route begins passes the test
 abbrev pub source_passes : PlantLists → Route → (Board → Bool) → Bool
 source_passes p route test = is_some_and (slice_get p.boards route.source) test
-
--- the last section of a path
-abbrev pub last_of : List ℕ → Option ℕ
-last_of path = slice_get path (length path - 1)
 
 -- the sections of a path but the last
 abbrev pub all_but_last : List ℕ → List ℕ

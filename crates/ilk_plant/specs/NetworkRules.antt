@@ -1,11 +1,11 @@
 -- The rules of the network, N1 to N8: the list of those that a draft breaks.
 use Rattle.std.specs.Prelude.{ℕ, zero, suc, ◌≡◌, Bool, true, false, not, ◌&&◌, ◌||◌, ◌==◌, Option, Some, None, is_none, List, [], ◌∷◌, ◌++◌, length, map, slice_get, count_by, IsTrue}
-use Rattle.std.specs.List.{list_any, last_or}
+use Rattle.std.specs.List.{list_any}
 use Rattle.ilk_plant.specs.Broken.{each_broken_at}
 use Rattle.ilk_base.specs.Option.{is_some_and}
 use Rattle.ilk_plant.specs.Draft.{is_named_before, names_of_boards, names_of_sections}
 use Rattle.ilk_plant.specs.Name.{Name}
-use Rattle.ilk_plant.specs.Network.{same_direction}
+use Rattle.ilk_plant.specs.Network.{last_of, same_direction}
 use Rattle.ilk_plant.specs.Once.{all_differ}
 use Rattle.ilk_plant.specs.Plant.{first_named}
 use Rattle.ilk_plant.specs.declared.broken.Broken.{Broken}
@@ -107,7 +107,7 @@ IsWalkUp net x (y ∷ rest) = IsTrue (is_next_up net x y) × IsWalkUp net y rest
 
 -- some walk up of one or more steps, of any length, leads from section x to section y
 abbrev pub LeadsUp : NetDraft → ℕ → ℕ → Type 0
-LeadsUp net x y = (walk : List ℕ) × (IsWalkUp net x walk × (last_or None walk ≡ Some y))
+LeadsUp net x y = (walk : List ℕ) × (IsWalkUp net x walk × (last_of walk ≡ Some y))
 
 -- some walk up of one or more steps returns to section x
 abbrev pub Returns : NetDraft → ℕ → Type 0

@@ -26,12 +26,13 @@ use Rattle.ilk_unroll.specs.Run.{is_wanted_run, met_by, run_from}
 use Rattle.ilk_unroll.specs.declared.queries.Wanted.{Wanted}
 use Rattle.ilk_unroll.specs.declared.queries.Wanted.TheVariants.{Hazard, Breach, Step}
 use Rattle.ilk_unroll.proofs.QueryLaw.{Wants, wanted-from, wants}
-use Rattle.ilk_queries.specs.Asked.{IsRunFor, keeps_all, leaves_at, meets_invariant}
+use Rattle.ilk_queries.specs.Asked.{IsRunFor, leaves_at, meets_invariant}
 use Rattle.ilk_queries.specs.Lifting.{EachShaped, IsGoalOf, RulesStep, events_by, has_form, is_safe}
 use Rattle.ilk_queries.specs.Walk.{states_from}
 use Rattle.ilk_queries.proofs.Demands.{all-more, below-met, holds-met, up-to}
 use Rattle.ilk_queries.proofs.Queries.{breach-met, hazard-met, shaped-at, step-met}
 use Rattle.ilk_queries.proofs.Walks.{none-is, run-states, states-begin, states-many, states-run, states-shaped, to-events, to-rules}
+use Rattle.ilk_model.specs.Meets.{keeps_all}
 
 -- one value list more than rules
 run-many : (system : SystemTree) (values : List ℕ) (rules : List ℕ) (lists : List (List ℕ)) → run_from system values rules ≡ Some lists → length lists ≡ suc (length rules)

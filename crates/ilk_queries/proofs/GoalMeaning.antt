@@ -16,9 +16,9 @@ use Rattle.ilk_props.specs.Laws.{HoldsAtHazards, HoldsAtImages, HoldsAtStart, Is
 use Rattle.ilk_props.specs.StartForm.{start_tree}
 use Rattle.ilk_props.specs.WellformedForm.{wellformed_tree}
 use Rattle.ilk_unroll.specs.Goal.{goal_valid}
-use Rattle.ilk_queries.specs.Asked.{keeps_all}
 use Rattle.ilk_queries.specs.Goal.{goal_of}
 use Rattle.ilk_queries.specs.Lifting.{IsGoalOf}
+use Rattle.ilk_model.specs.Meets.{keeps_all}
 
 all-kept : (p : PlantLists) → ((j : ℕ) → HoldsAsKept p j (family_tree p j)) → (s : State) → IsCalm p s → list_all (tree_holds (image_of p s)) (family_trees p) ≡ keeps_all p s
 all-kept p kept s calm =

@@ -16,10 +16,11 @@ use Rattle.ilk_layout.specs.Image.{image_of}
 use Rattle.ilk_unroll.specs.Goal.{Demanded, GoalTree, demanded, fails_in, holds_below, holds_in}
 use Rattle.ilk_unroll.specs.Run.{met_by}
 use Rattle.ilk_unroll.specs.declared.queries.Wanted.TheVariants.{Hazard, Breach, Step}
-use Rattle.ilk_queries.specs.Asked.{keeps_all, leaves_at, meets_invariant}
+use Rattle.ilk_queries.specs.Asked.{leaves_at, meets_invariant}
 use Rattle.ilk_queries.specs.Lifting.{EachShaped, IsGoalOf, RulesStep, has_form, is_safe}
 use Rattle.ilk_queries.proofs.Demands.{all-below-met, all-hold, below-met, fails-met, holds-met, swapped}
 use Rattle.ilk_queries.proofs.Walks.{wellformed-before}
+use Rattle.ilk_model.specs.Meets.{keeps_all}
 
 -- the state with a number has the shape
 pub shaped-at : (p : PlantLists) (states : List State) (n : ℕ) (t : State) → EachShaped p states → slice_get states n ≡ Some t → HasShape p t

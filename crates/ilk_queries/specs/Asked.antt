@@ -7,16 +7,12 @@ use Rattle.ilk_plant.specs.Shape.{HasShape}
 use Rattle.ilk_plant.specs.Start.{start}
 use Rattle.ilk_plant.specs.declared.state.State.{State}
 use Rattle.ilk_model.specs.Hazard.{hazard}
-use Rattle.ilk_model.specs.Meets.{families}
+use Rattle.ilk_model.specs.Meets.{keeps_all}
 use Rattle.ilk_model.specs.Run.{run}
 use Rattle.ilk_model.specs.declared.event.Event.{Event}
 use Rattle.ilk_unroll.specs.declared.queries.Wanted.{Wanted}
 use Rattle.ilk_unroll.specs.declared.queries.Wanted.TheVariants.{Hazard, Breach, Step}
 use Rattle.ilk_queries.specs.Walk.{states_from}
-
--- whether s keeps all families
-abbrev pub keeps_all : PlantLists → State → Bool
-keeps_all p s = list_all (λ keeps_it. keeps_it p s) families
 
 -- whether s, which has the shape, meets the invariant: it has no hazard, and keeps all families
 abbrev pub meets_invariant : PlantLists → State → Bool

@@ -16,7 +16,7 @@ use Rattle.ilk_layout.specs.Laws.{AreImage}
 use Rattle.ilk_layout.specs.Variables.{ranges_of_plant}
 use Rattle.ilk_behave.specs.Behaviour.{event_of_rule, system_of}
 use Rattle.ilk_unroll.specs.Goal.{GoalTree}
-use Rattle.ilk_queries.specs.Asked.{keeps_all}
+use Rattle.ilk_model.specs.Meets.{keeps_all}
 
 -- from each state with shape and without hazard, the rules step as the events do
 pub record RulesStep (p : PlantLists) : Type 0 where

@@ -1,6 +1,6 @@
 -- The seven events of routes. Each is the state that follows, where the event is enabled.
 use Rattle.std.specs.Prelude.{ℕ, ◌+◌, Bool, Option, None, ◌==◌, ◌&&◌, ◌||◌, if◌then◌else◌, length, nat_le, slice_get, set, not}
-use Rattle.std.specs.List.{list_any, list_all, last_or}
+use Rattle.std.specs.List.{list_any, list_all}
 use Rattle.ilk_base.specs.Option.{◌>>=◌, only_if}
 use Rattle.ilk_plant.specs.Plant.{PlantLists}
 use Rattle.ilk_plant.specs.TableRules.{sections_locked_for}
@@ -15,6 +15,7 @@ use Rattle.ilk_routes.specs.Claims.{sections_beside, wanted_points}
 use Rattle.ilk_routes.specs.Lies.{lies_as_listed, with_commands}
 use Rattle.ilk_routes.specs.Locks.{with_locks}
 use Rattle.ilk_routes.specs.Modes.{is_claimed, same_mode}
+use Rattle.ilk_plant.specs.Network.{last_of}
 
 -- mark r: r is Free; r is Marked
 abbrev pub after_mark : PlantLists → State → ℕ → Option State
@@ -97,7 +98,7 @@ abbrev pub after_finish : PlantLists → State → ℕ → Option State
 after_finish p s r = do
   route ← slice_get p.routes r
   now ← slice_get s.routes r
-  x ← last_or None route.path
+  x ← last_of route.path
   only_if (same_mode now.mode Occupied
       && now.seen == length route.path
       && now.rel + 1 == length route.path) (record s {

@@ -1,7 +1,8 @@
-ghost use Rattle.std.specs.Prelude.{◌≡◌, ◌≤◌, ◌<◌, ◌-◌, ◌&&◌, ◌==◌, IfSome, None, Some, length, map, slice_get};
+ghost use Rattle.std.specs.Prelude.{◌≡◌, ◌≤◌, ◌<◌, ◌-◌, ◌&&◌, ◌==◌, IfSome, Some, length, map, slice_get};
 ghost use Rattle.ilk_plant.specs.Plant.{IsRouteOf};
 ghost use Rattle.ilk_plant.specs.Shape.{HasShape};
-ghost use Rattle.std.specs.List.{last_or, list_any, list_all};
+ghost use Rattle.std.specs.List.{list_any, list_all};
+ghost use Rattle.ilk_plant.specs.Network.{last_of};
 ghost use Rattle.ilk_plant.specs.State.{is_clear};
 ghost use Rattle.ilk_plant.specs.declared.state.Aspect.TheVariants.{Closed};
 ghost use Rattle.ilk_plant.specs.declared.state.Mode.TheVariants.{Locked};
@@ -79,7 +80,7 @@ pub fn can_claim(s: &State, route: &Route) -> bool
 /// The last of the sections.
 pub fn last_of(sections: &Row<u32>) -> u32
     requires { 0 < length sections.now }
-    ensures last { last_or None sections.now ≡ Some result }
+    ensures last { last_of sections.now ≡ Some result }
     ensures at_end { slice_get sections.now (length sections.now - 1) ≡ Some result }
 {
     *sections.at(sections.len() - 1)

@@ -1,18 +1,18 @@
 -- A table in which C1, C2, C3 in its part on the path, and C7 are broken at no place has what strict safety uses; so has
 -- one in which no rule of the columns is broken.
-use Rattle.std.proofs.Common.{◌≡◌, ℕ, zero, suc, ◌+◌, ◌-◌, ◌<◌, Bool, true, false, not, ◌==◌, ◌&&◌, ◌||◌, Option, Some, None, List, [], ◌∷◌, drop, length, nat_lt, slice_get, take, refl, sym, ap, ◌∙◌, subst, arith}
+use Rattle.std.proofs.Common.{◌≡◌, ℕ, zero, suc, ◌+◌, ◌<◌, Bool, true, false, not, ◌==◌, ◌&&◌, ◌||◌, Option, Some, None, List, [], ◌∷◌, drop, length, nat_lt, slice_get, take, refl, sym, ◌∙◌, subst, arith}
 use Rattle.std.specs.List.{filter, range_with_len}
 use Rattle.std.proofs.lemmas.Bool.{and_parts, eqb-true}
 use Rattle.std.proofs.lemmas.Option.{same_Some, slice_get_within}
 use Rattle.ilk_base.specs.Option.{is_some_and}
 use Rattle.ilk_base.proofs.FlatMaps.{flat_map-none}
-use Rattle.ilk_base.proofs.Lists.{map-none}
+use Rattle.ilk_base.proofs.Lists.{last_or-at, map-none}
 use Rattle.ilk_base.proofs.Options.{some-and}
 use Rattle.ilk_base.proofs.Ranges.{range-at}
 use Rattle.ilk_base.proofs.Tested.{filter-none}
 use Rattle.ilk_plant.specs.Broken.{broken_at}
-use Rattle.ilk_plant.specs.ColumnRules.{breaks_columns, column_rule_broken, column_rules, column_rules_broken, ends_path, has_no_board, is_between_boards, is_border_without_board, is_listed_towards, last_of, path_ends_at_board, path_leads_on, points_are_set, points_lead_along, source_passes}
-use Rattle.ilk_plant.specs.Network.{has_section}
+use Rattle.ilk_plant.specs.ColumnRules.{breaks_columns, column_rule_broken, column_rules, column_rules_broken, ends_path, has_no_board, is_between_boards, is_border_without_board, is_listed_towards, path_ends_at_board, path_leads_on, points_are_set, points_lead_along, source_passes}
+use Rattle.ilk_plant.specs.Network.{has_section, last_of}
 use Rattle.ilk_plant.specs.Plant.{PlantLists, border, board_of, is_point_section, next_to}
 use Rattle.ilk_plant.specs.Shape.{leads_on}
 use Rattle.ilk_plant.specs.TableRules.{route_fails}
@@ -73,8 +73,7 @@ end-not_plain p d None x h =
 last-not_plain : (p : PlantLists) (d : Dir) (destination : Option ℕ) (path : List ℕ) → is_between_boards p d destination path ≡ true → (k x : ℕ) → slice_get path k ≡ Some x → k + 1 ≡ length path → is_plain p d x ≡ false
 last-not_plain p d destination path h k x at last =
     let ending = some-and (last_of path) (ends_path p d destination) (and_parts _ (is_some_and (last_of path) (ends_path p d destination)) h).1 in
-    let place : length path - 1 ≡ k = omega (arith, last) in
-    let same : ending.0 ≡ x = same_Some ending.0 x (sym ending.1 ∙ ap (slice_get path) place ∙ at) in
+    let same : ending.0 ≡ x = same_Some ending.0 x (sym ending.1 ∙ last_or-at None path k x last at) in
     end-not_plain p d destination x (rw same at ending.2)
 
 -- a border that isn't without a board has one
