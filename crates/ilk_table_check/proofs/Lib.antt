@@ -1,4 +1,6 @@
+pub mod Asked
 mod Examples
 pub mod Flagged
+pub mod Last
 pub mod Shared
 pub mod Twice

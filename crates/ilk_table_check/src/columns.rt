@@ -1,8 +1,9 @@
-ghost use Rattle.std.specs.Prelude.{◌≡◌, ◌==◌, ◌||◌, ◌<◌, IfOk, OnOk, ◌++◌, false, length, map, slice_index_or};
+ghost use Rattle.std.specs.Prelude.{ℕ, ◌≡◌, ◌==◌, ◌||◌, ◌<◌, IfOk, OnOk, ◌++◌, false, length, map, not, slice_index_or};
 ghost use Rattle.std.specs.List.{list_any};
 ghost use Rattle.ilk_plant.specs.Broken.{broken_at, broken_at_pairs, places_of};
 ghost use Rattle.ilk_plant.specs.TableRules.{count_in_plant, protecting_points_of};
 ghost use Rattle.ilk_plant.specs.ColumnRules.{breaks_columns, breaks_columns_at_pair, column_rule_broken, column_rules_broken, is_kept_closed_by, lists, share_section, is_border_without_board};
+ghost use Rattle.ilk_plant.specs.declared.broken.Rule.TheVariants.{C7};
 ghost use Rattle.ilk_table_check.specs.Columns.{all_conflict_flags, conflict_flags, lists_by_flags, locked_flags, pairs_of};
 
 use crate::flags::{flag_at, flags_of, row_of, set_flags, set_points};
@@ -194,6 +195,30 @@ fn breaks_at_pair(
     }
 }
 
+// Whether one of these routes doesn't list route `i`. `listed` has which routes list which.
+fn any_alone(listed: &Row<Row<bool>>, conflicts: &[u32], i: u32) -> bool
+    ensures { result ≡ list_any (λ j. not (lists_by_flags listed.now j i)) conflicts.now }
+{
+    conflicts.iter().any(|j| !lists_by_flags(listed, *j, i))
+}
+
+// Whether a rule of two places has to be asked at the pairs whose first is route `i`: where this is
+// false, the rule is broken at none of them. C5 is asked only where route `i` lists a route that
+// doesn't list it, and C8 only where it has protecting boards. `listed` has which routes list which.
+fn is_to_be_asked(plant: &Plant, listed: &Row<Row<bool>>, rule: Rule, i: u32) -> bool
+    requires first { i < length plant.now.routes }
+    requires listed { listed.now ≡ all_conflict_flags plant.now }
+    ensures { result ≡ false → (j : ℕ) → j < length plant.now.routes →
+        breaks_columns_at_pair plant.now rule i j ≡ false }
+{
+    let route = plant.route(i);
+    match rule {
+        Rule::C5 => any_alone(listed, route.conflicts.as_slice(), i),
+        Rule::C8 => route.protecting_boards.len() > 0,
+        _ => true,
+    }
+}
+
 // Adds the places at which a rule of one place is broken.
 fn push_places(found: &mut Row<Broken>, plant: &Plant, rule: Rule) -> Result<(), AllocError>
     ensures { OnOk result (found.new ≡ found.old
@@ -223,6 +248,9 @@ fn push_pairs_of(
     requires listed { listed.now ≡ all_conflict_flags plant.now }
     ensures { OnOk result (found.new ≡ found.old ++ pairs_of rule (length plant.now.routes) i (breaks_columns_at_pair plant.now rule i)) }
 {
+    if !is_to_be_asked(plant, listed, rule, i) {
+        return Ok(());
+    }
     let locked = locked_flags(alloc, plant, i)?;
     for j in 0..plant.routes() {
         let entry = Broken {
@@ -244,28 +272,31 @@ fn push_pairs(
     alloc: Global,
     found: &mut Row<Broken>,
     plant: &Plant,
+    listed: &Row<Row<bool>>,
     rule: Rule,
 ) -> Result<(), AllocError>
+    requires { listed.now ≡ all_conflict_flags plant.now }
     ensures { OnOk result (found.new ≡ found.old ++ broken_at_pairs rule (length plant.now.routes) (breaks_columns_at_pair plant.now rule)) }
 {
-    let listed = all_conflict_flags(alloc, plant)?;
     for i in 0..plant.routes() {
-        push_pairs_of(alloc, found, plant, &listed, rule, i)?;
+        push_pairs_of(alloc, found, plant, listed, rule, i)?;
     }
     Ok(())
 }
 
-// Adds a rule at each of its places at which it is broken.
+// Adds a rule at each of its places at which it is broken. `listed` has which routes list which.
 fn push_rule(
     alloc: Global,
     found: &mut Row<Broken>,
     plant: &Plant,
+    listed: &Row<Row<bool>>,
     rule: Rule,
 ) -> Result<(), AllocError>
+    requires { listed.now ≡ all_conflict_flags plant.now }
     ensures { OnOk result (found.new ≡ found.old ++ column_rule_broken plant.now rule) }
 {
     match rule.places() {
-        Places::RoutePairs => push_pairs(alloc, found, plant, rule),
+        Places::RoutePairs => push_pairs(alloc, found, plant, listed, rule),
         _ => push_places(found, plant, rule),
     }
 }
@@ -275,9 +306,20 @@ fn push_rule(
 pub fn check_columns(alloc: Global, plant: &Plant) -> Result<Row<Broken>, AllocError>
     ensures { IfOk result (λ found. found ≡ column_rules_broken plant.now) }
 {
+    let listed = all_conflict_flags(alloc, plant)?;
     let mut found = Row::new(alloc);
     for rule in &COLUMN_RULES {
-        push_rule(alloc, &mut found, plant, *rule)?;
+        push_rule(alloc, &mut found, plant, &listed, *rule)?;
     }
+    Ok(found)
+}
+
+/// The borders without a board in their inward direction, C7, in the order of the sections: it is
+/// the rule of the columns that asks the network alone. The only refusal is want of memory.
+pub fn check_borders(alloc: Global, plant: &Plant) -> Result<Row<Broken>, AllocError>
+    ensures { IfOk result (λ found. found ≡ column_rule_broken plant.now C7) }
+{
+    let mut found = Row::new(alloc);
+    push_places(&mut found, plant, Rule::C7)?;
     Ok(found)
 }

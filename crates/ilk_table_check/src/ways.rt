@@ -1,7 +1,7 @@
 ghost use Rattle.std.specs.Prelude.{◌≡◌, ◌==◌, slice_get, take, ◌∷◌, ◌||◌, not};
 ghost use Rattle.std.specs.List.{list_all, list_any};
 ghost use Rattle.std.specs.Option.{option_copied};
-ghost use Rattle.ilk_plant.specs.Network.{has_section};
+ghost use Rattle.ilk_plant.specs.Network.{has_section, last_of};
 ghost use Rattle.ilk_base.specs.Option.{is_some_and};
 ghost use Rattle.ilk_plant.specs.TableRules.{points_of};
 ghost use Rattle.ilk_plant.specs.Plant.{is_point_section};
@@ -185,12 +185,23 @@ pub fn points_are_set(plant: &Plant, route: &Route) -> bool
     }
 }
 
+// The last of some sections. None where there are none.
+#[tactic(auto, using(crate::proofs::Last::last_at))]
+fn last_of(sections: &[u32]) -> Option<u32>
+    ensures { result ≡ last_of sections.now }
+{
+    match sections {
+        [.., last] => Some(*last),
+        [] => None,
+    }
+}
+
 /// Whether the overlap leads on from the last section of the path.
 pub fn overlap_leads_on(plant: &Plant, route: &Route) -> bool
     ensures { result ≡ overlap_leads_on plant.now route.now }
 {
-    match (source_of(plant, route), route.path.as_slice().last()) {
-        (Some(source), Some(last)) => plant.leads_on(source.dir, *last, route.overlap.as_slice()),
+    match (source_of(plant, route), last_of(route.path.as_slice())) {
+        (Some(source), Some(last)) => plant.leads_on(source.dir, last, route.overlap.as_slice()),
         _ => false,
     }
 }
