@@ -11,8 +11,8 @@ use Rattle.ilk_base.proofs.Lists.{map-at}
 use Rattle.ilk_base.proofs.Tested.{list_any-at, list_any-from}
 use Rattle.ilk_base.specs.Option.{is_some_and}
 use Rattle.ilk_plant.proofs.Rows.{has_section-at}
-use Rattle.ilk_plant.specs.ColumnRules.{all_but_last, last_of}
-use Rattle.ilk_plant.specs.Network.{beside, has_section, same_direction}
+use Rattle.ilk_plant.specs.ColumnRules.{all_but_last}
+use Rattle.ilk_plant.specs.Network.{beside, has_section, last_of, same_direction}
 use Rattle.ilk_plant.specs.Plant.{PlantLists, next_to}
 use Rattle.ilk_plant.specs.Shape.{leads_on}
 use Rattle.ilk_plant.specs.declared.network.Dir.{Dir}

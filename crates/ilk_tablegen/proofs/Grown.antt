@@ -1,17 +1,16 @@
 -- Ways that grow by a section a round: together they go on to all ways of the network, and each to one at least.
-use Rattle.std.proofs.Common.{◌≡◌, ℕ, zero, suc, ◌+◌, ◌-◌, ◌<◌, ◌≤◌, Bool, true, false, not, ◌&&◌, ◌||◌, ◌==◌, Some, None, is_some, All, List, [], ◌∷◌, ◌++◌, flat_map, if◌then◌else◌, length, map, nat_lt, slice_get, unwrap_or, refl, sym, ◌∙◌, ap, arith, subst}
+use Rattle.std.proofs.Common.{◌≡◌, ℕ, zero, suc, ◌+◌, ◌<◌, ◌≤◌, Bool, true, false, not, ◌&&◌, ◌||◌, ◌==◌, Some, None, is_some, All, List, [], ◌∷◌, ◌++◌, flat_map, if◌then◌else◌, length, map, nat_lt, slice_get, unwrap_or, refl, sym, ◌∙◌, ap, arith, subst}
 use Rattle.std.specs.List.{enumerate_from, list_any}
 use Rattle.std.proofs.lemmas.Bool.Decides.{nat_tests}
 use Rattle.std.proofs.lemmas.List.{append_assoc, length-append, length-map, map-append}
 use Rattle.std.proofs.lemmas.List.Elements.{All-append, All-cons, All-head, All-map, All-nil, All-tail}
 use Rattle.std.proofs.lemmas.List.Folds.{flat_map-map}
 use Rattle.std.proofs.lemmas.Grind.{flat_map-append}
-use Rattle.ilk_base.proofs.Lists.{at-past}
+use Rattle.ilk_base.proofs.Lists.{at-past, last_or-at}
 use Rattle.ilk_base.proofs.Positions.{is_some-position}
 use Rattle.ilk_base.proofs.Ranges.{below}
 use Rattle.ilk_base.proofs.Tested.{list_any-none}
 use Rattle.ilk_plant.proofs.Rows.{has_section-at}
-use Rattle.ilk_plant.specs.ColumnRules.{last_of}
 use Rattle.ilk_plant.specs.Plant.{IsPlant, PlantLists, board_of, next_to}
 use Rattle.ilk_plant.specs.declared.limits.TheConstants.{MAX_PATH, MAX_ROUTES}
 use Rattle.ilk_plant.specs.declared.network.Board.{Board}
@@ -20,6 +19,7 @@ use Rattle.ilk_tablegen.proofs.Rounds.{board-within}
 use Rattle.ilk_tablegen.specs.Rounds.{begun_ways, few_ways, head_of, is_ended, longer_ways, way_over}
 use Rattle.ilk_tablegen.specs.Ways.{all_ways, ends_way, first_without_end, goes_on, has_no_end, ways}
 use Rattle.ilk_tablegen.specs.declared.ways.Way.{Way}
+use Rattle.ilk_plant.specs.Network.{last_of}
 
 -- a way with more sections
 abbrev pub extended : Way → List ℕ → Way
@@ -38,8 +38,8 @@ pub record Goes (p : PlantLists) (n : ℕ) (way : Way) : Type 0 where
 -- the last of a path that grew
 pub last_of-push : (path : List ℕ) (y : ℕ) → last_of (path ++ y ∷ []) ≡ Some y
 last_of-push path y =
-    let place : length (path ++ y ∷ []) - 1 ≡ length path + 0 = omega (arith, length-append path (y ∷ [])) in
-    ap (slice_get (path ++ y ∷ [])) place ∙ at-past path (y ∷ []) 0 y refl
+    let place : length path + 0 + 1 ≡ length (path ++ y ∷ []) = omega (arith, length-append path (y ∷ [])) in
+    last_or-at None (path ++ y ∷ []) (length path + 0) y place (at-past path (y ∷ []) 0 y refl)
 
 head-over : (way : Way) (y : ℕ) → head_of (way_over way y) ≡ y
 head-over way y = ap (λ o. unwrap_or o way.from.section) (last_of-push way.path y)

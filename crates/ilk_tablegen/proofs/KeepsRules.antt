@@ -15,11 +15,11 @@ use Rattle.ilk_base.proofs.Ranges.{below, passing_within}
 use Rattle.ilk_base.proofs.Tested.{All-tested, all-pass, list_any-at}
 use Rattle.ilk_plant.proofs.Once.{all_differ-places}
 use Rattle.ilk_plant.specs.Broken.{broken_at}
-use Rattle.ilk_plant.specs.ColumnRules.{column_rule_broken, column_rules_broken, last_of, lists_alone, overlap_leads_on, path_ends_at_board, path_leads_on, points_are_set, protects_unlisted, share_unlisted}
+use Rattle.ilk_plant.specs.ColumnRules.{column_rule_broken, column_rules_broken, lists_alone, overlap_leads_on, path_ends_at_board, path_leads_on, points_are_set, protects_unlisted, share_unlisted}
 use Rattle.ilk_plant.specs.Draft.{numbered, numbered_route}
 use Rattle.ilk_plant.specs.Limits.{TableHasLimits, route_has_limits, route_has_names}
 use Rattle.ilk_plant.specs.Name.{IsName, Name, is_name, is_name_if_given, lies_within}
-use Rattle.ilk_plant.specs.Network.{has_section}
+use Rattle.ilk_plant.specs.Network.{has_section, last_of}
 use Rattle.ilk_plant.specs.Plant.{IsPlant, PlantLists, board_of}
 use Rattle.ilk_plant.specs.Sound.{NeverReturns}
 use Rattle.ilk_plant.specs.TableRules.{breaks_table, has_conflicts_once, has_destination_or_none, has_points_once, has_protecting_boards_once, has_protecting_points_once, has_sections_once, has_source, route_fails, routes_broken}
@@ -251,18 +251,22 @@ module _ (p : PlantLists) (plant : IsPlant p) (never : NeverReturns p) (few : le
     columns = ap column_rules_broken (numbered-back net other e) ∙ only-c7;
   }
 
--- so the table that is found keeps them
-pub found-kept : (p : PlantLists) → IsPlant p → NeverReturns p → (net : NetDraft) (other table : TableDraft) → p ≡ numbered net other → walks p ≡ Routes table → KeepsAllButC7 p net table
-found-kept p plant never net other table e found = by_end (first_without_end p) refl
+-- the table that is found is that of all ways, which are few
+pub found-few : (p : PlantLists) (table : TableDraft) → walks p ≡ Routes table → (network_table p ≡ table) × (length (network_routes p) ≤ MAX_ROUTES)
+found-few p table found = by_end (first_without_end p) refl
   where
-    by_count : (b : Bool) → nat_lt MAX_ROUTES (length (all_ways p)) ≡ b → (if b then TooMany else Routes (network_table p)) ≡ Routes table → KeepsAllButC7 p net table
+    by_count : (b : Bool) → nat_lt MAX_ROUTES (length (all_ways p)) ≡ b → (if b then TooMany else Routes (network_table p)) ≡ Routes table → (network_table p ≡ table) × (length (network_routes p) ≤ MAX_ROUTES)
     by_count true more f = absurd (cc)
     by_count false more f =
-        let same : network_table p ≡ table = cc in
         let count : length (network_routes p) ≡ length (all_ways p) = count-paths p ∙ length-map (all_ways p) (λ (way : Way). way.path) in
-        let fewer : length (network_routes p) ≤ MAX_ROUTES = grind (arith, nat_tests, more, count) in
-        subst (KeepsAllButC7 p net) same (all-kept p plant never fewer net other e)
+        (cc, grind (arith, nat_tests, more, count))
 
-    by_end : (o : Option ℕ) → first_without_end p ≡ o → KeepsAllButC7 p net table
+    by_end : (o : Option ℕ) → first_without_end p ≡ o → (network_table p ≡ table) × (length (network_routes p) ≤ MAX_ROUTES)
     by_end None is = by_count (nat_lt MAX_ROUTES (length (all_ways p))) refl (rw is at found)
     by_end (Some m) is = let bad : TooLong m ≡ Routes table = rw is at found in absurd (cc)
+
+-- so the table that is found keeps them
+pub found-kept : (p : PlantLists) → IsPlant p → NeverReturns p → (net : NetDraft) (other table : TableDraft) → p ≡ numbered net other → walks p ≡ Routes table → KeepsAllButC7 p net table
+found-kept p plant never net other table e found =
+    let few = found-few p table found in
+    subst (KeepsAllButC7 p net) few.0 (all-kept p plant never few.1 net other e)

@@ -5,9 +5,12 @@ mod ConflictFacts
 mod Enumerated
 mod Examples
 mod Flagged
+pub mod FoundSound
 mod Grown
 mod IsWay
 mod KeepsRules
+mod LastItem
+mod NetworkBack
 mod NumberedBack
 mod PathPoints
 mod Rounds

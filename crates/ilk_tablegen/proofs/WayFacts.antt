@@ -1,12 +1,12 @@
 -- What the rules of the columns ask of a path, of a way: it leads on, has no board before its last section, and ends there.
-use Rattle.std.proofs.Common.{◌≡◌, ℕ, suc, ◌-◌, ◌<◌, true, false, not, ◌&&◌, ◌||◌, ◌==◌, Option, Some, None, is_none, is_some, List, [], ◌∷◌, length, slice_get, take, refl, ◌∙◌, ap, arith}
+use Rattle.std.proofs.Common.{◌≡◌, ℕ, suc, ◌-◌, ◌<◌, true, false, not, ◌&&◌, ◌||◌, ◌==◌, Option, Some, None, is_none, is_some, List, [], ◌∷◌, length, take, refl, ◌∙◌, ap, arith}
 use Rattle.std.specs.List.{list_all}
 use Rattle.std.specs.Cmp.Derive.{both_true}
 use Rattle.std.proofs.lemmas.Bool.{and_parts, eq-eqb}
 use Rattle.ilk_base.proofs.Truth.{fails}
 use Rattle.ilk_base.specs.Option.{is_some_and}
-use Rattle.ilk_plant.specs.ColumnRules.{all_but_last, ends_path, has_no_board, is_between_boards, last_of}
-use Rattle.ilk_plant.specs.Network.{has_section}
+use Rattle.ilk_plant.specs.ColumnRules.{all_but_last, ends_path, has_no_board, is_between_boards}
+use Rattle.ilk_plant.specs.Network.{has_section, last_of}
 use Rattle.ilk_plant.specs.Plant.{PlantLists, board_of, next_to}
 use Rattle.ilk_plant.specs.Shape.{leads_on}
 use Rattle.ilk_plant.specs.declared.network.Dir.{Dir}
@@ -37,9 +37,7 @@ way-leads p d x (y ∷ z ∷ rest) h = both_true (first-next p d x y (z ∷ rest
 
 -- a path that is longer by a first section
 pub last-cons : (y z : ℕ) (rest : List ℕ) → last_of (y ∷ z ∷ rest) ≡ last_of (z ∷ rest)
-last-cons y z rest =
-    let place : length (y ∷ z ∷ rest) - 1 ≡ suc (length (z ∷ rest) - 1) = omega arith in
-    ap (slice_get (y ∷ z ∷ rest)) place
+last-cons y z rest = refl
 
 pub before-cons : (y z : ℕ) (rest : List ℕ) → all_but_last (y ∷ z ∷ rest) ≡ y ∷ all_but_last (z ∷ rest)
 before-cons y z rest =

@@ -9,8 +9,8 @@ use Rattle.ilk_base.proofs.ListTests.{all-at}
 use Rattle.ilk_base.proofs.Options.{bind_some}
 use Rattle.ilk_base.proofs.Tested.{all-pass}
 use Rattle.ilk_base.specs.Option.{is_some_and}
-use Rattle.ilk_plant.specs.ColumnRules.{last_of, overlap_leads_on, path_ends_at_board, path_leads_on, points_are_set, is_between_boards, points_lead_along}
-use Rattle.ilk_plant.specs.Network.{has_section}
+use Rattle.ilk_plant.specs.ColumnRules.{overlap_leads_on, path_ends_at_board, path_leads_on, points_are_set, is_between_boards, points_lead_along}
+use Rattle.ilk_plant.specs.Network.{has_section, last_of}
 use Rattle.ilk_plant.specs.Once.{none_twice}
 use Rattle.ilk_plant.specs.Plant.{IsPlant, PlantLists, board_of, is_point_section}
 use Rattle.ilk_plant.specs.Shape.{leads_on}

@@ -2,11 +2,12 @@
 use Rattle.std.specs.Prelude.{ℕ, ◌≡◌, ◌⊎◌, not, List, [], ◌∷◌, IsTrue}
 use Rattle.std.specs.List.{list_all}
 use Rattle.ilk_base.specs.Option.{is_some_and}
-use Rattle.ilk_plant.specs.ColumnRules.{all_but_last, last_of}
+use Rattle.ilk_plant.specs.ColumnRules.{all_but_last}
 use Rattle.ilk_plant.specs.Plant.{PlantLists, next_to}
 use Rattle.ilk_plant.specs.Shape.{leads_on}
 use Rattle.ilk_plant.specs.declared.network.Dir.{Dir}
 use Rattle.ilk_tablegen.specs.Ways.{ends_way}
+use Rattle.ilk_plant.specs.Network.{last_of}
 
 -- sections that lead on from section x in direction d, each next to the one before: a way ends at the last of them, and
 -- at none before

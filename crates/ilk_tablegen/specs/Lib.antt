@@ -1,6 +1,7 @@
 pub mod Ways
 pub mod Routes
 pub mod Table
+pub mod NetworkDraft
 pub mod Rounds
 pub mod Flags
 pub mod Rules

@@ -2,12 +2,12 @@
 -- ways grow by a section.
 use Rattle.std.specs.Prelude.{ℕ, Bool, false, not, Option, None, Some, List, [], ◌∷◌, ◌++◌, ◌&&◌, ◌==◌, if◌then◌else◌, length, map, nat_lt, slice_index_or, unwrap_or}
 use Rattle.std.specs.List.{enumerate_from, list_any, range_with_len}
-use Rattle.ilk_plant.specs.ColumnRules.{last_of}
 use Rattle.ilk_plant.specs.Plant.{PlantLists, next_to}
 use Rattle.ilk_plant.specs.declared.limits.TheConstants.{MAX_ROUTES}
 use Rattle.ilk_plant.specs.declared.network.Dir.{Dir}
 use Rattle.ilk_tablegen.specs.Ways.{all_ways, ends_way, goes_on}
 use Rattle.ilk_tablegen.specs.declared.ways.Way.{Way}
+use Rattle.ilk_plant.specs.Network.{last_of}
 
 -- for each section, whether some n sections lead on from it in direction d at none of which a way ends
 abbrev pub going_on : PlantLists → Dir → ℕ → List Bool

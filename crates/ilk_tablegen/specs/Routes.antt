@@ -2,8 +2,8 @@
 use Rattle.std.specs.Prelude.{ℕ, Bool, not, Option, List, [], ◌∷◌, ◌++◌, ◌&&◌, ◌==◌, filter, find, length, map, option_map, option_to_list, slice_get, slice_index_or, take}
 use Rattle.std.specs.List.{enumerate_from, list_any, range_with_len}
 use Rattle.ilk_base.specs.Option.{◌>>=◌, is_some_and}
-use Rattle.ilk_plant.specs.ColumnRules.{is_leg, last_of}
-use Rattle.ilk_plant.specs.Network.{has_section}
+use Rattle.ilk_plant.specs.ColumnRules.{is_leg}
+use Rattle.ilk_plant.specs.Network.{has_section, last_of}
 use Rattle.ilk_plant.specs.Plant.{PlantLists, board_of}
 use Rattle.ilk_plant.specs.declared.network.Position.{Position}
 use Rattle.ilk_plant.specs.declared.network.Position.TheVariants.{Plus, Minus}

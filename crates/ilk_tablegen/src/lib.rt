@@ -11,20 +11,28 @@
 //! lead on; `ways` lengthens all ways by one section a round, and stops once they are too many, since
 //! each of them is the beginning of another way. `routes` and `table` then write the table.
 //!
-//! The laws (`laws`) say that what is listed is just the ways of the network, in order, and which rules
-//! the table keeps.
+//! `network_draft` gives the network itself by names, so that both can be written as one configuration.
+//!
+//! The laws (`laws`) say that what is listed is just the ways of the network, in order, that the draft
+//! of a network is the one that its plant was made of, and which rules the two drafts keep.
 #![tactic(auto)]
 
 mod endless;
 mod ends;
 mod flags;
 mod laws;
+mod names;
+mod network;
 mod points;
 mod routes;
 mod table;
 mod walks;
 mod ways;
 
-pub use laws::{bare_plant_breaks_c7_alone, table_keeps_rules, ways_are_all};
+pub use laws::{
+    bare_network_is_sound, bare_plant_breaks_c7_alone, network_and_table_keep_rules,
+    network_comes_back, table_keeps_rules, ways_are_all,
+};
+pub use network::network_draft;
 pub use table::routes_of;
 pub use walks::Walks;

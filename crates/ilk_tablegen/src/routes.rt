@@ -6,7 +6,7 @@ ghost use Rattle.ilk_tablegen.specs.Ways.{all_ways};
 
 use crate::flags::{any_flagged, flags_of};
 use crate::points::points_along;
-use crate::ways::Way;
+use crate::ways::{Way, last_section};
 use ilk_plant::{Plant, Route, Row};
 use std::alloc::{AllocError, Global};
 
@@ -61,8 +61,8 @@ fn conflicts_flagged(
 fn destination_of(plant: &Plant, way: &Way) -> Option<u32>
     ensures { result ≡ destination_of plant.now way.now }
 {
-    match way.path.as_slice().last() {
-        Some(x) if *x < plant.sections() => plant.board_of(*x, way.from.dir),
+    match last_section(way) {
+        Some(x) if x < plant.sections() => plant.board_of(x, way.from.dir),
         _ => None,
     }
 }

@@ -1,45 +1,14 @@
-ghost use Rattle.std.specs.Prelude.{◌≡◌, ◌≤◌, IfOk, length, map, option_map};
+ghost use Rattle.std.specs.Prelude.{◌≡◌, ◌≤◌, IfOk, length, map};
 ghost use Rattle.ilk_plant.specs.declared.limits.TheConstants.{MAX_ROUTES};
 ghost use Rattle.ilk_tablegen.specs.Table.{name_of, named_point, named_route, named_table, route_name, walks};
 
 use crate::endless::first_without_end;
+use crate::names::{board_name, name_if_board, section_name};
 use crate::routes::routes_of_ways;
 use crate::walks::Walks;
 use crate::ways::few_ways;
 use ilk_plant::{Listed, ListedDraft, Plant, Route, RouteDraft, Row, TableDraft, Text};
 use std::alloc::{AllocError, Global};
-
-// The name of section `x`; no character where there is no such section.
-fn section_name(alloc: Global, plant: &Plant, x: u32) -> Result<Text, AllocError>
-    ensures { IfOk result (λ name. name ≡ name_of plant.now.section_names x) }
-{
-    plant.is_sound();
-    if x >= plant.sections() {
-        return Ok(Text::of(String::new(alloc)));
-    }
-    Ok(Text::of(String::from_str(alloc, plant.section_name(x))?))
-}
-
-// The name of board `m`; no character where there is no such board.
-fn board_name(alloc: Global, plant: &Plant, m: u32) -> Result<Text, AllocError>
-    ensures { IfOk result (λ name. name ≡ name_of plant.now.board_names m) }
-{
-    plant.is_sound();
-    if m >= plant.boards() {
-        return Ok(Text::of(String::new(alloc)));
-    }
-    Ok(Text::of(String::from_str(alloc, plant.board_name(m))?))
-}
-
-// The name of board `m`, if there is one.
-fn name_if_board(alloc: Global, plant: &Plant, m: Option<u32>) -> Result<Option<Text>, AllocError>
-    ensures { IfOk result (λ name. name ≡ option_map (name_of plant.now.board_names) m) }
-{
-    match m {
-        Some(m) => Ok(Some(board_name(alloc, plant, m)?)),
-        None => Ok(None),
-    }
-}
 
 // The name of route `n`.
 fn route_name(alloc: Global, n: u32) -> Result<Text, AllocError>

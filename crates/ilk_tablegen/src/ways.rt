@@ -1,4 +1,5 @@
 ghost use Rattle.std.specs.Prelude.{◌≡◌, ◌∷◌, ◌++◌, ◌<◌, [], All, IfOk, IfSome, OnOk, None, flat_map, length, map, nat_lt, option_to_list};
+ghost use Rattle.ilk_plant.specs.Network.{last_of};
 ghost use Rattle.ilk_tablegen.specs.Rounds.{begun_ways, few_ways, head_of, is_ended, longer_ways, way_over};
 ghost use Rattle.ilk_tablegen.specs.Ways.{first_without_end};
 ghost use Rattle.ilk_plant.specs.declared.limits.TheConstants.{MAX_ROUTES};
@@ -15,12 +16,20 @@ pub struct Way {
     pub path: Row<u32>,
 }
 
+/// The last section of a way. None where it has come to none yet.
+#[tactic(auto, using(crate::proofs::LastItem::last_item))]
+pub fn last_section(way: &Way) -> Option<u32>
+    ensures { result ≡ last_of way.now.path }
+{
+    way.path.as_slice().last().copied()
+}
+
 // The section to which a way has come, which at first is that of its board.
 fn head_of(way: &Way) -> u32
     ensures { result ≡ head_of way.now }
 {
-    match way.path.as_slice().last() {
-        Some(x) => *x,
+    match last_section(way) {
+        Some(x) => x,
         None => way.from.section,
     }
 }

@@ -1,0 +1,55 @@
+ghost use Rattle.std.specs.Prelude.{◌≡◌, IfOk, option_map};
+ghost use Rattle.ilk_tablegen.specs.Table.{name_of};
+
+use ilk_plant::{Plant, Text};
+use std::alloc::{AllocError, Global};
+
+/// The name of section `x`; no character where there is no such section.
+pub fn section_name(alloc: Global, plant: &Plant, x: u32) -> Result<Text, AllocError>
+    ensures { IfOk result (λ name. name ≡ name_of plant.now.section_names x) }
+{
+    plant.is_sound();
+    if x >= plant.sections() {
+        return Ok(Text::of(String::new(alloc)));
+    }
+    Ok(Text::of(String::from_str(alloc, plant.section_name(x))?))
+}
+
+/// The name of board `m`; no character where there is no such board.
+pub fn board_name(alloc: Global, plant: &Plant, m: u32) -> Result<Text, AllocError>
+    ensures { IfOk result (λ name. name ≡ name_of plant.now.board_names m) }
+{
+    plant.is_sound();
+    if m >= plant.boards() {
+        return Ok(Text::of(String::new(alloc)));
+    }
+    Ok(Text::of(String::from_str(alloc, plant.board_name(m))?))
+}
+
+/// The name of section `x`, if there is one.
+pub fn name_if_section(
+    alloc: Global,
+    plant: &Plant,
+    x: Option<u32>,
+) -> Result<Option<Text>, AllocError>
+    ensures { IfOk result (λ name. name ≡ option_map (name_of plant.now.section_names) x) }
+{
+    match x {
+        Some(x) => Ok(Some(section_name(alloc, plant, x)?)),
+        None => Ok(None),
+    }
+}
+
+/// The name of board `m`, if there is one.
+pub fn name_if_board(
+    alloc: Global,
+    plant: &Plant,
+    m: Option<u32>,
+) -> Result<Option<Text>, AllocError>
+    ensures { IfOk result (λ name. name ≡ option_map (name_of plant.now.board_names) m) }
+{
+    match m {
+        Some(m) => Ok(Some(board_name(alloc, plant, m)?)),
+        None => Ok(None),
+    }
+}
