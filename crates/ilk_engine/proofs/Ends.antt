@@ -13,11 +13,11 @@ use Rattle.ilk_plant.specs.declared.state.State.{State}
 use Rattle.ilk_model.specs.Event.{next}
 use Rattle.ilk_model.specs.Families.{keeps_v1, keeps_v2, keeps_v3, keeps_v4, keeps_v5, keeps_v6, keeps_v7, keeps_v8, keeps_v9}
 use Rattle.ilk_model.specs.Hazard.{hazard}
-use Rattle.ilk_model.specs.Meets.{least_broken}
+use Rattle.ilk_model.specs.Meets.{keeps_all, least_broken}
 use Rattle.ilk_model.specs.Run.{run}
 use Rattle.ilk_model.specs.declared.event.Event.{Event}
 use Rattle.ilk_model.specs.declared.hazards.HazardAt.{HazardAt}
-use Rattle.ilk_queries.specs.Asked.{ends_in_breach, ends_in_hazard, keeps_all}
+use Rattle.ilk_queries.specs.Asked.{ends_in_breach, ends_in_hazard}
 use Rattle.ilk_engine.specs.Right.{broken_after, hazard_after}
 
 -- the rest of a run goes on from the state after its first event

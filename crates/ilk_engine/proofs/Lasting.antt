@@ -10,14 +10,14 @@ use Rattle.ilk_plant.specs.Start.{start}
 use Rattle.ilk_plant.proofs.Shapes.{start-shape}
 use Rattle.ilk_plant.specs.declared.state.State.{State}
 use Rattle.ilk_model.specs.Hazard.{hazard}
-use Rattle.ilk_model.specs.Meets.{Meets}
+use Rattle.ilk_model.specs.Meets.{Meets, keeps_all}
 use Rattle.ilk_model.specs.Run.{run}
 use Rattle.ilk_model.specs.declared.event.Event.{Event}
 use Rattle.ilk_model.specs.declared.hazards.HazardAt.{HazardAt}
 use Rattle.ilk_unroll.specs.Goal.{GoalTree}
 use Rattle.ilk_unroll.specs.declared.queries.Wanted.TheVariants.{Hazard, Breach}
 use Rattle.ilk_induct.specs.Evidence.{IsForever}
-use Rattle.ilk_queries.specs.Asked.{HasEvents, keeps_all}
+use Rattle.ilk_queries.specs.Asked.{HasEvents}
 use Rattle.ilk_queries.specs.Lifting.{IsGoalOf, RulesStep}
 use Rattle.ilk_queries.proofs.Queries.{shaped-at}
 use Rattle.ilk_queries.proofs.Walks.{run-states, states-shaped}

@@ -7,3 +7,5 @@ pub mod Verdicts
 pub mod Made
 pub mod Certificates
 pub mod Strict
+pub mod RangeBytes
+pub mod Refuted

@@ -1,6 +1,6 @@
 -- A plant whose table is strict: each of its runs from the start ends in a state that meets the invariant, and no event
 -- leads out of the invariant. So its verdict is safe with k = 1, or all conflicts are spent.
-use Rattle.std.proofs.Common.{◌≡◌, ◌⊎◌, inl, inr, ℕ, zero, suc, ◌<◌, ◌≤◌, Bool, true, false, not, ◌&&◌, Option, Some, None, List, [], ◌∷◌, length, refl, sym, ap, ◌∙◌, subst, arith}
+use Rattle.std.proofs.Common.{◌≡◌, ◌⊎◌, inl, inr, ℕ, zero, suc, ◌<◌, true, false, not, ◌&&◌, Option, Some, None, List, [], ◌∷◌, length, refl, sym, ap, ◌∙◌, subst, arith}
 use Rattle.std.specs.Prelude.{is_some, is_none, option_and_then, option_map}
 use Rattle.std.proofs.lemmas.Bool.{and_from, and_parts, false≢true}
 use Rattle.std.proofs.lemmas.Option.{same_Some}
@@ -12,14 +12,14 @@ use Rattle.ilk_plant.specs.Start.{start}
 use Rattle.ilk_plant.specs.declared.state.State.{State}
 use Rattle.ilk_model.specs.Event.{next}
 use Rattle.ilk_model.specs.Hazard.{hazard}
-use Rattle.ilk_model.specs.Meets.{Meets}
+use Rattle.ilk_model.specs.Meets.{Meets, keeps_all}
 use Rattle.ilk_model.specs.Run.{run}
 use Rattle.ilk_model.specs.declared.event.Event.{Event}
 use Rattle.ilk_strict.specs.IsStrict.{IsStrict}
 use Rattle.ilk_strict.proofs.Invariant as invariant
 use Rattle.ilk_strict.proofs.Strict.{strict_from_list}
 use Rattle.ilk_unroll.specs.declared.queries.Wanted.TheVariants.{Hazard, Breach as BreachQuery, Step}
-use Rattle.ilk_queries.specs.Asked.{HasEvents, ends_in_breach, ends_in_hazard, keeps_all, leaves_at, leaves_invariant, meets_invariant}
+use Rattle.ilk_queries.specs.Asked.{HasEvents, ends_in_breach, ends_in_hazard, leaves_at, leaves_invariant, meets_invariant}
 use Rattle.ilk_queries.specs.Walk.{states_from}
 use Rattle.ilk_queries.proofs.Walks.{none-is}
 use Rattle.ilk_engine.specs.Forever.{IsForeverSafe}

@@ -8,8 +8,10 @@
 //! system's runs as runs of events.
 //!
 //! `certificate` writes the text that shows a verdict of `decide` to others: `specs/CertificateOf` says
-//! what it is. `formula`, of `ilk_queries`, makes the formula of one query, and an `Asked`, of
-//! `ilk_certificate`, is a query with the log of its search; both are handed on.
+//! what it is. Whoever wrote it, what is a certificate of a plant shows that each run of it, of whatever
+//! length, ends in a state that meets the invariant (`certificates_are_right`). `formula`, of
+//! `ilk_queries`, makes the formula of one query, and an `Asked`, of `ilk_certificate`, is a query with
+//! the log of its search; both are handed on.
 #![tactic(auto)]
 
 mod certifying;
@@ -24,5 +26,5 @@ pub use certifying::certificate;
 pub use deciding::decide;
 pub use ilk_certificate::Asked;
 pub use ilk_queries::formula;
-pub use laws::{runs_lift, safe_forever};
+pub use laws::{certificates_are_right, goal_means, runs_lift, safe_forever};
 pub use verdict::{Found, Verdict};

@@ -1,0 +1,8 @@
+use Rattle.std.proofs.lemmas.Result.{on_ok_weaker}
+use Rattle.ilk_behave.specs.Behaviour.{system_of}
+use Rattle.ilk_queries.specs.Goal.{goal_of}
+use Rattle.ilk_plant_audit.proofs.audit.CertAudit.feed.Goals as goal
+
+-- what is so over each system and goal is so over the plant's
+pub returns-clause-fed : goal.returns-clause-fed
+returns-clause-fed c = on_ok_weaker c.feed.result (λ fed p. fed (system_of p) (goal_of p)) c.feed.ensures.fed

@@ -1,0 +1,45 @@
+use ilk_behave::behaviour;
+use ilk_cert_audit::{CertificateAudit, Ended, Fed};
+use ilk_plant::Plant;
+use ilk_queries::goal;
+use std::alloc::{AllocError, Global};
+
+/// An audit of a certificate of a plant, to which the bytes come in pieces.
+#[derive(Drop)]
+pub struct CertAudit {
+    audit: CertificateAudit,
+}
+
+impl CertAudit {
+    ghost use Rattle.std.specs.Prelude.{ℕ, List, [], ◌++◌, IfOk, OnOk};
+    ghost use Rattle.ilk_plant.specs.Plant.{PlantLists};
+    ghost use Rattle.ilk_plant_audit.specs.Audited.{EndsFor, FedFor, HasFed};
+
+    /// An audit over a plant that took no byte. The only refusal is want of memory.
+    pub fn new(alloc: Global, plant: &Plant) -> Result<CertAudit, AllocError>
+        ensures { IfOk result (λ audit. HasFed plant.now audit []) }
+    {
+        let system = behaviour(alloc, plant)?;
+        let goal = goal(alloc, plant)?;
+        Ok(CertAudit {
+            audit: CertificateAudit::new(alloc, system, goal),
+        })
+    }
+
+    /// Takes the next bytes, of any length, and answers whether a line so far is bad: the same in
+    /// however many pieces they come. Where memory runs out, the audit is of no more use, and its
+    /// owner drops it.
+    pub fn feed(&mut self, piece: &[u8]) -> Result<Fed, AllocError>
+        ensures fed { OnOk result ((p : PlantLists) (bytes : List ℕ) → HasFed p self.old bytes → HasFed p self.new (bytes ++ piece.now)) }
+        ensures answer { IfOk result (λ fed. (p : PlantLists) (bytes : List ℕ) → HasFed p self.old bytes → FedFor p (bytes ++ piece.now) fed) }
+    {
+        self.audit.feed(piece)
+    }
+
+    /// Answers whether the bytes are a certificate of the plant.
+    pub fn end(self) -> Ended
+        ensures { (p : PlantLists) (bytes : List ℕ) → HasFed p self bytes → EndsFor p bytes result }
+    {
+        self.audit.end()
+    }
+}
