@@ -533,7 +533,7 @@ enter-keeps p plant s t shape x it (Leave z) own out h = leave-back p s t z (ent
 enter-keeps p plant s t shape x it (Cancel q) own out h = cc
 
 -- the section to which a head moved on lies around the one from which it came
-headed-around : (p : PlantLists) (s t : State) (x : ℕ) → (it : IsHeaded p s t x) → has_section it.y (around p x) ≡ true
+pub headed-around : (p : PlantLists) (s t : State) (x : ℕ) → (it : IsHeaded p s t x) → has_section it.y (around p x) ≡ true
 headed-around p s t x it = next-around p x it.y it.train.dir (ahead-next_to p s x it.y it.train.dir it.leads)
 
 headed-unasked : (p : PlantLists) (s t : State) (x q : ℕ) → (it : IsHeaded p s t x) → list_any (λ y. is_concerned p y q) (around p x) ≡ false → is_concerned p it.y q ≡ false

@@ -13,3 +13,4 @@ pub mod TrainChanges
 pub mod Awakes
 pub mod Held
 pub mod Covered
+pub mod Untouched

@@ -6,3 +6,4 @@ pub mod Told
 pub mod Progress
 pub mod Awakening
 pub mod Places
+pub mod Touched

@@ -1,9 +1,11 @@
 ghost use Rattle.std.specs.Prelude.{ℕ, ◌≡◌, ◌≤◌, ◌*◌, true, IfOk, OnOk, None, length};
 ghost use Rattle.std.specs.List.{list_all};
 ghost use Rattle.ilk_plant.specs.Network.{has_section};
+ghost use Rattle.ilk_plant.specs.Plant.{PlantLists};
 ghost use Rattle.ilk_plant.specs.Shape.{HasShape};
 ghost use Rattle.ilk_plant.specs.declared.state.Mode.TheVariants.{Free};
 ghost use Rattle.ilk_routes.specs.Modes.{same_mode};
+ghost use Rattle.ilk_model.specs.Hazard.{hazard};
 ghost use Rattle.ilk_replay.specs.Writable.{IsOfPlant};
 ghost use Rattle.ilk_strict.specs.IsStrict.{IsStrict};
 ghost use Rattle.ilk_drive.specs.Drive.{IsDriveOf, by_command, first_automatic, is_done, rest_at, turn};
@@ -14,17 +16,19 @@ ghost use Rattle.ilk_drive.specs.declared.limits.TheConstants.{MAX_EVENTS_FOR_A_
 
 use crate::automatic::Automatic;
 use crate::candidates::Candidates;
+use crate::touched::hazard_after;
 use crate::waking::places_woken;
 use crate::{Driven, Rest};
-use ilk_model::{Event, apply, hazard, start};
+use ilk_model::{Event, HazardAt, apply, start};
 use ilk_plant::{Mode, Plant, Row, State};
 use std::alloc::{AllocError, Global};
 
-/// Where a drive stands: the state, how many commands of its scenario were given, and the places of
-/// the automatic events that may be enabled.
+/// Where a drive stands: the state with its hazard, how many commands of its scenario were given,
+/// and the places of the automatic events that may be enabled.
 #[derive(Drop)]
 pub(crate) struct Standing {
     pub(crate) state: State,
+    pub(crate) hazard: Option<HazardAt>,
     pub(crate) given: u64,
     pub(crate) candidates: Candidates,
 }
@@ -109,6 +113,7 @@ fn give_command(
     requires all { IsAutomaticOf plant.now automatic.now }
     requires covers { Covers plant.now now.old.state now.old.candidates }
     ensures covers { OnOk result (Covers plant.now now.new.state now.new.candidates) }
+    ensures hazard { now.new.hazard ≡ now.old.hazard }
     ensures given { IfOk result (Comes (by_command plant.now (moment_of scene.now now.old.state now.old.given)) (moment_of scene.now now.old.state now.old.given) (moment_of scene.now now.new.state now.new.given)) }
     ensures shape { HasShape plant.now now.new.state }
     ensures within { now.old.given ≤ length scene.now → now.new.given ≤ length scene.now }
@@ -126,6 +131,37 @@ fn give_command(
     Ok(Some(*command))
 }
 
+// Does what comes next where there is no hazard, and answers it. None where nothing comes; nothing
+// changes then.
+fn go_on(
+    alloc: Global,
+    plant: &Plant,
+    automatic: &Automatic,
+    scene: &Row<Event>,
+    now: &mut Standing,
+) -> Result<Option<Event>, AllocError>
+    requires shape { HasShape plant.now now.old.state }
+    requires all { IsAutomaticOf plant.now automatic.now }
+    requires covers { Covers plant.now now.old.state now.old.candidates }
+    requires calm { hazard plant.now now.old.state ≡ None }
+    ensures covers { OnOk result (Covers plant.now now.new.state now.new.candidates) }
+    ensures hazard { now.new.hazard ≡ now.old.hazard }
+    ensures turn { IfOk result (Comes (turn plant.now (moment_of scene.now now.old.state now.old.given)) (moment_of scene.now now.old.state now.old.given) (moment_of scene.now now.new.state now.new.given)) }
+    ensures shape { HasShape plant.now now.new.state }
+    ensures within { now.old.given ≤ length scene.now → now.new.given ≤ length scene.now }
+{
+    if let Some(event) = do_automatic(
+        alloc,
+        plant,
+        automatic,
+        &mut now.candidates,
+        &mut now.state,
+    )? {
+        return Ok(Some(event));
+    }
+    give_command(alloc, plant, automatic, scene, now)
+}
+
 // Does what comes next, and answers it. None where nothing comes; nothing changes then.
 fn take_turn(
     alloc: Global,
@@ -137,24 +173,21 @@ fn take_turn(
     requires shape { HasShape plant.now now.old.state }
     requires all { IsAutomaticOf plant.now automatic.now }
     requires covers { Covers plant.now now.old.state now.old.candidates }
+    requires hazard { now.old.hazard ≡ hazard plant.now now.old.state }
     ensures covers { OnOk result (Covers plant.now now.new.state now.new.candidates) }
+    ensures hazard { OnOk result (now.new.hazard ≡ hazard plant.now now.new.state) }
     ensures turn { IfOk result (Comes (turn plant.now (moment_of scene.now now.old.state now.old.given)) (moment_of scene.now now.old.state now.old.given) (moment_of scene.now now.new.state now.new.given)) }
     ensures shape { HasShape plant.now now.new.state }
     ensures within { now.old.given ≤ length scene.now → now.new.given ≤ length scene.now }
 {
-    if hazard(plant, &now.state).is_some() {
+    if now.hazard.is_some() {
         return Ok(None);
     }
-    if let Some(event) = do_automatic(
-        alloc,
-        plant,
-        automatic,
-        &mut now.candidates,
-        &mut now.state,
-    )? {
-        return Ok(Some(event));
-    }
-    give_command(alloc, plant, automatic, scene, now)
+    let Some(event) = go_on(alloc, plant, automatic, scene, now)? else {
+        return Ok(None);
+    };
+    now.hazard = hazard_after(plant, &now.state, event);
+    Ok(Some(event))
 }
 
 // Whether every route is Free.
@@ -175,12 +208,11 @@ fn is_done(scene: &Row<Event>, now: &Standing) -> bool
 }
 
 // How a drive rests, after which nothing comes.
-fn rest_at(plant: &Plant, scene: &Row<Event>, now: &Standing) -> Rest
-    requires shape { HasShape plant.now now.now.state }
+fn rest_at(scene: &Row<Event>, now: &Standing) -> Rest
     requires within { now.now.given ≤ length scene.now }
-    ensures { result ≡ rest_at plant.now (moment_of scene.now now.now.state now.now.given) }
+    ensures { (p : PlantLists) → now.now.hazard ≡ hazard p now.now.state → result ≡ rest_at p (moment_of scene.now now.now.state now.now.given) }
 {
-    if let Some(at) = hazard(plant, &now.state) {
+    if let Some(at) = now.hazard {
         return Rest::Hazard(at);
     }
     if is_done(scene, now) {
@@ -207,6 +239,7 @@ pub fn drive(alloc: Global, plant: &Plant, scene: &Row<Event>) -> Result<Driven,
     let automatic = Automatic::of(alloc, plant)?;
     let mut now = Standing {
         state: start(alloc, plant)?,
+        hazard: None,
         given: 0,
         candidates: automatic.all_places(alloc)?,
     };
@@ -215,7 +248,7 @@ pub fn drive(alloc: Global, plant: &Plant, scene: &Row<Event>) -> Result<Driven,
         events.push(event)?;
     }
     Ok(Driven {
-        rest: rest_at(plant, scene, &now),
+        rest: rest_at(scene, &now),
         events,
     })
 }

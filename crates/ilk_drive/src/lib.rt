@@ -4,7 +4,8 @@
 //! that are withdrawn. `read_scene` reads such a text over a plant, by the parts of `ilk_lines`, and
 //! `drive` runs it to its rest. `specs/Scene.antt` says what a text tells, with its first bad line.
 //! `specs/Drive.antt` says what comes next in a drive and how it rests; it knows nothing of how the
-//! next event is found.
+//! next event is found, nor that a hazard is asked for only where an event touches
+//! (`specs/Touched.antt`).
 //!
 //! A drive ends: each automatic event brings a train nearer to its way out, or a route or a point
 //! nearer to its rest, and a command sets them back by less than `MAX_EVENTS_FOR_A_COMMAND`
@@ -21,6 +22,7 @@ mod laws;
 mod limits;
 mod outcome;
 mod scene;
+mod touched;
 mod waking;
 
 pub use driving::drive;

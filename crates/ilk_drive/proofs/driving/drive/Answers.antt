@@ -1,10 +1,26 @@
-use Rattle.std.proofs.Common.{◌≡◌, None, arith, rules}
-use Rattle.ilk_drive.specs.Drive.{beginning}
+use Rattle.std.proofs.Common.{◌≡◌, None, List, length, sym, ap, ◌∙◌, arith, rules}
+use Rattle.std.proofs.lemmas.Option.{slice_get_within}
+use Rattle.ilk_model.specs.Hazard.{hazard}
+use Rattle.ilk_model.specs.declared.event.Event.{Event}
+use Rattle.ilk_drive.specs.Drive.{automatic_events, beginning}
 use Rattle.ilk_drive.specs.Progress.{moment_of}
 use Rattle.ilk_drive.specs.declared.outcome.Driven.{Driven}
 use Rattle.ilk_drive.proofs.Drives.{drive-few, drive-run, drive-safe, drive-writable, drives-end, drives-more}
+use Rattle.ilk_drive.proofs.Untouched.{start-calm}
 use Rattle.ilk_drive.proofs.Turns.{came, leads-by, turn-lowers}
 use Rattle.ilk_drive.proofs.driving.drive.Goals as goal
+
+pub loop-events-init : goal.loop-events-init
+loop-events-init c = record {
+  drives = search rules;
+  shape = search rules;
+  within = search rules;
+  covers = λ j event at enabled.
+      (let within = slice_get_within (automatic_events c.args.plant.now) j event at in
+      let long = ap (λ (events : List Event). length events) c.in_ok-automatic.ensures.events in
+      c.in_ok-all_places.ensures j (omega (arith, within, long)));
+  hazard = sym (ap (hazard c.args.plant.now) c.in_ok-start_state.ensures.start ∙ start-calm c.args.plant.now);
+}
 
 pub loop-events-smaller : goal.loop-events-smaller
 loop-events-smaller c =
@@ -24,6 +40,7 @@ loop-events-preserved c =
       shape = c.in_ok-event.ensures.shape;
       within = c.in_ok-event.ensures.within c.loop-events.invariant.within;
       covers = c.in_ok-event.ensures.covers;
+      hazard = c.in_ok-event.ensures.hazard;
     }
 
 pub returns-clause-drive : goal.returns-clause-drive
@@ -31,7 +48,7 @@ returns-clause-drive c =
     let now = moment_of c.args.scene.now c.loop-events.now.state c.loop-events.now.given in
     let after = moment_of c.args.scene.now c.take_turn.new.now.state c.take_turn.new.now.given in
     let none : c.in_ok-event.field-0 ≡ None = search rules in
-    drives-end c.args.plant.now c.args.scene.now now after c.loop-events.events c.in_ok-event.field-0 c.rest_at.result c.loop-events.invariant.drives c.in_ok-event.ensures.turn none c.rest_at.ensures
+    drives-end c.args.plant.now c.args.scene.now now after c.loop-events.events c.in_ok-event.field-0 c.rest_at.result c.loop-events.invariant.drives c.in_ok-event.ensures.turn none (c.rest_at.ensures c.args.plant.now c.in_ok-event.ensures.hazard)
 
 pub returns-clause-run : goal.returns-clause-run
 returns-clause-run c =

@@ -1,5 +1,6 @@
-use Rattle.std.proofs.Common.{◌≤◌, ◌++◌, List, length}
+use Rattle.std.proofs.Common.{◌≡◌, ◌≤◌, ◌++◌, List, length}
 use Rattle.ilk_plant.specs.Shape.{HasShape}
+use Rattle.ilk_model.specs.Hazard.{hazard}
 use Rattle.ilk_model.specs.declared.event.Event.{Event}
 use Rattle.ilk_drive.specs.Drive.{Drives, beginning}
 use Rattle.ilk_drive.specs.Places.{Covers}
@@ -14,6 +15,7 @@ invariant-loop-events l = record {
   shape : HasShape l.plant l.now.state;
   within : l.now.given ≤ length l.scene;
   covers : Covers l.plant l.now.state l.now.candidates;
+  hazard : l.now.hazard ≡ hazard l.plant l.now.state;
 }
 
 abbrev pub decreases-loop-events : goal.decreases-loop-events

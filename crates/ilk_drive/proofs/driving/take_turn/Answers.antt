@@ -1,11 +1,10 @@
-use Rattle.std.proofs.Common.{◌≡◌, false, is_some, sym, ◌∙◌, rules}
-use Rattle.ilk_base.proofs.Options.{none-of}
-use Rattle.ilk_model.specs.Hazard.{hazard}
 use Rattle.ilk_drive.specs.Progress.{moment_of}
-use Rattle.ilk_drive.proofs.Turns.{turn-own}
+use Rattle.ilk_drive.proofs.Turns.{came, leads-by}
 use Rattle.ilk_drive.proofs.driving.take_turn.Goals as goal
 
-pub returns-in-Some-clause-turn : goal.returns-in-Some-clause-turn
-returns-in-Some-clause-turn c =
-    let calm : is_some (hazard c.args.plant.now c.args.now.now.state) ≡ false = search rules in
-    turn-own c.args.plant.now (moment_of c.args.scene.now c.args.now.now.state c.args.now.now.given) c.in-Some.event c.do_automatic.new.s (none-of _ calm) (sym c.in_ok-event.ensures.first ∙ c.in-Some.is) c.in_ok-event.ensures.next
+pub returns-clause-hazard : goal.returns-clause-hazard
+returns-clause-hazard c =
+    let now = moment_of c.args.scene.now c.args.now.now.state c.args.now.now.given in
+    let after = moment_of c.args.scene.now c.go_on.new.now.state c.go_on.new.now.given in
+    let by = leads-by c.args.plant.now now after c.in-Some.event (came _ now after c.in_ok-event.field-0 c.in-Some.event c.in_ok-event.ensures.turn c.in-Some.is) in
+    c.hazard_after-now.ensures c.args.now.now.state by.calm by.goes

@@ -1,0 +1,366 @@
+-- Where an event doesn't touch a section, it leads to no hazard there; and the least hazard among the sections that it touches
+-- is the least of all, since the others have none.
+use Rattle.std.proofs.Common.{◌≡◌, ℕ, zero, suc, ◌<◌, ◌≤◌, Bool, true, false, ◌||◌, ◌&&◌, ◌==◌, cond, Option, Some, None, option_map, List, [], ◌∷◌, ◌++◌, find, length, option_to_list, append-nil, remove, set, slice_get, inl, inr, refl, sym, ap, ◌∙◌, subst, arith}
+use Rattle.std.specs.List.{range_with_len}
+use Rattle.std.proofs.lemmas.Bool.{and_parts, both_ways, cases_Bool, eqb-true, false_from_ne_true, or_left, or_right}
+use Rattle.std.proofs.lemmas.Option.{none-some, same_Some}
+use Rattle.ilk_base.proofs.Ranges.{find-least, range-at, range_within}
+use Rattle.ilk_base.proofs.Truth.{either}
+use Rattle.ilk_plant.specs.Network.{has_section}
+use Rattle.ilk_plant.specs.Plant.{PlantLists, border, point_number}
+use Rattle.ilk_plant.specs.Start.{start}
+use Rattle.ilk_plant.specs.State.{is_occupied, lie_of}
+use Rattle.ilk_plant.specs.declared.network.Dir.{Dir}
+use Rattle.ilk_plant.specs.declared.network.Dir.TheVariants.{Up, Down}
+use Rattle.ilk_plant.specs.declared.network.Section.TheVariants.{Linear, Point}
+use Rattle.ilk_plant.specs.declared.state.Lie.{Lie}
+use Rattle.ilk_plant.specs.declared.state.Lie.TheVariants.{Plus, Minus, Moving}
+use Rattle.ilk_plant.specs.declared.state.PointState.{PointState}
+use Rattle.ilk_plant.specs.declared.state.State.{State}
+use Rattle.ilk_plant.specs.declared.state.Train.{Train}
+use Rattle.ilk_motion.specs.Body.{is_last, train_on}
+use Rattle.ilk_routes.specs.Claims.{wanted_points}
+use Rattle.ilk_model.specs.Event.{next}
+use Rattle.ilk_model.specs.Hazard.{has_pair, hazard, is_hazardous, is_two, is_wrong, strays}
+use Rattle.ilk_model.specs.declared.event.Event.{Event}
+use Rattle.ilk_model.specs.declared.event.Event.TheVariants.{Mark, Allocate, Lock, Sense, Release, Finish, Throw, Settle, Enter, Head, Tail, Leave, Cancel}
+use Rattle.ilk_model.specs.declared.hazards.HazardAt.{HazardAt}
+use Rattle.ilk_model.specs.declared.hazards.HazardAt.TheVariants.{Two, Wrong}
+use Rattle.ilk_model.proofs.Frames.{IsEntered, IsHeaded, IsLeft, IsTailed, allocate-frame, cancel-frame, enter-frame, finish-frame, head-frame, leave-frame, lock-frame, mark-frame, release-frame, sense-frame, settle-frame, tail-frame, throw-frame}
+use Rattle.ilk_strict.proofs.After.{two-reads, wrong-reads}
+use Rattle.ilk_strict.proofs.Ahead.{only-one}
+use Rattle.ilk_strict.proofs.Points.{lie-alike, lie-kept, lie-other}
+use Rattle.ilk_strict.proofs.Reading.{occupied-from}
+use Rattle.ilk_strict.proofs.TrainFacts.{two-at, two-from, wrong-at, wrong-from}
+use Rattle.ilk_strict.proofs.Trains.{enter-trains, head-trains, leave-trains, longer-has, removed-once, shorter-has, tail-trains}
+use Rattle.ilk_strict.proofs.Invariant.{start-meets}
+use Rattle.ilk_drive.specs.Awakening.{around}
+use Rattle.ilk_drive.specs.Touched.{IsHazardAfter, IsLeastHazardous, touched}
+use Rattle.ilk_drive.proofs.Awakes.{headed-around}
+use Rattle.ilk_drive.proofs.Changes.{apart, neither}
+use Rattle.ilk_drive.proofs.Found.{find-none}
+use Rattle.ilk_drive.proofs.TrainChanges.{not-around}
+
+-- hazards at each section ---------------------------------------------------------------------------------------------
+
+-- no section has a hazard
+abbrev pub IsCalm : PlantLists → State → Type 0
+IsCalm p s = (x : ℕ) → x < length p.sections → is_hazardous p s x ≡ false
+
+abbrev hazard_at : State → ℕ → HazardAt
+hazard_at s x = cond (is_two s x) (Two x) (Wrong x)
+
+found-none : {X : Type 0} (test : X → Bool) (xs : List X) (i : ℕ) (x : X) → find test xs ≡ None → slice_get xs i ≡ Some x → test x ≡ false
+found-none test [] i x none at = cc
+found-none {X} test (y ∷ ys) i x none at = elim (cases_Bool (test y)) [
+  | inl passes ↦ (let some : Some y ≡ None = rw passes at none in absurd (none-some y (sym some)))
+  | inr fails ↦ (let rest : find test ys ≡ None = rw fails at none in by_place i at rest fails (found-none test ys))
+]
+  where
+    by_place : (j : ℕ) → slice_get (y ∷ ys) j ≡ Some x → find test ys ≡ None → test y ≡ false → ((k : ℕ) (v : X) → find test ys ≡ None → slice_get ys k ≡ Some v → test v ≡ false) → test x ≡ false
+    by_place zero here rest fails later = ap test (sym (same_Some y x here)) ∙ fails
+    by_place (suc j) here rest fails later = later j x rest here
+
+unmapped : {X Y : Type 0} (f : X → Y) (o : Option X) → option_map f o ≡ None → o ≡ None
+unmapped f None e = refl
+unmapped f (Some x) e = cc
+
+pub calm-of : (p : PlantLists) (s : State) → hazard p s ≡ None → IsCalm p s
+calm-of p s none x within =
+    found-none (is_hazardous p s) (range_with_len 0 (length p.sections)) x x (unmapped (hazard_at s) (find (is_hazardous p s) (range_with_len 0 (length p.sections))) none) (range-at (length p.sections) x within)
+
+pub none-calm : (p : PlantLists) (s : State) → IsCalm p s → hazard p s ≡ None
+none-calm p s calm =
+    ap (option_map (hazard_at s)) (find-none (is_hazardous p s) (range_with_len 0 (length p.sections)) (λ j x at. calm x (range_within (length p.sections) j x at).1))
+
+pub start-calm : (p : PlantLists) → hazard p (start p) ≡ None
+start-calm p = (start-meets p).no_hazard
+
+no-hazard : (p : PlantLists) (s : State) (x : ℕ) → is_two s x ≡ false → is_wrong p s x ≡ false → is_hazardous p s x ≡ false
+no-hazard p s x two wrong = rw two wrong
+
+-- bodies --------------------------------------------------------------------------------------------------------------
+
+-- a pair of a body with a new head is one of the body, where it has neither the old head nor the new one first
+pair-longer : (a b x y : ℕ) (body : List ℕ) → is_last x body ≡ true → (a ≡ x → ⊥) → (a ≡ y → ⊥) → has_pair a b (body ++ y ∷ []) ≡ true → has_pair a b body ≡ true
+pair-longer a b x y [] last old new h = cc
+pair-longer a b x y (c ∷ []) last old new h =
+    elim (either ((c == a && y == b) || (c == b && y == a)) false h) [
+      | inl pair ↦ elim (either (c == a && y == b) (c == b && y == a) pair) [
+        | inl e ↦ absurd (old (sym (eqb-true c a (and_parts (c == a) (y == b) e).0) ∙ eqb-true c x last))
+        | inr e ↦ absurd (new (sym (eqb-true y a (and_parts (c == b) (y == a) e).1)))
+      ]
+      | inr none ↦ cc
+    ]
+pair-longer a b x y (c ∷ d ∷ rest) last old new h =
+    elim (either ((c == a && d == b) || (c == b && d == a)) (has_pair a b (d ∷ rest ++ y ∷ [])) h) [
+      | inl here ↦ or_left ((c == a && d == b) || (c == b && d == a)) (has_pair a b (d ∷ rest)) here
+      | inr later ↦ or_right ((c == a && d == b) || (c == b && d == a)) (has_pair a b (d ∷ rest)) (pair-longer a b x y (d ∷ rest) last old new later)
+    ]
+
+pair-shorter : (a b : ℕ) (body : List ℕ) → has_pair a b (remove body 0) ≡ true → has_pair a b body ≡ true
+pair-shorter a b [] h = cc
+pair-shorter a b (c ∷ []) h = cc
+pair-shorter a b (c ∷ d ∷ rest) h = or_right ((c == a && d == b) || (c == b && d == a)) (has_pair a b (d ∷ rest)) h
+
+strays-longer : (z x y plus minus : ℕ) (lie : Option Lie) (body : List ℕ) → is_last x body ≡ true → (z ≡ x → ⊥) → (z ≡ y → ⊥) → strays z plus minus lie (body ++ y ∷ []) ≡ true → strays z plus minus lie body ≡ true
+strays-longer z x y plus minus None body last old new h = cc
+strays-longer z x y plus minus (Some Moving) body last old new h = elim (longer-has z y body h) [
+  | inl has ↦ has
+  | inr here ↦ absurd (new here)
+]
+strays-longer z x y plus minus (Some Plus) body last old new h = pair-longer z minus x y body last old new h
+strays-longer z x y plus minus (Some Minus) body last old new h = pair-longer z plus x y body last old new h
+
+strays-shorter : (z plus minus : ℕ) (lie : Option Lie) (body : List ℕ) → strays z plus minus lie (remove body 0) ≡ true → strays z plus minus lie body ≡ true
+strays-shorter z plus minus None body h = cc
+strays-shorter z plus minus (Some Moving) body h = shorter-has z body h
+strays-shorter z plus minus (Some Plus) body h = pair-shorter z minus body h
+strays-shorter z plus minus (Some Minus) body h = pair-shorter z plus body h
+
+-- a body of one section strays there at most, on a point
+strays-one : (z x plus minus : ℕ) (lie : Option Lie) → strays z plus minus lie (x ∷ []) ≡ true → x ≡ z
+strays-one z x plus minus None h = cc
+strays-one z x plus minus (Some Moving) h = only-one z x h
+strays-one z x plus minus (Some Plus) h = cc
+strays-one z x plus minus (Some Minus) h = cc
+
+-- what doesn't stray with more can't without
+strays-no : (a b : Bool) → (a ≡ true → b ≡ true) → b ≡ false → a ≡ false
+strays-no a b leads none = false_from_ne_true a (λ e. both_ways b none (leads e))
+
+-- events ----------------------------------------------------------------------------------------------------------------
+
+module _ (p : PlantLists) (s t : State) (z : ℕ) (two : is_two s z ≡ false) (wrong : is_wrong p s z ≡ false) where
+  -- the trains and the points are those that were
+  same-there : t.points ≡ s.points → t.trains ≡ s.trains → is_hazardous p t z ≡ false
+  same-there points trains = no-hazard p t z (two-reads p s t z trains two) (wrong-reads p s t z points trains wrong)
+
+  -- the trains are those that were, and the point lies as it did
+  lies-there : lie_of p t z ≡ lie_of p s z → t.trains ≡ s.trains → is_hazardous p t z ≡ false
+  lies-there lies trains = no-hazard p t z (two-reads p s t z trains two) (wrong-from p t z (λ stem plus minus faces section i train at.
+      rw lies (wrong-at p s z wrong stem plus minus faces section i train (sym (ap (λ (l : List Train). slice_get l i) trains) ∙ at))))
+
+  points-lie : t.points ≡ s.points → lie_of p t z ≡ lie_of p s z
+  points-lie points = lie-alike p s t z (λ m number. ap (λ (l : List PointState). slice_get l m) points)
+
+  -- where each train that is there was there before, as was what of it has the section
+  trains-there : t.points ≡ s.points → is_two t z ≡ false
+      → ((i : ℕ) (train : Train) → slice_get t.trains i ≡ Some train → (plus minus : ℕ) → (k : ℕ) × (old : Train) × (slice_get s.trains k ≡ Some old) × (strays z plus minus (lie_of p s z) train.body ≡ true → strays z plus minus (lie_of p s z) old.body ≡ true))
+      → is_hazardous p t z ≡ false
+  trains-there points apart_ was = no-hazard p t z apart_ (wrong-from p t z (λ stem plus minus faces section i train at.
+      let old = was i train at plus minus in
+      rw (points-lie points) (strays-no (strays z plus minus (lie_of p s z) train.body) (strays z plus minus (lie_of p s z) old.1.body) old.3 (wrong-at p s z wrong stem plus minus faces section old.0 old.1 old.2))))
+
+  -- a point that changes lies at another section
+  point-there : (x m : ℕ) (point new : PointState) → point_number p x ≡ Some m → slice_get s.points m ≡ Some point → t.points ≡ set s.points m new → t.trains ≡ s.trains → (z ≡ x → ⊥) → is_hazardous p t z ≡ false
+  point-there x m point new number at points trains out = lies-there (lie-other p s t x m point new number at points z out) trains
+
+  tail-there : (x : ℕ) → IsTailed p s t x → is_hazardous p t z ≡ false
+  tail-there x it = trains-there it.points (two-from p t z (λ i j one other at also first second.
+      let a = was i one at first in
+      let b = was j other also second in
+      two-at p s z two i j a.0 b.0 a.1 b.1 a.2 b.2)) stray
+    where
+      was : (i : ℕ) (one : Train) → slice_get t.trains i ≡ Some one → has_section z one.body ≡ true → (old : Train) × (slice_get s.trains i ≡ Some old) × (has_section z old.body ≡ true)
+      was i one at has = elim (tail-trains p s t x it i one at) [
+        | inl moved ↦ (it.train, ap (slice_get s.trains) moved.0 ∙ it.at, shorter-has z it.train.body (subst (λ (train : Train). has_section z train.body ≡ true) moved.1 has))
+        | inr other ↦ (one, other.1, has)
+      ]
+
+      stray : (i : ℕ) (train : Train) → slice_get t.trains i ≡ Some train → (plus minus : ℕ) → (k : ℕ) × (old : Train) × (slice_get s.trains k ≡ Some old) × (strays z plus minus (lie_of p s z) train.body ≡ true → strays z plus minus (lie_of p s z) old.body ≡ true)
+      stray i train at plus minus = elim (tail-trains p s t x it i train at) [
+        | inl moved ↦ (it.i, it.train, it.at, λ h. strays-shorter z plus minus (lie_of p s z) it.train.body (subst (λ (one : Train). strays z plus minus (lie_of p s z) one.body ≡ true) moved.1 h))
+        | inr other ↦ (i, train, other.1, λ h. h)
+      ]
+
+  leave-there : (x : ℕ) → IsLeft p s t x → is_hazardous p t z ≡ false
+  leave-there x it = trains-there it.points (two-from p t z (λ i j one other at also first second.
+      let a = leave-trains p s t x it i one at in
+      let b = leave-trains p s t x it j other also in
+      removed-once it.i i j a.0 b.0 a.2 b.2 (two-at p s z two a.0 b.0 one other a.1 b.1 first second))) (λ i train at plus minus.
+      let old = leave-trains p s t x it i train at in (old.0, train, old.1, λ h. h))
+
+  head-there : (x : ℕ) → (it : IsHeaded p s t x) → (z ≡ x → ⊥) → (z ≡ it.y → ⊥) → is_hazardous p t z ≡ false
+  head-there x it behind ahead_ = trains-there it.points (two-from p t z (λ i j one other at also first second.
+      let a = was i one at first in
+      let b = was j other also second in
+      two-at p s z two i j a.0 b.0 a.1 b.1 a.2 b.2)) stray
+    where
+      was : (i : ℕ) (one : Train) → slice_get t.trains i ≡ Some one → has_section z one.body ≡ true → (old : Train) × (slice_get s.trains i ≡ Some old) × (has_section z old.body ≡ true)
+      was i one at has = elim (head-trains p s t x it i one at) [
+        | inl moved ↦ elim (longer-has z it.y it.train.body (subst (λ (train : Train). has_section z train.body ≡ true) moved.1 has)) [
+          | inl old ↦ (it.train, ap (slice_get s.trains) moved.0 ∙ it.at, old)
+          | inr new ↦ absurd (ahead_ new)
+        ]
+        | inr other ↦ (one, other.1, has)
+      ]
+
+      stray : (i : ℕ) (train : Train) → slice_get t.trains i ≡ Some train → (plus minus : ℕ) → (k : ℕ) × (old : Train) × (slice_get s.trains k ≡ Some old) × (strays z plus minus (lie_of p s z) train.body ≡ true → strays z plus minus (lie_of p s z) old.body ≡ true)
+      stray i train at plus minus = elim (head-trains p s t x it i train at) [
+        | inl moved ↦ (it.i, it.train, it.at, λ h. strays-longer z x it.y plus minus (lie_of p s z) it.train.body it.heads behind ahead_ (subst (λ (one : Train). strays z plus minus (lie_of p s z) one.body ≡ true) moved.1 h))
+        | inr other ↦ (i, train, other.1, λ h. h)
+      ]
+
+  enter-there : (x : ℕ) → IsEntered p s t x → is_hazardous p t z ≡ false
+  enter-there x it = no-hazard p t z alone right
+    where
+      here : (train : Train) → train ≡ train_on x it.inward → has_section z train.body ≡ true → x ≡ z
+      here train new has = only-one z x (subst (λ (one : Train). has_section z one.body ≡ true) new has)
+
+      vacant-still : (i : ℕ) (train : Train) → slice_get s.trains i ≡ Some train → has_section z train.body ≡ true → x ≡ z → ⊥
+      vacant-still i train at has same = both_ways (is_occupied s z) (rw same at it.vacant) (occupied-from s i train z at has)
+
+      alone : is_two t z ≡ false
+      alone = two-from p t z (λ i j one other at also first second. elim (enter-trains p s t x it i one at) [
+        | inl old ↦ elim (enter-trains p s t x it j other also) [
+          | inl too ↦ two-at p s z two i j one other old too first second
+          | inr new ↦ absurd (vacant-still i one old first (here other new.1 second))
+        ]
+        | inr new ↦ elim (enter-trains p s t x it j other also) [
+          | inl old ↦ absurd (vacant-still j other old second (here one new.1 first))
+          | inr too ↦ new.0 ∙ sym too.0
+        ]
+      ])
+
+      -- a point is no border
+      no-border : (stem plus minus : ℕ) (faces d : Dir) → slice_get p.sections z ≡ Some (Point stem plus minus faces) → border p z ≡ Some d → ⊥
+      no-border stem plus minus faces d section at = let bad : None ≡ Some d = rw section at at in cc
+
+      right : is_wrong p t z ≡ false
+      right = wrong-from p t z (λ stem plus minus faces section i train at. elim (enter-trains p s t x it i train at) [
+        | inl old ↦ rw (points-lie it.points) (wrong-at p s z wrong stem plus minus faces section i train old)
+        | inr new ↦ false_from_ne_true (strays z plus minus (lie_of p t z) train.body) (λ h.
+            let same : x ≡ z = strays-one z x plus minus (lie_of p t z) (subst (λ (one : Train). strays z plus minus (lie_of p t z) one.body ≡ true) new.1 h) in
+            no-border stem plus minus faces it.inward section (ap (border p) (sym same) ∙ it.borders))
+      ])
+
+-- an event leads to a hazard only at a section that it touches
+module _ (p : PlantLists) (s t : State) (z : ℕ) (two : is_two s z ≡ false) (wrong : is_wrong p s z ≡ false) where
+  untouched-free : (event : Event) → next p s event ≡ Some t → has_section z (touched p event) ≡ false → is_hazardous p t z ≡ false
+  untouched-free (Mark r) e out = let it = mark-frame p s t r e in same-there p s t z two wrong it.points it.trains
+  untouched-free (Allocate r) e out =
+      let it = allocate-frame p s t r e in lies-there p s t z two wrong (lie-kept p s t (wanted_points it.route) it.points z) it.trains
+  untouched-free (Lock r) e out = let it = lock-frame p s t r e in same-there p s t z two wrong it.points it.trains
+  untouched-free (Sense r) e out = let it = sense-frame p s t r e in same-there p s t z two wrong it.points it.trains
+  untouched-free (Release r) e out = let it = release-frame p s t r e in same-there p s t z two wrong it.points it.trains
+  untouched-free (Finish r) e out = let it = finish-frame p s t r e in same-there p s t z two wrong it.points it.trains
+  untouched-free (Throw x) e out =
+      let it = throw-frame p s t x e in
+      point-there p s t z two wrong x it.n it.point _ it.number it.state it.points it.trains (λ same. apart x z (neither (x == z) false out).0 (sym same))
+  untouched-free (Settle x) e out =
+      let it = settle-frame p s t x e in
+      point-there p s t z two wrong x it.n it.point _ it.number it.state it.points it.trains (λ same. apart x z (neither (x == z) false out).0 (sym same))
+  untouched-free (Enter x) e out = enter-there p s t z two wrong x (enter-frame p s t x e)
+  untouched-free (Head x) e out =
+      let it = head-frame p s t x e in
+      let parts = neither (x == z) (has_section z (around p x)) out in
+      head-there p s t z two wrong x it (λ same. apart x z parts.0 (sym same)) (λ same. apart it.y z (not-around p x it.y z (headed-around p s t x it) parts.1) (sym same))
+  untouched-free (Tail x) e out = tail-there p s t z two wrong x (tail-frame p s t x e)
+  untouched-free (Leave x) e out = leave-there p s t z two wrong x (leave-frame p s t x e)
+  untouched-free (Cancel r) e out = let it = cancel-frame p s t r e in same-there p s t z two wrong it.points it.trains
+
+pub untouched-calm : (p : PlantLists) (s t : State) (event : Event) → hazard p s ≡ None → next p s event ≡ Some t → (z : ℕ) → z < length p.sections → has_section z (touched p event) ≡ false → is_hazardous p t z ≡ false
+untouched-calm p s t event none e z within out =
+    let parts = neither (is_two s z) (is_wrong p s z) (calm-of p s none z within) in
+    untouched-free p s t z parts.0 parts.1 event e out
+
+-- the least hazard ------------------------------------------------------------------------------------------------------
+
+-- where the other sections have no hazard, the least of these is the least of all
+pub least-of_all : (p : PlantLists) (s : State) (sections : List ℕ) (o : Option ℕ) → IsLeastHazardous p s sections o → ((z : ℕ) → z < length p.sections → has_section z sections ≡ false → is_hazardous p s z ≡ false) → hazard p s ≡ option_map (hazard_at s) o
+least-of_all p s sections None least rest =
+    none-calm p s (λ z within. elim (cases_Bool (has_section z sections)) [
+      | inl among ↦ least z among within
+      | inr out ↦ rest z within out
+    ])
+least-of_all p s sections (Some x) least rest =
+    ap (option_map (hazard_at s)) (find-least (is_hazardous p s) 0 (length p.sections) x (omega arith) (let within = least.0 in omega (arith, within)) least.1 (λ j above below. elim (cases_Bool (has_section j sections)) [
+      | inl among ↦ false_from_ne_true (is_hazardous p s j) (λ e.
+          let within = least.0 in
+          let no_more = least.2 j among (omega (arith, below, within)) e in
+          omega (arith, below, no_more))
+      | inr out ↦ (let within = least.0 in rest j (omega (arith, below, within)) out)
+    ]))
+
+-- no more sections are among these than among those
+pub least-fewer : (p : PlantLists) (s : State) (xs ys : List ℕ) (o : Option ℕ) → ((z : ℕ) → has_section z ys ≡ true → has_section z xs ≡ true) → IsLeastHazardous p s xs o → IsLeastHazardous p s ys o
+least-fewer p s xs ys None among least = λ x in_ within. least x (among x in_) within
+least-fewer p s xs ys (Some x) among least = (least.0, least.1, λ y in_ within e. least.2 y (among y in_) within e)
+
+pub least-none : (p : PlantLists) (s : State) → IsLeastHazardous p s [] None
+least-none p s x in_ within = cc
+
+-- a section that has no hazard is no less
+pub least-passed : (p : PlantLists) (s : State) (x : ℕ) (sections : List ℕ) (o : Option ℕ) → (x < length p.sections → is_hazardous p s x ≡ false) → IsLeastHazardous p s sections o → IsLeastHazardous p s (x ∷ sections) o
+least-passed p s x sections None free least = λ y in_ within. elim (either (x == y) (has_section y sections) in_) [
+  | inl same ↦ ap (is_hazardous p s) (sym (eqb-true x y same)) ∙ free (subst (λ (v : ℕ). v < length p.sections) (sym (eqb-true x y same)) within)
+  | inr among ↦ least y among within
+]
+least-passed p s x sections (Some z) free least = (
+  least.0,
+  least.1,
+  λ y in_ within e. elim (either (x == y) (has_section y sections) in_) [
+    | inl same ↦ absurd (both_ways (is_hazardous p s y) (ap (is_hazardous p s) (sym (eqb-true x y same)) ∙ free (subst (λ (v : ℕ). v < length p.sections) (sym (eqb-true x y same)) within)) e)
+    | inr among ↦ least.2 y among within e
+  ],
+)
+
+-- nor is one that comes after
+pub least-kept : (p : PlantLists) (s : State) (x z : ℕ) (sections : List ℕ) → z ≤ x → IsLeastHazardous p s sections (Some z) → IsLeastHazardous p s (x ∷ sections) (Some z)
+least-kept p s x z sections after least = (
+  least.0,
+  least.1,
+  λ y in_ within e. elim (either (x == y) (has_section y sections) in_) [
+    | inl same ↦ (let here = eqb-true x y same in omega (arith, here, after))
+    | inr among ↦ least.2 y among within e
+  ],
+)
+
+-- one that comes before is less, and so is the first that is found
+pub least-taken : (p : PlantLists) (s : State) (x : ℕ) (sections : List ℕ) (o : Option ℕ) → x < length p.sections → is_hazardous p s x ≡ true → ((z : ℕ) → o ≡ Some z → x ≤ z) → IsLeastHazardous p s sections o → IsLeastHazardous p s (x ∷ sections) (Some x)
+least-taken p s x sections o within passes before least = (
+  within,
+  passes,
+  λ y in_ there e. elim (either (x == y) (has_section y sections) in_) [
+    | inl same ↦ (let here = eqb-true x y same in omega (arith, here))
+    | inr among ↦ by_found o refl least y among there e
+  ],
+)
+  where
+    by_found : (o' : Option ℕ) → o ≡ o' → IsLeastHazardous p s sections o' → (y : ℕ) → has_section y sections ≡ true → y < length p.sections → is_hazardous p s y ≡ true → x ≤ y
+    by_found None is least y among there e = absurd (both_ways (is_hazardous p s y) (least y among there) e)
+    by_found (Some z) is least y among there e =
+        let first = before z is in
+        let second = least.2 y among there e in
+        omega (arith, first, second)
+
+-- the sections next to a linear section, and next to a point
+pub least-linear : (p : PlantLists) (s : State) (x : ℕ) (down up board_down board_up o : Option ℕ) → slice_get p.sections x ≡ Some (Linear down up board_down board_up) → IsLeastHazardous p s (option_to_list down ++ (option_to_list up ++ [])) o → IsLeastHazardous p s (around p x) o
+least-linear p s x down up board_down board_up o section least =
+    let these : around p x ≡ option_to_list down ++ (option_to_list up ++ []) = rw (section, append-nil (option_to_list up)) refl in
+    subst (λ (xs : List ℕ). IsLeastHazardous p s xs o) (sym these) least
+
+turned : (a b c : Bool) → (a || (b || (c || false))) ≡ true → (c || (a || (b || false))) ≡ true
+turned a b true h = refl
+turned true b false h = refl
+turned false true false h = refl
+turned false false false h = cc
+
+pub least-point : (p : PlantLists) (s : State) (x stem plus minus : ℕ) (faces : Dir) (o : Option ℕ) → slice_get p.sections x ≡ Some (Point stem plus minus faces) → IsLeastHazardous p s (stem ∷ plus ∷ minus ∷ []) o → IsLeastHazardous p s (around p x) o
+least-point p s x stem plus minus Up o section least =
+    let these : around p x ≡ stem ∷ plus ∷ minus ∷ [] = rw section refl in
+    subst (λ (xs : List ℕ). IsLeastHazardous p s xs o) (sym these) least
+least-point p s x stem plus minus Down o section least =
+    let these : around p x ≡ plus ∷ minus ∷ stem ∷ [] = rw section refl in
+    subst (λ (xs : List ℕ). IsLeastHazardous p s xs o) (sym these)
+    (least-fewer p s (stem ∷ plus ∷ minus ∷ []) (plus ∷ minus ∷ stem ∷ []) o (λ z in_. turned (plus == z) (minus == z) (stem == z) in_) least)
+
+-- the hazard after an event
+pub hazard-after_none : (p : PlantLists) (t : State) (event : Event) → IsLeastHazardous p t (touched p event) None → IsHazardAfter p t event None
+hazard-after_none p t event least s none e =
+    sym (least-of_all p t (touched p event) None least (λ z within out. untouched-calm p s t event none e z within out))
+
+pub hazard-after_one : (p : PlantLists) (t : State) (event : Event) (x : ℕ) (b : Bool) → IsLeastHazardous p t (touched p event) (Some x) → b ≡ is_two t x → IsHazardAfter p t event (Some (cond b (Two x) (Wrong x)))
+hazard-after_one p t event x b least two s none e =
+    ap (λ (c : Bool). Some (cond c (Two x) (Wrong x))) two ∙ sym (least-of_all p t (touched p event) (Some x) least (λ z within out. untouched-calm p s t event none e z within out))
