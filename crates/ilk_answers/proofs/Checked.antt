@@ -12,6 +12,15 @@ pub none-broken : (broken : List Broken) → refusals_of broken ≡ None → bro
 none-broken [] none = refl
 none-broken (first ∷ rest) none = absurd (cc)
 
+-- where two stages find nothing neither finds anything
+pub first-none : (first later : List Broken) → or_later first later ≡ [] → first ≡ []
+first-none [] later e = refl
+first-none (b ∷ rest) later e = absurd (cc)
+
+pub later-none : (first later : List Broken) → or_later first later ≡ [] → later ≡ []
+later-none [] later e = e
+later-none (b ∷ rest) later e = absurd (cc)
+
 -- a stage that refuses nothing leaves what the later ones find
 later-found : (broken later : List Broken) → refusals_of broken ≡ None → or_later broken later ≡ later
 later-found [] later none = refl

@@ -1,3 +1,5 @@
 pub mod Checked
 pub mod Written
+pub mod Tables
+pub mod Drives
 pub mod Strict

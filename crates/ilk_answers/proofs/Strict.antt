@@ -1,14 +1,15 @@
 -- Under strict columns a configuration that breaks no rule is safe for ever, so check is good only for such ones, and verify
 -- says `safe k=1` of them, or that all conflicts are spent.
-use Rattle.std.proofs.Common.{◌≡◌, ◌⊎◌, inl, inr, ℕ, ◌<◌, Bool, true, false, ◌&&◌, if◌then◌else◌, Option, Some, None, IfOk, IfSome, IsTrue, Result, Ok, Err, List, [], ◌∷◌, ◌++◌, append-nil, length, nat_le, nat_lt, refl, sym, ap, ◌∙◌, subst, arith}
+use Rattle.std.proofs.Common.{◌≡◌, inl, inr, ℕ, ◌<◌, Bool, true, false, ◌&&◌, if◌then◌else◌, Option, Some, None, IfOk, IfSome, Result, Ok, Err, List, [], ◌++◌, append-nil, length, nat_le, nat_lt, refl, sym, ap, ◌∙◌, subst}
+use Rattle.std.specs.Prelude.{◌≢◌}
 use Rattle.std.proofs.lemmas.Bool.{leb-true}
 use Rattle.std.proofs.lemmas.Option.{same_Some}
 use Rattle.ilk_plant.specs.ColumnRules.{column_rules_broken}
 use Rattle.ilk_plant.specs.Draft.{numbered}
+use Rattle.ilk_plant.specs.Kept.{IsSound}
 use Rattle.ilk_plant.specs.NetworkRules.{network_rules_broken}
 use Rattle.ilk_plant.specs.Plant.{IsPlant, PlantLists}
 use Rattle.ilk_plant.specs.TableRules.{table_rules_broken}
-use Rattle.ilk_plant.specs.declared.broken.Broken.{Broken}
 use Rattle.ilk_plant.specs.declared.draft.NetDraft.{NetDraft}
 use Rattle.ilk_plant.specs.declared.draft.TableDraft.{TableDraft}
 use Rattle.ilk_net_read.specs.Fault.{broken}
@@ -21,26 +22,24 @@ use Rattle.ilk_engine.specs.declared.verdict.Verdict.TheVariants.{Safe}
 use Rattle.ilk_engine.proofs.Strict.{clean-forever, clean-verdict}
 use Rattle.ilk_words.specs.Limits.{has_option_limits}
 use Rattle.ilk_words.specs.Plan.{plan_of}
+use Rattle.ilk_words.specs.declared.command.Columns.{Columns}
 use Rattle.ilk_words.specs.declared.command.Columns.TheVariants.{Strict}
 use Rattle.ilk_words.specs.declared.command.Command.{Command}
-use Rattle.ilk_words.specs.declared.command.Command.TheVariants.{Check, Verify}
+use Rattle.ilk_words.specs.declared.command.Command.TheVariants.{Check, Verify, Table, Drive}
 use Rattle.ilk_words.specs.declared.lengths.TheConstants.{MAX_CONFIGURATION}
 use Rattle.ilk_words.specs.declared.limits.TheConstants.{MAX_DEPTH, MAX_SEARCH_CONFLICTS}
 use Rattle.ilk_words.specs.declared.plan.Stages.{Stages}
-use Rattle.ilk_words.specs.declared.plan.Stages.TheVariants.{All}
-use Rattle.ilk_answers.specs.Answer.{AnswersFound, form_refused, or_refused, plant_of, plant_of_drafts, refusals_of}
+use Rattle.ilk_words.specs.declared.plan.Stages.TheVariants.{All, Network}
+use Rattle.ilk_answers.specs.Answer.{AnswersFound, form_refused, plant_of, plant_of_drafts, refusals_of}
 use Rattle.ilk_answers.specs.Stages.{columns_broken, or_later, rules_broken}
-use Rattle.ilk_answers.specs.Strict.{IsCleanAndSafe, IsCleanFor, IsStrictlyRight, SaysSafeAtOneOrSpent}
+use Rattle.ilk_answers.specs.Strict.{HasTableOf, IsCleanAndSafe, IsCleanFor, IsStrictlyRight, SaysSafeAtOneOrSpent}
 use Rattle.ilk_answers.specs.Verdicts.{TellsVerdict, verdict_line, verdict_run, verdict_status}
 use Rattle.ilk_answers.specs.declared.refusals.Refusals.{Refusals}
 use Rattle.ilk_answers.specs.declared.reply.Reply.{Reply}
-use Rattle.ilk_answers.specs.declared.status.Status.TheVariants.{Good, Refused as IsRefused}
-use Rattle.ilk_answers.proofs.Checked.{none-broken, not-refused}
-
--- where two stages find nothing the later one finds nothing
-later-none : (first later : List Broken) → or_later first later ≡ [] → later ≡ []
-later-none [] later e = e
-later-none (b ∷ rest) later e = absurd (cc)
+use Rattle.ilk_answers.specs.declared.status.Status.TheVariants.{Good, Refused as IsRefused, Unsafe}
+use Rattle.ilk_answers.proofs.Checked.{later-none, none-broken, not-refused}
+use Rattle.ilk_answers.proofs.Drives.{drive-right}
+use Rattle.ilk_answers.proofs.Tables.{table-right}
 
 -- a configuration that breaks no rule breaks none of the columns
 clean-columns : (conf : List ℕ) (p : PlantLists) → IsCleanFor conf p → column_rules_broken p ≡ []
@@ -59,13 +58,13 @@ clean-columns conf p clean = of_length (nat_lt MAX_CONFIGURATION (length conf)) 
     of_length false e = of_drafts (drafts_of conf) e
 
 -- check is good only where there is a plant
-check-safe : (conf : List ℕ) (found : Result PlantLists Refusals) (extra : Option (List ℕ)) (made : Reply) → found ≡ plant_of (All Strict) conf → IfOk found IsPlant → AnswersFound (Check Strict) found extra made → made.status ≡ Good → IsCleanAndSafe conf
+check-safe : (conf : List ℕ) (found : Result PlantLists Refusals) (extra : Option (List ℕ)) (made : Reply) → found ≡ plant_of (All Strict) conf → IfOk found IsSound → AnswersFound (Check Strict) found extra made → made.status ≡ Good → IsCleanAndSafe conf
 check-safe conf (Err refusals) extra made known sound told good =
     let refused : IsRefused ≡ Good = ap (λ (r : Reply). r.status) (sym told) ∙ good in absurd (cc)
 check-safe conf (Ok p) extra made known sound told good = record {
   plant = p;
   clean = sym known;
-  safe = clean-forever p sound (clean-columns conf p (sym known));
+  safe = clean-forever p sound.plant (clean-columns conf p (sym known));
 }
 
 -- a verdict on a plant that breaks no rule of the columns
@@ -89,35 +88,76 @@ some-depth : (depth conflicts : ℕ) (cert : List ℕ) → has_option_limits (Ve
 some-depth depth conflicts cert limits = leb-true 1 depth (first-true (nat_le 1 depth) (nat_le depth MAX_DEPTH) (nat_le conflicts MAX_SEARCH_CONFLICTS) limits)
 
 -- verify tells the verdict
-verify-safe : (found : Result PlantLists Refusals) (conf : List ℕ) (depth conflicts : ℕ) (cert : List ℕ) (extra : Option (List ℕ)) (made : Reply) (p : PlantLists) → found ≡ Ok p → IfOk found IsPlant → has_option_limits (Verify Strict depth conflicts cert) ≡ true → AnswersFound (Verify Strict depth conflicts cert) found extra made → IsCleanFor conf p → SaysSafeAtOneOrSpent p depth conflicts made
+verify-safe : (found : Result PlantLists Refusals) (conf : List ℕ) (depth conflicts : ℕ) (cert : List ℕ) (extra : Option (List ℕ)) (made : Reply) (p : PlantLists) → found ≡ Ok p → IfOk found IsSound → has_option_limits (Verify Strict depth conflicts cert) ≡ true → AnswersFound (Verify Strict depth conflicts cert) found extra made → IsCleanFor conf p → SaysSafeAtOneOrSpent p depth conflicts made
 verify-safe (Err refusals) conf depth conflicts cert extra made p is sound limits told clean = absurd (cc)
 verify-safe (Ok q) conf depth conflicts cert extra made p is sound limits told clean =
     let same : q ≡ p = cc in
     let tells : TellsVerdict q depth conflicts made = told in
-    tells-at_one p depth conflicts made (subst IsPlant same sound) (clean-columns conf p clean) (some-depth depth conflicts cert limits) (subst (λ r. TellsVerdict r depth conflicts made) same tells)
+    tells-at_one p depth conflicts made (subst IsPlant same sound.plant) (clean-columns conf p clean) (some-depth depth conflicts cert limits) (subst (λ r. TellsVerdict r depth conflicts made) same tells)
+
+-- no drive comes to a hazard
+drive-safe : (conf : List ℕ) (found : Result PlantLists Refusals) (run text : List ℕ) (made : Reply) → found ≡ plant_of (All Strict) conf → IfOk found IsSound → AnswersFound (Drive Strict run) found (Some text) made → made.status ≢ Unsafe
+drive-safe conf (Err refusals) run text made known sound told e =
+    let refused : IsRefused ≡ Unsafe = ap (λ (r : Reply). r.status) (sym told) ∙ e in absurd (cc)
+drive-safe conf (Ok p) run text made known sound told e =
+    drive-right p run text made sound.plant (clean-columns conf p (sym known)) told e
+
+-- what came of a configuration is sound
+sound-at : (found : Result PlantLists Refusals) → IfOk found IsSound → (p : PlantLists) → found ≡ Ok p → IsSound p
+sound-at (Err refusals) sound p is = absurd (cc)
+sound-at (Ok q) sound p is = let same : q ≡ p = cc in subst IsSound same sound
 
 -- what answers what came of a configuration has what strict columns give besides
-module _ (command : Command) (stages : Stages) (planned : (plan_of command).stages ≡ Some stages) (found : Result PlantLists Refusals) (sound : IfOk found IsPlant) (extra : Option (List ℕ)) (made : Reply) (told : AnswersFound command found extra made) where
-  -- the rules of the columns are asked under strict ones
-  all-asked : (c : List ℕ) (asked : Command) → command ≡ asked → (plan_of asked).stages ≡ Some (All Strict) → found ≡ plant_of stages c → found ≡ plant_of (All Strict) c
-  all-asked c asked is strict known =
-      let same : Some stages ≡ Some (All Strict) = sym planned ∙ ap (λ k. (plan_of k).stages) is ∙ strict in
-      known ∙ ap (λ s. plant_of s c) (same_Some stages (All Strict) same)
+module _ (command : Command) (stages : Stages) (planned : (plan_of command).stages ≡ Some stages) (found : Result PlantLists Refusals) (sound : IfOk found IsSound) (extra : Option (List ℕ)) (made : Reply) (told : AnswersFound command found extra made) where
+  -- which stages were asked
+  asked-by : (c : List ℕ) (asked : Command) (s : Stages) → command ≡ asked → (plan_of asked).stages ≡ Some s → found ≡ plant_of stages c → found ≡ plant_of s c
+  asked-by c asked s is by known =
+      let same : Some stages ≡ Some s = sym planned ∙ ap (λ k. (plan_of k).stages) is ∙ by in
+      known ∙ ap (λ o. plant_of o c) (same_Some stages s same)
+
+  told-as : (asked : Command) → command ≡ asked → AnswersFound asked found extra made
+  told-as asked is = subst (λ k. AnswersFound k found extra made) is told
 
   check-right : (conf : Option (List ℕ)) → IfSome conf (λ c. found ≡ plant_of stages c) → command ≡ Check Strict → made.status ≡ Good → IfSome conf IsCleanAndSafe
   check-right None known is good = tt
   check-right (Some c) known is good =
-      check-safe c found extra made (all-asked c (Check Strict) is refl known) sound (subst (λ k. AnswersFound k found extra made) is told) good
+      check-safe c found extra made (asked-by c (Check Strict) (All Strict) is refl known) sound (told-as (Check Strict) is) good
 
   verify-right : (conf : Option (List ℕ)) → has_option_limits command ≡ true → IfSome conf (λ c. found ≡ plant_of stages c) → (depth conflicts : ℕ) (cert : List ℕ) → command ≡ Verify Strict depth conflicts cert → (bytes : List ℕ) (p : PlantLists) → conf ≡ Some bytes → IsCleanFor bytes p → SaysSafeAtOneOrSpent p depth conflicts made
   verify-right None limits known depth conflicts cert is bytes p at clean = absurd (cc)
   verify-right (Some c) limits known depth conflicts cert is bytes p at clean =
-      let here : found ≡ Ok p = all-asked c (Verify Strict depth conflicts cert) is refl known ∙ ap (plant_of (All Strict)) (same_Some c bytes at) ∙ clean in
-      verify-safe found bytes depth conflicts cert extra made p here sound (subst (λ k. has_option_limits k ≡ true) is limits) (subst (λ k. AnswersFound k found extra made) is told) clean
+      let here : found ≡ Ok p = asked-by c (Verify Strict depth conflicts cert) (All Strict) is refl known ∙ ap (plant_of (All Strict)) (same_Some c bytes at) ∙ clean in
+      verify-safe found bytes depth conflicts cert extra made p here sound (subst (λ k. has_option_limits k ≡ true) is limits) (told-as (Verify Strict depth conflicts cert) is) clean
 
-pub strictly-right : {E : Type 0} (command : Command) (stages : Stages) (conf extra : Option (List ℕ)) (found : Result PlantLists Refusals) (made : Result Reply E) → (plan_of command).stages ≡ Some stages → has_option_limits command ≡ true → IfSome conf (λ c. found ≡ plant_of stages c) → IfOk found IsPlant → IfOk made (AnswersFound command found extra) → IfOk made (IsStrictlyRight (Some command) conf)
+  routes-right : (conf : Option (List ℕ)) → IfSome conf (λ c. found ≡ plant_of stages c) → (columns : Columns) → command ≡ Table columns → made.status ≡ Good → IfSome conf (λ c. HasTableOf columns c made)
+  routes-right None known columns is good = tt
+  routes-right (Some c) known columns is good =
+      table-right columns c found extra made (asked-by c (Table columns) (Network columns) is refl known) (sound-at found sound) (told-as (Table columns) is) good
+
+  scene-right : (conf : Option (List ℕ)) → IfSome conf (λ c. found ≡ plant_of stages c) → (run bytes text : List ℕ) → command ≡ Drive Strict run → conf ≡ Some bytes → extra ≡ Some text → made.status ≢ Unsafe
+  scene-right None known run bytes text is at beside = absurd (cc)
+  scene-right (Some c) known run bytes text is at beside =
+      drive-safe c found run text made (asked-by c (Drive Strict run) (All Strict) is refl known) sound (subst (λ x. AnswersFound (Drive Strict run) found x made) beside (told-as (Drive Strict run) is))
+
+pub strictly-right : {E : Type 0} (command : Command) (stages : Stages) (conf extra : Option (List ℕ)) (found : Result PlantLists Refusals) (made : Result Reply E) → (plan_of command).stages ≡ Some stages → has_option_limits command ≡ true → IfSome conf (λ c. found ≡ plant_of stages c) → IfOk found IsSound → IfOk made (AnswersFound command found extra) → IfOk made (IsStrictlyRight (Some command) conf extra)
 strictly-right command stages conf extra found (Err e) planned limits known sound told = tt
 strictly-right command stages conf extra found (Ok made) planned limits known sound told = record {
   check = λ asked good. check-right command stages planned found sound extra made told conf known (same_Some command (Check Strict) asked) good;
   verify = λ depth conflicts cert asked. verify-right command stages planned found sound extra made told conf limits known depth conflicts cert (same_Some command (Verify Strict depth conflicts cert) asked);
+  table = λ columns asked good. routes-right command stages planned found sound extra made told conf known columns (same_Some command (Table columns) asked) good;
+  drive = λ run bytes text asked. scene-right command stages planned found sound extra made told conf known run bytes text (same_Some command (Drive Strict run) asked);
 }
+
+-- a command that reads no configuration is none of them
+pub alone-right : {E : Type 0} (command : Command) (conf extra : Option (List ℕ)) (made : Result Reply E) → (plan_of command).stages ≡ None → IfOk made (IsStrictlyRight (Some command) conf extra)
+alone-right command conf extra (Err e) alone = tt
+alone-right command conf extra (Ok made) alone = record {
+  check = λ asked good. absurd (no-stages (Check Strict) (All Strict) (same_Some command (Check Strict) asked) refl);
+  verify = λ depth conflicts cert asked. absurd (no-stages (Verify Strict depth conflicts cert) (All Strict) (same_Some command (Verify Strict depth conflicts cert) asked) refl);
+  table = λ columns asked. absurd (no-stages (Table columns) (Network columns) (same_Some command (Table columns) asked) refl);
+  drive = λ run bytes text asked. absurd (no-stages (Drive Strict run) (All Strict) (same_Some command (Drive Strict run) asked) refl);
+}
+  where
+    no-stages : (asked : Command) (stages : Stages) → command ≡ asked → (plan_of asked).stages ≡ Some stages → ⊥
+    no-stages asked stages is planned =
+        let none : None ≡ Some stages = sym alone ∙ ap (λ k. (plan_of k).stages) is ∙ planned in absurd (cc)

@@ -1,9 +1,10 @@
 -- The run of a right verdict can be written, and what is written tells the verdict.
-use Rattle.std.proofs.Common.{◌≡◌, ℕ, All, Some, List, [], ◌∷◌, ◌++◌, ◌⊎◌, length, inl, inr, is_some, IfOk, Result, Ok, Err, sym, subst, ◌∙◌}
+use Rattle.std.proofs.Common.{◌≡◌, ℕ, All, Some, List, [], ◌∷◌, ◌++◌, ◌⊎◌, ◌<◌, length, inl, inr, is_some, IfOk, Result, Ok, Err, sym, ap, subst, ◌∙◌}
 use Rattle.std.specs.Prelude.{option_and_then}
 use Rattle.std.proofs.lemmas.List.Elements.{All-nil, All-cons}
 use Rattle.ilk_base.proofs.Options.{bind_some, mapped-Some, some-and}
-use Rattle.ilk_plant.specs.Plant.{PlantLists}
+use Rattle.ilk_plant.specs.ColumnRules.{column_rules_broken}
+use Rattle.ilk_plant.specs.Plant.{IsPlant, PlantLists}
 use Rattle.ilk_plant.specs.Start.{start}
 use Rattle.ilk_plant.specs.declared.state.State.{State}
 use Rattle.ilk_model.specs.Event.{next}
@@ -19,6 +20,8 @@ use Rattle.ilk_engine.specs.Forever.{LastsFor}
 use Rattle.ilk_engine.specs.Right.{IsRightFor}
 use Rattle.ilk_engine.specs.declared.verdict.Verdict.{Verdict}
 use Rattle.ilk_engine.specs.declared.verdict.Verdict.TheVariants.{Safe, Unsafe, Breach, NotInductive, Spent}
+use Rattle.ilk_engine.proofs.Strict.{clean-verdict}
+use Rattle.ilk_answers.specs.Made.{TellsDemo, demo_line, stations_plant}
 use Rattle.ilk_answers.specs.Verdicts.{TellsVerdict, verdict_line, verdict_run, verdict_status}
 use Rattle.ilk_answers.specs.Writable.{HasRuns}
 use Rattle.ilk_answers.specs.declared.reply.Reply.{Reply}
@@ -54,6 +57,16 @@ verdict-told p depth conflicts verdict text wanted (Ok r) right lasts certified 
   right = right;
   lasts = lasts;
   certificate = subst (IsCertificateOf p depth conflicts verdict) (sym (certificate ∙ same)) certified;
+  status = status;
+  report = report;
+}
+
+-- a reply with the status, the line and the certificate of the verdict on a made plant tells that verdict
+pub demo-told : (n depth conflicts : ℕ) (p : PlantLists) (verdict : Verdict) (text wanted : List ℕ) (made : Reply) → p ≡ stations_plant n → IsPlant p → column_rules_broken (stations_plant n) ≡ [] → 0 < depth → IsRightFor p depth verdict ⊎ (verdict ≡ Spent) → IsCertificateOf p depth conflicts verdict wanted → text ≡ wanted → made.status ≡ verdict_status verdict → made.certificate ≡ text → made.report ≡ demo_line n conflicts verdict → TellsDemo n depth conflicts made
+demo-told n depth conflicts p verdict text wanted made is plant kept some right certified same status certificate report = record {
+  verdict = verdict;
+  safe = clean-verdict p depth verdict plant (ap column_rules_broken is ∙ kept) some right;
+  certificate = subst (λ q. IsCertificateOf q depth conflicts verdict made.certificate) is (subst (IsCertificateOf p depth conflicts verdict) (sym (certificate ∙ same)) certified);
   status = status;
   report = report;
 }

@@ -20,24 +20,24 @@ use Rattle.ilk_replay.specs.declared.told.Tale.{Tale}
 use Rattle.ilk_replay.specs.declared.told.Tale.TheVariants.{Told as IsTold, Bad}
 use Rattle.ilk_words.specs.Plan.{plan_of}
 use Rattle.ilk_words.specs.declared.command.Command.{Command}
-use Rattle.ilk_words.specs.declared.command.Command.TheVariants.{Check, Verify, Replay, Export}
+use Rattle.ilk_words.specs.declared.command.Command.TheVariants.{Check, Verify, Audit, Replay, Make, Demo, Table, Export, Rup, Drive}
 use Rattle.ilk_words.specs.declared.lengths.TheConstants.{MAX_CONFIGURATION}
 use Rattle.ilk_words.specs.declared.plan.Plan.{Plan}
 use Rattle.ilk_words.specs.declared.plan.Stages.{Stages}
+use Rattle.ilk_answers.specs.Audits.{TellsAudit}
+use Rattle.ilk_answers.specs.Drives.{TellsDrive}
+use Rattle.ilk_answers.specs.Made.{TellsDemo, make_reply}
+use Rattle.ilk_answers.specs.Refutations.{TellsRefutation}
+use Rattle.ilk_answers.specs.Tables.{TellsTable}
 use Rattle.ilk_answers.specs.Verdicts.{TellsFormula, TellsVerdict, wanted_query}
-use Rattle.ilk_answers.specs.Report.{clean_line, hazard_line, no_hazard_line, not_a_run_line, rejected_line}
-use Rattle.ilk_answers.specs.Stages.{rules_broken}
+use Rattle.ilk_answers.specs.Report.{clean_line, hazard_line, no_hazard_line, not_a_run_line, rejected_line, reply}
+use Rattle.ilk_answers.specs.Stages.{asked_table, rules_broken}
 use Rattle.ilk_answers.specs.Refusal.{refusal_line}
 use Rattle.ilk_answers.specs.declared.refusal.Refusal.{Refusal}
 use Rattle.ilk_answers.specs.declared.refusal.Refusal.TheVariants.{Form as FormRefusal, Rule as RuleRefusal}
 use Rattle.ilk_answers.specs.declared.refusals.Refusals.{Refusals}
 use Rattle.ilk_answers.specs.declared.reply.Reply.{Reply}
-use Rattle.ilk_answers.specs.declared.status.Status.{Status}
 use Rattle.ilk_answers.specs.declared.status.Status.TheVariants.{Good, Refused as IsRefused, Rejected, Usage}
-
--- a reply without a certificate
-abbrev pub reply : Status → List ℕ → Reply
-reply status report = record { status = status; report = report; certificate = [] }
 
 abbrev pub refused : Refusal → Reply
 refused refusal = reply IsRefused (refusal_line refusal)
@@ -61,7 +61,8 @@ or_refused (Some refusals) x = Err refusals
 -- the plant of these drafts, or all that they are refused with
 abbrev pub plant_of_drafts : Stages → Result (NetDraft × TableDraft) FormFault → Result PlantLists Refusals
 plant_of_drafts stages (Err fault) = Err (form_refused fault)
-plant_of_drafts stages (Ok (net, table)) = or_refused (refusals_of (rules_broken stages net table)) (numbered net table)
+plant_of_drafts stages (Ok (net, table)) =
+    or_refused (refusals_of (rules_broken stages net table)) (numbered net (asked_table stages table))
 
 -- the plant of a configuration of these bytes, or all that it is refused with; more than MAX_CONFIGURATION bytes break F1
 abbrev pub plant_of : Stages → List ℕ → Result PlantLists Refusals
@@ -96,12 +97,25 @@ abbrev pub tale_reply : PlantLists → Tale → Reply
 tale_reply p (Bad line) = reply Rejected (rejected_line line)
 tale_reply p (IsTold run) = seen_reply p (seen_of p run.first run.events)
 
--- a reply is what a command answers to a plant and to the bytes that it reads besides; a command that reads none passes them over
+-- a reply is what a command answers to a plant and to the bytes that it reads besides; a command that reads none passes
+-- them over, and one that reads no configuration doesn't come here
 abbrev pub Answers : Command → PlantLists → List ℕ → Reply → Type 0
 Answers (Check columns) p extra made = made ≡ reply Good clean_line
 Answers (Verify columns depth conflicts cert) p extra made = TellsVerdict p depth conflicts made
+Answers (Audit columns cert) p extra made = TellsAudit p extra made
 Answers (Replay columns run) p extra made = made ≡ tale_reply p (tale_of p extra)
+Answers (Make stations) p extra made = ⊥
+Answers (Demo stations depth conflicts cert) p extra made = ⊥
+Answers (Table columns) p extra made = TellsTable p made
 Answers (Export columns kind number) p extra made = TellsFormula p (wanted_query kind number) made
+Answers (Rup columns kind number cert) p extra made = TellsRefutation p kind number extra made
+Answers (Drive columns run) p extra made = TellsDrive p extra made
+
+-- a reply is what a command that reads no configuration answers; the others don't come here
+abbrev pub AnswersAlone : Command → Reply → Type 0
+AnswersAlone (Make stations) made = made ≡ make_reply stations
+AnswersAlone (Demo stations depth conflicts cert) made = TellsDemo stations depth conflicts made
+AnswersAlone _ made = ⊥
 
 -- ---- the whole
 
@@ -121,11 +135,16 @@ abbrev pub AnswersFound : Command → Result PlantLists Refusals → Option (Lis
 AnswersFound command (Err refusals) extra made = made ≡ refused_by command refusals
 AnswersFound command (Ok p) extra made = AnswersPlant (plan_of command).extra command p extra made
 
--- a reply is the answer to words that give this command, or none, and to a configuration, where that is told
+-- a reply is the answer to a configuration, where the command asks these stages of one, and it is told
+abbrev pub AnswersConf : Option Stages → Command → Option (List ℕ) → Option (List ℕ) → Reply → Type 0
+AnswersConf None command conf extra made = AnswersAlone command made
+AnswersConf (Some stages) command conf extra made =
+    IfSome conf (λ bytes. AnswersFound command (plant_of stages bytes) extra made)
+
+-- a reply is the answer to words that give this command, or none, and to what is read
 abbrev pub IsAnswerTo : Option Command → Option (List ℕ) → Option (List ℕ) → Reply → Type 0
 IsAnswerTo None conf extra made = made ≡ reply Usage []
-IsAnswerTo (Some command) conf extra made =
-    IfSome (found_by (plan_of command) conf) (λ found. AnswersFound command found extra made)
+IsAnswerTo (Some command) conf extra made = AnswersConf (plan_of command).stages command conf extra made
 
 -- words that give no command have nothing read, and no certificate written
 abbrev pub plan_asked : Option Command → Plan

@@ -3,8 +3,14 @@ pub mod Refusal
 pub mod Report
 pub mod Stages
 pub mod Verdicts
+pub mod Audits
+pub mod Refutations
+pub mod Drives
+pub mod Tables
+pub mod Made
 pub mod Answer
 pub mod Reader
 pub mod Reply
 pub mod Writable
+pub mod Judged
 pub mod Strict

@@ -1,16 +1,21 @@
 -- What the answers say under strict columns, where a configuration that breaks no rule is safe for ever.
-use Rattle.std.specs.Prelude.{ℕ, ◌≡◌, ◌⊎◌, ◌++◌, Option, Some, IfSome, Ok, List, [], ◌∷◌, codes, decimal}
+use Rattle.std.specs.Prelude.{ℕ, ◌≡◌, ◌≢◌, ◌⊎◌, ◌++◌, Option, Some, IfSome, Ok, List, [], ◌∷◌, codes, decimal}
 use Rattle.ilk_plant.specs.Plant.{PlantLists}
 use Rattle.ilk_engine.specs.CertificateOf.{IsCertificateOf}
 use Rattle.ilk_engine.specs.Forever.{IsForeverSafe}
 use Rattle.ilk_engine.specs.declared.verdict.Verdict.TheVariants.{Safe}
 use Rattle.ilk_words.specs.declared.command.Columns.TheVariants.{Strict}
 use Rattle.ilk_words.specs.declared.command.Command.{Command}
-use Rattle.ilk_words.specs.declared.command.Command.TheVariants.{Check, Verify}
+use Rattle.ilk_words.specs.declared.command.Columns.{Columns}
+use Rattle.ilk_words.specs.declared.command.Command.TheVariants.{Check, Verify, Table, Drive}
 use Rattle.ilk_words.specs.declared.plan.Stages.TheVariants.{All}
+use Rattle.ilk_plant.specs.declared.draft.NetDraft.{NetDraft}
+use Rattle.ilk_plant.specs.declared.draft.TableDraft.{TableDraft}
+use Rattle.ilk_table_read.specs.Table.{drafts_of}
 use Rattle.ilk_answers.specs.Answer.{plant_of}
+use Rattle.ilk_answers.specs.Tables.{HasTable}
 use Rattle.ilk_answers.specs.declared.reply.Reply.{Reply}
-use Rattle.ilk_answers.specs.declared.status.Status.TheVariants.{Good, Spent}
+use Rattle.ilk_answers.specs.declared.status.Status.TheVariants.{Good, Spent, Unsafe}
 
 -- a configuration of these bytes breaks no rule, those of the columns among them, and this is its plant
 abbrev pub IsCleanFor : List ℕ → PlantLists → Type 0
@@ -32,10 +37,22 @@ pub record SaysSafeAtOne (p : PlantLists) (depth conflicts : ℕ) (made : Reply)
 abbrev pub SaysSafeAtOneOrSpent : PlantLists → ℕ → ℕ → Reply → Type 0
 SaysSafeAtOneOrSpent p depth conflicts made = SaysSafeAtOne p depth conflicts made ⊎ (made.status ≡ Spent)
 
--- what a reply has besides, under strict columns, that answers words which give this command, or none, and a configuration,
--- where that is told
-pub record IsStrictlyRight (asked : Option Command) (conf : Option (List ℕ)) (made : Reply) : Type 0 where
+-- a configuration of these bytes tells a network, and a reply has the table of its routes
+pub record HasTableOf (columns : Columns) (conf : List ℕ) (made : Reply) : Type 0 where
+  pub net : NetDraft
+  pub other : TableDraft
+  pub read : drafts_of conf ≡ Ok (net, other)
+  pub table : HasTable columns net made
+
+-- what a reply has besides, above all under strict columns, that answers words which give this command, or none, a
+-- configuration, and what is read besides, where these are told
+pub record IsStrictlyRight (asked : Option Command) (conf extra : Option (List ℕ)) (made : Reply) : Type 0 where
   -- check is good only where the configuration is safe for ever
   pub check : asked ≡ Some (Check Strict) → made.status ≡ Good → IfSome conf IsCleanAndSafe
   -- verify says of one that breaks no rule that it is safe with k = 1, or that all conflicts are spent
   pub verify : (depth conflicts : ℕ) (cert : List ℕ) → asked ≡ Some (Verify Strict depth conflicts cert) → (bytes : List ℕ) (p : PlantLists) → conf ≡ Some bytes → IsCleanFor bytes p → SaysSafeAtOneOrSpent p depth conflicts made
+  -- table is good only with a table of the network that breaks no rule but C7, and under strict columns none, so that it is
+  -- safe for ever
+  pub table : (columns : Columns) → asked ≡ Some (Table columns) → made.status ≡ Good → IfSome conf (λ bytes. HasTableOf columns bytes made)
+  -- under strict columns no drive comes to a hazard
+  pub drive : (run bytes text : List ℕ) → asked ≡ Some (Drive Strict run) → conf ≡ Some bytes → extra ≡ Some text → made.status ≢ Unsafe

@@ -2,7 +2,7 @@ ghost use Rattle.std.specs.Prelude.{◌≡◌, IfOk, IsTrue};
 ghost use Rattle.ilk_unroll.specs.Goal.{wanted_valid};
 ghost use Rattle.ilk_answers.specs.Verdicts.{TellsFormula, wanted_query};
 
-use crate::{Content, Reply, Status};
+use crate::{Reply, Status};
 use ilk_dimacs::write_dimacs;
 use ilk_plant::Plant;
 use ilk_queries::formula;
@@ -10,8 +10,8 @@ use ilk_unroll::Wanted;
 use ilk_words::QueryKind;
 use std::alloc::{AllocError, Global};
 
-// The query of this kind for runs of so many events.
-fn wanted_query(kind: QueryKind, number: u32) -> Wanted
+/// The query of this kind for runs of so many events.
+pub fn wanted_query(kind: QueryKind, number: u32) -> Wanted
     ensures { result ≡ wanted_query kind number }
 {
     match kind {
@@ -35,9 +35,5 @@ pub fn export_reply(
 {
     let cnf = formula(alloc, plant, wanted_query(kind, number))?;
     let text = write_dimacs(alloc, &cnf)?;
-    Ok(Reply {
-        status: Status::Good,
-        report: Content::of(text),
-        certificate: Content::none(alloc),
-    })
+    Ok(Reply::of_bytes(alloc, Status::Good, text))
 }

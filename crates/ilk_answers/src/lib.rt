@@ -4,18 +4,24 @@
 //!
 //! A configuration becomes a plant, or all that it is refused with (`plant_of`, over `checks`).
 //! `refuse` is a command's reply to the one, `answer` to the other: the list of the refusals
-//! (`refusing`), the verdict with its run or its certificate (`verify`), the replay of a run text
-//! (`replay`), the formula of a query (`export`). What a command reads besides comes to it in pieces
-//! (`reader`), and what a reply has to be written is taken from it in pieces (`content`). The lines of
-//! reports are those of `report` and `refusal`. `specs/Answer.antt` says which replies are answers, and
-//! `specs/Verdicts.antt` says it of verdicts and formulas.
+//! (`refusing`), the verdict with its run or its certificate (`verify`), the routes of the network
+//! (`table`), the formula of a query (`export`), and what is said of the text that is read besides: of a
+//! certificate (`audit`), a run (`replay`), another solver's refutation (`rup`), a scenario (`drive`).
+//! `answer_alone` is the reply of a command that reads no configuration (`made`). What a command reads
+//! besides comes to it in pieces (`reader`), and what a reply has to be written is taken from it in
+//! pieces (`content`). The lines of reports are those of `report` and `refusal`. `specs/Answer.antt` says
+//! which replies are answers; `specs/Verdicts.antt`, `Audits`, `Refutations`, `Drives`, `Tables` and
+//! `Made` say it of single commands.
 #![tactic(auto)]
 
 mod answering;
+mod audit;
 mod checks;
 mod configuration;
 mod content;
+mod drive;
 mod export;
+mod made;
 mod reader;
 mod refusal;
 mod refusals;
@@ -23,10 +29,13 @@ mod refusing;
 mod replay;
 mod reply;
 mod report;
+mod run_text;
+mod rup;
 mod status;
+mod table;
 mod verify;
 
-pub use answering::answer;
+pub use answering::{answer, answer_alone};
 pub use configuration::plant_of;
 pub use content::Content;
 pub use reader::Reader;

@@ -1,36 +1,41 @@
-ghost use Rattle.std.specs.Prelude.{◌≡◌, ◌++◌, ℕ, List, [], OnOk};
-ghost use Rattle.ilk_answers.specs.Reader.{HasRead};
+ghost use Rattle.std.specs.Prelude.{◌≡◌, [], IfOk, OnOk};
+ghost use Rattle.ilk_answers.specs.Reader.{HasRead, Took};
 
+use ilk_plant::Plant;
+use ilk_plant_audit::CertAudit;
+use ilk_words::Command;
 use std::alloc::{AllocError, Global};
 
 /// What a command keeps of what it reads besides the configuration, which comes to it in pieces.
 #[derive(Drop)]
-pub struct Reader {
-    // The whole text.
-    text: Vec<u8>,
+pub enum Reader {
+    /// The whole text.
+    Text(Vec<u8>),
+    /// Of a certificate, what its audit keeps.
+    Certificate(CertAudit),
 }
 
 impl Reader {
-    /// A reader that took nothing yet.
-    pub fn new(alloc: Global) -> Reader
-        ensures { HasRead result [] }
+    /// The reader of a command over a plant, which took nothing yet.
+    pub fn new(alloc: Global, command: &Command, plant: &Plant) -> Result<Reader, AllocError>
+        ensures { IfOk result (λ reader. HasRead command.now plant.now reader []) }
     {
-        Reader {
-            text: Vec::new(alloc),
+        match command {
+            Command::Audit { .. } => Ok(Reader::Certificate(CertAudit::new(alloc, plant)?)),
+            _ => Ok(Reader::Text(Vec::new(alloc))),
         }
     }
 
-    /// Takes the next piece.
+    /// Takes the next piece. Where memory runs out the reader is of no more use.
     pub fn take(&mut self, piece: &[u8]) -> Result<(), AllocError>
-        ensures { OnOk result ((bytes : List ℕ) → HasRead self.old bytes → HasRead self.new (bytes ++ piece.now)) }
+        ensures { OnOk result (Took self.old self.new piece.now) }
     {
-        self.text.extend_from_slice(piece)
-    }
-
-    // The text that it took.
-    pub(crate) fn as_slice(&self) -> &[u8]
-        ensures { result.now ≡ self.now.text.items }
-    {
-        self.text.as_slice()
+        match self {
+            Reader::Text(text) => text.extend_from_slice(piece),
+            Reader::Certificate(audit) => {
+                audit.feed(piece)?;
+                Ok(())
+            }
+        }
     }
 }

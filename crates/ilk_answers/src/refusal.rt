@@ -1,5 +1,5 @@
 ghost use Rattle.std.specs.Prelude.{◌≡◌, ◌++◌, IfOk, codes, string_bytes};
-ghost use Rattle.ilk_answers.specs.Refusal.{form_name, place_text, broken_places, entry_text, refusal_line};
+ghost use Rattle.ilk_answers.specs.Refusal.{form_name, place_text, broken_places, entry_text, refusal_line, refused_at};
 
 use ilk_net_read::{Form, FormFault, Place};
 use ilk_plant::{Broken, Worded};
@@ -40,8 +40,8 @@ fn place_text(alloc: Global, place: Place) -> Result<String, AllocError>
     }
 }
 
-// One entry of these places, as `routes[3]`.
-fn entry_text(alloc: Global, places: &str, i: u32) -> Result<String, AllocError>
+/// One entry of these places, as `routes[3]`.
+pub fn entry_text(alloc: Global, places: &str, i: u32) -> Result<String, AllocError>
     ensures { IfOk result (λ text. string_bytes text ≡ entry_text places.now i) }
 {
     format!(in alloc; "{places}[{i}]")
@@ -69,6 +69,13 @@ fn joined(alloc: Global, first: &str, second: &str) -> Result<String, AllocError
     format!(in alloc; "{first} {second}")
 }
 
+/// The line that refuses by a rule of this name, and names the place at which it is broken.
+pub fn refused_at(alloc: Global, rule: &str, place: &str) -> Result<String, AllocError>
+    ensures { IfOk result (λ line. string_bytes line ≡ refused_at rule.now place.now) }
+{
+    format!(in alloc; "refused {rule} {place}\n")
+}
+
 /// The line that a refusal prints: its rule, and where it is broken.
 pub fn refusal_line(alloc: Global, refusal: Refusal) -> Result<String, AllocError>
     ensures { IfOk result (λ line. string_bytes line ≡ refusal_line refusal) }
@@ -77,6 +84,5 @@ pub fn refusal_line(alloc: Global, refusal: Refusal) -> Result<String, AllocErro
         Refusal::Form(fault) => (form_name(fault.rule), place_text(alloc, fault.place)?),
         Refusal::Rule(broken) => (broken.rule.word(), broken_text(alloc, broken)?),
     };
-    let place = place.as_str();
-    format!(in alloc; "refused {rule} {place}\n")
+    refused_at(alloc, rule, place.as_str())
 }

@@ -1,5 +1,6 @@
 ghost use Rattle.std.specs.Prelude.{◌≡◌, IfOk, string_bytes};
-ghost use Rattle.ilk_answers.specs.Answer.{refused, reply};
+ghost use Rattle.ilk_answers.specs.Answer.{refused};
+ghost use Rattle.ilk_answers.specs.Report.{reply};
 ghost use Rattle.ilk_answers.specs.declared.refusal.Refusal.TheVariants as refusal;
 ghost use Rattle.ilk_net_read.specs.Fault.{broken};
 
@@ -23,9 +24,16 @@ impl Reply {
     pub fn of(alloc: Global, status: Status, report: String) -> Reply
         ensures { result ≡ reply status (string_bytes report) }
     {
+        Reply::of_bytes(alloc, status, report.into_bytes())
+    }
+
+    /// The reply of this status, with these bytes as its report, without a certificate.
+    pub fn of_bytes(alloc: Global, status: Status, report: Vec<u8>) -> Reply
+        ensures { result ≡ reply status report.items }
+    {
         Reply {
             status,
-            report: Content::of(report.into_bytes()),
+            report: Content::of(report),
             certificate: Content::none(alloc),
         }
     }

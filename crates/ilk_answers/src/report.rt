@@ -1,10 +1,14 @@
 ghost use Rattle.std.specs.Prelude.{◌≡◌, IfOk, string_bytes};
-ghost use Rattle.ilk_answers.specs.Report.{hazard_line, hazard_text, not_a_run_line, rejected_line, section_name, unsafe_line};
+ghost use Rattle.ilk_answers.specs.Drives.{rest_line, rest_text};
+ghost use Rattle.ilk_answers.specs.Report.{accepted_line, hazard_line, hazard_text, not_a_run_line, refuted_line};
+ghost use Rattle.ilk_answers.specs.Report.{rejected_item_line, rejected_line, section_name, unsafe_line};
 ghost use Rattle.ilk_answers.specs.Verdicts.{verdict_line};
 
+use ilk_drive::Rest;
 use ilk_engine::Verdict;
 use ilk_model::HazardAt;
-use ilk_plant::Plant;
+use ilk_plant::{Plant, Worded};
+use ilk_words::QueryKind;
 use std::alloc::{AllocError, Global};
 
 // The name of section `x`; empty where there is no such section.
@@ -92,4 +96,48 @@ pub fn not_a_run_line(alloc: Global, at: u64) -> Result<String, AllocError>
     ensures { IfOk result (λ text. string_bytes text ≡ not_a_run_line at) }
 {
     format!(in alloc; "not a run at {at}\n")
+}
+
+/// The line that says that a certificate is one for k.
+pub fn accepted_line(alloc: Global, k: u32) -> Result<String, AllocError>
+    ensures { IfOk result (λ text. string_bytes text ≡ accepted_line k) }
+{
+    format!(in alloc; "accepted k={k}\n")
+}
+
+/// The line that says that the query of this kind for runs of so many events has no run.
+pub fn refuted_line(alloc: Global, kind: QueryKind, number: u32) -> Result<String, AllocError>
+    ensures { IfOk result (λ text. string_bytes text ≡ refuted_line kind number) }
+{
+    let query = kind.word();
+    format!(in alloc; "refuted {query} {number}\n")
+}
+
+/// The line that names the first bad item of a text.
+pub fn rejected_item_line(alloc: Global, item: u64) -> Result<String, AllocError>
+    ensures { IfOk result (λ text. string_bytes text ≡ rejected_item_line item) }
+{
+    format!(in alloc; "rejected item {item}\n")
+}
+
+// How a drive rests, in words.
+fn rest_text(alloc: Global, plant: &Plant, rest: Rest) -> Result<String, AllocError>
+    ensures { IfOk result (λ text. string_bytes text ≡ rest_text plant.now rest) }
+{
+    match rest {
+        Rest::Driven => String::from_str(alloc, "driven"),
+        Rest::Stuck { at } => format!(in alloc; "stuck at {at}"),
+        Rest::Hazard(at) => {
+            let text = hazard_text(alloc, plant, at)?;
+            format!(in alloc; "hazard {text}")
+        }
+    }
+}
+
+/// The line that says how a drive rests, and after how many events.
+pub fn rest_line(alloc: Global, plant: &Plant, rest: Rest, steps: u64) -> Result<String, AllocError>
+    ensures { IfOk result (λ line. string_bytes line ≡ rest_line plant.now rest steps) }
+{
+    let text = rest_text(alloc, plant, rest)?;
+    format!(in alloc; "{text} steps={steps}\n")
 }

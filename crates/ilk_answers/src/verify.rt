@@ -1,50 +1,13 @@
-ghost use Rattle.std.specs.Prelude.{◌≡◌, ◌<◌, ◌≤◌, ◌++◌, All, IfOk};
-ghost use Rattle.ilk_plant.specs.Shape.{HasShape};
-ghost use Rattle.ilk_replay.specs.RunText.{run_text};
-ghost use Rattle.ilk_replay.specs.Writable.{IsAbout};
-ghost use Rattle.ilk_answers.specs.Verdicts.{TellsVerdict, run_from_start, run_from_state, verdict_line, verdict_run, verdict_status};
+ghost use Rattle.std.specs.Prelude.{◌≡◌, ◌<◌, ◌≤◌, ◌++◌, IfOk};
+ghost use Rattle.ilk_answers.specs.Verdicts.{TellsVerdict, verdict_line, verdict_run, verdict_status};
 ghost use Rattle.ilk_answers.specs.Writable.{HasRuns};
 
 use crate::report::verdict_line;
+use crate::run_text::{text_from_start, text_from_state};
 use crate::{Content, Reply, Status};
 use ilk_engine::{Found, Verdict, certificate, decide};
-use ilk_model::{Event, start};
-use ilk_plant::{Plant, Row, State};
-use ilk_replay::{Told, write_run};
+use ilk_plant::Plant;
 use std::alloc::{AllocError, Global};
-
-// The text of a run from the start.
-fn text_from_start(alloc: Global, plant: &Plant, events: Row<Event>) -> Result<Vec<u8>, AllocError>
-    requires { All (IsAbout plant.now) events }
-    ensures { IfOk result (λ text. text.items ≡ run_text plant.now (run_from_start plant.now events)) }
-{
-    let first = start(alloc, plant)?;
-    let told = Told {
-        first,
-        from_start: true,
-        events,
-    };
-    write_run(alloc, plant, &told)
-}
-
-// The text of a run from a state.
-fn text_from_state(
-    alloc: Global,
-    plant: &Plant,
-    first: State,
-    events: Row<Event>,
-) -> Result<Vec<u8>, AllocError>
-    requires shape { HasShape plant.now first }
-    requires events { All (IsAbout plant.now) events }
-    ensures { IfOk result (λ text. text.items ≡ run_text plant.now (run_from_state first events)) }
-{
-    let told = Told {
-        first,
-        from_start: false,
-        events,
-    };
-    write_run(alloc, plant, &told)
-}
 
 // The text of the run that a verdict comes with; empty where it comes with none.
 fn verdict_run(alloc: Global, plant: &Plant, verdict: Verdict) -> Result<Vec<u8>, AllocError>
@@ -59,8 +22,8 @@ fn verdict_run(alloc: Global, plant: &Plant, verdict: Verdict) -> Result<Vec<u8>
     }
 }
 
-// The status of a verdict.
-fn verdict_status(verdict: &Verdict) -> Status
+/// The status of a verdict.
+pub fn verdict_status(verdict: &Verdict) -> Status
     ensures { result ≡ verdict_status verdict.now }
 {
     match verdict {

@@ -9,29 +9,59 @@ fn shown(alloc: Global, line: &str) -> Result<String, AllocError> {
     let words = words(alloc, line)?;
     match read_words(alloc, &words)? {
         None => String::from_str(alloc, "usage"),
-        Some(Command::Check { columns }) => format!(in alloc; "check {columns:?}"),
-        Some(
-            Command::Verify {
-                columns,
-                depth,
-                conflicts,
-                cert,
-            },
-        ) => {
+        Some(command) => shown_command(alloc, command),
+    }
+}
+
+fn shown_command(alloc: Global, command: Command) -> Result<String, AllocError> {
+    match command {
+        Command::Check { columns } => format!(in alloc; "check {columns:?}"),
+        Command::Verify {
+            columns,
+            depth,
+            conflicts,
+            cert,
+        } => {
             let cert = cert.into_string();
             format!(in alloc; "verify {columns:?} {depth} {conflicts} '{cert}'")
         }
-        Some(Command::Replay { columns, run }) => {
+        Command::Audit { columns, cert } => {
+            let cert = cert.into_string();
+            format!(in alloc; "audit {columns:?} '{cert}'")
+        }
+        Command::Replay { columns, run } => {
             let run = run.into_string();
             format!(in alloc; "replay {columns:?} '{run}'")
         }
-        Some(
-            Command::Export {
-                columns,
-                query,
-                number,
-            },
-        ) => format!(in alloc; "export {columns:?} {query:?} {number}"),
+        Command::Make { stations } => format!(in alloc; "make {stations}"),
+        Command::Demo {
+            stations,
+            depth,
+            conflicts,
+            cert,
+        } => {
+            let cert = cert.into_string();
+            format!(in alloc; "demo {stations} {depth} {conflicts} '{cert}'")
+        }
+        Command::Table { columns } => format!(in alloc; "table {columns:?}"),
+        Command::Export {
+            columns,
+            query,
+            number,
+        } => format!(in alloc; "export {columns:?} {query:?} {number}"),
+        Command::Rup {
+            columns,
+            query,
+            number,
+            cert,
+        } => {
+            let cert = cert.into_string();
+            format!(in alloc; "rup {columns:?} {query:?} {number} '{cert}'")
+        }
+        Command::Drive { columns, run } => {
+            let run = run.into_string();
+            format!(in alloc; "drive {columns:?} '{run}'")
+        }
     }
 }
 
@@ -118,6 +148,36 @@ fn reads_lines(rt: HostRuntime) -> Result<(), Fail> {
             "export Free Step 16",
         ),
         ("irv export --query step --number 1 --depth 4", "usage"),
+        ("irv audit", "usage"),
+        ("irv audit --cert c", "audit Strict 'c'"),
+        ("irv audit --cert c --columns free", "audit Free 'c'"),
+        ("irv audit --cert c --depth 4", "usage"),
+        ("irv make", "usage"),
+        ("irv make --stations 0", "usage"),
+        ("irv make --stations 1", "make 1"),
+        ("irv make --stations 16", "make 16"),
+        ("irv make --stations 17", "usage"),
+        ("irv make --stations 1 --columns free", "usage"),
+        ("irv demo --stations 2", "usage"),
+        ("irv demo --cert c", "usage"),
+        ("irv demo --stations 2 --cert c", "demo 2 4 100000 'c'"),
+        (
+            "irv demo --stations 2 --cert c --depth 1 --conflicts 0",
+            "demo 2 1 0 'c'",
+        ),
+        ("irv demo --stations 2 --cert c --run r", "usage"),
+        ("irv table", "table Strict"),
+        ("irv table --columns free", "table Free"),
+        ("irv table --cert c", "usage"),
+        ("irv rup --query hazard --number 0", "usage"),
+        (
+            "irv rup --query hazard --number 0 --cert c",
+            "rup Strict Hazard 0 'c'",
+        ),
+        ("irv rup --query step --number 0 --cert c", "usage"),
+        ("irv drive", "usage"),
+        ("irv drive --run r", "drive Strict 'r'"),
+        ("irv drive --run r --cert c", "usage"),
         ("irv prove", "usage"),
         ("irv --help", "usage"),
         ("irv check -h", "usage"),
@@ -137,8 +197,14 @@ fn names_files(rt: HostRuntime) -> Result<(), Fail> {
     let lines = [
         ("irv check", "none", "none"),
         ("irv verify --cert c", "none", "c"),
+        ("irv audit --cert c", "c", "none"),
         ("irv replay --run r", "r", "none"),
+        ("irv make --stations 1", "none", "none"),
+        ("irv demo --stations 1 --cert c", "none", "c"),
+        ("irv table", "none", "none"),
         ("irv export --query hazard --number 0", "none", "none"),
+        ("irv rup --query step --number 1 --cert c", "c", "none"),
+        ("irv drive --run r", "r", "none"),
     ];
     for (line, read, written) in lines {
         let words = words(alloc, line)?;

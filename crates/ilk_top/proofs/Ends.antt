@@ -1,7 +1,8 @@
 -- What a call told its sinks, and what it told them with each status.
 use Rattle.std.proofs.Common.{◌≡◌, ℕ, true, false, Option, Some, None, List, [], append-nil, refl, ap, subst, sym}
 use Rattle.std.specs.Prelude.{◌≢◌}
-use Rattle.ilk_answers.specs.Answer.{IsAnswerTo, reply}
+use Rattle.ilk_answers.specs.Answer.{IsAnswerTo}
+use Rattle.ilk_answers.specs.Report.{reply}
 use Rattle.ilk_answers.specs.Status.{came_to_writing, is_answer}
 use Rattle.ilk_answers.specs.declared.reply.Reply.{Reply}
 use Rattle.ilk_answers.specs.declared.status.Status.{Status}

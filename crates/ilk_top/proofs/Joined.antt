@@ -1,7 +1,7 @@
 -- What the stages did to their sources, joined.
 use Rattle.std.proofs.Common.{◌≡◌, ℕ, Bool, true, false, Option, Some, None, IfOk, IfSome, Result, Ok, Err, List, [], inl, inr, refl, ap, subst, sym, is_ok, option_map, arith, ◌∙◌}
 use Rattle.std.specs.Prelude.{◌≢◌}
-use Rattle.ilk_answers.specs.Answer.{AnswersFound, IsAnswerTo, comes_to_extra, conf_limit, found_by, plant_of}
+use Rattle.ilk_answers.specs.Answer.{AnswersAlone, AnswersConf, AnswersFound, IsAnswerTo, comes_to_extra, conf_limit, found_by, plant_of}
 use Rattle.ilk_answers.specs.declared.refusals.Refusals.{Refusals}
 use Rattle.ilk_answers.specs.declared.reply.Reply.{Reply}
 use Rattle.ilk_io.proofs.Taken.{Takes-none}
@@ -78,11 +78,17 @@ comes-maybe plan stages (Some c) plant s k e =
 pub answer-told : {E : Type 0} (command : Command) (stages : Stages) (left extra : Option (List ℕ)) (found : Result PlantLists Refusals) (made : Result Reply E) → (plan_of command).stages ≡ Some stages → IfSome left (λ c. found ≡ plant_of stages c) → IfOk made (AnswersFound command found extra) → IfOk made (IsAnswerTo (Some command) left extra)
 answer-told command stages left extra found (Err e) s k known = tt
 answer-told command stages None extra found (Ok made) s k known =
-    let Told : Option (Result PlantLists Refusals) → Type 0 = λ o. IfSome o (λ f. AnswersFound command f extra made) in
-    subst Told (sym (found-told (plan_of command) stages None found s k)) tt
+    let Told : Option Stages → Type 0 = λ o. AnswersConf o command None extra made in subst Told (sym s) tt
 answer-told command stages (Some c) extra found (Ok made) s k known =
-    let Told : Option (Result PlantLists Refusals) → Type 0 = λ o. IfSome o (λ f. AnswersFound command f extra made) in
-    subst Told (sym (found-told (plan_of command) stages (Some c) found s k)) known
+    let Told : Option Stages → Type 0 = λ o. AnswersConf o command (Some c) extra made in
+    let Found : Result PlantLists Refusals → Type 0 = λ f. AnswersFound command f extra made in
+    subst Told (sym s) (subst Found k known)
+
+-- what a command answers that reads no configuration is the answer
+pub alone-told : {E : Type 0} (command : Command) (left extra : Option (List ℕ)) (made : Result Reply E) → (plan_of command).stages ≡ None → IfOk made (AnswersAlone command) → IfOk made (IsAnswerTo (Some command) left extra)
+alone-told command left extra (Err e) s told = tt
+alone-told command left extra (Ok made) s told =
+    let Told : Option Stages → Type 0 = λ o. AnswersConf o command left extra made in subst Told (sym s) told
 
 -- ---- both sources
 
@@ -112,6 +118,22 @@ module _ {C D : Type 0} (conf_left : C → Option (List ℕ)) (conf_faults : C �
     conf_read = conf-read came (read-came conf_left (Some true) (Some MAX_CONFIGURATION) true came conf_old conf_new (λ c. refl) h.read);
     extra_read = read;
   }
+
+-- a plan that reads no configuration has no source touched
+pub sources-alone : {C D : Type 0} (conf_left : C → Option (List ℕ)) (conf_faults : C → ℕ) (extra_left : D → Option (List ℕ)) (extra_faults : D → ℕ) (plan : Plan) (conf : C) (extra : D) (fault : Type 0) (came : Bool) → plan.stages ≡ None → ¬ fault → SourcesHandled conf_left conf_faults extra_left extra_faults plan fault came conf conf extra extra
+sources-alone conf_left conf_faults extra_left extra_faults plan conf extra fault came none never = record {
+  read_fault = λ f. absurd (never f);
+  conf_rises = rises-not fault (conf_faults conf);
+  extra_rises = rises-not fault (extra_faults extra);
+  conf_read = unread;
+  extra_read = untouched extra_left _ _ came extra (λ c. spare);
+}
+  where
+    unread : ReadByPlan conf_left (Some true) (conf_limit plan) came conf conf
+    unread = rw none refl
+
+    spare : comes_to_extra plan (conf_left conf) ≢ Some true
+    spare = rw none (λ e. absurd (cc))
 
 -- what holds of the sources with one word for the fault, and for how far the call came, holds with another that says the same
 pub sources-as : {C D : Type 0} (conf_left : C → Option (List ℕ)) (conf_faults : C → ℕ) (extra_left : D → Option (List ℕ)) (extra_faults : D → ℕ) (plan : Plan) (fault told : Type 0) (came c : Bool) (conf_old conf_new : C) (extra_old extra_new : D) → (fault → told) → (told → fault) → c ≡ came → SourcesHandled conf_left conf_faults extra_left extra_faults plan told c conf_old conf_new extra_old extra_new → SourcesHandled conf_left conf_faults extra_left extra_faults plan fault came conf_old conf_new extra_old extra_new

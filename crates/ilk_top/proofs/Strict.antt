@@ -1,14 +1,16 @@
 -- What a call that tells answers under strict columns says of the configuration, and what it tells.
 use Rattle.std.proofs.Common.{◌≡◌, ℕ, true, Option, Some, IfSome, List, refl, sym, ◌∙◌, subst}
+use Rattle.std.specs.Prelude.{◌≢◌}
 use Rattle.ilk_plant.specs.Plant.{PlantLists}
 use Rattle.ilk_answers.specs.Status.{is_answer}
-use Rattle.ilk_answers.specs.Strict.{IsCleanAndSafe, IsCleanFor, IsStrictlyRight, SaysSafeAtOneOrSpent}
+use Rattle.ilk_answers.specs.Strict.{HasTableOf, IsCleanAndSafe, IsCleanFor, IsStrictlyRight, SaysSafeAtOneOrSpent}
 use Rattle.ilk_answers.specs.declared.reply.Reply.{Reply}
 use Rattle.ilk_answers.specs.declared.status.Status.{Status}
-use Rattle.ilk_answers.specs.declared.status.Status.TheVariants.{Good}
+use Rattle.ilk_answers.specs.declared.status.Status.TheVariants.{Good, Unsafe}
+use Rattle.ilk_words.specs.declared.command.Columns.{Columns}
 use Rattle.ilk_words.specs.declared.command.Columns.TheVariants.{Strict}
 use Rattle.ilk_words.specs.declared.command.Command.{Command}
-use Rattle.ilk_words.specs.declared.command.Command.TheVariants.{Check, Verify}
+use Rattle.ilk_words.specs.declared.command.Command.TheVariants.{Check, Verify, Table, Drive}
 use Rattle.ilk_top.specs.Outside.{Tells}
 
 module _ {L O : Type 0} (cert_written : L → Option (List ℕ)) (cert_faults : L → ℕ) (out_written : O → Option (List ℕ)) (out_faults : O → ℕ) (status : Status) (cert_old cert_new : L) (out_old out_new : O) where
@@ -20,11 +22,21 @@ module _ {L O : Type 0} (cert_written : L → Option (List ℕ)) (cert_faults : 
   }
 
   -- check is good only where the configuration is safe for ever
-  pub check-told : (asked : Option Command) (conf : Option (List ℕ)) → Tells (IsStrictlyRight asked conf) cert_written cert_faults out_written out_faults status cert_old cert_new out_old out_new → asked ≡ Some (Check Strict) → status ≡ Good → IfSome conf IsCleanAndSafe
-  check-told asked conf told is good =
+  pub check-told : (asked : Option Command) (conf extra : Option (List ℕ)) → Tells (IsStrictlyRight asked conf extra) cert_written cert_faults out_written out_faults status cert_old cert_new out_old out_new → asked ≡ Some (Check Strict) → status ≡ Good → IfSome conf IsCleanAndSafe
+  check-told asked conf extra told is good =
       let t = told.whole (subst (λ s. is_answer s ≡ true) (sym good) refl) in t.1.check is (sym t.2 ∙ good)
 
   -- verify tells of what breaks no rule that it is safe, or that all conflicts are spent
-  pub verify-told : (asked : Option Command) (conf : Option (List ℕ)) → Tells (IsStrictlyRight asked conf) cert_written cert_faults out_written out_faults status cert_old cert_new out_old out_new → (depth conflicts : ℕ) (name bytes : List ℕ) (p : PlantLists) → asked ≡ Some (Verify Strict depth conflicts name) → conf ≡ Some bytes → IsCleanFor bytes p → Tells (SaysSafeAtOneOrSpent p depth conflicts) cert_written cert_faults out_written out_faults status cert_old cert_new out_old out_new
-  verify-told asked conf told depth conflicts name bytes p is at clean =
-      Tells-as (IsStrictlyRight asked conf) (SaysSafeAtOneOrSpent p depth conflicts) (λ made right. right.verify depth conflicts name is bytes p at clean) told
+  pub verify-told : (asked : Option Command) (conf extra : Option (List ℕ)) → Tells (IsStrictlyRight asked conf extra) cert_written cert_faults out_written out_faults status cert_old cert_new out_old out_new → (depth conflicts : ℕ) (name bytes : List ℕ) (p : PlantLists) → asked ≡ Some (Verify Strict depth conflicts name) → conf ≡ Some bytes → IsCleanFor bytes p → Tells (SaysSafeAtOneOrSpent p depth conflicts) cert_written cert_faults out_written out_faults status cert_old cert_new out_old out_new
+  verify-told asked conf extra told depth conflicts name bytes p is at clean =
+      Tells-as (IsStrictlyRight asked conf extra) (SaysSafeAtOneOrSpent p depth conflicts) (λ made right. right.verify depth conflicts name is bytes p at clean) told
+
+  -- table tells of what was read the table of its network
+  pub table-told : (asked : Option Command) (conf extra : Option (List ℕ)) → Tells (IsStrictlyRight asked conf extra) cert_written cert_faults out_written out_faults status cert_old cert_new out_old out_new → (columns : Columns) → asked ≡ Some (Table columns) → Tells (λ made. made.status ≡ Good → IfSome conf (λ bytes. HasTableOf columns bytes made)) cert_written cert_faults out_written out_faults status cert_old cert_new out_old out_new
+  table-told asked conf extra told columns is =
+      Tells-as (IsStrictlyRight asked conf extra) (λ made. made.status ≡ Good → IfSome conf (λ bytes. HasTableOf columns bytes made)) (λ made right. right.table columns is) told
+
+  -- no drive comes to a hazard
+  pub drive-told : (asked : Option Command) (conf extra : Option (List ℕ)) → Tells (IsStrictlyRight asked conf extra) cert_written cert_faults out_written out_faults status cert_old cert_new out_old out_new → (name bytes text : List ℕ) → asked ≡ Some (Drive Strict name) → conf ≡ Some bytes → extra ≡ Some text → status ≢ Unsafe
+  drive-told asked conf extra told name bytes text is at beside unsafe =
+      let t = told.whole (subst (λ s. is_answer s ≡ true) (sym unsafe) refl) in t.1.drive name bytes text is at beside (sym t.2 ∙ unsafe)

@@ -12,12 +12,37 @@ use crate::conf_stage::read_plant;
 use crate::extra_stage::plant_reply;
 use crate::no_reply::NoReply;
 use crate::writing::write_content;
-use ilk_answers::{Reply, Status, refuse};
+use ilk_answers::{Reply, Status, answer_alone, refuse};
 use ilk_io::{Sink, Source};
-use ilk_words::Command;
+use ilk_words::{Command, Stages};
 use std::alloc::Global;
 
-// Reads what the command reads, and finds the reply.
+// Reads the configuration and what the command reads besides, and finds the reply.
+fn conf_reply<C: Source, D: Source>(
+    alloc: Global,
+    command: &Command,
+    stages: Stages,
+    conf: &mut C,
+    extra: &mut D,
+) -> Result<Reply, NoReply>
+    requires options { IsTrue (has_option_limits command.now) }
+    requires stages { (plan_of command.now).stages ≡ Some stages }
+    ensures reply { IfOk result (IsAnswerTo (Some command.now) (C.left conf.old) (D.left extra.old)) }
+    ensures strict { IfOk result (IsStrictlyRight (Some command.now) (C.left conf.old) (D.left extra.old)) }
+    ensures planned { IfOk result (IsPlanned (plan_of command.now)) }
+    ensures handled { SourcesHandled C.left C.faults D.left D.faults (plan_of command.now) (result ≡ Err NoReply.ReadFault) (is_ok result) conf.old conf.new extra.old extra.new }
+{
+    match read_plant(alloc, stages, conf)? {
+        Ok(plant) => {
+            plant.is_sound();
+            plant.is_of_drafts();
+            plant_reply(alloc, command, &plant, extra)
+        }
+        Err(refusals) => Ok(refuse(alloc, command, &refusals)?),
+    }
+}
+
+// Reads what the command reads, if it reads anything, and finds the reply.
 fn command_reply<C: Source, D: Source>(
     alloc: Global,
     command: &Command,
@@ -26,18 +51,13 @@ fn command_reply<C: Source, D: Source>(
 ) -> Result<Reply, NoReply>
     requires { IsTrue (has_option_limits command.now) }
     ensures reply { IfOk result (IsAnswerTo (Some command.now) (C.left conf.old) (D.left extra.old)) }
-    ensures strict { IfOk result (IsStrictlyRight (Some command.now) (C.left conf.old)) }
+    ensures strict { IfOk result (IsStrictlyRight (Some command.now) (C.left conf.old) (D.left extra.old)) }
     ensures planned { IfOk result (IsPlanned (plan_of command.now)) }
     ensures handled { SourcesHandled C.left C.faults D.left D.faults (plan_of command.now) (result ≡ Err NoReply.ReadFault) (is_ok result) conf.old conf.new extra.old extra.new }
 {
-    // every command reads a configuration
-    let stages = command.plan().stages.unwrap();
-    match read_plant(alloc, stages, conf)? {
-        Ok(plant) => {
-            plant.is_sound();
-            plant_reply(alloc, command, &plant, extra)
-        }
-        Err(refusals) => Ok(refuse(alloc, command, &refusals)?),
+    match command.plan().stages {
+        Some(stages) => conf_reply(alloc, command, stages, conf, extra),
+        None => Ok(answer_alone(alloc, command)?),
     }
 }
 
@@ -74,7 +94,7 @@ pub fn perform<C: Source, D: Source, O: Sink, L: Sink>(
 ) -> Status
     requires { IsTrue (has_option_limits command.now) }
     ensures answer { Tells (IsAnswerTo (Some command.now) (C.left conf.old) (D.left extra.old)) L.written L.faults O.written O.faults result cert.old cert.new out.old out.new }
-    ensures strict { Tells (IsStrictlyRight (Some command.now) (C.left conf.old)) L.written L.faults O.written O.faults result cert.old cert.new out.old out.new }
+    ensures strict { Tells (IsStrictlyRight (Some command.now) (C.left conf.old) (D.left extra.old)) L.written L.faults O.written O.faults result cert.old cert.new out.old out.new }
     ensures handled { Handled C.left C.faults D.left D.faults O.faults L.faults (plan_of command.now) result conf.old conf.new extra.old extra.new out.old out.new cert.old cert.new }
     ensures no_usage { result ≢ Status.Usage }
 {

@@ -1,4 +1,4 @@
-ghost use Rattle.std.specs.Prelude.{◌≡◌, ◌^◌, ◌<◌, true, IfOk, IsTrue, Err, Some, is_ok};
+ghost use Rattle.std.specs.Prelude.{◌≡◌, ◌^◌, ◌<◌, true, IfOk, IsTrue, Err, Some, is_ok, is_some};
 ghost use Rattle.ilk_answers.specs.Answer.{AnswersPlant};
 ghost use Rattle.ilk_answers.specs.Reply.{IsPlanned};
 ghost use Rattle.ilk_top.specs.Handled.{SourceHandled};
@@ -23,15 +23,16 @@ fn reply_to_extra<D: Source>(
     extra: &mut D,
 ) -> Result<Reply, NoReply>
     requires options { IsTrue (has_option_limits command.now) }
+    requires over { is_some (plan_of command.now).stages ≡ true }
     requires limit { (plan_of command.now).extra ≡ Some limit }
     requires small { limit < 2 ^ 40 }
     ensures reply { IfOk result (AnswersPlant (plan_of command.now).extra command.now plant.now (D.left extra.old)) }
     ensures planned { IfOk result (IsPlanned (plan_of command.now)) }
     ensures handled { SourceHandled D.left D.faults (Some true) (plan_of command.now).extra (result ≡ Err NoReply.ReadFault) (is_ok result) extra.old extra.new }
 {
-    let mut reader = Reader::new(alloc);
+    let mut reader = Reader::new(alloc, command, plant)?;
     match read_pieces(extra, limit, &mut reader) {
-        Ok(()) => Ok(answer(alloc, command, plant, &reader)?),
+        Ok(()) => Ok(answer(alloc, command, plant, reader)?),
         Err(ReadError::TooLong) => Ok(Reply::too_long(alloc)?),
         Err(ReadError::Failed) => Err(NoReply::ReadFault),
         Err(ReadError::OutOfMemory) => Err(NoReply::OutOfMemory),
@@ -46,13 +47,17 @@ pub fn plant_reply<D: Source>(
     plant: &Plant,
     extra: &mut D,
 ) -> Result<Reply, NoReply>
-    requires { IsTrue (has_option_limits command.now) }
+    requires options { IsTrue (has_option_limits command.now) }
+    requires over { is_some (plan_of command.now).stages ≡ true }
     ensures reply { IfOk result (AnswersPlant (plan_of command.now).extra command.now plant.now (D.left extra.old)) }
     ensures planned { IfOk result (IsPlanned (plan_of command.now)) }
     ensures handled { SourceHandled D.left D.faults (Some true) (plan_of command.now).extra (result ≡ Err NoReply.ReadFault) (is_ok result) extra.old extra.new }
 {
     match command.plan().extra {
         Some(limit) => reply_to_extra(alloc, command, plant, limit, extra),
-        None => Ok(answer(alloc, command, plant, &Reader::new(alloc))?),
+        None => {
+            let reader = Reader::new(alloc, command, plant)?;
+            Ok(answer(alloc, command, plant, reader)?)
+        }
     }
 }

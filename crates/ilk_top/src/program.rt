@@ -1,7 +1,7 @@
 ghost use Rattle.std.specs.Prelude.{ℕ, ◌≡◌, ◌≢◌, ◌⊎◌, ◌↔◌, Some, None, IfSome, List, true, false, map, string_bytes};
 ghost use Rattle.ilk_answers.specs.Answer.{IsAnswerTo, comes_to_extra, conf_limit, plan_asked};
 ghost use Rattle.ilk_answers.specs.Status.{came_to_writing};
-ghost use Rattle.ilk_answers.specs.Strict.{IsCleanAndSafe, IsCleanFor, SaysSafeAtOneOrSpent};
+ghost use Rattle.ilk_answers.specs.Strict.{HasTableOf, IsCleanAndSafe, IsCleanFor, SaysSafeAtOneOrSpent};
 ghost use Rattle.ilk_io.specs.Faults.{RoseByOne};
 ghost use Rattle.ilk_plant.specs.Plant.{PlantLists};
 ghost use Rattle.ilk_top.specs.Outside.{ReadByPlan, RisesOnlyAt, Tells};
@@ -14,8 +14,9 @@ use ilk_words::{Columns, Command, read_words};
 use std::alloc::Global;
 
 /// Does what the words of the command line ask, the program's name first: reads the configuration
-/// from `conf` and for replay the run text from `extra`, writes for verify the certificate to `cert`,
-/// where there is one, and then the report to `out`.
+/// from `conf`, and from `extra` what the command reads besides (audit a certificate, replay a run, rup
+/// a refutation, drive a scenario), where it reads them; writes for verify and demo the certificate to
+/// `cert`, where there is one, and then the report to `out`.
 ///
 /// All memory is taken before the first write. A fault of a source is answered ReadFault and one
 /// of a sink WriteFault, each at the first call that failed.
@@ -40,6 +41,16 @@ pub fn run<C: Source, D: Source, O: Sink, L: Sink>(
         (depth conflicts : ℕ) (name : List ℕ) (bytes : List ℕ) (p : PlantLists)
         → asked ≡ Some (Command.Verify Columns.Strict depth conflicts name) → C.left conf.old ≡ Some bytes → IsCleanFor bytes p
         → Tells (SaysSafeAtOneOrSpent p depth conflicts) L.written L.faults O.written O.faults result cert.old cert.new out.old out.new }
+
+    // table is Good only with a text that is read as the network that was read, with the table of its routes, which breaks no rule but C7; under strict columns it breaks none, and is safe for ever
+    ensures table { let asked = command_of (map string_bytes words.now.items) in
+        (columns : Columns) → asked ≡ Some (Command.Table columns)
+        → Tells (λ made. made.status ≡ Status.Good → IfSome (C.left conf.old) (λ bytes. HasTableOf columns bytes made)) L.written L.faults O.written O.faults result cert.old cert.new out.old out.new }
+
+    // no drive under strict columns comes to a hazard
+    ensures strict_drive { let asked = command_of (map string_bytes words.now.items) in
+        (name bytes text : List ℕ) → asked ≡ Some (Command.Drive Columns.Strict name) → C.left conf.old ≡ Some bytes → D.left extra.old ≡ Some text
+        → result ≢ Status.Unsafe }
 
     // with a read fault exactly one call of one source failed, so that nothing is called again after it; a count that rose is told as a fault
     ensures read_fault { result ≡ Status.ReadFault

@@ -3,7 +3,7 @@ use Rattle.std.proofs.Common.{◌≡◌, refl, [], ◌∷◌, Some, None, codes}
 use Rattle.std.specs.Fmt.{digits}
 use Rattle.clap.proofs.OnLiterals.{clap_on_literals}
 use Rattle.ilk_words.specs.declared.command.Columns.TheVariants.{Strict, Free}
-use Rattle.ilk_words.specs.declared.command.Command.TheVariants.{Check, Verify, Replay, Export}
+use Rattle.ilk_words.specs.declared.command.Command.TheVariants.{Check, Verify, Audit, Replay, Make, Demo, Table, Export, Rup, Drive}
 use Rattle.ilk_words.specs.declared.command.QueryKind.TheVariants.{Hazard, Step}
 use Rattle.ilk_words.specs.Line.{app}
 use Rattle.ilk_words.specs.Words.{command_of}
@@ -147,3 +147,47 @@ export_minus_0 = refl
 export_without_query : command_of (codes "irv" ∷ codes "export" ∷ codes "--number" ∷ codes "0" ∷ []) ≡ None
 unfolding clap_on_literals app
 export_without_query = refl
+
+audit_named : command_of (codes "irv" ∷ codes "audit" ∷ codes "--cert" ∷ codes "c" ∷ []) ≡ Some (Audit Strict (codes "c"))
+unfolding clap_on_literals app
+audit_named = refl
+
+audit_with_depth : command_of (codes "irv" ∷ codes "audit" ∷ codes "--cert=c" ∷ codes "--depth=3" ∷ []) ≡ None
+unfolding clap_on_literals app
+audit_with_depth = refl
+
+make_16 : command_of (codes "irv" ∷ codes "make" ∷ codes "--stations" ∷ codes "16" ∷ []) ≡ Some (Make 16)
+unfolding clap_on_literals app
+make_16 = refl
+
+make_17 : command_of (codes "irv" ∷ codes "make" ∷ codes "--stations" ∷ codes "17" ∷ []) ≡ None
+unfolding clap_on_literals app
+make_17 = refl
+
+make_with_columns : command_of (codes "irv" ∷ codes "make" ∷ codes "--stations=1" ∷ codes "--columns=free" ∷ []) ≡ None
+unfolding clap_on_literals app
+make_with_columns = refl
+
+demo_by_default : command_of (codes "irv" ∷ codes "demo" ∷ codes "--stations=2" ∷ codes "--cert=c" ∷ []) ≡ Some (Demo 2 4 100000 (codes "c"))
+unfolding clap_on_literals app digits
+demo_by_default = refl
+
+table_free : command_of (codes "irv" ∷ codes "table" ∷ codes "--columns=free" ∷ []) ≡ Some (Table Free)
+unfolding clap_on_literals app
+table_free = refl
+
+rup_step_1 : command_of (codes "irv" ∷ codes "rup" ∷ codes "--query=step" ∷ codes "--number=1" ∷ codes "--cert=c" ∷ []) ≡ Some (Rup Strict Step 1 (codes "c"))
+unfolding clap_on_literals app
+rup_step_1 = refl
+
+rup_step_0 : command_of (codes "irv" ∷ codes "rup" ∷ codes "--query=step" ∷ codes "--number=0" ∷ codes "--cert=c" ∷ []) ≡ None
+unfolding clap_on_literals app
+rup_step_0 = refl
+
+rup_without_cert : command_of (codes "irv" ∷ codes "rup" ∷ codes "--query=step" ∷ codes "--number=1" ∷ []) ≡ None
+unfolding clap_on_literals app
+rup_without_cert = refl
+
+drive_named : command_of (codes "irv" ∷ codes "drive" ∷ codes "--run" ∷ codes "s" ∷ []) ≡ Some (Drive Strict (codes "s"))
+unfolding clap_on_literals app
+drive_named = refl

@@ -5,7 +5,7 @@ use Rattle.std.specs.List.{list_any}
 use Rattle.std.specs.Str.{bytes_eq}
 use Rattle.std.specs.Fmt.{digits}
 use Rattle.std.specs.Str.Parse.{digits_value, without_leading_plus}
-use Rattle.std.proofs.lemmas.Bool.{le-leb}
+use Rattle.std.proofs.lemmas.Bool.{and_from, le-leb}
 use Rattle.std.proofs.lemmas.Option.{cond_some, same_Some}
 use Rattle.clap.specs.ValueTests.{accepts}
 use Rattle.clap.specs.Words.{IsUnsignedIn}
@@ -14,13 +14,15 @@ use Rattle.clap.proofs.ValueTestLemmas.{Accepts-accepts, accepts-Accepts}
 use Rattle.ilk_base.specs.Option.{◌>>=◌, only_if}
 use Rattle.ilk_base.proofs.Options.{IfSome-from, bind_some}
 use Rattle.ilk_base.proofs.Tested.{find-at}
-use Rattle.ilk_words.specs.Commands.{LineCommand, check_command, columns_of, commands, export_command, query_of, replay_command, verify_command}
-use Rattle.ilk_words.specs.Limits.{has_option_limits}
-use Rattle.ilk_words.specs.Options.{Line, LineOption, cert_option, conflicts_option, depth_option, number_between, number_of_option, number_of_value, number_option, run_option, value_of_option}
+use Rattle.ilk_words.specs.Commands.{LineCommand, audit_command, check_command, columns_of, commands, demo_command, drive_command, export_command, make_command, query_of, replay_command, rup_command, table_command, verify_command}
+use Rattle.ilk_words.specs.Limits.{has_option_limits, has_query_limits, has_search_limits, has_station_limits}
+use Rattle.ilk_words.specs.Options.{Line, LineOption, cert_option, conflicts_option, depth_option, number_between, number_of_option, number_of_value, number_option, run_option, stations_option, value_of_option}
+use Rattle.ilk_words.specs.Queries.{has_number}
 use Rattle.ilk_words.specs.Words.{command_on, has_only, on_line}
 use Rattle.ilk_words.specs.declared.command.Command.{Command}
-use Rattle.ilk_words.specs.declared.command.Command.TheVariants.{Check, Verify, Replay, Export}
-use Rattle.ilk_words.specs.declared.limits.TheConstants.{DEFAULT_SEARCH_CONFLICTS, DEFAULT_DEPTH, MAX_SEARCH_CONFLICTS, MAX_DEPTH, MAX_NUMBER}
+use Rattle.ilk_words.specs.declared.command.Command.TheVariants.{Check, Verify, Audit, Replay, Make, Demo, Table, Export, Rup, Drive}
+use Rattle.ilk_words.specs.declared.command.QueryKind.{QueryKind}
+use Rattle.ilk_words.specs.declared.limits.TheConstants.{DEFAULT_SEARCH_CONFLICTS, DEFAULT_DEPTH, MAX_SEARCH_CONFLICTS, MAX_DEPTH, MAX_NUMBER, MAX_STATIONS}
 
 -- ---- the number that a value writes
 
@@ -47,13 +49,33 @@ option_within line o least most n same e =
     let value = bind_some (value_of_option line o) (number_of_value o.values) n e in
     number_within least most value.0 n (sym (ap (λ (p : ValueParser). number_of_value p value.0) same) ∙ value.2)
 
+abbrev HasLimits : Command → Type 0
+HasLimits command = IsTrue (has_option_limits command)
+
 abbrev KeepsLimits : LineCommand → Type 0
-KeepsLimits c = (line : Line) (command : Command) → c.command line ≡ Some command → IsTrue (has_option_limits command)
+KeepsLimits c = (line : Line) (command : Command) → c.command line ≡ Some command → HasLimits command
 
 check_keeps : KeepsLimits check_command
 check_keeps line command e =
     let columns = bind_some (columns_of line) _ command e in
-    subst (λ (x : Command). IsTrue (has_option_limits x)) (same_Some (Check columns.0) command columns.2) refl
+    subst HasLimits (same_Some (Check columns.0) command columns.2) refl
+
+-- the numbers of options, within their limits
+search_within : (line : Line) (depth conflicts : ℕ) → number_of_option line depth_option ≡ Some depth → number_of_option line conflicts_option ≡ Some conflicts → has_search_limits depth conflicts ≡ true
+search_within line depth conflicts deep spent =
+    let d = option_within line depth_option 1 MAX_DEPTH depth refl deep in
+    let s = option_within line conflicts_option 0 MAX_SEARCH_CONFLICTS conflicts refl spent in
+    rw (le-leb 1 depth d.0, le-leb depth MAX_DEPTH d.1, le-leb conflicts MAX_SEARCH_CONFLICTS s.1) refl
+
+stations_within : (line : Line) (stations : ℕ) → number_of_option line stations_option ≡ Some stations → has_station_limits stations ≡ true
+stations_within line stations e =
+    let s = option_within line stations_option 1 MAX_STATIONS stations refl e in
+    rw (le-leb 1 stations s.0, le-leb stations MAX_STATIONS s.1) refl
+
+query_within : (line : Line) (query : QueryKind) (number : ℕ) → number_of_option line number_option ≡ Some number → has_number query number ≡ true → has_query_limits query number ≡ true
+query_within line query number e has =
+    let n = option_within line number_option 0 MAX_NUMBER number refl e in
+    rw (le-leb number MAX_NUMBER n.1, has) refl
 
 verify_keeps : KeepsLimits verify_command
 verify_keeps line command e =
@@ -61,16 +83,40 @@ verify_keeps line command e =
     let depth = bind_some (number_of_option line depth_option) _ command columns.2 in
     let conflicts = bind_some (number_of_option line conflicts_option) _ command depth.2 in
     let cert = bind_some (value_of_option line cert_option) _ command conflicts.2 in
-    let deep = option_within line depth_option 1 MAX_DEPTH depth.0 refl depth.1 in
-    let spent = option_within line conflicts_option 0 MAX_SEARCH_CONFLICTS conflicts.0 refl conflicts.1 in
-    let limits : IsTrue (has_option_limits (Verify columns.0 depth.0 conflicts.0 cert.0)) = rw (le-leb 1 depth.0 deep.0, le-leb depth.0 MAX_DEPTH deep.1, le-leb conflicts.0 MAX_SEARCH_CONFLICTS spent.1) refl in
-    subst (λ (x : Command). IsTrue (has_option_limits x)) (same_Some _ _ cert.2) limits
+    let limits : HasLimits (Verify columns.0 depth.0 conflicts.0 cert.0) = search_within line depth.0 conflicts.0 depth.1 conflicts.1 in
+    subst HasLimits (same_Some _ _ cert.2) limits
+
+audit_keeps : KeepsLimits audit_command
+audit_keeps line command e =
+    let columns = bind_some (columns_of line) _ command e in
+    let cert = bind_some (value_of_option line cert_option) _ command columns.2 in
+    subst HasLimits (same_Some (Audit columns.0 cert.0) command cert.2) refl
 
 replay_keeps : KeepsLimits replay_command
 replay_keeps line command e =
     let columns = bind_some (columns_of line) _ command e in
     let run = bind_some (value_of_option line run_option) _ command columns.2 in
-    subst (λ (x : Command). IsTrue (has_option_limits x)) (same_Some (Replay columns.0 run.0) command run.2) refl
+    subst HasLimits (same_Some (Replay columns.0 run.0) command run.2) refl
+
+make_keeps : KeepsLimits make_command
+make_keeps line command e =
+    let stations = bind_some (number_of_option line stations_option) _ command e in
+    let limits : HasLimits (Make stations.0) = stations_within line stations.0 stations.1 in
+    subst HasLimits (same_Some _ _ stations.2) limits
+
+demo_keeps : KeepsLimits demo_command
+demo_keeps line command e =
+    let stations = bind_some (number_of_option line stations_option) _ command e in
+    let depth = bind_some (number_of_option line depth_option) _ command stations.2 in
+    let conflicts = bind_some (number_of_option line conflicts_option) _ command depth.2 in
+    let cert = bind_some (value_of_option line cert_option) _ command conflicts.2 in
+    let limits : HasLimits (Demo stations.0 depth.0 conflicts.0 cert.0) = and_from (has_station_limits stations.0) (has_search_limits depth.0 conflicts.0) (stations_within line stations.0 stations.1) (search_within line depth.0 conflicts.0 depth.1 conflicts.1) in
+    subst HasLimits (same_Some _ _ cert.2) limits
+
+table_keeps : KeepsLimits table_command
+table_keeps line command e =
+    let columns = bind_some (columns_of line) _ command e in
+    subst HasLimits (same_Some (Table columns.0) command columns.2) refl
 
 export_keeps : KeepsLimits export_command
 export_keeps line command e =
@@ -78,16 +124,37 @@ export_keeps line command e =
     let query = bind_some (query_of line) _ command columns.2 in
     let number = bind_some (number_of_option line number_option) _ command query.2 in
     let asked = cond_some _ _ command number.2 in
-    let within = option_within line number_option 0 MAX_NUMBER number.0 refl number.1 in
-    let limits : IsTrue (has_option_limits (Export columns.0 query.0 number.0)) = rw (le-leb number.0 MAX_NUMBER within.1, asked.0) refl in
-    subst (λ (x : Command). IsTrue (has_option_limits x)) asked.1 limits
+    let limits : HasLimits (Export columns.0 query.0 number.0) = query_within line query.0 number.0 number.1 asked.0 in
+    subst HasLimits asked.1 limits
+
+rup_keeps : KeepsLimits rup_command
+rup_keeps line command e =
+    let columns = bind_some (columns_of line) _ command e in
+    let query = bind_some (query_of line) _ command columns.2 in
+    let number = bind_some (number_of_option line number_option) _ command query.2 in
+    let cert = bind_some (value_of_option line cert_option) _ command number.2 in
+    let asked = cond_some _ _ command cert.2 in
+    let limits : HasLimits (Rup columns.0 query.0 number.0 cert.0) = query_within line query.0 number.0 number.1 asked.0 in
+    subst HasLimits asked.1 limits
+
+drive_keeps : KeepsLimits drive_command
+drive_keeps line command e =
+    let columns = bind_some (columns_of line) _ command e in
+    let run = bind_some (value_of_option line run_option) _ command columns.2 in
+    subst HasLimits (same_Some (Drive columns.0 run.0) command run.2) refl
 
 keeps_limits : (i : ℕ) (c : LineCommand) → slice_get commands i ≡ Some c → KeepsLimits c
 keeps_limits zero c e = subst KeepsLimits (same_Some _ _ e) check_keeps
 keeps_limits (suc zero) c e = subst KeepsLimits (same_Some _ _ e) verify_keeps
-keeps_limits (suc (suc zero)) c e = subst KeepsLimits (same_Some _ _ e) replay_keeps
-keeps_limits (suc (suc (suc zero))) c e = subst KeepsLimits (same_Some _ _ e) export_keeps
-keeps_limits (suc (suc (suc (suc i)))) c e = cc
+keeps_limits (suc (suc zero)) c e = subst KeepsLimits (same_Some _ _ e) audit_keeps
+keeps_limits (suc (suc (suc zero))) c e = subst KeepsLimits (same_Some _ _ e) replay_keeps
+keeps_limits (suc (suc (suc (suc zero)))) c e = subst KeepsLimits (same_Some _ _ e) make_keeps
+keeps_limits (suc (suc (suc (suc (suc zero))))) c e = subst KeepsLimits (same_Some _ _ e) demo_keeps
+keeps_limits (suc (suc (suc (suc (suc (suc zero)))))) c e = subst KeepsLimits (same_Some _ _ e) table_keeps
+keeps_limits (suc (suc (suc (suc (suc (suc (suc zero))))))) c e = subst KeepsLimits (same_Some _ _ e) export_keeps
+keeps_limits (suc (suc (suc (suc (suc (suc (suc (suc zero)))))))) c e = subst KeepsLimits (same_Some _ _ e) rup_keeps
+keeps_limits (suc (suc (suc (suc (suc (suc (suc (suc (suc zero))))))))) c e = subst KeepsLimits (same_Some _ _ e) drive_keeps
+keeps_limits (suc (suc (suc (suc (suc (suc (suc (suc (suc (suc i)))))))))) c e = cc
 
 -- the command that a line gives has the numbers that its options let through
 pub line_limits : (line : Line) → IfSome (command_on line) (λ (command : Command). IsTrue (has_option_limits command))

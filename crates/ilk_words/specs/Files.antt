@@ -2,13 +2,17 @@
 use Rattle.std.specs.Prelude.{ℕ, Option, Some, None, List, option_map}
 use Rattle.ilk_words.specs.Words.{command_of}
 use Rattle.ilk_words.specs.declared.command.Command.{Command}
-use Rattle.ilk_words.specs.declared.command.Command.TheVariants.{Verify, Replay}
+use Rattle.ilk_words.specs.declared.command.Command.TheVariants.{Verify, Audit, Replay, Demo, Rup, Drive}
 use Rattle.ilk_words.specs.declared.files.FileNames.{FileNames}
 
--- verify writes its certificate to a file, and replay reads the file of its run
+-- verify and demo write a certificate to a file; audit and rup read one, and replay and drive the file of a run or of a scenario
 abbrev pub files_of : Command → FileNames
 files_of (Verify columns depth conflicts cert) = record { extra = None; cert = Some cert }
+files_of (Audit columns cert) = record { extra = Some cert; cert = None }
 files_of (Replay columns run) = record { extra = Some run; cert = None }
+files_of (Demo stations depth conflicts cert) = record { extra = None; cert = Some cert }
+files_of (Rup columns query number cert) = record { extra = Some cert; cert = None }
+files_of (Drive columns run) = record { extra = Some run; cert = None }
 files_of _ = record { extra = None; cert = None }
 
 -- none where the words give no command

@@ -12,7 +12,7 @@ use Rattle.ilk_base.specs.Option.{◌>>=◌, only_if}
 use Rattle.ilk_words.specs.Columns.{all_columns, columns_word}
 use Rattle.ilk_words.specs.Queries.{all_queries, query_word}
 use Rattle.ilk_words.specs.declared.command.Columns.TheVariants.{Strict}
-use Rattle.ilk_words.specs.declared.limits.TheConstants.{DEFAULT_SEARCH_CONFLICTS, DEFAULT_DEPTH, MAX_SEARCH_CONFLICTS, MAX_DEPTH, MAX_NUMBER}
+use Rattle.ilk_words.specs.declared.limits.TheConstants.{DEFAULT_SEARCH_CONFLICTS, DEFAULT_DEPTH, MAX_SEARCH_CONFLICTS, MAX_DEPTH, MAX_NUMBER, MAX_STATIONS}
 
 -- a reference, as `clap` holds texts; where a text lies makes no difference to what `clap` reads
 abbrev pub held : {X : Type 0} → X → Bor X
@@ -64,6 +64,13 @@ cert_option = record { name = codes "cert"; values = any_text; default = None }
 abbrev pub run_option : LineOption
 run_option = record { name = codes "run"; values = any_text; default = None }
 
+abbrev pub stations_option : LineOption
+stations_option = record {
+  name = codes "stations";
+  values = number_between 1 MAX_STATIONS;
+  default = None;
+}
+
 abbrev pub query_option : LineOption
 query_option = record {
   name = codes "query";
@@ -75,7 +82,7 @@ abbrev pub number_option : LineOption
 number_option = record { name = codes "number"; values = number_between 0 MAX_NUMBER; default = None }
 
 abbrev pub options : List LineOption
-options = columns_option ∷ depth_option ∷ conflicts_option ∷ cert_option ∷ run_option ∷ query_option ∷ number_option ∷ []
+options = columns_option ∷ depth_option ∷ conflicts_option ∷ cert_option ∷ run_option ∷ stations_option ∷ query_option ∷ number_option ∷ []
 
 -- the value of each argument that is on the line
 abbrev pub Line : Type 0

@@ -112,15 +112,48 @@ pub enum Command {
         conflicts: u64,
         cert: Text,
     },
+    /// Check the certificate in the file of the name `cert`.
+    Audit {
+        columns: Columns,
+        cert: Text,
+    },
     /// Replay the run in the file of the name `run`.
     Replay {
         columns: Columns,
         run: Text,
+    },
+    /// Print the configuration of a line of so many stations.
+    Make {
+        stations: u32,
+    },
+    /// Decide whether the plant of a line of so many stations is safe, as `Verify` does.
+    Demo {
+        stations: u32,
+        depth: u32,
+        conflicts: u64,
+        cert: Text,
+    },
+    /// Print the configuration's network with the routes that it has.
+    Table {
+        columns: Columns,
     },
     /// Print the formula of the query of this kind for runs of `number` events.
     Export {
         columns: Columns,
         query: QueryKind,
         number: u32,
+    },
+    /// Check the refutation of that query's formula in the file of the name `cert`, which another
+    /// solver wrote.
+    Rup {
+        columns: Columns,
+        query: QueryKind,
+        number: u32,
+        cert: Text,
+    },
+    /// Run the scenario in the file of the name `run` to its rest.
+    Drive {
+        columns: Columns,
+        run: Text,
     },
 }

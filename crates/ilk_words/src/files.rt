@@ -14,9 +14,10 @@ pub struct FileNames {
     pub cert: Option<Text>,
 }
 
-/// The names of the files that the words of the command line name, the program's name first. For
-/// replay, `extra` is the value of `--run`, and for verify, `cert` that of `--cert`; otherwise there
-/// is none. `None` exactly where `read_words` gives `None` for these words.
+/// The names of the files that the words of the command line name, the program's name first. For audit
+/// and rup, `extra` is the value of `--cert`, and for replay and drive that of `--run`; for verify and
+/// demo, `cert` is the value of `--cert`; otherwise there is none. `None` exactly where `read_words`
+/// gives `None` for these words.
 pub fn names_of(alloc: Global, words: &Vec<String>) -> Result<Option<FileNames>, AllocError>
     ensures { IfOk result (λ names. names ≡ files_named (map string_bytes words.now.items)) }
 {
@@ -27,16 +28,23 @@ fn files_of(command: Command) -> FileNames
     ensures { result ≡ files_of command }
 {
     match command {
-        Command::Check { .. } | Command::Export { .. } => FileNames {
-            extra: None,
-            cert: None,
-        },
-        Command::Verify { cert, .. } => FileNames {
+        Command::Verify { cert, .. } | Command::Demo { cert, .. } => FileNames {
             extra: None,
             cert: Some(cert),
         },
-        Command::Replay { run, .. } => FileNames {
+        Command::Audit { cert, .. } | Command::Rup { cert, .. } => FileNames {
+            extra: Some(cert),
+            cert: None,
+        },
+        Command::Replay { run, .. } | Command::Drive { run, .. } => FileNames {
             extra: Some(run),
+            cert: None,
+        },
+        Command::Check { .. }
+        | Command::Make { .. }
+        | Command::Table { .. }
+        | Command::Export { .. } => FileNames {
+            extra: None,
             cert: None,
         },
     }

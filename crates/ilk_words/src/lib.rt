@@ -19,9 +19,10 @@ mod read;
 
 pub use command::{Columns, Command, QueryKind};
 pub use files::{FileNames, names_of};
-pub use lengths::{MAX_CONFIGURATION, MAX_RUN_TEXT};
+pub use lengths::{MAX_CERTIFICATE, MAX_CONFIGURATION, MAX_REFUTATION, MAX_RUN_TEXT, MAX_SCENARIO};
 pub use limits::{
     DEFAULT_DEPTH, DEFAULT_SEARCH_CONFLICTS, MAX_DEPTH, MAX_NUMBER, MAX_SEARCH_CONFLICTS,
+    MAX_STATIONS,
 };
 pub use plan::{Plan, Stages, files_are_planned};
 pub use read::read_words;

@@ -13,5 +13,8 @@ pub const MAX_SEARCH_CONFLICTS: u64 = 200000;
 /// The most that they take, where the line doesn't say.
 pub const DEFAULT_SEARCH_CONFLICTS: u64 = 100000;
 
-/// The most events of the runs that an exported query asks for.
+/// The most stations of a made line, which has at least 1.
+pub const MAX_STATIONS: u64 = 16;
+
+/// The most events of the runs that a query by itself asks for.
 pub const MAX_NUMBER: u64 = 16;

@@ -7,7 +7,7 @@ ghost use Rattle.ilk_words.specs.Options.{columns_option, query_option};
 ghost use Rattle.ilk_words.specs.Places.{moved_app, moved_rule, with_held_texts};
 
 use crate::command::{COLUMNS_WORDS, QUERY_WORDS};
-use crate::{MAX_DEPTH, MAX_NUMBER, MAX_SEARCH_CONFLICTS};
+use crate::{MAX_DEPTH, MAX_NUMBER, MAX_SEARCH_CONFLICTS, MAX_STATIONS};
 use clap::builder::ValueParser;
 use clap::{Arg, ArgAction};
 use std::alloc::{AllocError, Global};
@@ -16,11 +16,25 @@ pub(crate) const CHECK: &str = "check";
 
 pub(crate) const VERIFY: &str = "verify";
 
+pub(crate) const AUDIT: &str = "audit";
+
 pub(crate) const REPLAY: &str = "replay";
+
+pub(crate) const MAKE: &str = "make";
+
+pub(crate) const DEMO: &str = "demo";
+
+pub(crate) const TABLE: &str = "table";
 
 pub(crate) const EXPORT: &str = "export";
 
-static COMMANDS: [&str; 4] = [CHECK, VERIFY, REPLAY, EXPORT];
+pub(crate) const RUP: &str = "rup";
+
+pub(crate) const DRIVE: &str = "drive";
+
+static COMMANDS: [&str; 10] = [
+    CHECK, VERIFY, AUDIT, REPLAY, MAKE, DEMO, TABLE, EXPORT, RUP, DRIVE,
+];
 
 pub(crate) const COLUMNS: &str = "columns";
 
@@ -32,12 +46,16 @@ pub(crate) const CERT: &str = "cert";
 
 pub(crate) const RUN: &str = "run";
 
+pub(crate) const STATIONS: &str = "stations";
+
 pub(crate) const QUERY: &str = "query";
 
 pub(crate) const NUMBER: &str = "number";
 
 // Every option.
-pub(crate) static OPTIONS: [&str; 7] = [COLUMNS, DEPTH, CONFLICTS, CERT, RUN, QUERY, NUMBER];
+pub(crate) static OPTIONS: [&str; 8] = [
+    COLUMNS, DEPTH, CONFLICTS, CERT, RUN, STATIONS, QUERY, NUMBER,
+];
 
 // The whole line, whose texts lie where they may.
 pub(crate) fn line_command<'a>(alloc: Global) -> Result<clap::Command<'a>, AllocError>
@@ -54,6 +72,7 @@ pub(crate) fn line_command<'a>(alloc: Global) -> Result<clap::Command<'a>, Alloc
         ))?
         .arg(option_argument(alloc, CERT, ValueParser::string()))?
         .arg(option_argument(alloc, RUN, ValueParser::string()))?
+        .arg(option_argument(alloc, STATIONS, ValueParser::unsigned(1, MAX_STATIONS)))?
         .arg(option_argument(alloc, QUERY, query_values()))?
         .arg(option_argument(alloc, NUMBER, ValueParser::unsigned(0, MAX_NUMBER)))
 }

@@ -4,21 +4,22 @@ ghost use Rattle.std.specs.Prelude.{◌≡◌, ◌||◌, IfOk, IfSome, IsTrue, i
 ghost use Rattle.clap.specs.Words.{first_value, found_of};
 ghost use Rattle.std.specs.List.{list_all, list_any};
 ghost use Rattle.std.specs.Str.{bytes_eq};
-ghost use Rattle.ilk_words.specs.Commands.{check_command, columns_of, export_command, query_of};
-ghost use Rattle.ilk_words.specs.Commands.{replay_command, verify_command};
+ghost use Rattle.ilk_words.specs.Commands.{audit_command, check_command, columns_of, demo_command, drive_command};
+ghost use Rattle.ilk_words.specs.Commands.{export_command, make_command, query_of, replay_command, rup_command};
+ghost use Rattle.ilk_words.specs.Commands.{table_command, verify_command};
 ghost use Rattle.ilk_words.specs.Limits.{has_option_limits};
 ghost use Rattle.ilk_words.specs.Options.{conflicts_option, depth_option, number_of_option};
-ghost use Rattle.ilk_words.specs.Options.{number_option};
+ghost use Rattle.ilk_words.specs.Options.{number_option, stations_option};
 ghost use Rattle.ilk_words.specs.Words.{command_of, command_on, has_only, on_line};
 
 use crate::line::{
-    CERT, CHECK, COLUMNS, CONFLICTS, DEPTH, EXPORT, NUMBER, OPTIONS, QUERY, REPLAY, RUN, VERIFY,
-    line_command,
+    AUDIT, CERT, CHECK, COLUMNS, CONFLICTS, DEMO, DEPTH, DRIVE, EXPORT, MAKE, NUMBER, OPTIONS,
+    QUERY, REPLAY, RUN, RUP, STATIONS, TABLE, VERIFY, line_command,
 };
 use crate::number::number_between;
 use crate::{
     Columns, Command, DEFAULT_DEPTH, DEFAULT_SEARCH_CONFLICTS, MAX_DEPTH, MAX_NUMBER,
-    MAX_SEARCH_CONFLICTS, QueryKind,
+    MAX_SEARCH_CONFLICTS, MAX_STATIONS, QueryKind,
 };
 use clap::ArgMatches;
 use clap::error::ErrorKind;
@@ -48,8 +49,14 @@ fn chosen(alloc: Global, matches: &ArgMatches<'_>) -> Result<Option<Command>, Al
     match matches.get_str("command") {
         Some(CHECK) => Ok(check(matches)),
         Some(VERIFY) => verify(alloc, matches),
+        Some(AUDIT) => audit(alloc, matches),
         Some(REPLAY) => replay(alloc, matches),
+        Some(MAKE) => Ok(make(matches)),
+        Some(DEMO) => demo(alloc, matches),
+        Some(TABLE) => Ok(table(matches)),
         Some(EXPORT) => Ok(export(matches)),
+        Some(RUP) => rup(alloc, matches),
+        Some(DRIVE) => drive(alloc, matches),
         _ => Ok(None),
     }
 }
@@ -89,6 +96,20 @@ fn verify(alloc: Global, matches: &ArgMatches<'_>) -> Result<Option<Command>, Al
     }))
 }
 
+// Audit, where its options are on the line and no other is.
+fn audit(alloc: Global, matches: &ArgMatches<'_>) -> Result<Option<Command>, AllocError>
+    ensures { IfOk result (λ c. c ≡ on_line (first_value (found_of matches.now)) audit_command) }
+{
+    if !has_only(matches, &[COLUMNS, CERT]) {
+        return Ok(None);
+    }
+    let (Some(columns), Some(cert)) = (columns(matches), matches.get_str(CERT)) else {
+        return Ok(None);
+    };
+    let cert = Text::of(String::from_str(alloc, cert)?);
+    Ok(Some(Command::Audit { columns, cert }))
+}
+
 // Replay, where its options are on the line and no other is.
 fn replay(alloc: Global, matches: &ArgMatches<'_>) -> Result<Option<Command>, AllocError>
     ensures { IfOk result (λ c. c ≡ on_line (first_value (found_of matches.now)) replay_command) }
@@ -101,6 +122,52 @@ fn replay(alloc: Global, matches: &ArgMatches<'_>) -> Result<Option<Command>, Al
     };
     let run = Text::of(String::from_str(alloc, run)?);
     Ok(Some(Command::Replay { columns, run }))
+}
+
+// Make, where its option is on the line and no other is.
+fn make(matches: &ArgMatches<'_>) -> Option<Command>
+    ensures { result ≡ on_line (first_value (found_of matches.now)) make_command }
+{
+    if !has_only(matches, &[STATIONS]) {
+        return None;
+    }
+    let stations = stations(matches)?;
+    Some(Command::Make { stations })
+}
+
+// Demo, where its options are on the line and no other is.
+fn demo(alloc: Global, matches: &ArgMatches<'_>) -> Result<Option<Command>, AllocError>
+    ensures { IfOk result (λ c. c ≡ on_line (first_value (found_of matches.now)) demo_command) }
+{
+    if !has_only(matches, &[STATIONS, DEPTH, CONFLICTS, CERT]) {
+        return Ok(None);
+    }
+    let (Some(stations), Some(depth), Some(conflicts), Some(cert)) = (
+        stations(matches),
+        depth(matches),
+        conflicts(matches),
+        matches.get_str(CERT),
+    ) else {
+        return Ok(None);
+    };
+    let cert = Text::of(String::from_str(alloc, cert)?);
+    Ok(Some(Command::Demo {
+        stations,
+        depth,
+        conflicts,
+        cert,
+    }))
+}
+
+// Table, where no other option than its own is on the line.
+fn table(matches: &ArgMatches<'_>) -> Option<Command>
+    ensures { result ≡ on_line (first_value (found_of matches.now)) table_command }
+{
+    if !has_only(matches, &[COLUMNS]) {
+        return None;
+    }
+    let columns = columns(matches)?;
+    Some(Command::Table { columns })
 }
 
 // Export, where its options are on the line, no other is, and there is such a query.
@@ -121,6 +188,47 @@ fn export(matches: &ArgMatches<'_>) -> Option<Command>
         query,
         number,
     })
+}
+
+// Rup, where its options are on the line, no other is, and there is such a query.
+fn rup(alloc: Global, matches: &ArgMatches<'_>) -> Result<Option<Command>, AllocError>
+    ensures { IfOk result (λ c. c ≡ on_line (first_value (found_of matches.now)) rup_command) }
+{
+    if !has_only(matches, &[COLUMNS, QUERY, NUMBER, CERT]) {
+        return Ok(None);
+    }
+    let (Some(columns), Some(query), Some(number), Some(cert)) = (
+        columns(matches),
+        query(matches),
+        number(matches),
+        matches.get_str(CERT),
+    ) else {
+        return Ok(None);
+    };
+    if !query.has_number(number) {
+        return Ok(None);
+    }
+    let cert = Text::of(String::from_str(alloc, cert)?);
+    Ok(Some(Command::Rup {
+        columns,
+        query,
+        number,
+        cert,
+    }))
+}
+
+// Drive, where its options are on the line and no other is.
+fn drive(alloc: Global, matches: &ArgMatches<'_>) -> Result<Option<Command>, AllocError>
+    ensures { IfOk result (λ c. c ≡ on_line (first_value (found_of matches.now)) drive_command) }
+{
+    if !has_only(matches, &[COLUMNS, RUN]) {
+        return Ok(None);
+    }
+    let (Some(columns), Some(run)) = (columns(matches), matches.get_str(RUN)) else {
+        return Ok(None);
+    };
+    let run = Text::of(String::from_str(alloc, run)?);
+    Ok(Some(Command::Drive { columns, run }))
 }
 
 // Whether no option is on the line but these.
@@ -179,6 +287,14 @@ fn conflicts(matches: &ArgMatches<'_>) -> Option<u64>
         Some(value) => number_between(value, 0, MAX_SEARCH_CONFLICTS),
         None => Some(DEFAULT_SEARCH_CONFLICTS),
     }
+}
+
+// How many stations are made. None where the line doesn't say.
+fn stations(matches: &ArgMatches<'_>) -> Option<u32>
+    ensures { result ≡ number_of_option (first_value (found_of matches.now)) stations_option }
+{
+    let stations = number_between(matches.get_str(STATIONS)?, 1, MAX_STATIONS)?;
+    Some(stations as u32)
 }
 
 // The kind of the query. None where the line doesn't say.

@@ -1,5 +1,6 @@
-//! `irv`: checks a configuration of an interlocking, decides whether it is safe, replays runs over it, and writes
-//! its formulas for other solvers.
+//! `irv`: checks a configuration of an interlocking, decides whether it is safe and checks the certificate of that,
+//! replays runs and drives scenarios over it, makes the table of its routes, writes its formulas for other solvers
+//! and checks their refutations, and makes configurations for trials.
 #![tactic(auto)]
 
 ghost use Rattle.std.specs.Prelude.{◌≡◌};

@@ -5,7 +5,7 @@ use Rattle.ilk_top.proofs.pieces.read_pieces.Given as goal
 abbrev pub invariant-loop-n : goal.invariant-loop-n
 invariant-loop-n g l =
     record {
-      fed : Fed (g.S.Source.left l.initial.source) (g.S.Source.left l.source) l.reader l.count;
+      fed : Fed (g.S.Source.left l.initial.source) (g.S.Source.left l.source) l.initial.reader l.reader l.count;
       within : l.count ≤ l.limit;
       unraised : g.S.Source.faults l.source ≡ g.S.Source.faults l.initial.source;
     }

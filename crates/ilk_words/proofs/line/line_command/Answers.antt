@@ -2,7 +2,7 @@ use Rattle.std.proofs.Common.{ap, codes}
 use Rattle.std.proofs.lemmas.Result.{IfOk-weaker}
 use Rattle.clap.specs.Words.{new_app, with_rule}
 use Rattle.ilk_words.specs.Line.{app, command_rule, option_rule}
-use Rattle.ilk_words.specs.Options.{cert_option, columns_option, conflicts_option, depth_option, number_option, query_option, run_option}
+use Rattle.ilk_words.specs.Options.{cert_option, columns_option, conflicts_option, depth_option, number_option, query_option, run_option, stations_option}
 use Rattle.ilk_words.specs.Places.{moved_app, with_held_texts}
 use Rattle.ilk_words.proofs.Places.{with_argument, with_option}
 use Rattle.ilk_words.proofs.line.line_command.Goals as goal
@@ -22,6 +22,8 @@ returns c =
     let line-5 = with_rule line-4 (option_rule cert_option) in
     let run = with_option c.in_ok-arg-5.field-0 c.in_ok-arg-6.field-0 c.option_argument-5.result line-5 run_option c.string-2.result c.in_ok-arg-6.ensures c.option_argument-5.ensures.local c.option_argument-5.ensures.rule (ap with_held_texts c.string-2.ensures) cert in
     let line-6 = with_rule line-5 (option_rule run_option) in
-    let query = with_option c.in_ok-arg-6.field-0 c.in_ok-arg-7.field-0 c.option_argument-6.result line-6 query_option c.query_values.result c.in_ok-arg-7.ensures c.option_argument-6.ensures.local c.option_argument-6.ensures.rule c.query_values.ensures run in
-    let line-7 = with_rule line-6 (option_rule query_option) in
-    IfOk-weaker c.arg-8.result _ _ (λ m h. with_option c.in_ok-arg-7.field-0 m c.option_argument-7.result line-7 number_option c.unsigned-3.result h c.option_argument-7.ensures.local c.option_argument-7.ensures.rule (ap with_held_texts c.unsigned-3.ensures) query) c.arg-8.ensures
+    let stations = with_option c.in_ok-arg-6.field-0 c.in_ok-arg-7.field-0 c.option_argument-6.result line-6 stations_option c.unsigned-3.result c.in_ok-arg-7.ensures c.option_argument-6.ensures.local c.option_argument-6.ensures.rule (ap with_held_texts c.unsigned-3.ensures) run in
+    let line-7 = with_rule line-6 (option_rule stations_option) in
+    let query = with_option c.in_ok-arg-7.field-0 c.in_ok-arg-8.field-0 c.option_argument-7.result line-7 query_option c.query_values.result c.in_ok-arg-8.ensures c.option_argument-7.ensures.local c.option_argument-7.ensures.rule c.query_values.ensures stations in
+    let line-8 = with_rule line-7 (option_rule query_option) in
+    IfOk-weaker c.arg-9.result _ _ (λ m h. with_option c.in_ok-arg-8.field-0 m c.option_argument-8.result line-8 number_option c.unsigned-4.result h c.option_argument-8.ensures.local c.option_argument-8.ensures.rule (ap with_held_texts c.unsigned-4.ensures) query) c.arg-9.ensures

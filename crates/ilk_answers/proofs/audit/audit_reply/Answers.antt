@@ -1,0 +1,31 @@
+use Rattle.std.proofs.Common.{◌<◌, ◌^◌, inl, inr, length, ap, ◌∙◌, subst, arith}
+use Rattle.ilk_behave.specs.Behaviour.{system_of}
+use Rattle.ilk_queries.specs.Goal.{goal_of}
+use Rattle.ilk_plant_audit.specs.Audited.{EndsFor}
+use Rattle.ilk_cert_audit.specs.declared.answers.Ended.{Ended}
+use Rattle.ilk_cert_audit.specs.declared.answers.Ended.TheVariants.{Accepted, Rejected}
+use Rattle.ilk_answers.specs.Report.{reply}
+use Rattle.ilk_answers.specs.declared.status.Status.TheVariants.{Good, Rejected as IsRejected}
+use Rattle.ilk_answers.proofs.audit.audit_reply.Goals as goal
+
+pub returns-in_ok-text-in-Accepted-clause-reply : goal.returns-in_ok-text-in-Accepted-clause-reply
+returns-in_ok-text-in-Accepted-clause-reply c bytes fed short =
+    let p = c.args.plant.now in
+    let ends : EndsFor p bytes (Accepted c.in-Accepted.k) = subst (λ (e : Ended). EndsFor p bytes e) c.in-Accepted.is (c.end.ensures p bytes fed) in
+    inl (record {
+      k = c.in-Accepted.k;
+      certificate = ends;
+      safe = c.certificates_are_right.ensures c.in-Accepted.k bytes ends;
+      reply = c.of.ensures ∙ ap (reply Good) c.in_ok-text-in-Accepted.ensures;
+    })
+
+pub returns-in_ok-text-in-Rejected-clause-reply : goal.returns-in_ok-text-in-Rejected-clause-reply
+returns-in_ok-text-in-Rejected-clause-reply c bytes fed short =
+    let p = c.args.plant.now in
+    let ends : EndsFor p bytes (Rejected c.in-Rejected.line) = subst (λ (e : Ended). EndsFor p bytes e) c.in-Rejected.is (c.end.ensures p bytes fed) in
+    let fits : length bytes < 2 ^ 63 = grind (arith, short) in
+    inr (record {
+      line = c.in-Rejected.line;
+      first = c.numbers_fit.ensures (system_of p) (goal_of p) bytes c.in-Rejected.line fits ends;
+      reply = c.of-in-Rejected.ensures ∙ ap (reply IsRejected) c.in_ok-text-in-Rejected.ensures;
+    })

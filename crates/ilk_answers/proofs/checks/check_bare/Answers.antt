@@ -1,0 +1,28 @@
+use Rattle.std.proofs.Common.{◌≡◌, IfOk, List, sym, ap, ◌∙◌, subst}
+use Rattle.ilk_plant.specs.Draft.{numbered}
+use Rattle.ilk_plant.specs.Plant.{PlantLists}
+use Rattle.ilk_plant.specs.Sound.{AreSound}
+use Rattle.ilk_plant.specs.declared.draft.RouteDraft.{RouteDraft}
+use Rattle.ilk_plant.specs.declared.draft.TableDraft.{TableDraft}
+use Rattle.ilk_tablegen.specs.Rules.{no_routes}
+use Rattle.ilk_answers.specs.Answer.{or_refused, refusals_of}
+use Rattle.ilk_answers.specs.Stages.{borders_broken}
+use Rattle.ilk_answers.proofs.checks.check_bare.Goals as goal
+
+pub of_numbered-requires : goal.of_numbered-requires
+of_numbered-requires c =
+    let table : List RouteDraft → TableDraft = λ routes. record { routes = routes } in
+    let bare : AreSound c.args.net.now no_routes = c.bare_network_is_sound.ensures c.args.net.now c.requires.limits c.requires.network in
+    record {
+      net = c.args.net.now;
+      table = table c.new.result;
+      sound = subst (λ routes. AreSound c.args.net.now (table routes)) (sym c.new.ensures) bare;
+      same = c.in_ok-drafts.ensures;
+    }
+
+pub returns : goal.returns
+returns c =
+    let table : List RouteDraft → TableDraft = λ routes. record { routes = routes } in
+    let is : c.in_ok-of_numbered.field-0 ≡ numbered c.args.net.now no_routes = c.in_ok-of_numbered.ensures ∙ c.in_ok-drafts.ensures ∙ ap (λ routes. numbered c.args.net.now (table routes)) c.new.ensures in
+    let Found : PlantLists → Type 0 = λ p. IfOk c.check_plant_borders.result (λ found. found ≡ or_refused (refusals_of (borders_broken c.args.columns p)) p) in
+    subst Found is c.check_plant_borders.ensures

@@ -1,0 +1,39 @@
+-- What is answered where made stations are asked for, and no configuration is read.
+use Rattle.std.specs.Prelude.{ℕ, ◌≡◌, ◌⊎◌, ◌++◌, List, [], ◌∷◌, codes, decimal, length}
+use Rattle.ilk_plant.specs.Draft.{numbered}
+use Rattle.ilk_plant.specs.Plant.{PlantLists}
+use Rattle.ilk_engine.specs.CertificateOf.{IsCertificateOf}
+use Rattle.ilk_engine.specs.declared.verdict.Verdict.{Verdict}
+use Rattle.ilk_engine.specs.declared.verdict.Verdict.TheVariants.{Safe, Spent}
+use Rattle.ilk_gen.specs.StationRoutes.{stations_table}
+use Rattle.ilk_gen.specs.Stations.{stations_net}
+use Rattle.ilk_gen.specs.StationsText.{stations_text}
+use Rattle.ilk_answers.specs.Report.{reply}
+use Rattle.ilk_answers.specs.Verdicts.{verdict_line, verdict_status}
+use Rattle.ilk_answers.specs.declared.reply.Reply.{Reply}
+use Rattle.ilk_answers.specs.declared.status.Status.TheVariants.{Good}
+
+-- the configuration of n stations
+abbrev pub make_reply : ℕ → Reply
+make_reply n = reply Good (stations_text n ++ 10 ∷ [])
+
+-- its plant
+abbrev pub stations_plant : ℕ → PlantLists
+stations_plant n = numbered (stations_net n) (stations_table n)
+
+-- the line that tells the verdict on the plant of n stations
+abbrev pub demo_line : ℕ → ℕ → Verdict → List ℕ
+demo_line n conflicts verdict =
+    codes "stations=" ++ (decimal n
+    ++ (codes " sections=" ++ (decimal (length (stations_plant n).sections)
+    ++ (codes " routes=" ++ (decimal (length (stations_plant n).routes)
+    ++ (codes " " ++ verdict_line (stations_plant n) conflicts verdict))))))
+
+-- a reply tells the verdict on the plant of n stations: it is safe with k = 1, or all conflicts are spent; and what is
+-- written besides is the certificate for that
+pub record TellsDemo (n depth conflicts : ℕ) (made : Reply) : Type 0 where
+  pub verdict : Verdict
+  pub safe : (verdict ≡ Safe 1) ⊎ (verdict ≡ Spent)
+  pub certificate : IsCertificateOf (stations_plant n) depth conflicts verdict made.certificate
+  pub status : made.status ≡ verdict_status verdict
+  pub report : made.report ≡ demo_line n conflicts verdict

@@ -1,0 +1,84 @@
+ghost use Rattle.std.specs.Prelude.{◌≡◌, ◌<◌, ◌≤◌, [], IfOk, IsTrue, string_bytes};
+ghost use Rattle.ilk_gen.specs.declared.making.TheConstants.{MAX_STATIONS};
+ghost use Rattle.ilk_answers.specs.Made.{TellsDemo, demo_line, make_reply, stations_plant};
+ghost use Rattle.ilk_answers.specs.Status.{is_reply};
+
+use crate::report::verdict_line;
+use crate::verify::verdict_status;
+use crate::{Content, Reply, Status};
+use ilk_engine::{Verdict, certificate, decide};
+use ilk_gen::{stations, stations_break_no_rule, stations_plant};
+use ilk_plant::Plant;
+use std::alloc::{AllocError, Global};
+
+/// The reply that has the configuration of `n` stations, from 1 to 16. The only error is want of
+/// memory.
+pub fn make_reply(alloc: Global, n: u32) -> Result<Reply, AllocError>
+    requires some { 1 ≤ n }
+    requires few { n ≤ MAX_STATIONS }
+    ensures reply { IfOk result (λ made. made ≡ make_reply n) }
+    ensures planned { IfOk result (λ made. IsTrue (is_reply made.status) × (made.certificate ≡ [])) }
+{
+    let mut text = stations(alloc, n)?;
+    text.push(b'\n')?;
+    Ok(Reply::of_bytes(alloc, Status::Good, text))
+}
+
+// The line that tells the verdict on the plant of `n` stations.
+fn demo_line(
+    alloc: Global,
+    plant: &Plant,
+    n: u32,
+    conflicts: u64,
+    verdict: &Verdict,
+) -> Result<String, AllocError>
+    requires { plant.now ≡ stations_plant n }
+    ensures { IfOk result (λ line. string_bytes line ≡ demo_line n conflicts verdict.now) }
+{
+    let sections = plant.sections();
+    let routes = plant.routes();
+    let line = verdict_line(alloc, plant, conflicts, verdict)?;
+    let line = line.as_str();
+    format!(in alloc; "stations={n} sections={sections} routes={routes} {line}")
+}
+
+// The reply that tells the verdict on the plant of `n` stations.
+fn verdict_reply(
+    alloc: Global,
+    plant: &Plant,
+    n: u32,
+    depth: u32,
+    conflicts: u64,
+) -> Result<Reply, AllocError>
+    requires some { 1 ≤ n }
+    requires few { n ≤ MAX_STATIONS }
+    requires some_depth { 0 < depth }
+    requires depth { depth ≤ 16 }
+    requires plant { plant.now ≡ stations_plant n }
+    ensures { IfOk result (TellsDemo n depth conflicts) }
+{
+    plant.is_sound();
+    stations_break_no_rule(n);
+    let found = decide(alloc, plant, depth, conflicts)?;
+    let text = certificate(alloc, &found)?;
+    let line = demo_line(alloc, plant, n, conflicts, &found.verdict)?;
+    Ok(Reply {
+        status: verdict_status(&found.verdict),
+        report: Content::of(line.into_bytes()),
+        certificate: Content::of(text),
+    })
+}
+
+/// The reply that tells the verdict on the plant of `n` stations, from 1 to 16, by runs of at most
+/// `depth` events, from 1 to 16, and searches that take at most so many conflicts. The only error is
+/// want of memory.
+pub fn demo_reply(alloc: Global, n: u32, depth: u32, conflicts: u64) -> Result<Reply, AllocError>
+    requires some { 1 ≤ n }
+    requires few { n ≤ MAX_STATIONS }
+    requires some_depth { 0 < depth }
+    requires depth { depth ≤ 16 }
+    ensures { IfOk result (TellsDemo n depth conflicts) }
+{
+    let plant = stations_plant(alloc, n)?;
+    verdict_reply(alloc, &plant, n, depth, conflicts)
+}
