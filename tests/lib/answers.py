@@ -9,22 +9,29 @@ import program as programs
 
 NUMBER = "(?:0|[1-9][0-9]*)"
 HAZARD = "(?:two|wrong) [A-Za-z0-9_-]{1,32}"
-VERDICT = re.compile(rf"safe k=(?:[1-9]|1[0-6])|unsafe steps={NUMBER} hazard={HAZARD}"
+STATIONS = rf"stations={NUMBER} sections={NUMBER} routes={NUMBER} "
+VERDICT = re.compile(rf"(?:{STATIONS})?(?:safe k=(?:[1-9]|1[0-6])|unsafe steps={NUMBER} hazard={HAZARD}"
                      rf"|not inductive steps={NUMBER}|breach steps={NUMBER} family=V[1-9]"
-                     rf"|spent conflicts={NUMBER}")
+                     rf"|spent conflicts={NUMBER})")
+LARGE_FILE = 2 ** 24
 STATUS_OF = {"safe": 0, "unsafe": 1, "not": 2, "breach": 3, "spent": 4}
+
+
+def judgement(line):
+    """A verdict without what demo prints before it."""
+    return re.sub(f"^{STATIONS}", "", line)
 
 
 def kind_of(verdict):
     """The first word of a verdict."""
-    return verdict.split(" ")[0]
+    return judgement(verdict).split(" ")[0]
 
 
 def certificate_of(verdict):
     """The second line of the certificate that comes with a verdict, or nothing."""
     if kind_of(verdict) not in ("safe", "spent"):
         return None
-    return f"{kind_of(verdict)} {verdict.partition('=')[2]}"
+    return f"{kind_of(verdict)} {judgement(verdict).partition('=')[2]}"
 
 
 def columns(case):
@@ -88,26 +95,31 @@ def certificate_faults(program, case, folder, wanted, text):
         yield f"no certificate of {wanted}: {fault}"
 
 
+def content(path):
+    """The bytes of a file, or its length where it has very many."""
+    size = path.stat().st_size
+    return path.read_bytes() if size <= LARGE_FILE else size
+
+
 def files_in(folder):
     """The files of a case's folder, with their bytes."""
-    return {str(path.relative_to(folder)): path.read_bytes()
-            for path in folder.rglob("*") if path.is_file()}
+    return {str(path.relative_to(folder)): content(path) for path in folder.rglob("*") if path.is_file()}
 
 
-def file_faults(program, case, folder, output):
+def file_faults(program, case, folder, output, before):
     """What is wrong with the files after a call: there is the certificate, if one is due, and besides
-    all is as it was."""
+    all is as it was before."""
     wanted = case.certificate
     if case.verdicts:
         wanted = certificate_of(output.partition(b"\n")[0].decode())
-    files, before = files_in(folder), dict(case.files)
+    files, before = files_in(folder), dict(before)
     if wanted is not None:
         name = programs.option(case.words, "--cert")
         before.pop(name, None)
-        text = files.pop(name, None)
-        if text is None:
+        if files.pop(name, None) is None:
             yield f"no certificate in {name}"
         else:
+            text = (folder / name).read_bytes()
             yield from certificate_faults(program, case, folder, wanted, text)
     for name in sorted(files.keys() | before.keys()):
         if files.get(name) != before.get(name):

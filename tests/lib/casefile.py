@@ -6,6 +6,7 @@ from pathlib import Path
 
 import conf
 import runs
+import tablegen
 
 ROOT = Path(__file__).resolve().parent.parent.parent
 EXAMPLES = ROOT / "examples"
@@ -14,7 +15,7 @@ CASES = ROOT / "tests" / "cases"
 STANDARD_ERROR = {7: b"irv: usage\n", 8: b"irv: read fault\n",
                   9: b"irv: write fault\n", 10: b"irv: out of memory\n"}
 STATUSES = set(range(11))
-KEYS = {"why", "words", "conf", "replace", "replace all", "pad", "file", "folder",
+KEYS = {"why", "before", "words", "conf", "replace", "replace all", "pad", "file", "folder", "sparse",
         "stdout", "stderr", "status", "output", "closed", "memory", "verdict", "certificate", "formula"}
 
 
@@ -29,6 +30,7 @@ class Case:
         self.name = name
         self.where = where
         self.why = None
+        self.before = []
         self.words = None
         self.conf = None
         self.conf_is_folder = False
@@ -37,6 +39,7 @@ class Case:
         self.memory_mebibytes = None
         self.files = {}
         self.folders = []
+        self.sparse = {}
         self.stdout = None
         self.stderr = None
         self.status = None
@@ -166,6 +169,12 @@ def streams_of(value):
     return streams
 
 
+def sparse_file(value):
+    """The length of a file and the bytes that it begins with; the rest is a hole, which is read as zeros."""
+    size, _, beginning = value.partition(" ")
+    return int(size), unescape(beginning)
+
+
 def apply_key(case, key, value, block):
     """Takes one key of a case file into a case."""
     word, _, rest = key.partition(" ")
@@ -173,10 +182,14 @@ def apply_key(case, key, value, block):
         case.files[rest] = given_bytes(value, block)
     elif word == "folder" and rest:
         case.folders.append(rest)
+    elif word == "sparse" and rest:
+        case.sparse[rest] = sparse_file(value)
     elif key not in KEYS:
         raise ValueError(f"no such key: {key}")
     elif key == "why":
         case.why = value
+    elif key == "before":
+        case.before.append(shlex.split(value))
     elif key == "words":
         case.words = shlex.split(value)
     elif key == "conf":
@@ -186,6 +199,8 @@ def apply_key(case, key, value, block):
         case.conf = replaced(case.conf, value, key == "replace all")
     elif key == "pad":
         case.conf = padded(case.conf, int(value))
+    elif key == "stdout" and value == "table found" and not block:
+        case.stdout = conf.printed(tablegen.with_routes(json.loads(case.conf)))
     elif key in ("stdout", "stderr"):
         setattr(case, key, given_bytes(value, block))
     elif key == "status":

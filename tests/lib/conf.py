@@ -186,7 +186,44 @@ def made_stations(count):
     for one in routes:
         one["conflicts"] = [other["name"] for other in routes
                             if other is not one and set(other["path"]) & set(one["path"])]
-    return document(sections, routes)
+    return sections, routes
+
+
+def loop_sections(number, before, behind):
+    """A loop of two tracks without boards between two points, joined at both ends to these."""
+    u, p, q, w = (f"{letter}{number}" for letter in "upqw")
+    return [point(u, "up", before, p, q), linear(p, u, w, ".", "."), linear(q, u, w, ".", "."),
+            point(w, "down", behind, p, q)]
+
+
+def made_loops(count, groups):
+    """That many loops without boards in a row, between lines with boards, and that so many times: the
+    number of ways from line to line doubles at each loop."""
+    every = count * groups
+    sections = [linear("l0", ".", "u0", ".", "l0U")]
+    for number in range(every):
+        line = number // count + 1
+        before = f"l{line - 1}" if number % count == 0 else f"w{number - 1}"
+        is_last = (number + 1) % count == 0
+        sections += loop_sections(number, before, f"l{line}" if is_last else f"u{number + 1}")
+        if is_last:
+            behind = f"u{number + 1}" if number + 1 < every else "."
+            sections.append(linear(f"l{line}", f"w{number}", behind, f"l{line}D",
+                                   "." if behind == "." else f"l{line}U"))
+    return document(sections, [])
+
+
+def printed(document):
+    """A configuration's bytes as the program prints them: the members in the order of their names, and a
+    line feed."""
+    return json.dumps(document, sort_keys=True, separators=(",", ":")).encode() + b"\n"
+
+
+def stations_text(count, form=None):
+    """The configuration of that many stations; `bare` has no routes, and `printed` is as `make` prints it."""
+    sections, routes = made_stations(count)
+    text = document(sections, [] if form == "bare" else routes)
+    return printed(json.loads(text)) if form == "printed" else text
 
 
 def made(kind, *words):
@@ -201,6 +238,8 @@ def made(kind, *words):
         return made_routes(int(words[0]), words[1])
     if kind == "largest":
         return made_largest()
+    if kind == "loops":
+        return made_loops(int(words[0]), int(words[1]))
     if kind == "stations":
-        return made_stations(int(words[0]))
+        return stations_text(int(words[0]), *words[1:])
     raise ValueError(f"nothing made so: {kind}")

@@ -4,6 +4,7 @@ import json
 import re
 
 import answers
+import conf
 import program
 import trials
 from casefile import EXAMPLES, STATUSES, CaseError
@@ -11,16 +12,24 @@ from casefile import EXAMPLES, STATUSES, CaseError
 RULES = ["F1", "F2", "F3", "F4", "F5", "F6",
          "N1", "N2", "N3", "N4", "N5", "N6", "N7", "N8",
          "R1", "R2", "R3", "R4", "R5", "R6", "R7", "R8",
-         "C1", "C2", "C3", "C4", "C5", "C6", "C7", "C8"]
+         "C1", "C2", "C3", "C4", "C5", "C6", "C7", "C8", "G1", "G2"]
 NAME = "[A-Za-z0-9_-]{1,32}"
 REFUSED = re.compile(r"refused ([A-Z][0-9]) "
                      r"(document|extra|[a-z]+\[[0-9]+\](?: routes\[[0-9]+\])?)")
 PLACES = {"N1": "sections", "N2": "boards", "N3": "sections", "N4": "sections", "N5": "sections",
-          "N6": "sections", "N7": "sections", "N8": "sections", "C7": "sections"}
+          "N6": "sections", "N7": "sections", "N8": "sections", "C7": "sections",
+          "G1": "boards", "G2": "document"}
+HAZARD = f"hazard (two|wrong) {NAME}"
+STEPS = rf" steps=(0|[1-9][0-9]*)\nrun 1\nstart\n([a-z]+ {NAME}\n)*end\n"
 REPORTS = {
-    0: re.compile(rf"clean\n|hazard (two|wrong) {NAME}\n"),
-    6: re.compile(r"no hazard\n|not a run at [1-9][0-9]*\n|rejected line [1-9][0-9]*\n"),
+    0: re.compile(rf"clean\n|{HAZARD}\n|accepted k=([1-9]|1[0-6])\n|driven{STEPS}"
+                  rf"|refuted (hazard|breach|step) (0|[1-9][0-9]*)\n|{answers.STATIONS}safe k=1\n"),
+    1: re.compile(rf"{HAZARD}{STEPS}"),
+    6: re.compile(r"no hazard\n|not a run at [1-9][0-9]*\n|rejected (line|item) [1-9][0-9]*\n"
+                  rf"|stuck at [1-9][0-9]*{STEPS}"),
 }
+PRINTS_CONFIGURATIONS = ("make", "table")
+CERTIFIES = ("verify", "demo")
 
 
 def entry_of(case, line):
@@ -54,12 +63,29 @@ def check_answer(case):
     for verdict in case.verdicts:
         if not answers.VERDICT.fullmatch(verdict):
             raise CaseError(f"{case.where}: {case.name}: no verdict: {verdict!r}")
-    command = "export" if case.has_formula else "verify"
+    commands = ("export",) if case.has_formula else CERTIFIES
     due = case.verdicts or case.has_formula or case.certificate
-    if due and command not in case.words:
-        raise CaseError(f"{case.where}: {case.name}: not an answer of {command}")
+    if due and not any(command in case.words for command in commands):
+        raise CaseError(f"{case.where}: {case.name}: not an answer of {' or '.join(commands)}")
     if (case.verdicts or case.certificate) and program.option(case.words, "--cert") is None:
         raise CaseError(f"{case.where}: {case.name}: no file for the certificate")
+
+
+def is_printed(text):
+    """Whether a text is a configuration as the program prints it."""
+    return text == conf.printed(json.loads(text))
+
+
+def check_report(case):
+    """What is printed is a report of the status, and what has a report is printed."""
+    if any(command in case.words for command in PRINTS_CONFIGURATIONS) and case.status == 0:
+        if not is_printed(case.stdout):
+            raise CaseError(f"{case.where}: {case.name}: not as a configuration is printed")
+    elif case.status in REPORTS:
+        if not REPORTS[case.status].fullmatch(case.stdout.decode()):
+            raise CaseError(f"{case.where}: {case.name}: no report: {case.stdout!r}")
+    elif case.stdout:
+        raise CaseError(f"{case.where}: {case.name}: output with status {case.status}")
 
 
 def check_case(case):
@@ -67,15 +93,12 @@ def check_case(case):
     check_answer(case)
     if case.stdout is None:
         return
-    if case.status not in STATUSES or 0 < case.status < 5:
+    if case.status not in STATUSES or 1 < case.status < 5:
         raise CaseError(f"{case.where}: {case.name}: no such status: {case.status}")
     if case.status == 5:
         check_refusals(case)
-    elif case.status in REPORTS:
-        if not REPORTS[case.status].fullmatch(case.stdout.decode()):
-            raise CaseError(f"{case.where}: {case.name}: no report: {case.stdout!r}")
-    elif case.stdout:
-        raise CaseError(f"{case.where}: {case.name}: output with status {case.status}")
+    else:
+        check_report(case)
 
 
 def check(cases):

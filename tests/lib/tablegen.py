@@ -96,3 +96,11 @@ def routes(conf):
                            if k != n and not on_path[n].isdisjoint(other)],
              "protecting_points": [], "protecting_boards": []}
             for n, (name, section, direction, path) in enumerate(found)]
+
+
+def with_routes(conf):
+    """The configuration of version 2 with the same network and its routes, of which no rule G is broken."""
+    found = routes(conf)
+    if isinstance(found, str):
+        raise ValueError(f"the routes are refused: {found}")
+    return {"version": 2, "sections": conf["sections"], "routes": found}

@@ -1,0 +1,56 @@
+"""Certificates that verify wrote, and the program's own audits of changes of them."""
+
+import functools
+import os
+import subprocess
+import threading
+
+import exported
+import mutations
+
+STATUS_OF = {"accepted": 0, "rejected": 6}
+SHOWN_BYTES = 120
+
+
+class AuditError(Exception):
+    """A certificate that wasn't written: the message says what came in its place."""
+
+
+class Audit:
+    """A configuration with its certificate, in a folder."""
+
+    def __init__(self, program, conf, folder):
+        self.program, self.conf, self.folder = program, conf, folder
+        self.formula_of = functools.lru_cache(None)(exported.formulas_of(program, conf, "strict"))
+        done = self.call("verify", folder / "certificate")
+        if done.returncode != 0:
+            raise AuditError(f"verify ended with {done.returncode}: {done.stdout!r} {done.stderr!r}")
+        self.certificate = (folder / "certificate").read_bytes()
+
+    def call(self, command, path):
+        """Calls the program with a certificate's file."""
+        return subprocess.run([str(self.program), command, "--cert", str(path)], input=self.conf,
+                              stdout=subprocess.PIPE, stderr=subprocess.PIPE)
+
+    def wanted(self, text):
+        """What has to be answered to a text."""
+        return mutations.answer(self.certificate, text, self.formula_of)
+
+    def answer(self, text):
+        """What the program answers to a text: the line, or what there is in its place."""
+        path = self.folder / f"changed-{os.getpid()}-{threading.get_ident()}"
+        path.write_bytes(text)
+        done = self.call("audit", path)
+        said = done.stdout.decode(errors="replace")
+        if done.stderr or done.returncode != STATUS_OF.get(said.partition(" ")[0]) or said[-1:] != "\n":
+            return f"status {done.returncode}, {said!r} and {done.stderr!r}"
+        return said[:-1]
+
+    def fault(self, text, wanted, got):
+        """A sentence of a wrong answer, with what was changed."""
+        known = mutations.known_lines(self.certificate, text)
+        lines = text.split(b"\n")[known:known + 2]
+        before = self.certificate.split(b"\n")[known:known + 2]
+        shown = [[line[:SHOWN_BYTES] for line in some] for some in (before, lines)]
+        return (f"wanted {wanted}, answered {got}, found {self.wanted(text)}; from line {known + 1} on "
+                f"{shown[0]!r} is {shown[1]!r}")
