@@ -1,5 +1,5 @@
 -- A text, cut at the first byte of a kind.
-use Rattle.std.proofs.Common.{◌≡◌, ℕ, ◌+◌, ◌-◌, ◌<◌, Bool, true, false, Some, None, List, [], ◌∷◌, ◌==◌, length, take, drop, refl, sym, ap, ◌∙◌, arith, position, cond, nat_lt, Err}
+use Rattle.std.proofs.Common.{◌≡◌, ℕ, ◌+◌, ◌<◌, Bool, true, false, Some, None, List, [], ◌∷◌, ◌==◌, length, take, drop, refl, sym, ap, ◌∙◌, arith, position, cond, nat_lt, Err}
 use Rattle.std.specs.List.{position_from, position_or_len, onto_first}
 use Rattle.std.proofs.lemmas.Bool.{ltb-true}
 use Rattle.std.proofs.lemmas.Iterator.Adapters.{position_from-zero}

@@ -1,6 +1,7 @@
 pub mod Cuts
 pub mod Lacking
 pub mod Numbers
+pub mod TakenPieces
 pub mod TextLines
 pub mod LineWords
 pub mod Decimals

@@ -14,6 +14,10 @@
 //! are read by `decimal_up_to`. `push_decimal` writes a number. The laws say that what is written is
 //! read again, and nothing else: `texts_are_their_lines`, `lines_are_their_words`,
 //! `decimals_are_those_written`.
+//!
+//! A long text is taken in pieces, and needn't be held: `Token` has the few bytes of it that were made
+//! last, whose numbers `itoa` writes without memory. `Untaken` is what is left to take of a text that
+//! is held.
 #![tactic(auto)]
 
 mod cursor;
@@ -23,6 +27,8 @@ mod examples;
 mod fault;
 mod laws;
 mod parts;
+mod token;
+mod untaken;
 mod words;
 
 pub use cursor::Lines;
@@ -30,4 +36,6 @@ pub use decimal::{decimal_up_to, is_decimal, push_decimal};
 pub use each::{read_each, read_leading};
 pub use fault::LineFault;
 pub use laws::{decimals_are_those_written, lines_are_their_words, texts_are_their_lines};
+pub use token::Token;
+pub use untaken::Untaken;
 pub use words::{after_start, after_word, first_word, next_word};
