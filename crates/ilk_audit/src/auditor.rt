@@ -41,7 +41,7 @@ fn clauses_of(alloc: Global, cnf: &Cnf) -> Result<Block, AllocError>
 {
     let mut block = Block::new(alloc, cnf.vars())?;
     for number in 0..cnf.clauses() {
-        block.push(cnf.clause(number + 1).as_slice())?;
+        block.push(cnf.clause(number + 1))?;
     }
     Ok(block)
 }

@@ -4,3 +4,4 @@ pub mod Parts
 pub mod Gates
 pub mod Extending
 pub mod SameLiterals
+pub mod Cuts

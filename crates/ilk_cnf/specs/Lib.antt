@@ -4,3 +4,4 @@ pub mod Formula
 pub mod Truth
 pub mod Part
 pub mod Extends
+pub mod Flat

@@ -1,7 +1,6 @@
 ghost use Rattle.std.specs.Prelude.{◌≡◌, ◌<◌, ◌++◌, ◌∷◌, [], length, slice_get, Some, OnOk, OnErr};
 ghost use Rattle.ilk_cnf.specs.Truth.{value, is_true, some_true};
 
-use crate::clause::Clause;
 use crate::lit::Lit;
 use std::alloc::{AllocError, Global};
 use std::marker::Model;
@@ -79,9 +78,9 @@ impl Assignment {
     }
 
     /// Whether some literal of the clause is true.
-    pub fn makes_some(&self, clause: &Clause) -> bool
+    pub fn makes_some(&self, clause: &[Lit]) -> bool
         ensures { result ≡ some_true self.now clause.now }
     {
-        clause.as_slice().iter().any(|lit| self.makes(*lit))
+        clause.iter().any(|lit| self.makes(*lit))
     }
 }

@@ -5,17 +5,19 @@ ghost use Rattle.ilk_cnf.specs.Truth.{satisfies};
 
 use crate::assignment::Assignment;
 use crate::clause::Clause;
+use crate::clause_list::ClauseList;
 use crate::lit::Lit;
 use std::alloc::{AllocError, Global};
 use std::marker::Model;
 
-/// A formula: the variables 1 to `vars`, and clauses over them.
+/// A formula: the variables 1 to `vars`, and clauses over them. In memory it takes 2 bytes for each
+/// variable, 8 for each clause, and 8 for each of its literals.
 #[derive(Drop)]
 pub struct Cnf {
     // One entry for each variable: no two bytes of memory have one number, so there are at most
     // 2^62 of them.
     marks: Vec<u16>,
-    clauses: Vec<Clause>,
+    clauses: ClauseList,
 }
 
 impl Model for Cnf {
@@ -24,9 +26,9 @@ impl Model for Cnf {
 
     ghost Value = { Formula };
 
-    ghost view = { λ c. record { vars = length c.marks.items; clauses = c.clauses.items } };
+    ghost view = { λ c. record { vars = length c.marks.items; clauses = c.clauses } };
 
-    ghost invariant = { λ c. IsFormula (record { vars = length c.marks.items; clauses = c.clauses.items }) };
+    ghost invariant = { λ c. IsFormula (record { vars = length c.marks.items; clauses = c.clauses }) };
 }
 
 impl Cnf {
@@ -36,7 +38,7 @@ impl Cnf {
     {
         Cnf {
             marks: Vec::new(alloc),
-            clauses: Vec::new(alloc),
+            clauses: ClauseList::new(alloc),
         }
     }
 
@@ -57,9 +59,7 @@ impl Cnf {
         ensures ok { OnOk result (self.new ≡ grown self.old self.old.vars (clause ∷ [])) }
         ensures err { OnErr result (self.new ≡ self.old) }
     {
-        let _ = clause.as_slice();
-        self.clauses.push(clause)?;
-        Ok(())
+        self.clauses.push(clause.as_slice())
     }
 
     /// Demands that one of the literals is true: adds the clause that has each of them once, or
@@ -70,7 +70,7 @@ impl Cnf {
         ensures ok { OnOk result (self.new ≡ grown self.old self.old.vars (as_clause lits.now)) }
         ensures err { OnErr result (self.new ≡ self.old) }
     {
-        match Clause::of(*self.clauses.allocator(), lits)? {
+        match Clause::of(*self.marks.allocator(), lits)? {
             Some(clause) => self.add(clause),
             None => Ok(()),
         }
@@ -89,18 +89,18 @@ impl Cnf {
         ensures count { result ≡ length self.now.clauses }
         ensures formula { IsFormula self.now }
     {
-        self.clauses.len() as u64
+        self.clauses.len()
     }
 
     /// Clause `n`, from 1.
-    pub fn clause(&self, n: u64) -> &Clause
+    pub fn clause(&self, n: u64) -> &[Lit]
         requires from_1 { 0 < n }
         requires within { n ≤ length self.now.clauses }
         ensures clause { slice_get self.now.clauses (n - 1) ≡ Some result.now }
         ensures within { IsTrue (clause_in self.now.vars result.now) }
         ensures differ { IsTrue (vars_differ result.now) }
     {
-        &self.clauses[n as usize - 1]
+        self.clauses.at(n - 1)
     }
 
     /// Whether each clause has a literal that the assignment makes true.
@@ -108,6 +108,11 @@ impl Cnf {
         requires { length a.now ≡ self.now.vars }
         ensures { result ≡ satisfies a.now self.now.clauses }
     {
-        self.clauses.iter().all(|clause| a.makes_some(clause))
+        for i in 0..self.clauses.len() {
+            if !a.makes_some(self.clauses.at(i)) {
+                return false;
+            }
+        }
+        true
     }
 }

@@ -20,6 +20,7 @@
 
 mod assignment;
 mod clause;
+mod clause_list;
 mod cnf;
 mod gate;
 mod lit;

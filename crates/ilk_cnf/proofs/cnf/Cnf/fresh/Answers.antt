@@ -6,4 +6,4 @@ pub invariant_of-self-2 : goal.invariant_of-self-2
 invariant_of-self-2 c =
     let more : length c.self.inside.marks.items ≤ length c.push.new.self.items = search rules in
     let numbered : length c.push.new.self.items ≤ 2 ^ 62 = search rules in
-    IsFormula-fresh (record { vars = length c.self.inside.marks.items; clauses = c.self.inside.clauses.items }) (length c.push.new.self.items) c.self.invariant more numbered
+    IsFormula-fresh (record { vars = length c.self.inside.marks.items; clauses = c.self.inside.clauses }) (length c.push.new.self.items) c.self.invariant more numbered
