@@ -34,7 +34,7 @@ fn clauses_of(alloc: Global, cnf: &Cnf) -> Result<Clauses, AllocError>
 {
     let mut clauses = Clauses::new(alloc, cnf.vars())?;
     for c in 0..cnf.clauses() {
-        clauses.add(cnf.clause(c + 1).as_slice())?;
+        clauses.add(cnf.clause(c + 1))?;
     }
     Ok(clauses)
 }

@@ -74,10 +74,10 @@ fn push_values(text: &mut String, a: &Assignment) -> Result<(), AllocError> {
 }
 
 // How many literals each step has, after a text.
-fn push_sizes(text: &mut String, log: &Log) -> Result<(), AllocError> {
+fn push_sizes(alloc: Global, text: &mut String, log: &Log) -> Result<(), AllocError> {
     let steps = log.as_slice();
     for step in steps {
-        text.push_str(match step.clause.len() {
+        text.push_str(match step.unpacked(alloc)?.clause.len() {
             0 => " empty",
             1 => " unit",
             _ => " longer",
@@ -105,7 +105,7 @@ fn search(
         Answer::Unsat => text.push_str("unsat")?,
         Answer::Spent => text.push_str("spent")?,
     }
-    push_sizes(&mut text, &outcome.log)?;
+    push_sizes(alloc, &mut text, &outcome.log)?;
     Ok(text)
 }
 

@@ -99,17 +99,7 @@ fn analysed(
         None => Lits::new(alloc),
     };
     let hints = turned(alloc, hand.hints.as_slice())?;
-    fitted(alloc, &clause, hints)
-}
-
-// The step in memory of just its size: a search keeps many of them.
-fn fitted(alloc: Global, clause: &Lits, hints: Hints) -> Result<Step, AllocError>
-    ensures { IfOk result (λ s. s ≡ record { clause = clause.now; hints = hints }) }
-{
-    Ok(Step {
-        clause: clause.copy(alloc)?,
-        hints,
-    })
+    Ok(Step { clause, hints })
 }
 
 // Clause `conflict` in hand.

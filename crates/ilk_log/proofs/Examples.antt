@@ -9,6 +9,7 @@ use Rattle.ilk_log.specs.Derived.{is_derived, is_derived_log, is_refutation}
 use Rattle.ilk_lines.specs.Words.{words_of}
 use Rattle.ilk_log.specs.StepText.{step_text}
 use Rattle.ilk_log.specs.StepReading.{step_of}
+use Rattle.ilk_log.specs.Packed.{numbers_from, step_told}
 use Rattle.ilk_log.proofs.Words.{step_exactly}
 
 abbrev four : Formula
@@ -87,3 +88,17 @@ space-at-end = refl
 
 great-variable : step_of (words_of (codes "step 4611686018427387905 0 1 0")) ≡ None
 great-variable = refl
+
+-- two literals and two hints in bytes. The literal -12 has the number 22, 22 up from 0: way 44. The
+-- literal 3 has the number 5, 17 down: way 33. The first hint lies 2^32 + 5 up: way 2^33 + 10, in five
+-- bytes. The last lies 6 down: way 11
+packed-bytes : step_told 2 (numbers_from 0 0 (44 ∷ (33 ∷ (160 ∷ (128 ∷ (128 ∷ (128 ∷ (10 ∷ (11 ∷ []))))))))) ≡ record { clause = minus 12 ∷ (plus 3 ∷ []); hints = 4294967306 ∷ (4294967300 ∷ []) }
+packed-bytes = refl
+
+-- 0 is 1 down from 1, and 2^64 - 1 is 1 down from 0
+around-0 : numbers_from 0 0 (2 ∷ (1 ∷ (1 ∷ []))) ≡ 1 ∷ (0 ∷ (18446744073709551615 ∷ []))
+around-0 = refl
+
+-- a number whose last byte isn't there is none
+cut-number : numbers_from 0 0 (2 ∷ (160 ∷ [])) ≡ 1 ∷ []
+cut-number = refl

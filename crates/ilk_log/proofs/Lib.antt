@@ -1,4 +1,7 @@
 pub mod Texts
+pub mod LogTexts
+pub mod Packing
+pub mod Unpacking
 pub mod Words
 pub mod Examples
 pub mod Sound

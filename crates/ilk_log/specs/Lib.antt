@@ -4,3 +4,5 @@ pub mod Conflicts
 pub mod Fresh
 pub mod StepText
 pub mod StepReading
+pub mod TextLeft
+pub mod Packed

@@ -9,7 +9,7 @@ pub fn conflicts_in(log: &Log) -> u64
 {
     let mut count = 0;
     for step in log.as_slice() {
-        if step.clause.len() != 0 {
+        if step.has_literal() {
             count += 1;
         }
     }

@@ -7,7 +7,10 @@
 //! give. These definitions speak of lists of clauses and of numbers alone.
 //!
 //! `write_step` gives the one line of a step, `push_step` writes it at the end of a text, and
-//! `read_step` takes exactly these lines. `conflicts_in` counts the steps with a literal.
+//! `read_step` takes exactly these lines. `LogText` is the text of a log's lines, which is taken in
+//! pieces and made as it is taken. A `Log` keeps each step packed, in little more than a byte a
+//! number: `add_step` packs a step and adds it, and `unpacked` gives it back. `conflicts_in` counts the
+//! steps with a literal.
 //!
 //! Two laws carry the rest: no assignment satisfies a formula that a log refutes
 //! (`refutations_refute`), and over n variables fewer than 3^n derived steps with a literal are fresh
@@ -17,13 +20,22 @@
 mod conflicts;
 mod hints;
 mod laws;
+mod log_text;
+mod numbers;
+mod numbers_written;
+mod packed;
 mod read;
+mod reader;
 mod step;
+mod steps_left;
+mod unpack;
 mod write;
 
 pub use conflicts::conflicts_in;
 pub use hints::Hints;
 pub use laws::{fresh_steps_are_few, refutations_refute};
+pub use log_text::LogText;
+pub use packed::{PackedStep, add_step};
 pub use read::read_step;
 pub use step::{Log, Step};
 pub use write::{push_step, write_step};

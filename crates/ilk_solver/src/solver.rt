@@ -11,6 +11,7 @@ use crate::picker::Picker;
 use crate::restart::Restart;
 use crate::search::Search;
 use ilk_cnf::Cnf;
+use ilk_log::add_step;
 use std::alloc::{AllocError, Global};
 
 /// A search that has no step yet, with what chooses its decisions and its restarts.
@@ -86,7 +87,7 @@ impl Solver {
                     if search.level() == 0 {
                         let last = search.refute(alloc, conflict)?;
                         let mut log = search.into_log();
-                        log.push(last)?;
+                        add_step(alloc, &mut log, &last)?;
                         return Ok(Outcome {
                             answer: Answer::Unsat,
                             log,
@@ -101,7 +102,7 @@ impl Solver {
                     }
                     steps += 1;
                     let level = restart.level_after(steps, learned.level);
-                    search = search.take_up(learned, level)?;
+                    search = search.take_up(alloc, &learned, level)?;
                 }
             }
         }

@@ -10,8 +10,8 @@ pub loop-c-preserved : goal.loop-c-preserved
 loop-c-preserved c =
     let f = c.args.cnf.now in
     let i = c.loop-c.c in
-    let x = c.as_slice.result.now in
+    let x = c.clause.result.now in
     let back : i + 1 - 1 ≡ i = omega arith in
-    let stands : slice_get f.clauses i ≡ Some x = ap (slice_get f.clauses) (sym back) ∙ c.clause.ensures.clause ∙ ap Some (sym c.as_slice.ensures.items) in
+    let stands : slice_get f.clauses i ≡ Some x = ap (slice_get f.clauses) (sym back) ∙ c.clause.ensures.clause in
     let within : i < length f.clauses = omega (arith, c.clauses-c-end.ensures.count, c.loop-c-test.true) in
     ap formula_of c.in_ok-add.ensures.ok.is ∙ ap (λ (t : Formula). grown t t.vars (x ∷ [])) c.loop-c.invariant ∙ ap (λ (cs : List (List Literal)). let t : Formula = record { vars = f.vars; clauses = cs } in t) (copied-more f i x within stands)
