@@ -14,3 +14,4 @@ pub mod Reply
 pub mod Writable
 pub mod Judged
 pub mod Strict
+pub mod Untaken

@@ -2,8 +2,8 @@ ghost use Rattle.std.specs.Prelude.{◌≡◌, IfOk, IsTrue};
 ghost use Rattle.ilk_unroll.specs.Goal.{wanted_valid};
 ghost use Rattle.ilk_answers.specs.Verdicts.{TellsFormula, wanted_query};
 
-use crate::{Reply, Status};
-use ilk_dimacs::write_dimacs;
+use crate::{Content, Reply, Status};
+use ilk_dimacs::FormulaText;
 use ilk_plant::Plant;
 use ilk_queries::formula;
 use ilk_unroll::Wanted;
@@ -34,6 +34,9 @@ pub fn export_reply(
     ensures { IfOk result (TellsFormula plant.now (wanted_query kind number)) }
 {
     let cnf = formula(alloc, plant, wanted_query(kind, number))?;
-    let text = write_dimacs(alloc, &cnf)?;
-    Ok(Reply::of_bytes(alloc, Status::Good, text))
+    Ok(Reply {
+        status: Status::Good,
+        report: Content::of_formula(FormulaText::of(alloc, cnf)?),
+        certificate: Content::none(alloc),
+    })
 }

@@ -6,7 +6,7 @@ ghost use Rattle.ilk_answers.specs.Status.{is_reply};
 use crate::report::verdict_line;
 use crate::verify::verdict_status;
 use crate::{Content, Reply, Status};
-use ilk_engine::{Verdict, certificate, decide};
+use ilk_engine::{Found, Verdict, certify, decide};
 use ilk_gen::{stations, stations_break_no_rule, stations_plant};
 use ilk_plant::Plant;
 use std::alloc::{AllocError, Global};
@@ -60,12 +60,13 @@ fn verdict_reply(
     plant.is_sound();
     stations_break_no_rule(n);
     let found = decide(alloc, plant, depth, conflicts)?;
-    let text = certificate(alloc, &found)?;
-    let line = demo_line(alloc, plant, n, conflicts, &found.verdict)?;
+    let Found { verdict, asked } = found;
+    let text = certify(alloc, &verdict, asked)?;
+    let line = demo_line(alloc, plant, n, conflicts, &verdict)?;
     Ok(Reply {
-        status: verdict_status(&found.verdict),
+        status: verdict_status(&verdict),
         report: Content::of(line.into_bytes()),
-        certificate: Content::of(text),
+        certificate: Content::of_certificate(text),
     })
 }
 

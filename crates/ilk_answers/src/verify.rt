@@ -5,7 +5,7 @@ ghost use Rattle.ilk_answers.specs.Writable.{HasRuns};
 use crate::report::verdict_line;
 use crate::run_text::{text_from_start, text_from_state};
 use crate::{Content, Reply, Status};
-use ilk_engine::{Found, Verdict, certificate, decide};
+use ilk_engine::{CertificateText, Found, Verdict, certify, decide};
 use ilk_plant::Plant;
 use std::alloc::{AllocError, Global};
 
@@ -41,12 +41,12 @@ fn verdict_reply(
     plant: &Plant,
     conflicts: u64,
     verdict: Verdict,
-    certificate: Vec<u8>,
+    certificate: CertificateText,
 ) -> Result<Reply, AllocError>
     requires { HasRuns plant.now verdict }
     ensures status { IfOk result (λ made. made.status ≡ verdict_status verdict) }
     ensures report { IfOk result (λ made. made.report ≡ verdict_line plant.now conflicts verdict ++ verdict_run plant.now verdict) }
-    ensures certificate { IfOk result (λ made. made.certificate ≡ certificate.items) }
+    ensures certificate { IfOk result (λ made. made.certificate ≡ certificate) }
 {
     let status = verdict_status(&verdict);
     let mut report = verdict_line(alloc, plant, conflicts, &verdict)?.into_bytes();
@@ -55,7 +55,7 @@ fn verdict_reply(
     Ok(Reply {
         status,
         report: Content::of(report),
-        certificate: Content::of(certificate),
+        certificate: Content::of_certificate(certificate),
     })
 }
 
@@ -72,7 +72,7 @@ pub fn verify_reply(
     ensures { IfOk result (TellsVerdict plant.now depth conflicts) }
 {
     let found = decide(alloc, plant, depth, conflicts)?;
-    let text = certificate(alloc, &found)?;
-    let Found { verdict, .. } = found;
+    let Found { verdict, asked } = found;
+    let text = certify(alloc, &verdict, asked)?;
     verdict_reply(alloc, plant, conflicts, verdict, text)
 }

@@ -4,12 +4,13 @@ ghost use Rattle.std.specs.List.{list_all};
 ghost use Rattle.ilk_lines.specs.Written.{spaced, text_of};
 ghost use Rattle.ilk_log.specs.StepText.{step_text};
 ghost use Rattle.ilk_certificate.specs.CertificateText.{hints_from_one, query_line};
+ghost use Rattle.ilk_certificate.specs.Kept.{is_step_query};
 ghost use Rattle.ilk_certificate.specs.Writing.{asked_text, base_text, step_fed};
 
 use crate::asked::Asked;
-use ilk_log::{Step, push_step};
+use ilk_log::{PackedStep, push_step};
 use ilk_unroll::Wanted;
-use std::alloc::AllocError;
+use std::alloc::{AllocError, Global};
 
 /// Writes the line of a word, a space and a number at the end of a text.
 pub(crate) fn push_numbered(text: &mut String, word: &str, number: u128) -> Result<(), AllocError>
@@ -18,8 +19,8 @@ pub(crate) fn push_numbered(text: &mut String, word: &str, number: u128) -> Resu
     write!(text, "{word} {number}\n")
 }
 
-// Writes the line of a query.
-fn push_query(text: &mut String, query: Wanted) -> Result<(), AllocError>
+/// Writes the line of a query.
+pub(crate) fn push_query(text: &mut String, query: Wanted) -> Result<(), AllocError>
     ensures { OnOk result (string_bytes text.new ≡ string_bytes text.old ++ (query_line query ++ 10 ∷ [])) }
 {
     match query {
@@ -30,41 +31,49 @@ fn push_query(text: &mut String, query: Wanted) -> Result<(), AllocError>
 }
 
 // Writes the line of a step.
-fn push_step_line(text: &mut String, step: &Step) -> Result<(), AllocError>
+fn push_step_line(alloc: Global, text: &mut String, step: &PackedStep) -> Result<(), AllocError>
     requires { IsTrue (hints_from_one step.now) }
     ensures { OnOk result (string_bytes text.new ≡ string_bytes text.old ++ step_fed step.now) }
 {
-    push_step(text, step)?;
+    let step = step.unpacked(alloc)?;
+    push_step(text, &step)?;
     text.push_str("\n")
 }
 
 // Writes the line of each step.
-fn push_steps(text: &mut String, log: &[Step]) -> Result<(), AllocError>
+fn push_steps(alloc: Global, text: &mut String, log: &[PackedStep]) -> Result<(), AllocError>
     requires { IsTrue (list_all hints_from_one log.now) }
     ensures { OnOk result (string_bytes text.new ≡ string_bytes text.old ++ text_of (map step_text log.now)) }
 {
     for step in log {
-        push_step_line(text, step)?;
+        push_step_line(alloc, text, step)?;
     }
     Ok(())
 }
 
 /// Writes the lines of an asked query.
-pub(crate) fn push_asked(text: &mut String, asked: &Asked) -> Result<(), AllocError>
+pub(crate) fn push_asked(alloc: Global, text: &mut String, asked: &Asked) -> Result<(), AllocError>
     requires { IsTrue (list_all hints_from_one asked.now.log) }
     ensures { OnOk result (string_bytes text.new ≡ string_bytes text.old ++ asked_text asked.now) }
 {
     push_query(text, asked.query)?;
-    push_steps(text, asked.log.as_slice())
+    push_steps(alloc, text, asked.log.as_slice())
+}
+
+/// Whether a query is a step query.
+pub(crate) fn is_step(query: Wanted) -> bool
+    ensures { result ≡ is_step_query query }
+{
+    matches!(query, Wanted::Step(_))
 }
 
 /// Writes them unless it is a step query.
-pub(crate) fn push_base(text: &mut String, asked: &Asked) -> Result<(), AllocError>
+pub(crate) fn push_base(alloc: Global, text: &mut String, asked: &Asked) -> Result<(), AllocError>
     requires { IsTrue (list_all hints_from_one asked.now.log) }
     ensures { OnOk result (string_bytes text.new ≡ string_bytes text.old ++ base_text asked.now) }
 {
     match asked.query {
         Wanted::Step(_) => Ok(()),
-        _ => push_asked(text, asked),
+        _ => push_asked(alloc, text, asked),
     }
 }

@@ -1,2 +1,4 @@
 pub mod Lines
 pub mod FormulaTexts
+pub mod Left
+pub mod AfterHeader

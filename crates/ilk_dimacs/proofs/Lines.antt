@@ -1,5 +1,5 @@
 -- What is written for a formula is its text.
-use Rattle.std.proofs.Common.{◌≡◌, ℕ, ◌+◌, ◌-◌, ◌<◌, ◌≤◌, List, [], ◌∷◌, ◌++◌, Some, length, map, take, flat_map, refl, sym, ap, ◌∙◌, arith, append_assoc, get_or, slice_get}
+use Rattle.std.proofs.Common.{◌≡◌, ℕ, ◌+◌, ◌-◌, ◌<◌, ◌≤◌, List, [], ◌∷◌, ◌++◌, Some, length, map, take, refl, sym, ap, ◌∙◌, arith, append_assoc, get_or, slice_get}
 use Rattle.std.specs.Prelude.{codes}
 use Rattle.std.proofs.lemmas.List.{take_all}
 use Rattle.std.proofs.lemmas.Option.{get_or_from_slice_get, slice_get_within}
@@ -10,21 +10,14 @@ use Rattle.ilk_lines.specs.Lines.{Bytes}
 use Rattle.ilk_lines.specs.Written.{line_of, spaced, text_of}
 use Rattle.ilk_log.specs.StepText.{lit_word}
 use Rattle.ilk_dimacs.specs.DimacsText.{clause_words, dimacs_text, header_words}
-
--- a line with its line feed
-abbrev pub fed : List Bytes → Bytes
-fed words = line_of words ++ 10 ∷ []
-
--- literals, each with a space after it
-abbrev pub lits_spaced : List Literal → Bytes
-lits_spaced c = flat_map (λ l. lit_word l ++ 32 ∷ []) c
+use Rattle.ilk_dimacs.specs.Left.{fed, lines_fed, lits_spaced}
 
 -- a word, before those of a clause
 word-led : (word : Bytes) (c : List Literal) → line_of (word ∷ clause_words c) ≡ spaced word (line_of (clause_words c))
 word-led word [] = refl
 word-led word (l ∷ c) = refl
 
-line-lits : (c : List Literal) → line_of (clause_words c) ≡ lits_spaced c ++ codes "0"
+pub line-lits : (c : List Literal) → line_of (clause_words c) ≡ lits_spaced c ++ codes "0"
 line-lits [] = refl
 line-lits (l ∷ c) = word-led (lit_word l) c ∙ ap (λ (t : Bytes). lit_word l ++ (32 ∷ t)) (line-lits c) ∙ regroup (lit_word l) (lits_spaced c) (codes "0")
   where
@@ -38,11 +31,7 @@ clause_is start c i now next past sofar grown =
     let end : lits_spaced c ++ codes "0\n" ≡ fed (clause_words c) = sym (append_assoc (lits_spaced c) (codes "0") (10 ∷ [])) ∙ ap (λ (t : Bytes). t ++ 10 ∷ []) (sym (line-lits c)) in
     grown ∙ ap (λ (t : Bytes). t ++ codes "0\n") whole ∙ append_assoc start (lits_spaced c) (codes "0\n") ∙ ap (λ (t : Bytes). start ++ t) end
 
--- the lines of clauses, each with its line feed
-abbrev pub lines_fed : List (List Literal) → Bytes
-lines_fed cs = flat_map (λ c. fed (clause_words c)) cs
-
-lines-fed : (cs : List (List Literal)) → lines_fed cs ≡ text_of (map line_of (map clause_words cs))
+pub lines-fed : (cs : List (List Literal)) → lines_fed cs ≡ text_of (map line_of (map clause_words cs))
 lines-fed [] = refl
 lines-fed (c ∷ cs) = ap (λ (t : Bytes). fed (clause_words c) ++ t) (lines-fed cs)
 

@@ -1,1 +1,2 @@
 pub mod DimacsText
+pub mod Left

@@ -7,10 +7,14 @@
 //! the two texts can be laid side by side. The format also has comments and lines that go on; none are
 //! written here, so a formula has just one text.
 //!
-//! A formula is made by the calls of `ilk_cnf`; `write_dimacs` then gives its text, in one go.
+//! A formula is made by the calls of `ilk_cnf`; `write_dimacs` then gives its text, in one go, and a
+//! `FormulaText` gives the same text in pieces, so that it is never held as a whole.
 #![tactic(auto)]
 
+mod clauses_text;
 mod examples;
+mod formula_text;
 mod write;
 
+pub use formula_text::FormulaText;
 pub use write::write_dimacs;

@@ -27,8 +27,8 @@ fn push_clause(text: &mut String, lits: &[Lit]) -> Result<(), AllocError>
     Ok(())
 }
 
-// Writes the first line at the end of a text.
-fn push_header(text: &mut String, cnf: &Cnf) -> Result<(), AllocError>
+/// Writes the first line at the end of a text.
+pub(crate) fn push_header(text: &mut String, cnf: &Cnf) -> Result<(), AllocError>
     ensures { OnOk result (string_bytes text.new ≡ string_bytes text.old ++ (line_of (header_words cnf.now) ++ 10 ∷ [])) }
 {
     write!(text, "p cnf {} {}\n", cnf.vars(), cnf.clauses())
@@ -43,7 +43,7 @@ pub fn write_dimacs(alloc: Global, cnf: &Cnf) -> Result<Vec<u8>, AllocError>
     let mut text = String::new(alloc);
     push_header(&mut text, cnf)?;
     for i in 0..cnf.clauses() {
-        push_clause(&mut text, cnf.clause(i + 1).as_slice())?;
+        push_clause(&mut text, cnf.clause(i + 1))?;
     }
     Ok(text.into_bytes())
 }

@@ -3,7 +3,8 @@ ghost use Rattle.ilk_certificate.specs.CertificateText.{all_hints_from_one};
 ghost use Rattle.ilk_engine.specs.CertificateOf.{certificate_text_of};
 
 use crate::verdict::{Found, Verdict};
-use ilk_certificate::{safe_text, spent_text};
+use ilk_base::Row;
+use ilk_certificate::{Asked, CertificateText, safe_text, spent_text};
 use std::alloc::{AllocError, Global};
 
 /// The text of the certificate for a verdict: its lines, each ended by one line feed. There are none,
@@ -18,5 +19,22 @@ pub fn certificate(alloc: Global, found: &Found) -> Result<Vec<u8>, AllocError>
         Verdict::Safe { k } => safe_text(alloc, *k, asked),
         Verdict::Spent => spent_text(alloc, asked),
         _ => Ok(Vec::new(alloc)),
+    }
+}
+
+/// The text of the certificate for a verdict, as `certificate` gives it, to be taken in pieces. It owns
+/// the logs of what was asked, and is made of them as it is taken. No memory for its parts is its only
+/// error.
+pub fn certify(
+    alloc: Global,
+    verdict: &Verdict,
+    asked: Row<Asked>,
+) -> Result<CertificateText, AllocError>
+    ensures { IfOk result (λ text. text ≡ certificate_text_of verdict.now asked) }
+{
+    match verdict {
+        Verdict::Safe { k } => CertificateText::safe(alloc, *k, asked),
+        Verdict::Spent => CertificateText::spent(alloc, asked),
+        _ => Ok(CertificateText::none(alloc)),
     }
 }

@@ -1,7 +1,7 @@
 use Rattle.std.proofs.Common.{◌≡◌, ◌++◌, take}
 use Rattle.std.specs.Prelude.{string_bytes}
 use Rattle.ilk_dimacs.specs.DimacsText.{header_words}
-use Rattle.ilk_dimacs.proofs.Lines.{fed, lines_fed}
+use Rattle.ilk_dimacs.specs.Left.{fed, lines_fed}
 use Rattle.ilk_dimacs.proofs.write.write_dimacs.Given as goal
 
 abbrev pub invariant-loop-i : goal.invariant-loop-i

@@ -1,0 +1,9 @@
+-- Only the model of a content needs this file: which bytes are left, wherever they come from.
+use Rattle.std.specs.Prelude.{ℕ, List}
+use Rattle.ilk_answers.specs.declared.content.Source.{Source}
+use Rattle.ilk_answers.specs.declared.content.Source.TheVariants.{Bytes, Certificate, Formula}
+
+abbrev pub bytes_left : Source → List ℕ
+bytes_left (Bytes bytes) = bytes
+bytes_left (Certificate text) = text
+bytes_left (Formula text) = text
