@@ -36,7 +36,9 @@ fn conf_reply<C: Source, D: Source>(
         Ok(plant) => {
             plant.is_sound();
             plant.is_of_drafts();
-            plant_reply(alloc, command, &plant, extra)
+            let reply = plant_reply(alloc, command, &plant, extra);
+            drop(plant);
+            reply
         }
         Err(refusals) => Ok(refuse(alloc, command, &refusals)?),
     }

@@ -1,4 +1,4 @@
-ghost use Rattle.std.specs.Prelude.{◌≡◌, ◌^◌, ◌<◌, true, IfOk, IsTrue, Err, Some, is_ok, is_some};
+ghost use Rattle.std.specs.Prelude.{◌≡◌, ◌^◌, ◌<◌, true, IfErr, IfOk, IsTrue, Ok, Err, Some, is_ok, is_some};
 ghost use Rattle.ilk_answers.specs.Answer.{AnswersPlant};
 ghost use Rattle.ilk_answers.specs.Reply.{IsPlanned};
 ghost use Rattle.ilk_top.specs.Handled.{SourceHandled};
@@ -12,6 +12,17 @@ use ilk_io::{ReadError, Source};
 use ilk_plant::Plant;
 use ilk_words::Command;
 use std::alloc::Global;
+
+// What was read into, where the reading didn't fail.
+fn unless_failed<T: Drop>(read: Result<(), ReadError>, into: T) -> Result<T, ReadError>
+    ensures kept { IfOk result (λ kept. (kept ≡ into) × (read ≡ Ok tt)) }
+    ensures failed { IfErr result (λ error. read ≡ Err error) }
+{
+    match read {
+        Ok(()) => Ok(into),
+        Err(error) => Err(error),
+    }
+}
 
 // Reads what the command reads besides the configuration, to its end, and finds the reply. Refused
 // where it is longer than the limit; ReadFault at the first fault of the source.
@@ -31,8 +42,9 @@ fn reply_to_extra<D: Source>(
     ensures handled { SourceHandled D.left D.faults (Some true) (plan_of command.now).extra (result ≡ Err NoReply.ReadFault) (is_ok result) extra.old extra.new }
 {
     let mut reader = Reader::new(alloc, command, plant)?;
-    match read_pieces(extra, limit, &mut reader) {
-        Ok(()) => Ok(answer(alloc, command, plant, reader)?),
+    let read = read_pieces(extra, limit, &mut reader);
+    match unless_failed(read, reader) {
+        Ok(reader) => Ok(answer(alloc, command, plant, reader)?),
         Err(ReadError::TooLong) => Ok(Reply::too_long(alloc)?),
         Err(ReadError::Failed) => Err(NoReply::ReadFault),
         Err(ReadError::OutOfMemory) => Err(NoReply::OutOfMemory),
