@@ -2,8 +2,8 @@
 //! proved twice. They say what no clause can: that an answer comes where memory is there.
 //!
 //! `words_tests` reads command lines; `form_tests` and `draft_tests` read configurations;
-//! `network_tests` and `table_tests` ask the rules of small drafts; `run_tests` runs the program over
-//! sources and sinks that fail.
+//! `network_tests` and `table_tests` ask the rules of small drafts; `run_tests` has each call of sources
+//! and sinks fail in turn, command by command.
 #![tactic(auto)]
 
 #[cfg(test)]

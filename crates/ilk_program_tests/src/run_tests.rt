@@ -5,7 +5,7 @@ ghost use Rattle.ilk_io.specs.Faults.{RoseByOne};
 ghost use Rattle.ilk_io.specs.Sink.{Adds};
 
 use crate::parts::words;
-use ilk_io::{Failed, MemSink, MemSource, Sink, SteadySink};
+use ilk_io::{Failed, MemSink, MemSource, Sink};
 use ilk_top::{Status, run};
 use std::alloc::{AllocError, Global};
 use std::test::Fail;
@@ -16,11 +16,64 @@ const TWO_SECTIONS: &str =
 const LINE_WITH_BOARDS: &str =
     r#"{"version":1,"sections":[{"name":"a","kind":"linear","down":null,"up":"b","board_down":null,"board_up":"m1"},{"name":"b","kind":"linear","down":"a","up":null,"board_down":"m2","board_up":null}],"routes":[{"name":"r1","source":"m1","destination":null,"path":["b"],"overlap":[],"points":[],"conflicts":[]},{"name":"r2","source":"m2","destination":null,"path":["a"],"overlap":[],"points":[],"conflicts":[]}]}"#;
 
+const EMPTY_SCENE: &str = "drive 1\nend\n";
+
 const TWO_TRAINS: &str = "run 1\nstart\nenter a\nenter b\nhead a\nend\n";
 
-// A source of the text, whose call of this number fails.
-fn source(alloc: Global, text: &str, fails: u64) -> Result<MemSource, AllocError> {
-    let bytes = Vec::from_slice(alloc, text.as_bytes())?;
+// So many calls are tried, and no object is called so often.
+const ENOUGH: u64 = 100;
+
+// A whole text is taken in at most so many calls.
+const CALLS: usize = 16;
+
+// A sink that takes few bytes a call: the first, and at most so many more.
+#[derive(Drop)]
+struct FewSink {
+    sink: MemSink,
+    more: usize,
+}
+
+impl Sink for FewSink {
+    ghost written = { λ s. Some s.sink.taken };
+
+    ghost faults = { λ s. s.sink.plan.faults };
+
+    fn write(&mut self, piece: &[u8]) -> Result<usize, Failed> {
+        match piece.split_at_checked(self.more.saturating_add(1)) {
+            Some((few, _)) => self.sink.write(few),
+            None => self.sink.write(piece),
+        }
+    }
+}
+
+// What `run` is handed besides the words.
+#[derive(Clone, Copy, Debug, PartialEq, Eq)]
+enum Object {
+    Conf,
+    Extra,
+    Out,
+    Cert,
+}
+
+// What is asked: the words of the command line, and what the sources give.
+#[derive(Clone, Copy)]
+struct Asked<'a> {
+    line: &'a str,
+    conf: &'a str,
+    extra: &'a [u8],
+}
+
+// What a run leaves: its status, its report and its certificate.
+#[derive(Drop)]
+struct Left {
+    status: Status,
+    out: MemSink,
+    cert: MemSink,
+}
+
+// A source of these bytes, whose call of this number fails.
+fn source(alloc: Global, bytes: &[u8], fails: u64) -> Result<MemSource, AllocError> {
+    let bytes = Vec::from_slice(alloc, bytes)?;
     let fails = Vec::from_slice(alloc, &[fails])?;
     Ok(MemSource::new(bytes, fails))
 }
@@ -31,106 +84,251 @@ fn sink(alloc: Global, room: u64, fails: u64) -> Result<MemSink, AllocError> {
     MemSink::new(alloc, room, fails)
 }
 
-// The status of a replay in which these calls of the sources and of the sink fail, and whether
-// the whole report was written.
-fn replayed(alloc: Global, conf: u64, extra: u64, out: u64) -> Result<(Status, bool), AllocError> {
-    let words = words(alloc, "irv replay --columns free --run r")?;
-    let mut conf = source(alloc, TWO_SECTIONS, conf)?;
-    let mut extra = source(alloc, TWO_TRAINS, extra)?;
-    let mut out = sink(alloc, 100, out)?;
-    let mut cert = SteadySink::new();
+// The number, where the two objects are one; else 0, which no call has.
+fn call_of(object: Object, failing: Object, number: u64) -> u64 {
+    if object == failing { number } else { 0 }
+}
+
+// How many bytes the sinks take a call, besides the first: of the report, and of the certificate.
+#[derive(Clone, Copy)]
+struct More {
+    out: usize,
+    cert: usize,
+}
+
+// Runs the program, where the call of this number of the failing object fails.
+fn left_by(
+    alloc: Global,
+    asked: Asked,
+    more: More,
+    failing: Object,
+    number: u64,
+) -> Result<Left, AllocError> {
+    let words = words(alloc, asked.line)?;
+    let conf = call_of(Object::Conf, failing, number);
+    let extra = call_of(Object::Extra, failing, number);
+    let out = call_of(Object::Out, failing, number);
+    let cert = call_of(Object::Cert, failing, number);
+    let mut conf = source(alloc, asked.conf.as_bytes(), conf)?;
+    let mut extra = source(alloc, asked.extra, extra)?;
+    let mut out = FewSink {
+        sink: sink(alloc, 20000, out)?,
+        more: more.out,
+    };
+    let mut cert = FewSink {
+        sink: sink(alloc, 20000, cert)?,
+        more: more.cert,
+    };
     let status = run(alloc, &words, &mut conf, &mut extra, &mut out, &mut cert);
-    Ok((status, out.bytes() == b"hazard two b\n".as_slice()))
+    Ok(Left {
+        status,
+        out: out.sink,
+        cert: cert.sink,
+    })
 }
 
-#[test]
-fn faults_have_their_status(rt: HostRuntime) -> Result<(), Fail> {
-    for (conf, extra, out, wanted, whole) in [
-        (0, 0, 0, Status::Good, true),
-        (1, 0, 0, Status::ReadFault, false),
-        (2, 0, 0, Status::ReadFault, false),
-        (0, 1, 0, Status::ReadFault, false),
-        (0, 2, 0, Status::ReadFault, false),
-        (0, 0, 1, Status::WriteFault, false),
-    ] {
-        let (status, written) = replayed(rt.alloc(), conf, extra, out)?;
-        assert_eq!(rt; status, wanted, "at {conf} {extra} {out}");
-        assert_eq!(rt; written, whole, "at {conf} {extra} {out}");
-    }
-    Ok(())
+// Whether these are the first bytes of the whole text, and not all.
+fn is_begun(bytes: &[u8], whole: &[u8]) -> bool {
+    whole.starts_with(bytes) && bytes.len() < whole.len()
 }
 
-// A sink that takes one byte a call.
-#[derive(Drop)]
-struct ByteSink {
-    sink: MemSink,
-}
-
-impl Sink for ByteSink {
-    ghost written = { λ s. Some s.sink.taken };
-
-    ghost faults = { λ s. s.sink.plan.faults };
-
-    fn write(&mut self, piece: &[u8]) -> Result<usize, Failed> {
-        match piece.first_chunk::<1>() {
-            Some(first) => self.sink.write(first),
-            None => self.sink.write(piece),
+// Whether this is left where a call of the failing object failed.
+fn is_cut_off(left: &Left, whole: &Left, failing: Object) -> bool {
+    let (out, cert) = (left.out.bytes(), left.cert.bytes());
+    match failing {
+        Object::Conf | Object::Extra => {
+            left.status == Status::ReadFault && out.is_empty() && cert.is_empty()
+        }
+        Object::Cert => {
+            left.status == Status::WriteFault
+                && out.is_empty()
+                && is_begun(cert, whole.cert.bytes())
+        }
+        Object::Out => {
+            left.status == Status::WriteFault
+                && is_begun(out, whole.out.bytes())
+                && cert == whole.cert.bytes()
         }
     }
 }
 
-// What a verification leaves in which these calls of the source and of the sinks fail: its
-// status, how many bytes of the certificate were written, and how many of the report.
-fn verified(
+// Whether all is left.
+fn is_whole(left: &Left, whole: &Left) -> bool {
+    left.status == whole.status
+        && left.out.bytes() == whole.out.bytes()
+        && left.cert.bytes() == whole.cert.bytes()
+}
+
+// Lets the first call of the object fail, then the second, until a run meets no failure: how many
+// failed. None where a run left what it mustn't.
+fn failing_calls(
     alloc: Global,
-    conf: u64,
-    cert: u64,
-    out: u64,
-) -> Result<(Status, u64, u64), AllocError> {
-    let words = words(alloc, "irv verify --cert c")?;
-    let mut conf = source(alloc, LINE_WITH_BOARDS, conf)?;
-    let mut extra = source(alloc, "", 0)?;
-    let mut out = ByteSink {
-        sink: sink(alloc, 100, out)?,
+    asked: Asked,
+    whole: &Left,
+    more: More,
+    failing: Object,
+) -> Result<Option<u64>, AllocError> {
+    for number in 1..ENOUGH {
+        let left = left_by(alloc, asked, more, failing, number)?;
+        if is_whole(&left, whole) {
+            return Ok(Some(number - 1));
+        }
+        if !is_cut_off(&left, whole, failing) {
+            return Ok(None);
+        }
+    }
+    Ok(None)
+}
+
+// What a command has to answer, and how often it calls its two sources: twice where it reads all, for
+// the bytes and for their end.
+#[derive(Clone, Copy)]
+struct Wanted<'a> {
+    reads: (u64, u64),
+    status: Status,
+    report: &'a str,
+}
+
+// Whether what is asked is answered as it is wanted, and each call of its sources and sinks, where it
+// fails, leaves what it has to.
+fn each_call_fails(alloc: Global, asked: Asked, wanted: Wanted) -> Result<bool, AllocError> {
+    let at_once = More {
+        out: usize::MAX,
+        cert: usize::MAX,
     };
-    let mut cert = ByteSink {
-        sink: sink(alloc, 100000, cert)?,
+    let whole = left_by(alloc, asked, at_once, Object::Conf, 0)?;
+    let (out, cert) = (whole.out.bytes().len(), whole.cert.bytes().len());
+    let more = More {
+        out: out / CALLS,
+        cert: cert / CALLS,
     };
-    let status = run(alloc, &words, &mut conf, &mut extra, &mut out, &mut cert);
-    let certificate = cert.sink.bytes().len() as u64;
-    let report = out.sink.bytes();
-    let is_begun = b"safe k=1\n".starts_with(report);
-    Ok((
+    let conf_calls = failing_calls(alloc, asked, &whole, more, Object::Conf)?;
+    let extra_calls = failing_calls(alloc, asked, &whole, more, Object::Extra)?;
+    let out_calls = failing_calls(alloc, asked, &whole, more, Object::Out)?;
+    let cert_calls = failing_calls(alloc, asked, &whole, more, Object::Cert)?;
+    Ok(
+        whole.status == wanted.status
+            && whole.out.bytes().starts_with(wanted.report.as_bytes())
+            && conf_calls == Some(wanted.reads.0)
+            && extra_calls == Some(wanted.reads.1)
+            && out_calls == Some(out.div_ceil(more.out + 1) as u64)
+            && cert_calls == Some(cert.div_ceil(more.cert + 1) as u64),
+    )
+}
+
+// Whether each call of a command fails in turn over these sources.
+fn fails_over(
+    alloc: Global,
+    line: &str,
+    conf: &str,
+    extra: &[u8],
+    reads: (u64, u64),
+    status: Status,
+    report: &str,
+) -> Result<bool, AllocError> {
+    let asked = Asked { line, conf, extra };
+    let wanted = Wanted {
+        reads,
         status,
-        certificate,
-        if is_begun { report.len() as u64 } else { 100 },
-    ))
+        report,
+    };
+    each_call_fails(alloc, asked, wanted)
+}
+
+// The same of audit, over the certificate that verify writes.
+fn audit_fails(alloc: Global, line: &str) -> Result<bool, AllocError> {
+    let verify = Asked {
+        line: "irv verify --cert c",
+        conf: LINE_WITH_BOARDS,
+        extra: &[],
+    };
+    let at_once = More {
+        out: usize::MAX,
+        cert: usize::MAX,
+    };
+    let verified = left_by(alloc, verify, at_once, Object::Conf, 0)?;
+    fails_over(
+        alloc,
+        line,
+        LINE_WITH_BOARDS,
+        verified.cert.bytes(),
+        (2, 2),
+        Status::Good,
+        "accepted k=1\n",
+    )
+}
+
+// The same of a command over the line with boards, which reads this besides.
+fn line_fails(
+    alloc: Global,
+    line: &str,
+    extra: &str,
+    reads: u64,
+    report: &str,
+) -> Result<bool, AllocError> {
+    fails_over(
+        alloc,
+        line,
+        LINE_WITH_BOARDS,
+        extra.as_bytes(),
+        (2, reads),
+        Status::Good,
+        report,
+    )
 }
 
 #[test]
-fn verification_fails_at_each_call(rt: HostRuntime) -> Result<(), Fail> {
-    let (status, length, report) = verified(rt.alloc(), 0, 0, 0)?;
-    assert_eq!(rt; status, Status::Good);
-    assert_eq!(rt; report, 9);
-    for conf in 1..3 {
-        let left = verified(rt.alloc(), conf, 0, 0)?;
-        assert_eq!(rt; left, (Status::ReadFault, 0, 0), "at read {conf}");
+fn each_call_fails_in_turn(rt: HostRuntime) -> Result<(), Fail> {
+    let alloc = rt.alloc();
+    for (line, extra, reads, report) in [
+        ("irv check", "", 0, "clean\n"),
+        ("irv verify --cert c", "", 0, "safe k=1\n"),
+        ("irv table", "", 0, "{"),
+        ("irv export --query hazard --number 0", "", 0, "p cnf "),
+        (
+            "irv rup --query hazard --number 0 --cert c",
+            "",
+            1,
+            "refuted hazard 0\n",
+        ),
+        (
+            "irv drive --run r",
+            EMPTY_SCENE,
+            2,
+            "driven steps=0\nrun 1\nstart\nend\n",
+        ),
+    ] {
+        assert!(rt; line_fails(alloc, line, extra, reads, report)?, "at {line}");
     }
-    for out in 1..10 {
-        let left = verified(rt.alloc(), 0, 0, out)?;
-        assert_eq!(rt;
-            left,
-            (Status::WriteFault, length, out - 1),
-            "at write {out}"
-        );
-    }
-    for cert in [1, 2, 3, 19, 20, 21, 100, length] {
-        let left = verified(rt.alloc(), 0, cert, 0)?;
-        assert_eq!(rt;
-            left,
-            (Status::WriteFault, cert.saturating_sub(1), 0),
-            "at byte {cert}"
-        );
+    assert!(rt; audit_fails(alloc, "irv audit --cert c")?);
+    Ok(())
+}
+
+// Of the commands that read nothing, and of replay over a plant that two trains may enter.
+#[test]
+fn each_call_fails_in_turn_elsewhere(rt: HostRuntime) -> Result<(), Fail> {
+    let alloc = rt.alloc();
+    for (line, conf, extra, reads, status, report) in [
+        (
+            "irv replay --columns free --run r",
+            TWO_SECTIONS,
+            TWO_TRAINS,
+            (2, 2),
+            Status::Good,
+            "hazard two b\n",
+        ),
+        ("irv make --stations 1", "", "", (0, 0), Status::Good, "{"),
+        (
+            "irv demo --stations 1 --conflicts 0 --cert c",
+            "",
+            "",
+            (0, 0),
+            Status::Spent,
+            "stations=1 sections=6 routes=8 spent conflicts=0\n",
+        ),
+    ] {
+        let fails = fails_over(alloc, line, conf, extra.as_bytes(), reads, status, report)?;
+        assert!(rt; fails, "at {line}");
     }
     Ok(())
 }
