@@ -10,6 +10,6 @@ pub mod SetVariables
 pub mod Learning
 pub mod LogsGrow
 pub mod Measure
-pub mod Covering
+pub mod Words
 pub mod Trees
 pub mod Orders

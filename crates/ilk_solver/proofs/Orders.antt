@@ -18,31 +18,37 @@ use Rattle.ilk_learn.proofs.Latest.{entry-at}
 use Rattle.ilk_solver.specs.Assigned.{AllSet}
 use Rattle.ilk_solver.specs.Heaviest.{IsHeaviest}
 use Rattle.ilk_solver.specs.Order.{HasAbove, HoldsView, IsSettled, KeepsUnset}
-use Rattle.ilk_solver.specs.Tree.{IsTree, KeepsLeaves, StandsIn, leaves_of, top_of}
+use Rattle.ilk_solver.specs.Tree.{IsTree, KeepsLeaves, KeepsVariables, StandsIn, leaves_of, top_of}
+use Rattle.ilk_solver.specs.Word.{word_of}
 use Rattle.ilk_solver.specs.View.{ViewLists, IsView, is_unset}
-use Rattle.ilk_solver.proofs.Trees.{leaves-short, stands, top-covers}
+use Rattle.ilk_solver.proofs.Trees.{leaves-short, top-greatest, top-stands, top-within}
+use Rattle.ilk_solver.proofs.Words.{greater-heavier, word-positive}
 
 -- one leaf fewer has a variable where the top is taken off
 pub fewer : (ws t u : List ℕ) → IsTree ws t → 0 < top_of t → leaves_of ws u ≡ set (leaves_of ws t) (top_of t) 0 → sum_by (λ (x : ℕ). cond (eqb x 0) 0 1) (leaves_of ws u) < sum_by (λ (x : ℕ). cond (eqb x 0) 0 1) (leaves_of ws t)
 fewer ws t u h p e =
-    let f : ℕ → ℕ = λ x. cond (eqb x 0) 0 1 in
-    let v = top_of t in
-    let here : get_or (leaves_of ws t) v 0 ≡ v = stands ws t v 1 h p (omega arith) refl in
-    let s = sum_by-set f (leaves_of ws t) v 0 0 (leaves-short ws t v h (h.within 1)) in
-    let one : f (get_or (leaves_of ws t) v 0) ≡ 1 = elim (eqb_tells v 0) [
-      | inl q ↦ absurd (omega (arith, q.1, p))
-      | inr q ↦ ap f here ∙ rw q.0 refl
-    ] in
-    let to : sum_by f (leaves_of ws u) ≡ sum_by f (set (leaves_of ws t) v 0) = ap (sum_by f) e in
-    omega (arith, s, one, to)
+    elim (top-stands ws t h) [
+      | inl z ↦ absurd (omega (arith, z.1, p))
+      | inr z ↦ (let f : ℕ → ℕ = λ x. cond (eqb x 0) 0 1 in
+          let v = top_of t in
+          let s = sum_by-set f (leaves_of ws t) v 0 0 (leaves-short ws t v h z.1) in
+          let some = word-positive ws v (let n = h.numbered in let b = z.1 in omega (arith, n, b)) in
+          let one : f (get_or (leaves_of ws t) v 0) ≡ 1 = elim (eqb_tells (word_of ws v) 0) [
+            | inl q ↦ absurd (omega (arith, q.1, some))
+            | inr q ↦ ap f z.2 ∙ rw q.0 refl
+          ] in
+          let to : sum_by f (leaves_of ws u) ≡ sum_by f (set (leaves_of ws t) v 0) = ap (sum_by f) e in
+          omega (arith, s, one, to))
+    ]
 
 -- variable v is put in
-pub put-one : (ws t u : List ℕ) (v : ℕ) → IsTree ws t → v ≤ length ws → leaves_of ws u ≡ set (leaves_of ws t) v v → KeepsLeaves ws t u × StandsIn ws u v
+pub put-one : (ws t u : List ℕ) (v : ℕ) → IsTree ws t → v ≤ length ws → leaves_of ws u ≡ set (leaves_of ws t) v (word_of ws v) → KeepsLeaves ws t u × StandsIn ws u v
 put-one ws t u v h q e =
-    let here : StandsIn ws u v = ap (λ (ls : List ℕ). get_or ls v 0) e ∙ get_or-set_same (leaves_of ws t) v v 0 (leaves-short ws t v h q) in (
+    let x = word_of ws v in
+    let here : StandsIn ws u v = ap (λ (ls : List ℕ). get_or ls v 0) e ∙ get_or-set_same (leaves_of ws t) v x 0 (leaves-short ws t v h q) in (
       λ w s. elim (cases_eq w v) [
         | inl d ↦ (let P : ℕ → Type 0 = λ j. StandsIn ws u j in subst P (sym d) here)
-        | inr d ↦ ap (λ (ls : List ℕ). get_or ls w 0) e ∙ get_or-set_other (leaves_of ws t) v w v 0 d ∙ s
+        | inr d ↦ ap (λ (ls : List ℕ). get_or ls w 0) e ∙ get_or-set_other (leaves_of ws t) v w x 0 d ∙ s
       ],
       here,
     )
@@ -158,17 +164,37 @@ pub top-heaviest : (view : ViewLists) (t : List ℕ) → HoldsView view t → 0 
 top-heaviest view t h p = record {
   unset = elim h.settled [
     | inl e ↦ absurd (omega (arith, e, p))
-    | inr e ↦ unset-from view (top_of t) p (let w = h.won.within 1 in let n = h.is.weighed in omega (arith, w, n)) e
+    | inr e ↦ unset-from view (top_of t) p (let w = top-within view.weights t h.won in let n = h.is.weighed in omega (arith, w, n)) e
   ];
-  first = λ w s. (top-covers view.weights t w h.won (unset-parts view w s).0 (h.stands w s)).1;
+  first = λ w s. elim (top-stands view.weights t h.won) [
+    | inl z ↦ absurd (omega (arith, z.1, p))
+    | inr z ↦ (let few = h.won.numbered in
+        let u = unset-parts view w s in
+        let n = h.is.weighed in
+        let less = top-greatest view.weights t w h.won (h.stands w s) in
+        greater-heavier view.weights w (top_of t) (omega (arith, few, n, u.1)) (omega (arith, few, z.1)) (omega (arith, less, z.3)))
+  ];
 }
 
 pub top-none : (view : ViewLists) (t : List ℕ) → HoldsView view t → top_of t ≡ 0 → AllSet view
 top-none view t h e = λ v p w.
     elim (cases_Bool (is_set view.trail.entries v)) [
       | inl s ↦ s
-      | inr s ↦ absurd (let c = (top-covers view.weights t v h.won p (h.stands v (unset-from view v p w s))).0 in omega (arith, c, e))
+      | inr s ↦ elim (top-stands view.weights t h.won) [
+        | inl z ↦ absurd (let c = top-greatest view.weights t v h.won (h.stands v (unset-from view v p w s)) in
+            let few = h.won.numbered in
+            let n = h.is.weighed in
+            let some = word-positive view.weights v (omega (arith, few, n, w)) in
+            omega (arith, c, some, z.0))
+        | inr z ↦ absurd (omega (arith, z.0, e))
+      ]
     ]
+
+-- the view with a clause counted
+pub holds-counted : (view : ViewLists) (ws t u s : List ℕ) → HoldsView view t → length ws ≡ length view.weights → KeepsVariables view.weights t ws u → IsTree ws s → KeepsUnset view.trail.entries ws u s → IsSettled view.trail.entries s → HoldsView (record { trail = view.trail; weights = ws }) s
+holds-counted view ws t u s h n kept w keeps settled =
+    let new : ViewLists = record { trail = view.trail; weights = ws } in
+    holds new u s (record { trail = h.is.trail; weighed = n ∙ h.is.weighed }) w (λ v q. (let p = unset-parts new v q in kept.kept v p.0 (h.stands v (unset-from view v p.0 p.1 p.2)))) keeps settled
 
 -- the view with a longer trail
 pub holds-longer : (view : ViewLists) (now : TrailList) (t u : List ℕ) → HoldsView view t → IsTrail now → now.vars ≡ view.trail.vars → take (length view.trail.entries) now.entries ≡ view.trail.entries → IsTree view.weights u → KeepsUnset now.entries view.weights t u → IsSettled now.entries u → HoldsView (record { trail = now; weights = view.weights }) u

@@ -1,180 +1,210 @@
 -- Trees of winners.
-use Rattle.std.proofs.Common.{◌≡◌, ◌≢◌, ◌⊎◌, ◌+◌, ◌*◌, ◌-◌, ◌/◌, ◌<◌, ◌≤◌, ℕ, zero, suc, inl, inr, List, length, get_or, set, refl, sym, ap, ◌∙◌, subst, arith}
+use Rattle.std.proofs.Common.{◌≡◌, ◌≢◌, ◌⊎◌, ◌+◌, ◌*◌, ◌-◌, ◌/◌, ◌^◌, ◌<◌, ◌≤◌, ℕ, zero, suc, inl, inr, List, length, get_or, set, drop, refl, sym, ap, ◌∙◌, subst, arith}
 use Rattle.std.proofs.lemmas.Bool.{cases_eq, cases_lt}
-use Rattle.std.proofs.lemmas.List.{get_or-drop, get_or-set_same, get_or-set_other, length-set, drop-set-lt, drop-set-add, get_or_past, set-get_or, set-set, length-drop}
-use Rattle.ilk_solver.specs.Heavier.{Covers, heavier_of}
-use Rattle.ilk_solver.specs.Tree.{IsTree, IsTreeBut, IsWon, StandsIn, leaves_of, top_of}
-use Rattle.ilk_solver.proofs.Covering.{covers-left, covers-right, covers-self, one-of}
+use Rattle.std.proofs.lemmas.List.{get_or-drop, get_or-set_same, get_or-set_other, length-set, drop-set-lt, drop-set-add, get_or_past, length-drop}
+use Rattle.ilk_solver.specs.Word.{IsGreater, variable_of, word_of}
+use Rattle.ilk_solver.specs.Tree.{IsTree, IsTreeBut, IsWon, KeepsVariables, StandsIn, leaves_of, top_of}
+use Rattle.ilk_solver.proofs.Words.{variable-is, variable-none}
 
 -- a node keeps its winner where neither it nor a node below it is written
-won-other : (ws t : List ℕ) (i x k : ℕ) → k ≢ i → 2 * k ≢ i → 2 * k + 1 ≢ i → IsWon ws t k → IsWon ws (set t i x) k
-won-other ws t i x k a b c w =
+won-other : (t : List ℕ) (i x k : ℕ) → k ≢ i → 2 * k ≢ i → 2 * k + 1 ≢ i → IsWon t k → IsWon (set t i x) k
+won-other t i x k a b c w =
     let e = get_or-set_other t i k x 0 a in
     let f = get_or-set_other t i (2 * k) x 0 b in
     let g = get_or-set_other t i (2 * k + 1) x 0 c in
     rw (e, f, g) w
 
-within-set : (n : ℕ) (t : List ℕ) (i x : ℕ) → ((k : ℕ) → get_or t k 0 ≤ n) → x ≤ n → i < length t → (k : ℕ) → get_or (set t i x) k 0 ≤ n
-within-set n t i x h p q k =
-    elim (cases_eq k i) [
-      | inl e ↦ (let P : ℕ → Type 0 = λ j. get_or (set t i x) j 0 ≤ n in
-          let s = get_or-set_same t i x 0 q in
-          subst P (sym e) (omega (arith, s, p)))
-      | inr e ↦ (let s = get_or-set_other t i k x 0 e in let r = h k in omega (arith, s, r))
-    ]
-
 -- node j is decided: then the one above it may be wrong
-pub decided-node : (ws t : List ℕ) (j x : ℕ) → IsTreeBut ws t j → 0 < j → j ≤ length ws → x ≡ heavier_of ws (get_or t (2 * j) 0) (get_or t (2 * j + 1) 0) → IsTreeBut ws (set t j x) (j / 2)
+pub decided-node : (ws t : List ℕ) (j x : ℕ) → IsTreeBut ws t j → 0 < j → j ≤ length ws → IsGreater x (get_or t (2 * j) 0) (get_or t (2 * j + 1) 0) → IsTreeBut ws (set t j x) (j / 2)
 decided-node ws t j x h p q e =
     let same : leaves_of ws (set t j x) ≡ leaves_of ws t = drop-set-lt (length ws + 1) t j x (omega (arith, q)) in
     let inside : j < length t = (let s = h.size in omega (arith, s, q)) in
-    let few : x ≤ length ws = (let a = h.within (2 * j) in let b = h.within (2 * j + 1) in
-    elim (one-of ws (get_or t (2 * j) 0) (get_or t (2 * j + 1) 0)) [ inl f ↦ omega (arith, e, f, a) | inr f ↦ omega (arith, e, f, b) ]) in
     record {
+      numbered = h.numbered;
       size = length-set t j x ∙ h.size;
-      within = within-set (length ws) t j x h.within few inside;
-      leaf = (let P : List ℕ → Type 0 = λ ls. (v : ℕ) → v ≤ length ws → (get_or ls v 0 ≡ 0) ⊎ (get_or ls v 0 ≡ v) in subst P (sym same) h.leaf);
+      leaf = (let P : List ℕ → Type 0 = λ ls. (v : ℕ) → v ≤ length ws → (get_or ls v 0 ≡ 0) ⊎ ((0 < v) × (get_or ls v 0 ≡ word_of ws v)) in subst P (sym same) h.leaf);
       won = λ k a b c. elim (cases_eq k j) [
-        | inl d ↦ (let W : ℕ → Type 0 = IsWon ws (set t j x) in
+        | inl d ↦ (let W : ℕ → Type 0 = IsWon (set t j x) in
             let f = get_or-set_same t j x 0 inside in
             let g = get_or-set_other t j (2 * j) x 0 (λ y. omega (arith, y, p)) in
             let i = get_or-set_other t j (2 * j + 1) x 0 (λ y. omega (arith, y, p)) in
-            let here : IsWon ws (set t j x) j = rw (f, g, i) e in
+            let here : IsWon (set t j x) j = rw (f, g, i) e in
             subst W (sym d) here)
-        | inr d ↦ won-other ws t j x k d (λ y. c (omega (arith, y))) (λ y. c (omega (arith, y))) (h.won k a b d)
+        | inr d ↦ won-other t j x k d (λ y. c (omega (arith, y))) (λ y. c (omega (arith, y))) (h.won k a b d)
       ];
     }
 
 -- node j was right
-pub right-node : (ws t : List ℕ) (j : ℕ) → IsTreeBut ws t j → get_or t j 0 ≡ heavier_of ws (get_or t (2 * j) 0) (get_or t (2 * j + 1) 0) → IsTree ws t
+pub right-node : (ws t : List ℕ) (j : ℕ) → IsTreeBut ws t j → IsGreater (get_or t j 0) (get_or t (2 * j) 0) (get_or t (2 * j + 1) 0) → IsTree ws t
 right-node ws t j h e = record {
+  numbered = h.numbered;
   size = h.size;
-  within = h.within;
   leaf = h.leaf;
   won = λ k a b c. elim (cases_eq k j) [
-    | inl d ↦ (let W : ℕ → Type 0 = IsWon ws t in subst W (sym d) e)
+    | inl d ↦ (let W : ℕ → Type 0 = IsWon t in subst W (sym d) e)
     | inr d ↦ h.won k a b d
   ];
 }
 
--- a leaf is written: then the node above it may be wrong
-pub leaf-written : (ws t : List ℕ) (v x : ℕ) → IsTree ws t → v ≤ length ws → (x ≡ 0) ⊎ (x ≡ v) → IsTreeBut ws (set t (length ws + 1 + v) x) ((length ws + 1 + v) / 2)
-leaf-written ws t v x h q e =
+-- a leaf is written where the weight of its variable alone may be another one: then the node above it may be wrong
+pub leaf-written : (ws ws2 t : List ℕ) (v x : ℕ) → IsTree ws t → length ws2 ≡ length ws → 0 < v → v ≤ length ws → (x ≡ 0) ⊎ (x ≡ word_of ws2 v) → ((u : ℕ) → 0 < u → u ≢ v → word_of ws2 u ≡ word_of ws u) → IsTreeBut ws2 (set t (length ws + 1 + v) x) ((length ws + 1 + v) / 2)
+leaf-written ws ws2 t v x h n p q e others =
     let i = length ws + 1 + v in
     let inside : i < length t = (let s = h.size in omega (arith, s, q)) in
-    let few : x ≤ length ws = elim e [ inl f ↦ omega (arith, f) | inr f ↦ omega (arith, f, q) ] in
     let same : leaves_of ws (set t i x) ≡ set (leaves_of ws t) v x = drop-set-add (length ws + 1) t v x in
     record {
-      size = length-set t i x ∙ h.size;
-      within = within-set (length ws) t i x h.within few inside;
-      leaf = λ u r. elim (cases_eq u v) [
-        | inl d ↦ (let P : ℕ → Type 0 = λ y. (get_or (leaves_of ws (set t i x)) y 0 ≡ 0) ⊎ (get_or (leaves_of ws (set t i x)) y 0 ≡ y) in
+      numbered = (let a = h.numbered in omega (arith, a, n));
+      size = (let s = length-set t i x ∙ h.size in omega (arith, s, n));
+      leaf = rw n (λ u r. elim (cases_eq u v) [
+        | inl d ↦ (let P : ℕ → Type 0 = λ y. (get_or (leaves_of ws (set t i x)) y 0 ≡ 0) ⊎ ((0 < y) × (get_or (leaves_of ws (set t i x)) y 0 ≡ word_of ws2 y)) in
             let f : get_or (leaves_of ws (set t i x)) v 0 ≡ x = get_or-drop (length ws + 1) (set t i x) v 0 ∙ get_or-set_same t i x 0 inside in
-            subst P (sym d) (elim e [ inl g ↦ inl (f ∙ g) | inr g ↦ inr (f ∙ g) ]))
+            subst P (sym d) (elim e [ inl g ↦ inl (f ∙ g) | inr g ↦ inr (p, f ∙ g) ]))
         | inr d ↦ (let f : get_or (leaves_of ws (set t i x)) u 0 ≡ get_or (leaves_of ws t) u 0 = ap (λ (ls : List ℕ). get_or ls u 0) same ∙ get_or-set_other (leaves_of ws t) v u x 0 d in
-            elim (h.leaf u r) [ inl g ↦ inl (f ∙ g) | inr g ↦ inr (f ∙ g) ])
-      ];
-      won = λ k a b c. won-other ws t i x k (λ y. omega (arith, y, b)) (λ y. c (omega (arith, y))) (λ y. c (omega (arith, y))) (h.won k a b (λ y. omega (arith, y, a)));
+            elim (h.leaf u r) [ inl g ↦ inl (f ∙ g) | inr g ↦ inr (g.0, f ∙ g.1 ∙ sym (others u g.0 d)) ])
+      ]);
+      won = λ k a b c. won-other t i x k (λ y. omega (arith, y, b, n)) (λ y. c (omega (arith, y))) (λ y. c (omega (arith, y))) (h.won k a (omega (arith, b, n)) (λ y. omega (arith, y, a)));
     }
 
 -- the leaf of variable v, as a node
 pub leaf-at : (ws t : List ℕ) (v : ℕ) → get_or (leaves_of ws t) v 0 ≡ get_or t (length ws + 1 + v) 0
 leaf-at ws t v = get_or-drop (length ws + 1) t v 0
 
--- at a leaf stands its variable, or none
-at-leaf : (ws t : List ℕ) (k v : ℕ) → IsTree ws t → length ws < k → 0 < v → get_or t k 0 ≡ v → get_or (leaves_of ws t) v 0 ≡ v
-at-leaf ws t k v h b p y =
-    let u = k - (length ws + 1) in
-    let place : length ws + 1 + u ≡ k = omega (arith, b) in
-    let at : get_or (leaves_of ws t) u 0 ≡ v = leaf-at ws t u ∙ ap (λ j. get_or t j 0) place ∙ y in
-    elim (cases_lt (length ws) u) [
-      | inl c ↦ absurd (let z = get_or_past t k 0 (let s = h.size in omega (arith, s, c, place)) in omega (arith, z, y, p))
-      | inr c ↦ elim (h.leaf u c) [
-        | inl g ↦ absurd (omega (arith, g, at, p))
-        | inr g ↦ (let same : u ≡ v = sym g ∙ at in
-            ap (λ j. get_or (leaves_of ws t) j 0) (sym same) ∙ at)
-      ]
-    ]
+-- at a node stands a variable that stands at its leaf, or none
+abbrev pub IsOf : List ℕ → List ℕ → ℕ → Type 0
+IsOf ws t x = (x ≡ 0) ⊎ ((v : ℕ) × (0 < v) × (v ≤ length ws) × StandsIn ws t v × (x ≡ word_of ws v))
 
--- a variable that stands at a node stands at its leaf
-stands-below : (fuel : ℕ) (ws t : List ℕ) (v k : ℕ) → IsTree ws t → 0 < v → 0 < k → 2 * length ws + 2 ≤ k + fuel → get_or t k 0 ≡ v → get_or (leaves_of ws t) v 0 ≡ v
-stands-below zero ws t v k h p a f y = absurd (let z = get_or_past t k 0 (let s = h.size in omega (arith, s, f)) in omega (arith, z, y, p))
-stands-below (suc n) ws t v k h p a f y =
+stands-below : (fuel : ℕ) (ws t : List ℕ) (k : ℕ) → IsTree ws t → 0 < k → 2 * length ws + 2 ≤ k + fuel → IsOf ws t (get_or t k 0)
+stands-below zero ws t k h a f = inl (get_or_past t k 0 (let s = h.size in omega (arith, s, f)))
+stands-below (suc n) ws t k h a f =
     elim (cases_lt (length ws) k) [
-      | inl b ↦ at-leaf ws t k v h b p y
-      | inr b ↦ elim (one-of ws (get_or t (2 * k) 0) (get_or t (2 * k + 1) 0)) [
-        | inl g ↦ stands-below n ws t v (2 * k) h p (omega (arith, a)) (omega (arith, f, a)) (sym g ∙ sym (h.won k a b (λ z. omega (arith, z, a))) ∙ y)
-        | inr g ↦ stands-below n ws t v (2 * k + 1) h p (omega (arith, a)) (omega (arith, f, a)) (sym g ∙ sym (h.won k a b (λ z. omega (arith, z, a))) ∙ y)
+      | inl b ↦ (let u = k - (length ws + 1) in
+          let place : length ws + 1 + u ≡ k = omega (arith, b) in
+          let at : get_or (leaves_of ws t) u 0 ≡ get_or t k 0 = leaf-at ws t u ∙ ap (λ j. get_or t j 0) place in
+          elim (cases_lt (length ws) u) [
+            | inl c ↦ inl (get_or_past t k 0 (let s = h.size in omega (arith, s, c, place)))
+            | inr c ↦ elim (h.leaf u c) [
+              | inl g ↦ inl (sym at ∙ g)
+              | inr g ↦ inr (u, g.0, c, g.1, sym at ∙ g.1)
+            ]
+          ])
+      | inr b ↦ elim (h.won k a b (λ z. omega (arith, z, a))).2 [
+        | inl g ↦ elim (stands-below n ws t (2 * k) h (omega (arith, a)) (omega (arith, f, a))) [
+          | inl z ↦ inl (g ∙ z)
+          | inr z ↦ inr (z.0, z.1, z.2, z.3, g ∙ z.4)
+        ]
+        | inr g ↦ elim (stands-below n ws t (2 * k + 1) h (omega (arith, a)) (omega (arith, f, a))) [
+          | inl z ↦ inl (g ∙ z)
+          | inr z ↦ inr (z.0, z.1, z.2, z.3, g ∙ z.4)
+        ]
       ]
     ]
 
-pub stands : (ws t : List ℕ) (v k : ℕ) → IsTree ws t → 0 < v → 0 < k → get_or t k 0 ≡ v → StandsIn ws t v
-stands ws t v k h p a y = stands-below (2 * length ws + 2) ws t v k h p a (omega arith) y
+-- the top: no variable, or one that stands at its leaf
+pub top-stands : (ws t : List ℕ) → IsTree ws t → ((get_or t 1 0 ≡ 0) × (top_of t ≡ 0)) ⊎ ((0 < top_of t) × (top_of t ≤ length ws) × StandsIn ws t (top_of t) × (get_or t 1 0 ≡ word_of ws (top_of t)))
+top-stands ws t h =
+    elim (stands-below (2 * length ws + 2) ws t 1 h (omega arith) (omega arith)) [
+      | inl e ↦ inl (e, ap variable_of e ∙ variable-none)
+      | inr z ↦ (let v = z.0 in
+          let same : top_of t ≡ v = ap variable_of z.4 ∙ variable-is ws v (let n = h.numbered in let b = z.2 in omega (arith, n, b)) in
+          let P : ℕ → Type 0 = λ w. (0 < w) × (w ≤ length ws) × StandsIn ws t w × (get_or t 1 0 ≡ word_of ws w) in
+          inr (subst P (sym same) (z.1, z.2, z.3, z.4)))
+    ]
 
--- what covers the variable of a node covers it from the nodes above, too
-covers-above : (fuel : ℕ) (ws t : List ℕ) (u k : ℕ) → IsTree ws t → 0 < k → k ≤ fuel → Covers ws (get_or t k 0) u → Covers ws (top_of t) u
-covers-above zero ws t u k h a f c = absurd (omega (arith, a, f))
-covers-above (suc n) ws t u k h a f c =
+pub top-within : (ws t : List ℕ) → IsTree ws t → top_of t ≤ length ws
+top-within ws t h = elim (top-stands ws t h) [ inl z ↦ omega (arith, z.1) | inr z ↦ z.1 ]
+
+-- no word is greater than that at the top
+below-top : (fuel : ℕ) (ws t : List ℕ) (k : ℕ) → IsTree ws t → 0 < k → k ≤ fuel → get_or t k 0 ≤ get_or t 1 0
+below-top zero ws t k h a f = absurd (omega (arith, a, f))
+below-top (suc n) ws t k h a f =
     elim (cases_eq k 1) [
-      | inl e ↦ (let P : ℕ → Type 0 = λ j. Covers ws (get_or t j 0) u in subst P e c)
+      | inl e ↦ (let s = ap (λ j. get_or t j 0) e in omega (arith, s))
       | inr e ↦ elim (cases_lt k (2 * length ws + 2)) [
         | inl b ↦ (let j = k / 2 in
-            let up : Covers ws (get_or t j 0) u =
-            (let w = h.won j (omega (arith, a, e)) (omega (arith, b)) (λ z. omega (arith, z, a, e)) in
-            let P : ℕ → Type 0 = λ x. Covers ws x u in
-            subst P (sym w) (elim (cases_eq k (2 * j)) [
-              | inl d ↦ (let Q : ℕ → Type 0 = λ x. Covers ws (get_or t x 0) u in covers-left ws (get_or t (2 * j) 0) (get_or t (2 * j + 1) 0) u (subst Q d c))
-              | inr d ↦ (let Q : ℕ → Type 0 = λ x. Covers ws (get_or t x 0) u in let o : k ≡ 2 * j + 1 = omega (arith, d) in covers-right ws (get_or t (2 * j) 0) (get_or t (2 * j + 1) 0) u (subst Q o c))
-            ])) in
-            covers-above n ws t u j h (omega (arith, a, e)) (omega (arith, f, a, e)) up)
-        | inr b ↦ absurd (let z = get_or_past t k 0 (let s = h.size in omega (arith, s, b)) in let q = c.0 in omega (arith, z, q))
+            let w = h.won j (omega (arith, a, e)) (omega (arith, b)) (λ z. omega (arith, z, a, e)) in
+            let rest = below-top n ws t j h (omega (arith, a, e)) (omega (arith, f, a, e)) in
+            let up : get_or t k 0 ≤ get_or t j 0 = elim (cases_eq k (2 * j)) [
+              | inl d ↦ (let s = ap (λ i. get_or t i 0) d in omega (arith, s, w.0))
+              | inr d ↦ (let o : k ≡ 2 * j + 1 = omega (arith, d) in let s = ap (λ i. get_or t i 0) o in omega (arith, s, w.1))
+            ] in
+            omega (arith, up, rest))
+        | inr b ↦ (let z = get_or_past t k 0 (let s = h.size in omega (arith, s, b)) in omega (arith, z))
       ]
     ]
 
--- the top covers each variable that stands at its leaf
-pub top-covers : (ws t : List ℕ) (u : ℕ) → IsTree ws t → 0 < u → StandsIn ws t u → Covers ws (top_of t) u
-top-covers ws t u h p s =
+pub top-greatest : (ws t : List ℕ) (u : ℕ) → IsTree ws t → StandsIn ws t u → word_of ws u ≤ get_or t 1 0
+top-greatest ws t u h s =
     let k = length ws + 1 + u in
-    let at : get_or t k 0 ≡ u = sym (leaf-at ws t u) ∙ s in
-    let P : ℕ → Type 0 = λ x. Covers ws x u in
-    covers-above k ws t u k h (omega arith) (omega arith) (subst P (sym at) (covers-self ws u p))
+    let at : get_or t k 0 ≡ word_of ws u = sym (leaf-at ws t u) ∙ s in
+    let b = below-top k ws t k h (omega arith) (omega arith) in
+    omega (arith, at, b)
 
--- where variable v stands at no leaf its weight doesn't matter
-heavier-same : (ws : List ℕ) (v x a b : ℕ) → 0 < v → a ≢ v → b ≢ v → heavier_of (set ws (v - 1) x) a b ≡ heavier_of ws a b
-heavier-same ws v x a b p m n =
-    elim (cases_eq a 0) [
-      | inl e ↦ rw e refl
-      | inr e ↦ elim (cases_eq b 0) [
-        | inl f ↦ rw f refl
-        | inr f ↦ (let g = get_or-set_other ws (v - 1) (a - 1) x 0 (λ y. m (omega (arith, y, p, e))) in
-            let i = get_or-set_other ws (v - 1) (b - 1) x 0 (λ y. n (omega (arith, y, p, f))) in
-            rw (g, i) refl)
-      ]
-    ]
+-- the words of the other variables where a weight is written
+pub word-other : (ws : List ℕ) (v x u : ℕ) → 0 < v → 0 < u → u ≢ v → word_of (set ws (v - 1) x) u ≡ word_of ws u
+word-other ws v x u p q d = (let g = get_or-set_other ws (v - 1) (u - 1) x 0 (λ y. d (omega (arith, y, p, q))) in rw g refl)
 
+-- a variable that stands at no leaf is counted
 pub reweighed : (ws t : List ℕ) (v x : ℕ) → IsTree ws t → 0 < v → get_or (leaves_of ws t) v 0 ≡ 0 → IsTree (set ws (v - 1) x) t
 reweighed ws t v x h p e =
     let n = length-set ws (v - 1) x in
-    let away : (k : ℕ) → 0 < k → get_or t k 0 ≢ v = λ k a y. (let s = stands ws t v k h p a y in omega (arith, s, e, p)) in
     record {
+      numbered = rw n h.numbered;
       size = rw n h.size;
-      within = λ k. rw n (h.within k);
-      leaf = rw n h.leaf;
-      won = λ k a b c. h.won k a (rw n at b) c ∙ sym (heavier-same ws v x (get_or t (2 * k) 0) (get_or t (2 * k + 1) 0) p (away (2 * k) (omega (arith, a))) (away (2 * k + 1) (omega (arith, a))));
+      leaf = rw n (λ u r. elim (cases_eq u v) [
+        | inl d ↦ inl (ap (λ j. get_or (leaves_of ws t) j 0) d ∙ e)
+        | inr d ↦ elim (h.leaf u r) [ inl g ↦ inl g | inr g ↦ inr (g.0, g.1 ∙ sym (word-other ws v x u p g.0 d)) ]
+      ]);
+      won = λ k a b c. h.won k a (rw n at b) c;
     }
 
 -- a tree of no variable
-pub empty-tree : (n : ℕ) (ws t : List ℕ) → n ≡ length ws → length t ≡ 2 * length ws + 2 → ((k : ℕ) → get_or t k 0 ≡ 0) → IsTree ws t
-empty-tree n ws t e s z = record {
+pub empty-tree : (n : ℕ) (ws t : List ℕ) → n ≡ length ws → n ≤ 2 ^ 62 → length t ≡ 2 * length ws + 2 → ((k : ℕ) → get_or t k 0 ≡ 0) → IsTree ws t
+empty-tree n ws t e b s z = record {
+  numbered = omega (arith, e, b);
   size = s;
-  within = λ k. (let y = z k in omega (arith, y));
   leaf = λ v q. inl (leaf-at ws t v ∙ z (length ws + 1 + v));
-  won = λ k a b c. (let x = z k in let y = z (2 * k) in let u = z (2 * k + 1) in rw (x, y, u) refl);
+  won = λ k a c d. (let x = z k in let y = z (2 * k) in let u = z (2 * k + 1) in (omega (arith, x, y), omega (arith, x, u), inl (x ∙ sym y)));
 }
 
 -- each variable has a leaf
 pub leaves-short : (ws t : List ℕ) (v : ℕ) → IsTree ws t → v ≤ length ws → v < length (leaves_of ws t)
 leaves-short ws t v h q = (let s = h.size in let d = length-drop (length ws + 1) t in omega (arith, s, d, q))
 
-pub set-back : (ls : List ℕ) (v x : ℕ) → set (set ls v x) v (get_or ls v 0) ≡ ls
-set-back ls v x = set-set ls v x (get_or ls v 0) ∙ set-get_or ls v 0
+-- the variables at the leaves
+pub keeps-all : (ws t : List ℕ) → KeepsVariables ws t ws t
+keeps-all ws t = record { kept = λ v p s. s; none = λ v e. e }
+
+pub keeps-on : (ws t ws2 t2 ws3 t3 : List ℕ) → KeepsVariables ws t ws2 t2 → KeepsVariables ws2 t2 ws3 t3 → KeepsVariables ws t ws3 t3
+keeps-on ws t ws2 t2 ws3 t3 h k = record {
+  kept = λ v p s. k.kept v p (h.kept v p s);
+  none = λ v e. k.none v (h.none v e);
+}
+
+-- a variable that stands at no leaf is counted
+pub keeps-out : (ws t : List ℕ) (v x : ℕ) → 0 < v → v ≤ 2 ^ 62 → get_or (leaves_of ws t) v 0 ≡ 0 → KeepsVariables ws t (set ws (v - 1) x) t
+keeps-out ws t v x p b e =
+    let n = length-set ws (v - 1) x in
+    record {
+      kept = rw n (λ u q s. elim (cases_eq u v) [
+        | inl d ↦ absurd (let g : word_of ws v ≡ 0 = (let P : ℕ → Type 0 = λ j. get_or (leaves_of ws t) j 0 ≡ word_of ws j in sym (subst P d s) ∙ e) in omega (arith, g, b))
+        | inr d ↦ s ∙ sym (word-other ws v x u p q d)
+      ]);
+      none = rw n (λ u z. z);
+    }
+
+-- a variable that stands at its leaf is counted there
+pub keeps-in : (ws t t2 : List ℕ) (v x : ℕ) → 0 < v → v < length (leaves_of ws t) → get_or (leaves_of ws t) v 0 ≢ 0 → leaves_of ws t2 ≡ set (leaves_of ws t) v (word_of (set ws (v - 1) x) v) → KeepsVariables ws t (set ws (v - 1) x) t2
+keeps-in ws t t2 v x p inside full e =
+    let n = length-set ws (v - 1) x in
+    let w = word_of (set ws (v - 1) x) v in
+    record {
+      kept = rw n (λ u q s. elim (cases_eq u v) [
+        | inl d ↦ (let P : ℕ → Type 0 = λ j. get_or (leaves_of ws t2) j 0 ≡ word_of (set ws (v - 1) x) j in
+            subst P (sym d) (ap (λ (ls : List ℕ). get_or ls v 0) e ∙ get_or-set_same (leaves_of ws t) v w 0 inside))
+        | inr d ↦ ap (λ (ls : List ℕ). get_or ls u 0) e ∙ get_or-set_other (leaves_of ws t) v u w 0 d ∙ s ∙ sym (word-other ws v x u p q d)
+      ]);
+      none = rw n (λ u z. elim (cases_eq u v) [
+        | inl d ↦ absurd (full (ap (λ j. get_or (leaves_of ws t) j 0) (sym d) ∙ z))
+        | inr d ↦ ap (λ (ls : List ℕ). get_or ls u 0) e ∙ get_or-set_other (leaves_of ws t) v u w 0 d ∙ z
+      ]);
+    }

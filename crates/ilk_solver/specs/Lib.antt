@@ -6,6 +6,6 @@ pub mod Assigned
 pub mod Learned
 pub mod Answered
 pub mod Heaviest
-pub mod Heavier
+pub mod Word
 pub mod Tree
 pub mod Order

@@ -1,9 +1,9 @@
 -- Only private contracts and proofs need this file: the tree of winners among the variables that were put
--- into it. Over n variables it has 2n + 2 entries. Node 1 is its top, and below node k, from 1 to n, are
--- the nodes 2k and 2k + 1; the heavier of their variables stands at node k. The last n + 1 entries are the
--- leaves, one for each variable from 0 on; 0 stands for no variable.
-use Rattle.std.specs.Prelude.{ℕ, ◌≡◌, ◌≢◌, ◌⊎◌, ◌+◌, ◌*◌, ◌<◌, ◌≤◌, List, drop, length, slice_index}
-use Rattle.ilk_solver.specs.Heavier.{heavier_of}
+-- into it. Over n variables it has 2n + 2 entries, which are words of variables. Node 1 is its top, and
+-- below node k, from 1 to n, are the nodes 2k and 2k + 1; the greater of their words stands at node k. The
+-- last n + 1 entries are the leaves, one for each variable from 0 on; 0 stands for no variable.
+use Rattle.std.specs.Prelude.{ℕ, ◌≡◌, ◌≢◌, ◌⊎◌, ◌+◌, ◌*◌, ◌^◌, ◌<◌, ◌≤◌, List, drop, length, slice_index}
+use Rattle.ilk_solver.specs.Word.{IsGreater, variable_of, word_of}
 
 -- the leaves of a tree over these weights
 abbrev pub leaves_of : List ℕ → List ℕ → List ℕ
@@ -11,22 +11,22 @@ leaves_of weights tree = drop (length weights + 1) tree
 
 -- the variable at the top
 abbrev pub top_of : List ℕ → ℕ
-top_of tree = slice_index tree 1
+top_of tree = variable_of (slice_index tree 1)
 
--- the heavier variable of the two nodes below stands at node k
-abbrev pub IsWon : List ℕ → List ℕ → ℕ → Type 0
-IsWon weights tree k = slice_index tree k ≡ heavier_of weights (slice_index tree (2 * k)) (slice_index tree (2 * k + 1))
+-- the greater word of the two nodes below stands at node k
+abbrev pub IsWon : List ℕ → ℕ → Type 0
+IsWon tree k = IsGreater (slice_index tree k) (slice_index tree (2 * k)) (slice_index tree (2 * k + 1))
 
--- variable v stands at its leaf
+-- variable v stands at its leaf, with its weight
 abbrev pub StandsIn : List ℕ → List ℕ → ℕ → Type 0
-StandsIn weights tree v = slice_index (leaves_of weights tree) v ≡ v
+StandsIn weights tree v = slice_index (leaves_of weights tree) v ≡ word_of weights v
 
 -- a tree in which all nodes but j are right
 pub record IsTreeBut (weights tree : List ℕ) (j : ℕ) : Type 0 where
+  pub numbered : length weights ≤ 2 ^ 62
   pub size : length tree ≡ 2 * length weights + 2
-  pub within : (k : ℕ) → slice_index tree k ≤ length weights
-  pub leaf : (v : ℕ) → v ≤ length weights → (slice_index (leaves_of weights tree) v ≡ 0) ⊎ StandsIn weights tree v
-  pub won : (k : ℕ) → 0 < k → k ≤ length weights → k ≢ j → IsWon weights tree k
+  pub leaf : (v : ℕ) → v ≤ length weights → (slice_index (leaves_of weights tree) v ≡ 0) ⊎ ((0 < v) × StandsIn weights tree v)
+  pub won : (k : ℕ) → 0 < k → k ≤ length weights → k ≢ j → IsWon tree k
 
 -- no inner node has the number 0
 abbrev pub IsTree : List ℕ → List ℕ → Type 0
@@ -35,3 +35,8 @@ IsTree weights tree = IsTreeBut weights tree 0
 -- the variables that stood at their leaves stand there still
 abbrev pub KeepsLeaves : List ℕ → List ℕ → List ℕ → Type 0
 KeepsLeaves weights old new = (v : ℕ) → StandsIn weights old v → StandsIn weights new v
+
+-- the same where a weight is another one; and no variable is put in
+pub record KeepsVariables (old_weights old weights new : List ℕ) : Type 0 where
+  pub kept : (v : ℕ) → 0 < v → StandsIn old_weights old v → StandsIn weights new v
+  pub none : (v : ℕ) → slice_index (leaves_of old_weights old) v ≡ 0 → slice_index (leaves_of weights new) v ≡ 0

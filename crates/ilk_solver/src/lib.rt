@@ -15,14 +15,15 @@
 //! beside the clauses.
 //!
 //! A decision asks for the heaviest unset variable. A view has a tree of winners among its unset
-//! variables (`specs/Tree`, `src/tree`), as in a knock-out tournament, and it stands at the top. A
-//! variable that is set stays in the tree until it comes to the top, and is put in again when its entry
-//! is taken off the trail (`src/order`), so that most entries don't touch the tree.
+//! variables (`specs/Tree`, `src/tree`), as in a knock-out tournament, and it stands at the top. A node
+//! has its variable and the weight in one word (`specs/Word`), so that a match looks at two words side
+//! by side, and at no weight elsewhere. A variable that is set stays in the tree until it comes to the
+//! top, and is put in again when its entry is taken off the trail (`src/order`), so that most entries
+//! don't touch the tree.
 #![tactic(auto)]
 
 mod answer;
 mod assigned;
-mod heavier;
 mod order;
 mod picker;
 mod restart;
@@ -30,6 +31,7 @@ mod search;
 mod solver;
 mod tree;
 mod view;
+mod word;
 
 pub use answer::{Answer, Outcome};
 pub use picker::Picker;

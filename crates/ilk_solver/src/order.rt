@@ -4,19 +4,21 @@ ghost use Rattle.ilk_solver.specs.Order.{HasAbove, IsSettled, KeepsUnset};
 ghost use Rattle.ilk_solver.specs.Tree.{IsTree, KeepsLeaves, StandsIn};
 
 use crate::tree::write_leaf;
+use crate::word::{variable, word};
 use ilk_cnf::Lit;
 use ilk_trail::Trail;
 use std::alloc::{AllocError, Global};
 
 // A tree with each variable.
-pub fn filled(alloc: Global, weights: &[u64]) -> Result<Vec<u64>, AllocError>
+pub fn filled(alloc: Global, weights: &[u64]) -> Result<Vec<u128>, AllocError>
     requires { length weights.now ≤ 2 ^ 62 }
     ensures tree { IfOk result (λ tree. IsTree weights.now tree.items) }
     ensures each { IfOk result (λ tree. (v : ℕ) → 0 < v → v ≤ length weights.now → StandsIn weights.now tree.items v) }
 {
     let mut tree = vec![in alloc; 0; 2 * weights.len() + 2]?;
     for v in 0..weights.len() as u64 {
-        write_leaf(weights, tree.as_mut_slice(), v + 1, v + 1);
+        let entry = word(weights, v + 1);
+        write_leaf(weights, tree.as_mut_slice(), v + 1, entry);
     }
     Ok(tree)
 }
@@ -33,21 +35,21 @@ fn is_past(trail: &Trail, v: u64) -> bool
 }
 
 // Takes set variables off the top.
-pub fn settle(trail: &Trail, weights: &[u64], tree: &mut [u64])
+pub fn settle(trail: &Trail, weights: &[u64], tree: &mut [u128])
     requires vars { trail.now.vars ≡ length weights.now }
     requires tree { IsTree weights.now tree.old }
     ensures tree { IsTree weights.now tree.new }
     ensures kept { KeepsUnset trail.now.entries weights.now tree.old tree.new }
     ensures settled { IsSettled trail.now.entries tree.new }
 {
-    'tops: while is_past(trail, tree[1]) {
-        let top = tree[1];
+    'tops: while is_past(trail, variable(tree[1])) {
+        let top = variable(tree[1]);
         write_leaf(weights, tree, top, 0);
     }
 }
 
 // Puts the variables of the entries above `level` in.
-pub fn put_above(trail: &Trail, weights: &[u64], tree: &mut [u64], level: u64)
+pub fn put_above(trail: &Trail, weights: &[u64], tree: &mut [u128], level: u64)
     requires vars { trail.now.vars ≡ length weights.now }
     requires tree { IsTree weights.now tree.old }
     ensures tree { IsTree weights.now tree.new }
@@ -61,7 +63,8 @@ pub fn put_above(trail: &Trail, weights: &[u64], tree: &mut [u64], level: u64)
             return;
         }
         let v = lit.var();
-        write_leaf(weights, tree, v, v);
+        let entry = word(weights, v);
+        write_leaf(weights, tree, v, entry);
         i -= 1;
     }
 }

@@ -1,10 +1,11 @@
 ghost use Rattle.std.specs.Prelude.{◌≡◌, ◌⊎◌, ◌≤◌, ◌<◌, ◌+◌, ◌-◌, ◌^◌, length, slice_index, slice_set};
-ghost use Rattle.ilk_solver.specs.Tree.{IsTree, IsTreeBut, leaves_of};
+ghost use Rattle.ilk_solver.specs.Word.{word_of};
+ghost use Rattle.ilk_solver.specs.Tree.{IsTree, IsTreeBut, KeepsVariables, leaves_of};
 
-use crate::heavier::heavier;
+use crate::word::{greater, word};
 
 // Decides node `at` again, and then those above it as far as the winner is another one.
-fn replay(weights: &[u64], tree: &mut [u64], from: u64)
+fn replay(weights: &[u64], tree: &mut [u128], from: u64)
     requires from { from ≤ length weights.now }
     requires tree { IsTreeBut weights.now tree.old from }
     ensures tree { IsTree weights.now tree.new }
@@ -12,7 +13,7 @@ fn replay(weights: &[u64], tree: &mut [u64], from: u64)
 {
     let mut at = from as usize;
     'nodes: while at > 0 {
-        let winner = heavier(weights, tree[2 * at], tree[2 * at + 1]);
+        let winner = greater(tree[2 * at], tree[2 * at + 1]);
         if tree[at] == winner {
             return;
         }
@@ -21,10 +22,11 @@ fn replay(weights: &[u64], tree: &mut [u64], from: u64)
     }
 }
 
-// Writes `entry`, which is `v` or 0, to the leaf of variable `v`.
-pub fn write_leaf(weights: &[u64], tree: &mut [u64], v: u64, entry: u64)
+// Writes `entry`, which is the word of `v` or 0, to the leaf of variable `v`.
+pub fn write_leaf(weights: &[u64], tree: &mut [u128], v: u64, entry: u128)
+    requires from_1 { 0 < v }
     requires within { v ≤ length weights.now }
-    requires entry { (entry ≡ 0) ⊎ (entry ≡ v) }
+    requires entry { (entry ≡ 0) ⊎ (entry ≡ word_of weights.now v) }
     requires tree { IsTree weights.now tree.old }
     ensures tree { IsTree weights.now tree.new }
     ensures leaves { leaves_of weights.now tree.new ≡ slice_set (leaves_of weights.now tree.old) v entry }
@@ -38,17 +40,20 @@ pub fn write_leaf(weights: &[u64], tree: &mut [u64], v: u64, entry: u64)
 }
 
 // Counts variable `v` once more, and lets it rise.
-pub fn count_one(weights: &mut [u64], tree: &mut [u64], v: u64)
+pub fn count_one(weights: &mut [u64], tree: &mut [u128], v: u64)
     requires from_1 { 0 < v }
     requires within { v ≤ length weights.old }
     requires room { slice_index weights.old (v - 1) + 1 < 2 ^ 64 }
     requires tree { IsTree weights.old tree.old }
     ensures tree { IsTree weights.new tree.new }
-    ensures leaves { leaves_of weights.new tree.new ≡ leaves_of weights.old tree.old }
+    ensures leaves { KeepsVariables weights.old tree.old weights.new tree.new }
     ensures weights { weights.new ≡ slice_set weights.old (v - 1) (slice_index weights.old (v - 1) + 1) }
 {
-    let entry = tree[weights.len() + 1 + v as usize];
-    write_leaf(weights, tree, v, 0);
     weights[v as usize - 1] += 1;
-    write_leaf(weights, tree, v, entry);
+    let leaf = weights.len() + 1 + v as usize;
+    if tree[leaf] == 0 {
+        return;
+    }
+    tree[leaf] = word(weights, v);
+    replay(weights, tree, leaf as u64 / 2);
 }

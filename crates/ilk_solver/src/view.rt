@@ -10,11 +10,12 @@ ghost use Rattle.ilk_watches.specs.Propagated.{IsPropagated};
 ghost use Rattle.ilk_watches.specs.Watched.{IsQueue};
 ghost use Rattle.ilk_solver.specs.Assigned.{AllSet, SomeUnset};
 ghost use Rattle.ilk_solver.specs.Heaviest.{IsHeaviest};
-ghost use Rattle.ilk_solver.specs.Tree.{IsTree, leaves_of};
+ghost use Rattle.ilk_solver.specs.Tree.{IsTree, KeepsVariables};
 ghost use Rattle.ilk_solver.specs.View.{IsView, weight_of, with_entries};
 
 use crate::order::{filled, put_above, settle};
 use crate::tree::count_one;
+use crate::word::variable;
 use ilk_clauses::Clauses;
 use ilk_cnf::Lit;
 use ilk_trail::Trail;
@@ -28,8 +29,8 @@ use std::marker::Model;
 pub struct View {
     trail: Trail,
     weights: Vec<u64>,
-    // the tree of winners among the unset variables
-    tree: Vec<u64>,
+    // the tree of winners among the unset variables, each in one word with its weight
+    tree: Vec<u128>,
 }
 
 impl Model for View {
@@ -96,7 +97,7 @@ impl View {
         ensures none { IfNone result (AllSet self.now) }
     {
         let _ = self.vars();
-        let top = self.tree[1];
+        let top = variable(self.tree[1]);
         if top == 0 {
             return None;
         }
@@ -179,15 +180,15 @@ impl View {
 }
 
 // Counts a clause: entry v - 1, that of variable v, is 1 more for each of its variables. The tree keeps
-// its leaves.
-fn count_in(weights: &mut [u64], tree: &mut [u64], clause: &[Lit])
+// its variables.
+fn count_in(weights: &mut [u64], tree: &mut [u128], clause: &[Lit])
     requires within { IsTrue (clause_in (length weights.old) clause.now) }
     requires differ { IsTrue (vars_differ clause.now) }
     requires room { (i : ℕ) → slice_index weights.old i + 1 < 2 ^ 64 }
     requires tree { IsTree weights.old tree.old }
     ensures weights { (v : ℕ) → 0 < v → slice_index weights.new (v - 1) ≡ slice_index weights.old (v - 1) + (if has_var v clause.now then 1 else 0) }
     ensures tree { IsTree weights.new tree.new }
-    ensures leaves { leaves_of weights.new tree.new ≡ leaves_of weights.old tree.old }
+    ensures leaves { KeepsVariables weights.old tree.old weights.new tree.new }
 {
     for lit in clause {
         count_one(weights, tree, lit.var());

@@ -1,4 +1,4 @@
-use Rattle.std.proofs.Common.{◌-◌, ap, sym, ◌∙◌, arith}
+use Rattle.std.proofs.Common.{◌-◌, set, ap, sym, ◌∙◌, arith}
 use Rattle.std.specs.List.{slice_get}
 use Rattle.ilk_base.proofs.Options.{mapped-Some}
 use Rattle.ilk_cnf.specs.Literal.{Literal}
@@ -7,6 +7,7 @@ use Rattle.ilk_trail.specs.declared.entry.Entry.{Entry}
 use Rattle.ilk_trail.specs.Laws.{is_set}
 use Rattle.ilk_trail.proofs.Entries.{set-at, entry-within}
 use Rattle.ilk_trail.proofs.Literals.{lit_in-parts}
+use Rattle.ilk_solver.specs.Tree.{leaves_of}
 use Rattle.ilk_solver.proofs.Orders.{low-above, put-done, put-one}
 use Rattle.ilk_solver.proofs.order.put_above.Goals as goal
 
@@ -28,6 +29,27 @@ returns-then-level_of-level-clause-above c =
     let x = mapped-Some (λ (e : Entry). e.lit) (slice_get t.entries (c.entries.i - 1)) c.at-lit.result c.at-lit.ensures in
     low-above t c.args.weights.now c.entries.tree c.entries.i c.args.level x.0 c.at-lit.result c.level_of.result c.count-i.ensures.is_trail x.1 x.2 c.level_of.ensures c.if-level_of-level.true (λ j e h. c.entries.invariant.done j e (omega (arith, h)))
 
+pub word-entry-requires-clause-from_1 : goal.word-entry-requires-clause-from_1
+word-entry-requires-clause-from_1 c =
+    let t = c.args.trail.now in
+    let x = mapped-Some (λ (e : Entry). e.lit) (slice_get t.entries (c.entries.i - 1)) c.at-lit.result c.at-lit.ensures in
+    let w = lit_in-parts t.vars c.at-lit.result (ap (lit_in t.vars) (sym x.2) ∙ entry-within t (c.entries.i - 1) x.0 c.count-i.ensures.is_trail x.1) in
+    omega (arith, w.0, c.var-v.ensures)
+
+pub word-entry-requires-clause-within : goal.word-entry-requires-clause-within
+word-entry-requires-clause-within c =
+    let t = c.args.trail.now in
+    let x = mapped-Some (λ (e : Entry). e.lit) (slice_get t.entries (c.entries.i - 1)) c.at-lit.result c.at-lit.ensures in
+    let w = lit_in-parts t.vars c.at-lit.result (ap (lit_in t.vars) (sym x.2) ∙ entry-within t (c.entries.i - 1) x.0 c.count-i.ensures.is_trail x.1) in
+    omega (arith, w.1, c.var-v.ensures, c.requires.vars)
+
+pub write_leaf-requires-clause-from_1 : goal.write_leaf-requires-clause-from_1
+write_leaf-requires-clause-from_1 c =
+    let t = c.args.trail.now in
+    let x = mapped-Some (λ (e : Entry). e.lit) (slice_get t.entries (c.entries.i - 1)) c.at-lit.result c.at-lit.ensures in
+    let w = lit_in-parts t.vars c.at-lit.result (ap (lit_in t.vars) (sym x.2) ∙ entry-within t (c.entries.i - 1) x.0 c.count-i.ensures.is_trail x.1) in
+    omega (arith, w.0, c.var-v.ensures)
+
 pub write_leaf-requires-clause-within : goal.write_leaf-requires-clause-within
 write_leaf-requires-clause-within c =
     let t = c.args.trail.now in
@@ -40,7 +62,8 @@ entries-preserved c =
     let t = c.args.trail.now in
     let x = mapped-Some (λ (e : Entry). e.lit) (slice_get t.entries (c.entries.i - 1)) c.at-lit.result c.at-lit.ensures in
     let w = lit_in-parts t.vars c.at-lit.result (ap (lit_in t.vars) (sym x.2) ∙ entry-within t (c.entries.i - 1) x.0 c.count-i.ensures.is_trail x.1) in
-    let k = put-one c.args.weights.now c.entries.tree c.write_leaf.new.tree c.var-v.result c.entries.invariant.tree (omega (arith, w.1, c.var-v.ensures, c.requires.vars)) c.write_leaf.ensures.leaves in
+    let leaves = c.write_leaf.ensures.leaves ∙ ap (set (leaves_of c.args.weights.now c.entries.tree) c.var-v.result) c.word-entry.ensures in
+    let k = put-one c.args.weights.now c.entries.tree c.write_leaf.new.tree c.var-v.result c.entries.invariant.tree (omega (arith, w.1, c.var-v.ensures, c.requires.vars)) leaves in
     record {
       within = omega (arith, c.entries.invariant.within);
       tree = c.write_leaf.ensures.tree;

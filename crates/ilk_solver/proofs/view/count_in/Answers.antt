@@ -6,6 +6,7 @@ use Rattle.ilk_base.proofs.Tested.{list_all-slice_get}
 use Rattle.ilk_cnf.specs.Literal.{Literal, has_var, vars_differ}
 use Rattle.ilk_cnf.specs.Formula.{lit_in}
 use Rattle.ilk_trail.proofs.Literals.{lit_in-parts}
+use Rattle.ilk_solver.proofs.Trees.{keeps-on}
 use Rattle.ilk_solver.proofs.Weights.{counted-step, differ-drop}
 use Rattle.ilk_solver.proofs.view.count_in.Goals as goal
 
@@ -27,5 +28,5 @@ loop-lit-preserved c = record {
       let kept = ap (λ (ls : List Literal). get_or w (v - 1) 0 + cond (has_var v ls) 1 0) (sym next) ∙ c.loop-lit.invariant.weights v from_1 in
       rw (c.count_one.ensures.weights, c.var.ensures) (step ∙ kept));
   tree = c.count_one.ensures.tree;
-  leaves = c.count_one.ensures.leaves ∙ c.loop-lit.invariant.leaves;
+  leaves = keeps-on _ _ _ _ _ _ c.loop-lit.invariant.leaves c.count_one.ensures.leaves;
 }
