@@ -51,6 +51,8 @@ pub fn ask(
     let picker = Picker::new(decision);
     let restart = Restart::new(is_restart_due);
     let solver = Solver::new(alloc, &cnf, picker, restart)?;
+    // the solver has the clauses in a form of its own, and a formula may be large
+    drop(cnf);
     let Outcome { answer, log } = solver.solve(alloc, budget)?;
     match answer {
         Answer::Sat(a) => {
