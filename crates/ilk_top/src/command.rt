@@ -40,7 +40,11 @@ fn conf_reply<C: Source, D: Source>(
             drop(plant);
             reply
         }
-        Err(refusals) => Ok(refuse(alloc, command, &refusals)?),
+        Err(refusals) => {
+            let reply = refuse(alloc, command, &refusals);
+            drop(refusals);
+            Ok(reply?)
+        }
     }
 }
 
@@ -76,10 +80,15 @@ fn tell<O: Sink, L: Sink>(reply: Reply, out: &mut O, cert: &mut L) -> Status
         mut report,
         mut certificate,
     } = reply;
-    if write_content(cert, &mut certificate).is_err() {
+    let certified = write_content(cert, &mut certificate);
+    drop(certificate);
+    if certified.is_err() {
+        drop(report);
         return Status::WriteFault;
     }
-    match write_content(out, &mut report) {
+    let told = write_content(out, &mut report);
+    drop(report);
+    match told {
         Ok(()) => status,
         Err(_) => Status::WriteFault,
     }
