@@ -1,15 +1,15 @@
 -- V2 and V3 as conditions hold of the image of a state exactly where the state keeps them.
-use Rattle.std.proofs.Common.{◌≡◌, ℕ, zero, suc, ◌+◌, ◌<◌, ◌≤◌, ◌==◌, Bool, true, false, not, ◌&&◌, ◌||◌, cond, Some, List, [], ◌∷◌, ◌++◌, drop, filter, length, map, nat_le, nat_lt, slice_get, take, inl, inr, refl, sym, ◌∙◌, ap, arith}
+use Rattle.std.proofs.Common.{◌≡◌, ℕ, zero, suc, ◌+◌, ◌-◌, ◌/◌, ◌<◌, ◌≤◌, ◌==◌, Bool, true, false, not, ◌&&◌, ◌||◌, cond, Some, List, [], ◌∷◌, ◌++◌, drop, filter, length, map, nat_le, nat_lt, slice_get, take, inl, inr, refl, sym, ◌∙◌, ap, arith}
 use Rattle.std.proofs.Math.Bool.{and-true}
 use Rattle.std.specs.Prelude.{if◌then◌else◌}
 use Rattle.std.specs.List.{enumerate_from, flat_map, list_all, range_with_len}
-use Rattle.std.proofs.lemmas.Bool.{and_parts, cases_Bool, cases_eq, eq-eqb, eqb-true, or_cases, or_left, or_right}
+use Rattle.std.proofs.lemmas.Bool.{and_from, and_parts, cases_Bool, cases_eq, eq-eqb, eqb-true, or_cases, or_left, or_right}
 use Rattle.std.proofs.lemmas.Bool.Decides.{nat_tests}
 use Rattle.std.proofs.lemmas.List.Folds.{list_all-append, list_all-map}
 use Rattle.std.proofs.lemmas.Option.{same_Some}
 use Rattle.ilk_base.proofs.Truth.{same_truth}
 use Rattle.ilk_base.specs.Each.{each_below}
-use Rattle.ilk_base.proofs.Lists.{item_at, take-at, taken-before}
+use Rattle.ilk_base.proofs.Lists.{get-dropped, item_at, take-at, taken-before}
 use Rattle.ilk_base.proofs.ListTests.{all-at, list_all-alike, list_all-flat_map}
 use Rattle.ilk_base.proofs.Once.{EachOnce}
 use Rattle.ilk_base.proofs.Ranges.{below_or_past, passing_within, range-at, range_within}
@@ -31,7 +31,8 @@ use Rattle.ilk_layout.specs.Image.{image_of}
 use Rattle.ilk_conditions.specs.Conditions.{lock_is}
 use Rattle.ilk_conditions.proofs.Values.{lock-holds}
 use Rattle.ilk_invs.specs.Held.{holding_section, is_holding, rel_below, seen_below}
-use Rattle.ilk_invs.specs.HoldFamilies.{held_once, holders, lock_at_place, locked_for, may_hold, none_before, route_holding, v2_tree, v3_tree}
+use Rattle.ilk_invs.specs.declared.hold_families.TheConstants.{MAX_IN_ORDER}
+use Rattle.ilk_invs.specs.HoldFamilies.{held_by_halves, held_in_order, held_once, holders, lock_at_place, locked_for, may_hold, none_before, none_holding, not_in_both, route_holding, v2_tree, v3_tree}
 use Rattle.ilk_invs.specs.Parts.{each_of, of_each_place, of_each_route}
 use Rattle.ilk_invs.proofs.HeldLaws.{below-next, holding_section-holds, is_holding-holds, rel_below-holds, seen_below-holds}
 use Rattle.ilk_invs.proofs.PartLaws.{each-place, each-route, each_of-holds, state_of_route, where-holds}
@@ -92,6 +93,16 @@ not-both false b h e = cc
 not-true-false : (a : Bool) → not a ≡ true → a ≡ true → ⊥
 not-true-false true h e = cc
 not-true-false false h e = cc
+
+not-where-never : (a : Bool) → (a ≡ true → ⊥) → not a ≡ true
+not-where-never true never = absurd (never refl)
+not-where-never false never = refl
+
+-- what stands past an index stands in the rest of a list from there
+at-dropped : {X : Type 0} (n : ℕ) (xs : List X) (j : ℕ) (x : X) → n ≤ j → slice_get xs j ≡ Some x → slice_get (drop n xs) (j - n) ≡ Some x
+at-dropped n xs j x past at =
+    let sum : n + (j - n) ≡ j = omega (arith, past) in
+    get-dropped xs n (j - n) ∙ ap (slice_get xs) sum ∙ at
 
 module _ (p : PlantLists) (plant : IsPlant p) (s : State) (shape : HasShape p s) where
   -- the lock of a path section
@@ -154,19 +165,26 @@ module _ (p : PlantLists) (plant : IsPlant p) (s : State) (shape : HasShape p s)
       let now = state_of_route p s shape r route.0 route.1 in
       rw (route.1, now.1) (and-true (not (tree_holds (image_of p s) (holding_section r route.0 x))) ∙ ap not (holding_section-holds p s shape r route.0 now.0 x route.1 now.1))
 
+  none_holding-holds : (x : ℕ) (routes : List ℕ) → ((i q : ℕ) → slice_get routes i ≡ Some q → q < length p.routes) → tree_holds (image_of p s) (none_holding p x routes) ≡ list_all (λ q. not (route_holds p s q x)) routes
+  none_holding-holds x routes known =
+      each_of-holds (image_of p s) (map negation (flat_map (route_holding p x) routes))
+      ∙ list_all-map (tree_holds (image_of p s)) negation (flat_map (route_holding p x) routes)
+      ∙ list_all-flat_map (λ t. not (tree_holds (image_of p s) t)) (route_holding p x) routes
+      ∙ list_all-alike (λ q. list_all (λ t. not (tree_holds (image_of p s) t)) (route_holding p x q)) (λ q. not (route_holds p s q x)) routes (λ i q found. not_holding-holds x q (known i q found))
+
   none_before-holds : (x : ℕ) (before : List ℕ) (r : ℕ) → r < length p.routes → ((i q : ℕ) → slice_get before i ≡ Some q → q < length p.routes) → tree_holds (image_of p s) (none_before p x before r) ≡ (if route_holds p s r x then list_all (λ q. not (route_holds p s q x)) before else true)
   none_before-holds x before r within known =
-      where-holds (image_of p s) (each_of (route_holding p x r)) (each_of (map negation (flat_map (route_holding p x) before))) (route_holds p s r x) (list_all (λ q. not (route_holds p s q x)) before) (route_holding-holds x r within)
-      (each_of-holds (image_of p s) (map negation (flat_map (route_holding p x) before))
-      ∙ list_all-map (tree_holds (image_of p s)) negation (flat_map (route_holding p x) before)
-      ∙ list_all-flat_map (λ t. not (tree_holds (image_of p s) t)) (route_holding p x) before
-      ∙ list_all-alike (λ q. list_all (λ t. not (tree_holds (image_of p s) t)) (route_holding p x q)) (λ q. not (route_holds p s q x)) before (λ i q found. not_holding-holds x q (known i q found)))
+      where-holds (image_of p s) (each_of (route_holding p x r)) (none_holding p x before) (route_holds p s r x) (list_all (λ q. not (route_holds p s q x)) before) (route_holding-holds x r within) (none_holding-holds x before known)
 
   holder-known : (x i r : ℕ) → slice_get (holders p x) i ≡ Some r → r < length p.routes
   holder-known x i r at = let less = passing_within (may_hold p x) 0 (length p.routes) i r at in omega (arith, less)
 
-  before-known : (x n i q : ℕ) → slice_get (take n (holders p x)) i ≡ Some q → q < length p.routes
-  before-known x n i q at = holder-known x i q (taken-before n (holders p x) i q at).1
+  -- parts of a list of routes
+  taken-known : (routes : List ℕ) (n : ℕ) → ((i q : ℕ) → slice_get routes i ≡ Some q → q < length p.routes) → (i q : ℕ) → slice_get (take n routes) i ≡ Some q → q < length p.routes
+  taken-known routes n known i q at = known i q (taken-before n routes i q at).1
+
+  dropped-known : (routes : List ℕ) (n : ℕ) → ((i q : ℕ) → slice_get routes i ≡ Some q → q < length p.routes) → (i q : ℕ) → slice_get (drop n routes) i ≡ Some q → q < length p.routes
+  dropped-known routes n known i q at = known (n + i) q (dropped-at n routes i q at)
 
   -- a route that holds a section may hold it
   may-hold : (x r : ℕ) → r < length p.routes → route_holds p s r x ≡ true → may_hold p x r ≡ true
@@ -183,18 +201,107 @@ module _ (p : PlantLists) (plant : IsPlant p) (s : State) (shape : HasShape p s)
             | inr kept ↦ or_left (has_section x route.path) (has_section x (sections_beside route)) (kept-has route now x kept)
           ]
 
-  -- of two holders, the later one's condition speaks of the earlier one
-  two-holders : (x i j r q : ℕ) → list_all (tree_holds (image_of p s)) (held_once p x) ≡ true → i < j → slice_get (holders p x) i ≡ Some r → slice_get (holders p x) j ≡ Some q → route_holds p s r x ≡ true → route_holds p s q x ≡ true → ⊥
-  two-holders x i zero r q all less at also one two = omega (arith, less)
-  two-holders x i (suc j) r q all less at also one two =
-      let place = enumerated-at 1 (drop 1 (holders p x)) j q (before-first (holders p x) j q also) in
-      let sum : 1 + j ≡ suc j = omega arith in
-      let each = sym (list_all-map (tree_holds (image_of p s)) (λ place. none_before p x (take place.0 (holders p x)) place.1) (enumerate_from 1 (drop 1 (holders p x)))) ∙ all in
-      let this : tree_holds (image_of p s) (none_before p x (take (1 + j) (holders p x)) q) ≡ true = list_all-slice_get (λ place. tree_holds (image_of p s) (none_before p x (take place.0 (holders p x)) place.1)) (enumerate_from 1 (drop 1 (holders p x))) j (1 + j, q) each place in
-      let says = sym (none_before-holds x (take (1 + j) (holders p x)) q (holder-known x (suc j) q also) (before-known x (1 + j))) ∙ this in
-      let none = if-passes (route_holds p s q x) (list_all (λ q. not (route_holds p s q x)) (take (1 + j) (holders p x))) says two in
-      let first = list_all-slice_get (λ q. not (route_holds p s q x)) (take (1 + j) (holders p x)) i r none (take-at (holders p x) i (1 + j) r (omega (arith, less)) at) in
+  -- of two routes in order, the later one's condition speaks of the earlier one
+  two-in-order : (x : ℕ) (routes : List ℕ) → ((i q : ℕ) → slice_get routes i ≡ Some q → q < length p.routes) → list_all (tree_holds (image_of p s)) (held_in_order p x routes) ≡ true → (i j r q : ℕ) → i < j → slice_get routes i ≡ Some r → slice_get routes j ≡ Some q → route_holds p s r x ≡ true → route_holds p s q x ≡ true → ⊥
+  two-in-order x routes known all i zero r q less at also one two = omega (arith, less)
+  two-in-order x routes known all i (suc j) r q less at also one two =
+      let place = enumerated-at 1 (drop 1 routes) j q (before-first routes j q also) in
+      let each = sym (list_all-map (tree_holds (image_of p s)) (λ place. none_before p x (take place.0 routes) place.1) (enumerate_from 1 (drop 1 routes))) ∙ all in
+      let this : tree_holds (image_of p s) (none_before p x (take (1 + j) routes) q) ≡ true = list_all-slice_get (λ place. tree_holds (image_of p s) (none_before p x (take place.0 routes) place.1)) (enumerate_from 1 (drop 1 routes)) j (1 + j, q) each place in
+      let says = sym (none_before-holds x (take (1 + j) routes) q (known (suc j) q also) (taken-known routes (1 + j) known)) ∙ this in
+      let none = if-passes (route_holds p s q x) (list_all (λ q. not (route_holds p s q x)) (take (1 + j) routes)) says two in
+      let first = list_all-slice_get (λ q. not (route_holds p s q x)) (take (1 + j) routes) i r none (take-at routes i (1 + j) r (omega (arith, less)) at) in
       not-true-false (route_holds p s r x) first one
+
+  -- of a route of the first list and one of the second not both hold a section
+  one-of-both : (x : ℕ) (these those : List ℕ) → ((i q : ℕ) → slice_get these i ≡ Some q → q < length p.routes) → ((i q : ℕ) → slice_get those i ≡ Some q → q < length p.routes) → tree_holds (image_of p s) (not_in_both p x these those) ≡ true → (i j r q : ℕ) → slice_get these i ≡ Some r → slice_get those j ≡ Some q → route_holds p s r x ≡ true → route_holds p s q x ≡ true → ⊥
+  one-of-both x these those known also_known h i j r q at also one two =
+      elim (or_cases (tree_holds (image_of p s) (none_holding p x these)) (tree_holds (image_of p s) (none_holding p x those) || false) h) [
+        | inl none ↦ not-true-false (route_holds p s r x) (list_all-slice_get (λ r. not (route_holds p s r x)) these i r (sym (none_holding-holds x these known) ∙ none) at) one
+        | inr rest ↦
+            elim (or_cases (tree_holds (image_of p s) (none_holding p x those)) false rest) [
+              | inl none ↦ not-true-false (route_holds p s q x) (list_all-slice_get (λ q. not (route_holds p s q x)) those j q (sym (none_holding-holds x those also_known) ∙ none) also) two
+              | inr never ↦ cc
+            ]
+      ]
+
+  -- no two of some routes hold a section where no two of each part do, nor one of the one part and one of the other
+  of-parts : (x n : ℕ) (routes : List ℕ) → ((i q : ℕ) → slice_get routes i ≡ Some q → q < length p.routes) → tree_holds (image_of p s) (not_in_both p x (take n routes) (drop n routes)) ≡ true → ((i j r q : ℕ) → i < j → slice_get (take n routes) i ≡ Some r → slice_get (take n routes) j ≡ Some q → route_holds p s r x ≡ true → route_holds p s q x ≡ true → ⊥) → ((i j r q : ℕ) → i < j → slice_get (drop n routes) i ≡ Some r → slice_get (drop n routes) j ≡ Some q → route_holds p s r x ≡ true → route_holds p s q x ≡ true → ⊥) → (i j r q : ℕ) → i < j → slice_get routes i ≡ Some r → slice_get routes j ≡ Some q → route_holds p s r x ≡ true → route_holds p s q x ≡ true → ⊥
+  of-parts x n routes known both early late i j r q less at also one two =
+      elim (below_or_past j n) [
+        | inl before ↦ early i j r q less (take-at routes i n r (omega (arith, less, before)) at) (take-at routes j n q before also) one two
+        | inr past ↦
+            elim (below_or_past i n) [
+              | inl before ↦ one-of-both x (take n routes) (drop n routes) (taken-known routes n known) (dropped-known routes n known) both i (j - n) r q (take-at routes i n r before at) (at-dropped n routes j q past also) one two
+              | inr beyond ↦ late (i - n) (j - n) r q (omega (arith, less, past, beyond)) (at-dropped n routes i r beyond at) (at-dropped n routes j q past also) one two
+            ]
+      ]
+
+  -- no two routes hold a section of which the condition by halves holds
+  no-two : (n x : ℕ) (routes : List ℕ) → ((i q : ℕ) → slice_get routes i ≡ Some q → q < length p.routes) → list_all (tree_holds (image_of p s)) (held_by_halves n p x routes) ≡ true → (i j r q : ℕ) → i < j → slice_get routes i ≡ Some r → slice_get routes j ≡ Some q → route_holds p s r x ≡ true → route_holds p s q x ≡ true → ⊥
+  no-two zero x routes known all i j r q less at also one two = two-in-order x routes known all i j r q less at also one two
+  no-two (suc n) x routes known all i j r q less at also one two =
+      by_size (nat_le (length routes) MAX_IN_ORDER) all (no-two n x (take (length routes / 2) routes) (taken-known routes (length routes / 2) known)) (no-two n x (drop (length routes / 2) routes) (dropped-known routes (length routes / 2) known))
+    where
+      by_size : (few : Bool) → list_all (tree_holds (image_of p s)) (if few then held_in_order p x routes else not_in_both p x (take (length routes / 2) routes) (drop (length routes / 2) routes) ∷ held_by_halves n p x (take (length routes / 2) routes) ++ held_by_halves n p x (drop (length routes / 2) routes)) ≡ true → (list_all (tree_holds (image_of p s)) (held_by_halves n p x (take (length routes / 2) routes)) ≡ true → ((i j r q : ℕ) → i < j → slice_get (take (length routes / 2) routes) i ≡ Some r → slice_get (take (length routes / 2) routes) j ≡ Some q → route_holds p s r x ≡ true → route_holds p s q x ≡ true → ⊥)) → (list_all (tree_holds (image_of p s)) (held_by_halves n p x (drop (length routes / 2) routes)) ≡ true → ((i j r q : ℕ) → i < j → slice_get (drop (length routes / 2) routes) i ≡ Some r → slice_get (drop (length routes / 2) routes) j ≡ Some q → route_holds p s r x ≡ true → route_holds p s q x ≡ true → ⊥)) → ⊥
+      by_size true h early late = two-in-order x routes known h i j r q less at also one two
+      by_size false h early late =
+          let parts = and_parts (tree_holds (image_of p s) (not_in_both p x (take (length routes / 2) routes) (drop (length routes / 2) routes))) (list_all (tree_holds (image_of p s)) (held_by_halves n p x (take (length routes / 2) routes) ++ held_by_halves n p x (drop (length routes / 2) routes))) h in
+          let halves = and_parts (list_all (tree_holds (image_of p s)) (held_by_halves n p x (take (length routes / 2) routes))) (list_all (tree_holds (image_of p s)) (held_by_halves n p x (drop (length routes / 2) routes))) (sym (list_all-append (tree_holds (image_of p s)) (held_by_halves n p x (take (length routes / 2) routes)) (held_by_halves n p x (drop (length routes / 2) routes))) ∙ parts.1) in
+          of-parts x (length routes / 2) routes known parts.0 (early halves.0) (late halves.1) i j r q less at also one two
+
+  -- where no two of the routes hold a section, its condition holds: in order, of two lists, and by halves
+  in-order : (x : ℕ) (routes : List ℕ) → ((i q : ℕ) → slice_get routes i ≡ Some q → q < length p.routes) → ((i j r q : ℕ) → i < j → slice_get routes i ≡ Some r → slice_get routes j ≡ Some q → route_holds p s r x ≡ true → route_holds p s q x ≡ true → ⊥) → list_all (tree_holds (image_of p s)) (held_in_order p x routes) ≡ true
+  in-order x routes known never =
+      list_all-map (tree_holds (image_of p s)) (λ place. none_before p x (take place.0 routes) place.1) (enumerate_from 1 (drop 1 routes))
+      ∙ all-pass (λ place. tree_holds (image_of p s) (none_before p x (take place.0 routes) place.1)) (enumerate_from 1 (drop 1 routes)) (λ k place there.
+      let it = enumerated 1 (drop 1 routes) k place there in
+      let at = dropped-at 1 routes k place.1 it.1 in
+      none_before-holds x (take place.0 routes) place.1 (known (1 + k) place.1 at) (taken-known routes place.0 known)
+      ∙ passes-if (route_holds p s place.1 x) (list_all (λ q. not (route_holds p s q x)) (take place.0 routes)) (λ one.
+      all-pass (λ q. not (route_holds p s q x)) (take place.0 routes) (λ j q before.
+      let earlier = taken-before place.0 routes j q before in
+      not-where-never (route_holds p s q x) (λ two. never j (1 + k) q place.1 (let less = earlier.0 in let same = it.0 in omega (arith, less, same)) earlier.1 at two one))))
+
+  of-both : (x : ℕ) (these those : List ℕ) → ((i q : ℕ) → slice_get these i ≡ Some q → q < length p.routes) → ((i q : ℕ) → slice_get those i ≡ Some q → q < length p.routes) → ((i j r q : ℕ) → slice_get these i ≡ Some r → slice_get those j ≡ Some q → route_holds p s r x ≡ true → route_holds p s q x ≡ true → ⊥) → tree_holds (image_of p s) (not_in_both p x these those) ≡ true
+  of-both x these those known also_known never = by_first (tree_holds (image_of p s) (none_holding p x these)) refl
+    where
+      by_first : (b : Bool) → tree_holds (image_of p s) (none_holding p x these) ≡ b → tree_holds (image_of p s) (not_in_both p x these those) ≡ true
+      by_first true e = or_left (tree_holds (image_of p s) (none_holding p x these)) (tree_holds (image_of p s) (none_holding p x those) || false) e
+      by_first false e =
+          or_right (tree_holds (image_of p s) (none_holding p x these)) (tree_holds (image_of p s) (none_holding p x those) || false)
+          (or_left (tree_holds (image_of p s) (none_holding p x those)) false
+          (none_holding-holds x those also_known
+          ∙ all-pass (λ q. not (route_holds p s q x)) those (λ j q also.
+          not-where-never (route_holds p s q x) (λ two.
+          let none : tree_holds (image_of p s) (none_holding p x these) ≡ true =
+          none_holding-holds x these known
+          ∙ all-pass (λ r. not (route_holds p s r x)) these (λ i r at. not-where-never (route_holds p s r x) (λ one. never i j r q at also one two)) in
+          let no : false ≡ true = sym e ∙ none in
+          cc))))
+
+  by-halves : (n x : ℕ) (routes : List ℕ) → ((i q : ℕ) → slice_get routes i ≡ Some q → q < length p.routes) → ((i j r q : ℕ) → i < j → slice_get routes i ≡ Some r → slice_get routes j ≡ Some q → route_holds p s r x ≡ true → route_holds p s q x ≡ true → ⊥) → list_all (tree_holds (image_of p s)) (held_by_halves n p x routes) ≡ true
+  by-halves zero x routes known never = in-order x routes known never
+  by-halves (suc n) x routes known never =
+      by_size (nat_le (length routes) MAX_IN_ORDER)
+      (by-halves n x (take (length routes / 2) routes) (taken-known routes (length routes / 2) known) (λ i j r q less at also one two.
+      never i j r q less (taken-before (length routes / 2) routes i r at).1 (taken-before (length routes / 2) routes j q also).1 one two))
+      (by-halves n x (drop (length routes / 2) routes) (dropped-known routes (length routes / 2) known) (λ i j r q less at also one two.
+      never (length routes / 2 + i) (length routes / 2 + j) r q (omega (arith, less)) (dropped-at (length routes / 2) routes i r at) (dropped-at (length routes / 2) routes j q also) one two))
+    where
+      both : tree_holds (image_of p s) (not_in_both p x (take (length routes / 2) routes) (drop (length routes / 2) routes)) ≡ true
+      both =
+          of-both x (take (length routes / 2) routes) (drop (length routes / 2) routes) (taken-known routes (length routes / 2) known) (dropped-known routes (length routes / 2) known) (λ i j r q at also one two.
+          let here = taken-before (length routes / 2) routes i r at in
+          let less = here.0 in
+          never i (length routes / 2 + j) r q (omega (arith, less)) here.1 (dropped-at (length routes / 2) routes j q also) one two)
+
+      by_size : (few : Bool) → list_all (tree_holds (image_of p s)) (held_by_halves n p x (take (length routes / 2) routes)) ≡ true → list_all (tree_holds (image_of p s)) (held_by_halves n p x (drop (length routes / 2) routes)) ≡ true → list_all (tree_holds (image_of p s)) (if few then held_in_order p x routes else not_in_both p x (take (length routes / 2) routes) (drop (length routes / 2) routes) ∷ held_by_halves n p x (take (length routes / 2) routes) ++ held_by_halves n p x (drop (length routes / 2) routes)) ≡ true
+      by_size true here there = in-order x routes known never
+      by_size false here there =
+          and_from (tree_holds (image_of p s) (not_in_both p x (take (length routes / 2) routes) (drop (length routes / 2) routes))) (list_all (tree_holds (image_of p s)) (held_by_halves n p x (take (length routes / 2) routes) ++ held_by_halves n p x (drop (length routes / 2) routes))) both
+          (list_all-append (tree_holds (image_of p s)) (held_by_halves n p x (take (length routes / 2) routes)) (held_by_halves n p x (drop (length routes / 2) routes))
+          ∙ and_from (list_all (tree_holds (image_of p s)) (held_by_halves n p x (take (length routes / 2) routes))) (list_all (tree_holds (image_of p s)) (held_by_halves n p x (drop (length routes / 2) routes))) here there)
 
   apart_test : ℕ → ℕ → Bool
   apart_test r q = r == q || each_below (length p.sections) (λ x. not (route_holds p s r x && route_holds p s q x))
@@ -218,11 +325,11 @@ module _ (p : PlantLists) (plant : IsPlant p) (s : State) (shape : HasShape p s)
               let first = filter-place (may_hold p x) (range_with_len 0 (length p.routes)) r r (range-at (length p.routes) r one_known) (may-hold x r one_known one) in
               let second = filter-place (may_hold p x) (range_with_len 0 (length p.routes)) q q (range-at (length p.routes) q two_known) (may-hold x q two_known two) in
               elim (below_or_past first.0 second.0) [
-                | inl less ↦ two-holders x first.0 second.0 r q all less first.1 second.1 one two
+                | inl less ↦ no-two (length (holders p x)) x (holders p x) (holder-known x) all first.0 second.0 r q less first.1 second.1 one two
                 | inr past ↦
                     elim (cases_eq first.0 second.0) [
                       | inl same ↦ apart (same_Some r q (sym first.1 ∙ ap (slice_get (holders p x)) same ∙ second.1))
-                      | inr other ↦ two-holders x second.0 first.0 q r all (omega (arith, past, other)) second.1 first.1 two one
+                      | inr other ↦ no-two (length (holders p x)) x (holders p x) (holder-known x) all second.0 first.0 q r (omega (arith, past, other)) second.1 first.1 two one
                     ]
               ]
 
@@ -244,24 +351,18 @@ module _ (p : PlantLists) (plant : IsPlant p) (s : State) (shape : HasShape p s)
       back : keeps_v2 p s ≡ true → list_all (λ x. list_all (tree_holds (image_of p s)) (held_once p x)) (range_with_len 0 (length p.sections)) ≡ true
       back h =
           all-pass (λ x. list_all (tree_holds (image_of p s)) (held_once p x)) (range_with_len 0 (length p.sections)) (λ i x found.
-          list_all-map (tree_holds (image_of p s)) (λ place. none_before p x (take place.0 (holders p x)) place.1) (enumerate_from 1 (drop 1 (holders p x)))
-          ∙ all-pass (λ place. tree_holds (image_of p s) (none_before p x (take place.0 (holders p x)) place.1)) (enumerate_from 1 (drop 1 (holders p x))) (λ k place there.
-          let it = enumerated 1 (drop 1 (holders p x)) k place there in
-          let at = dropped-at 1 (holders p x) k place.1 it.1 in
-          none_before-holds x (take place.0 (holders p x)) place.1 (holder-known x (1 + k) place.1 at) (before-known x place.0)
-          ∙ passes-if (route_holds p s place.1 x) (list_all (λ q. not (route_holds p s q x)) (take place.0 (holders p x))) (λ one.
-          all-pass (λ q. not (route_holds p s q x)) (take place.0 (holders p x)) (λ j q before.
-          let earlier = taken-before place.0 (holders p x) j q before in
-          earlier-not x (1 + k) j place.1 q (range_within (length p.sections) i x found).1 (let less = earlier.0 in let same = it.0 in omega (arith, less, same)) at earlier.1 one))))
+          by-halves (length (holders p x)) x (holders p x) (holder-known x) (λ j k r q less at also one two.
+          never x j k r q (range_within (length p.sections) i x found).1 less at also one two))
         where
-          earlier-not : (x k j r q : ℕ) → x < length p.sections → j < k → slice_get (holders p x) k ≡ Some r → slice_get (holders p x) j ≡ Some q → route_holds p s r x ≡ true → not (route_holds p s q x) ≡ true
-          earlier-not x k j r q inside less at before one =
-              let r_known = holder-known x k r at in
-              let q_known = holder-known x j q before in
-              let apart : r ≡ q → ⊥ = (λ same. let places : k ≡ j = passing-once (may_hold p x) 0 (length p.routes) k j q (at ∙ ap Some same) before in omega (arith, less, places)) in
+          never : (x j k r q : ℕ) → x < length p.sections → j < k → slice_get (holders p x) j ≡ Some r → slice_get (holders p x) k ≡ Some q → route_holds p s r x ≡ true → route_holds p s q x ≡ true → ⊥
+          never x j k r q inside less at also one two =
+              let r_known = holder-known x j r at in
+              let q_known = holder-known x k q also in
+              let apart : r ≡ q → ⊥ = (λ same. let places : j ≡ k = passing-once (may_hold p x) 0 (length p.routes) j k q (at ∙ ap Some same) also in omega (arith, less, places)) in
               let row = list_all-slice_get (λ r. each_below (length p.routes) (apart_test r)) (range_with_len 0 (length p.routes)) r r h (range-at (length p.routes) r r_known) in
               let pair = list_all-slice_get (apart_test r) (range_with_len 0 (length p.routes)) q q row (range-at (length p.routes) q q_known) in
               elim (or_cases (r == q) (each_below (length p.sections) (λ x. not (route_holds p s r x && route_holds p s q x))) pair) [
-                | inl same ↦ absurd (apart (eqb-true r q same))
-                | inr each ↦ not-both (route_holds p s r x) (route_holds p s q x) (list_all-slice_get (λ x. not (route_holds p s r x && route_holds p s q x)) (range_with_len 0 (length p.sections)) x x each (range-at (length p.sections) x inside)) one
+                | inl same ↦ apart (eqb-true r q same)
+                | inr each ↦
+                    not-true-false (route_holds p s q x) (not-both (route_holds p s r x) (route_holds p s q x) (list_all-slice_get (λ x. not (route_holds p s r x && route_holds p s q x)) (range_with_len 0 (length p.sections)) x x each (range-at (length p.sections) x inside)) one) two
               ]

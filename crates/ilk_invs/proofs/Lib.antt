@@ -1,4 +1,5 @@
 pub mod FamilyLaws
+pub mod Halves
 pub mod HeldLaws
 pub mod HoldLaws
 pub mod PartLaws

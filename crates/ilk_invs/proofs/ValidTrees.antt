@@ -1,5 +1,5 @@
 -- Each family as a condition is valid over the ranges of the plant.
-use Rattle.std.proofs.Common.{◌≡◌, ℕ, ◌+◌, ◌-◌, ◌<◌, ◌≤◌, ◌==◌, Bool, true, false, ◌&&◌, Option, Some, None, List, [], ◌∷◌, ◌++◌, drop, length, map, nat_lt, slice_get, take, unwrap_or, refl, ◌∙◌, ap, arith}
+use Rattle.std.proofs.Common.{◌≡◌, ℕ, zero, suc, ◌+◌, ◌-◌, ◌/◌, ◌<◌, ◌≤◌, ◌==◌, Bool, true, false, ◌&&◌, Option, Some, None, List, [], ◌∷◌, ◌++◌, drop, length, map, nat_le, nat_lt, slice_get, take, unwrap_or, refl, ◌∙◌, ap, arith}
 use Rattle.std.specs.Prelude.{if◌then◌else◌}
 use Rattle.std.specs.List.{enumerate_from, flat_map, list_all, range_with_len}
 use Rattle.std.proofs.lemmas.List.Folds.{list_all-append, list_all-map}
@@ -28,7 +28,8 @@ use Rattle.ilk_conditions.proofs.Listed.{commanded_at_listed-valid}
 use Rattle.ilk_conditions.proofs.Valid.{board_is-valid, lies_at_listed-valid, lock_is-valid, mode_is-valid, no_train_at-valid, occupancy_is-valid, rel_is-valid, seen_is-valid}
 use Rattle.ilk_invs.specs.FamilyTrees.{family_tree, family_trees}
 use Rattle.ilk_invs.specs.Held.{holding_section, is_holding, kept_on_path, locked_or_occupied, rel_below, seen_below}
-use Rattle.ilk_invs.specs.HoldFamilies.{held_once, holders, lock_at_place, locked_for, none_before, route_holding, v2_tree, v3_tree}
+use Rattle.ilk_invs.specs.declared.hold_families.TheConstants.{MAX_IN_ORDER}
+use Rattle.ilk_invs.specs.HoldFamilies.{held_by_halves, held_in_order, held_once, holders, lock_at_place, locked_for, none_before, none_holding, not_in_both, route_holding, v2_tree, v3_tree}
 use Rattle.ilk_invs.specs.Parts.{conditions_for, each_of, of_each_place, of_each_route, some_of, where_holds}
 use Rattle.ilk_invs.specs.PointFamily.{points_of_path, set_for, v6_tree}
 use Rattle.ilk_invs.specs.RouteFamilies.{counts_of, opened_for, path_vacant, v1_tree, v4_tree, v5_tree, v9_tree}
@@ -152,16 +153,32 @@ module _ (p : PlantLists) (plant : IsPlant p) where
 
   v2-valid : tree_valid (ranges_of_plant p) (v2_tree p) ≡ true
   v2-valid =
-      each_of-valid (flat_map (held_once p) (range_with_len 0 (length p.sections))) (flat_map-valid (held_once p) (range_with_len 0 (length p.sections)) (λ i x at.
-      map-valid (λ place. none_before p x (take place.0 (holders p x)) place.1) (enumerate_from 1 (drop 1 (holders p x))) (λ k place there. of_holder x (take place.0 (holders p x)) place.1)))
+      each_of-valid (flat_map (held_once p) (range_with_len 0 (length p.sections))) (flat_map-valid (held_once p) (range_with_len 0 (length p.sections)) (λ i x at. by_halves (length (holders p x)) x (holders p x)))
     where
       holding : (x r : ℕ) → list_all (tree_valid (ranges_of_plant p)) (route_holding p x r) ≡ true
       holding x r =
           conditions_for-valid (slice_get p.routes r) (λ route. holding_section r route x ∷ []) (λ route known. one-valid (holding_section r route x) (holding_section-valid r route x known))
 
-      of_holder : (x : ℕ) (before : List ℕ) (r : ℕ) → tree_valid (ranges_of_plant p) (none_before p x before r) ≡ true
-      of_holder x before r =
-          where_holds-valid (each_of (route_holding p x r)) (each_of (map negation (flat_map (route_holding p x) before))) (each_of-valid (route_holding p x r) (holding x r)) (each_of-valid (map negation (flat_map (route_holding p x) before)) (list_all-map (tree_valid (ranges_of_plant p)) negation (flat_map (route_holding p x) before) ∙ flat_map-valid (route_holding p x) before (λ i q at. holding x q)))
+      none : (x : ℕ) (routes : List ℕ) → tree_valid (ranges_of_plant p) (none_holding p x routes) ≡ true
+      none x routes =
+          each_of-valid (map negation (flat_map (route_holding p x) routes)) (list_all-map (tree_valid (ranges_of_plant p)) negation (flat_map (route_holding p x) routes) ∙ flat_map-valid (route_holding p x) routes (λ i q at. holding x q))
+
+      in_order : (x : ℕ) (routes : List ℕ) → list_all (tree_valid (ranges_of_plant p)) (held_in_order p x routes) ≡ true
+      in_order x routes =
+          map-valid (λ place. none_before p x (take place.0 routes) place.1) (enumerate_from 1 (drop 1 routes)) (λ k place there.
+          where_holds-valid (each_of (route_holding p x place.1)) (none_holding p x (take place.0 routes)) (each_of-valid (route_holding p x place.1) (holding x place.1)) (none x (take place.0 routes)))
+
+      by_halves : (n x : ℕ) (routes : List ℕ) → list_all (tree_valid (ranges_of_plant p)) (held_by_halves n p x routes) ≡ true
+      by_halves zero x routes = in_order x routes
+      by_halves (suc n) x routes =
+          by_size (nat_le (length routes) MAX_IN_ORDER) (by_halves n x (take (length routes / 2) routes)) (by_halves n x (drop (length routes / 2) routes))
+        where
+          by_size : (few : Bool) → list_all (tree_valid (ranges_of_plant p)) (held_by_halves n p x (take (length routes / 2) routes)) ≡ true → list_all (tree_valid (ranges_of_plant p)) (held_by_halves n p x (drop (length routes / 2) routes)) ≡ true → list_all (tree_valid (ranges_of_plant p)) (if few then held_in_order p x routes else not_in_both p x (take (length routes / 2) routes) (drop (length routes / 2) routes) ∷ held_by_halves n p x (take (length routes / 2) routes) ++ held_by_halves n p x (drop (length routes / 2) routes)) ≡ true
+          by_size true here there = in_order x routes
+          by_size false here there =
+              more-valid (not_in_both p x (take (length routes / 2) routes) (drop (length routes / 2) routes)) (held_by_halves n p x (take (length routes / 2) routes) ++ held_by_halves n p x (drop (length routes / 2) routes))
+              (some_of-valid (none_holding p x (take (length routes / 2) routes) ∷ none_holding p x (drop (length routes / 2) routes) ∷ []) (two-valid (none_holding p x (take (length routes / 2) routes)) (none_holding p x (drop (length routes / 2) routes)) (none x (take (length routes / 2) routes)) (none x (drop (length routes / 2) routes))))
+              (joined-valid (held_by_halves n p x (take (length routes / 2) routes)) (held_by_halves n p x (drop (length routes / 2) routes)) here there)
 
   v3-valid : tree_valid (ranges_of_plant p) (v3_tree p) ≡ true
   v3-valid =

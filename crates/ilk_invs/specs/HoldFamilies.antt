@@ -1,6 +1,6 @@
 -- The families that speak of the sections that routes hold, and of their locks: V2 and V3, as conditions on the values of
 -- a plant's variables.
-use Rattle.std.specs.Prelude.{ℕ, ◌+◌, Bool, List, [], ◌∷◌, ◌++◌, drop, filter, flat_map, length, map, slice_get, take}
+use Rattle.std.specs.Prelude.{ℕ, zero, suc, ◌+◌, ◌/◌, Bool, List, [], ◌∷◌, ◌++◌, drop, filter, flat_map, if◌then◌else◌, length, map, nat_le, slice_get, take}
 use Rattle.std.specs.List.{enumerate_from, range_with_len}
 use Rattle.ilk_base.specs.Option.{is_some_and}
 use Rattle.ilk_ir.specs.Tree.{Tree, negation}
@@ -11,6 +11,7 @@ use Rattle.ilk_plant.specs.declared.state.Hold.TheVariants.{Locked as LockedLock
 use Rattle.ilk_plant.specs.declared.table.Route.{Route}
 use Rattle.ilk_routes.specs.Claims.{sections_beside}
 use Rattle.ilk_conditions.specs.Conditions.{lock_is}
+use Rattle.ilk_invs.specs.declared.hold_families.TheConstants.{MAX_IN_ORDER}
 use Rattle.ilk_invs.specs.Held.{holding_section, is_holding, rel_below, seen_below}
 use Rattle.ilk_invs.specs.Parts.{conditions_for, each_of, of_each_place, of_each_route, some_of, where_holds}
 
@@ -26,15 +27,36 @@ holders p x = filter (may_hold p x) (range_with_len 0 (length p.routes))
 abbrev pub route_holding : PlantLists → ℕ → ℕ → List Tree
 route_holding p x r = conditions_for (slice_get p.routes r) (λ route. holding_section r route x ∷ [])
 
+-- none of these routes holds x
+abbrev pub none_holding : PlantLists → ℕ → List ℕ → Tree
+none_holding p x routes = each_of (map negation (flat_map (route_holding p x) routes))
+
 -- where route r holds x, none of those before does
 abbrev pub none_before : PlantLists → ℕ → List ℕ → ℕ → Tree
-none_before p x before r =
-    where_holds (each_of (route_holding p x r)) (each_of (map negation (flat_map (route_holding p x) before)))
+none_before p x before r = where_holds (each_of (route_holding p x r)) (none_holding p x before)
 
--- V2 of section x: for its holders in order, from the second on, where one holds it, none of those before does
+-- of these routes, in order and from the second on: where one holds x, none of those before does
+abbrev pub held_in_order : PlantLists → ℕ → List ℕ → List Tree
+held_in_order p x routes =
+    map (λ place. none_before p x (take place.0 routes) place.1) (enumerate_from 1 (drop 1 routes))
+
+-- not one of these routes and one of those both hold x: none of these does, or none of those
+abbrev pub not_in_both : PlantLists → ℕ → List ℕ → List ℕ → Tree
+not_in_both p x these those = some_of (none_holding p x these ∷ none_holding p x those ∷ [])
+
+-- no two of these routes hold x. Where they are many they are halved, up to n times: not one of the first half and one of
+-- the second both hold x, and no two of the first half do, and no two of the second
+abbrev pub held_by_halves : ℕ → PlantLists → ℕ → List ℕ → List Tree
+held_by_halves zero p x routes = held_in_order p x routes
+held_by_halves (suc n) p x routes =
+    if nat_le (length routes) MAX_IN_ORDER then held_in_order p x routes
+    else
+    not_in_both p x (take (length routes / 2) routes) (drop (length routes / 2) routes)
+    ∷ held_by_halves n p x (take (length routes / 2) routes) ++ held_by_halves n p x (drop (length routes / 2) routes)
+
+-- V2 of section x: no two of its holders hold it
 abbrev pub held_once : PlantLists → ℕ → List Tree
-held_once p x =
-    map (λ place. none_before p x (take place.0 (holders p x)) place.1) (enumerate_from 1 (drop 1 (holders p x)))
+held_once p x = held_by_halves (length (holders p x)) p x (holders p x)
 
 abbrev pub v2_tree : PlantLists → Tree
 v2_tree p = each_of (flat_map (held_once p) (range_with_len 0 (length p.sections)))

@@ -18,6 +18,10 @@ use ilk_ir::Form;
 use ilk_plant::{Hold, Listed, Plant, Route, has_section};
 use std::alloc::{AllocError, Global};
 
+/// Up to so many routes that may hold a section are asked one after another whether another holds it;
+/// more are halved.
+pub const MAX_IN_ORDER: usize = 16;
+
 // Whether route `r` has section `x` in its path, its overlap or its protecting points.
 #[tactic(auto, using(crate::proofs::Sections::sections_of_route))]
 fn may_hold(plant: &Plant, x: u32, r: u32) -> bool
@@ -77,6 +81,16 @@ fn push_not_holding(
     Ok(())
 }
 
+// None of these routes holds section `x`.
+fn none_holding(alloc: Global, plant: &Plant, x: u32, routes: &[u32]) -> Result<Form, AllocError>
+    requires { All (λ r. r < length plant.now.routes) routes.now }
+    ensures { IfOk result (λ form. tree_of form ≡ definitions.none_holding plant.now x routes.now) }
+{
+    let mut forms = Vec::new(alloc);
+    push_not_holding(alloc, &mut forms, plant, x, routes)?;
+    Ok(Form::And(forms))
+}
+
 // Where route `r` holds section `x`, none of those before does.
 fn none_before(
     alloc: Global,
@@ -91,13 +105,13 @@ fn none_before(
 {
     let mut held = Vec::new(alloc);
     held.push(route_holding(alloc, plant, x, r)?)?;
-    let mut forms = Vec::new(alloc);
-    push_not_holding(alloc, &mut forms, plant, x, before)?;
-    where_holds(alloc, Form::And(held), Form::And(forms))
+    let none = none_holding(alloc, plant, x, before)?;
+    where_holds(alloc, Form::And(held), none)
 }
 
-// Adds V2 of section `x`, whose holders these are.
-fn push_held_once_by(
+// Adds of each of these routes but the first that where it holds section `x`, none of those before
+// does.
+fn push_held_in_order(
     alloc: Global,
     forms: &mut Vec<Form>,
     plant: &Plant,
@@ -105,11 +119,52 @@ fn push_held_once_by(
     routes: &[u32],
 ) -> Result<(), AllocError>
     requires { All (λ r. r < length plant.now.routes) routes.now }
-    ensures { OnOk result (map tree_of forms.new.items ≡ map tree_of forms.old.items ++ map (λ place. definitions.none_before plant.now x (take place.0 routes.now) place.1) (enumerate_from 1 (drop 1 routes.now))) }
+    ensures { OnOk result (map tree_of forms.new.items ≡ map tree_of forms.old.items ++ definitions.held_in_order plant.now x routes.now) }
 {
     for i in 1..routes.len() {
         forms.push(none_before(alloc, plant, x, &routes[..i], routes[i])?)?;
     }
+    Ok(())
+}
+
+// Not one of these routes and one of those both hold section `x`.
+fn not_in_both(
+    alloc: Global,
+    plant: &Plant,
+    x: u32,
+    these: &[u32],
+    those: &[u32],
+) -> Result<Form, AllocError>
+    requires these { All (λ r. r < length plant.now.routes) these.now }
+    requires those { All (λ r. r < length plant.now.routes) those.now }
+    ensures { IfOk result (λ form. tree_of form ≡ definitions.not_in_both plant.now x these.now those.now) }
+{
+    let mut forms = Vec::new(alloc);
+    forms.push(none_holding(alloc, plant, x, these)?)?;
+    forms.push(none_holding(alloc, plant, x, those)?)?;
+    Ok(Form::Or(forms))
+}
+
+// Adds that no two of these routes hold section `x`; where they are many they are halved, up to `n`
+// times.
+fn push_held_by_halves(
+    alloc: Global,
+    forms: &mut Vec<Form>,
+    plant: &Plant,
+    x: u32,
+    routes: &[u32],
+    n: usize,
+) -> Result<(), AllocError>
+    requires { All (λ r. r < length plant.now.routes) routes.now }
+    ensures { OnOk result (map tree_of forms.new.items ≡ map tree_of forms.old.items ++ definitions.held_by_halves n plant.now x routes.now) }
+{
+    if n == 0 || routes.len() <= MAX_IN_ORDER {
+        return push_held_in_order(alloc, forms, plant, x, routes);
+    }
+    let (first, second) = routes.split_at(routes.len() / 2);
+    forms.push(not_in_both(alloc, plant, x, first, second)?)?;
+    push_held_by_halves(alloc, forms, plant, x, first, n - 1)?;
+    push_held_by_halves(alloc, forms, plant, x, second, n - 1)?;
     Ok(())
 }
 
@@ -123,7 +178,8 @@ fn push_held_once(
     ensures { OnOk result (map tree_of forms.new.items ≡ map tree_of forms.old.items ++ definitions.held_once plant.now x) }
 {
     let routes = holders(alloc, plant, x)?;
-    push_held_once_by(alloc, forms, plant, x, routes.as_slice())
+    let routes = routes.as_slice();
+    push_held_by_halves(alloc, forms, plant, x, routes, routes.len())
 }
 
 /// V2 as a form.
