@@ -1,6 +1,7 @@
 -- Copies of a system's values: exactly one assignment for each list of value lists in range, and their literals say these.
 use Rattle.std.proofs.Common.{◌≡◌, ℕ, ◌<◌, ◌≤◌, zero, suc, Bool, true, List, [], ◌∷◌, ◌++◌, length, get_or, slice_get, Some, refl, sym, ap, ◌∙◌, subst, arith, append_assoc}
 use Rattle.std.specs.List.{list_all}
+use Rattle.std.proofs.lemmas.List.{append-nil}
 use Rattle.std.proofs.lemmas.List.Folds.{list_all-append}
 use Rattle.std.proofs.lemmas.Bool.{and_from, and_parts}
 use Rattle.std.proofs.lemmas.Option.{same_Some}
@@ -29,16 +30,16 @@ use Rattle.ilk_unroll.specs.Tables.{tables_in, valid_in, HaveRanges}
 pub copies-low : (count : ℕ) (ranges : List ℕ) (n : ℕ) → n ≤ (copies_part ranges count n).part.vars
 copies-low zero ranges n = omega arith
 copies-low (suc count) ranges n =
-    let one = copy-low ranges n in
-    let rest = copies-low count ranges (copy_part ranges n).part.vars in
+    let later = copies-low count ranges n in
+    let one = copy-low ranges (copies_part ranges count n).part.vars in
     omega arith
 
 pub copies-in : (count : ℕ) (ranges : List ℕ) (n : ℕ) → ranges_fit ranges ≡ true → clauses_in (copies_part ranges count n).part.vars (copies_part ranges count n).part.clauses ≡ true
 copies-in zero ranges n fit = refl
 copies-in (suc count) ranges n fit =
-    let p = (copy_part ranges n).part in
-    let rest = (copies_part ranges count p.vars).part in
-    list_all-append (clause_in rest.vars) p.clauses rest.clauses ∙ and_from _ _ (clauses_in-more p.vars rest.vars p.clauses (copies-low count ranges p.vars) (copy-in ranges n fit)) (copies-in count ranges p.vars fit)
+    let later = (copies_part ranges count n).part in
+    let p = (copy_part ranges later.vars).part in
+    list_all-append (clause_in p.vars) later.clauses p.clauses ∙ and_from _ _ (clauses_in-more later.vars p.vars later.clauses (copy-low ranges later.vars) (copies-in count ranges n fit)) (copy-in ranges later.vars fit)
 
 pub tables_in-more : (m n : ℕ) (tables : List (List Column)) → m ≤ n → tables_in m tables ≡ true → tables_in n tables ≡ true
 tables_in-more m n [] le h = refl
@@ -49,16 +50,17 @@ tables_in-more m n (table ∷ tables) le h =
 pub copies-tables_in : (count : ℕ) (ranges : List ℕ) (n : ℕ) → ranges_fit ranges ≡ true → tables_in (copies_part ranges count n).part.vars (copies_part ranges count n).tables ≡ true
 copies-tables_in zero ranges n fit = refl
 copies-tables_in (suc count) ranges n fit =
-    let p = copy_part ranges n in
-    and_from _ _ (columns_in-more p.part.vars (copies_part ranges count p.part.vars).part.vars p.columns (copies-low count ranges p.part.vars) (copy-lits_in ranges n fit)) (copies-tables_in count ranges p.part.vars fit)
+    let later = copies_part ranges count n in
+    let m = later.part.vars in
+    and_from _ _ (copy-lits_in ranges m fit) (tables_in-more m (copy_part ranges m).part.vars later.tables (copy-low ranges m) (copies-tables_in count ranges n fit))
 
 pub copies-ranges : (count : ℕ) (ranges : List ℕ) (n : ℕ) → HaveRanges ranges (copies_part ranges count n).tables
 copies-ranges zero ranges n = tt
-copies-ranges (suc count) ranges n = (copy-ranges ranges n, copies-ranges count ranges (copy_part ranges n).part.vars)
+copies-ranges (suc count) ranges n = (copy-ranges ranges (copies_part ranges count n).part.vars, copies-ranges count ranges n)
 
 pub copies-many : (count : ℕ) (ranges : List ℕ) (n : ℕ) → length (copies_part ranges count n).tables ≡ count
 copies-many zero ranges n = refl
-copies-many (suc count) ranges n = ap suc (copies-many count ranges (copy_part ranges n).part.vars)
+copies-many (suc count) ranges n = ap suc (copies-many count ranges n)
 
 -- a form that is valid over the ranges is so over each copy
 pub valid_in-from : (ranges : List ℕ) (tables : List (List Column)) (t : Tree) → HaveRanges ranges tables → tree_valid ranges t ≡ true → valid_in tables t ≡ true
@@ -80,26 +82,24 @@ copies-law zero ranges a n size fit = in_words a n [] (Only []) (AreCopies zero 
     none b [] h e = e
     none b (values ∷ run) h e = absurd (omega arith)
 copies-law (suc count) ranges a n size fit =
-    in_words a (copies_part ranges (suc count) n).part.vars (copies_part ranges (suc count) n).part.clauses _ (AreCopies (suc count) ranges) to (λ b h. split b h.0 h.1 h.2 h.3) (in_turn a m rest.vars (copy_part ranges n).part.clauses rest.clauses (IsCopy ranges) (λ b _. AreCopies count ranges) (omega (arith, size, copy-low ranges n)) (copies-low count ranges m) (copy-in ranges n fit) first (λ b h. copies-law count ranges (a ++ b) m (first.sized b h) fit))
+    let first = copies-law count ranges a n size fit in
+    in_words a (copies_part ranges (suc count) n).part.vars (copies_part ranges (suc count) n).part.clauses _ (AreCopies (suc count) ranges) to (λ b h. split b h.0 h.1 h.2 h.3) (in_turn a later.vars one.vars later.clauses one.clauses (AreCopies count ranges) (λ b _. IsCopy ranges) (omega (arith, size, copies-low count ranges n)) (copy-low ranges later.vars) (copies-in count ranges n fit) first (λ b h. copy-law ranges (a ++ b) later.vars (first.sized b h) fit))
   where
-    m : ℕ
-    m = (copy_part ranges n).part.vars
+    later : Part
+    later = (copies_part ranges count n).part
 
-    rest : Part
-    rest = (copies_part ranges count m).part
+    one : Part
+    one = (copy_part ranges later.vars).part
 
-    first : Extends a m (copy_part ranges n).part.clauses (IsCopy ranges)
-    first = copy-law ranges a n size fit
-
-    to : (b : List Bool) → Then (IsCopy ranges) (λ b _. AreCopies count ranges) b → AreCopies (suc count) ranges b
+    to : (b : List Bool) → Then (AreCopies count ranges) (λ b _. IsCopy ranges) b → AreCopies (suc count) ranges b
     to b h =
-        (h.3.0 ∷ h.4.0, ap suc h.4.1, and_from _ _ h.3.1 h.4.2, h.2 ∙ ap (λ (u : List Bool). u ++ h.1) h.3.2 ∙ ap (λ (u : List Bool). copy_bits ranges h.3.0 ++ u) h.4.3)
+        (h.4.0 ∷ h.3.0, ap suc h.3.1, and_from _ _ h.4.1 h.3.2, h.2 ∙ ap (λ (u : List Bool). u ++ h.1) h.3.3 ∙ ap (λ (u : List Bool). copies_bits ranges h.3.0 ++ u) h.4.2)
 
-    split : (b : List Bool) (run : List (List ℕ)) → length run ≡ suc count → all_in_ranges ranges run ≡ true → b ≡ copies_bits ranges run → Then (IsCopy ranges) (λ b _. AreCopies count ranges) b
+    split : (b : List Bool) (run : List (List ℕ)) → length run ≡ suc count → all_in_ranges ranges run ≡ true → b ≡ copies_bits ranges run → Then (AreCopies count ranges) (λ b _. IsCopy ranges) b
     split b [] l r e = absurd (omega arith)
     split b (values ∷ run) l r e =
         let parts = and_parts (in_ranges values ranges) (all_in_ranges ranges run) r in
-        (copy_bits ranges values, copies_bits ranges run, e, (values, parts.0, refl), (run, (omega arith), parts.1, refl))
+        (copies_bits ranges run, copy_bits ranges values, e, (run, (omega arith), parts.1, refl), (values, parts.0, refl))
 
 -- the literals of a copy of n variables' formula say its values
 pub record TableSays (a : List Bool) (n : ℕ) (ranges : List ℕ) (table : List Column) (values : List ℕ) : Type 0 where
@@ -136,19 +136,23 @@ copies-say zero ranges (values ∷ run) a n size fit l h = absurd (omega arith)
 copies-say (suc count) ranges [] a n size fit l h = absurd (omega arith)
 copies-say (suc count) ranges (values ∷ run) a n size fit l h =
     let parts = and_parts (in_ranges values ranges) (all_in_ranges ranges run) h in
-    let p = copy_part ranges n in
-    let m = p.part.vars in
-    let b = copy_bits ranges values in
-    let long : length (a ++ b) ≡ m = (copy-law ranges a n size fit).sized b (values, parts.0, refl) in
-    let end = (copies_part ranges count m).part.vars in
-    let first : TableSays (a ++ (b ++ copies_bits ranges run)) end ranges p.columns values = record {
-      within = columns_in-more m end p.columns (copies-low count ranges m) (copy-lits_in ranges n fit);
-      has_ranges = copy-ranges ranges n;
-      says = copy-say ranges values a (copies_bits ranges run) n size fit parts.0;
+    let later = copies_part ranges count n in
+    let m = later.part.vars in
+    let p = copy_part ranges m in
+    let b = copies_bits ranges run in
+    let c = copy_bits ranges values in
+    let many : length run ≡ count = omega arith in
+    let long : length (a ++ b) ≡ m = (copies-law count ranges a n size fit).sized b (run, many, parts.1, refl) in
+    let whole : (a ++ b) ++ c ≡ a ++ (b ++ c) = append_assoc a b c in
+    let bare : (a ++ b) ++ (c ++ []) ≡ a ++ (b ++ c) = ap (λ (u : List Bool). (a ++ b) ++ u) (append-nil c) ∙ whole in
+    let first : TableSays (a ++ (b ++ c)) p.part.vars ranges p.columns values = record {
+      within = copy-lits_in ranges m fit;
+      has_ranges = copy-ranges ranges m;
+      says = subst (λ (u : List Bool). LiteralsSay u p.columns ranges values) bare (copy-say ranges values (a ++ b) [] m long fit parts.0);
       in_range = parts.0;
     } in
-    let rest = copies-say count ranges run (a ++ b) m long fit (omega arith) parts.1 in
-    (first, subst (λ (u : List Bool). TablesSay u end ranges (copies_part ranges count m).tables run) (append_assoc a b (copies_bits ranges run)) rest)
+    let rest = tables_say-more later.tables run (a ++ b) c m p.part.vars ranges long (copy-low ranges m) (copies-say count ranges run a n size fit many parts.1) in
+    (first, subst (λ (u : List Bool). TablesSay u p.part.vars ranges later.tables run) whole rest)
 
 -- the copy with a number
 pub table-at : (tables : List (List Column)) (run : List (List ℕ)) (a : List Bool) (n : ℕ) (ranges : List ℕ) (j : ℕ) → TablesSay a n ranges tables run → j < length tables → TableSays a n ranges (get_or tables j []) (get_or run j []) × (slice_get run j ≡ Some (get_or run j []))
@@ -158,19 +162,12 @@ table-at (table ∷ tables) (values ∷ run) a n ranges zero h less = (h.0, refl
 table-at (table ∷ tables) (values ∷ run) a n ranges (suc j) h less = table-at tables run a n ranges j h.1 (omega arith)
 
 -- one copy more
-
-pub copies-step : (f g : Formula) (ranges : List ℕ) (tables whole : List (List Column)) (table : List Column) (end : Formula) (k m : ℕ) → k ≡ suc m → table ≡ (copy_part ranges f.vars).columns → g ≡ with_part f (copy_part ranges f.vars).part → tables ++ (copies_part ranges k f.vars).tables ≡ whole → with_part f (copies_part ranges k f.vars).part ≡ end → ((tables ++ table ∷ []) ++ (copies_part ranges m g.vars).tables ≡ whole) × (with_part g (copies_part ranges m g.vars).part ≡ end)
-copies-step f g ranges tables whole table end k m split is made seen h =
-    let p = copy_part ranges f.vars in (
-      append_assoc tables (table ∷ []) (copies_part ranges m g.vars).tables
-          ∙ ap (λ (t : List Column). tables ++ t ∷ (copies_part ranges m g.vars).tables) is
-          ∙ ap (λ (e : Formula). tables ++ p.columns ∷ (copies_part ranges m e.vars).tables) made
-          ∙ ap (λ (i : ℕ). tables ++ (copies_part ranges i f.vars).tables) (sym split)
-          ∙ seen,
-      ap (λ (e : Formula). with_part e (copies_part ranges m e.vars).part) made
-          ∙ with_part-and_then f p.part (λ i. (copies_part ranges m i).part)
-          ∙ ap (λ (i : ℕ). with_part f (copies_part ranges i f.vars).part) (sym split)
-          ∙ h,
+pub copies-step : (f g h : Formula) (ranges : List ℕ) (tables : List (List Column)) (table : List Column) (i : ℕ) → tables ≡ (copies_part ranges i f.vars).tables → g ≡ with_part f (copies_part ranges i f.vars).part → table ≡ (copy_part ranges g.vars).columns → h ≡ with_part g (copy_part ranges g.vars).part → (table ∷ tables ≡ (copies_part ranges (suc i) f.vars).tables) × (h ≡ with_part f (copies_part ranges (suc i) f.vars).part)
+copies-step f g h ranges tables table i seen made is more =
+    let later = (copies_part ranges i f.vars).part in
+    let vars : g.vars ≡ later.vars = ap (λ (k : Formula). k.vars) made in (
+      ap (λ (t : List Column). t ∷ tables) (is ∙ ap (λ (k : ℕ). (copy_part ranges k).columns) vars) ∙ ap (λ (ts : List (List Column)). (copy_part ranges later.vars).columns ∷ ts) seen,
+      more ∙ ap (λ (k : Formula). with_part k (copy_part ranges k.vars).part) made ∙ with_part-and_then f later (λ m. (copy_part ranges m).part),
     )
 
 -- a copy of the list, by its number

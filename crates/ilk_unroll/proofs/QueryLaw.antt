@@ -27,7 +27,7 @@ use Rattle.ilk_unroll.specs.Run.{run_from, met_by, is_wanted_run}
 use Rattle.ilk_unroll.specs.Query.{CopyTables, copies_part, steps_part, demands_part, query_part, query_formula}
 use Rattle.ilk_unroll.specs.Assignment.{copies_bits, steps_bits, demands_bits, run_bits, run_assignment, IsWantedRun}
 use Rattle.ilk_unroll.specs.Tables.{tables_in, valid_in, HaveRanges, step_choices, AllChosen}
-use Rattle.ilk_unroll.proofs.CopiesLaw.{copies-low, copies-in, copies-tables_in, copies-ranges, copies-many, all_in_ranges, AreCopies, copies-law, TablesSay, copies-say, tables_say-more, tables_in-more, valid_in-from}
+use Rattle.ilk_unroll.proofs.CopiesLaw.{copies-in, copies-step, copies-tables_in, copies-ranges, copies-many, all_in_ranges, AreCopies, copies-law, TablesSay, copies-say, tables_say-more, tables_in-more, valid_in-from}
 use Rattle.ilk_unroll.proofs.StepsLaw.{Joined, AreSteps, steps-fits, steps-law, steps-say}
 use Rattle.ilk_unroll.proofs.DemandsLaw.{demanded_valid, demands-fits, demands-law, demanded-valid}
 use Rattle.ilk_unroll.proofs.Runs.{run-is, joined-run, joined-many}
@@ -134,8 +134,12 @@ query-law s g q valid fit goal_ok =
         let e : b ≡ run_bits s g q run h.1 = h.3 ∙ assignment-is s g q h.0 h.1 run w.is in
         (copies_bits ranges run, steps_bits s.ranges s.rules run h.1 ++ demands_bits s.ranges run ds, e, (run, r.many ∙ ap suc w.many, r.in_range, refl), (steps_bits s.ranges s.rules run h.1, demands_bits s.ranges run ds, refl, (h.1, r.joined, refl), (w.met, refl)))
 
+-- where the variables of the first values' copy begin
+abbrev pub first_variable : List ℕ → ℕ → ℕ
+first_variable ranges steps = (copies_part ranges steps 0).part.vars + 1
+
 -- the assignment of a run has the bits of its first values, and its rules are chosen
-pub run-says : (s : SystemTree) (g : GoalTree) (q : Wanted) (first rules : List ℕ) → system_valid s ≡ true → ranges_fit s.ranges ≡ true → Wants s g q first rules → HaveBits (run_assignment s g q first rules) 1 s.ranges first × AllChosen (run_assignment s g q first rules) (step_choices s.rules (copies_part s.ranges (suc (step_count q)) 0).tables (copies_part s.ranges (suc (step_count q)) 0).part.vars) rules
+pub run-says : (s : SystemTree) (g : GoalTree) (q : Wanted) (first rules : List ℕ) → system_valid s ≡ true → ranges_fit s.ranges ≡ true → Wants s g q first rules → HaveBits (run_assignment s g q first rules) (first_variable s.ranges (step_count q)) s.ranges first × AllChosen (run_assignment s g q first rules) (step_choices s.rules (copies_part s.ranges (suc (step_count q)) 0).tables (copies_part s.ranges (suc (step_count q)) 0).part.vars) rules
 run-says s g q first rules valid fit w =
     let ranges = s.ranges in
     let count = suc (step_count q) in
@@ -147,11 +151,18 @@ run-says s g q first rules valid fit w =
     let e : run_assignment s g q first rules ≡ copies_bits ranges run ++ end = assignment-is s g q first rules run w.is in
     let long : length (copies_bits ranges run) ≡ c.part.vars = (copies-law count ranges [] 0 refl fit).sized (copies_bits ranges run) (run, many, r.in_range, refl) in
     let says = copies-say count ranges run [] 0 refl fit many r.in_range in
-    let begins : copies_bits ranges run ++ end ≡ numbers_bits ranges first ++ (columns_bits ranges first ++ (copies_bits ranges r.rest ++ end)) =
-    ap (λ (u : List (List ℕ)). copies_bits ranges u ++ end) r.begins ∙ append_assoc (copy_bits ranges first) (copies_bits ranges r.rest) end ∙ append_assoc (numbers_bits ranges first) (columns_bits ranges first) (copies_bits ranges r.rest ++ end) in (
-      subst (λ (u : List Bool). HaveBits u 1 ranges first) (sym (e ∙ begins)) (HaveBits-new ranges first [] (columns_bits ranges first ++ (copies_bits ranges r.rest ++ end)) 1 refl w.in_range),
+    let later = copies_bits ranges r.rest in
+    let followed : length r.rest ≡ step_count q = suc-same (sym (ap length r.begins) ∙ many) in
+    let rest_in : all_in_ranges ranges r.rest ≡ true = (and_parts _ _ (ap (all_in_ranges ranges) (sym r.begins) ∙ r.in_range)).1 in
+    let reach : length later ≡ (copies_part ranges (step_count q) 0).part.vars = (copies-law (step_count q) ranges [] 0 refl fit).sized later (r.rest, followed, rest_in, refl) in
+    let begins : copies_bits ranges run ++ end ≡ later ++ (numbers_bits ranges first ++ (columns_bits ranges first ++ end)) =
+    ap (λ (u : List (List ℕ)). copies_bits ranges u ++ end) r.begins ∙ append_assoc later (copy_bits ranges first) end ∙ ap (λ (u : List Bool). later ++ u) (append_assoc (numbers_bits ranges first) (columns_bits ranges first) end) in (
+      subst (λ (u : List Bool). HaveBits u (first_variable ranges (step_count q)) ranges first) (sym (e ∙ begins)) (HaveBits-new ranges first later (columns_bits ranges first ++ end) (first_variable ranges (step_count q)) (ap (λ (k : ℕ). k + 1) reach) w.in_range),
       subst (λ (u : List Bool). AllChosen u (step_choices s.rules c.tables c.part.vars) rules) (sym e) (steps-say c.tables run rules (copies_bits ranges run) (demands_bits s.ranges run (demanded g q)) c.part.vars ranges s.rules long says (rules-valid s valid) r.joined),
     )
+  where
+    suc-same : {m n : ℕ} → suc m ≡ suc n → m ≡ n
+    suc-same h = omega arith
 
 -- the calls
 
@@ -161,12 +172,12 @@ positive-ranges s valid = (and_parts _ _ (and_parts _ _ valid).0).1
 abbrev pub no_formula : Formula
 no_formula = record { vars = 0; clauses = [] }
 
--- copies in an empty formula
-pub copies_made : (ranges : List ℕ) (steps : ℕ) (f g : Formula) (tables : List (List Column)) → f ≡ no_formula → tables ≡ (copies_part ranges (steps + 1) f.vars).tables → g ≡ with_part f (copies_part ranges (steps + 1) f.vars).part → (tables ≡ (copies_part ranges (suc steps) 0).tables) × (g ≡ with_part no_formula (copies_part ranges (suc steps) 0).part)
-copies_made ranges steps f g tables empty seen made =
-    let more : steps + 1 ≡ suc steps = omega arith in (
-      seen ∙ ap (λ (k : Formula). (copies_part ranges (steps + 1) k.vars).tables) empty ∙ ap (λ (i : ℕ). (copies_part ranges i 0).tables) more,
-      made ∙ ap (λ (k : Formula). with_part k (copies_part ranges (steps + 1) k.vars).part) empty ∙ ap (λ (i : ℕ). with_part no_formula (copies_part ranges i 0).part) more,
+-- copies in an empty formula: of what follows each step, and then of the first values
+pub copies_made : (ranges : List ℕ) (steps : ℕ) (f g h : Formula) (tables all : List (List Column)) (table : List Column) → f ≡ no_formula → tables ≡ (copies_part ranges steps f.vars).tables → g ≡ with_part f (copies_part ranges steps f.vars).part → table ≡ (copy_part ranges g.vars).columns → h ≡ with_part g (copy_part ranges g.vars).part → all ≡ table ∷ tables → (all ≡ (copies_part ranges (suc steps) 0).tables) × (h ≡ with_part no_formula (copies_part ranges (suc steps) 0).part)
+copies_made ranges steps f g h tables all table empty seen made is more joined =
+    let step = copies-step f g h ranges tables table steps seen made is more in (
+      joined ∙ step.0 ∙ ap (λ (k : Formula). (copies_part ranges (suc steps) k.vars).tables) empty,
+      step.1 ∙ ap (λ (k : Formula). with_part k (copies_part ranges (suc steps) k.vars).part) empty,
     )
 
 pub unrolled_made : (ranges : List ℕ) (rules : List RuleTree) (steps : ℕ) (g h : Formula) (tables : List (List Column)) → tables ≡ (copies_part ranges (suc steps) 0).tables → g ≡ with_part no_formula (copies_part ranges (suc steps) 0).part → h ≡ with_part g (steps_part rules tables g.vars) → h ≡ with_part no_formula (and_then (copies_part ranges (suc steps) 0).part (steps_part rules (copies_part ranges (suc steps) 0).tables))
@@ -178,12 +189,11 @@ unrolled_made ranges rules steps g h tables seen made last =
     ∙ with_part-and_then no_formula c.part (steps_part rules c.tables)
 
 -- what unrolling leaves, where the copies were made
-pub unrolled-inside : (ranges : List ℕ) (steps : ℕ) (f g : Formula) (tables : List (List Column)) → ranges_fit ranges ≡ true → f ≡ no_formula → tables ≡ (copies_part ranges (steps + 1) f.vars).tables → g ≡ with_part f (copies_part ranges (steps + 1) f.vars).part → (tables_in g.vars tables ≡ true) × HaveRanges ranges tables
-unrolled-inside ranges steps f g tables fit empty seen made =
-    let p = copies_part ranges (suc steps) 0 in
-    let is = copies_made ranges steps f g tables empty seen made in (
-      ap (λ (k : Formula). tables_in k.vars tables) is.1 ∙ ap (tables_in p.part.vars) is.0 ∙ copies-tables_in (suc steps) ranges 0 fit,
-      subst (HaveRanges ranges) (sym is.0) (copies-ranges (suc steps) ranges 0),
+pub unrolled-inside : (ranges : List ℕ) (steps : ℕ) (g : Formula) (tables : List (List Column)) → ranges_fit ranges ≡ true → tables ≡ (copies_part ranges (suc steps) 0).tables → g ≡ with_part no_formula (copies_part ranges (suc steps) 0).part → (tables_in g.vars tables ≡ true) × HaveRanges ranges tables
+unrolled-inside ranges steps g tables fit seen made =
+    let p = copies_part ranges (suc steps) 0 in (
+      ap (λ (k : Formula). tables_in k.vars tables) made ∙ ap (tables_in p.part.vars) seen ∙ copies-tables_in (suc steps) ranges 0 fit,
+      subst (HaveRanges ranges) (sym seen) (copies-ranges (suc steps) ranges 0),
     )
 
 -- and where the steps were
@@ -194,22 +204,21 @@ unrolled-within s g h tables valid inside have made =
     let low = fits.low in
     (ap (λ (k : ℕ). tables_in k tables) vars ∙ tables_in-more g.vars (steps_part s.rules tables g.vars).vars tables low inside, omega arith)
 
--- the bits of the first copy
-pub copies-reach : (ranges : List ℕ) (count : ℕ) → total_bits ranges ≤ (copies_part ranges (suc count) 0).part.vars
-copies-reach ranges count =
-    let one = copies-low count ranges (copy_part ranges 0).part.vars in
-    let two = columns-low ranges 1 (numbers_part ranges 0).vars in
-    let end = numbers-end ranges 0 in
+-- the bits of the first values' copy
+pub copies-reach : (ranges : List ℕ) (steps : ℕ) → first_variable ranges steps + total_bits ranges ≤ (copies_part ranges (suc steps) 0).part.vars + 1
+copies-reach ranges steps =
+    let n = (copies_part ranges steps 0).part.vars in
+    let two = columns-low ranges (n + 1) (numbers_part ranges n).vars in
+    let end = numbers-end ranges n in
     omega arith
 
-pub unrolled-reach : (s : SystemTree) (steps : ℕ) (f g h : Formula) (tables : List (List Column)) → system_valid s ≡ true → ranges_fit s.ranges ≡ true → f ≡ no_formula → tables ≡ (copies_part s.ranges (steps + 1) f.vars).tables → g ≡ with_part f (copies_part s.ranges (steps + 1) f.vars).part → h ≡ with_part g (steps_part s.rules tables g.vars) → total_bits s.ranges ≤ h.vars
-unrolled-reach s steps f g h tables valid fit empty seen made last =
-    let is = copies_made s.ranges steps f g tables empty seen made in
-    let inside = unrolled-inside s.ranges steps f g tables fit empty seen made in
+pub unrolled-reach : (s : SystemTree) (steps : ℕ) (g h : Formula) (tables : List (List Column)) → system_valid s ≡ true → ranges_fit s.ranges ≡ true → tables ≡ (copies_part s.ranges (suc steps) 0).tables → g ≡ with_part no_formula (copies_part s.ranges (suc steps) 0).part → h ≡ with_part g (steps_part s.rules tables g.vars) → first_variable s.ranges steps + total_bits s.ranges ≤ h.vars + 1
+unrolled-reach s steps g h tables valid fit seen made last =
+    let inside = unrolled-inside s.ranges steps g tables fit seen made in
     let within = unrolled-within s g h tables valid inside.0 inside.1 last in
     let low = within.1 in
     let reach = copies-reach s.ranges steps in
-    let vars : g.vars ≡ (copies_part s.ranges (suc steps) 0).part.vars = ap (λ (k : Formula). k.vars) is.1 in
+    let vars : g.vars ≡ (copies_part s.ranges (suc steps) 0).part.vars = ap (λ (k : Formula). k.vars) made in
     omega arith
 
 -- the whole formula
@@ -251,8 +260,8 @@ tables-many s steps q tables count seen =
     let long : length tables ≡ suc steps = ap length seen ∙ copies-many (suc steps) s.ranges 0 in
     omega arith
 
--- the bits of the first copy are of the formula
-query-reach : (s : SystemTree) (g : GoalTree) (q : Wanted) → system_valid s ≡ true → ranges_fit s.ranges ≡ true → goal_valid s.ranges g ≡ true → total_bits s.ranges ≤ (query_part s g q).vars
+-- the bits of the first values' copy are of the formula
+query-reach : (s : SystemTree) (g : GoalTree) (q : Wanted) → system_valid s ≡ true → ranges_fit s.ranges ≡ true → goal_valid s.ranges g ≡ true → first_variable s.ranges (step_count q) + total_bits s.ranges ≤ (query_part s g q).vars + 1
 query-reach s g q valid fit goal_ok =
     let ranges = s.ranges in
     let count = suc (step_count q) in
@@ -270,24 +279,25 @@ query-reach s g q valid fit goal_ok =
     omega arith
 
 -- a satisfying assignment's run, and what tells it
-pub record ReadsAs (s : SystemTree) (g : GoalTree) (q : Wanted) (a : List Bool) (choices : List Choice) : Type 0 where
+pub record ReadsAs (s : SystemTree) (g : GoalTree) (q : Wanted) (a : List Bool) (from : ℕ) (choices : List Choice) : Type 0 where
   pub first : List ℕ
   pub rules : List ℕ
   pub wanted : is_wanted_run s g q first rules ≡ true
   pub is : a ≡ run_assignment s g q first rules
   pub in_range : in_ranges first s.ranges ≡ true
-  pub have : HaveBits a 1 s.ranges first
+  pub have : HaveBits a from s.ranges first
   pub chosen : AllChosen a choices rules
-  pub reached : total_bits s.ranges ≤ length a
+  pub reached : from + total_bits s.ranges ≤ length a + 1
 
-pub reads_as : (s : SystemTree) (g : GoalTree) (q : Wanted) (a : List Bool) (steps : ℕ) (choices : List Choice) → system_valid s ≡ true → ranges_fit s.ranges ≡ true → goal_valid s.ranges g ≡ true → length a ≡ (query_formula s g q).vars → satisfies a (query_formula s g q).clauses ≡ true → steps ≡ step_count q → choices ≡ step_choices s.rules (copies_part s.ranges (suc steps) 0).tables (copies_part s.ranges (suc steps) 0).part.vars → ReadsAs s g q a choices
-reads_as s g q a steps choices valid fit goal_ok size sat count seen =
+pub reads_as : (s : SystemTree) (g : GoalTree) (q : Wanted) (a : List Bool) (steps from : ℕ) (choices : List Choice) → system_valid s ≡ true → ranges_fit s.ranges ≡ true → goal_valid s.ranges g ≡ true → length a ≡ (query_formula s g q).vars → satisfies a (query_formula s g q).clauses ≡ true → steps ≡ step_count q → from ≡ first_variable s.ranges steps → choices ≡ step_choices s.rules (copies_part s.ranges (suc steps) 0).tables (copies_part s.ranges (suc steps) 0).part.vars → ReadsAs s g q a from choices
+reads_as s g q a steps from choices valid fit goal_ok size sat count begins seen =
     let p = query_part s g q in
     let run = (extends-as_clauses [] p.vars p.clauses (IsWantedRun s g q) (query-law s g q valid fit goal_ok)).only a size sat in
     let w = wants s g q run.0 run.1 run.2 in
     let says = run-says s g q run.0 run.1 valid fit w in
     let same : choices ≡ step_choices s.rules (copies_part s.ranges (suc (step_count q)) 0).tables (copies_part s.ranges (suc (step_count q)) 0).part.vars = seen ∙ ap (λ (k : ℕ). step_choices s.rules (copies_part s.ranges (suc k) 0).tables (copies_part s.ranges (suc k) 0).part.vars) count in
-    let have : HaveBits a 1 s.ranges run.0 = subst (λ (u : List Bool). HaveBits u 1 s.ranges run.0) (sym run.3) says.0 in
+    let at : from ≡ first_variable s.ranges (step_count q) = begins ∙ ap (first_variable s.ranges) count in
+    let have : HaveBits a (first_variable s.ranges (step_count q)) s.ranges run.0 = subst (λ (u : List Bool). HaveBits u (first_variable s.ranges (step_count q)) s.ranges run.0) (sym run.3) says.0 in
     let chosen : AllChosen a (step_choices s.rules (copies_part s.ranges (suc (step_count q)) 0).tables (copies_part s.ranges (suc (step_count q)) 0).part.vars) run.1 = subst (λ (u : List Bool). AllChosen u (step_choices s.rules (copies_part s.ranges (suc (step_count q)) 0).tables (copies_part s.ranges (suc (step_count q)) 0).part.vars) run.1) (sym run.3) says.1 in
     let low = query-reach s g q valid fit goal_ok in
     record {
@@ -296,7 +306,7 @@ reads_as s g q a steps choices valid fit goal_ok size sat count seen =
       wanted = run.2;
       is = run.3;
       in_range = w.in_range;
-      have = have;
+      have = subst (λ (k : ℕ). HaveBits a k s.ranges run.0) (sym at) have;
       chosen = subst (λ (cs : List Choice). AllChosen a cs run.1) (sym same) chosen;
-      reached = rw size low;
+      reached = omega (arith, low, size, at);
     }

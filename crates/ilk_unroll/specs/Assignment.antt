@@ -9,10 +9,10 @@ use Rattle.ilk_unroll.specs.Goal.{GoalTree, Demanded, demanded}
 use Rattle.ilk_unroll.specs.Run.{run_from, is_wanted_run}
 use Rattle.ilk_unroll.specs.declared.queries.Wanted.{Wanted}
 
--- the variables of the copies with these value lists
+-- the variables of the copies with these value lists, those of the last first
 abbrev pub copies_bits : List ℕ → List (List ℕ) → List Bool
 copies_bits ranges [] = []
-copies_bits ranges (values ∷ run) = copy_bits ranges values ++ copies_bits ranges run
+copies_bits ranges (values ∷ run) = copies_bits ranges run ++ copy_bits ranges values
 
 -- those of the steps by these rules, where the variables have these ranges
 abbrev pub steps_bits : List ℕ → List RuleTree → List (List ℕ) → List ℕ → List Bool

@@ -16,13 +16,14 @@ pub record CopyTables : Type 0 where
   pub part : Part
   pub tables : List (List Column)
 
--- after n variables, so many copies of variables with these ranges
+-- after n variables, so many copies of variables with these ranges, from the last moment's back to the first's: so the last
+-- has the lowest variables
 abbrev pub copies_part : List ℕ → ℕ → ℕ → CopyTables
 copies_part ranges zero n = record { part = nothing_at n; tables = [] }
 copies_part ranges (suc count) n =
     record {
-      part = and_then (copy_part ranges n).part (λ m. (copies_part ranges count m).part);
-      tables = (copy_part ranges n).columns ∷ (copies_part ranges count (copy_part ranges n).part.vars).tables;
+      part = and_then (copies_part ranges count n).part (λ m. (copy_part ranges m).part);
+      tables = (copy_part ranges (copies_part ranges count n).part.vars).columns ∷ (copies_part ranges count n).tables;
     }
 
 -- after n variables, a step from each copy to the next
@@ -45,7 +46,7 @@ abbrev pub demands_part : List (List Column) → List Demanded → ℕ → Part
 demands_part tables [] n = nothing_at n
 demands_part tables (d ∷ ds) n = and_then (demanded_part tables d n) (demands_part tables ds)
 
--- a copy for the first values and one after each step, the steps, and what the query demands
+-- a copy for the values after each step and one for the first, the steps, and what the query demands
 abbrev pub query_part : SystemTree → GoalTree → Wanted → Part
 query_part s g q = after (copies_part s.ranges (suc (step_count q)) 0)
   where

@@ -27,15 +27,21 @@ pub struct Trace {
     pub rules: Rows,
 }
 
-// The values of integers with these ranges, whose bits stand from the first variable on.
-fn read_values(alloc: Global, ranges: &Ranges, a: &Assignment) -> Result<Values, AllocError>
-    requires numbered { total_bits ranges.now ≤ 2 ^ 62 }
-    requires reached { total_bits ranges.now ≤ length a.now }
-    requires told { (values : List ℕ) × IsTrue (in_ranges values ranges.now) × HaveBits a.now 1 ranges.now values }
-    ensures { IfOk result (λ read. (values : List ℕ) → IsTrue (in_ranges values ranges.now) → HaveBits a.now 1 ranges.now values → read ≡ values) }
+// The values of integers with these ranges, whose bits stand from the variable `from` on.
+fn read_values(
+    alloc: Global,
+    ranges: &Ranges,
+    a: &Assignment,
+    from: u64,
+) -> Result<Values, AllocError>
+    requires from_1 { 0 < from }
+    requires numbered { from + total_bits ranges.now ≤ 2 ^ 62 + 1 }
+    requires reached { from + total_bits ranges.now ≤ length a.now + 1 }
+    requires told { (values : List ℕ) × IsTrue (in_ranges values ranges.now) × HaveBits a.now from ranges.now values }
+    ensures { IfOk result (λ read. (values : List ℕ) → IsTrue (in_ranges values ranges.now) → HaveBits a.now from ranges.now values → read ≡ values) }
 {
     let mut values = Values::new(alloc);
-    let mut first = 1;
+    let mut first = from;
     for range in ranges.as_slice() {
         let _ = a.len();
         let count = bits(*range);
@@ -83,7 +89,7 @@ pub fn read_back(
 {
     let mut cnf = Cnf::new(alloc);
     let unrolled = unroll(alloc, &mut cnf, system, q.steps())?;
-    let first = read_values(alloc, &system.ranges, a)?;
+    let first = read_values(alloc, &system.ranges, a, unrolled.first)?;
     let rules = read_rules(alloc, &unrolled.choices, a)?;
     let _ = goal;
     Ok(Trace { first, rules })

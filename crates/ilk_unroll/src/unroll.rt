@@ -1,4 +1,4 @@
-ghost use Rattle.std.specs.Prelude.{◌≡◌, ◌<◌, ◌≤◌, ◌^◌, suc, [], nat_lt, map, OnOk, IfOk, IsTrue};
+ghost use Rattle.std.specs.Prelude.{◌≡◌, ◌+◌, ◌<◌, ◌≤◌, ◌^◌, suc, [], nat_lt, map, OnOk, IfOk, IsTrue};
 ghost use Rattle.std.specs.List.{list_all};
 ghost use Rattle.ilk_cnf.specs.Part.{with_part, and_then};
 ghost use Rattle.ilk_ir.specs.System.{rule_tree, rule_valid, system_tree, system_valid};
@@ -6,15 +6,13 @@ ghost use Rattle.ilk_copy.specs.Copy.{total_bits};
 ghost use Rattle.ilk_unroll.specs.Query.{copies_part, steps_part};
 ghost use Rattle.ilk_unroll.specs.Tables.{tables_in, HaveRanges, step_choices, choices_numbered};
 
+use crate::copies::Tables;
 use ilk_base::Row;
 use ilk_cnf::Cnf;
-use ilk_copy::{Table, add_copy};
+use ilk_copy::add_copy;
 use ilk_ir::{Ranges, System};
 use ilk_step::{Choice, add_step};
 use std::alloc::{AllocError, Global};
-
-/// The literals of each copy.
-pub type Tables = Row<Table>;
 
 /// For each step, the variables that say which rule is chosen.
 pub type Choices = Row<Choice>;
@@ -23,10 +21,12 @@ pub type Choices = Row<Choice>;
 #[derive(Drop)]
 pub struct Unrolled {
     pub tables: Tables,
+    /// The first variable of the first values' copy.
+    pub first: u64,
     pub choices: Choices,
 }
 
-// Adds so many copies of variables with these ranges.
+// Adds so many copies of variables with these ranges, from the last on.
 fn add_copies(
     alloc: Global,
     cnf: &mut Cnf,
@@ -39,7 +39,7 @@ fn add_copies(
 {
     let mut tables = Tables::new(alloc);
     for _ in 0..count {
-        tables.push(add_copy(alloc, cnf, ranges)?)?;
+        tables.push_before(add_copy(alloc, cnf, ranges)?)?;
     }
     Ok(tables)
 }
@@ -73,8 +73,8 @@ fn bytes_of(ranges: &[u8]) -> &[u8]
     ranges
 }
 
-/// Adds a copy for the first values and one after each step, and then the steps. Where memory runs
-/// out the formula may have grown, and its owner drops it.
+/// Adds a copy for the values after each step, from the last on, then one for the first values, and
+/// then the steps. Where memory runs out the formula may have grown, and its owner drops it.
 pub fn unroll(
     alloc: Global,
     cnf: &mut Cnf,
@@ -85,17 +85,24 @@ pub fn unroll(
     requires steps { steps < 2 ^ 31 }
     requires valid { IsTrue (system_valid (system_tree system.now)) }
     ensures tables { IfOk result (λ unrolled. unrolled.tables ≡ (copies_part system.now.ranges (suc steps) 0).tables) }
+    ensures first { IfOk result (λ unrolled. unrolled.first ≡ (copies_part system.now.ranges steps 0).part.vars + 1) }
     ensures choices { IfOk result (λ unrolled. unrolled.choices ≡ step_choices (map rule_tree system.now.rules) (copies_part system.now.ranges (suc steps) 0).tables (copies_part system.now.ranges (suc steps) 0).part.vars) }
     ensures made { OnOk result (cnf.new ≡ with_part (record { vars = 0; clauses = [] }) (and_then (copies_part system.now.ranges (suc steps) 0).part (steps_part (map rule_tree system.now.rules) (copies_part system.now.ranges (suc steps) 0).tables))) }
     ensures within { IfOk result (λ unrolled. IsTrue (tables_in cnf.new.vars unrolled.tables)) }
     ensures ranges { IfOk result (λ unrolled. HaveRanges system.now.ranges unrolled.tables) }
     ensures numbered { IfOk result (λ unrolled. IsTrue (choices_numbered (2 ^ 62) unrolled.choices)) }
-    ensures reach { OnOk result (total_bits system.now.ranges ≤ 2 ^ 62) }
+    ensures reach { IfOk result (λ unrolled. unrolled.first + total_bits system.now.ranges ≤ 2 ^ 62 + 1) }
     ensures bytes { OnOk result (IsTrue (list_all (λ range. nat_lt range 256) system.now.ranges)) }
 {
     let _ranges = bytes_of(system.ranges.as_slice());
-    let tables = add_copies(alloc, cnf, &system.ranges, steps + 1)?;
+    let mut tables = add_copies(alloc, cnf, &system.ranges, steps)?;
+    let first = cnf.vars() + 1;
+    tables.push_before(add_copy(alloc, cnf, &system.ranges)?)?;
     let choices = add_steps(alloc, cnf, system, &tables)?;
     let _ = cnf.vars();
-    Ok(Unrolled { tables, choices })
+    Ok(Unrolled {
+        tables,
+        first,
+        choices,
+    })
 }

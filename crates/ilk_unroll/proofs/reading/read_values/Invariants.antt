@@ -8,6 +8,6 @@ abbrev pub invariant-loop-range : goal.invariant-loop-range
 invariant-loop-range l =
     record {
       from_1 : 0 < l.first;
-      reached : l.first + total_bits (drop l.range-index l.range-items) ≤ total_bits l.ranges + 1;
-      left : (values : List ℕ) → in_ranges values l.ranges ≡ true → HaveBits l.a 1 l.ranges values → Left l.a l.first (drop l.range-index l.range-items) l.values values;
+      reached : l.first + total_bits (drop l.range-index l.range-items) ≤ l.from + total_bits l.ranges;
+      left : (values : List ℕ) → in_ranges values l.ranges ≡ true → HaveBits l.a l.from l.ranges values → Left l.a l.first (drop l.range-index l.range-items) l.values values;
     }
