@@ -1,4 +1,4 @@
 pub mod Values
-pub mod InOrder
+pub mod Left
 pub mod EachAs
 pub mod Limits

@@ -1,4 +1,5 @@
 //! The form of a network, and how its faults are shown.
+use ilk_json::Scratch;
 use ilk_net_read::{Form, FormFault, Place, read_network, read_value};
 use ilk_plant::KindDraft;
 use std::test::*;
@@ -13,10 +14,11 @@ const LINE: &str = r#"{"version":1,
 
 #[test]
 fn line_with_a_point(rt: HostRuntime) -> Result<(), Fail> {
-    let value = read_value(rt.alloc(), LINE.as_bytes())
+    let mut scratch = Scratch::new(rt.alloc());
+    let text = read_value(rt.alloc(), LINE.as_bytes(), &mut scratch)
         .ok()
         .ok_or("the text is JSON")?;
-    let net = read_network(rt.alloc(), &value)
+    let net = read_network(rt.alloc(), &text.root())
         .ok()
         .ok_or("its network is right")?;
     let sections = net.sections.as_slice();

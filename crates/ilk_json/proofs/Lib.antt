@@ -1,0 +1,5 @@
+pub mod KeptTrees
+pub mod Gets
+pub mod Puts
+pub mod Counts
+pub mod Texts

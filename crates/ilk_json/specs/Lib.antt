@@ -1,0 +1,4 @@
+pub mod Kept
+pub mod Data
+pub mod Names
+pub mod Text
