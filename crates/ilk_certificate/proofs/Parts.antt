@@ -1,6 +1,6 @@
 -- What is left of a text that is put together of parts.
-use Rattle.std.proofs.Common.{◌≡◌, ℕ, ◌+◌, ◌<◌, ◌≤◌, List, [], ◌∷◌, ◌++◌, length, drop, take, set, flat_map, sym, ap, ◌∙◌, arith, get_or}
-use Rattle.std.proofs.lemmas.List.{drop-set, drop-set-lt, drop_at, drop_more, length-take-le, take_at}
+use Rattle.std.proofs.Common.{◌≡◌, ℕ, ◌+◌, ◌<◌, List, [], ◌∷◌, ◌++◌, length, drop, set, flat_map, sym, ap, ◌∙◌, arith, get_or}
+use Rattle.std.proofs.lemmas.List.{drop-set, drop-set-lt, drop_more}
 use Rattle.ilk_lines.specs.Lines.{Bytes}
 use Rattle.ilk_certificate.specs.declared.part.Part.{Part}
 use Rattle.ilk_certificate.specs.Writing.{part_left}
@@ -17,10 +17,3 @@ pub part-past : (start : Bytes) (parts : List Part) (at : ℕ) (p : Part) → pa
 part-past start parts at p none =
     ap (λ (ps : List Part). start ++ flat_map part_left ps) (drop-set-lt (at + 1) parts at p (omega arith))
     ∙ ap (λ (t : Bytes). start ++ (t ++ flat_map part_left (drop (at + 1) parts))) (sym none)
-
--- where the text is what was taken, and what is left, the former are its first bytes
-pub taken-bytes : (whole left into : Bytes) (n : ℕ) → n ≤ length into → whole ≡ take n into ++ left → take n into ≡ take n whole
-taken-bytes whole left into n within so = sym (ap (take n) so ∙ take_at (take n into) left n (length-take-le n into within))
-
-pub taken-rest : (whole left into : Bytes) (n : ℕ) → n ≤ length into → whole ≡ take n into ++ left → left ≡ drop n whole
-taken-rest whole left into n within so = sym (ap (drop n) so ∙ drop_at (take n into) left n (length-take-le n into within))

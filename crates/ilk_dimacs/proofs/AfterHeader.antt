@@ -1,6 +1,6 @@
 -- What is taken of the lines of the clauses, where the first line was taken whole.
 use Rattle.std.proofs.Common.{◌≡◌, ℕ, ◌≤◌, [], ◌++◌, length, drop, take, sym, ap, ◌∙◌, append-nil}
-use Rattle.std.proofs.lemmas.List.{drop_all, drop_at, length-take-le, take_all, take_at}
+use Rattle.std.proofs.lemmas.List.{drop_all, drop_at, length-take-le, take_all}
 use Rattle.ilk_lines.specs.Lines.{Bytes}
 
 -- the text is what was taken and the lines of the clauses
@@ -9,10 +9,6 @@ after-header header clauses whole into n past taken is =
     sym is
     ∙ ap (λ (t : Bytes). t ++ clauses) (sym (taken ∙ take_all n header past))
     ∙ ap (λ (t : Bytes). take n into ++ t) (sym (append-nil clauses))
-
--- where that is so of n bytes, they are the first of the text
-pub taken-bytes : (whole left into : Bytes) (n : ℕ) → n ≤ length into → whole ≡ take n into ++ left → take n into ≡ take n whole
-taken-bytes whole left into n within so = sym (ap (take n) so ∙ take_at (take n into) left n (length-take-le n into within))
 
 -- and the others are left
 pub taken-rest : (header clauses whole into : Bytes) (n first : ℕ) (before : Bytes) → n ≤ length into → whole ≡ take n into ++ (clauses ++ []) → length before ≤ first → header ≡ drop first before → header ++ clauses ≡ drop n whole

@@ -1,8 +1,8 @@
 use Rattle.std.proofs.Common.{◌+◌, ◌++◌, drop, flat_map, take, ap, sym, arith, ◌∙◌, rules}
 use Rattle.ilk_lines.specs.Lines.{Bytes}
-use Rattle.ilk_lines.proofs.TakenPieces.{token_taken}
+use Rattle.ilk_lines.proofs.TakenPieces.{taken-bytes, taken-rest, token_taken}
 use Rattle.ilk_certificate.specs.Writing.{part_left}
-use Rattle.ilk_certificate.proofs.Parts.{part-first, part-past, part-set, taken-bytes, taken-rest}
+use Rattle.ilk_certificate.proofs.Parts.{part-first, part-past, part-set}
 use Rattle.ilk_certificate.proofs.certificate_text.CertificateText.take.Goals as goal
 
 pub returns-then-count-into-clause-bytes : goal.returns-then-count-into-clause-bytes

@@ -1,6 +1,6 @@
 use Rattle.std.proofs.Common.{◌≤◌, [], length, arith, rules}
-use Rattle.ilk_lines.proofs.TakenPieces.{token_taken}
-use Rattle.ilk_dimacs.proofs.AfterHeader.{after-header, taken-bytes, taken-rest}
+use Rattle.ilk_lines.proofs.TakenPieces.{taken-bytes, token_taken}
+use Rattle.ilk_dimacs.proofs.AfterHeader.{after-header, taken-rest}
 use Rattle.ilk_dimacs.proofs.formula_text.FormulaText.take.Goals as goal
 
 pub returns-clause-bytes : goal.returns-clause-bytes
