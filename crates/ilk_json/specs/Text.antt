@@ -13,7 +13,7 @@ abbrev pub data_in : List ℕ → Option Data
 data_in bytes = if is_utf8 bytes then read bytes else None
 
 -- a text is read as exactly the data that is there, and refused where there is none, but for want of memory
-abbrev pub Reads : Result JsonText JsonError → Option Data → Type 0
-Reads (Ok text) found = found ≡ Some (text_data text)
-Reads (Err Invalid) found = found ≡ None
-Reads (Err OutOfMemory) found = Unit {0}
+abbrev pub ReadsText : Result JsonText JsonError → Option Data → Type 0
+ReadsText (Ok text) found = found ≡ Some (text_data text)
+ReadsText (Err Invalid) found = found ≡ None
+ReadsText (Err OutOfMemory) found = Unit {0}

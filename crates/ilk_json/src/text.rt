@@ -24,7 +24,7 @@ pub struct JsonText<'t> {
 impl<'t> JsonText<'t> {
     ghost use Rattle.std.specs.Prelude.{◌≡◌};
     ghost use Rattle.ilk_json.specs.Data.{data_of, text_data};
-    ghost use Rattle.ilk_json.specs.Text.{Reads, data_in};
+    ghost use Rattle.ilk_json.specs.Text.{ReadsText, data_in};
 
     /// The value that the bytes are, or `Invalid` where they aren't the UTF-8 of one, nest deeper
     /// than 127 levels, or have a number that is too large for a float. The scratch is lent for as
@@ -34,7 +34,7 @@ impl<'t> JsonText<'t> {
         bytes: &'t [u8],
         scratch: &'t mut Scratch,
     ) -> Result<JsonText<'t>, JsonError>
-        ensures { Reads result (data_in bytes.now) }
+        ensures { ReadsText result (data_in bytes.now) }
     {
         let Ok(text) = std::str::from_utf8(bytes) else {
             return Err(JsonError::Invalid);

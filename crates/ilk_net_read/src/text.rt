@@ -7,8 +7,9 @@ use crate::{Form, FormError, Place};
 use ilk_json::{JsonError, JsonText, Scratch};
 use std::alloc::Global;
 
-/// The JSON text that the bytes are. Rule F2 is broken where they aren't the UTF-8 of one, or nest
-/// deeper than 127 levels. The scratch is lent for as long as the text is.
+/// The JSON text that the bytes are. Rule F2 is broken where they aren't the UTF-8 of one, nest
+/// deeper than 127 levels, or have a number that is too large for a float. The scratch is lent for
+/// as long as the text is.
 pub fn read_value<'t>(
     alloc: Global,
     bytes: &'t [u8],
