@@ -4,7 +4,7 @@ use Rattle.std.specs.Prelude.{if◌then◌else◌}
 use Rattle.std.proofs.lemmas.Bool.Decides.{nat_tests}
 use Rattle.ilk_ir.specs.Tree.{Tree}
 use Rattle.ilk_plant.specs.Plant.{PlantLists}
-use Rattle.ilk_invs.specs.declared.hold_families.TheConstants.{MAX_IN_ORDER}
+use Rattle.ilk_invs.specs.declared.hold_family.TheConstants.{MAX_IN_ORDER}
 use Rattle.ilk_invs.specs.HoldFamilies.{held_by_halves, held_in_order, not_in_both}
 
 -- of many routes the conditions that no two hold a section: that of both halves, and those of each

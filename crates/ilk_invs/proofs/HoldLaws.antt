@@ -31,7 +31,7 @@ use Rattle.ilk_layout.specs.Image.{image_of}
 use Rattle.ilk_conditions.specs.Conditions.{lock_is}
 use Rattle.ilk_conditions.proofs.Values.{lock-holds}
 use Rattle.ilk_invs.specs.Held.{holding_section, is_holding, rel_below, seen_below}
-use Rattle.ilk_invs.specs.declared.hold_families.TheConstants.{MAX_IN_ORDER}
+use Rattle.ilk_invs.specs.declared.hold_family.TheConstants.{MAX_IN_ORDER}
 use Rattle.ilk_invs.specs.HoldFamilies.{held_by_halves, held_in_order, held_once, holders, lock_at_place, locked_for, may_hold, none_before, none_holding, not_in_both, route_holding, v2_tree, v3_tree}
 use Rattle.ilk_invs.specs.Parts.{each_of, of_each_place, of_each_route}
 use Rattle.ilk_invs.proofs.HeldLaws.{below-next, holding_section-holds, is_holding-holds, rel_below-holds, seen_below-holds}

@@ -28,7 +28,7 @@ use Rattle.ilk_conditions.proofs.Listed.{commanded_at_listed-valid}
 use Rattle.ilk_conditions.proofs.Valid.{board_is-valid, lies_at_listed-valid, lock_is-valid, mode_is-valid, no_train_at-valid, occupancy_is-valid, rel_is-valid, seen_is-valid}
 use Rattle.ilk_invs.specs.FamilyTrees.{family_tree, family_trees}
 use Rattle.ilk_invs.specs.Held.{holding_section, is_holding, kept_on_path, locked_or_occupied, rel_below, seen_below}
-use Rattle.ilk_invs.specs.declared.hold_families.TheConstants.{MAX_IN_ORDER}
+use Rattle.ilk_invs.specs.declared.hold_family.TheConstants.{MAX_IN_ORDER}
 use Rattle.ilk_invs.specs.HoldFamilies.{held_by_halves, held_in_order, held_once, holders, lock_at_place, locked_for, none_before, none_holding, not_in_both, route_holding, v2_tree, v3_tree}
 use Rattle.ilk_invs.specs.Parts.{conditions_for, each_of, of_each_place, of_each_route, some_of, where_holds}
 use Rattle.ilk_invs.specs.PointFamily.{points_of_path, set_for, v6_tree}

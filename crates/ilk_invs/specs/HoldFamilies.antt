@@ -11,7 +11,7 @@ use Rattle.ilk_plant.specs.declared.state.Hold.TheVariants.{Locked as LockedLock
 use Rattle.ilk_plant.specs.declared.table.Route.{Route}
 use Rattle.ilk_routes.specs.Claims.{sections_beside}
 use Rattle.ilk_conditions.specs.Conditions.{lock_is}
-use Rattle.ilk_invs.specs.declared.hold_families.TheConstants.{MAX_IN_ORDER}
+use Rattle.ilk_invs.specs.declared.hold_family.TheConstants.{MAX_IN_ORDER}
 use Rattle.ilk_invs.specs.Held.{holding_section, is_holding, rel_below, seen_below}
 use Rattle.ilk_invs.specs.Parts.{conditions_for, each_of, of_each_place, of_each_route, some_of, where_holds}
 

@@ -5,8 +5,9 @@ ghost use Rattle.ilk_layout.specs.Variables.{ranges_of_plant};
 ghost use Rattle.ilk_invs.specs.FamilyTrees as definitions;
 ghost use Rattle.ilk_invs.specs.Laws.{HoldsAsKept};
 
-use crate::hold_families::{v2_form, v3_form};
+use crate::hold_family::v2_form;
 use crate::kept_family::v8_form;
+use crate::lock_family::v3_form;
 use crate::point_family::v6_form;
 use crate::route_families::{v1_form, v4_form, v5_form, v9_form};
 use crate::train_families::v7_form;

@@ -1,21 +1,14 @@
-ghost use Rattle.std.specs.Prelude.{◌≡◌, ◌<◌, ◌+◌, ◌++◌, ◌∷◌, [], All, drop, if◌then◌else◌, filter, length, map, flat_map, slice_get, take, IfOk, OnOk};
-ghost use Rattle.std.specs.List.{enumerate_from, range_with_len};
+ghost use Rattle.std.specs.Prelude.{◌≡◌, ◌<◌, ◌+◌, ◌++◌, ◌∷◌, [], All, if◌then◌else◌, length, map, flat_map, IfOk, OnOk};
 ghost use Rattle.ilk_ir.specs.Form.{tree_of};
 ghost use Rattle.ilk_ir.specs.Tree.{negation};
-ghost use Rattle.ilk_plant.specs.Plant.{IsRouteOf};
-ghost use Rattle.ilk_plant.specs.declared.limits.TheConstants.{MAX_PATH};
-ghost use Rattle.ilk_plant.specs.declared.state.Hold.TheVariants.{Locked as LockedLock, Used as UsedLock};
-ghost use Rattle.ilk_routes.specs.Claims.{sections_beside};
-ghost use Rattle.ilk_conditions.specs.Conditions as conditions;
 ghost use Rattle.ilk_invs.specs.Held as held;
-ghost use Rattle.ilk_invs.specs.Parts as parts;
 ghost use Rattle.ilk_invs.specs.HoldFamilies as definitions;
 
-use crate::held::{holding_section, is_beside, is_holding, rel_below, seen_below};
+use crate::held::{holding_section, is_beside};
 use crate::parts::where_holds;
-use ilk_conditions::{lock_is, negated};
+use ilk_conditions::negated;
 use ilk_ir::Form;
-use ilk_plant::{Hold, Listed, Plant, Route, has_section};
+use ilk_plant::{Plant, Route, has_section};
 use std::alloc::{AllocError, Global};
 
 /// Up to so many routes that may hold a section are asked one after another whether another holds it;
@@ -189,116 +182,6 @@ pub fn v2_form(alloc: Global, plant: &Plant) -> Result<Form, AllocError>
     let mut forms = Vec::new(alloc);
     for x in 0..plant.sections() {
         push_held_once(alloc, &mut forms, plant, x)?;
-    }
-    Ok(Form::And(forms))
-}
-
-// Route `r` doesn't keep the section `x` at place `i` of its path, or at most `i` of it aren't seen,
-// or `x` has lock Locked.
-fn locked_ahead(alloc: Global, plant: &Plant, r: u32, i: u8, x: u32) -> Result<Form, AllocError>
-    requires known { r < length plant.now.routes }
-    requires section { x < length plant.now.sections }
-    requires place { i < MAX_PATH }
-    ensures { IfOk result (λ form. tree_of form ≡ parts.some_of (negation (held.rel_below r (i + 1)) ∷ negation (held.seen_below r (i + 1)) ∷ conditions.lock_is plant.now x LockedLock ∷ [])) }
-{
-    let mut forms = Vec::new(alloc);
-    forms.push(negated(alloc, rel_below(alloc, plant, r, i + 1)?)?)?;
-    forms.push(negated(alloc, seen_below(alloc, plant, r, i + 1)?)?)?;
-    forms.push(lock_is(plant, x, Hold::Locked))?;
-    Ok(Form::Or(forms))
-}
-
-// Route `r` doesn't keep the section `x` at place `i` of its path, or at most `i` of it are seen, or
-// `x` has lock Used.
-fn used_behind(alloc: Global, plant: &Plant, r: u32, i: u8, x: u32) -> Result<Form, AllocError>
-    requires known { r < length plant.now.routes }
-    requires section { x < length plant.now.sections }
-    requires place { i < MAX_PATH }
-    ensures { IfOk result (λ form. tree_of form ≡ parts.some_of (negation (held.rel_below r (i + 1)) ∷ held.seen_below r (i + 1) ∷ conditions.lock_is plant.now x UsedLock ∷ [])) }
-{
-    let mut forms = Vec::new(alloc);
-    forms.push(negated(alloc, rel_below(alloc, plant, r, i + 1)?)?)?;
-    forms.push(seen_below(alloc, plant, r, i + 1)?)?;
-    forms.push(lock_is(plant, x, Hold::Used))?;
-    Ok(Form::Or(forms))
-}
-
-// Adds of each place of a path that its section has its lock where route `r` keeps it.
-fn push_locks_on_path(
-    alloc: Global,
-    forms: &mut Vec<Form>,
-    plant: &Plant,
-    r: u32,
-    route: &Route,
-) -> Result<(), AllocError>
-    requires known { r < length plant.now.routes }
-    requires route { IsRouteOf plant.now route.now }
-    ensures { OnOk result (map tree_of forms.new.items ≡ map tree_of forms.old.items ++ parts.of_each_place route.now (definitions.lock_at_place plant.now r)) }
-{
-    let path = route.path.as_slice();
-    for i in 0..path.len() {
-        forms.push(locked_ahead(alloc, plant, r, i as u8, path[i])?)?;
-        forms.push(used_behind(alloc, plant, r, i as u8, path[i])?)?;
-    }
-    Ok(())
-}
-
-// Adds of each of the sections that it has lock Locked.
-fn push_locked(forms: &mut Vec<Form>, plant: &Plant, sections: &[u32]) -> Result<(), AllocError>
-    requires { All (λ x. x < length plant.now.sections) sections.now }
-    ensures { OnOk result (map tree_of forms.new.items ≡ map tree_of forms.old.items ++ map (λ x. conditions.lock_is plant.now x LockedLock) sections.now) }
-{
-    for x in sections {
-        forms.push(lock_is(plant, *x, Hold::Locked))?;
-    }
-    Ok(())
-}
-
-// Adds of each of the points that its section has lock Locked.
-fn push_points_locked(
-    forms: &mut Vec<Form>,
-    plant: &Plant,
-    points: &[Listed],
-) -> Result<(), AllocError>
-    requires { All (λ listed. listed.point < length plant.now.sections) points.now }
-    ensures { OnOk result (map tree_of forms.new.items ≡ map tree_of forms.old.items ++ map (λ x. conditions.lock_is plant.now x LockedLock) (map (λ listed. listed.point) points.now)) }
-{
-    for listed in points {
-        forms.push(lock_is(plant, listed.point, Hold::Locked))?;
-    }
-    Ok(())
-}
-
-// Of the sections of route `r` that they have their locks.
-fn locks_for(alloc: Global, plant: &Plant, r: u32, route: &Route) -> Result<Vec<Form>, AllocError>
-    requires known { r < length plant.now.routes }
-    requires route { IsRouteOf plant.now route.now }
-    ensures { IfOk result (λ forms. map tree_of forms.items ≡ parts.of_each_place route.now (definitions.lock_at_place plant.now r) ++ map (λ x. conditions.lock_is plant.now x LockedLock) (sections_beside route.now)) }
-{
-    let mut forms = Vec::new(alloc);
-    push_locks_on_path(alloc, &mut forms, plant, r, route)?;
-    push_locked(&mut forms, plant, route.overlap.as_slice())?;
-    push_points_locked(&mut forms, plant, route.protecting_points.as_slice())?;
-    Ok(forms)
-}
-
-// V3 of route `r`.
-fn locked_for(alloc: Global, plant: &Plant, r: u32, route: &Route) -> Result<Form, AllocError>
-    requires known { r < length plant.now.routes }
-    requires route { IsRouteOf plant.now route.now }
-    ensures { IfOk result (λ form. tree_of form ≡ definitions.locked_for plant.now r route.now) }
-{
-    let forms = locks_for(alloc, plant, r, route)?;
-    where_holds(alloc, is_holding(alloc, plant, r)?, Form::And(forms))
-}
-
-/// V3 as a form.
-pub fn v3_form(alloc: Global, plant: &Plant) -> Result<Form, AllocError>
-    ensures { IfOk result (λ form. tree_of form ≡ definitions.v3_tree plant.now) }
-{
-    let mut forms = Vec::new(alloc);
-    for r in 0..plant.routes() {
-        forms.push(locked_for(alloc, plant, r, plant.route(r))?)?;
     }
     Ok(Form::And(forms))
 }

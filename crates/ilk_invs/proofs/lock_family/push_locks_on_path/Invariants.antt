@@ -2,7 +2,7 @@ use Rattle.std.proofs.Common.{◌≡◌, ◌++◌, drop, map}
 use Rattle.std.specs.List.{enumerate_from, flat_map}
 use Rattle.ilk_ir.specs.Form.{tree_of}
 use Rattle.ilk_invs.specs.HoldFamilies.{lock_at_place}
-use Rattle.ilk_invs.proofs.hold_families.push_locks_on_path.Given as goal
+use Rattle.ilk_invs.proofs.lock_family.push_locks_on_path.Given as goal
 
 abbrev pub invariant-loop-i : goal.invariant-loop-i
 invariant-loop-i l =

@@ -2,7 +2,7 @@ use Rattle.std.proofs.Common.{◌≡◌, ◌++◌, drop, map, take}
 use Rattle.std.specs.List.{enumerate_from}
 use Rattle.ilk_ir.specs.Form.{tree_of}
 use Rattle.ilk_invs.specs.HoldFamilies.{none_before}
-use Rattle.ilk_invs.proofs.hold_families.push_held_in_order.Given as goal
+use Rattle.ilk_invs.proofs.hold_family.push_held_in_order.Given as goal
 
 abbrev pub invariant-loop-i : goal.invariant-loop-i
 invariant-loop-i l =

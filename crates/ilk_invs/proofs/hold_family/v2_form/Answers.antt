@@ -2,7 +2,7 @@ use Rattle.std.proofs.Common.{[], map}
 use Rattle.ilk_ir.specs.Form.{tree_of}
 use Rattle.ilk_invs.specs.HoldFamilies.{held_once}
 use Rattle.ilk_base.proofs.Ranges.{grows_all}
-use Rattle.ilk_invs.proofs.hold_families.v2_form.Goals as goal
+use Rattle.ilk_invs.proofs.hold_family.v2_form.Goals as goal
 
 pub loop-x-preserved : goal.loop-x-preserved
 loop-x-preserved c =

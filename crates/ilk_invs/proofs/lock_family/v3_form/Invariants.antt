@@ -3,7 +3,7 @@ use Rattle.std.specs.List.{flat_map, range_with_len}
 use Rattle.ilk_ir.specs.Form.{tree_of}
 use Rattle.ilk_invs.specs.HoldFamilies.{locked_for}
 use Rattle.ilk_invs.specs.Parts.{conditions_for}
-use Rattle.ilk_invs.proofs.hold_families.v3_form.Given as goal
+use Rattle.ilk_invs.proofs.lock_family.v3_form.Given as goal
 
 abbrev pub invariant-loop-r : goal.invariant-loop-r
 invariant-loop-r l =

@@ -1,7 +1,7 @@
 use Rattle.std.proofs.Common.{◌≡◌, filter}
 use Rattle.std.specs.List.{range_with_len}
 use Rattle.ilk_invs.specs.HoldFamilies.{may_hold}
-use Rattle.ilk_invs.proofs.hold_families.holders.Given as goal
+use Rattle.ilk_invs.proofs.hold_family.holders.Given as goal
 
 abbrev pub invariant-loop-r : goal.invariant-loop-r
 invariant-loop-r l =

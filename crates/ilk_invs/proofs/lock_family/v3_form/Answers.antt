@@ -1,7 +1,7 @@
 use Rattle.std.proofs.Common.{[]}
 use Rattle.ilk_invs.specs.HoldFamilies.{locked_for}
 use Rattle.ilk_invs.proofs.Pushed.{route_form_more}
-use Rattle.ilk_invs.proofs.hold_families.v3_form.Goals as goal
+use Rattle.ilk_invs.proofs.lock_family.v3_form.Goals as goal
 
 pub loop-r-preserved : goal.loop-r-preserved
 loop-r-preserved c =

@@ -1,6 +1,6 @@
 use Rattle.ilk_invs.specs.HoldFamilies.{may_hold}
 use Rattle.ilk_invs.proofs.Pushed.{passing_more}
-use Rattle.ilk_invs.proofs.hold_families.holders.Goals as goal
+use Rattle.ilk_invs.proofs.hold_family.holders.Goals as goal
 
 pub loop-r-preserved : goal.loop-r-preserved
 loop-r-preserved c =

@@ -3,7 +3,7 @@ use Rattle.std.proofs.lemmas.List.{map-append}
 use Rattle.ilk_ir.specs.Form.{tree_of}
 use Rattle.ilk_invs.specs.HoldFamilies.{held_by_halves}
 use Rattle.ilk_invs.proofs.Halves.{halves_pushed}
-use Rattle.ilk_invs.proofs.hold_families.+push_held_by_halves.Goals as goal
+use Rattle.ilk_invs.proofs.hold_family.+push_held_by_halves.Goals as goal
 
 pub returns : goal.returns
 returns t c =

@@ -3,7 +3,7 @@ use Rattle.std.specs.List.{flat_map}
 use Rattle.ilk_ir.specs.Form.{tree_of}
 use Rattle.ilk_ir.specs.Tree.{negation}
 use Rattle.ilk_invs.specs.HoldFamilies.{route_holding}
-use Rattle.ilk_invs.proofs.hold_families.push_not_holding.Given as goal
+use Rattle.ilk_invs.proofs.hold_family.push_not_holding.Given as goal
 
 abbrev pub invariant-loop-r : goal.invariant-loop-r
 invariant-loop-r l =

@@ -5,7 +5,7 @@ use Rattle.ilk_conditions.specs.Conditions.{lock_is}
 use Rattle.ilk_invs.specs.HoldFamilies.{lock_at_place}
 use Rattle.ilk_invs.specs.Parts.{of_each_place}
 use Rattle.ilk_invs.proofs.Pushed.{three_pushed}
-use Rattle.ilk_invs.proofs.hold_families.locks_for.Goals as goal
+use Rattle.ilk_invs.proofs.lock_family.locks_for.Goals as goal
 
 pub returns : goal.returns
 returns c =
