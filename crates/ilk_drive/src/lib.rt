@@ -17,6 +17,7 @@
 mod automatic;
 mod candidates;
 mod command_line;
+mod concerns;
 mod driving;
 mod laws;
 mod limits;
