@@ -15,7 +15,7 @@ import rup
 
 OTHER_WORDS = [b"1", b"-1", b"2", b"-7", b"d", b"x", b"01", b"-0", b"+1", b"99999999",
                b"18446744073709551617"]
-STATUS_OF = {"refuted": 0, "rejected": 6}
+STATUS_OF = {"refuted": 0, "refused": 5, "rejected": 6}
 
 
 def items_of(text):
@@ -26,6 +26,11 @@ def items_of(text):
 def text_of(items):
     """A text of these items, each on a line."""
     return b"".join(b" ".join(item) + b"\n" for item in items)
+
+
+def additions_of(text):
+    """A solver's text without the lines that only delete: they add nothing, and may be half of it."""
+    return b"".join(line for line in text.splitlines(keepends=True) if not line.startswith(b"d"))
 
 
 def steps_text(steps):
