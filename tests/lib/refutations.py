@@ -16,6 +16,7 @@ import rup
 OTHER_WORDS = [b"1", b"-1", b"2", b"-7", b"d", b"x", b"01", b"-0", b"+1", b"99999999",
                b"18446744073709551617"]
 STATUS_OF = {"refuted": 0, "refused": 5, "rejected": 6}
+LONGEST = 67108864      # bytes that rup reads
 
 
 def items_of(text):
