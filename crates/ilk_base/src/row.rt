@@ -29,6 +29,15 @@ impl<T> Row<T> {
         }
     }
 
+    /// An empty row, with room for so many items.
+    pub fn with_capacity(alloc: Global, items: u64) -> Result<Self, AllocError>
+        ensures { IfOk result (λ row. row ≡ []) }
+    {
+        Ok(Row {
+            items: Vec::with_capacity(alloc, items as usize)?,
+        })
+    }
+
     /// How many items there are.
     pub fn len(&self) -> u64
         ensures { result ≡ length self.now }

@@ -82,7 +82,7 @@ fn text(alloc: Global, value: &Json<'_, '_>) -> Result<Text, KindError>
 fn texts(alloc: Global, values: &Entries<'_, '_>) -> Result<Row<Text>, KindError>
     ensures { Reads result (member.each_as as_str (entries_data values.now)) }
 {
-    let mut texts = Row::new(alloc);
+    let mut texts = Row::with_capacity(alloc, values.len() as u64)?;
     for i in 0..values.len() {
         let text = text(alloc, &values.at(i))?;
         texts.push(text)?;

@@ -33,7 +33,7 @@ fn listed(alloc: Global, value: &Json<'_, '_>) -> Result<ListedDraft, KindError>
 fn all_listed(alloc: Global, values: &Entries<'_, '_>) -> Result<Row<ListedDraft>, KindError>
     ensures { Reads result (each_as route.as_listed (entries_data values.now)) }
 {
-    let mut points = Row::new(alloc);
+    let mut points = Row::with_capacity(alloc, values.len() as u64)?;
     for i in 0..values.len() {
         let point = listed(alloc, &values.at(i))?;
         points.push(point)?;

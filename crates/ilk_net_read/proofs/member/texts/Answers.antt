@@ -8,7 +8,7 @@ use Rattle.ilk_net_read.proofs.member.texts.Goals as goal
 
 pub returns-in_err-text : goal.returns-in_err-text
 returns-in_err-text c =
-    let p = err_from_is_err_and c.from_residual.result c.from_residual.ensures.1 in
+    let p = err_from_is_err_and c.from_residual-in_err-text.result c.from_residual-in_err-text.ensures.1 in
     rw (p.1, p.2) (each_as-refused as_str c.loop-i.texts (entries_data c.args.values.now) c.loop-i.i (data_of c.at.result) c.in_err-text.field-0.0 c.at.ensures c.in_err-text.ensures c.loop-i.invariant)
 
 pub loop-i-preserved : goal.loop-i-preserved

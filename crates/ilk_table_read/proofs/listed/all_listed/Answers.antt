@@ -8,7 +8,7 @@ use Rattle.ilk_table_read.proofs.listed.all_listed.Goals as goal
 
 pub returns-in_err-point : goal.returns-in_err-point
 returns-in_err-point c =
-    let p = err_from_is_err_and c.from_residual.result c.from_residual.ensures.1 in
+    let p = err_from_is_err_and c.from_residual-in_err-point.result c.from_residual-in_err-point.ensures.1 in
     rw (p.1, p.2) (each_as-refused as_listed c.loop-i.points (entries_data c.args.values.now) c.loop-i.i (data_of c.at.result) c.in_err-point.field-0.0 c.at.ensures c.in_err-point.ensures c.loop-i.invariant)
 
 pub loop-i-preserved : goal.loop-i-preserved
