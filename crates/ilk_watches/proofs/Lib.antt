@@ -12,3 +12,5 @@ pub mod Queues
 pub mod Prefixes
 pub mod Back
 pub mod Added
+pub mod Beside
+pub mod Going

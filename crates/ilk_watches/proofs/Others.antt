@@ -20,7 +20,7 @@ use Rattle.ilk_clauses.proofs.Chained.{by-reference}
 use Rattle.ilk_trail.specs.declared.entry.Entry.{Entry}
 use Rattle.ilk_trail.specs.Laws.{lits_of}
 use Rattle.ilk_watches.specs.Visits.{may_watch, IsVisited, MayWatchAt, NoneMayWatch}
-use Rattle.ilk_watches.specs.declared.walk.Visited.TheVariants.{Stays}
+use Rattle.ilk_watches.specs.declared.visit.Visited.TheVariants.{Stays}
 
 find-passes : (p : Literal → Bool) (c : List Literal) (l : Literal) → find p c ≡ Some l → p l ≡ true
 find-passes p [] l h = absurd (cc)

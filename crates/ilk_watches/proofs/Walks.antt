@@ -1,22 +1,19 @@
 -- A walk along a chain, clause by clause.
-use Rattle.std.proofs.Common.{◌≡◌, ◌≢◌, ◌<◌, ◌≤◌, ℕ, true, false, eqb, List, [], ◌∷◌, ◌++◌, length, take, Option, Some, None, refl, sym, ap, ◌∙◌, subst, arith, append_assoc, ◌&&◌}
+use Rattle.std.proofs.Common.{◌≡◌, ◌<◌, ℕ, true, false, eqb, List, [], ◌∷◌, ◌++◌, length, take, Option, Some, None, refl, sym, ap, ◌∙◌, subst, arith, append_assoc, ◌&&◌}
 use Rattle.std.specs.List.{slice_get, last_or, IsDistinct, AllByRecursion}
 use Rattle.std.specs.Option.{option_map}
 use Rattle.std.proofs.lemmas.Bool.{or_left, or_right, or_parts, eq-eqb, eqb-false, ne_eqb, and_from}
 use Rattle.std.proofs.lemmas.Map.Keys.{IsDistinct-head, IsDistinct-tail, IsDistinct-cons}
 use Rattle.ilk_base.proofs.Lists.{last-some}
-use Rattle.ilk_cnf.specs.Literal.{Literal, opposite, vars_differ}
-use Rattle.ilk_cnf.proofs.Gates.{opposite-opposite}
+use Rattle.ilk_cnf.specs.Literal.{Literal}
 use Rattle.ilk_log.specs.Propagation.{is_false}
 use Rattle.ilk_trail.specs.declared.entry.Entry.{Entry}
 use Rattle.ilk_trail.specs.Laws.{lits_of}
 use Rattle.ilk_arena.specs.Arena.{ArenaLists, after, chain_of, first_of, follows, stands_in}
 use Rattle.ilk_arena.specs.Chains.{IsArena}
 use Rattle.ilk_arena.proofs.Watching.{once-head, stands-front}
-use Rattle.ilk_clauses.specs.Chained.{SameClauses}
-use Rattle.ilk_watches.specs.Visits.{from_reference, rest_from, IsVisited, IsWalk, Walking}
-use Rattle.ilk_watches.specs.declared.walk.Visited.TheVariants.{Stays, Moves}
-use Rattle.ilk_watches.proofs.Entries.{one-entry}
+use Rattle.ilk_watches.specs.Visits.{from_reference, left_of, rest_from, IsVisited, IsWalk, Walking}
+use Rattle.ilk_watches.specs.declared.visit.Visited.TheVariants.{Stays, Moves}
 use Rattle.ilk_watches.proofs.Covers.{walk-stays, walk-moves}
 
 -- the entry whose literal was read
@@ -31,13 +28,6 @@ entry-at es i l h = go (slice_get es i) refl h
     go : (o : Option Entry) → slice_get es i ≡ o → option_map (λ (e : Entry). e.lit) o ≡ Some l → EntryAt es i l
     go None e h = absurd (cc)
     go (Some x) e h = record { entry = x; stands = e; is = cc }
-
--- no earlier entry makes the same literal false
-pub not-before : (es : List Entry) (n : ℕ) (x : Entry) (f : Literal) → vars_differ (lits_of es) ≡ true → slice_get es n ≡ Some x → opposite x.lit ≡ f → (i : ℕ) (e : Entry) → i < n → slice_get es i ≡ Some e → e.lit ≢ opposite f
-not-before es n x f d s q i e b t h =
-    let same : e.lit ≡ x.lit = h ∙ ap opposite (sym q) ∙ opposite-opposite x.lit in
-    let one = one-entry es i n e x d t s (ap (λ (l : Literal). l.var) same) in
-    absurd (omega (arith, one, b))
 
 follows-last : (x : ℕ) (xs : List ℕ) (c : ℕ) (rest : List ℕ) → follows (last_or (Some x) xs) c (x ∷ xs ++ c ∷ rest) ≡ true
 follows-last x [] c rest = or_left (eqb x x && eqb c c) (follows (Some x) c (c ∷ rest)) (and_from (eqb x x) (eqb c c) (eq-eqb x x refl) (eq-eqb c c refl))
@@ -85,48 +75,48 @@ distinct-less (x ∷ xs) c ys d = IsDistinct-cons eqb x (xs ++ ys) (all-less x x
     all-less x (z ∷ zs) k = (k.0, all-less x zs k.1)
 
 -- the clause at hand, where there is one
-pub record AtHand (a : ArenaLists) (es : List Entry) (n : ℕ) (f : Literal) (before : Option ℕ) (c : ℕ) : Type 0 where
+pub record AtHand (a : ArenaLists) (es : List Entry) (f : Literal) (before : Option ℕ) (c : ℕ) : Type 0 where
   pub passed : List ℕ
   pub rest : List ℕ
   pub before_is : before ≡ last_or None passed
-  pub is : IsWalk a es n f passed (c ∷ rest)
+  pub is : IsWalk a es f passed (c ∷ rest)
 
-pub at-hand : (a : ArenaLists) (es : List Entry) (n : ℕ) (f : Literal) (before next : Option ℕ) (c : ℕ) → Walking a es n f before next → next ≡ Some c → AtHand a es n f before c
-at-hand a es n f before next c w h = go w.rest w.is (sym w.next_is ∙ h)
+pub at-hand : (a : ArenaLists) (es : List Entry) (f : Literal) (before next : Option ℕ) (c : ℕ) → Walking a es f before next → next ≡ Some c → AtHand a es f before c
+at-hand a es f before next c w h = go w.rest w.is (sym w.next_is ∙ h)
   where
-    go : (rest : List ℕ) → IsWalk a es n f w.passed rest → first_of rest ≡ Some c → AtHand a es n f before c
+    go : (rest : List ℕ) → IsWalk a es f w.passed rest → first_of rest ≡ Some c → AtHand a es f before c
     go [] i e = absurd (cc)
     go (x ∷ rest) i e =
         let same : x ≡ c = cc in
-        let P : ℕ → Type 0 = λ y. IsWalk a es n f w.passed (y ∷ rest) in
+        let P : ℕ → Type 0 = λ y. IsWalk a es f w.passed (y ∷ rest) in
         record { passed = w.passed; rest = rest; before_is = w.before_is; is = subst P same i }
 
-pub hand-stands : (a : ArenaLists) (es : List Entry) (n : ℕ) (f : Literal) (before : Option ℕ) (c : ℕ) → AtHand a es n f before c → stands_in c (chain_of a f) ≡ true
-hand-stands a es n f before c h = ap (stands_in c) h.is.split ∙ in-middle h.passed c h.rest
+pub hand-stands : (a : ArenaLists) (es : List Entry) (f : Literal) (before : Option ℕ) (c : ℕ) → AtHand a es f before c → stands_in c (chain_of a f) ≡ true
+hand-stands a es f before c h = ap (stands_in c) h.is.split ∙ in-middle h.passed c h.rest
 
-pub hand-follows : (a : ArenaLists) (es : List Entry) (n : ℕ) (f : Literal) (before : Option ℕ) (c : ℕ) → AtHand a es n f before c → follows before c (chain_of a f) ≡ true
-hand-follows a es n f before c h = ap (follows before c) h.is.split ∙ ap (λ (o : Option ℕ). follows o c (h.passed ++ c ∷ h.rest)) h.before_is ∙ follows-is h.passed c h.rest
+pub hand-follows : (a : ArenaLists) (es : List Entry) (f : Literal) (before : Option ℕ) (c : ℕ) → AtHand a es f before c → follows before c (chain_of a f) ≡ true
+hand-follows a es f before c h = ap (follows before c) h.is.split ∙ ap (λ (o : Option ℕ). follows o c (h.passed ++ c ∷ h.rest)) h.before_is ∙ follows-is h.passed c h.rest
 
 -- a step of a walk, after which less is left
-pub record Stepped (a b : ArenaLists) (fs : List Entry) (n : ℕ) (f : Literal) (now before next : Option ℕ) : Type 0 where
-  pub walking : Walking b fs n f before next
-  pub smaller : length (rest_from next (chain_of b f)) < length (rest_from now (chain_of a f))
+pub record Stepped (a b : ArenaLists) (fs : List Entry) (f : Literal) (now before next : Option ℕ) : Type 0 where
+  pub walking : Walking b fs f before next
+  pub smaller : left_of b f next < left_of a f now
 
-distinct-of : (a : ArenaLists) (es : List Entry) (n : ℕ) (f : Literal) (passed rest : List ℕ) → IsArena a → IsWalk a es n f passed rest → IsDistinct eqb (passed ++ rest)
-distinct-of a es n f passed rest k w = (let D : List ℕ → Type 0 = λ xs. IsDistinct eqb xs in subst D w.split (k.once f))
+distinct-of : (a : ArenaLists) (es : List Entry) (f : Literal) (passed rest : List ℕ) → IsArena a → IsWalk a es f passed rest → IsDistinct eqb (passed ++ rest)
+distinct-of a es f passed rest k w = (let D : List ℕ → Type 0 = λ xs. IsDistinct eqb xs in subst D w.split (k.once f))
 
 -- how much is left
-left-is : (a : ArenaLists) (es : List Entry) (n : ℕ) (f : Literal) (passed rest : List ℕ) → IsWalk a es n f passed rest → IsDistinct eqb (passed ++ rest) → rest_from (first_of rest) (chain_of a f) ≡ rest
-left-is a es n f passed rest w d = ap (rest_from (first_of rest)) w.split ∙ rest-is passed rest d
+left-is : (a : ArenaLists) (es : List Entry) (f : Literal) (passed rest : List ℕ) → IsWalk a es f passed rest → IsDistinct eqb (passed ++ rest) → rest_from (first_of rest) (chain_of a f) ≡ rest
+left-is a es f passed rest w d = ap (rest_from (first_of rest)) w.split ∙ rest-is passed rest d
 
-pub step-stays : (a b : ArenaLists) (es fs : List Entry) (n : ℕ) (f : Literal) (before now : Option ℕ) (c : ℕ) (next : Option ℕ) → AtHand a es n f before c → now ≡ Some c → next ≡ after c (chain_of a f) → IsArena a → SameClauses a b → IsVisited a es b fs c f Stays → take (length es) fs ≡ es → n ≤ length es → Stepped a b fs n f now (Some c) next
-step-stays a b es fs n f before now c next h at e k same v p le =
-    let d = distinct-of a es n f h.passed (c ∷ h.rest) k h.is in
-    let w = walk-stays a b es fs n f h.passed c h.rest h.is same v.0 p le v.1 in
+pub step-stays : (a b : ArenaLists) (es fs : List Entry) (f : Literal) (before now : Option ℕ) (c : ℕ) (next : Option ℕ) → AtHand a es f before c → now ≡ Some c → next ≡ after c (chain_of a f) → IsArena a → IsVisited a es b fs c f Stays → take (length es) fs ≡ es → Stepped a b fs f now (Some c) next
+step-stays a b es fs f before now c next h at e k v p =
+    let d = distinct-of a es f h.passed (c ∷ h.rest) k h.is in
+    let w = walk-stays a b es fs f h.passed c h.rest h.is v.0 p v.1 in
     let after_it : next ≡ first_of h.rest = e ∙ ap (after c) h.is.split ∙ after-is h.passed c h.rest d in
     let D : List ℕ → Type 0 = λ xs. IsDistinct eqb xs in
-    let left_b = ap length (left-is b fs n f (h.passed ++ c ∷ []) h.rest w (subst D (sym (append_assoc h.passed (c ∷ []) h.rest)) d)) in
-    let left_a = ap length (left-is a es n f h.passed (c ∷ h.rest) h.is d) in
+    let left_b = ap length (left-is b fs f (h.passed ++ c ∷ []) h.rest w (subst D (sym (append_assoc h.passed (c ∷ []) h.rest)) d)) in
+    let left_a = ap length (left-is a es f h.passed (c ∷ h.rest) h.is d) in
     let na = ap (λ (o : Option ℕ). length (rest_from o (chain_of a f))) at in
     let nb = ap (λ (o : Option ℕ). length (rest_from o (chain_of b f))) after_it in
     record {
@@ -134,13 +124,13 @@ step-stays a b es fs n f before now c next h at e k same v p le =
       smaller = omega (arith, left_a, left_b, na, nb);
     }
 
-pub step-moves : (a b : ArenaLists) (es fs : List Entry) (n : ℕ) (f : Literal) (before now : Option ℕ) (c : ℕ) (next : Option ℕ) → AtHand a es n f before c → now ≡ Some c → next ≡ after c (chain_of a f) → IsArena a → SameClauses a b → IsVisited a es b fs c f Moves → take (length es) fs ≡ es → n ≤ length es → vars_differ (lits_of es) ≡ true → is_false (lits_of es) f ≡ true → ((i : ℕ) (e : Entry) → i < n → slice_get es i ≡ Some e → e.lit ≢ opposite f) → Stepped a b fs n f now before next
-step-moves a b es fs n f before now c next h at e k same v p le differ denied fresh =
-    let d = distinct-of a es n f h.passed (c ∷ h.rest) k h.is in
-    let w = walk-moves a b es fs n f v.0 h.passed c h.rest h.is same v.2 p le (k.once f) differ denied v.1 fresh in
+pub step-moves : (a b : ArenaLists) (es fs : List Entry) (f : Literal) (before now : Option ℕ) (c : ℕ) (next : Option ℕ) → AtHand a es f before c → now ≡ Some c → next ≡ after c (chain_of a f) → IsArena a → IsVisited a es b fs c f Moves → take (length es) fs ≡ es → is_false (lits_of es) f ≡ true → Stepped a b fs f now before next
+step-moves a b es fs f before now c next h at e k v p denied =
+    let d = distinct-of a es f h.passed (c ∷ h.rest) k h.is in
+    let w = walk-moves a b es fs f v.0 h.passed c h.rest h.is v.2 p (k.once f) denied v.1 in
     let after_it : next ≡ first_of h.rest = e ∙ ap (after c) h.is.split ∙ after-is h.passed c h.rest d in
-    let left_b = ap length (left-is b fs n f h.passed h.rest w (distinct-less h.passed c h.rest d)) in
-    let left_a = ap length (left-is a es n f h.passed (c ∷ h.rest) h.is d) in
+    let left_b = ap length (left-is b fs f h.passed h.rest w (distinct-less h.passed c h.rest d)) in
+    let left_a = ap length (left-is a es f h.passed (c ∷ h.rest) h.is d) in
     let na = ap (λ (o : Option ℕ). length (rest_from o (chain_of a f))) at in
     let nb = ap (λ (o : Option ℕ). length (rest_from o (chain_of b f))) after_it in
     record {
@@ -149,9 +139,9 @@ step-moves a b es fs n f before now c next h at e k same v p le differ denied fr
     }
 
 -- nothing is left
-pub all-passed : (a : ArenaLists) (es : List Entry) (n : ℕ) (f : Literal) (before next : Option ℕ) → (w : Walking a es n f before next) → next ≡ None → IsWalk a es n f w.passed []
-all-passed a es n f before next w h = go w.rest w.is (sym w.next_is ∙ h)
+pub all-passed : (a : ArenaLists) (es : List Entry) (f : Literal) (before next : Option ℕ) → (w : Walking a es f before next) → next ≡ None → IsWalk a es f w.passed []
+all-passed a es f before next w h = go w.rest w.is (sym w.next_is ∙ h)
   where
-    go : (rest : List ℕ) → IsWalk a es n f w.passed rest → first_of rest ≡ None → IsWalk a es n f w.passed []
+    go : (rest : List ℕ) → IsWalk a es f w.passed rest → first_of rest ≡ None → IsWalk a es f w.passed []
     go [] i e = i
     go (x ∷ rest) i e = absurd (cc)

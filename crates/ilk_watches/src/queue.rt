@@ -9,7 +9,7 @@ ghost use Rattle.ilk_watches.specs.Propagated.{IsPropagated};
 ghost use Rattle.ilk_watches.specs.Watched.{IsQueue};
 
 use crate::look::{Look, look_at};
-use crate::walk::walk;
+use crate::walk::walk_from;
 use ilk_clauses::Clauses;
 use ilk_cnf::Lit;
 use ilk_trail::Trail;
@@ -87,14 +87,15 @@ impl Queue {
         ensures trail { trail.new ≡ record trail.old { entries = trail.new.entries } }
         ensures propagated { IsPropagated clauses.old.clauses trail.old.entries trail.new.entries }
     {
-        'entries: while self.head < trail.count() {
-            let _ = clauses.count();
-            if let Some(c) = walk(clauses, trail, self.head) {
-                return Some(c);
-            }
-            self.head += 1;
+        let _ = clauses.count();
+        if self.head == trail.count() {
+            return None;
+        }
+        if let Some(c) = walk_from(clauses, trail, self.head) {
+            return Some(c);
         }
         let _ = clauses.count();
+        self.head = trail.count();
         None
     }
 

@@ -1,200 +1,120 @@
-ghost use Rattle.std.specs.Prelude.{◌≡◌, ◌≢◌, ◌<◌, ◌≤◌, ◌+◌, ◌-◌, Some, IfNone, IfSome, IsTrue, length, slice_get};
+ghost use Rattle.std.specs.Prelude.{◌≡◌, ◌≢◌, ◌<◌, ◌≤◌, ℕ, None, Some, IfNone, IfSome, IsTrue, length, slice_get};
 ghost use Rattle.ilk_cnf.specs.Formula.{lit_in};
-ghost use Rattle.ilk_log.specs.Fresh.{others};
-ghost use Rattle.ilk_log.specs.Propagation.{is_false as is_false_by, is_falsified};
+ghost use Rattle.ilk_log.specs.Propagation.{is_false as is_false_by};
 ghost use Rattle.ilk_trail.specs.declared.entry.Entry.{Entry};
 ghost use Rattle.ilk_trail.specs.Trail.{level_of};
 ghost use Rattle.ilk_trail.specs.Laws.{lits_of, IsTrail};
-ghost use Rattle.ilk_arena.specs.Arena.{chain_of, follows, literals_of, other_watch_of, stands_in};
+ghost use Rattle.ilk_arena.specs.Arena.{chain_of, first_of};
 ghost use Rattle.ilk_clauses.specs.Reasons.{is_conflict};
 ghost use Rattle.ilk_clauses.specs.Chained.{SameClauses};
 ghost use Rattle.ilk_watches.specs.Propagated.{IsPropagated};
 ghost use Rattle.ilk_watches.specs.Watched.{AllCovered};
-ghost use Rattle.ilk_watches.specs.Visits.{IsReplaced, IsVisited, MayWatchAt, NoneMayWatch};
+ghost use Rattle.ilk_watches.specs.Visits.{ChainsAfter, MadeFalse, Walking, left_of};
 
+use crate::visit::{Visited, visit};
 use ilk_clauses::Clauses;
 use ilk_cnf::Lit;
 use ilk_trail::Trail;
 
-// A clause with more literals keeps where its last search for a watch ended.
-const SHORT: u64 = 8;
-
-// What a visit of a clause did: it keeps its watch, it moved it, or the clause is false.
+// A walk along the chain of a false literal: the clause that is next, and the one before it that stayed.
 #[derive(Clone, Copy)]
-enum Visited {
-    Stays,
-    Moves,
-    Broken,
-}
-
-// Whether `l` is false.
-#[inline(always)]
-fn is_false(trail: &Trail, l: Lit) -> bool
-    requires within { IsTrue (lit_in trail.now.vars l) }
-    requires trail { IsTrail trail.now }
-    ensures { result ≡ is_false_by (lits_of trail.now.entries) l }
-{
-    match trail.value(l) {
-        Some(value) => !value,
-        None => false,
-    }
-}
-
-// The first literal of the clause at reference `c`, from `from` on and before `to`, that may be watched
-// beside `other`.
-fn find_between(
-    clauses: &Clauses,
-    trail: &Trail,
-    c: u64,
-    other: Lit,
-    from: u64,
-    to: u64,
-) -> Option<u64>
-    requires known { IsTrue (stands_in c clauses.now.references) }
-    requires vars { trail.now.vars ≡ clauses.now.vars }
-    requires trail { IsTrail trail.now }
-    requires to { to ≤ length (literals_of clauses.now c) }
-    ensures found { IfSome result (λ i. MayWatchAt (lits_of trail.now.entries) other (literals_of clauses.now c) i) }
-    ensures none { IfNone result (NoneMayWatch (lits_of trail.now.entries) other (literals_of clauses.now c) from to) }
-{
-    let arena = clauses.arena();
-    for i in from..to {
-        let l = arena.literal(c, i);
-        if !is_false(trail, l) && !other.is(l) {
-            return Some(i);
-        }
-    }
-    None
-}
-
-// The first such literal from `start` on and around.
-fn find_around(clauses: &Clauses, trail: &Trail, c: u64, other: Lit, start: u64) -> Option<u64>
-    requires known { IsTrue (stands_in c clauses.now.references) }
-    requires vars { trail.now.vars ≡ clauses.now.vars }
-    requires trail { IsTrail trail.now }
-    requires start { start ≤ length (literals_of clauses.now c) }
-    ensures found { IfSome result (λ i. MayWatchAt (lits_of trail.now.entries) other (literals_of clauses.now c) i) }
-    ensures none { IfNone result (IsTrue (is_falsified (lits_of trail.now.entries) (others other (literals_of clauses.now c)))) }
-{
-    let length = clauses.arena().length(c);
-    match find_between(clauses, trail, c, other, start, length) {
-        Some(i) => Some(i),
-        None => find_between(clauses, trail, c, other, 0, start),
-    }
-}
-
-// Such a literal, where there is one.
-fn find_watch(clauses: &mut Clauses, trail: &Trail, c: u64, other: Lit) -> Option<u64>
-    requires known { IsTrue (stands_in c clauses.old.references) }
-    requires vars { trail.now.vars ≡ clauses.old.vars }
-    requires trail { IsTrail trail.now }
-    ensures clauses { clauses.new ≡ record clauses.old { cursors = clauses.new.cursors } }
-    ensures found { IfSome result (λ i. MayWatchAt (lits_of trail.now.entries) other (literals_of clauses.old c) i) }
-    ensures none { IfNone result (IsTrue (is_falsified (lits_of trail.now.entries) (others other (literals_of clauses.old c)))) }
-{
-    if clauses.arena().length(c) <= SHORT {
-        return find_around(clauses, trail, c, other, 0);
-    }
-    let cursor = clauses.arena().cursor(c);
-    let found = find_around(clauses, trail, c, other, cursor);
-    if let Some(i) = found {
-        clauses.set_cursor(c, i);
-    }
-    found
-}
-
-// Moves the watch of the clause at reference `c` from `f`, which is false, to a literal that isn't, where
-// there is one beside `other`, its other watch.
-fn replace_watch(
-    clauses: &mut Clauses,
-    trail: &Trail,
-    before: Option<u64>,
-    c: u64,
+struct Walk {
     f: Lit,
-    other: Lit,
-) -> bool
-    requires vars { trail.now.vars ≡ clauses.old.vars }
-    requires trail { IsTrail trail.now }
-    requires within { IsTrue (lit_in clauses.old.vars f) }
-    requires denied { IsTrue (is_false_by (lits_of trail.now.entries) f) }
-    requires stands { IsTrue (stands_in c (chain_of clauses.old f)) }
-    requires follows { IsTrue (follows before c (chain_of clauses.old f)) }
-    requires other { other_watch_of clauses.old c f ≡ Some other }
-    ensures replaced { IsReplaced clauses.old (lits_of trail.now.entries) clauses.new c f other result }
-    ensures clauses { SameClauses clauses.old clauses.new }
+    before: Option<u64>,
+    next: Option<u64>,
+}
+
+// The walk along the chain of the literal that entry `i` makes false, at its start.
+fn start(clauses: &Clauses, trail: &Trail, i: u64) -> Walk
+    requires vars { trail.now.vars ≡ clauses.now.vars }
+    requires entry { i < length trail.now.entries }
+    ensures literal { MadeFalse clauses.now.vars trail.now.entries i result.f }
+    ensures before { result.before ≡ None }
+    ensures next { result.next ≡ first_of (chain_of clauses.now result.f) }
+    ensures trail { IsTrail trail.now }
 {
-    let _ = clauses.count();
-    match find_watch(clauses, trail, c, other) {
-        Some(i) => {
-            clauses.rewatch(before, c, f, i);
-            true
-        }
-        None => false,
+    let _ = trail.level();
+    let f = trail.at(i).negated();
+    Walk {
+        f,
+        before: None,
+        next: clauses.arena().first_watch(f),
     }
 }
 
-// Visits the clause at reference `c`, which stands right after `before`, or first, in the chain of `f`,
-// which is false.
-fn visit(clauses: &mut Clauses, trail: &mut Trail, before: Option<u64>, c: u64, f: Lit) -> Visited
+// Visits the next clause of a walk, where there is one, or answers the number of a clause that is false.
+#[inline(always)]
+fn step(clauses: &mut Clauses, trail: &mut Trail, walk: &mut Walk) -> Option<u64>
     requires vars { trail.old.vars ≡ clauses.old.vars }
-    requires within { IsTrue (lit_in clauses.old.vars f) }
-    requires denied { IsTrue (is_false_by (lits_of trail.old.entries) f) }
-    requires stands { IsTrue (stands_in c (chain_of clauses.old f)) }
-    requires follows { IsTrue (follows before c (chain_of clauses.old f)) }
-    ensures visited { IsVisited clauses.old trail.old.entries clauses.new trail.new.entries c f result }
+    requires within { IsTrue (lit_in clauses.old.vars walk.old.f) }
+    requires denied { IsTrue (is_false_by (lits_of trail.old.entries) walk.old.f) }
+    requires walking { Walking clauses.old trail.old.entries walk.old.f walk.old.before walk.old.next }
+    ensures conflict { IfSome result (λ c. IsTrue (is_conflict clauses.old.clauses (lits_of trail.new.entries) c)) }
+    ensures literal { walk.new.f ≡ walk.old.f }
+    ensures walking { IfNone result (Walking clauses.new trail.new.entries walk.old.f walk.new.before walk.new.next) }
+    ensures shorter { IfNone result (walk.old.next ≢ None → left_of clauses.new walk.old.f walk.new.next < left_of clauses.old walk.old.f walk.old.next) }
+    ensures chains { ChainsAfter clauses.old trail.old.entries clauses.new walk.old.f }
     ensures clauses { SameClauses clauses.old clauses.new }
     ensures trail { trail.new ≡ record trail.old { entries = trail.new.entries } }
     ensures propagated { IsPropagated clauses.old.clauses trail.old.entries trail.new.entries }
     ensures was_trail { IsTrail trail.old }
 {
     let _ = trail.level();
-    let other = clauses.arena().other_watch(c, f);
-    match trail.value(other) {
-        Some(true) => Visited::Stays,
-        Some(false) => {
-            if replace_watch(clauses, trail, before, c, f, other) {
-                Visited::Moves
-            } else {
-                Visited::Broken
-            }
+    let Some(c) = walk.next else {
+        return None;
+    };
+    walk.next = clauses.arena().next_watch(c, walk.f);
+    match visit(clauses, trail, walk.before, c, walk.f) {
+        Visited::Stays => {
+            walk.before = Some(c);
+            None
         }
-        None => {
-            if replace_watch(clauses, trail, before, c, f, other) {
-                Visited::Moves
-            } else {
-                trail.assign(other, clauses.arena().number(c) - 1);
-                Visited::Stays
-            }
-        }
+        Visited::Moves => None,
+        Visited::Broken => Some(clauses.arena().number(c) - 1),
     }
 }
 
-// Visits the clauses in the chain of the literal that entry `head` makes false. It sets what they force,
-// or answers the number of a clause that is false.
-pub fn walk(clauses: &mut Clauses, trail: &mut Trail, head: u64) -> Option<u64>
+/// Walks along the chains of the literals that the entries from `head` on make false, until nothing is
+/// queued. It sets what their clauses force, or answers the number of a clause that is false.
+///
+/// A clause stands far off in memory, and only it tells the next one of its chain. So where two entries
+/// are queued their chains are walked side by side, and both clauses are waited for at once.
+pub fn walk_from(clauses: &mut Clauses, trail: &mut Trail, head: u64) -> Option<u64>
     requires vars { trail.old.vars ≡ clauses.old.vars }
     requires head { head < length trail.old.entries }
-    requires queued { (e : Entry) → slice_get trail.old.entries head ≡ Some e → e.level ≡ level_of trail.old.entries }
+    requires queued { (i : ℕ) (e : Entry) → head ≤ i → slice_get trail.old.entries i ≡ Some e → e.level ≡ level_of trail.old.entries }
     requires covered { AllCovered clauses.old trail.old.entries head }
     ensures conflict { IfSome result (λ c. IsTrue (is_conflict clauses.old.clauses (lits_of trail.new.entries) c)) }
-    ensures walked { IfNone result (AllCovered clauses.new trail.new.entries (head + 1)) }
+    ensures walked { IfNone result (AllCovered clauses.new trail.new.entries (length trail.new.entries)) }
     ensures covered { AllCovered clauses.new trail.new.entries head }
     ensures clauses { SameClauses clauses.old clauses.new }
     ensures trail { trail.new ≡ record trail.old { entries = trail.new.entries } }
     ensures propagated { IsPropagated clauses.old.clauses trail.old.entries trail.new.entries }
 {
-    let _ = trail.level();
-    let f = trail.at(head).negated();
-    let mut before = None;
-    let mut at = clauses.arena().first_watch(f);
-    'chain: while let Some(c) = at {
-        at = clauses.arena().next_watch(c, f);
-        match visit(clauses, trail, before, c, f) {
-            Visited::Stays => before = Some(c),
-            Visited::Moves => {}
-            Visited::Broken => return Some(clauses.arena().number(c) - 1),
+    let mut older = start(clauses, trail, head);
+    let mut next = head + 1;
+    'entries: loop {
+        'alone: while older.next.is_some() && next == trail.count() {
+            if let Some(c) = step(clauses, trail, &mut older) {
+                return Some(c);
+            }
+        }
+        if next == trail.count() {
+            return None;
+        }
+        let mut newer = start(clauses, trail, next);
+        next += 1;
+        'both: while older.next.is_some() && newer.next.is_some() {
+            if let Some(c) = step(clauses, trail, &mut older) {
+                return Some(c);
+            }
+            if let Some(c) = step(clauses, trail, &mut newer) {
+                return Some(c);
+            }
+        }
+        let _ = trail.level();
+        if newer.next.is_some() {
+            older = newer;
         }
     }
-    let _ = trail.level();
-    None
 }

@@ -11,7 +11,7 @@ use Rattle.ilk_clauses.proofs.Values.{value-none, value-tells}
 use Rattle.ilk_watches.specs.Propagated.{IsPropagated}
 use Rattle.ilk_watches.proofs.Others.{conflict-of, number-same, other-facts, other-true, other-within, pushed-true, reason-of}
 use Rattle.ilk_watches.proofs.Propagations.{propagated-one, propagated-start}
-use Rattle.ilk_watches.proofs.walk.visit.Goals as goal
+use Rattle.ilk_watches.proofs.visit.visit.Goals as goal
 
 pub value-requires : goal.value-requires
 value-requires c =

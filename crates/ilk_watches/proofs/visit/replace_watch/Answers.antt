@@ -5,7 +5,7 @@ use Rattle.ilk_cnf.specs.Literal.{Literal}
 use Rattle.ilk_trail.specs.Laws.{lits_of}
 use Rattle.ilk_arena.specs.Arena.{ArenaLists, chain_of, literals_of, stands_in}
 use Rattle.ilk_watches.proofs.Others.{chosen, other-facts, unwatched}
-use Rattle.ilk_watches.proofs.walk.replace_watch.Goals as goal
+use Rattle.ilk_watches.proofs.visit.replace_watch.Goals as goal
 
 pub rewatch-requires-clause-unwatched : goal.rewatch-requires-clause-unwatched
 rewatch-requires-clause-unwatched c =

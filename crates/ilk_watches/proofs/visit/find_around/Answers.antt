@@ -3,7 +3,7 @@ use Rattle.std.specs.Prelude.{IfNone}
 use Rattle.ilk_trail.specs.Laws.{lits_of}
 use Rattle.ilk_arena.specs.Arena.{ArenaLists, literals_of}
 use Rattle.ilk_watches.proofs.Others.{none-around}
-use Rattle.ilk_watches.proofs.walk.find_around.Goals as goal
+use Rattle.ilk_watches.proofs.visit.find_around.Goals as goal
 
 pub returns-in-None-clause-none : goal.returns-in-None-clause-none
 returns-in-None-clause-none c =

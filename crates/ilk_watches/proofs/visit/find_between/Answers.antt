@@ -3,7 +3,7 @@ use Rattle.std.specs.List.{slice_get}
 use Rattle.ilk_cnf.specs.Formula.{lit_in}
 use Rattle.ilk_arena.specs.Arena.{ArenaLists, literals_of}
 use Rattle.ilk_watches.proofs.Others.{literal-within}
-use Rattle.ilk_watches.proofs.walk.find_between.Goals as goal
+use Rattle.ilk_watches.proofs.visit.find_between.Goals as goal
 
 pub is_false-requires-clause-within : goal.is_false-requires-clause-within
 is_false-requires-clause-within c =
