@@ -1,11 +1,12 @@
 -- Tables of flags over pairs of numbers.
-use Rattle.std.proofs.Common.{◌≡◌, ℕ, zero, suc, ◌<◌, ◌≤◌, ◌+◌, ◌⊎◌, inl, inr, Bool, false, ◌&&◌, ◌||◌, List, [], ◌∷◌, ◌++◌, get_or, length, take, refl, sym, ◌∙◌, ap, arith}
+use Rattle.std.proofs.Common.{◌≡◌, ℕ, zero, suc, ◌<◌, ◌≤◌, ◌+◌, ◌⊎◌, inl, inr, Bool, false, ◌&&◌, ◌||◌, List, [], ◌∷◌, ◌++◌, get_or, length, set, take, refl, sym, ◌∙◌, ap, arith}
 use Rattle.std.specs.List.{list_any}
 use Rattle.std.proofs.Math.Bool.{or-false}
 use Rattle.std.proofs.Math.Nat.{eq-or-lt_of_le}
-use Rattle.std.proofs.lemmas.List.{take_more}
+use Rattle.std.proofs.lemmas.List.{length-set, take_more}
 use Rattle.std.proofs.lemmas.List.Folds.{list_any-append}
 use Rattle.std.proofs.lemmas.Option.{slice_get_past}
+use Rattle.ilk_base.proofs.Lists.{slice_get-set_other, slice_get-set_same}
 use Rattle.ilk_plant.specs.NetworkRules.{leads_by}
 use Rattle.ilk_net_check.specs.Numbers.{IsTable, entry, has_flag, joined}
 use Rattle.ilk_net_check.specs.declared.bits.Flags.{Flags}
@@ -35,6 +36,34 @@ table_more t new row n test before is own = record {
     by_place x y small (inl last) =
         let place : x ≡ length t = last ∙ sym before.rows in
         ap (λ z. entry (t ++ row ∷ []) z y) place ∙ entry_last t row y ∙ own y small ∙ ap (λ z. test z y) (sym last)
+
+-- a table of which one row is another
+pub entry-set : (t : List Flags) (row : Flags) (x y : ℕ) → x < length t → entry (set t x row) x y ≡ has_flag row y
+entry-set t row x y within = rw (slice_get-set_same t x row within) refl
+
+pub entry-kept : (t : List Flags) (row : Flags) (x z y : ℕ) → (x ≡ z → ⊥) → entry (set t x row) z y ≡ entry t z y
+entry-kept t row x z y other = rw (slice_get-set_other t x z row other) refl
+
+-- the rows below i are joined by way of k, and the others are as before
+pub record IsJoinedBelow (before t : List Flags) (k i n : ℕ) : Type 0 where
+  pub rows : length t ≡ n
+  pub done : (x y : ℕ) → x < i → entry t x y ≡ joined before k x y
+  pub left : (x y : ℕ) → i ≤ x → entry t x y ≡ entry before x y
+
+-- row i is joined too, where onward is row k
+pub join_next : (before t : List Flags) (row onward : Flags) (k i n : ℕ) → i < n → IsJoinedBelow before t k i n → ((y : ℕ) → has_flag onward y ≡ entry before k y) → ((y : ℕ) → has_flag row y ≡ (entry t i y || (entry t i k && has_flag onward y))) → IsJoinedBelow before (set t i row) k (i + 1) n
+join_next before t row onward k i n within sofar on is = record {
+  rows = length-set t i row ∙ sofar.rows;
+  done = λ x y below. by_place x y (eq-or-lt_of_le (omega (arith, below)));
+  left = λ x y after. entry-kept t row i x y (λ same. absurd (omega (arith, same, after))) ∙ sofar.left x y (omega (arith, after));
+}
+  where
+    by_place : (x y : ℕ) → (x ≡ i) ⊎ (x < i) → entry (set t i row) x y ≡ joined before k x y
+    by_place x y (inr lower) =
+        entry-kept t row i x y (λ same. absurd (omega (arith, same, lower))) ∙ sofar.done x y lower
+    by_place x y (inl same) =
+        ap (λ z. entry (set t i row) z y) same ∙ entry-set t row i y (omega (arith, within, sofar.rows)) ∙ is y
+        ∙ (λ j. sofar.left i y (omega arith) j || (sofar.left i k (omega arith) j && on y j)) ∙ ap (λ z. joined before k z y) (sym same)
 
 -- one more item passes, or doesn't
 pub any_more : {X : Type 0} (p : X → Bool) (xs : List X) (i : ℕ) (d : X) (before now : Bool) → i < length xs → before ≡ list_any p (take i xs) → now ≡ (before || p (get_or xs i d)) → now ≡ list_any p (take (i + 1) xs)

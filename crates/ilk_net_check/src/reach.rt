@@ -1,4 +1,4 @@
-ghost use Rattle.std.specs.Prelude.{ℕ, ◌≡◌, ◌≤◌, ◌<◌, ◌||◌, IfOk};
+ghost use Rattle.std.specs.Prelude.{ℕ, ◌≡◌, ◌≤◌, ◌<◌, ◌&&◌, ◌||◌, IfOk, length};
 ghost use Rattle.std.specs.List.{list_any};
 ghost use Rattle.ilk_plant.specs.NetworkRules.{leads_by};
 ghost use Rattle.ilk_net_check.specs.Numbers.{IsTable, entry, has_flag, is_next, joined, leads_up_to};
@@ -64,32 +64,26 @@ fn steps_up(alloc: Global, ends: &Row<Row<End>>, count: u32) -> Result<Row<Flags
     Ok(made)
 }
 
-// Where steps lead from section `x` if they may also go by way of section `k`.
-fn row_by_way_of(leads: &Row<Flags>, k: u32, x: u32) -> Flags
-    ensures { (y : ℕ) → has_flag result y ≡ joined leads.now k x y }
+// Where steps lead from section `x` if they may also go by way of section `k`, from where they lead
+// as `onward` has it.
+fn row_by_way_of(leads: &Row<Flags>, onward: Flags, k: u32, x: u32) -> Flags
+    ensures { (y : ℕ) → has_flag result y ≡ (entry leads.now x y || (entry leads.now x k && has_flag onward y)) }
 {
     let row = row_at(leads, x);
-    if row.has(k) {
-        row.or(row_at(leads, k))
-    } else {
-        row
-    }
+    if row.has(k) { row.or(onward) } else { row }
 }
 
-// Where steps lead if they may also go by way of section `k`.
-fn by_way_of(
-    alloc: Global,
-    leads: &Row<Flags>,
-    k: u32,
-    count: u32,
-) -> Result<Row<Flags>, AllocError>
-    ensures { IfOk result (λ made. IsTable made count (joined leads.now k)) }
+// Lets steps also go by way of section `k`. Its own row stays as it is, so that each row may be
+// changed where it stands.
+fn go_by_way_of(leads: &mut Row<Flags>, k: u32, count: u32)
+    requires { length leads.old ≡ count }
+    ensures { IsTable leads.new count (joined leads.old k) }
 {
-    let mut made = Row::new(alloc);
+    let onward = row_at(leads, k);
     for x in 0..count {
-        made.push(row_by_way_of(leads, k, x))?;
+        let row = row_by_way_of(leads, onward, k, x);
+        *leads.at_mut(x as u64) = row;
     }
-    Ok(made)
 }
 
 /// For each pair of sections below `count`, whether a walk up of one or more steps leads from the
@@ -100,7 +94,7 @@ pub fn walks_up(alloc: Global, ends: &Row<Row<End>>, count: u32) -> Result<Row<F
 {
     let mut leads = steps_up(alloc, ends, count)?;
     for k in 0..count {
-        leads = by_way_of(alloc, &leads, k, count)?;
+        go_by_way_of(&mut leads, k, count);
     }
     Ok(leads)
 }

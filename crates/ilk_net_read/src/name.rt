@@ -17,7 +17,7 @@ pub fn lies_within(low: usize, high: usize, number: usize) -> bool
 fn is_name_character(byte: u8) -> bool
     ensures { result ≡ name.is_name_character byte }
 {
-    matches!(byte, b'A'..=b'Z' | b'a'..=b'z' | b'0'..=b'9' | b'_' | b'-')
+    matches!(byte, b'0'..=b'9' | b'a'..=b'z' | b'A'..=b'Z') || byte == b'_' || byte == b'-'
 }
 
 /// Whether a text is a name: 1 to `MAX_NAME` of the characters `A-Z a-z 0-9 _ -`.

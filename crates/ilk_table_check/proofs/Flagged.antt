@@ -5,9 +5,9 @@ use Rattle.std.proofs.Math.Bool.{or-false, or_assoc}
 use Rattle.std.proofs.lemmas.Bool.Decides.{Decides-eqb, nat_tests}
 use Rattle.std.proofs.lemmas.List.{get_or-map, get_or-set_other, get_or-set_same, length-map, take_more}
 use Rattle.std.proofs.lemmas.List.Folds.{list_any-append}
-use Rattle.std.proofs.lemmas.List.FromFn.{get_or-map-range_with_len}
+use Rattle.std.proofs.lemmas.List.FromFn.{fill_by_all, get_or-map-range_with_len}
 use Rattle.std.proofs.lemmas.Option.{slice_get-map}
-use Rattle.ilk_base.proofs.Ranges.{map-range-congr, range-at}
+use Rattle.ilk_base.proofs.Ranges.{range-at}
 use Rattle.ilk_base.proofs.Truth.{or-true}
 use Rattle.ilk_base.specs.Option.{is_some_and}
 use Rattle.ilk_plant.specs.ColumnRules.{lists}
@@ -55,21 +55,16 @@ points_more points i d y a b c within before after =
     let item : get_or (map point points) i d.point ≡ (get_or points i d).point = get_or-map point points i d d.point within in
     flags_more (map point points) i d.point y a b c (omega (arith, within, length-map points point)) before (after ∙ ap (λ n. b || (n == y)) (sym item))
 
--- a row of flags that tell what a test does
-row_tells : (flags : List Bool) (test : ℕ → Bool) (n : ℕ) → ((y : ℕ) → y < n → get_or flags y false ≡ test y) → map (λ x. get_or flags x false) (range_with_len 0 n) ≡ map test (range_with_len 0 n)
-row_tells flags test n same =
-    map-range-congr (λ x. get_or flags x false) test 0 n (λ y low high. same y (omega (arith, high)))
-
 -- the routes that a route lists
-pub listed-row : (p : PlantLists) (i n : ℕ) (route : Route) (flags slice : List Bool) (numbers : List ℕ) → n ≡ length p.routes → slice ≡ flags → numbers ≡ route.conflicts → slice_get p.routes i ≡ Some route → ((y : ℕ) → y < n → get_or flags y false ≡ has_section y numbers) → map (λ x. get_or slice x false) (range_with_len 0 n) ≡ conflict_flags p i
-listed-row p i n route flags slice numbers whole same own at tell =
-    row_tells slice (lists p i) n (λ y below. ap (λ l. get_or l y false) same ∙ tell y below ∙ ap (has_section y) own ∙ rw at refl)
+pub listed-row : (p : PlantLists) (i n : ℕ) (route : Route) (flags : List Bool) (numbers : List ℕ) → n ≡ length p.routes → length flags ≡ n → numbers ≡ route.conflicts → slice_get p.routes i ≡ Some route → ((y : ℕ) → y < n → get_or flags y false ≡ has_section y numbers) → flags ≡ conflict_flags p i
+listed-row p i n route flags numbers whole count own at tell =
+    fill_by_all (lists p i) flags n false count (λ y below. tell y below ∙ ap (has_section y) own ∙ rw at refl)
     ∙ ap (λ m. map (lists p i) (range_with_len 0 m)) whole
 
 -- the sections that are locked for a route
-pub locked-row : (p : PlantLists) (i n : ℕ) (route : Route) (first second third slice : List Bool) (path overlap : List ℕ) (points : List Listed) → n ≡ length p.sections → slice ≡ third → path ≡ route.path → overlap ≡ route.overlap → points ≡ route.protecting_points → slice_get p.routes i ≡ Some route → length first ≡ n → length second ≡ length first → ((y : ℕ) → y < n → get_or first y false ≡ has_section y path) → ((y : ℕ) → y < length first → get_or second y false ≡ (get_or first y false || has_section y overlap)) → ((y : ℕ) → y < length second → get_or third y false ≡ (get_or second y false || has_section y (map (λ listed. listed.point) points))) → map (λ x. get_or slice x false) (range_with_len 0 n) ≡ locked_flags p i
-locked-row p i n route first second third slice path overlap points whole same own_path own_overlap own_points at one two by_path by_overlap by_points =
-    row_tells slice test n (λ y below. ap (λ l. get_or l y false) same ∙ tell y below ∙ sym (joined y) ∙ rw at refl)
+pub locked-row : (p : PlantLists) (i n : ℕ) (route : Route) (first second third : List Bool) (path overlap : List ℕ) (points : List Listed) → n ≡ length p.sections → path ≡ route.path → overlap ≡ route.overlap → points ≡ route.protecting_points → slice_get p.routes i ≡ Some route → length first ≡ n → length second ≡ length first → length third ≡ length second → ((y : ℕ) → y < n → get_or first y false ≡ has_section y path) → ((y : ℕ) → y < length first → get_or second y false ≡ (get_or first y false || has_section y overlap)) → ((y : ℕ) → y < length second → get_or third y false ≡ (get_or second y false || has_section y (map (λ listed. listed.point) points))) → third ≡ locked_flags p i
+locked-row p i n route first second third path overlap points whole own_path own_overlap own_points at one two three by_path by_overlap by_points =
+    fill_by_all test third n false (three ∙ two ∙ one) (λ y below. tell y below ∙ sym (joined y) ∙ rw at refl)
     ∙ ap (λ m. map test (range_with_len 0 m)) whole
   where
     test : ℕ → Bool
@@ -86,9 +81,12 @@ locked-row p i n route first second third slice path overlap points whole same o
         ∙ ap (λ b. b || has_section y (map (λ listed. listed.point) points)) (by_overlap y (omega (arith, below, one)) ∙ ap (λ b. b || has_section y overlap) (by_path y below))
         ∙ (λ j. (has_section y (own_path j) || has_section y (own_overlap j)) || has_section y (map (λ listed. listed.point) (own_points j)))
 
+-- the flags of route i among those of all pairs
+pub row-flagged : (p : PlantLists) (listed : List (List Bool)) (i : ℕ) → listed ≡ all_conflict_flags p → i < length p.routes → slice_get listed i ≡ Some (conflict_flags p i)
+row-flagged p listed i is first =
+    ap (λ l. slice_get l i) is ∙ slice_get-map (conflict_flags p) (range_with_len 0 (length p.routes)) i ∙ ap (option_map (conflict_flags p)) (range-at (length p.routes) i first)
+
 -- which route lists which, by the flags of all pairs
 pub lists-flagged : (p : PlantLists) (listed : List (List Bool)) (i j : ℕ) → listed ≡ all_conflict_flags p → i < length p.routes → j < length p.routes → lists_by_flags listed i j ≡ lists p i j
 lists-flagged p listed i j is first second =
-    let row : slice_get listed i ≡ Some (conflict_flags p i) =
-    ap (λ l. slice_get l i) is ∙ slice_get-map (conflict_flags p) (range_with_len 0 (length p.routes)) i ∙ ap (option_map (conflict_flags p)) (range-at (length p.routes) i first) in
-    rw row (get_or-map-range_with_len (lists p i) 0 (length p.routes) j j false second (omega arith))
+    rw (row-flagged p listed i is first) (get_or-map-range_with_len (lists p i) 0 (length p.routes) j j false second (omega arith))

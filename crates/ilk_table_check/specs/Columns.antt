@@ -1,7 +1,7 @@
 -- Cited by private contracts alone: the pairs of routes with one first route, the routes that it lists, and the
 -- sections that are locked for it.
-use Rattle.std.specs.Prelude.{ℕ, Bool, false, List, Some, map, filter, length, slice_get, slice_index_or}
-use Rattle.std.specs.List.{range_with_len}
+use Rattle.std.specs.Prelude.{ℕ, ◌+◌, ◌||◌, Bool, false, List, Some, drop, map, filter, length, not, slice_get, slice_index_or, take}
+use Rattle.std.specs.List.{list_any, range_with_len}
 use Rattle.ilk_base.specs.Option.{is_some_and}
 use Rattle.ilk_plant.specs.ColumnRules.{lists}
 use Rattle.ilk_plant.specs.Network.{has_section}
@@ -26,6 +26,15 @@ all_conflict_flags p = map (conflict_flags p) (range_with_len 0 (length p.routes
 -- whether route i lists route j, by flags of pairs
 abbrev pub lists_by_flags : List (List Bool) → ℕ → ℕ → Bool
 lists_by_flags listed i j = is_some_and (slice_get listed i) (λ flags. slice_index_or flags j false)
+
+-- whether route i doesn't list one of the later routes, by flags of pairs
+abbrev pub any_later_unlisted : List (List Bool) → ℕ → Bool
+any_later_unlisted listed i = is_some_and (slice_get listed i) (λ flags. list_any not (drop (i + 1) flags))
+
+-- whether route i doesn't list one of the other routes, by flags of pairs
+abbrev pub any_other_unlisted : List (List Bool) → ℕ → Bool
+any_other_unlisted listed i =
+    is_some_and (slice_get listed i) (λ flags. list_any not (take i flags) || list_any not (drop (i + 1) flags))
 
 -- for each section, whether it is locked for route i
 abbrev pub locked_flags : PlantLists → ℕ → List Bool

@@ -5,9 +5,12 @@
 //! in order.
 #![tactic(auto)]
 
+mod asking;
 mod columns;
+mod conflicts;
 mod flags;
 mod listed;
+mod pairs;
 mod table;
 mod ways;
 

@@ -1,6 +1,6 @@
 use Rattle.std.proofs.Common.{◌∙◌}
 use Rattle.ilk_table_check.proofs.Flagged.{lists-flagged}
-use Rattle.ilk_table_check.proofs.columns.lists.Goals as goal
+use Rattle.ilk_table_check.proofs.conflicts.lists.Goals as goal
 
 pub returns : goal.returns
 returns c =

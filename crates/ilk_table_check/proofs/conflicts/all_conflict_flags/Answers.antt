@@ -1,6 +1,6 @@
 use Rattle.ilk_base.proofs.Ranges.{pushed}
 use Rattle.ilk_table_check.specs.Columns.{conflict_flags}
-use Rattle.ilk_table_check.proofs.columns.all_conflict_flags.Goals as goal
+use Rattle.ilk_table_check.proofs.conflicts.all_conflict_flags.Goals as goal
 
 pub loop-i-preserved : goal.loop-i-preserved
 loop-i-preserved c =

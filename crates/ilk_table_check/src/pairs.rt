@@ -1,0 +1,114 @@
+ghost use Rattle.std.specs.Prelude.{◌≡◌, ◌==◌, ◌||◌, ◌<◌, IfOk, false, length, map, slice_index_or};
+ghost use Rattle.std.specs.List.{list_any};
+ghost use Rattle.ilk_plant.specs.TableRules.{protecting_points_of};
+ghost use Rattle.ilk_plant.specs.ColumnRules.{breaks_columns_at_pair, is_kept_closed_by, share_section};
+ghost use Rattle.ilk_plant.specs.declared.broken.Rule.TheVariants.{C6};
+ghost use Rattle.ilk_table_check.specs.Columns.{all_conflict_flags, locked_flags};
+
+use crate::conflicts::lists;
+use crate::flags::Flags;
+use ilk_plant::{Listed, Plant, Route, Row, Rule};
+use std::alloc::{AllocError, Global};
+
+// For each section, whether route `i` has it in its path, its overlap or its protecting points.
+fn locked_flags(alloc: Global, plant: &Plant, i: u32) -> Result<Flags, AllocError>
+    requires { i < length plant.now.routes }
+    ensures { IfOk result (λ locked. locked ≡ locked_flags plant.now i) }
+{
+    let route = plant.route(i);
+    let mut locked = Flags::of(alloc, plant.sections(), route.path.as_slice())?;
+    locked.set_all(route.overlap.as_slice());
+    locked.set_points(route.protecting_points.as_slice());
+    Ok(locked)
+}
+
+// Whether one of these sections has its flag.
+fn any_flagged(flags: &Flags, sections: &[u32]) -> bool
+    ensures { result ≡ list_any (λ x. slice_index_or flags.now x false) sections.now }
+{
+    sections.iter().any(|x| flags.at(*x))
+}
+
+// Whether one of these points has its flag.
+fn any_point_flagged(flags: &Flags, points: &[Listed]) -> bool
+    ensures { result ≡ list_any (λ x. slice_index_or flags.now x false) (map (λ listed. listed.point) points.now) }
+{
+    points
+        .iter()
+        .map(|listed| listed.point)
+        .any(|x| flags.at(x))
+}
+
+// Whether one of the sections of a route's path, overlap or protecting points has its flag.
+fn any_of_route_flagged(flags: &Flags, route: &Route) -> bool
+    ensures { result ≡ ((list_any (λ x. slice_index_or flags.now x false) route.now.path
+        || list_any (λ x. slice_index_or flags.now x false) route.now.overlap)
+        || list_any (λ x. slice_index_or flags.now x false) (protecting_points_of route.now)) }
+{
+    any_flagged(flags, route.path.as_slice())
+        || any_flagged(flags, route.overlap.as_slice())
+        || any_point_flagged(flags, route.protecting_points.as_slice())
+}
+
+// Whether routes `i` and `j` have one same section in path, overlap or protecting points.
+// `locked` has what is locked for route `i`.
+fn share_section(plant: &Plant, locked: &Flags, i: u32, j: u32) -> bool
+    requires first { i < length plant.now.routes }
+    requires second { j < length plant.now.routes }
+    requires locked { locked.now ≡ locked_flags plant.now i }
+    ensures { result ≡ share_section plant.now i j }
+{
+    let other = plant.route(j);
+    any_of_route_flagged(locked, other)
+}
+
+/// Whether a route has board `m` among its protecting boards.
+pub fn keeps_closed(route: &Route, m: u32) -> bool
+    ensures { result ≡ list_any (λ n. n == m) route.now.protecting_boards }
+{
+    route.protecting_boards.as_slice().iter().any(|n| *n == m)
+}
+
+// Whether the source of route `j` is a protecting board of route `i`.
+fn is_kept_closed_by(plant: &Plant, i: u32, j: u32) -> bool
+    requires first { i < length plant.now.routes }
+    requires second { j < length plant.now.routes }
+    ensures { result ≡ is_kept_closed_by plant.now i j }
+{
+    keeps_closed(plant.route(i), plant.route(j).source)
+}
+
+/// Whether a rule is broken at the pair of routes `i` and `j`. `listed` has which routes list which,
+/// and `locked` what is locked for route `i`, which C6 alone asks.
+pub fn breaks_at_pair(
+    plant: &Plant,
+    listed: &Row<Flags>,
+    locked: &Flags,
+    rule: Rule,
+    i: u32,
+    j: u32,
+) -> bool
+    requires first { i < length plant.now.routes }
+    requires second { j < length plant.now.routes }
+    requires listed { listed.now ≡ all_conflict_flags plant.now }
+    requires locked { rule ≡ C6 → locked.now ≡ locked_flags plant.now i }
+    ensures { result ≡ breaks_columns_at_pair plant.now rule i j }
+{
+    match rule {
+        Rule::C5 => lists(plant, listed, i, j) && !lists(plant, listed, j, i),
+        Rule::C6 => i < j && !lists(plant, listed, i, j) && share_section(plant, locked, i, j),
+        Rule::C8 => !lists(plant, listed, i, j) && is_kept_closed_by(plant, i, j),
+        _ => false,
+    }
+}
+
+/// What is locked for route `i`, where a rule asks it.
+pub fn locked_for(alloc: Global, plant: &Plant, rule: Rule, i: u32) -> Result<Flags, AllocError>
+    requires { i < length plant.now.routes }
+    ensures { rule ≡ C6 → IfOk result (λ locked. locked ≡ locked_flags plant.now i) }
+{
+    match rule {
+        Rule::C6 => locked_flags(alloc, plant, i),
+        _ => Flags::new(alloc, 0),
+    }
+}
