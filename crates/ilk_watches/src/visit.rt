@@ -135,6 +135,7 @@ fn replace_watch(
 
 /// Visits the clause at reference `c`, which stands right after `before`, or first, in the chain of `f`,
 /// which is false.
+#[inline(always)]
 pub fn visit(
     clauses: &mut Clauses,
     trail: &mut Trail,
