@@ -30,4 +30,4 @@ mod table;
 pub use bounded::{Bounded, bit_is, bits, is, number, value_of};
 pub use limit::at_most;
 pub use selection::one_of;
-pub use table::{bounds, values};
+pub use table::{bound_count, bounds, values};

@@ -61,8 +61,8 @@ fn two_values(alloc: Global, n: Bounded) -> Result<Lits, AllocError>
     Ok(lits)
 }
 
-// How many bounds an integer has literals for.
-fn bound_count(range: u8) -> u64
+/// How many bounds an integer has literals for.
+pub fn bound_count(range: u8) -> u64
     ensures count { result ≡ bound_count range }
     ensures few { result ≤ range - 3 }
 {
