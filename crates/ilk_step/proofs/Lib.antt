@@ -5,4 +5,8 @@ pub mod FrameSteps
 pub mod RulesLaw
 pub mod RulesSteps
 pub mod StepLaw
+pub mod TouchingLaw
+pub mod CarryLaw
+pub mod CarrySteps
+pub mod PairsIn
 pub mod Few

@@ -2,4 +2,6 @@ pub mod Choice
 pub mod Rules
 pub mod Frame
 pub mod Step
+pub mod Touching
+pub mod Carry
 pub mod Size
