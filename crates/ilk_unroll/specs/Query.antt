@@ -1,15 +1,21 @@
 -- The formula of a query: copies of the system's values, steps between them, and what is demanded of them.
-use Rattle.std.specs.Prelude.{ℕ, zero, suc, List, [], ◌∷◌, slice_index_or, if◌then◌else◌}
+use Rattle.std.specs.Prelude.{ℕ, Bool, zero, suc, ◌+◌, ◌==◌, ◌≡◌, ◌≤◌, ◌&&◌, not, true, false, List, [], ◌∷◌, length, slice_index_or, if◌then◌else◌}
 use Rattle.ilk_cnf.specs.Formula.{Formula}
 use Rattle.ilk_cnf.specs.Part.{Part, nothing_at, and_then, with_part}
 use Rattle.ilk_ir.specs.System.{RuleTree, SystemTree}
+use Rattle.ilk_ir.specs.Tree.{all_of, negation, trees}
 use Rattle.ilk_copy.specs.declared.copy.Column.{Column}
 use Rattle.ilk_copy.specs.Copy.{copy_part}
 use Rattle.ilk_forms.specs.Demand.{demand_part}
-use Rattle.ilk_forms.specs.Violated.{violated_part}
+use Rattle.ilk_forms.specs.Violated.{violated_part, never_kept}
+use Rattle.ilk_forms.specs.declared.pairs.Pair.{Pair}
+use Rattle.ilk_forms.specs.Scopes.{scopes_each}
+use Rattle.ilk_forms.specs.Pairs.{demand_count, demands_scopes, gather_count, pairs_each}
+use Rattle.ilk_step.specs.Carry.{carry_part}
 use Rattle.ilk_step.specs.Step.{step_part}
 use Rattle.ilk_unroll.specs.Goal.{GoalTree, Demanded, step_count, demanded}
 use Rattle.ilk_unroll.specs.declared.queries.Wanted.{Wanted}
+use Rattle.ilk_unroll.specs.declared.queries.Wanted.TheVariants.{Hazard, Breach, Step}
 
 -- a part, and the literals of each copy that it adds
 pub record CopyTables : Type 0 where
@@ -46,12 +52,49 @@ abbrev pub demands_part : List (List Column) → List Demanded → ℕ → Part
 demands_part tables [] n = nothing_at n
 demands_part tables (d ∷ ds) n = and_then (demanded_part tables d n) (demands_part tables ds)
 
+-- where the variables of the families' demands begin, after n variables and those of well-formed values; where those of
+-- their instances begin, after the hazard's; and where these end
+abbrev pub demands_begin : List ℕ → GoalTree → ℕ → ℕ
+demands_begin ranges g n = n + demand_count ranges true g.wellformed
+
+abbrev pub instances_begin : List ℕ → GoalTree → ℕ → ℕ
+instances_begin ranges g n =
+    demands_begin ranges g n + length (demands_scopes ranges true (trees g.families)) + gather_count ranges true (negation g.hazard)
+
+abbrev pub instances_end : List ℕ → GoalTree → ℕ → ℕ
+instances_end ranges g n = instances_begin ranges g n + length (scopes_each ranges true true (trees g.families)).gates
+
+-- whether an instance of the goal is plainly never kept
+abbrev pub plainly_broken : GoalTree → Bool
+plainly_broken g = never_kept true (all_of (trees (negation g.hazard ∷ g.families)))
+
+-- the parts of the families, each with its variable of the demands and its variable of the instances
+abbrev pub family_pairs : List ℕ → GoalTree → ℕ → List Pair
+family_pairs ranges g n =
+    pairs_each ranges true (trees g.families) (demands_begin ranges g n) (instances_begin ranges g n)
+
+-- those of them whose variables are carried over: in a query of one step, from where the families are demanded to where
+-- their instances are gathered; what is demanded begins after n variables
+abbrev pub carried : List ℕ → GoalTree → Wanted → ℕ → List Pair
+carried ranges g (Hazard k) n = []
+carried ranges g (Breach k) n = []
+carried ranges g (Step k) n =
+    if k == 1 && not (plainly_broken g) then family_pairs ranges g n else []
+
+-- where these are found, they end in a formula of so many variables
+abbrev pub Reaches : List ℕ → GoalTree → Wanted → ℕ → ℕ → Type 0
+Reaches ranges g (Hazard k) n end = Unit {0}
+Reaches ranges g (Breach k) n end = Unit {0}
+Reaches ranges g (Step k) n end = k ≡ 1 → plainly_broken g ≡ false → instances_end ranges g n ≤ end
+
 -- a copy for the values after each step and one for the first, the steps, and what the query demands
 abbrev pub query_part : SystemTree → GoalTree → Wanted → Part
 query_part s g q = after (copies_part s.ranges (suc (step_count q)) 0)
   where
     after : CopyTables → Part
-    after copies = and_then copies.part (λ m. and_then (steps_part s.rules copies.tables m) (demands_part copies.tables (demanded g q)))
+    after copies =
+        and_then copies.part (λ m. and_then (steps_part s.rules copies.tables m) (λ n.
+        and_then (demands_part copies.tables (demanded g q) n) (carry_part s.rules (m + 1) (carried s.ranges g q n))))
 
 -- the formula of nothing else
 abbrev pub query_formula : SystemTree → GoalTree → Wanted → Formula

@@ -6,6 +6,7 @@ ghost use Rattle.ilk_unroll.specs.Run.{is_wanted_run};
 ghost use Rattle.ilk_unroll.specs.Query.{query_formula};
 ghost use Rattle.ilk_unroll.specs.Assignment.{run_assignment, IsWantedRun};
 
+use crate::carried::carry_families;
 use crate::demands::add_demands;
 use crate::queries::{Goal, Wanted};
 use crate::unroll::unroll;
@@ -32,6 +33,8 @@ pub fn query(alloc: Global, system: &System, goal: &Goal, q: Wanted) -> Result<C
 {
     let mut cnf = Cnf::new(alloc);
     let unrolled = unroll(alloc, &mut cnf, system, q.steps())?;
+    let begin = cnf.vars();
     add_demands(alloc, &mut cnf, &unrolled.tables, goal, q)?;
+    carry_families(alloc, &mut cnf, system, goal, q, unrolled.begin, begin)?;
     Ok(cnf)
 }

@@ -23,6 +23,8 @@ pub struct Unrolled {
     pub tables: Tables,
     /// The first variable of the first values' copy.
     pub first: u64,
+    /// The first variable of the steps.
+    pub begin: u64,
     pub choices: Choices,
 }
 
@@ -86,6 +88,7 @@ pub fn unroll(
     requires valid { IsTrue (system_valid (system_tree system.now)) }
     ensures tables { IfOk result (λ unrolled. unrolled.tables ≡ (copies_part system.now.ranges (suc steps) 0).tables) }
     ensures first { IfOk result (λ unrolled. unrolled.first ≡ (copies_part system.now.ranges steps 0).part.vars + 1) }
+    ensures begin { IfOk result (λ unrolled. unrolled.begin ≡ (copies_part system.now.ranges (suc steps) 0).part.vars + 1) }
     ensures choices { IfOk result (λ unrolled. unrolled.choices ≡ step_choices (map rule_tree system.now.rules) (copies_part system.now.ranges (suc steps) 0).tables (copies_part system.now.ranges (suc steps) 0).part.vars) }
     ensures made { OnOk result (cnf.new ≡ with_part (record { vars = 0; clauses = [] }) (and_then (copies_part system.now.ranges (suc steps) 0).part (steps_part (map rule_tree system.now.rules) (copies_part system.now.ranges (suc steps) 0).tables))) }
     ensures within { IfOk result (λ unrolled. IsTrue (tables_in cnf.new.vars unrolled.tables)) }
@@ -98,11 +101,13 @@ pub fn unroll(
     let mut tables = add_copies(alloc, cnf, &system.ranges, steps)?;
     let first = cnf.vars() + 1;
     tables.push_before(add_copy(alloc, cnf, &system.ranges)?)?;
+    let begin = cnf.vars() + 1;
     let choices = add_steps(alloc, cnf, system, &tables)?;
     let _ = cnf.vars();
     Ok(Unrolled {
         tables,
         first,
+        begin,
         choices,
     })
 }

@@ -51,6 +51,11 @@ returns-clause-first c =
     let empty = ap (λ (f : Formula). f.vars) c.requires.empty in
     ap (λ (n : ℕ). n + 1) (c.vars-first.ensures.count ∙ ap (λ (f : Formula). f.vars) c.in_ok-tables.ensures.made ∙ ap (λ (n : ℕ). (copies_part c.args.system.now.ranges c.args.steps n).part.vars) empty)
 
+pub returns-clause-begin : goal.returns-clause-begin
+returns-clause-begin c =
+    let are = made (goal.at.returns-clause-begin c).In_ok-push_before in
+    ap (λ (n : ℕ). n + 1) (c.vars-begin.ensures.count ∙ ap (λ (f : Formula). f.vars) are.1)
+
 pub returns-clause-choices : goal.returns-clause-choices
 returns-clause-choices c =
     let rules = map rule_tree c.args.system.now.rules in
