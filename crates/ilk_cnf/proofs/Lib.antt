@@ -5,3 +5,4 @@ pub mod Gates
 pub mod Extending
 pub mod SameLiterals
 pub mod Cuts
+pub mod MarkedVars

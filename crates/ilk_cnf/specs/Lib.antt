@@ -1,5 +1,6 @@
 pub mod Literal
 pub mod Code
+pub mod Marks
 pub mod Formula
 pub mod Truth
 pub mod Part

@@ -7,15 +7,19 @@ use crate::assignment::Assignment;
 use crate::clause::Clause;
 use crate::clause_list::ClauseList;
 use crate::lit::Lit;
+use crate::marks::vars_differ;
 use std::alloc::{AllocError, Global};
 use std::marker::Model;
+
+// So few literals are compared with one another; where there are more, their variables are marked.
+const FEW: usize = 8;
 
 /// A formula: the variables 1 to `vars`, and clauses over them. In memory it takes 2 bytes for each
 /// variable, 8 for each clause, and 8 for each of its literals.
 #[derive(Drop)]
 pub struct Cnf {
-    // One entry for each variable: no two bytes of memory have one number, so there are at most
-    // 2^62 of them.
+    // A mark for each variable, by which `vars_differ` finds what it meets twice; between its calls
+    // they say nothing. No two bytes of memory have one number, so there are at most 2^62 of them.
     marks: Vec<u16>,
     clauses: ClauseList,
 }
@@ -59,7 +63,26 @@ impl Cnf {
         ensures ok { OnOk result (self.new ≡ grown self.old self.old.vars (clause ∷ [])) }
         ensures err { OnErr result (self.new ≡ self.old) }
     {
-        self.clauses.push(clause.as_slice())
+        self.push(clause.as_slice())
+    }
+
+    // The same of a list of literals over different variables.
+    fn push(&mut self, lits: &[Lit]) -> Result<(), AllocError>
+        requires within { IsTrue (clause_in self.old.vars lits.now) }
+        requires differ { IsTrue (vars_differ lits.now) }
+        ensures ok { OnOk result (self.new ≡ grown self.old self.old.vars (lits.now ∷ [])) }
+        ensures err { OnErr result (self.new ≡ self.old) }
+    {
+        self.clauses.push(lits)
+    }
+
+    // Whether the literals are over different variables.
+    fn vars_differ(&mut self, lits: &[Lit]) -> bool
+        requires { IsTrue (clause_in self.old.vars lits.now) }
+        ensures differ { result ≡ vars_differ lits.now }
+        ensures same { self.new ≡ self.old }
+    {
+        vars_differ(&mut self.marks, lits)
     }
 
     /// Demands that one of the literals is true: adds the clause that has each of them once, or
@@ -70,6 +93,9 @@ impl Cnf {
         ensures ok { OnOk result (self.new ≡ grown self.old self.old.vars (as_clause lits.now)) }
         ensures err { OnErr result (self.new ≡ self.old) }
     {
+        if lits.len() > FEW && self.vars_differ(lits) {
+            return self.push(lits);
+        }
         match Clause::of(*self.marks.allocator(), lits)? {
             Some(clause) => self.add(clause),
             None => Ok(()),

@@ -24,6 +24,7 @@ mod clause_list;
 mod cnf;
 mod gate;
 mod lit;
+mod marks;
 
 pub use assignment::Assignment;
 pub use clause::{Clause, Lits};

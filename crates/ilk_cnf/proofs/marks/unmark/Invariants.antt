@@ -1,0 +1,10 @@
+use Rattle.std.proofs.Common.{ℕ, ◌≡◌, ◌<◌, length, take, false, true}
+use Rattle.ilk_cnf.specs.Literal.{has_var}
+use Rattle.ilk_cnf.specs.Marks.{is_marked}
+use Rattle.ilk_cnf.proofs.marks.unmark.Given as goal
+
+abbrev pub invariant-loop-lit : goal.invariant-loop-lit
+invariant-loop-lit l = record {
+  count : length l.marks ≡ length l.fn.marks;
+  marks : (v : ℕ) → 0 < v → has_var v (take l.lit-index l.lits) ≡ true → is_marked l.marks v ≡ false;
+}
