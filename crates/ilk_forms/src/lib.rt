@@ -27,7 +27,6 @@ mod scopes;
 mod violated;
 
 pub use clauses::demand;
-pub use literals::push_all;
 pub use pairs::{Pair, demand_scopes, demands_scopes, pairs_each};
-pub use scopes::{Scope, Scopes, scopes_each, scopes_of};
+pub use scopes::{Scope, Scopes, scopes_of};
 pub use violated::{either_never, first_violated, holds_or_some_fails, some_fails};

@@ -12,7 +12,8 @@ use Rattle.ilk_cnf.specs.Truth.{is_true, some_true}
 use Rattle.ilk_cnf.proofs.SameLiterals.{lit-is}
 use Rattle.ilk_ir.specs.System.{RuleTree}
 use Rattle.ilk_step.specs.Frame.{setters}
-use Rattle.ilk_step.specs.Touching.{with_others, with_touching, few_of, setters_each}
+use Rattle.ilk_step.specs.Touching.{with_others, with_touching, few_of}
+use Rattle.ilk_step.specs.SettersEach.{setters_each}
 use Rattle.ilk_step.specs.declared.touching.TheConstants.{MAX_TOUCHING}
 use Rattle.ilk_step.proofs.FrameSteps.{setters-in}
 

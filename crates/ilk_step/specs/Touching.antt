@@ -1,6 +1,5 @@
 -- The rules that touch a part of a form: those that set one of the variables that it speaks of.
-use Rattle.std.specs.Prelude.{ℕ, List, [], ◌∷◌, ◌++◌, map, length, nat_le, Option, Some, None, if◌then◌else◌}
-use Rattle.std.specs.List.{range_with_len}
+use Rattle.std.specs.Prelude.{ℕ, List, [], ◌∷◌, ◌++◌, length, nat_le, Option, Some, None, if◌then◌else◌}
 use Rattle.ilk_cnf.specs.Literal.{Literal, has_lit}
 use Rattle.ilk_ir.specs.System.{RuleTree}
 use Rattle.ilk_step.specs.declared.touching.TheConstants.{MAX_TOUCHING}
@@ -24,7 +23,3 @@ touching k rs vs = with_touching [] k rs vs
 -- the literals where they are few
 abbrev pub few_of : List Literal → Option (List Literal)
 few_of ls = if nat_le (length ls) MAX_TOUCHING then Some ls else None
-
--- for each of n variables the literals that say that a rule is chosen that sets it
-abbrev pub setters_each : ℕ → ℕ → List RuleTree → List (List Literal)
-setters_each n k rs = map (λ v. setters v k rs) (range_with_len 0 n)

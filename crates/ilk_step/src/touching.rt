@@ -2,7 +2,8 @@ ghost use Rattle.std.specs.Prelude.{◌≡◌, ◌+◌, ◌<◌, ◌≤◌, ◌^
 ghost use Rattle.ilk_cnf.specs.Literal.{has_lit};
 ghost use Rattle.ilk_ir.specs.System.{rule_tree};
 ghost use Rattle.ilk_step.specs.Frame.{setters};
-ghost use Rattle.ilk_step.specs.Touching.{with_others, few_of, touching, setters_each};
+ghost use Rattle.ilk_step.specs.SettersEach.{setters_each};
+ghost use Rattle.ilk_step.specs.Touching.{with_others, few_of, touching};
 
 use crate::frame::setters;
 use ilk_base::Row;

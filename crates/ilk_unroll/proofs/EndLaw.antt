@@ -21,7 +21,8 @@ use Rattle.ilk_unroll.proofs.FittingLaw.{copies-fitting}
 use Rattle.std.proofs.lemmas.Bool.{and_parts}
 use Rattle.std.specs.List.{list_all}
 use Rattle.ilk_unroll.specs.Goal.{GoalTree, Demanded, step_count, holds_below, fails_in, demanded}
-use Rattle.ilk_unroll.specs.Query.{copies_part, demands_part, Reaches}
+use Rattle.ilk_unroll.specs.Query.{copies_part, demands_part}
+use Rattle.ilk_unroll.specs.Reach.{Reaches}
 
 after-low : (others : List Literal) (before : Literal) (n : ℕ) → n ≤ (violated_after before others n).part.vars
 after-low [] before n = omega arith

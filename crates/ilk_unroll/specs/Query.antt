@@ -1,5 +1,5 @@
 -- The formula of a query: copies of the system's values, steps between them, and what is demanded of them.
-use Rattle.std.specs.Prelude.{ℕ, Bool, zero, suc, ◌+◌, ◌==◌, ◌≡◌, ◌≤◌, ◌&&◌, not, true, false, List, [], ◌∷◌, length, slice_index_or, if◌then◌else◌}
+use Rattle.std.specs.Prelude.{ℕ, Bool, zero, suc, ◌+◌, ◌==◌, ◌&&◌, not, true, List, [], ◌∷◌, length, slice_index_or, if◌then◌else◌}
 use Rattle.ilk_cnf.specs.Formula.{Formula}
 use Rattle.ilk_cnf.specs.Part.{Part, nothing_at, and_then, with_part}
 use Rattle.ilk_ir.specs.System.{RuleTree, SystemTree}
@@ -9,7 +9,6 @@ use Rattle.ilk_copy.specs.Copy.{copy_part}
 use Rattle.ilk_forms.specs.Demand.{demand_part}
 use Rattle.ilk_forms.specs.Violated.{violated_part, never_kept}
 use Rattle.ilk_forms.specs.declared.pairs.Pair.{Pair}
-use Rattle.ilk_forms.specs.Scopes.{scopes_each}
 use Rattle.ilk_forms.specs.Pairs.{demand_count, demands_scopes, gather_count, pairs_each}
 use Rattle.ilk_step.specs.Carry.{carry_part}
 use Rattle.ilk_step.specs.Step.{step_part}
@@ -52,17 +51,14 @@ abbrev pub demands_part : List (List Column) → List Demanded → ℕ → Part
 demands_part tables [] n = nothing_at n
 demands_part tables (d ∷ ds) n = and_then (demanded_part tables d n) (demands_part tables ds)
 
--- where the variables of the families' demands begin, after n variables and those of well-formed values; where those of
--- their instances begin, after the hazard's; and where these end
+-- where the variables of the families' demands begin, after n variables and those of well-formed values; and where those
+-- of their instances begin, after the hazard's
 abbrev pub demands_begin : List ℕ → GoalTree → ℕ → ℕ
 demands_begin ranges g n = n + demand_count ranges true g.wellformed
 
 abbrev pub instances_begin : List ℕ → GoalTree → ℕ → ℕ
 instances_begin ranges g n =
     demands_begin ranges g n + length (demands_scopes ranges true (trees g.families)) + gather_count ranges true (negation g.hazard)
-
-abbrev pub instances_end : List ℕ → GoalTree → ℕ → ℕ
-instances_end ranges g n = instances_begin ranges g n + length (scopes_each ranges true true (trees g.families)).gates
 
 -- whether an instance of the goal is plainly never kept
 abbrev pub plainly_broken : GoalTree → Bool
@@ -80,12 +76,6 @@ carried ranges g (Hazard k) n = []
 carried ranges g (Breach k) n = []
 carried ranges g (Step k) n =
     if k == 1 && not (plainly_broken g) then family_pairs ranges g n else []
-
--- where these are found, they end in a formula of so many variables
-abbrev pub Reaches : List ℕ → GoalTree → Wanted → ℕ → ℕ → Type 0
-Reaches ranges g (Hazard k) n end = Unit {0}
-Reaches ranges g (Breach k) n end = Unit {0}
-Reaches ranges g (Step k) n end = k ≡ 1 → plainly_broken g ≡ false → instances_end ranges g n ≤ end
 
 -- a copy for the values after each step and one for the first, the steps, and what the query demands
 abbrev pub query_part : SystemTree → GoalTree → Wanted → Part

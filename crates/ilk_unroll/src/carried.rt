@@ -3,7 +3,8 @@ ghost use Rattle.ilk_cnf.specs.Part.{with_part};
 ghost use Rattle.ilk_ir.specs.System.{rule_tree};
 ghost use Rattle.ilk_step.specs.Carry.{carry_part};
 ghost use Rattle.ilk_unroll.specs.Goal.{goal_tree};
-ghost use Rattle.ilk_unroll.specs.Query.{instances_end, family_pairs, carried, Reaches};
+ghost use Rattle.ilk_unroll.specs.Query.{family_pairs, carried};
+ghost use Rattle.ilk_unroll.specs.Reach.{instances_end, Reaches};
 
 use crate::queries::{Goal, Wanted};
 use ilk_base::Row;

@@ -1,6 +1,6 @@
 use Rattle.std.proofs.Common.{◌≡◌, map}
 use Rattle.ilk_ir.specs.System.{rule_tree}
-use Rattle.ilk_step.specs.Touching.{setters_each}
+use Rattle.ilk_step.specs.SettersEach.{setters_each}
 use Rattle.ilk_step.proofs.touching.setters_each.Given as goal
 
 abbrev pub invariant-loop-v : goal.invariant-loop-v
