@@ -19,7 +19,8 @@ use Rattle.ilk_net_read.specs.declared.fault.Place.TheVariants.{Document}
 use Rattle.ilk_table_read.specs.Table.{drafts_of}
 use Rattle.ilk_engine.specs.CertificateOf.{IsCertificateOf}
 use Rattle.ilk_engine.specs.declared.verdict.Verdict.TheVariants.{Safe}
-use Rattle.ilk_engine.proofs.Strict.{clean-forever, clean-verdict}
+use Rattle.ilk_forever.proofs.StrictForever.{clean-forever}
+use Rattle.ilk_engine.proofs.Strict.{clean-verdict}
 use Rattle.ilk_words.specs.Limits.{has_option_limits}
 use Rattle.ilk_words.specs.Plan.{plan_of}
 use Rattle.ilk_words.specs.declared.command.Columns.{Columns}

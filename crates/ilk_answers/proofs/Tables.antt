@@ -21,7 +21,7 @@ use Rattle.ilk_tablegen.specs.Rules.{IsConfigurationOf, no_routes}
 use Rattle.ilk_tablegen.specs.Table.{walks}
 use Rattle.ilk_tablegen.specs.declared.walks.Walks.{Walks}
 use Rattle.ilk_tablegen.specs.declared.walks.Walks.TheVariants.{Routes, TooLong, TooMany}
-use Rattle.ilk_engine.proofs.Strict.{clean-forever}
+use Rattle.ilk_forever.proofs.StrictForever.{clean-forever}
 use Rattle.ilk_words.specs.declared.command.Columns.{Columns}
 use Rattle.ilk_words.specs.declared.command.Columns.TheVariants.{Strict}
 use Rattle.ilk_words.specs.declared.command.Command.TheVariants.{Table}

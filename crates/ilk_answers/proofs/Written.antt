@@ -62,10 +62,12 @@ verdict-told p depth conflicts verdict text wanted (Ok r) right lasts certified 
 }
 
 -- a reply with the status, the line and the certificate of the verdict on a made plant tells that verdict
-pub demo-told : (n depth conflicts : ℕ) (p : PlantLists) (verdict : Verdict) (text wanted : List ℕ) (made : Reply) → p ≡ stations_plant n → IsPlant p → column_rules_broken (stations_plant n) ≡ [] → 0 < depth → IsRightFor p depth verdict ⊎ (verdict ≡ Spent) → IsCertificateOf p depth conflicts verdict wanted → text ≡ wanted → made.status ≡ verdict_status verdict → made.certificate ≡ text → made.report ≡ demo_line n conflicts verdict → TellsDemo n depth conflicts made
-demo-told n depth conflicts p verdict text wanted made is plant kept some right certified same status certificate report = record {
+pub demo-told : (n depth conflicts : ℕ) (p : PlantLists) (verdict : Verdict) (text wanted : List ℕ) (made : Reply) → p ≡ stations_plant n → IsPlant p → column_rules_broken (stations_plant n) ≡ [] → 0 < depth → IsRightFor p depth verdict ⊎ (verdict ≡ Spent) → LastsFor p verdict → IsCertificateOf p depth conflicts verdict wanted → text ≡ wanted → made.status ≡ verdict_status verdict → made.certificate ≡ text → made.report ≡ demo_line n conflicts verdict → TellsDemo n depth conflicts made
+demo-told n depth conflicts p verdict text wanted made is plant kept some right lasts certified same status certificate report = record {
   verdict = verdict;
   safe = clean-verdict p depth verdict plant (ap column_rules_broken is ∙ kept) some right;
+  right = subst (λ q. IsRightFor q depth verdict ⊎ (verdict ≡ Spent)) is right;
+  lasts = subst (λ q. LastsFor q verdict) is lasts;
   certificate = subst (λ q. IsCertificateOf q depth conflicts verdict made.certificate) is (subst (IsCertificateOf p depth conflicts verdict) (sym (certificate ∙ same)) certified);
   status = status;
   report = report;

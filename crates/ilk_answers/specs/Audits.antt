@@ -5,7 +5,7 @@ use Rattle.ilk_behave.specs.Behaviour.{system_of}
 use Rattle.ilk_queries.specs.Goal.{goal_of}
 use Rattle.ilk_certificate.specs.Certificate.{IsCertificate}
 use Rattle.ilk_cert_audit.specs.FirstBad.{IsFirstBad}
-use Rattle.ilk_engine.specs.Forever.{IsForeverSafe}
+use Rattle.ilk_forever.specs.Forever.{IsForeverSafe}
 use Rattle.ilk_answers.specs.Report.{accepted_line, rejected_line, reply}
 use Rattle.ilk_answers.specs.declared.reply.Reply.{Reply}
 use Rattle.ilk_answers.specs.declared.status.Status.TheVariants.{Good, Rejected}

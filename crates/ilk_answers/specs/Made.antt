@@ -3,6 +3,8 @@ use Rattle.std.specs.Prelude.{ℕ, ◌≡◌, ◌⊎◌, ◌++◌, List, [], ◌
 use Rattle.ilk_plant.specs.Draft.{numbered}
 use Rattle.ilk_plant.specs.Plant.{PlantLists}
 use Rattle.ilk_engine.specs.CertificateOf.{IsCertificateOf}
+use Rattle.ilk_engine.specs.Forever.{LastsFor}
+use Rattle.ilk_engine.specs.Right.{IsRightFor}
 use Rattle.ilk_engine.specs.declared.verdict.Verdict.{Verdict}
 use Rattle.ilk_engine.specs.declared.verdict.Verdict.TheVariants.{Safe, Spent}
 use Rattle.ilk_gen.specs.StationRoutes.{stations_table}
@@ -29,11 +31,13 @@ demo_line n conflicts verdict =
     ++ (codes " routes=" ++ (decimal (length (stations_plant n).routes)
     ++ (codes " " ++ verdict_line (stations_plant n) conflicts verdict))))))
 
--- a reply tells the verdict on the plant of n stations: it is safe with k = 1, or all conflicts are spent; and what is
--- written besides is the certificate for that
+-- a reply tells the verdict on the plant of n stations: it is safe with k = 1, or all conflicts are spent; the verdict is
+-- right, and where it is safe, it is so for runs of any length; and what is written besides is the certificate for that
 pub record TellsDemo (n depth conflicts : ℕ) (made : Reply) : Type 0 where
   pub verdict : Verdict
   pub safe : (verdict ≡ Safe 1) ⊎ (verdict ≡ Spent)
+  pub right : IsRightFor (stations_plant n) depth verdict ⊎ (verdict ≡ Spent)
+  pub lasts : LastsFor (stations_plant n) verdict
   pub certificate : IsCertificateOf (stations_plant n) depth conflicts verdict made.certificate
   pub status : made.status ≡ verdict_status verdict
   pub report : made.report ≡ demo_line n conflicts verdict

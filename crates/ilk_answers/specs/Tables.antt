@@ -11,7 +11,7 @@ use Rattle.ilk_plant.specs.declared.draft.TableDraft.{TableDraft}
 use Rattle.ilk_net_read.specs.declared.version.Version.TheVariants.{Second}
 use Rattle.ilk_table_read.specs.Table.{drafts_of}
 use Rattle.ilk_conf_write.specs.ConfigurationText.{configuration_text}
-use Rattle.ilk_engine.specs.Forever.{IsForeverSafe}
+use Rattle.ilk_forever.specs.Forever.{IsForeverSafe}
 use Rattle.ilk_tablegen.specs.NetworkDraft.{network_draft}
 use Rattle.ilk_tablegen.specs.Rules.{no_routes}
 use Rattle.ilk_tablegen.specs.Table.{walks}

@@ -6,7 +6,7 @@ ghost use Rattle.ilk_answers.specs.Status.{is_reply};
 use crate::report::{accepted_line, rejected_line};
 use crate::{Reply, Status};
 use ilk_cert_audit::numbers_fit;
-use ilk_engine::certificates_are_right;
+use ilk_forever::certificates_are_right;
 use ilk_plant::Plant;
 use ilk_plant_audit::{CertAudit, Ended};
 use std::alloc::{AllocError, Global};

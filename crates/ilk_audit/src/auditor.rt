@@ -10,7 +10,7 @@ use crate::fault::fault;
 use crate::partial::Partial;
 use crate::taken::Taken;
 use ilk_cnf::{Cnf, Lit};
-use ilk_log::{Hints, Step};
+use ilk_log::Step;
 use std::alloc::{AllocError, Global};
 use std::marker::Model;
 
@@ -44,17 +44,6 @@ fn clauses_of(alloc: Global, cnf: &Cnf) -> Result<Block, AllocError>
         block.push(cnf.clause(number + 1))?;
     }
     Ok(block)
-}
-
-// The hints as a list.
-fn listed(alloc: Global, hints: &Hints) -> Result<Vec<u64>, AllocError>
-    ensures { IfOk result (λ list. list.items ≡ hints.now) }
-{
-    let mut list = Vec::new(alloc);
-    for i in 0..hints.len() {
-        list.push(hints.at(i))?;
-    }
-    Ok(list)
 }
 
 impl Auditor {
@@ -98,14 +87,13 @@ impl Auditor {
 
     /// Takes the next step, if it follows: its literals are asked first, and then its hints in order.
     /// After `Bad`, and where memory runs out, the auditor is unchanged.
-    pub fn take(&mut self, alloc: Global, step: &Step) -> Result<Taken, AllocError>
+    pub fn take(&mut self, step: &Step) -> Result<Taken, AllocError>
         requires open { self.old.closed ≡ false }
         ensures taken { IfOk result (λ taken. taken ≡ taken_of self.old step.now) }
         ensures after { OnOk result (self.new ≡ after_step self.old step.now) }
         ensures err { OnErr result (self.new ≡ self.old) }
     {
-        let hints = listed(alloc, &step.hints)?;
-        self.take_parts(step.clause.as_slice(), hints.as_slice())
+        self.take_parts(step.clause.as_slice(), step.hints.as_slice())
     }
 
     /// The same of a step whose clause and hints stand in lists.

@@ -29,13 +29,19 @@ impl<T> Row<T> {
         }
     }
 
-    /// An empty row, with room for so many items.
+    /// An empty row, for which memory for so many items is asked at once. How many items find room
+    /// in it isn't promised.
     pub fn with_capacity(alloc: Global, items: u64) -> Result<Self, AllocError>
         ensures { IfOk result (λ row. row ≡ []) }
     {
         Ok(Row {
             items: Vec::with_capacity(alloc, items as usize)?,
         })
+    }
+
+    /// The allocator that the row keeps.
+    pub fn allocator(&self) -> Global {
+        *self.items.allocator()
     }
 
     /// How many items there are.
@@ -68,17 +74,6 @@ impl<T> Row<T> {
     {
         &mut self.items[i as usize]
     }
-}
-
-impl<T: Drop> Row<T> {
-    /// Adds an item at the end.
-    pub fn push(&mut self, item: T) -> Result<(), AllocError>
-        ensures ok { OnOk result (self.new ≡ self.old ++ item ∷ []) }
-        ensures err { OnErr result (self.new ≡ self.old) }
-    {
-        self.items.push(item)?;
-        Ok(())
-    }
 
     /// Takes item `i` out, and closes up.
     pub fn remove(&mut self, i: u64) -> T
@@ -90,13 +85,24 @@ impl<T: Drop> Row<T> {
     }
 }
 
+impl<T: Drop> Row<T> {
+    /// Adds an item at the end.
+    pub fn push(&mut self, item: T) -> Result<(), AllocError>
+        ensures ok { OnOk result (self.new ≡ self.old ++ item ∷ []) }
+        ensures err { OnErr result (self.new ≡ self.old) }
+    {
+        self.items.push(item)?;
+        Ok(())
+    }
+}
+
 impl<T: Copy> Row<T> {
     /// An equal row.
-    pub fn copy(&self, alloc: Global) -> Result<Self, AllocError>
+    pub fn copy(&self) -> Result<Self, AllocError>
         ensures { IfOk result (λ row. row ≡ self.now) }
     {
         Ok(Row {
-            items: Vec::from_slice(alloc, self.items.as_slice())?,
+            items: Vec::from_slice(self.allocator(), self.items.as_slice())?,
         })
     }
 }

@@ -1,6 +1,9 @@
 -- What is written for the queries is the text of their lines.
-use Rattle.std.proofs.Common.{◌≡◌, ◌≤◌, ℕ, length, take, Bool, true, false, cond, List, [], ◌∷◌, ◌++◌, map, flat_map, refl, sym, ap, ◌∙◌, append_assoc, append-nil}
+use Rattle.std.proofs.Common.{◌≡◌, ◌≤◌, ◌+◌, ℕ, length, take, Bool, true, false, cond, List, [], ◌∷◌, ◌++◌, map, flat_map, refl, sym, ap, ◌∙◌, append_assoc, append-nil}
+use Rattle.std.specs.Prelude.{Some, slice_get}
 use Rattle.std.proofs.lemmas.List.{take_all}
+use Rattle.std.proofs.lemmas.Option.{slice_get_within, get_or_from_slice_get}
+use Rattle.ilk_base.proofs.FlatMaps.{flat_map-grows}
 use Rattle.ilk_lines.specs.Lines.{Bytes}
 use Rattle.ilk_lines.specs.Written.{text_of}
 use Rattle.ilk_log.specs.declared.step.Step.{Step as LogStep}
@@ -36,6 +39,13 @@ kept-fed before last = joined before ∙ asked-fed (without_early_steps (before 
 pub steps_written : (start : Bytes) (log : List LogStep) (i : ℕ) (now : Bytes) → length log ≤ i → now ≡ start ++ flat_map step_fed (take i log) → now ≡ start ++ text_of (map step_text log)
 steps_written start log i now past sofar =
     sofar ∙ ap (λ (xs : List LogStep). start ++ flat_map step_fed xs) (take_all i log past) ∙ ap (λ (t : Bytes). start ++ t) (steps-fed log)
+
+-- one line more, that of the next step
+pub step_more : (start : Bytes) (log : List LogStep) (i : ℕ) (s : LogStep) (now next : Bytes) → slice_get log i ≡ Some s → now ≡ start ++ flat_map step_fed (take i log) → next ≡ now ++ step_fed s → next ≡ start ++ flat_map step_fed (take (i + 1) log)
+step_more start log i s now next at sofar grown =
+    let before : Bytes = flat_map step_fed (take i log) in
+    let more = flat_map-grows step_fed log i s before (before ++ step_fed s) (slice_get_within log i s at) refl (ap (λ (x : LogStep). before ++ step_fed x) (sym (get_or_from_slice_get log i s s at))) in
+    grown ∙ ap (λ (t : Bytes). t ++ step_fed s) sofar ∙ append_assoc start before (step_fed s) ∙ ap (λ (t : Bytes). start ++ t) more
 
 -- and so are those of all queries
 pub asked_written : (start : Bytes) (asked : List Asked) (i : ℕ) (now : Bytes) → length asked ≤ i → now ≡ start ++ flat_map asked_text (take i asked) → now ≡ start ++ text_of (flat_map asked_lines asked)

@@ -8,9 +8,9 @@ ghost use Rattle.ilk_certificate.specs.Kept.{is_step_query};
 ghost use Rattle.ilk_certificate.specs.Writing.{asked_text, base_text, step_fed};
 
 use crate::asked::Asked;
-use ilk_log::{PackedStep, push_step};
+use ilk_log::{Log, Step, push_step};
 use ilk_unroll::Wanted;
-use std::alloc::{AllocError, Global};
+use std::alloc::AllocError;
 
 /// Writes the line of a word, a space and a number at the end of a text.
 pub(crate) fn push_numbered(text: &mut String, word: &str, number: u128) -> Result<(), AllocError>
@@ -31,33 +31,33 @@ pub(crate) fn push_query(text: &mut String, query: Wanted) -> Result<(), AllocEr
 }
 
 // Writes the line of a step.
-fn push_step_line(alloc: Global, text: &mut String, step: &PackedStep) -> Result<(), AllocError>
+fn push_step_line(text: &mut String, step: &Step) -> Result<(), AllocError>
     requires { IsTrue (hints_from_one step.now) }
     ensures { OnOk result (string_bytes text.new ≡ string_bytes text.old ++ step_fed step.now) }
 {
-    let step = step.unpacked(alloc)?;
-    push_step(text, &step)?;
+    push_step(text, step)?;
     text.push_str("\n")
 }
 
 // Writes the line of each step.
-fn push_steps(alloc: Global, text: &mut String, log: &[PackedStep]) -> Result<(), AllocError>
+fn push_steps(text: &mut String, log: &Log) -> Result<(), AllocError>
     requires { IsTrue (list_all hints_from_one log.now) }
     ensures { OnOk result (string_bytes text.new ≡ string_bytes text.old ++ text_of (map step_text log.now)) }
 {
-    for step in log {
-        push_step_line(alloc, text, step)?;
+    for i in 0..log.len() {
+        let step = log.at(i)?;
+        push_step_line(text, &step)?;
     }
     Ok(())
 }
 
 /// Writes the lines of an asked query.
-pub(crate) fn push_asked(alloc: Global, text: &mut String, asked: &Asked) -> Result<(), AllocError>
+pub(crate) fn push_asked(text: &mut String, asked: &Asked) -> Result<(), AllocError>
     requires { IsTrue (list_all hints_from_one asked.now.log) }
     ensures { OnOk result (string_bytes text.new ≡ string_bytes text.old ++ asked_text asked.now) }
 {
     push_query(text, asked.query)?;
-    push_steps(alloc, text, asked.log.as_slice())
+    push_steps(text, &asked.log)
 }
 
 /// Whether a query is a step query.
@@ -68,12 +68,12 @@ pub(crate) fn is_step(query: Wanted) -> bool
 }
 
 /// Writes them unless it is a step query.
-pub(crate) fn push_base(alloc: Global, text: &mut String, asked: &Asked) -> Result<(), AllocError>
+pub(crate) fn push_base(text: &mut String, asked: &Asked) -> Result<(), AllocError>
     requires { IsTrue (list_all hints_from_one asked.now.log) }
     ensures { OnOk result (string_bytes text.new ≡ string_bytes text.old ++ base_text asked.now) }
 {
     match asked.query {
         Wanted::Step(_) => Ok(()),
-        _ => push_asked(alloc, text, asked),
+        _ => push_asked(text, asked),
     }
 }

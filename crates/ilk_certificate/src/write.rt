@@ -22,37 +22,37 @@ pub(crate) fn all_conflicts(asked: &[Asked]) -> u128
 }
 
 // Writes the lines of each query.
-fn push_all(alloc: Global, text: &mut String, asked: &[Asked]) -> Result<(), AllocError>
+fn push_all(text: &mut String, asked: &[Asked]) -> Result<(), AllocError>
     requires { IsTrue (all_hints_from_one asked.now) }
     ensures { OnOk result (string_bytes text.new ≡ string_bytes text.old ++ text_of (flat_map asked_lines asked.now)) }
 {
     for query in asked {
-        push_asked(alloc, text, query)?;
+        push_asked(text, query)?;
     }
     Ok(())
 }
 
 // Writes the lines of each query but the step queries.
-fn push_bases(alloc: Global, text: &mut String, asked: &[Asked]) -> Result<(), AllocError>
+fn push_bases(text: &mut String, asked: &[Asked]) -> Result<(), AllocError>
     requires { IsTrue (all_hints_from_one asked.now) }
     ensures { OnOk result (string_bytes text.new ≡ string_bytes text.old ++ flat_map base_text asked.now) }
 {
     for query in asked {
-        push_base(alloc, text, query)?;
+        push_base(text, query)?;
     }
     Ok(())
 }
 
 // Writes the lines of each query but the step queries before the last.
-fn push_kept(alloc: Global, text: &mut String, asked: &[Asked]) -> Result<(), AllocError>
+fn push_kept(text: &mut String, asked: &[Asked]) -> Result<(), AllocError>
     requires { IsTrue (all_hints_from_one asked.now) }
     ensures { OnOk result (string_bytes text.new ≡ string_bytes text.old ++ text_of (flat_map asked_lines (without_early_steps asked.now))) }
 {
     let Some((last, before)) = asked.split_last() else {
         return Ok(());
     };
-    push_bases(alloc, text, before)?;
-    push_asked(alloc, text, last)?;
+    push_bases(text, before)?;
+    push_asked(text, last)?;
     Ok(())
 }
 
@@ -73,7 +73,7 @@ pub fn safe_text(alloc: Global, k: u32, asked: &[Asked]) -> Result<Vec<u8>, Allo
     ensures { IfOk result (λ text. text.items ≡ safe_text k (without_early_steps asked.now)) }
 {
     let mut text = begun(alloc, "safe", k as u128)?;
-    push_kept(alloc, &mut text, asked)?;
+    push_kept(&mut text, asked)?;
     text.push_str("end\n")?;
     Ok(text.into_bytes())
 }
@@ -85,7 +85,7 @@ pub fn spent_text(alloc: Global, asked: &[Asked]) -> Result<Vec<u8>, AllocError>
     ensures { IfOk result (λ text. text.items ≡ spent_text (all_conflicts asked.now) asked.now) }
 {
     let mut text = begun(alloc, "spent", all_conflicts(asked))?;
-    push_all(alloc, &mut text, asked)?;
+    push_all(&mut text, asked)?;
     text.push_str("end\n")?;
     Ok(text.into_bytes())
 }

@@ -27,6 +27,10 @@ pub record IsFormula (f : Formula) : Type 0 where
 abbrev pub grown : Formula → ℕ → List (List Literal) → Formula
 grown f n cs = record { vars = n; clauses = f.clauses ++ cs }
 
+-- the same clauses with n variables
+abbrev pub with_vars : Formula → ℕ → Formula
+with_vars f n = record { vars = n; clauses = f.clauses }
+
 -- the literals, each once, where it stands last
 abbrev pub distinct : List Literal → List Literal
 distinct [] = []

@@ -46,8 +46,9 @@ fn imply_each(cnf: &mut Cnf, gate: Lit, lits: &[Lit]) -> Result<(), AllocError>
     Ok(())
 }
 
-// Adds the clauses that make `gate` true exactly where all of the literals are.
-fn add_gate(alloc: Global, cnf: &mut Cnf, gate: Lit, lits: &[Lit]) -> Result<(), AllocError>
+/// Adds the clauses that make `gate` true exactly where all of the literals are. Where memory runs
+/// out the formula may have grown, and its owner drops it.
+pub fn add_gate(alloc: Global, cnf: &mut Cnf, gate: Lit, lits: &[Lit]) -> Result<(), AllocError>
     requires gate { IsTrue (clause_in cnf.old.vars (gate ∷ [])) }
     requires lits { IsTrue (clause_in cnf.old.vars lits.now) }
     ensures { OnOk result (cnf.new ≡ grown cnf.old cnf.old.vars (as_clauses (equals_all gate lits.now))) }

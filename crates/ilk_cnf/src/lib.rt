@@ -9,7 +9,7 @@
 //! A formula is made by `Cnf::new` and grown by `fresh` and `add`. What is built of other parts may
 //! name one thing twice: `add_lits` takes any literals of the formula, and adds the clause that has
 //! each once, or none where the list can't be false. `all_of` and `any_of` add a variable that
-//! stands for several literals. A formula is read by `vars`, `clauses` and `clause`. Calls of the
+//! stands for several literals; `add_gate` adds the clauses of one that is there. A formula is read by `vars`, `clauses` and `clause`. Calls of the
 //! formula itself leave it unchanged where memory runs out; a call that a formula is lent to may
 //! leave it grown.
 //!
@@ -29,5 +29,5 @@ mod marks;
 pub use assignment::Assignment;
 pub use clause::{Clause, Lits};
 pub use cnf::Cnf;
-pub use gate::{all_of, any_of, opposites};
+pub use gate::{add_gate, all_of, any_of, opposites};
 pub use lit::Lit;

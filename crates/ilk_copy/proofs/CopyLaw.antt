@@ -4,17 +4,17 @@ use Rattle.std.specs.List.{list_all}
 use Rattle.std.proofs.lemmas.List.{append-nil}
 use Rattle.std.proofs.lemmas.List.Folds.{list_all-append}
 use Rattle.std.proofs.lemmas.Bool.{and_parts, and_from, leb-true, le-leb, ltb-true, lt-ltb, false≢true}
-use Rattle.ilk_cnf.specs.Formula.{Formula, clause_in, clauses_in}
+use Rattle.ilk_cnf.specs.Formula.{Formula, clause_in, clauses_in, grown, with_vars}
 use Rattle.ilk_cnf.specs.Truth.{is_true}
 use Rattle.ilk_cnf.specs.Extends.{Extends, Only, Then}
-use Rattle.ilk_cnf.specs.Part.{Part, with_part}
+use Rattle.ilk_cnf.specs.Part.{Part, with_part, as_clauses}
 use Rattle.ilk_cnf.proofs.Literals.{clauses_in-more}
 use Rattle.ilk_cnf.proofs.Parts.{in_turn, in_words, one_by_one}
 use Rattle.ilk_cnf.proofs.Gates.{with_part-and_then}
 use Rattle.ilk_copy.specs.declared.copy.Column.{Column}
 use Rattle.ilk_cnf.proofs.Extending.{no_more_if, only_from_if}
 use Rattle.ilk_ints.specs.Bits.{bit_count, bits_of, bits_at}
-use Rattle.ilk_ints.specs.Number.{number_part, IsValue}
+use Rattle.ilk_ints.specs.Number.{number_part, ruled_out, IsValue}
 use Rattle.ilk_ints.proofs.BitsLaw.{length-bits}
 use Rattle.ilk_ints.proofs.NumberLaw.{number-law, ruled_out-in, bits_at-new}
 use Rattle.ilk_ir.specs.System.{in_ranges}
@@ -187,6 +187,11 @@ copy-in ranges n fit =
     ∙ and_from _ _ (clauses_in-more p.vars rest.part.vars p.clauses (columns-low ranges (n + 1) p.vars) (numbers-in ranges n)) (columns-in ranges (n + 1) p.vars (omega arith) (omega (arith, numbers-end ranges n)) fit)
 
 -- one variable more
+
+pub number_there : (f g : Formula) (used range count : ℕ) → count ≡ bit_count range → g ≡ grown f f.vars (as_clauses (ruled_out (used + 1) range)) → with_vars g (used + count) ≡ with_part (with_vars f used) (number_part range used)
+number_there f g used range count counted made =
+    ap (λ (k : Formula). with_vars k (used + count)) made
+    ∙ ap (λ (k : ℕ). with_vars (grown f f.vars (as_clauses (ruled_out (used + 1) range))) (used + k)) counted
 
 pub numbers_step : (f g : Formula) (range : ℕ) (all rest : List ℕ) → all ≡ range ∷ rest → g ≡ with_part f (number_part range f.vars) → with_part g (numbers_part rest g.vars) ≡ with_part f (numbers_part all f.vars)
 numbers_step f g range all rest split made =

@@ -1,3 +1,4 @@
 pub mod CopyLaw
 pub mod CopySays
 pub mod CopyFew
+pub mod CopyWidth

@@ -4,7 +4,7 @@ use Rattle.ilk_cnf.specs.Truth.{is_true}
 use Rattle.ilk_cnf.specs.Part.{Part, nothing_at, and_then}
 use Rattle.ilk_ints.specs.Bits.{bit_count, bits_of, bits_at}
 use Rattle.ilk_ints.specs.Number.{number_part}
-use Rattle.ilk_ints.specs.Named.{values_part, bounds_part, values_bits, bounds_bits, bound_count, value_bits, bound_bits}
+use Rattle.ilk_ints.specs.Named.{values_part, bounds_part, named_vars, values_bits, bounds_bits, bound_count, value_bits, bound_bits}
 use Rattle.ilk_ir.specs.System.{in_ranges}
 use Rattle.ilk_copy.specs.declared.copy.Column.{Column}
 
@@ -43,6 +43,15 @@ columns_part (range ∷ ranges) first n =
       part = and_then (column_part first range n).part (λ m. (columns_part ranges (first + bit_count range) m).part);
       columns = (column_part first range n).column ∷ (columns_part ranges (first + bit_count range) (column_part first range n).part.vars).columns;
     }
+
+-- how many variables the literals of variables with these ranges take
+abbrev pub total_named : List ℕ → ℕ
+total_named [] = 0
+total_named (range ∷ ranges) = named_vars range + total_named ranges
+
+-- and how many a copy has
+abbrev pub copy_width : List ℕ → ℕ
+copy_width ranges = total_bits ranges + total_named ranges
 
 -- the bits of every variable, then the literals of every variable
 abbrev pub copy_part : List ℕ → ℕ → CopyColumns

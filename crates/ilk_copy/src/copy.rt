@@ -1,14 +1,16 @@
 ghost use Rattle.std.specs.Prelude.{◌≡◌, ℕ, ◌+◌, ◌*◌, ◌<◌, ◌≤◌, ◌++◌, List, Bool, nat_lt, sum, length, OnOk, IfOk, IsTrue};
 ghost use Rattle.std.specs.List.{list_all};
 ghost use Rattle.ilk_cnf.specs.Extends.{PartExtends};
-ghost use Rattle.ilk_cnf.specs.Part.{with_part};
+ghost use Rattle.ilk_cnf.specs.Formula.{grown, with_vars};
+ghost use Rattle.ilk_cnf.specs.Part.{with_part, as_clauses};
 ghost use Rattle.ilk_ints.specs.Bits.{bit_count};
+ghost use Rattle.ilk_ints.specs.Named.{named_vars};
 ghost use Rattle.ilk_ir.specs.System.{in_ranges};
-ghost use Rattle.ilk_copy.specs.Copy.{numbers_part, columns_part, column_part, copy_part, total_bits, copy_bits, IsCopy, LiteralsSay};
+ghost use Rattle.ilk_copy.specs.Copy.{numbers_part, columns_part, column_part, copy_part, total_bits, total_named, copy_width, copy_bits, IsCopy, LiteralsSay};
 
 use ilk_base::Row;
 use ilk_cnf::{Cnf, Lits};
-use ilk_ints::{Bounded, bits, bounds, number, values};
+use ilk_ints::{Bounded, add_number, bits, bounds, take_named, take_number, values};
 use ilk_ir::Ranges;
 use std::alloc::{AllocError, Global};
 
@@ -23,35 +25,96 @@ pub struct Column {
 /// The literals of the variables of a copy.
 pub type Table = Row<Column>;
 
-// Adds the bits of an integer for each range.
-fn add_numbers(alloc: Global, cnf: &mut Cnf, ranges: &[u8]) -> Result<(), AllocError>
-    requires { IsTrue (list_all (λ range. nat_lt 0 range) ranges.now) }
-    ensures { OnOk result (cnf.new ≡ with_part cnf.old (numbers_part ranges.now cnf.old.vars)) }
+// Adds the variables of an integer for each range.
+fn take_numbers(cnf: &mut Cnf, ranges: &[u8]) -> Result<(), AllocError>
+    ensures { OnOk result (cnf.new ≡ with_vars cnf.old (cnf.old.vars + total_bits ranges.now)) }
 {
     for range in ranges {
-        number(alloc, cnf, *range)?;
+        take_number(cnf, *range)?;
     }
     Ok(())
 }
 
-// Adds the literals of one variable.
-fn add_column(alloc: Global, cnf: &mut Cnf, n: Bounded) -> Result<Column, AllocError>
-    requires from_1 { 0 < n.first }
-    requires within { n.first + bit_count n.range ≤ cnf.old.vars + 1 }
-    ensures column { IfOk result (λ column. column ≡ (column_part n.first n.range cnf.old.vars).column) }
-    ensures made { OnOk result (cnf.new ≡ with_part cnf.old (column_part n.first n.range cnf.old.vars).part) }
+// Adds the variables of the literals of each.
+fn take_columns(cnf: &mut Cnf, ranges: &[u8]) -> Result<(), AllocError>
+    ensures { OnOk result (cnf.new ≡ with_vars cnf.old (cnf.old.vars + total_named ranges.now)) }
 {
-    let values = values(alloc, cnf, n)?;
-    let bounds = bounds(alloc, cnf, n, values.as_slice())?;
+    for range in ranges {
+        take_named(cnf, *range)?;
+    }
+    Ok(())
+}
+
+/// Adds the variables of a copy of variables with these ranges, and no clause. Where memory runs out
+/// the formula may have grown, and its owner drops it.
+pub fn take_copy(cnf: &mut Cnf, ranges: &Ranges) -> Result<(), AllocError>
+    ensures taken { OnOk result (cnf.new ≡ with_vars cnf.old (cnf.old.vars + copy_width ranges.now)) }
+
+    // At most two variables for each value of a variable.
+    ensures vars { OnOk result (cnf.new.vars ≤ cnf.old.vars + 2 * sum ranges.now) }
+{
+    take_numbers(cnf, ranges.as_slice())?;
+    take_columns(cnf, ranges.as_slice())?;
+    Ok(())
+}
+
+// Adds the clauses of an integer for each range, whose bits stand after the `used` variables.
+fn add_numbers(
+    alloc: Global,
+    cnf: &mut Cnf,
+    used: &mut u64,
+    ranges: &[u8],
+) -> Result<(), AllocError>
+    requires there { used.old + total_bits ranges.now ≤ cnf.old.vars }
+    ensures vars { OnOk result (cnf.new.vars ≡ cnf.old.vars) }
+    ensures made { OnOk result (with_vars cnf.new used.new ≡ with_part (with_vars cnf.old used.old) (numbers_part ranges.now used.old)) }
+{
+    for range in ranges {
+        let _ = cnf.vars();
+        let n = Bounded {
+            first: *used + 1,
+            range: *range,
+        };
+        add_number(alloc, cnf, n)?;
+        *used += bits(*range);
+    }
+    Ok(())
+}
+
+// Adds the clauses of the literals of one variable, which stand after the `used` variables.
+fn add_column(
+    alloc: Global,
+    cnf: &mut Cnf,
+    used: &mut u64,
+    n: Bounded,
+) -> Result<Column, AllocError>
+    requires from_1 { 0 < n.first }
+    requires within { n.first + bit_count n.range ≤ used.old + 1 }
+    requires there { used.old + named_vars n.range ≤ cnf.old.vars }
+    ensures column { IfOk result (λ column. column ≡ (column_part n.first n.range used.old).column) }
+    ensures vars { OnOk result (cnf.new.vars ≡ cnf.old.vars) }
+    ensures made { OnOk result (with_vars cnf.new used.new ≡ with_part (with_vars cnf.old used.old) (column_part n.first n.range used.old).part) }
+{
+    let values = values(alloc, cnf, used, n)?;
+    let bounds = bounds(alloc, cnf, used, n, values.as_slice())?;
     Ok(Column { values, bounds })
 }
 
-// Adds the literals of the variables of these ranges, which have their bits from `first` on.
-fn add_columns(alloc: Global, cnf: &mut Cnf, first: u64, ranges: &[u8]) -> Result<Table, AllocError>
+// Adds the clauses of the literals of the variables of these ranges, which have their bits from
+// `first` on.
+fn add_columns(
+    alloc: Global,
+    cnf: &mut Cnf,
+    used: &mut u64,
+    first: u64,
+    ranges: &[u8],
+) -> Result<Table, AllocError>
     requires from_1 { 0 < first }
-    requires within { first + total_bits ranges.now ≤ cnf.old.vars + 1 }
-    ensures table { IfOk result (λ table. table ≡ (columns_part ranges.now first cnf.old.vars).columns) }
-    ensures made { OnOk result (cnf.new ≡ with_part cnf.old (columns_part ranges.now first cnf.old.vars).part) }
+    requires within { first + total_bits ranges.now ≤ used.old + 1 }
+    requires there { used.old + total_named ranges.now ≤ cnf.old.vars }
+    ensures table { IfOk result (λ table. table ≡ (columns_part ranges.now first used.old).columns) }
+    ensures vars { OnOk result (cnf.new.vars ≡ cnf.old.vars) }
+    ensures made { OnOk result (with_vars cnf.new used.new ≡ with_part (with_vars cnf.old used.old) (columns_part ranges.now first used.old).part) }
 {
     let mut table = Table::new(alloc);
     let mut first = first;
@@ -61,29 +124,33 @@ fn add_columns(alloc: Global, cnf: &mut Cnf, first: u64, ranges: &[u8]) -> Resul
             first,
             range: *range,
         };
-        table.push(add_column(alloc, cnf, n)?)?;
+        table.push(add_column(alloc, cnf, used, n)?)?;
         first += bits(*range);
     }
     Ok(table)
 }
 
-/// Adds a copy of variables with these ranges: first their bits, then the literals of each, which
-/// it answers. What stood before extends over the copy in exactly one way for each list of values
-/// in range. Where memory runs out the formula may have grown, and its owner drops it.
-pub fn add_copy(alloc: Global, cnf: &mut Cnf, ranges: &Ranges) -> Result<Table, AllocError>
-    requires { IsTrue (list_all (λ range. nat_lt 0 range) ranges.now) }
-    ensures table { IfOk result (λ table. table ≡ (copy_part ranges.now cnf.old.vars).columns) }
-    ensures made { OnOk result (cnf.new ≡ with_part cnf.old (copy_part ranges.now cnf.old.vars).part) }
-    ensures law { OnOk result ((a : List Bool) → length a ≡ cnf.old.vars → IsTrue (list_all (λ range. nat_lt range 256) ranges.now) → PartExtends a (copy_part ranges.now cnf.old.vars).part (IsCopy ranges.now)) }
-
-    // At most two variables for each value of a variable.
-    ensures vars { OnOk result (cnf.new.vars ≤ cnf.old.vars + 2 * sum ranges.now) }
+/// Adds the clauses of a copy of variables with these ranges, whose variables stand after the first
+/// `before` ones and are there: first those of their bits, then those of the literals of each, which
+/// it answers. What stood before extends over the copy in exactly one way for each list of values in
+/// range. Where memory runs out the formula may have grown, and its owner drops it.
+pub fn add_copy(
+    alloc: Global,
+    cnf: &mut Cnf,
+    ranges: &Ranges,
+    before: u64,
+) -> Result<Table, AllocError>
+    requires { before + copy_width ranges.now ≤ cnf.old.vars }
+    ensures table { IfOk result (λ table. table ≡ (copy_part ranges.now before).columns) }
+    ensures made { OnOk result (cnf.new ≡ grown cnf.old cnf.old.vars (as_clauses (copy_part ranges.now before).part.clauses)) }
+    ensures law { OnOk result ((a : List Bool) → length a ≡ before → IsTrue (list_all (λ range. nat_lt range 256) ranges.now) → PartExtends a (copy_part ranges.now before).part (IsCopy ranges.now)) }
 
     // There each variable's literals say its value, whatever follows the copy.
-    ensures exact { OnOk result ((a c : List Bool) (ws : List ℕ) → length a ≡ cnf.old.vars → IsTrue (list_all (λ range. nat_lt range 256) ranges.now) → IsTrue (in_ranges ws ranges.now) → LiteralsSay (a ++ (copy_bits ranges.now ws ++ c)) (copy_part ranges.now cnf.old.vars).columns ranges.now ws) }
+    ensures exact { OnOk result ((a c : List Bool) (ws : List ℕ) → length a ≡ before → IsTrue (list_all (λ range. nat_lt range 256) ranges.now) → IsTrue (in_ranges ws ranges.now) → LiteralsSay (a ++ (copy_bits ranges.now ws ++ c)) (copy_part ranges.now before).columns ranges.now ws) }
 {
-    let first = cnf.vars() + 1;
-    add_numbers(alloc, cnf, ranges.as_slice())?;
-    let table = add_columns(alloc, cnf, first, ranges.as_slice())?;
+    let _ = cnf.vars();
+    let mut used = before;
+    add_numbers(alloc, cnf, &mut used, ranges.as_slice())?;
+    let table = add_columns(alloc, cnf, &mut used, before + 1, ranges.as_slice())?;
     Ok(table)
 }

@@ -1,14 +1,12 @@
 -- What a verdict rests on is so of runs of events where it is so of runs of values, if for each query the two exist together.
 use Rattle.std.proofs.Common.{◌≡◌, ℕ, ◌<◌, ◌≤◌, true, arith}
-use Rattle.std.proofs.lemmas.Bool.{and_from, le-leb, lt-ltb}
+use Rattle.std.proofs.lemmas.Bool.{le-leb}
 use Rattle.ilk_unroll.specs.Goal.{wanted_valid}
 use Rattle.ilk_unroll.specs.declared.queries.Wanted.{Wanted}
 use Rattle.ilk_unroll.specs.declared.queries.Wanted.TheVariants.{Hazard, Breach, Step}
-use Rattle.ilk_induct.specs.Evidence.{IsNever, Endangers, Breaks, Inducts, IsForever}
+use Rattle.ilk_evidence.specs.Evidence.{IsNever, Endangers, Breaks, Inducts}
+use Rattle.ilk_forever.proofs.CarriedForever.{step-valid}
 use Rattle.ilk_induct.specs.Right.{IsUnsafe, IsBreach, IsSafe, IsNotInductive}
-
-pub step-valid : (n : ℕ) → 0 < n → n ≤ 16 → wanted_valid (Step n) ≡ true
-step-valid n some few = and_from _ _ (lt-ltb 0 n some) (le-leb n 16 few)
 
 -- over two kinds of runs, of which the first exist for each query for which the second do, and the other way round for each
 -- query that may be asked
@@ -66,6 +64,3 @@ module _ (Values Events : Wanted → Type 0) (to : (q : Wanted) → Events q →
         no_breach = never-breaks depth is.no_breach;
         no_induction = λ n le carries. is.no_induction n le (inducts n (omega arith) carries);
       }
-
-  pub carried-forever : IsForever Values → IsForever Events
-  carried-forever none n = (λ has. (none n).0 (to (Hazard n) has), λ has. (none n).1 (to (Breach n) has))

@@ -1,11 +1,7 @@
 pub mod Carried
-pub mod Lasting
-pub mod OnPlant
 pub mod Fired
 pub mod Ends
 pub mod Verdicts
 pub mod Made
 pub mod Certificates
 pub mod Strict
-pub mod RangeBytes
-pub mod Refuted

@@ -25,7 +25,7 @@ use Rattle.ilk_induct.specs.declared.verdict.Verdict.TheVariants as system
 use Rattle.ilk_engine.specs.Lifted.{IsMadeOf}
 use Rattle.ilk_engine.specs.Right.{broken_after, hazard_after}
 use Rattle.ilk_engine.specs.declared.verdict.Verdict.TheVariants.{Safe, Unsafe, Breach, NotInductive, Spent}
-use Rattle.ilk_engine.proofs.OnPlant.{safe-forever}
+use Rattle.ilk_forever.proofs.OnPlant.{safe-forever}
 use Rattle.ilk_engine.proofs.Verdicts as on
 
 -- over one plant, whose rules step as its events do, with forms that say what they are to

@@ -22,7 +22,8 @@ use Rattle.ilk_unroll.specs.declared.queries.Wanted.TheVariants.{Hazard, Breach 
 use Rattle.ilk_queries.specs.Asked.{HasEvents, ends_in_breach, ends_in_hazard, leaves_at, leaves_invariant, meets_invariant}
 use Rattle.ilk_queries.specs.Walk.{states_from}
 use Rattle.ilk_queries.proofs.Walks.{none-is}
-use Rattle.ilk_engine.specs.Forever.{IsForeverSafe}
+use Rattle.ilk_forever.specs.Forever.{IsForeverSafe}
+use Rattle.ilk_forever.proofs.StrictForever.{strict-forever}
 use Rattle.ilk_engine.specs.Right.{IsRightFor}
 use Rattle.ilk_engine.specs.declared.verdict.Verdict.{Verdict}
 use Rattle.ilk_engine.specs.declared.verdict.Verdict.TheVariants.{Safe, Unsafe, Breach, NotInductive, Spent}
@@ -99,18 +100,12 @@ right-at_one p depth (Safe (suc (suc k))) some safe none right = absurd (right.i
 right-at_one p depth (NotInductive first events) some safe none right = absurd (right.0.no_induction 1 (omega (arith, some)) (omega arith, none))
 right-at_one p depth Spent some safe none right = absurd right
 
-pub strict-forever : (p : PlantLists) → IsPlant p → IsStrict p → IsForeverSafe p
-strict-forever p plant strict = invariant.forever-safe p plant strict
-
 pub strict-verdict : (p : PlantLists) (depth : ℕ) (verdict : Verdict) → IsPlant p → IsStrict p → 0 < depth → IsRightFor p depth verdict ⊎ (verdict ≡ Spent) → (verdict ≡ Safe 1) ⊎ (verdict ≡ Spent)
 strict-verdict p depth verdict plant strict some (inl right) =
     inl (right-at_one p depth verdict some (strict-forever p plant strict) (no-step p (invariant.meets-next p plant strict)) right)
 strict-verdict p depth verdict plant strict some (inr spent) = inr spent
 
 -- ---- where no rule of the columns is broken
-
-pub clean-forever : (p : PlantLists) → IsPlant p → column_rules_broken p ≡ [] → IsForeverSafe p
-clean-forever p plant none = strict-forever p plant (strict_from_list p none)
 
 pub clean-verdict : (p : PlantLists) (depth : ℕ) (verdict : Verdict) → IsPlant p → column_rules_broken p ≡ [] → 0 < depth → IsRightFor p depth verdict ⊎ (verdict ≡ Spent) → (verdict ≡ Safe 1) ⊎ (verdict ≡ Spent)
 clean-verdict p depth verdict plant none some right = strict-verdict p depth verdict plant (strict_from_list p none) some right

@@ -24,13 +24,13 @@ use Rattle.ilk_queries.specs.Asked.{HasEvents, IsRunFor, ends_in_breach, ends_in
 use Rattle.ilk_queries.specs.Lifting.{IsGoalOf, RulesStep, events_by}
 use Rattle.ilk_queries.proofs.Answered.{first-values, to-asked}
 use Rattle.ilk_queries.proofs.Lifted.{lifted}
-use Rattle.ilk_induct.specs.Evidence.{HasRun}
+use Rattle.ilk_evidence.specs.Evidence.{HasRun}
 use Rattle.ilk_induct.specs.Right.{IsBreach, IsNotInductive, IsRight, IsRun, IsUnsafe}
 use Rattle.ilk_induct.specs.declared.verdict.Verdict.TheVariants as system
 use Rattle.ilk_engine.specs.Right.{IsRightFor, broken_after, hazard_after}
 use Rattle.ilk_engine.specs.declared.verdict.Verdict.TheVariants.{Safe, Unsafe, Breach, NotInductive}
 use Rattle.ilk_engine.proofs.Carried.{carried-breach, carried-not, carried-safe, carried-unsafe}
-use Rattle.ilk_engine.proofs.OnPlant.{has-lifted, has-run}
+use Rattle.ilk_forever.proofs.OnPlant.{has-lifted, has-run}
 
 -- over one plant, whose rules step as its events do, with forms that say what they are to
 module _ (p : PlantLists) (lead : RulesStep p) (g : GoalTree) (goal : IsGoalOf p g) where

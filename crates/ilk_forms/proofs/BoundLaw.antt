@@ -142,7 +142,7 @@ pub record SayBound (ts : Trees) (b : Bound) : Type 0 where
   pub holds : (ws : List ℕ) → some_holds ws ts ≡ at_most ws b.var b.most
   pub valid : (ranges : List ℕ) → each_valid ranges ts ≡ true → value_valid ranges b.var b.most ≡ true
 
-pub say-bound : (ts : Trees) (b : Bound) → bound_of ts ≡ Some b → SayBound ts b
+say-bound : (ts : Trees) (b : Bound) → bound_of ts ≡ Some b → SayBound ts b
 say-bound none b e = absurd cc
 say-bound (more yes ts) b e = absurd cc
 say-bound (more no ts) b e = absurd cc

@@ -3,9 +3,6 @@ pub mod Reading
 pub mod GatheredFits
 pub mod GatheredLaw
 pub mod TruthsMean
-pub mod ScopesLaw
-pub mod PairsLaw
-pub mod CountsLaw
 pub mod DemandLaw
 pub mod Steps
 pub mod ViolatedLaw

@@ -3,7 +3,5 @@ pub mod Bound
 pub mod Gathered
 pub mod Demand
 pub mod Truths
-pub mod Scopes
-pub mod Pairs
 pub mod Size
 pub mod Violated

@@ -1,12 +1,11 @@
-ghost use Rattle.std.specs.Prelude.{◌≡◌, ℕ, None, option_map, IfSome, IsTrue, if◌then◌else◌};
+ghost use Rattle.std.specs.Prelude.{◌≡◌, ℕ, IfSome, IsTrue};
 ghost use Rattle.ilk_cnf.specs.Formula.{lit_in};
 ghost use Rattle.ilk_ir.specs.Form.{tree_of, trees_of};
 ghost use Rattle.ilk_forms.specs.Leaf.{columns_in};
-ghost use Rattle.ilk_forms.specs.Bound.{value_after, last_value, bound_of, column_bound, bound_leaf, any_leaf, has_bound, has_any_leaf};
+ghost use Rattle.ilk_forms.specs.Bound.{value_after, last_value, bound_of, column_bound, bound_leaf, any_leaf};
 
 use ilk_cnf::Lit;
 use ilk_copy::{Column, Table};
-use ilk_ints::bound_count;
 use ilk_ir::Form;
 
 // That a variable is at most a value.
@@ -82,29 +81,4 @@ pub fn any_leaf(table: &Table, forms: &[Form]) -> Option<Lit>
 {
     let bound = bound_of(forms)?;
     bound_leaf(table, bound)
-}
-
-// Whether a copy has a literal that says that the variable is at most a value, by its range alone.
-fn has_bound(ranges: &[u8], bound: Bound) -> bool
-    ensures { result ≡ has_bound ranges.now bound.var bound.most }
-{
-    match ranges.get(bound.var as usize) {
-        Some(range) => {
-            let most = u64::from(bound.most);
-            most + 2 == u64::from(*range) || most.saturating_sub(1) < bound_count(*range)
-        }
-        None => false,
-    }
-}
-
-// The variable of the one literal that stands for an Or of these forms, where there is one.
-pub fn bound_variable(ranges: &[u8], forms: &[Form]) -> Option<u32>
-    ensures { result ≡ (if has_any_leaf ranges.now (trees_of forms.now) then option_map (λ b. b.var) (bound_of (trees_of forms.now)) else None) }
-{
-    let bound = bound_of(forms)?;
-    if has_bound(ranges, bound) {
-        Some(bound.var)
-    } else {
-        None
-    }
 }

@@ -12,21 +12,12 @@
 //! Where some form is not to hold, its instances are the parts of And at its top. `some_fails` and
 //! `holds_or_some_fails` give each instance a literal, and `first_violated` demands that some
 //! instance is the first that isn't kept (`specs/Violated`).
-//!
-//! Where a form is demanded of one copy, and its literals are gathered of another, variables of the
-//! one and of the other stand for the same parts. `pairs_each` finds these pairs (`specs/Pairs`), and
-//! for each the system's variables that the part speaks of, its scope (`specs/Scopes`): where these
-//! have the same values in both copies, so have the two that stand for it.
 #![tactic(auto)]
 
 mod bound;
 mod clauses;
 mod literals;
-mod pairs;
-mod scopes;
 mod violated;
 
 pub use clauses::demand;
-pub use pairs::{Pair, demand_scopes, demands_scopes, pairs_each};
-pub use scopes::{Scope, Scopes, scopes_of};
-pub use violated::{either_never, first_violated, holds_or_some_fails, some_fails};
+pub use violated::{first_violated, holds_or_some_fails, some_fails};

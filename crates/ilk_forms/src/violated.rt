@@ -184,8 +184,8 @@ pub fn some_fails(
     Ok(())
 }
 
-/// Whether an instance of the form's negation or of the others is plainly never kept.
-pub fn either_never(form: &Form, forms: &[Form]) -> bool
+// Whether an instance of the form's negation or of the others is plainly never kept.
+fn either_never(form: &Form, forms: &[Form]) -> bool
     ensures { result ≡ some_never true (more (negation (tree_of form.now)) (trees_of forms.now)) }
 {
     never_kept(false, form) || some_never(true, forms)

@@ -3,7 +3,7 @@ ghost use Rattle.ilk_cnf.specs.Formula.{clause_in};
 
 use ilk_base::{Row, Text};
 use ilk_cnf::{Clause, Cnf, Lit, all_of, any_of, opposites};
-use ilk_copy::add_copy;
+use ilk_copy::{add_copy, take_copy};
 use ilk_forms::first_violated;
 use ilk_ints::one_of;
 use std::alloc::{AllocError, Global};
@@ -74,7 +74,7 @@ fn clauses(rt: HostRuntime) -> Result<(), Fail> {
     Ok(())
 }
 
-// Adds a copy of variables of 1, 2, 3, 5 and 8 values: how many variables it has.
+// Adds a copy of variables of 1, 2, 3, 5 and 8 values: of how many variables its literals speak.
 fn copied(alloc: Global) -> Result<u64, AllocError> {
     let mut ranges = Row::new(alloc);
     ranges.push(1)?;
@@ -83,7 +83,8 @@ fn copied(alloc: Global) -> Result<u64, AllocError> {
     ranges.push(5)?;
     ranges.push(8)?;
     let mut cnf = Cnf::new(alloc);
-    let table = add_copy(alloc, &mut cnf, &ranges)?;
+    take_copy(&mut cnf, &ranges)?;
+    let table = add_copy(alloc, &mut cnf, &ranges, 0)?;
     Ok(table.len())
 }
 
@@ -97,12 +98,12 @@ fn copies(rt: HostRuntime) -> Result<(), Fail> {
 fn rows_and_texts(rt: HostRuntime) -> Result<(), Fail> {
     let alloc = rt.alloc();
     let mut row = Row::new(alloc);
-    assert_eq!(rt; row.copy(alloc)?.len(), 0);
+    assert_eq!(rt; row.copy()?.len(), 0);
     row.push(7)?;
-    assert_eq!(rt; row.copy(alloc)?.as_slice(), [7].as_slice());
+    assert_eq!(rt; row.copy()?.as_slice(), [7].as_slice());
     for word in ["", "plant"] {
         let text = Text::of(String::from_str(alloc, word)?);
-        assert_eq!(rt; text.copy(alloc)?.as_str(), word);
+        assert_eq!(rt; text.copy()?.as_str(), word);
     }
     Ok(())
 }

@@ -10,6 +10,8 @@
 #[cfg(test)]
 mod assignments;
 #[cfg(test)]
+mod audit_tests;
+#[cfg(test)]
 mod decide_tests;
 #[cfg(test)]
 mod formula_memory_tests;
@@ -23,3 +25,5 @@ mod query_tests;
 mod row_tests;
 #[cfg(test)]
 mod search_memory_tests;
+#[cfg(test)]
+mod text_tests;

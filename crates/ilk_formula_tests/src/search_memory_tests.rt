@@ -1,7 +1,7 @@
 use ilk_arena::Arena;
 use ilk_base::Row;
 use ilk_cnf::Lit;
-use ilk_log::{Hints, PackedStep, Step, read_step, write_step};
+use ilk_log::{Hints, Log, Step, read_step, write_step};
 use std::alloc::{AllocError, Global};
 use std::test::Fail;
 
@@ -50,17 +50,19 @@ fn lines_of_steps(rt: HostRuntime) -> Result<(), Fail> {
     Ok(())
 }
 
-// The line of the step of a line, which was packed and unpacked; or that there is none.
-fn packed_line(alloc: Global, line: &str) -> Result<Vec<u8>, AllocError> {
+// The line of the step of a line, which was kept in a log; or that there is none.
+fn kept_line(alloc: Global, line: &str) -> Result<Vec<u8>, AllocError> {
     let Some(step) = read_step(alloc, line.as_bytes())? else {
         return Vec::from_slice(alloc, b"none".as_slice());
     };
-    let packed = PackedStep::of(alloc, &step)?;
-    write_step(alloc, &packed.unpacked(alloc)?)
+    let mut log = Log::new(alloc);
+    log.push(step)?;
+    let kept = log.at(0)?;
+    write_step(alloc, &kept)
 }
 
 #[test]
-fn packed_steps(rt: HostRuntime) -> Result<(), Fail> {
+fn kept_steps(rt: HostRuntime) -> Result<(), Fail> {
     let alloc = rt.alloc();
     for line in [
         "step 0 0",
@@ -68,7 +70,7 @@ fn packed_steps(rt: HostRuntime) -> Result<(), Fail> {
         "step 4611686018427387904 -1 -4611686018427387904 1 0 18446744073709551615 1 9223372036854775808 0",
     ] {
         assert_eq!(rt;
-            packed_line(alloc, line)?.as_slice(),
+            kept_line(alloc, line)?.as_slice(),
             line.as_bytes(),
             "at {line}"
         );

@@ -18,8 +18,8 @@ fn path_of(alloc: Global, first: &Text, last: &Text) -> Result<Row<Text>, AllocE
     ensures { IfOk result (λ path. path ≡ first.now ∷ last.now ∷ []) }
 {
     let mut path = Row::new(alloc);
-    path.push(first.copy(alloc)?)?;
-    path.push(last.copy(alloc)?)?;
+    path.push(first.copy()?)?;
+    path.push(last.copy()?)?;
     Ok(path)
 }
 
@@ -28,7 +28,7 @@ fn listed(alloc: Global, point: &Text, at: Position) -> Result<Row<ListedDraft>,
     ensures { IfOk result (λ points. points ≡ record { point = point.now; at = at } ∷ []) }
 {
     let mut points = Row::new(alloc);
-    let point = point.copy(alloc)?;
+    let point = point.copy()?;
     points.push(ListedDraft { point, at })?;
     Ok(points)
 }

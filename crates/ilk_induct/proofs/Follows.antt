@@ -25,12 +25,12 @@ use Rattle.ilk_certificate.specs.declared.asked.Asked.{Asked}
 use Rattle.ilk_certificate.specs.Certificate.{IsRefuted}
 use Rattle.ilk_certificate.specs.CertificateText.{all_conflicts}
 use Rattle.ilk_induct.specs.declared.verdict.Verdict.TheVariants.{Safe, Unsafe, Breach, NotInductive, Spent}
-use Rattle.ilk_induct.specs.Evidence.{HasRun}
+use Rattle.ilk_evidence.specs.Evidence.{HasRun}
 use Rattle.ilk_induct.specs.Right.{IsRun, IsRight}
 use Rattle.ilk_induct.specs.Spent.{IsLogOf, HasPassed}
 use Rattle.ilk_induct.specs.Due.{asked_with, queries_to, IsResponse, due_query, due_breach, after_breach, after_response, IsKnown, IsFoundBreach, IsInOrder, IsDue, IsEnd, IsNext, still_due}
-use Rattle.ilk_induct.proofs.Demands.{wanted-parts}
-use Rattle.ilk_induct.proofs.Induction.{forever}
+use Rattle.ilk_evidence.proofs.Demands.{wanted-parts}
+use Rattle.ilk_evidence.proofs.Induction.{forever}
 use Rattle.ilk_induct.proofs.Orders.{to-breach, to-step, to-hazard, to-hazard-after, all-to-hazard, more-queries, more-conflicts, asked-to, asked-all, go-on, found-order, found-to, go-on-found, all-conflicts}
 
 -- what is so below n, and at n

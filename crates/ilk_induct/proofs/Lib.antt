@@ -1,8 +1,4 @@
-pub mod Middles
-pub mod Demands
-pub mod Induction
 pub mod Orders
-pub mod Satisfying
 pub mod Follows
 pub mod Mapped
 pub mod Certified

@@ -4,7 +4,7 @@ use Rattle.std.proofs.Common.{ℕ, ◌<◌}
 use Rattle.std.specs.Prelude.{◌↔◌}
 use Rattle.ilk_unroll.specs.declared.queries.Wanted.{Wanted}
 use Rattle.ilk_unroll.specs.declared.queries.Wanted.TheVariants.{Hazard, Breach as BreachQuery, Step}
-use Rattle.ilk_induct.specs.Evidence.{IsLeast, IsNever, Endangers, Breaks, Inducts, IsForever}
+use Rattle.ilk_evidence.specs.Evidence.{IsLeast, IsNever, Endangers, Breaks, Inducts, IsForever}
 use Rattle.ilk_induct.specs.Right.{IsUnsafe, IsBreach, IsSafe, IsNotInductive}
 
 -- runs of the one kind exist exactly where runs of the other do; of step queries those for some step count

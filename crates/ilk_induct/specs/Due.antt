@@ -21,7 +21,7 @@ use Rattle.ilk_induct.specs.declared.due.Next.{Next}
 use Rattle.ilk_induct.specs.declared.due.Next.TheVariants.{Ask, End}
 use Rattle.ilk_induct.specs.declared.verdict.Verdict.{Verdict}
 use Rattle.ilk_induct.specs.declared.verdict.Verdict.TheVariants.{Safe, Unsafe, Breach, NotInductive, Spent}
-use Rattle.ilk_induct.specs.Evidence.{HasRun}
+use Rattle.ilk_evidence.specs.Evidence.{HasRun}
 use Rattle.ilk_induct.specs.Right.{IsRun, IsRight, Lasts}
 use Rattle.ilk_induct.specs.Order.{rounds}
 use Rattle.ilk_induct.specs.Spent.{IsLogOf, HasPassed}

@@ -1,4 +1,3 @@
-pub mod Evidence
 pub mod Right
 pub mod Order
 pub mod Spent

@@ -8,7 +8,7 @@ use Rattle.ilk_unroll.specs.Goal.{GoalTree}
 use Rattle.ilk_unroll.specs.Run.{is_wanted_run}
 use Rattle.ilk_induct.specs.declared.verdict.Verdict.{Verdict}
 use Rattle.ilk_induct.specs.declared.verdict.Verdict.TheVariants.{Safe, Unsafe, Breach, NotInductive, Spent}
-use Rattle.ilk_induct.specs.Evidence.{HasRun, IsLeast, IsNever, Endangers, Breaks, Inducts, IsForever}
+use Rattle.ilk_evidence.specs.Evidence.{HasRun, IsLeast, IsNever, Endangers, Breaks, Inducts, IsForever}
 
 -- a hazard is reached, by no fewer than h steps
 pub record IsUnsafe (Has : Wanted → Type 0) (depth h : ℕ) : Type 0 where

@@ -48,12 +48,12 @@ pub fn ask(
 {
     let cnf = query(alloc, system, goal, q)?;
     refutations_refute();
-    let picker = Picker::new(decision);
-    let restart = Restart::new(is_restart_due);
+    let picker = Picker::new(Box::new(alloc, decision)?);
+    let restart = Restart::new(Box::new(alloc, is_restart_due)?);
     let solver = Solver::new(alloc, &cnf, picker, restart)?;
     // the solver has the clauses in a form of its own, and a formula may be large
     drop(cnf);
-    let Outcome { answer, log } = solver.solve(alloc, budget)?;
+    let Outcome { answer, log } = solver.solve(budget)?;
     match answer {
         Answer::Sat(a) => {
             let trace = read_back(alloc, system, goal, q, &a)?;

@@ -157,7 +157,7 @@ bounds_step f g lits whole first range k below l e es rest split low some high i
 
 -- the bounds of a range
 
-few_bounds : (range : ℕ) → bound_count range ≤ range - 3
+pub few_bounds : (range : ℕ) → bound_count range ≤ range - 3
 few_bounds range = omega arith
 
 clause_in-take : (n k : ℕ) (ls : List Literal) → clause_in n ls ≡ true → clause_in n (take k ls) ≡ true

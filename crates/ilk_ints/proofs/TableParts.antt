@@ -1,15 +1,18 @@
 -- Where the parts of values and bounds end, and what they speak of.
 use Rattle.std.proofs.Common.{◌≡◌, ◌==◌, ℕ, ◌+◌, ◌^◌, ◌<◌, ◌≤◌, zero, suc, Bool, true, false, List, [], ◌∷◌, Option, Some, None, unwrap_or, length, take, cond, refl, inl, inr, sym, ap, ◌∙◌, subst, arith, leb}
+use Rattle.std.specs.Prelude.{if◌then◌else◌}
 use Rattle.std.specs.List.{find, range_with_len}
+use Rattle.std.proofs.lemmas.List.{length-take}
 use Rattle.std.proofs.lemmas.Bool.{and_from, eqb-true, lt-ltb, le-leb, leb-true, cases_lt}
 use Rattle.ilk_cnf.specs.Literal.{Literal, plus}
 use Rattle.ilk_cnf.specs.Formula.{lit_in, clause_in, clauses_in}
-use Rattle.ilk_cnf.specs.Part.{nothing_at}
+use Rattle.ilk_cnf.specs.Part.{Part, nothing_at, any_of_part}
 use Rattle.ilk_ints.specs.Bits.{bit_count}
-use Rattle.ilk_ints.specs.Named.{Named, values_from, values_part, bound_count, bounds_from, bounds_part}
+use Rattle.ilk_ints.specs.Named.{Named, values_from, values_part, values_vars, bound_count, bounds_from, bounds_part, bounds_vars, named_vars}
+use Rattle.ilk_ints.specs.AtMost.{highest_bit_says, at_most_part, at_most_lit}
 use Rattle.ilk_ints.proofs.AtMostLaw.{bits_some}
 use Rattle.ilk_ints.proofs.ValuesLaw.{values-low, values-in, values-lits_in}
-use Rattle.ilk_ints.proofs.BoundsLaw.{bounds-low, bounds-in, some-inside}
+use Rattle.ilk_ints.proofs.BoundsLaw.{bounds-low, bounds-in, few_bounds, some-inside}
 
 -- a range up to 256 has enough bits
 
@@ -80,3 +83,57 @@ bounds_part-in (e ∷ es) first range n low high enough h =
           (let none : 0 ≡ bound_count range = omega arith in
           subst (λ (j : ℕ). clauses_in (bounds_from first range e 1 (take j es) n).part.vars (bounds_from first range e 1 (take j es) n).part.clauses ≡ true) none refl)
     ]
+
+-- a variable that is there
+pub there-in : (m n : ℕ) (p : Bool) → n < m → clause_in m ((record { var = n + 1; positive = p }) ∷ []) ≡ true
+there-in m n p less = and_from _ _ (and_from _ _ (lt-ltb 0 (n + 1) (omega arith)) (le-leb (n + 1) m (omega arith))) refl
+
+pub at_most-there : (first range k n m : ℕ) (below e : Literal) (es rest : List Literal) → es ≡ e ∷ rest → (bounds_from first range below k es n).part.vars ≤ m → (at_most_part range k below e n).vars ≤ m
+at_most-there first range k n m below e es rest split high =
+    let whole : (bounds_from first range below k (e ∷ rest) n).part.vars ≤ m = subst (λ (ls : List Literal). (bounds_from first range below k ls n).part.vars ≤ m) split high in
+    let low = bounds-low rest first range (k + 1) (at_most_part range k below e n).vars (at_most_lit first range k n) in
+    omega arith
+
+-- how many variables they take
+
+pub values_part-end : (first range n : ℕ) → (values_part first range n).part.vars ≡ n + values_vars range
+values_part-end first range n = by_case (range == 2)
+  where
+    by_case : (h : Bool) → (cond h (two first n) (values_from first range 0 range n)).part.vars ≡ n + cond h 0 range
+    by_case true = omega arith
+    by_case false = values-low range first range 0 n
+
+at_most-end : (range k n : ℕ) (below equal : Literal) → (at_most_part range k below equal n).vars ≡ n + (if highest_bit_says range k then 0 else 1)
+at_most-end range k n below equal = by_case (highest_bit_says range k)
+  where
+    by_case : (b : Bool) → (cond {A = Part} b (nothing_at n) (any_of_part (below ∷ equal ∷ []) n)).vars ≡ n + cond b 0 1
+    by_case true = omega arith
+    by_case false = refl
+
+bounds_from-end : (es : List Literal) (first range k n : ℕ) (below : Literal) → (bounds_from first range below k es n).part.vars ≡ n + bounds_vars range k (length es)
+bounds_from-end [] first range k n below = omega arith
+bounds_from-end (e ∷ es) first range k n below =
+    let m = (at_most_part range k below e n).vars in
+    let one = at_most-end range k n below e in
+    let rest = bounds_from-end es first range (k + 1) m (at_most_lit first range k n) in
+    omega arith
+
+pub bounds_part-end : (values : List Literal) (first range n : ℕ) → length values ≡ range → (bounds_part first range values n).part.vars ≡ n + bounds_vars range 1 (bound_count range)
+bounds_part-end [] first range n all =
+    let none : bound_count range ≡ 0 = omega (arith, few_bounds range, all) in
+    let no_vars : bounds_vars range 1 (bound_count range) ≡ 0 = ap (bounds_vars range 1) none in
+    omega (arith, no_vars)
+bounds_part-end (e ∷ es) first range n all =
+    let few : length (take (bound_count range) es) ≡ bound_count range = omega (arith, length-take (bound_count range) es, few_bounds range, all) in
+    bounds_from-end (take (bound_count range) es) first range 1 n e ∙ ap (λ (j : ℕ). n + bounds_vars range 1 j) few
+
+pub named-end : (first range n : ℕ) → (bounds_part first range (values_part first range n).lits (values_part first range n).part.vars).part.vars ≡ n + named_vars range
+named-end first range n =
+    let one = values_part-end first range n in
+    let two = bounds_part-end (values_part first range n).lits first range (values_part first range n).part.vars (length-values_part first range n) in
+    omega arith
+
+-- one bound more
+pub bounds_vars-one : (range k j m : ℕ) (says : Bool) → highest_bit_says range k ≡ says → suc j ≡ m → bounds_vars range k m ≡ cond says 0 1 + bounds_vars range (k + 1) j
+bounds_vars-one range k j m says is more =
+    ap (bounds_vars range k) (sym more) ∙ ap (λ (b : Bool). cond b 0 1 + bounds_vars range (k + 1) j) is

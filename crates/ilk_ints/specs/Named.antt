@@ -4,7 +4,7 @@ use Rattle.ilk_cnf.specs.Literal.{Literal, plus}
 use Rattle.ilk_cnf.specs.Part.{Part, nothing_at, and_then}
 use Rattle.ilk_ints.specs.Bits.{bit_count}
 use Rattle.ilk_ints.specs.Number.{is_part}
-use Rattle.ilk_ints.specs.AtMost.{at_most_part, at_most_lit, at_most_bits}
+use Rattle.ilk_ints.specs.AtMost.{highest_bit_says, at_most_part, at_most_lit, at_most_bits}
 
 -- a part, and the literals that it answers
 pub record Named : Type 0 where
@@ -53,6 +53,19 @@ bounds_from first range below k (e ∷ es) n =
 abbrev pub bounds_part : ℕ → ℕ → List Literal → ℕ → Named
 bounds_part first range [] n = record { part = nothing_at n; lits = [] }
 bounds_part first range (e ∷ es) n = bounds_from first range e 1 (take (bound_count range) es) n
+
+-- how many variables the literals of an integer's values take
+abbrev pub values_vars : ℕ → ℕ
+values_vars range = if range == 2 then 0 else range
+
+-- and those of j bounds from k on
+abbrev pub bounds_vars : ℕ → ℕ → ℕ → ℕ
+bounds_vars range k zero = 0
+bounds_vars range k (suc j) = (if highest_bit_says range k then 0 else 1) + bounds_vars range (k + 1) j
+
+-- and both together
+abbrev pub named_vars : ℕ → ℕ
+named_vars range = values_vars range + bounds_vars range 1 (bound_count range)
 
 -- whether the integer is at most each of j values from k on, where it is w
 abbrev pub bound_bits : ℕ → ℕ → ℕ → List Bool

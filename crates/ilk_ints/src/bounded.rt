@@ -1,14 +1,14 @@
 ghost use Rattle.std.specs.Prelude.{◌≡◌, ◌==◌, ℕ, ◌+◌, ◌-◌, ◌*◌, ◌<◌, ◌≤◌, ◌^◌, ◌∷◌, ◌++◌, [], List, Bool, length, map, OnOk, IfOk, IsTrue};
 ghost use Rattle.std.specs.List.{range_with_len};
 ghost use Rattle.ilk_cnf.specs.Extends.{PartExtends, Only};
-ghost use Rattle.ilk_cnf.specs.Formula.{grown, as_clause};
+ghost use Rattle.ilk_cnf.specs.Formula.{grown, with_vars, as_clause, clause_in};
 ghost use Rattle.ilk_cnf.specs.Literal.{opposite, plus};
-ghost use Rattle.ilk_cnf.specs.Part.{with_part, as_clauses};
+ghost use Rattle.ilk_cnf.specs.Part.{with_part, as_clauses, equals_all};
 ghost use Rattle.ilk_cnf.specs.Truth.{is_true, satisfies};
 ghost use Rattle.ilk_ints.specs.Bits.{bit_count, bits_of, bits_at, bit_lits};
-ghost use Rattle.ilk_ints.specs.Number.{IsValue, ruled_out, number_part, is_part, bits_have_value};
+ghost use Rattle.ilk_ints.specs.Number.{IsValue, ruled_out, number_part, is_part, value_lits, bits_have_value};
 
-use ilk_cnf::{Assignment, Cnf, Lit, Lits, all_of, opposites};
+use ilk_cnf::{Assignment, Cnf, Lit, Lits, add_gate, opposites};
 use std::alloc::{AllocError, Global};
 
 /// An integer from 0 to `range` - 1 in a formula: its bits are the variables from `first` on, the
@@ -48,8 +48,8 @@ fn lits_of(alloc: Global, first: u64, count: u64, value: u64) -> Result<Lits, Al
 }
 
 // Adds so many variables.
-fn add_vars(cnf: &mut Cnf, count: u64) -> Result<(), AllocError>
-    ensures { OnOk result (cnf.new ≡ record { vars = cnf.old.vars + count; clauses = cnf.old.clauses }) }
+pub fn take(cnf: &mut Cnf, count: u64) -> Result<(), AllocError>
+    ensures { OnOk result (cnf.new ≡ with_vars cnf.old (cnf.old.vars + count)) }
 {
     for _ in 0..count {
         cnf.fresh()?;
@@ -96,6 +96,28 @@ fn rule_out(
     Ok(())
 }
 
+/// Adds the variables of an integer from 0 to `range` - 1, and no clause. Where memory runs out the
+/// formula may have grown, and its owner drops it.
+pub fn take_number(cnf: &mut Cnf, range: u8) -> Result<Bounded, AllocError>
+    ensures number { IfOk result (λ n. n ≡ record { first = cnf.old.vars + 1; range = range }) }
+    ensures taken { OnOk result (cnf.new ≡ with_vars cnf.old (cnf.old.vars + bit_count range)) }
+{
+    let first = cnf.vars() + 1;
+    take(cnf, bits(range))?;
+    Ok(Bounded { first, range })
+}
+
+/// Adds the clauses of an integer whose variables are there. Where memory runs out the formula may
+/// have grown, and its owner drops it.
+pub fn add_number(alloc: Global, cnf: &mut Cnf, n: Bounded) -> Result<(), AllocError>
+    requires from_1 { 0 < n.first }
+    requires within { n.first + bit_count n.range ≤ cnf.old.vars + 1 }
+    ensures { OnOk result (cnf.new ≡ grown cnf.old cnf.old.vars (as_clauses (ruled_out n.first n.range))) }
+{
+    rule_out(alloc, cnf, n.first, bits(n.range), n.range)?;
+    Ok(())
+}
+
 /// Adds the variables and the clauses of an integer from 0 to `range` - 1. What stood before
 /// extends over the new variables in exactly one way for each of these values. Where memory runs
 /// out the formula may have grown, and its owner drops it.
@@ -105,11 +127,39 @@ pub fn number(alloc: Global, cnf: &mut Cnf, range: u8) -> Result<Bounded, AllocE
     ensures made { OnOk result (cnf.new ≡ with_part cnf.old (number_part range cnf.old.vars)) }
     ensures law { OnOk result ((a : List Bool) → length a ≡ cnf.old.vars → PartExtends a (number_part range cnf.old.vars) (IsValue range)) }
 {
-    let first = cnf.vars() + 1;
-    let count = bits(range);
-    add_vars(cnf, count)?;
-    rule_out(alloc, cnf, first, count, range)?;
-    Ok(Bounded { first, range })
+    let _ = bits(range);
+    let n = take_number(cnf, range)?;
+    add_number(alloc, cnf, n)?;
+    Ok(n)
+}
+
+/// Adds the variable of a literal, and no clause, and answers the literal, which is positive.
+pub fn take_is(cnf: &mut Cnf) -> Result<Lit, AllocError>
+    ensures lit { IfOk result (λ l. l ≡ plus (cnf.old.vars + 1)) }
+    ensures taken { OnOk result (cnf.new ≡ with_vars cnf.old (cnf.old.vars + 1)) }
+{
+    let lit = Lit::new(cnf.fresh()?, true);
+    Ok(lit)
+}
+
+/// Adds the clauses that make a literal whose variable is there true exactly where the integer has
+/// the value. Where memory runs out the formula may have grown, and its owner drops it.
+pub fn add_is(
+    alloc: Global,
+    cnf: &mut Cnf,
+    n: Bounded,
+    value: u8,
+    lit: Lit,
+) -> Result<(), AllocError>
+    requires from_1 { 0 < n.first }
+    requires within { n.first + bit_count n.range ≤ cnf.old.vars + 1 }
+    requires lit { IsTrue (clause_in cnf.old.vars (lit ∷ [])) }
+    ensures { OnOk result (cnf.new ≡ grown cnf.old cnf.old.vars (as_clauses (equals_all lit (value_lits n.first n.range value)))) }
+{
+    let _ = cnf.vars();
+    let lits = lits_of(alloc, n.first, bits(n.range), u64::from(value))?;
+    add_gate(alloc, cnf, lit, lits.as_slice())?;
+    Ok(())
 }
 
 /// Adds a variable that is true exactly where the integer has the value, and answers its positive
@@ -125,9 +175,9 @@ pub fn is(alloc: Global, cnf: &mut Cnf, n: Bounded, value: u8) -> Result<Lit, Al
     // The bits are those of the value exactly where the integer is the value.
     ensures exact { OnOk result ((a : List Bool) (v : ℕ) → v < n.range → bits_at a n.first (bit_count n.range) ≡ bits_of (bit_count n.range) v → bits_have_value a n.first n.range value ≡ (v == value)) }
 {
-    let _ = cnf.vars();
-    let lits = lits_of(alloc, n.first, bits(n.range), u64::from(value))?;
-    let lit = all_of(alloc, cnf, lits.as_slice())?;
+    let _ = bits(n.range);
+    let lit = take_is(cnf)?;
+    add_is(alloc, cnf, n, value, lit)?;
     Ok(lit)
 }
 

@@ -27,7 +27,9 @@ mod limit;
 mod selection;
 mod table;
 
-pub use bounded::{Bounded, bit_is, bits, is, number, value_of};
+pub use bounded::{
+    Bounded, add_is, add_number, bit_is, bits, is, number, take_is, take_number, value_of,
+};
 pub use limit::at_most;
 pub use selection::one_of;
-pub use table::{bound_count, bounds, values};
+pub use table::{bounds, take_named, values};

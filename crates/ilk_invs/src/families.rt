@@ -55,14 +55,14 @@ pub fn family_forms(alloc: Global, plant: &Plant) -> Result<Forms, AllocError>
     ensures { IfOk result (λ forms. map tree_of forms ≡ definitions.family_trees plant.now) }
 {
     let mut forms = Row::new(alloc);
-    forms.push(v1_form(alloc, plant)?)?;
-    forms.push(v2_form(alloc, plant)?)?;
-    forms.push(v3_form(alloc, plant)?)?;
-    forms.push(v4_form(alloc, plant)?)?;
-    forms.push(v5_form(alloc, plant)?)?;
-    forms.push(v6_form(alloc, plant)?)?;
-    forms.push(v7_form(alloc, plant)?)?;
-    forms.push(v8_form(alloc, plant)?)?;
-    forms.push(v9_form(alloc, plant)?)?;
+    forms.push(family_form(alloc, plant, 1)?)?;
+    forms.push(family_form(alloc, plant, 2)?)?;
+    forms.push(family_form(alloc, plant, 3)?)?;
+    forms.push(family_form(alloc, plant, 4)?)?;
+    forms.push(family_form(alloc, plant, 5)?)?;
+    forms.push(family_form(alloc, plant, 6)?)?;
+    forms.push(family_form(alloc, plant, 7)?)?;
+    forms.push(family_form(alloc, plant, 8)?)?;
+    forms.push(family_form(alloc, plant, 9)?)?;
     Ok(forms)
 }

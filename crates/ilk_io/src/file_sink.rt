@@ -1,4 +1,4 @@
-ghost use Rattle.std.specs.Prelude.{◌≡◌, ◌<◌, ◌≤◌, None, length, IfOk, IfSome, IsSome, OnOk, OnErr};
+ghost use Rattle.std.specs.Prelude.{◌≡◌, ◌<◌, ◌≤◌, None, length, IfOk, IfNone, IfSome, IsSome, OnOk, OnErr};
 ghost use Rattle.std.specs.Io.KnownBytes.{WriteAppends};
 ghost use Rattle.ilk_io.specs.Faults.{RoseByOne};
 
@@ -15,9 +15,11 @@ use std::fs::{File, Files};
 /// interrupted is tried again at most 1000 times. Each failure is counted, up to the greatest `u64`;
 /// that the file takes no byte of a piece that isn't empty is one.
 ///
-/// Of the call that opens the file no clause says where its bytes go: nothing can be said of what a
-/// file holds. That it is the file of this name, emptied first, and that one whose sink is never called
-/// is as it was, is tried by the test `writes_the_named_file`.
+/// Of the call that opens the file a clause says that it is one write on some file that was opened:
+/// one that writes nothing, or answers another number, is refused. No clause can say which file that
+/// was, or what came before that write. That it is the file of this name, emptied first, with these
+/// bytes once and no others, and that one whose sink is never called is as it was, is tried by the test
+/// `writes_the_named_file`.
 #[derive(Drop)]
 pub struct FileSink<'a, R: Files> {
     rt: &'a R,
@@ -52,6 +54,9 @@ impl<'a, R: Files> FileSink<'a, R> {
         ensures stays { IsSome self.old.file → IsSome self.new.file }
         ensures bytes { IfSome self.old.file (λ old. IfSome self.new.file (λ new.
             WriteAppends (R.File.contents old) (R.File.contents new) result piece.now)) }
+        // What the call that opens the file writes is one write on a file that was opened.
+        ensures first { IfNone self.old.file (IfSome self.new.file (λ new.
+            (opened : R.File) × WriteAppends (R.File.contents opened) (R.File.contents new) result piece.now)) }
     {
         if self.file.is_none() {
             self.file = File::create(self.rt, self.name.as_str()).ok();
@@ -79,6 +84,9 @@ impl<R: Files> Sink for FileSink<'_, R> {
         ensures stays { IsSome self.old.file → IsSome self.new.file }
         ensures bytes { IfSome self.old.file (λ old. IfSome self.new.file (λ new.
             WriteAppends (R.File.contents old) (R.File.contents new) result piece.now)) }
+        // What the call that opens the file writes is one write on a file that was opened.
+        ensures first { IfNone self.old.file (IfSome self.new.file (λ new.
+            (opened : R.File) × WriteAppends (R.File.contents opened) (R.File.contents new) result piece.now)) }
     {
         let answer = self.write_open(piece);
         if answer.is_err() {

@@ -1,4 +1,4 @@
-ghost use Rattle.std.specs.Prelude.{◌≡◌, ◌≤◌, ℕ, None, length, IfOk, IfSome, IsSome, OnOk, OnErr};
+ghost use Rattle.std.specs.Prelude.{◌≡◌, ◌≤◌, ℕ, None, length, IfOk, IfNone, IfSome, IsSome, OnOk, OnErr};
 ghost use Rattle.std.specs.Io.KnownBytes.{ReadConsumes};
 ghost use Rattle.ilk_io.specs.Faults.{RoseByOne};
 
@@ -14,9 +14,10 @@ use std::fs::{File, Files};
 /// also after a failure, and each read goes on where the one before it ended. A read that was
 /// interrupted is tried again at most 1000 times. Each failure is counted, up to the greatest `u64`.
 ///
-/// Of the call that opens the file no clause says which bytes it gives: nothing can be said of what a
-/// file holds. That it is the file of this name, read from its front, is tried by the test
-/// `reads_the_named_file`.
+/// Of the call that opens the file a clause says that it is one read of some file that was opened: one
+/// that reads nothing and tells an end is refused. No clause can say which file that was, or what was
+/// read and thrown away before. That it is the file of this name, read from its front and whole, is tried
+/// by the test `reads_the_named_file`.
 #[derive(Drop)]
 pub struct FileSource<'a, R: Files> {
     rt: &'a R,
@@ -50,6 +51,9 @@ impl<'a, R: Files> FileSource<'a, R> {
         ensures stays { IsSome self.old.file → IsSome self.new.file }
         ensures bytes { IfSome self.old.file (λ old. IfSome self.new.file (λ new.
             ReadConsumes (R.File.remaining old) (R.File.remaining new) result into.new)) }
+        // What the call that opens the file gives is one read of a file that was opened.
+        ensures first { IfNone self.old.file (IfSome self.new.file (λ new.
+            (opened : R.File) × ReadConsumes (R.File.remaining opened) (R.File.remaining new) result into.new)) }
     {
         if self.file.is_none() {
             self.file = File::open(self.rt, self.name.as_str()).ok();
@@ -76,6 +80,9 @@ impl<R: Files> Source for FileSource<'_, R> {
         ensures stays { IsSome self.old.file → IsSome self.new.file }
         ensures bytes { IfSome self.old.file (λ old. IfSome self.new.file (λ new.
             ReadConsumes (R.File.remaining old) (R.File.remaining new) result into.new)) }
+        // What the call that opens the file gives is one read of a file that was opened.
+        ensures first { IfNone self.old.file (IfSome self.new.file (λ new.
+            (opened : R.File) × ReadConsumes (R.File.remaining opened) (R.File.remaining new) result into.new)) }
     {
         let answer = self.read_open(into);
         if answer.is_err() {

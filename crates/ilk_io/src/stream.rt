@@ -12,7 +12,7 @@ use std::io::{Read, Write};
 /// A read that was interrupted is tried again at most 1000 times. Each failure of the reader is
 /// counted, up to the greatest `u64`.
 #[derive(Drop)]
-pub struct StdSource<R> {
+pub struct StdSource<R: Read> {
     reader: R,
     faults: u64,
 }
@@ -50,7 +50,7 @@ impl<R: Read> Source for StdSource<R> {
 /// A write that was interrupted is tried again at most 1000 times. Each failure of the writer is
 /// counted, up to the greatest `u64`; that it takes no byte of a piece that isn't empty is one.
 #[derive(Drop)]
-pub struct StdSink<W> {
+pub struct StdSink<W: Write> {
     writer: W,
     faults: u64,
 }

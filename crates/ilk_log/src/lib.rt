@@ -8,9 +8,9 @@
 //!
 //! `write_step` gives the one line of a step, `push_step` writes it at the end of a text, and
 //! `read_step` takes exactly these lines. `LogText` is the text of a log's lines, which is taken in
-//! pieces and made as it is taken. A `Log` keeps each step packed, in little more than a byte a
-//! number: `add_step` packs a step and adds it, and `unpacked` gives it back. `conflicts_in` counts the
-//! steps with a literal.
+//! pieces and made as it is taken. A `Log` is a list of steps: `push` adds one, and `at` gives one. It
+//! keeps each packed, in little more than a byte a number. `conflicts_in` counts the steps with a
+//! literal.
 //!
 //! Two laws carry the rest: no assignment satisfies a formula that a log refutes
 //! (`refutations_refute`), and over n variables fewer than 3^n derived steps with a literal are fresh
@@ -27,6 +27,7 @@ mod packed;
 mod read;
 mod reader;
 mod step;
+mod steps;
 mod steps_left;
 mod unpack;
 mod write;
@@ -35,7 +36,7 @@ pub use conflicts::conflicts_in;
 pub use hints::Hints;
 pub use laws::{fresh_steps_are_few, refutations_refute};
 pub use log_text::LogText;
-pub use packed::{PackedStep, add_step};
 pub use read::read_step;
-pub use step::{Log, Step};
+pub use step::Step;
+pub use steps::Log;
 pub use write::{push_step, write_step};

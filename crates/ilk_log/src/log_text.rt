@@ -2,7 +2,7 @@ ghost use Rattle.std.specs.Prelude.{◌≡◌, drop, length, map, min, take};
 ghost use Rattle.ilk_lines.specs.Written.{text_of};
 ghost use Rattle.ilk_log.specs.StepText.{step_text};
 
-use crate::step::Log;
+use crate::steps::Log;
 use crate::steps_left::StepsLeft;
 use ilk_lines::Token;
 use std::alloc::Global;

@@ -1,4 +1,4 @@
-ghost use Rattle.std.specs.Prelude.{◌≡◌, ◌^◌, ◌++◌, ◌∷◌, [], ℕ, List, map, not, IfOk, IsTrue, OnErr, OnOk};
+ghost use Rattle.std.specs.Prelude.{◌≡◌, ◌^◌, ◌++◌, [], ℕ, List, map, not, IfOk, IsTrue, OnOk};
 ghost use Rattle.ilk_cnf.specs.Formula.{clause_in, lit_in};
 ghost use Rattle.ilk_log.specs.Derived.{is_empty};
 ghost use Rattle.ilk_log.specs.Packed.{number_of, numbers_from, step_told, Tells};
@@ -6,7 +6,7 @@ ghost use Rattle.ilk_log.specs.Packed.{number_of, numbers_from, step_told, Tells
 use crate::hints::Hints;
 use crate::numbers::number_at;
 use crate::numbers_written::push_number;
-use crate::step::{Log, Step};
+use crate::step::Step;
 use crate::unpack::{read_hints, read_literals};
 use ilk_cnf::Lit;
 use std::alloc::{AllocError, Global};
@@ -16,7 +16,7 @@ use std::mem::swap;
 /// A step in as few bytes as serve: a search keeps tens of thousands, each with hundreds of numbers,
 /// which take little more than a byte each.
 #[derive(Drop)]
-pub struct PackedStep {
+pub(crate) struct PackedStep {
     // how many of the numbers are literals
     literals: u64,
     bytes: Vec<u8>,
@@ -33,7 +33,7 @@ impl Model for PackedStep {
 
 impl PackedStep {
     /// The same step, packed. Its variables are from 1 to 2^62, and its hints are any numbers.
-    pub fn of(alloc: Global, step: &Step) -> Result<PackedStep, AllocError>
+    pub(crate) fn of(alloc: Global, step: &Step) -> Result<PackedStep, AllocError>
         requires { IsTrue (clause_in (2 ^ 62) step.now.clause) }
         ensures { IfOk result (λ packed. packed ≡ step.now) }
     {
@@ -47,7 +47,7 @@ impl PackedStep {
     }
 
     /// The step in hand.
-    pub fn unpacked(&self, alloc: Global) -> Result<Step, AllocError>
+    pub(crate) fn unpacked(&self, alloc: Global) -> Result<Step, AllocError>
         ensures { IfOk result (λ step. step ≡ self.now) }
     {
         let bytes = self.bytes.as_slice();
@@ -57,7 +57,7 @@ impl PackedStep {
     }
 
     /// Whether its clause has a literal.
-    pub fn has_literal(&self) -> bool
+    pub(crate) fn has_literal(&self) -> bool
         ensures { result ≡ not (is_empty self.now.clause) }
     {
         self.literals > 0 && number_at(self.bytes.as_slice(), 0, 0).is_some()
@@ -73,14 +73,14 @@ impl PackedStep {
     }
 }
 
-/// Packs a step, and adds it at the end of a log. Its variables are from 1 to 2^62, and its hints are any
-/// numbers.
-pub fn add_step(alloc: Global, log: &mut Log, step: &Step) -> Result<(), AllocError>
-    requires { IsTrue (clause_in (2 ^ 62) step.now.clause) }
-    ensures ok { OnOk result (log.new ≡ log.old ++ step.now ∷ []) }
-    ensures err { OnErr result (log.new ≡ log.old) }
+/// Whether the variables of a step are from 1 to 2^62.
+pub(crate) fn is_packable(step: &Step) -> bool
+    ensures { result ≡ clause_in (2 ^ 62) step.now.clause }
 {
-    log.push(PackedStep::of(alloc, step)?)
+    step.clause
+        .as_slice()
+        .iter()
+        .all(|l| 0 < l.var() && l.var() <= 1 << 62)
 }
 
 // The number of a literal, from 0.
@@ -112,7 +112,7 @@ fn push_hints(bytes: &mut Vec<u8>, last: u64, hints: &Hints) -> Result<(), Alloc
 {
     let mut last = last;
     for i in 0..hints.len() {
-        let number = hints.at(i);
+        let number = *hints.at(i);
         push_number(bytes, last, number)?;
         last = number;
     }

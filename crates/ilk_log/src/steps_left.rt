@@ -6,8 +6,10 @@ ghost use Rattle.ilk_lines.specs.Written.{text_of};
 ghost use Rattle.ilk_log.specs.StepText.{lit_word, step_text};
 ghost use Rattle.ilk_log.specs.TextLeft.{FitsPlace, hints_left, line_left, literals_left};
 
+use crate::packed::PackedStep;
 use crate::reader::StepReader;
-use crate::step::Log;
+use crate::steps::Log;
+use ilk_base::Row;
 use ilk_cnf::Lit;
 use ilk_lines::Token;
 use std::alloc::Global;
@@ -24,7 +26,7 @@ pub(crate) enum Place {
 /// What is left to make of the lines of a log: seen as their bytes.
 #[derive(Drop)]
 pub(crate) struct StepsLeft {
-    log: Log,
+    steps: Row<PackedStep>,
     // The number of the next step, from 0.
     next: u64,
     // What is left of the step before it.
@@ -40,7 +42,7 @@ impl Model for StepsLeft {
 
     ghost Value = { List ℕ };
 
-    ghost view = { λ left. line_left left.place left.step ++ text_of (map step_text (drop left.next left.log)) };
+    ghost view = { λ left. line_left left.place left.step ++ text_of (map step_text (drop left.next left.steps)) };
 
     ghost invariant = { λ left. FitsPlace left.place left.step };
 }
@@ -107,7 +109,7 @@ impl StepsLeft {
         ensures { result ≡ text_of (map step_text log) }
     {
         StepsLeft {
-            log,
+            steps: log.into_packed(),
             next: 0,
             step: StepReader::new(alloc),
             place: Place::Between,
@@ -129,8 +131,8 @@ impl StepsLeft {
                 self.place = make_hint(&mut self.step, token);
             }
             Place::Between => {
-                if self.next < self.log.len() {
-                    self.step.turn_to(self.log.at_mut(self.next));
+                if self.next < self.steps.len() {
+                    self.step.turn_to(self.steps.at_mut(self.next));
                     self.next += 1;
                     self.place = Place::Literals;
                     token.lead(b"step");

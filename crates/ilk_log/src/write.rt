@@ -33,7 +33,7 @@ fn push_hints(text: &mut String, hints: &Hints) -> Result<(), AllocError>
 {
     for i in 0..hints.len() {
         text.push_str(" ")?;
-        push_decimal(text, hints.at(i))?;
+        push_decimal(text, *hints.at(i))?;
     }
     Ok(())
 }

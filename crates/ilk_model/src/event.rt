@@ -31,14 +31,14 @@ pub enum Event {
 
 /// Does the event, if it is enabled. True exactly where it is; on false and for want of memory
 /// the state is as it was.
-pub fn apply(alloc: Global, plant: &Plant, s: &mut State, event: Event) -> Result<bool, AllocError>
+pub fn apply(alloc: Global, plant: &Plant, s: &mut State, e: Event) -> Result<bool, AllocError>
     requires { HasShape plant.now s.old }
-    ensures answer { IfOk result (λ enabled. enabled ≡ is_some (next plant.now s.old event)) }
-    ensures next { OnOk result (s.new ≡ unwrap_or (next plant.now s.old event) s.old) }
+    ensures answer { IfOk result (λ enabled. enabled ≡ is_some (next plant.now s.old e)) }
+    ensures next { OnOk result (s.new ≡ unwrap_or (next plant.now s.old e) s.old) }
     ensures err { OnErr result (s.new ≡ s.old) }
     ensures shape { HasShape plant.now s.new }
 {
-    match event {
+    match e {
         Event::Mark(r) => Ok(step_mark(plant, s, r)),
         Event::Allocate(r) => Ok(step_allocate(plant, s, r)),
         Event::Lock(r) => Ok(step_lock(plant, s, r)),

@@ -1,4 +1,4 @@
 pub mod Values
-pub mod Left
+pub mod InOrder
 pub mod EachAs
 pub mod Limits

@@ -1,7 +1,7 @@
 -- The members of a document, as their data.
 use Rattle.std.specs.Prelude.{◌≤◌}
 use Rattle.serde_json.specs.Events.{items_len}
-use Rattle.ilk_json.specs.Data.{entries_data}
+use Rattle.serde_json.specs.View.{items_view}
 use Rattle.ilk_plant.specs.declared.limits.TheConstants.{MAX_ROUTES, MAX_SECTIONS}
 use Rattle.ilk_net_read.specs.Document.{Parts, Written}
 use Rattle.ilk_net_read.specs.declared.document.Document.{Document}
@@ -10,15 +10,15 @@ use Rattle.ilk_net_read.specs.declared.document.Members.{Members}
 abbrev pub seen_members : Members → Written
 seen_members members = record {
   version = members.version;
-  sections = entries_data members.sections;
-  routes = entries_data members.routes;
+  sections = items_view members.sections.now;
+  routes = items_view members.routes.now;
 }
 
 abbrev pub seen : Document → Parts
 seen document = record {
   version = document.version;
-  sections = entries_data document.sections;
-  routes = entries_data document.routes;
+  sections = items_view document.sections.now;
+  routes = items_view document.routes.now;
 }
 
 -- there are some sections, and no more sections and routes than are allowed

@@ -1,7 +1,7 @@
 //! The document: its version, and the arrays of its sections and its routes.
 
 ghost use Rattle.std.specs.Prelude.{◌≡◌, ◌&&◌, nat_le, option_map, true, IfOk};
-ghost use Rattle.ilk_json.specs.Data.{data_of};
+ghost use Rattle.serde_json.specs.View.{view};
 ghost use Rattle.ilk_plant.specs.Limits as limits;
 ghost use Rattle.ilk_net_read.specs.Document as parts;
 ghost use Rattle.ilk_net_read.specs.Fault.{GivesBy};
@@ -9,35 +9,35 @@ ghost use Rattle.ilk_net_read.specs.Network as network;
 ghost use Rattle.ilk_net_read.specs.Seen.{seen, seen_members, HasAllowedCounts};
 
 use crate::fault::broken;
-use crate::member::{array_at, whole_number_at};
+use crate::member::{array_at, has_members, whole_number_at};
 use crate::name::lies_within;
 use crate::{Form, FormError, Place, Version};
-use ilk_json::{Entries, Json};
 use ilk_plant::{MAX_ROUTES, MAX_SECTIONS};
+use serde_json::Value;
 
 // The members of a document, as they are written.
 #[derive(Drop)]
-struct Members<'v, 't> {
+struct Members<'v> {
     version: u64,
-    sections: Entries<'v, 't>,
-    routes: Entries<'v, 't>,
+    sections: &'v [Value],
+    routes: &'v [Value],
 }
 
 /// A document of one of the versions, with its sections and its routes.
 #[derive(Drop)]
-pub struct Document<'v, 't> {
+pub struct Document<'v> {
     pub version: Version,
-    pub sections: Entries<'v, 't>,
-    pub routes: Entries<'v, 't>,
+    pub sections: &'v [Value],
+    pub routes: &'v [Value],
 }
 
-fn written<'v, 't>(value: &Json<'v, 't>) -> Option<Members<'v, 't>>
-    ensures { option_map seen_members result ≡ parts.as_document (data_of value.now) }
+fn written(value: &Value) -> Option<Members<'_>>
+    ensures { option_map seen_members result ≡ parts.as_document (view value.now) }
 {
     let version = whole_number_at(value, "version")?;
     let sections = array_at(value, "sections")?;
     let routes = array_at(value, "routes")?;
-    if !value.has_members(3) {
+    if !has_members(value, 3) {
         return None;
     }
     Some(Members {
@@ -47,7 +47,7 @@ fn written<'v, 't>(value: &Json<'v, 't>) -> Option<Members<'v, 't>>
     })
 }
 
-fn in_version<'v, 't>(members: &Members<'v, 't>) -> Option<Document<'v, 't>>
+fn in_version<'v>(members: &Members<'v>) -> Option<Document<'v>>
     ensures { option_map seen result ≡ parts.in_version (seen_members members.now) }
 {
     let version = Version::numbered(members.version)?;
@@ -64,7 +64,7 @@ fn counts_are_allowed(sections: usize, routes: usize) -> bool
     lies_within(1, MAX_SECTIONS as usize, sections) && routes <= MAX_ROUTES as usize
 }
 
-fn has_allowed_counts(document: &Document<'_, '_>) -> bool
+fn has_allowed_counts(document: &Document<'_>) -> bool
     ensures exact { result ≡ parts.has_allowed_counts (seen document.now) }
     ensures limits { result ≡ true → HasAllowedCounts (seen document.now) }
 {
@@ -73,8 +73,8 @@ fn has_allowed_counts(document: &Document<'_, '_>) -> bool
 
 /// The document: rule F3 is broken where the value isn't one, then F4 where its version is neither
 /// 1 nor 2, and then F6 where it has no section, or more sections or routes than are allowed.
-pub fn document_of<'v, 't>(value: &Json<'v, 't>) -> Result<Document<'v, 't>, FormError>
-    ensures exact { GivesBy seen result (network.document_of (data_of value.now)) }
+pub fn document_of(value: &Value) -> Result<Document<'_>, FormError>
+    ensures exact { GivesBy seen result (network.document_of (view value.now)) }
     ensures limits { IfOk result (λ document. HasAllowedCounts (seen document)) }
 {
     let Some(members) = written(value) else {

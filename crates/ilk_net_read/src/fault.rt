@@ -6,7 +6,6 @@ ghost use Rattle.ilk_net_read.specs.declared.fault.FormError.TheVariants.{Fault,
 ghost use Rattle.ilk_net_read.specs.Fault.{at_place, broken as broken_at};
 
 use std::alloc::AllocError;
-use std::fmt;
 use thiserror::Error;
 
 /// A rule of the form.
@@ -26,20 +25,6 @@ pub enum Form {
     F6,
 }
 
-impl fmt::Display for Form {
-    fn fmt<W: fmt::Write>(&self, f: &mut fmt::Formatter<W>) -> fmt::Result {
-        let rule = match self {
-            Form::F1 => "F1",
-            Form::F2 => "F2",
-            Form::F3 => "F3",
-            Form::F4 => "F4",
-            Form::F5 => "F5",
-            Form::F6 => "F6",
-        };
-        write!(f, "{rule}")
-    }
-}
-
 /// The place where a rule is broken: the whole document, the extra input, or the section or the
 /// route of a number, from 0.
 #[derive(Clone, Copy, PartialEq, Eq, Debug)]
@@ -50,17 +35,6 @@ pub enum Place {
     Route(u32),
 }
 
-impl fmt::Display for Place {
-    fn fmt<W: fmt::Write>(&self, f: &mut fmt::Formatter<W>) -> fmt::Result {
-        match self {
-            Place::Document => write!(f, "document"),
-            Place::Extra => write!(f, "extra"),
-            Place::Section(number) => write!(f, "sections[{number}]"),
-            Place::Route(number) => write!(f, "routes[{number}]"),
-        }
-    }
-}
-
 /// A rule of the form that is broken, and where.
 #[derive(Clone, Copy, PartialEq, Eq, Debug)]
 pub struct FormFault {
@@ -68,16 +42,10 @@ pub struct FormFault {
     pub place: Place,
 }
 
-impl fmt::Display for FormFault {
-    fn fmt<W: fmt::Write>(&self, f: &mut fmt::Formatter<W>) -> fmt::Result {
-        write!(f, "{} {}", self.rule, self.place)
-    }
-}
-
 /// Why a configuration isn't read: the first rule of its form that it breaks, or want of memory.
 #[derive(Debug, Drop, Error)]
 pub enum FormError {
-    #[error("the configuration breaks {0}")]
+    #[error("the configuration breaks a rule of its form")]
     Fault(FormFault),
     #[error("out of memory")]
     OutOfMemory,

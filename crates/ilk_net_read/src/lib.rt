@@ -17,7 +17,9 @@ mod version;
 
 pub use document::{Document, document_of};
 pub use fault::{Form, FormError, FormFault, KindError, Place, broken};
-pub use member::{array_at, optional_text_at, str_at, text_at, texts_at, whole_number_at};
+pub use member::{
+    array_at, has_members, optional_text_at, str_at, text_at, texts_at, whole_number_at,
+};
 pub use name::{is_name, is_name_if_given, lies_within};
 pub use network::read_network;
 pub use text::read_value;

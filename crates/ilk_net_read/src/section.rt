@@ -1,29 +1,29 @@
 //! The sections.
 
 ghost use Rattle.std.specs.Prelude.{◌≡◌, true, IfOk};
-ghost use Rattle.ilk_json.specs.Data.{data_of};
+ghost use Rattle.serde_json.specs.View.{view};
 ghost use Rattle.ilk_plant.specs.Limits.{kind_has_names, section_has_names};
 ghost use Rattle.ilk_net_read.specs.Fault.{Gives, Reads};
 ghost use Rattle.ilk_net_read.specs.Network as network;
 ghost use Rattle.ilk_net_read.specs.Section as section;
 
 use crate::fault::broken;
-use crate::member::{optional_text_at, str_at, text_at};
+use crate::member::{has_members, optional_text_at, str_at, text_at};
 use crate::name::{is_name, is_name_if_given};
 use crate::{Form, FormError, KindError, Place};
-use ilk_json::Json;
 use ilk_plant::{Dir, KindDraft, SectionDraft};
+use serde_json::Value;
 use std::alloc::Global;
 
-fn linear(alloc: Global, value: &Json<'_, '_>) -> Result<SectionDraft, KindError>
-    ensures { Reads result (section.as_linear (data_of value.now)) }
+fn linear(alloc: Global, value: &Value) -> Result<SectionDraft, KindError>
+    ensures { Reads result (section.as_linear (view value.now)) }
 {
     let name = text_at(alloc, value, "name")?;
     let down = optional_text_at(alloc, value, "down")?;
     let up = optional_text_at(alloc, value, "up")?;
     let board_down = optional_text_at(alloc, value, "board_down")?;
     let board_up = optional_text_at(alloc, value, "board_up")?;
-    if !value.has_members(6) {
+    if !has_members(value, 6) {
         return Err(KindError::WrongKind);
     }
     let kind = KindDraft::Linear {
@@ -35,14 +35,14 @@ fn linear(alloc: Global, value: &Json<'_, '_>) -> Result<SectionDraft, KindError
     Ok(SectionDraft { name, kind })
 }
 
-fn faces(value: &Json<'_, '_>) -> Option<Dir>
-    ensures { result ≡ section.faces_of (data_of value.now) }
+fn faces(value: &Value) -> Option<Dir>
+    ensures { result ≡ section.faces_of (view value.now) }
 {
     Dir::of_word(str_at(value, "faces")?.as_bytes())
 }
 
-fn point(alloc: Global, value: &Json<'_, '_>) -> Result<SectionDraft, KindError>
-    ensures { Reads result (section.as_point (data_of value.now)) }
+fn point(alloc: Global, value: &Value) -> Result<SectionDraft, KindError>
+    ensures { Reads result (section.as_point (view value.now)) }
 {
     let name = text_at(alloc, value, "name")?;
     let stem = text_at(alloc, value, "stem")?;
@@ -51,7 +51,7 @@ fn point(alloc: Global, value: &Json<'_, '_>) -> Result<SectionDraft, KindError>
     let Some(faces) = faces(value) else {
         return Err(KindError::WrongKind);
     };
-    if !value.has_members(6) {
+    if !has_members(value, 6) {
         return Err(KindError::WrongKind);
     }
     let kind = KindDraft::Point {
@@ -63,8 +63,8 @@ fn point(alloc: Global, value: &Json<'_, '_>) -> Result<SectionDraft, KindError>
     Ok(SectionDraft { name, kind })
 }
 
-fn section(alloc: Global, value: &Json<'_, '_>) -> Result<SectionDraft, KindError>
-    ensures { Reads result (section.as_section (data_of value.now)) }
+fn section(alloc: Global, value: &Value) -> Result<SectionDraft, KindError>
+    ensures { Reads result (section.as_section (view value.now)) }
 {
     match str_at(value, "kind") {
         Some("linear") => linear(alloc, value),
@@ -101,9 +101,9 @@ fn has_names(kind: &KindDraft) -> bool
 pub(crate) fn section_of(
     alloc: Global,
     number: u32,
-    value: &Json<'_, '_>,
+    value: &Value,
 ) -> Result<SectionDraft, FormError>
-    ensures exact { Gives result (network.section_of number (data_of value.now)) }
+    ensures exact { Gives result (network.section_of number (view value.now)) }
     ensures named { IfOk result (λ draft. section_has_names draft ≡ true) }
 {
     let place = Place::Section(number);

@@ -15,7 +15,7 @@ pub fn section_names(alloc: Global, sections: &Row<SectionDraft>) -> Result<Name
 {
     let mut names = Row::new(alloc);
     for section in sections.as_slice() {
-        names.push(section.name.copy(alloc)?)?;
+        names.push(section.name.copy()?)?;
     }
     Names::of(alloc, names)
 }
@@ -27,7 +27,7 @@ pub fn route_names(alloc: Global, routes: &Row<RouteDraft>) -> Result<Names, All
 {
     let mut names = Row::new(alloc);
     for route in routes.as_slice() {
-        names.push(route.name.copy(alloc)?)?;
+        names.push(route.name.copy()?)?;
     }
     Names::of(alloc, names)
 }
@@ -53,7 +53,7 @@ fn push_board(
         (made.new.boards ≡ made.old.boards ++ map (λ named. named.board) (board_if_named x dir name.now)) }
 {
     if let Some(name) = name {
-        made.names.push(name.copy(alloc)?)?;
+        made.names.push(name.copy()?)?;
         made.boards.push(Board { section: x, dir })?;
     }
     Ok(())

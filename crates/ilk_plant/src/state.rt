@@ -1,7 +1,7 @@
 ghost use Rattle.std.specs.Prelude.{◌≡◌, IfOk};
 
 use crate::{Dir, Position, Row};
-use std::alloc::{AllocError, Global};
+use std::alloc::AllocError;
 
 /// How far the setting and the use of a route have come.
 #[derive(Clone, Copy, PartialEq, Eq, Debug)]
@@ -71,38 +71,38 @@ pub struct State {
 
 impl Train {
     // An equal train.
-    fn copy(&self, alloc: Global) -> Result<Train, AllocError>
+    fn copy(&self) -> Result<Train, AllocError>
         ensures { IfOk result (λ train. train ≡ self.now) }
     {
         Ok(Train {
             dir: self.dir,
-            body: self.body.copy(alloc)?,
+            body: self.body.copy()?,
         })
     }
 }
 
 // An equal list of trains.
-fn copy_trains(alloc: Global, trains: &Row<Train>) -> Result<Row<Train>, AllocError>
+fn copy_trains(trains: &Row<Train>) -> Result<Row<Train>, AllocError>
     ensures { IfOk result (λ made. made ≡ trains.now) }
 {
-    let mut made = Row::new(alloc);
+    let mut made = Row::new(trains.allocator());
     for train in trains.as_slice() {
-        made.push(train.copy(alloc)?)?;
+        made.push(train.copy()?)?;
     }
     Ok(made)
 }
 
 impl State {
     /// An equal state.
-    pub fn copy(&self, alloc: Global) -> Result<State, AllocError>
+    pub fn copy(&self) -> Result<State, AllocError>
         ensures { IfOk result (λ state. state ≡ self.now) }
     {
         Ok(State {
-            routes: self.routes.copy(alloc)?,
-            points: self.points.copy(alloc)?,
-            boards: self.boards.copy(alloc)?,
-            locks: self.locks.copy(alloc)?,
-            trains: copy_trains(alloc, &self.trains)?,
+            routes: self.routes.copy()?,
+            points: self.points.copy()?,
+            boards: self.boards.copy()?,
+            locks: self.locks.copy()?,
+            trains: copy_trains(&self.trains)?,
         })
     }
 }

@@ -3,10 +3,13 @@
 //!
 //! `walk_tests` goes through many states of a plant, and compares each event with the rules of the
 //! plant's system, and each state with the forms over its image. `form_tests` has states that are made
-//! by hand, and values; `decide_tests` has verdicts. `strict_tests` walks over plants whose tables break
+//! by hand, and values; `decide_tests` has verdicts, and
+//! `certificate_tests` the certificate of one, whole. `strict_tests` walks over plants whose tables break
 //! no rule, and asks the invariant after each event.
 #![tactic(auto)]
 
+#[cfg(test)]
+mod certificate_tests;
 #[cfg(test)]
 mod changes;
 #[cfg(test)]

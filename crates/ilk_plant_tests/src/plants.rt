@@ -71,7 +71,7 @@ pub fn after(alloc: Global, plant: &Plant, s: &State, event: Event) -> Result<Op
     if !plant.has_shape(s) {
         return Err(Fail::new("a state without shape"));
     }
-    let mut next = s.copy(alloc)?;
+    let mut next = s.copy()?;
     if apply(alloc, plant, &mut next, event)? {
         Ok(Some(next))
     } else {

@@ -17,7 +17,7 @@ fn fired(
     if u64::from(rule) >= system.rules.len() {
         return Err(Fail::new("a number that no rule has"));
     }
-    let mut values = before.copy(alloc)?;
+    let mut values = before.copy()?;
     if fire(system, &mut values, rule) {
         Ok(Some(values))
     } else {

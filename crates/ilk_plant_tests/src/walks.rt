@@ -81,7 +81,7 @@ impl<'a> Compared<'a> {
             match found.states.get(i as usize) {
                 None => return Ok(tally),
                 Some(state) => {
-                    let s = state.copy(alloc)?;
+                    let s = state.copy()?;
                     self.tally(alloc, &mut tally, &s)?;
                     found.add_all(alloc, self.plant, self.nexts(alloc, &s)?)?;
                 }
@@ -98,13 +98,13 @@ impl<'a> Compared<'a> {
             hazards: 0,
         };
         let mut number = 1;
-        let mut s = first.copy(alloc)?;
+        let mut s = first.copy()?;
         for _ in 0..steps {
             self.tally(alloc, &mut tally, &s)?;
             number = scrambled(number);
             s = match chosen(self.nexts(alloc, &s)?, number) {
                 Some(next) => next,
-                None => first.copy(alloc)?,
+                None => first.copy()?,
             };
         }
         Ok(tally)

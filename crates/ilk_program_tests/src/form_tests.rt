@@ -1,6 +1,5 @@
-//! The form of a network, and how its faults are shown.
-use ilk_json::Scratch;
-use ilk_net_read::{Form, FormFault, Place, read_network, read_value};
+//! The form of a network.
+use ilk_net_read::{read_network, read_value};
 use ilk_plant::KindDraft;
 use std::test::*;
 
@@ -14,11 +13,10 @@ const LINE: &str = r#"{"version":1,
 
 #[test]
 fn line_with_a_point(rt: HostRuntime) -> Result<(), Fail> {
-    let mut scratch = Scratch::new(rt.alloc());
-    let text = read_value(rt.alloc(), LINE.as_bytes(), &mut scratch)
+    let value = read_value(rt.alloc(), LINE.as_bytes())
         .ok()
         .ok_or("the text is JSON")?;
-    let net = read_network(rt.alloc(), &text.root())
+    let net = read_network(rt.alloc(), &value)
         .ok()
         .ok_or("its network is right")?;
     let sections = net.sections.as_slice();
@@ -32,18 +30,5 @@ fn line_with_a_point(rt: HostRuntime) -> Result<(), Fail> {
             assert!(rt; false, "a point");
         }
     }
-    Ok(())
-}
-
-#[test]
-fn faults_are_shown(rt: HostRuntime) -> Result<(), Fail> {
-    let fault = FormFault {
-        rule: Form::F5,
-        place: Place::Section(12),
-    };
-    let shown = format!(in rt.alloc(); "{fault}")?;
-    assert_eq!(rt; shown.as_str(), "F5 sections[12]");
-    let shown = format!(in rt.alloc(); "{} {} {}", Place::Document, Place::Extra, Place::Route(0))?;
-    assert_eq!(rt; shown.as_str(), "document extra routes[0]");
     Ok(())
 }

@@ -109,5 +109,5 @@ pub fn unset_first(alloc: Global, trail: &Trail, set: &LitSet) -> Result<Lits, A
     let mut clause = Lits::new(alloc);
     push_unset(&mut clause, trail, set)?;
     push_where(&mut clause, trail, set)?;
-    clause.copy(alloc)
+    clause.copy()
 }

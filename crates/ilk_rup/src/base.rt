@@ -16,7 +16,7 @@ use crate::explain::{Scratch, explain, reason_of};
 use crate::set::LitSet;
 use ilk_clauses::Clauses;
 use ilk_cnf::{Cnf, Lit, Lits};
-use ilk_log::{Hints, Log, Step, add_step};
+use ilk_log::{Hints, Log, Step};
 use ilk_trail::Trail;
 use ilk_watches::Queue;
 use std::alloc::{AllocError, Global};
@@ -45,15 +45,14 @@ fn alone(alloc: Global, l: Lit) -> Result<Lits, AllocError>
 
 impl Base {
     /// Adds a clause, and the step that shows it.
-    pub fn add(&mut self, alloc: Global, clause: Lits, hints: Hints) -> Result<(), AllocError>
+    pub fn add(&mut self, clause: Lits, hints: Hints) -> Result<(), AllocError>
         requires within { IsTrue (clause_in self.old.clauses.vars clause) }
         requires differ { IsTrue (vars_differ clause) }
         ensures { OnOk result (IsStepAdded self.old (record { clause = clause; hints = hints }) self.new) }
     {
         let _ = self.clauses.vars();
         self.clauses.add(clause.as_slice())?;
-        let step = Step { clause, hints };
-        add_step(alloc, &mut self.log, &step)
+        self.log.push(Step { clause, hints })
     }
 
     /// Gives the literal of the first entry that has none a clause of its own. The set has no literals,
@@ -94,7 +93,7 @@ impl Base {
             self.named,
         )?;
         set.clear();
-        self.add(alloc, alone(alloc, l)?, hints)?;
+        self.add(alone(alloc, l)?, hints)?;
         self.units[l.var() as usize] = self.clauses.count();
         self.named += 1;
         Ok(())
@@ -203,7 +202,7 @@ impl Base {
             self.named,
             self.named,
         )?;
-        self.add(alloc, Lits::new(alloc), hints)?;
+        self.add(Lits::new(alloc), hints)?;
         Ok(())
     }
 

@@ -82,7 +82,7 @@ impl Checker {
         let _trail = self.base.trail.count();
         let _before = self.base.clauses.count();
         set.clear();
-        self.base.add(alloc, step.clause, step.hints)?;
+        self.base.add(step.clause, step.hints)?;
         let _after = self.base.clauses.count();
         self.settle(alloc, set)?;
         Ok(true)

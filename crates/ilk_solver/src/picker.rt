@@ -7,18 +7,18 @@ ghost use Rattle.ilk_solver.specs.View.{ViewLists, IsView, is_unset};
 use crate::view::View;
 use ilk_cnf::Lit;
 
-/// What chooses the next decision: a function that may be called on every view with an unset variable,
+/// What chooses the next decision: a closure that may be called on every view with an unset variable,
 /// and answers a literal of one there. That it does is kept beside it, and isn't tested again.
 #[derive(Drop)]
 pub struct Picker {
-    picks: fn(&View) -> Lit,
+    picks: Box<dyn Fn(&View) -> Lit>,
     ghost callable: { (view : Bor ViewLists) (v : ℕ) → IsView view.now → IsTrue (is_unset view.now v) → pre picks view },
     ghost unset: { (view : Bor ViewLists) (v : ℕ) (l : Literal) → IsView view.now → IsTrue (is_unset view.now v) → post picks view l → IsTrue (is_unset view.now l.var) },
 }
 
 impl Picker {
-    /// Decides by the function.
-    pub fn new(picks: fn(&View) -> Lit) -> Picker
+    /// Decides by the closure.
+    pub fn new(picks: Box<dyn Fn(&View) -> Lit>) -> Picker
         requires callable { (view : Bor ViewLists) (v : ℕ) → IsView view.now → IsTrue (is_unset view.now v) → pre picks view }
         requires unset { (view : Bor ViewLists) (v : ℕ) (l : Literal) → IsView view.now → IsTrue (is_unset view.now v) → post picks view l → IsTrue (is_unset view.now l.var) }
         ensures { result.picks ≡ picks }
@@ -26,7 +26,7 @@ impl Picker {
         Picker { picks }
     }
 
-    // The literal that is decided next, where some variable is unset: what the function answers.
+    // The literal that is decided next, where some variable is unset: what the closure answers.
     pub(crate) fn pick(&self, view: &View) -> Lit
         requires { SomeUnset view.now }
         ensures answered { post self.now.picks view.entry result }

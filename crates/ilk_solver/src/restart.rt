@@ -1,16 +1,16 @@
 ghost use Rattle.std.specs.Prelude.{◌≡◌, ◌≤◌, Bool, if◌then◌else◌};
 
-/// When a search goes back to its start: a function of the number of steps so far that have a
+/// When a search goes back to its start: a closure over the number of steps so far that have a
 /// literal. It is asked after each of them.
 #[derive(Drop)]
 pub struct Restart {
-    asks: fn(u64) -> bool,
+    asks: Box<dyn Fn(u64) -> bool>,
     ghost callable: { IsAlwaysCallable asks },
 }
 
 impl Restart {
-    /// Restarts where the function says so.
-    pub fn new(asks: fn(u64) -> bool) -> Restart
+    /// Restarts where the closure says so.
+    pub fn new(asks: Box<dyn Fn(u64) -> bool>) -> Restart
         requires { IsAlwaysCallable asks }
         ensures { result.asks ≡ asks }
     {

@@ -21,7 +21,7 @@ use crate::view::View;
 use ilk_clauses::Clauses;
 use ilk_cnf::{Assignment, Cnf, Lit};
 use ilk_learn::{Learned, learn, refute};
-use ilk_log::{Log, Step, add_step};
+use ilk_log::{Log, Step};
 use ilk_watches::Queue;
 use std::alloc::{AllocError, Global};
 use std::marker::Model;
@@ -115,12 +115,12 @@ impl Search {
 
     // Adds a step, whose clause is neither false nor a unit at any level below the current one, and may
     // force its first literal alone.
-    pub fn add(self, alloc: Global, step: &Step) -> Result<Search, AllocError>
-        requires within { IsTrue (clause_in self.formula.vars step.now.clause) }
-        requires differ { IsTrue (vars_differ step.now.clause) }
-        requires closed { LevelsClosed (step.now.clause ∷ []) self.view.trail.entries }
-        requires addable { IsAddable self.view.trail.entries step.now.clause }
-        ensures { IfOk result (λ s. IsAdded self step.now s) }
+    pub fn add(self, step: Step) -> Result<Search, AllocError>
+        requires within { IsTrue (clause_in self.formula.vars step.clause) }
+        requires differ { IsTrue (vars_differ step.clause) }
+        requires closed { LevelsClosed (step.clause ∷ []) self.view.trail.entries }
+        requires addable { IsAddable self.view.trail.entries step.clause }
+        ensures { IfOk result (λ s. IsAdded self step s) }
     {
         let Search {
             mut clauses,
@@ -134,7 +134,7 @@ impl Search {
         clauses.add(step.clause.as_slice())?;
         let _ = clauses.count();
         view.count(step.clause.as_slice());
-        add_step(alloc, &mut log, step)?;
+        log.push(step)?;
         Ok(Search {
             clauses,
             queue,
@@ -196,19 +196,14 @@ impl Search {
     }
 
     // Goes back to `level`, where the clause that was learned is open still, and adds it.
-    pub fn take_up(
-        mut self,
-        alloc: Global,
-        learned: &Learned,
-        level: u64,
-    ) -> Result<Search, AllocError>
-        requires learned { IsLearned self learned.now.step learned.now.level }
-        requires level { level ≤ learned.now.level }
-        ensures { IfOk result (λ s. HasOneStepMore self learned.now.step s) }
+    pub fn take_up(mut self, learned: Learned, level: u64) -> Result<Search, AllocError>
+        requires learned { IsLearned self learned.step learned.level }
+        requires level { level ≤ learned.level }
+        ensures { IfOk result (λ s. HasOneStepMore self learned.step s) }
     {
         let _ = self.level();
         self.back_to(level);
-        self.add(alloc, &learned.step)
+        self.add(learned.step)
     }
 
     // The steps.

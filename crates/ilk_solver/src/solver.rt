@@ -11,7 +11,6 @@ use crate::picker::Picker;
 use crate::restart::Restart;
 use crate::search::Search;
 use ilk_cnf::Cnf;
-use ilk_log::add_step;
 use std::alloc::{AllocError, Global};
 
 /// A search that has no step yet, with what chooses its decisions and its restarts.
@@ -20,6 +19,7 @@ pub struct Solver {
     search: Search,
     picker: Picker,
     restart: Restart,
+    alloc: Global,
     ghost unstarted: { search.log ≡ [] },
 }
 
@@ -39,6 +39,7 @@ impl Solver {
             search: Search::new(alloc, cnf)?,
             picker,
             restart,
+            alloc,
         })
     }
 
@@ -61,7 +62,7 @@ impl Solver {
     ///
     /// After each such step the restart is asked, with the number of them so far, whether the search
     /// goes back to its start.
-    pub fn solve(self, alloc: Global, budget: u64) -> Result<Outcome, AllocError>
+    pub fn solve(self, budget: u64) -> Result<Outcome, AllocError>
         ensures log { IfOk result (λ o. IsLog self.search.formula budget o.log) }
         ensures answer { IfOk result (λ o. IsAnswer self.search.formula budget o.answer o.log) }
     {
@@ -69,6 +70,7 @@ impl Solver {
             mut search,
             picker,
             restart,
+            alloc,
         } = self;
         let mut steps = 0;
         'rounds: loop {
@@ -87,7 +89,7 @@ impl Solver {
                     if search.level() == 0 {
                         let last = search.refute(alloc, conflict)?;
                         let mut log = search.into_log();
-                        add_step(alloc, &mut log, &last)?;
+                        log.push(last)?;
                         return Ok(Outcome {
                             answer: Answer::Unsat,
                             log,
@@ -102,7 +104,7 @@ impl Solver {
                     }
                     steps += 1;
                     let level = restart.level_after(steps, learned.level);
-                    search = search.take_up(alloc, &learned, level)?;
+                    search = search.take_up(learned, level)?;
                 }
             }
         }

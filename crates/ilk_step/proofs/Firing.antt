@@ -28,7 +28,7 @@ kept-congr p q v [] (x ∷ xs) h = refl
 kept-congr p q v (w ∷ ws) [] h = refl
 kept-congr p q v (w ∷ ws) (x ∷ xs) h = let here = h v in let rest = kept-congr p q (v + 1) ws xs h in rw (here, rest) refl
 
-pub kept-at : (p : ℕ → Bool) (v : ℕ) (ws xs : List ℕ) (i : ℕ) → kept p v ws xs ≡ true → p (v + i) ≡ false → slice_get ws i ≡ slice_get xs i
+kept-at : (p : ℕ → Bool) (v : ℕ) (ws xs : List ℕ) (i : ℕ) → kept p v ws xs ≡ true → p (v + i) ≡ false → slice_get ws i ≡ slice_get xs i
 kept-at p v [] [] i h k = refl
 kept-at p v [] (x ∷ xs) i h k = absurd (false≢true h)
 kept-at p v (w ∷ ws) [] i h k = absurd (false≢true h)

@@ -27,7 +27,7 @@ pair_says false true false r = refl
 pair_says false false true r = refl
 pair_says false false false r = refl
 
-pub carry_over-say : (a : List Bool) (first ls ms : List Literal) → length ls ≡ length ms → satisfies a (carry_over first ls ms) ≡ (some_true a first || same_bits (map (is_true a) ls) (map (is_true a) ms))
+carry_over-say : (a : List Bool) (first ls ms : List Literal) → length ls ≡ length ms → satisfies a (carry_over first ls ms) ≡ (some_true a first || same_bits (map (is_true a) ls) (map (is_true a) ms))
 carry_over-say a first [] [] long = sym (or-true (some_true a first))
 carry_over-say a first [] (m ∷ ms) long = absurd (omega arith)
 carry_over-say a first (l ∷ ls) [] long = absurd (omega arith)

@@ -5,8 +5,4 @@ pub mod FrameSteps
 pub mod RulesLaw
 pub mod RulesSteps
 pub mod StepLaw
-pub mod TouchingLaw
-pub mod CarryLaw
-pub mod CarrySteps
-pub mod PairsIn
 pub mod Few

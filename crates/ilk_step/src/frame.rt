@@ -19,7 +19,7 @@ fn sets_variable(v: u64, sets: &[Setting]) -> bool
 
 // The literals that say that a rule is chosen that sets the variable `v`. The variables of the
 // rules stand from `first` on.
-pub fn setters(alloc: Global, v: u64, first: u64, rules: &[Rule]) -> Result<Lits, AllocError>
+fn setters(alloc: Global, v: u64, first: u64, rules: &[Rule]) -> Result<Lits, AllocError>
     requires from_1 { 0 < first }
     requires numbered { first + length rules.now ≤ 2 ^ 62 + 1 }
     ensures { IfOk result (λ lits. lits ≡ setters v first (map rule_tree rules.now)) }
@@ -39,7 +39,7 @@ fn add_pair(alloc: Global, cnf: &mut Cnf, first: &Lits, l: Lit, m: Lit) -> Resul
     requires pair { IsTrue (clause_in cnf.old.vars (l ∷ m ∷ [])) }
     ensures { OnOk result (cnf.new ≡ grown cnf.old cnf.old.vars (as_clause (first.now ++ l ∷ m ∷ []))) }
 {
-    let mut lits = first.copy(alloc)?;
+    let mut lits = first.copy()?;
     lits.push(l)?;
     lits.push(m)?;
     cnf.add_lits(lits.as_slice())?;
@@ -47,13 +47,7 @@ fn add_pair(alloc: Global, cnf: &mut Cnf, first: &Lits, l: Lit, m: Lit) -> Resul
 }
 
 // Demands that one of the first literals is true, or the two are true in the same case.
-pub fn add_same(
-    alloc: Global,
-    cnf: &mut Cnf,
-    first: &Lits,
-    l: Lit,
-    m: Lit,
-) -> Result<(), AllocError>
+fn add_same(alloc: Global, cnf: &mut Cnf, first: &Lits, l: Lit, m: Lit) -> Result<(), AllocError>
     requires first { IsTrue (clause_in cnf.old.vars first.now) }
     requires pair { IsTrue (clause_in cnf.old.vars (l ∷ m ∷ [])) }
     ensures { OnOk result (cnf.new ≡ grown cnf.old cnf.old.vars (as_clauses (carry_over first.now (l ∷ []) (m ∷ [])))) }

@@ -12,21 +12,12 @@
 //! copies have some values extends in exactly one way for each rule that leads from the one to the
 //! other, and in no other way. `chosen_rule` reads the rule back. `proofs/Firing` tells what a rule
 //! does variable by variable, and `proofs/StepLaw` puts the parts together.
-//!
-//! What follows from a step may be said besides. Of two variables that stand for one part of a form in
-//! the two copies, `carry_over_pairs` says that a rule is chosen that touches the part, by setting
-//! what it speaks of (`specs/Touching`), or the two have one value (`specs/Carry`). No run is lost by
-//! it (`proofs/CarryLaw`), and a search sees at once that a part keeps its value, without going
-//! through all the variables that the part speaks of.
 #![tactic(auto)]
 
-mod carry;
 mod choice;
 mod frame;
 mod rules;
 mod step;
-mod touching;
 
-pub use carry::carry_over_pairs;
 pub use choice::{Choice, chosen_rule};
 pub use step::add_step;

@@ -25,7 +25,7 @@ use Rattle.ilk_model.specs.declared.event.Event.TheVariants.{Mark, Allocate, Loc
 use Rattle.ilk_model.specs.declared.hazards.HazardAt.{HazardAt}
 use Rattle.ilk_model.specs.declared.hazards.HazardAt.TheVariants.{Two, Wrong}
 use Rattle.ilk_model.proofs.Examples.{station}
-use Rattle.ilk_strict.specs.IsStrict.{IsStrict, path_points_are_set}
+use Rattle.ilk_strict.specs.IsStrict.{IsStrict, path_end_is_not_plain, path_points_are_set}
 use Rattle.ilk_strict.proofs.Reading.{each_below-at}
 use Rattle.ilk_strict.proofs.Strict.{strict_from_list, strict_from_rules}
 
@@ -46,9 +46,24 @@ kept-below n test h i less = fails (test i) (each_below-at n (λ j. not (test j)
 without_conflicts_is_strict : IsStrict without_conflicts
 without_conflicts_is_strict = strict_from_rules without_conflicts (record {
   c1 = kept-below 8 (breaks_columns without_conflicts C1) refl;
-  c2 = kept-below 8 (breaks_columns without_conflicts C2) refl;
+  c2 = kept-below 8 (route_fails without_conflicts (path_end_is_not_plain without_conflicts)) refl;
   c3 = kept-below 8 (route_fails without_conflicts (path_points_are_set without_conflicts)) refl;
   c7 = kept-below 6 (breaks_columns without_conflicts C7) refl;
+})
+
+-- where its routes have no destination it breaks C2 at the first, but not in its part on the end of a path
+abbrev without_destinations : PlantLists
+without_destinations = record station { routes = map (λ (route : Route). record route { destination = None }) station.routes }
+
+first_breaks_c2 : breaks_columns without_destinations C2 0 ≡ true
+first_breaks_c2 = refl
+
+without_destinations_is_strict : IsStrict without_destinations
+without_destinations_is_strict = strict_from_rules without_destinations (record {
+  c1 = kept-below 8 (breaks_columns without_destinations C1) refl;
+  c2 = kept-below 8 (route_fails without_destinations (path_end_is_not_plain without_destinations)) refl;
+  c3 = kept-below 8 (route_fails without_destinations (path_points_are_set without_destinations)) refl;
+  c7 = kept-below 6 (breaks_columns without_destinations C7) refl;
 })
 
 abbrev board : ℕ → Dir → Board

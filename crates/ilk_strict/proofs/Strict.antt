@@ -1,6 +1,6 @@
--- A table in which C1, C2, C3 in its part on the path, and C7 are broken at no place has what strict safety uses; so has
--- one in which no rule of the columns is broken.
-use Rattle.std.proofs.Common.{◌≡◌, ℕ, zero, suc, ◌+◌, ◌<◌, Bool, true, false, not, ◌==◌, ◌&&◌, ◌||◌, Option, Some, None, List, [], ◌∷◌, drop, length, nat_lt, slice_get, take, refl, sym, ◌∙◌, subst, arith}
+-- A table in which C1, C2 in its part on the end of a path, C3 in its part on the path, and C7 are broken at no place has
+-- what strict safety uses; so has one in which no rule of the columns is broken.
+use Rattle.std.proofs.Common.{◌≡◌, ℕ, zero, suc, ◌+◌, ◌<◌, Bool, true, false, not, ◌==◌, ◌&&◌, ◌||◌, Option, Some, None, List, [], ◌∷◌, drop, length, nat_lt, slice_get, take, refl, sym, ap, ◌∙◌, subst, arith}
 use Rattle.std.specs.List.{filter, range_with_len}
 use Rattle.std.proofs.lemmas.Bool.{and_parts, eqb-true}
 use Rattle.std.proofs.lemmas.Option.{same_Some, slice_get_within}
@@ -25,7 +25,7 @@ use Rattle.ilk_plant.specs.declared.table.Route.{Route}
 use Rattle.ilk_plant.proofs.RoutesOf.{route-passes}
 use Rattle.ilk_motion.proofs.Shape.{border-known}
 use Rattle.ilk_model.specs.Holding.{is_plain}
-use Rattle.ilk_strict.specs.IsStrict.{IsFrom, IsStrict, KeepsPathRules, path_points_are_set}
+use Rattle.ilk_strict.specs.IsStrict.{IsFrom, IsStrict, KeepsPathRules, path_end_is_not_plain, path_points_are_set}
 
 -- a route that passes a test of its source
 source-passes : (p : PlantLists) (r : ℕ) (route : Route) (source : Board) (test : Board → Bool) → IsFrom p r route source → source_passes p route test ≡ true → test source ≡ true
@@ -69,12 +69,16 @@ end-not_plain p d None x h =
     nothing true n e = rw e refl
     nothing false n e = refl
 
--- the last section of a path that lies between boards isn't plain
-last-not_plain : (p : PlantLists) (d : Dir) (destination : Option ℕ) (path : List ℕ) → is_between_boards p d destination path ≡ true → (k x : ℕ) → slice_get path k ≡ Some x → k + 1 ≡ length path → is_plain p d x ≡ false
-last-not_plain p d destination path h k x at last =
-    let ending = some-and (last_of path) (ends_path p d destination) (and_parts _ (is_some_and (last_of path) (ends_path p d destination)) h).1 in
+-- the last section of a path whose end isn't plain, by place
+last-not_plain : (p : PlantLists) (d : Dir) (path : List ℕ) → is_some_and (last_of path) (λ y. not (is_plain p d y)) ≡ true → (k x : ℕ) → slice_get path k ≡ Some x → k + 1 ≡ length path → is_plain p d x ≡ false
+last-not_plain p d path h k x at last =
+    let ending = some-and (last_of path) (λ y. not (is_plain p d y)) h in
     let same : ending.0 ≡ x = same_Some ending.0 x (sym ending.1 ∙ last_or-at None path k x last at) in
-    end-not_plain p d destination x (rw same at ending.2)
+    isnt (is_plain p d x) (rw same at ending.2)
+  where
+    isnt : (b : Bool) → not b ≡ true → b ≡ false
+    isnt true h = sym h
+    isnt false h = refl
 
 -- a border that isn't without a board has one
 border-has_board : (p : PlantLists) (x : ℕ) (d : Dir) → is_border_without_board p x ≡ false → border p x ≡ Some d → has_no_board p d x ≡ false
@@ -85,7 +89,7 @@ strict_from_rules p rules = record {
   leads = λ r route source it k x y at also.
       leads-at p source.dir source.section route.path (source-passes p r route source (λ b. leads_on p b.dir b.section route.path) it (route-passes p (path_leads_on p) r route (rules.c1 r (slice_get_within p.routes r route it.known)) it.known)) k x y at also;
   ends = λ r route source it k x at last.
-      last-not_plain p source.dir route.destination route.path (source-passes p r route source (λ b. is_between_boards p b.dir route.destination route.path) it (route-passes p (path_ends_at_board p) r route (rules.c2 r (slice_get_within p.routes r route it.known)) it.known)) k x at last;
+      last-not_plain p source.dir route.path (source-passes p r route source (λ b. is_some_and (last_of route.path) (λ y. not (is_plain p b.dir y))) it (route-passes p (path_end_is_not_plain p) r route (rules.c2 r (slice_get_within p.routes r route it.known)) it.known)) k x at last;
   points = λ r route source it k before x at also is_point.
       let Next : ℕ → Type 0 = λ n. is_listed_towards p route.points (before ∷ take 1 (drop n route.path)) x ≡ true in
       let next : suc k ≡ k + 1 = omega arith in
@@ -110,10 +114,30 @@ part-fails p i h = of_route (slice_get p.routes i) h
     of_route None h = refl
     of_route (Some route) h = first (path_points_are_set p route) _ h
 
+-- C2 asks more than its part on the end
+end-fails : (p : PlantLists) (i : ℕ) → route_fails p (path_ends_at_board p) i ≡ false → route_fails p (path_end_is_not_plain p) i ≡ false
+end-fails p i h = of_route (slice_get p.routes i) h
+  where
+    of_last : (d : Dir) (destination : Option ℕ) (o : Option ℕ) → is_some_and o (ends_path p d destination) ≡ true → is_some_and o (λ y. not (is_plain p d y)) ≡ true
+    of_last d destination None h = h
+    of_last d destination (Some x) h = ap not (end-not_plain p d destination x h)
+
+    of_source : (destination : Option ℕ) (path : List ℕ) (o : Option Board) → is_some_and o (λ b. is_between_boards p b.dir destination path) ≡ true → is_some_and o (λ b. is_some_and (last_of path) (λ y. not (is_plain p b.dir y))) ≡ true
+    of_source destination path None h = h
+    of_source destination path (Some b) h = of_last b.dir destination (last_of path) (and_parts _ (is_some_and (last_of path) (ends_path p b.dir destination)) h).1
+
+    passes : (a b : Bool) → (a ≡ true → b ≡ true) → not a ≡ false → not b ≡ false
+    passes true b leads h = ap not (leads refl)
+    passes false b leads h = cc
+
+    of_route : (o : Option Route) → is_some_and o (λ route. not (path_ends_at_board p route)) ≡ false → is_some_and o (λ route. not (path_end_is_not_plain p route)) ≡ false
+    of_route None h = refl
+    of_route (Some route) h = passes (path_ends_at_board p route) (path_end_is_not_plain p route) (of_source route.destination route.path (slice_get p.boards route.source)) h
+
 pub rules-from_list : (p : PlantLists) → column_rules_broken p ≡ [] → KeepsPathRules p
 rules-from_list p e = record {
   c1 = rule-kept C1 (length p.routes) (breaks_columns p C1) (of_rule 0 C1 refl);
-  c2 = rule-kept C2 (length p.routes) (breaks_columns p C2) (of_rule 1 C2 refl);
+  c2 = λ i less. end-fails p i (rule-kept C2 (length p.routes) (breaks_columns p C2) (of_rule 1 C2 refl) i less);
   c3 = λ i less. part-fails p i (rule-kept C3 (length p.routes) (breaks_columns p C3) (of_rule 2 C3 refl) i less);
   c7 = rule-kept C7 (length p.sections) (breaks_columns p C7) (of_rule 6 C7 refl);
 }

@@ -11,8 +11,10 @@ ghost use Rattle.ilk_strict.specs.IsStrict.{IsStrict, KeepsPathRules};
 
 use ilk_plant::Plant;
 
-/// A table is strict where C1, C2, C3 in its part on the path, and C7 are broken at no place,
-/// whatever it breaks of the other rules of the columns. It does nothing, and tells a proof.
+/// A table is strict where C1, C2 in its part on the end of a path, C3 in its part on the path, and C7
+/// are broken at no place, whatever it breaks of the other rules of the columns: C4, C5, C6, C8, what C2
+/// asks of destinations and of boards inside a path, and what C3 asks of overlaps. It does nothing, and
+/// tells a proof.
 #[tactic(auto, using(crate::proofs::Strict::strict_from_rules))]
 pub fn kept_is_strict(plant: &Plant)
     requires { KeepsPathRules plant.now }
@@ -36,4 +38,15 @@ pub fn strict_is_safe(plant: &Plant)
     ensures runs { (events : List Event) (t : State) → run plant.now (start plant.now) events ≡ Some t → Meets plant.now t }
 {
     plant.is_sound();
+}
+
+/// A table that breaks no more of the rules of the columns than that is safe: each run from the start,
+/// of whatever length, ends in a state that meets the invariant. It does nothing, and tells a proof.
+pub fn kept_is_safe(plant: &Plant)
+    requires { KeepsPathRules plant.now }
+    ensures { (events : List Event) (t : State) → run plant.now (start plant.now) events ≡ Some t
+        → Meets plant.now t }
+{
+    kept_is_strict(plant);
+    strict_is_safe(plant);
 }

@@ -1,4 +1,5 @@
-//! Strict tables are safe: where C1, C2, C3 in its part on the path, and C7 are broken at no place,
+//! Strict tables are safe: where C1, C2 in its part on the end of a path, C3 in its part on the path, and
+//! C7 are broken at no place,
 //! the start meets the invariant, and an event leads from a state that meets it only to states that
 //! meet it.
 //!
@@ -16,5 +17,5 @@
 mod laws;
 mod steps;
 
-pub use laws::{clean_is_strict, kept_is_strict, strict_is_safe};
+pub use laws::{clean_is_strict, kept_is_safe, kept_is_strict, strict_is_safe};
 pub use steps::{advance, begin};

@@ -21,19 +21,14 @@ pub fn begin(alloc: Global, plant: &Plant) -> Result<State, AllocError>
 /// exactly where it is; on false and for want of memory the state is as it was. The state meets the
 /// invariant afterwards.
 #[tactic(auto, using(crate::proofs::Invariant::advanced_meets))]
-pub fn advance(
-    alloc: Global,
-    plant: &Plant,
-    s: &mut State,
-    event: Event,
-) -> Result<bool, AllocError>
+pub fn advance(alloc: Global, plant: &Plant, s: &mut State, e: Event) -> Result<bool, AllocError>
     requires strict { IsStrict plant.now }
     requires meets { Meets plant.now s.old }
-    ensures answer { IfOk result (λ enabled. enabled ≡ is_some (next plant.now s.old event)) }
-    ensures next { OnOk result (s.new ≡ unwrap_or (next plant.now s.old event) s.old) }
+    ensures answer { IfOk result (λ enabled. enabled ≡ is_some (next plant.now s.old e)) }
+    ensures next { OnOk result (s.new ≡ unwrap_or (next plant.now s.old e) s.old) }
     ensures err { OnErr result (s.new ≡ s.old) }
     ensures meets { Meets plant.now s.new }
 {
     plant.is_sound();
-    apply(alloc, plant, s, event)
+    apply(alloc, plant, s, e)
 }

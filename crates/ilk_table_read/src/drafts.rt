@@ -6,7 +6,6 @@ ghost use Rattle.ilk_plant.specs.Limits.{HasLimits};
 ghost use Rattle.ilk_table_read.specs.Table.{drafts_of};
 
 use crate::table::read_table;
-use ilk_json::Scratch;
 use ilk_net_read::{FormError, read_network, read_value};
 use ilk_plant::{NetDraft, TableDraft};
 use std::alloc::Global;
@@ -18,9 +17,7 @@ pub fn read_drafts(alloc: Global, bytes: &[u8]) -> Result<(NetDraft, TableDraft)
     ensures exact { Gives result (drafts_of bytes.now) }
     ensures limits { IfOk result (λ drafts. HasLimits drafts.0 drafts.1) }
 {
-    let mut scratch = Scratch::new(alloc);
-    let text = read_value(alloc, bytes, &mut scratch)?;
-    let value = text.root();
+    let value = read_value(alloc, bytes)?;
     let net = read_network(alloc, &value)?;
     let table = read_table(alloc, &value)?;
     Ok((net, table))

@@ -1,9 +1,8 @@
 //! The routes.
 
-ghost use Rattle.std.specs.Prelude.{◌≡◌, ◌<◌, ◌&&◌, codes, nat_le, true, IfOk};
+ghost use Rattle.std.specs.Prelude.{◌≡◌, ◌&&◌, codes, nat_le, true, IfOk};
 ghost use Rattle.std.specs.List.{list_all};
-ghost use Rattle.ilk_json.specs.Data.{data_of};
-ghost use Rattle.ilk_json.specs.declared.members.TheConstants.{MAX_MEMBERS};
+ghost use Rattle.serde_json.specs.View.{view};
 ghost use Rattle.ilk_plant.specs.Limits.{route_has_limits, route_has_names};
 ghost use Rattle.ilk_plant.specs.Name as name;
 ghost use Rattle.ilk_net_read.specs.Fault.{Gives, Reads};
@@ -12,15 +11,15 @@ ghost use Rattle.ilk_table_read.specs.Route as spec;
 ghost use Rattle.ilk_table_read.specs.Table as table;
 
 use crate::listed::points_at;
-use ilk_json::Json;
 use ilk_net_read::{
-    Form, FormError, KindError, Place, Version, broken, is_name, is_name_if_given, lies_within,
-    optional_text_at, text_at, texts_at,
+    Form, FormError, KindError, Place, Version, broken, has_members, is_name, is_name_if_given,
+    lies_within, optional_text_at, text_at, texts_at,
 };
 use ilk_plant::{
     ListedDraft, MAX_CONFLICTS, MAX_OVERLAP, MAX_PATH, MAX_POINTS, MAX_PROTECTING_BOARDS,
     MAX_PROTECTING_POINTS, RouteDraft, Row, Text,
 };
+use serde_json::Value;
 use std::alloc::Global;
 
 /// How many members a route has in version 1.
@@ -30,8 +29,7 @@ pub(crate) const MEMBERS_IN_FIRST: usize = 7;
 pub(crate) const MEMBERS_IN_SECOND: usize = 9;
 
 fn route_members(version: Version) -> usize
-    ensures members { result ≡ spec.route_members version }
-    ensures few { result < MAX_MEMBERS }
+    ensures { result ≡ spec.route_members version }
 {
     match version {
         Version::First => MEMBERS_IN_FIRST,
@@ -42,10 +40,10 @@ fn route_members(version: Version) -> usize
 fn protecting_points(
     alloc: Global,
     version: Version,
-    value: &Json<'_, '_>,
+    value: &Value,
 ) -> Result<Row<ListedDraft>, KindError>
     ensures { Reads result
-        (spec.since_second version (spec.points_at (codes "protecting_points") (data_of value.now))) }
+        (spec.since_second version (spec.points_at (codes "protecting_points") (view value.now))) }
 {
     match version {
         Version::First => Ok(Row::new(alloc)),
@@ -53,13 +51,9 @@ fn protecting_points(
     }
 }
 
-fn protecting_boards(
-    alloc: Global,
-    version: Version,
-    value: &Json<'_, '_>,
-) -> Result<Row<Text>, KindError>
+fn protecting_boards(alloc: Global, version: Version, value: &Value) -> Result<Row<Text>, KindError>
     ensures { Reads result
-        (spec.since_second version (member.texts_at (codes "protecting_boards") (data_of value.now))) }
+        (spec.since_second version (member.texts_at (codes "protecting_boards") (view value.now))) }
 {
     match version {
         Version::First => Ok(Row::new(alloc)),
@@ -67,8 +61,8 @@ fn protecting_boards(
     }
 }
 
-fn route(alloc: Global, version: Version, value: &Json<'_, '_>) -> Result<RouteDraft, KindError>
-    ensures { Reads result (spec.as_route version (data_of value.now)) }
+fn route(alloc: Global, version: Version, value: &Value) -> Result<RouteDraft, KindError>
+    ensures { Reads result (spec.as_route version (view value.now)) }
 {
     let name = text_at(alloc, value, "name")?;
     let source = text_at(alloc, value, "source")?;
@@ -79,7 +73,7 @@ fn route(alloc: Global, version: Version, value: &Json<'_, '_>) -> Result<RouteD
     let conflicts = texts_at(alloc, value, "conflicts")?;
     let protecting_points = protecting_points(alloc, version, value)?;
     let protecting_boards = protecting_boards(alloc, version, value)?;
-    if !value.has_members(route_members(version)) {
+    if !has_members(value, route_members(version)) {
         return Err(KindError::WrongKind);
     }
     Ok(RouteDraft {
@@ -137,9 +131,9 @@ pub(crate) fn route_of(
     alloc: Global,
     version: Version,
     number: u32,
-    value: &Json<'_, '_>,
+    value: &Value,
 ) -> Result<RouteDraft, FormError>
-    ensures exact { Gives result (table.route_of version number (data_of value.now)) }
+    ensures exact { Gives result (table.route_of version number (view value.now)) }
     ensures limits { IfOk result (λ draft. route_has_limits draft ≡ true) }
     ensures named { IfOk result (λ draft. route_has_names draft ≡ true) }
 {

@@ -81,7 +81,7 @@ fn route_of_way(
     Ok(Route {
         source: way.source,
         destination: destination_of(plant, way),
-        path: way.path.copy(alloc)?,
+        path: way.path.copy()?,
         overlap: Row::new(alloc),
         points: points_along(alloc, plant, way.from.section, way.path.as_slice())?,
         conflicts: conflicts_flagged(alloc, flags, n, way.path.as_slice())?,

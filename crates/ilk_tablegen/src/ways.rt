@@ -46,7 +46,7 @@ fn is_ended(plant: &Plant, way: &Way) -> bool
 fn way_over(alloc: Global, way: &Way, y: u32) -> Result<Way, AllocError>
     ensures { IfOk result (λ made. made ≡ way_over way.now y) }
 {
-    let mut path = way.path.copy(alloc)?;
+    let mut path = way.path.copy()?;
     path.push(y)?;
     Ok(Way {
         source: way.source,
@@ -84,7 +84,7 @@ fn push_longer(
         made.push(Way {
             source: way.source,
             from: way.from,
-            path: way.path.copy(alloc)?,
+            path: way.path.copy()?,
         })
     } else {
         let x = head_of(way);

@@ -1,23 +1,30 @@
 -- Copies of a system's values: exactly one assignment for each list of value lists in range, and their literals say these.
-use Rattle.std.proofs.Common.{◌≡◌, ℕ, ◌<◌, ◌≤◌, zero, suc, Bool, true, List, [], ◌∷◌, ◌++◌, length, get_or, slice_get, Some, refl, sym, ap, ◌∙◌, subst, arith, append_assoc}
+use Rattle.std.proofs.Common.{◌≡◌, ℕ, ◌+◌, ◌*◌, ◌<◌, ◌≤◌, zero, suc, Bool, true, List, [], ◌∷◌, ◌++◌, length, get_or, slice_get, Some, refl, sym, ap, ◌∙◌, subst, arith, append_assoc}
 use Rattle.std.specs.List.{list_all}
+use Rattle.std.specs.Prelude.{sum}
 use Rattle.std.proofs.lemmas.List.{append-nil}
 use Rattle.std.proofs.lemmas.List.Folds.{list_all-append}
 use Rattle.std.proofs.lemmas.Bool.{and_from, and_parts}
+use Rattle.std.proofs.Math.Bool.{and_comm}
+use Rattle.std.proofs.Math.Nat.{suc-mul}
 use Rattle.std.proofs.lemmas.Option.{same_Some}
 use Rattle.ilk_base.proofs.Tested.{list_all-slice_get}
-use Rattle.ilk_cnf.specs.Formula.{Formula, clause_in, clauses_in}
+use Rattle.ilk_cnf.specs.Literal.{Literal}
+use Rattle.ilk_cnf.specs.Formula.{Formula, grown, clause_in, clauses_in}
+use Rattle.ilk_cnf.specs.Truth.{some_true, satisfies}
 use Rattle.ilk_cnf.specs.Extends.{Extends, Only, Then}
-use Rattle.ilk_cnf.specs.Part.{Part, with_part}
+use Rattle.ilk_cnf.specs.Part.{Part, as_clauses}
 use Rattle.ilk_cnf.proofs.Literals.{clauses_in-more}
 use Rattle.ilk_cnf.proofs.Parts.{in_turn, in_words}
 use Rattle.ilk_cnf.proofs.Extending.{no_more_if, only_from_if}
-use Rattle.ilk_cnf.proofs.Gates.{with_part-and_then}
+use Rattle.ilk_cnf.proofs.Gates.{grown_more}
 use Rattle.ilk_ir.specs.System.{in_ranges}
 use Rattle.ilk_ir.specs.Tree.{Tree, tree_valid}
 use Rattle.ilk_copy.specs.declared.copy.Column.{Column}
-use Rattle.ilk_copy.specs.Copy.{copy_part, copy_bits, IsCopy, LiteralsSay}
+use Rattle.ilk_copy.specs.Copy.{copy_part, copy_width, copy_bits, IsCopy, LiteralsSay}
 use Rattle.ilk_copy.proofs.CopyLaw.{ranges_fit, copy-low, copy-in, copy-law}
+use Rattle.ilk_copy.proofs.CopyFew.{copy-few}
+use Rattle.ilk_copy.proofs.CopyWidth.{copy-end}
 use Rattle.ilk_copy.proofs.CopySays.{copy-say}
 use Rattle.ilk_forms.specs.Leaf.{columns_in, ranges_of}
 use Rattle.ilk_forms.proofs.Reading.{columns_in-more}
@@ -39,7 +46,7 @@ copies-in zero ranges n fit = refl
 copies-in (suc count) ranges n fit =
     let later = (copies_part ranges count n).part in
     let p = (copy_part ranges later.vars).part in
-    list_all-append (clause_in p.vars) later.clauses p.clauses ∙ and_from _ _ (clauses_in-more later.vars p.vars later.clauses (copy-low ranges later.vars) (copies-in count ranges n fit)) (copy-in ranges later.vars fit)
+    list_all-append (clause_in p.vars) p.clauses later.clauses ∙ and_from _ _ (copy-in ranges later.vars fit) (clauses_in-more later.vars p.vars later.clauses (copy-low ranges later.vars) (copies-in count ranges n fit))
 
 pub tables_in-more : (m n : ℕ) (tables : List (List Column)) → m ≤ n → tables_in m tables ≡ true → tables_in n tables ≡ true
 tables_in-more m n [] le h = refl
@@ -75,6 +82,17 @@ all_in_ranges ranges run = list_all (λ values. in_ranges values ranges) run
 abbrev pub AreCopies : ℕ → List ℕ → List Bool → Type 0
 AreCopies count ranges b = (run : List (List ℕ)) × (length run ≡ count) × (all_in_ranges ranges run ≡ true) × (b ≡ copies_bits ranges run)
 
+-- the order of clauses changes nothing
+satisfies-order : (a : List Bool) (cs ds : List (List Literal)) → satisfies a (cs ++ ds) ≡ satisfies a (ds ++ cs)
+satisfies-order a cs ds = list_all-append (some_true a) cs ds ∙ and_comm (satisfies a cs) (satisfies a ds) ∙ sym (list_all-append (some_true a) ds cs)
+
+in_order : (a : List Bool) (m : ℕ) (cs ds : List (List Literal)) (E : List Bool → Type 0) → Extends a m (cs ++ ds) E → Extends a m (ds ++ cs) E
+in_order a m cs ds E h = record {
+  sized = h.sized;
+  does = λ b e. satisfies-order (a ++ b) ds cs ∙ h.does b e;
+  only = λ b long met. h.only b long (satisfies-order (a ++ b) cs ds ∙ met);
+}
+
 pub copies-law : (count : ℕ) (ranges : List ℕ) (a : List Bool) (n : ℕ) → length a ≡ n → ranges_fit ranges ≡ true → Extends a (copies_part ranges count n).part.vars (copies_part ranges count n).part.clauses (AreCopies count ranges)
 copies-law zero ranges a n size fit = in_words a n [] (Only []) (AreCopies zero ranges) (λ b h. ([], refl, refl, h)) (λ b h. none b h.0 h.1 h.3) (only_from_if a n [] [] (no_more_if a n [] true size refl))
   where
@@ -83,7 +101,7 @@ copies-law zero ranges a n size fit = in_words a n [] (Only []) (AreCopies zero 
     none b (values ∷ run) h e = absurd (omega arith)
 copies-law (suc count) ranges a n size fit =
     let first = copies-law count ranges a n size fit in
-    in_words a (copies_part ranges (suc count) n).part.vars (copies_part ranges (suc count) n).part.clauses _ (AreCopies (suc count) ranges) to (λ b h. split b h.0 h.1 h.2 h.3) (in_turn a later.vars one.vars later.clauses one.clauses (AreCopies count ranges) (λ b _. IsCopy ranges) (omega (arith, size, copies-low count ranges n)) (copy-low ranges later.vars) (copies-in count ranges n fit) first (λ b h. copy-law ranges (a ++ b) later.vars (first.sized b h) fit))
+    in_words a (copies_part ranges (suc count) n).part.vars (copies_part ranges (suc count) n).part.clauses _ (AreCopies (suc count) ranges) to (λ b h. split b h.0 h.1 h.2 h.3) (in_order a one.vars later.clauses one.clauses _ (in_turn a later.vars one.vars later.clauses one.clauses (AreCopies count ranges) (λ b _. IsCopy ranges) (omega (arith, size, copies-low count ranges n)) (copy-low ranges later.vars) (copies-in count ranges n fit) first (λ b h. copy-law ranges (a ++ b) later.vars (first.sized b h) fit)))
   where
     later : Part
     later = (copies_part ranges count n).part
@@ -161,13 +179,42 @@ table-at (table ∷ tables) [] a n ranges j h less = absurd h
 table-at (table ∷ tables) (values ∷ run) a n ranges zero h less = (h.0, refl)
 table-at (table ∷ tables) (values ∷ run) a n ranges (suc j) h less = table-at tables run a n ranges j h.1 (omega arith)
 
--- one copy more
-pub copies-step : (f g h : Formula) (ranges : List ℕ) (tables : List (List Column)) (table : List Column) (i : ℕ) → tables ≡ (copies_part ranges i f.vars).tables → g ≡ with_part f (copies_part ranges i f.vars).part → table ≡ (copy_part ranges g.vars).columns → h ≡ with_part g (copy_part ranges g.vars).part → (table ∷ tables ≡ (copies_part ranges (suc i) f.vars).tables) × (h ≡ with_part f (copies_part ranges (suc i) f.vars).part)
-copies-step f g h ranges tables table i seen made is more =
-    let later = (copies_part ranges i f.vars).part in
-    let vars : g.vars ≡ later.vars = ap (λ (k : Formula). k.vars) made in (
-      ap (λ (t : List Column). t ∷ tables) (is ∙ ap (λ (k : ℕ). (copy_part ranges k).columns) vars) ∙ ap (λ (ts : List (List Column)). (copy_part ranges later.vars).columns ∷ ts) seen,
-      more ∙ ap (λ (k : Formula). with_part k (copy_part ranges k.vars).part) made ∙ with_part-and_then f later (λ m. (copy_part ranges m).part),
+-- one more of so many
+pub one-more : (i w : ℕ) → (i + 1) * w ≡ i * w + w
+one-more i w = (let is : i + 1 ≡ suc i = omega arith in ap (λ (k : ℕ). k * w) is ∙ suc-mul i w)
+
+-- where the copies end
+pub copies-end : (count : ℕ) (ranges : List ℕ) (n : ℕ) → (copies_part ranges count n).part.vars ≡ n + count * copy_width ranges
+copies-end zero ranges n = omega arith
+copies-end (suc count) ranges n =
+    let w = copy_width ranges in
+    let later = copies-end count ranges n in
+    let one = copy-end ranges (copies_part ranges count n).part.vars in
+    let more : suc count * w ≡ count * w + w = suc-mul count w in
+    omega (arith, later, one, more)
+
+-- at most two variables for each value
+pub copies-few : (count : ℕ) (ranges : List ℕ) (n : ℕ) → (copies_part ranges count n).part.vars ≤ n + 2 * (count * sum ranges)
+copies-few zero ranges n = omega arith
+copies-few (suc count) ranges n =
+    let later = copies-few count ranges n in
+    let one = copy-few ranges (copies_part ranges count n).part.vars in
+    let more : suc count * sum ranges ≡ count * sum ranges + sum ranges = suc-mul count (sum ranges) in
+    omega (arith, later, one, more)
+
+-- the clauses of one copy more
+pub copies-step : (f g : Formula) (ranges : List ℕ) (tables whole : List (List Column)) (table : List Column) (i rest before : ℕ) → rest ≡ suc i → before ≡ i * copy_width ranges → tables ++ (copies_part ranges rest 0).tables ≡ whole → table ≡ (copy_part ranges before).columns → g ≡ grown f f.vars (as_clauses (copy_part ranges before).part.clauses) → ((tables ++ table ∷ []) ++ (copies_part ranges i 0).tables ≡ whole) × (grown g g.vars (as_clauses (copies_part ranges i 0).part.clauses) ≡ grown f f.vars (as_clauses (copies_part ranges rest 0).part.clauses))
+copies-step f g ranges tables whole table i rest before left begins seen is made =
+    let later = copies_part ranges i 0 in
+    let at : before ≡ later.part.vars = omega (arith, begins, copies-end i ranges 0) in
+    let one = copy_part ranges later.part.vars in
+    let here : g ≡ grown f f.vars (as_clauses one.part.clauses) = made ∙ ap (λ (k : ℕ). grown f f.vars (as_clauses (copy_part ranges k).part.clauses)) at in (
+      append_assoc tables (table ∷ []) later.tables
+          ∙ ap (λ (t : List Column). tables ++ t ∷ later.tables) (is ∙ ap (λ (k : ℕ). (copy_part ranges k).columns) at)
+          ∙ ap (λ (k : ℕ). tables ++ (copies_part ranges k 0).tables) (sym left)
+          ∙ seen,
+      grown_more f g (grown g g.vars (as_clauses later.part.clauses)) one.part.clauses later.part.clauses here refl
+          ∙ ap (λ (k : ℕ). grown f f.vars (as_clauses (copies_part ranges k 0).part.clauses)) (sym left),
     )
 
 -- a copy of the list, by its number

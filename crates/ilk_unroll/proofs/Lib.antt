@@ -2,9 +2,5 @@ pub mod CopiesLaw
 pub mod StepsLaw
 pub mod DemandsLaw
 pub mod Runs
-pub mod CarriedLaw
-pub mod FittingLaw
-pub mod EndLaw
-pub mod LongLaw
 pub mod QueryLaw
 pub mod ReadBack

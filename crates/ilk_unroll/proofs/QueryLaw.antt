@@ -1,15 +1,14 @@
 -- The satisfying assignments of a query's formula are exactly those of the runs that it asks for.
-use Rattle.std.proofs.Common.{◌≡◌, ℕ, ◌+◌, ◌<◌, ◌≤◌, suc, Bool, true, ◌&&◌, List, [], ◌∷◌, ◌++◌, length, eqb, unwrap_or, Option, Some, refl, sym, ap, ◌∙◌, subst, arith, append_assoc}
+use Rattle.std.proofs.Common.{◌≡◌, ℕ, ◌+◌, ◌*◌, ◌<◌, ◌≤◌, suc, Bool, true, ◌&&◌, List, [], ◌∷◌, ◌++◌, length, eqb, unwrap_or, Option, Some, refl, sym, ap, ◌∙◌, subst, arith, append_assoc}
 use Rattle.std.specs.List.{list_all}
-use Rattle.std.specs.Prelude.{nat_lt}
+use Rattle.std.proofs.Math.Nat.{suc-mul}
 use Rattle.std.proofs.lemmas.Bool.{and_from, and_parts, eqb-true, eq-eqb, leb-true}
-use Rattle.std.proofs.lemmas.List.{append-nil}
 use Rattle.ilk_base.specs.Option.{is_some_and}
 use Rattle.ilk_base.proofs.Options.{some-and}
 use Rattle.ilk_cnf.specs.Literal.{Literal}
-use Rattle.ilk_cnf.specs.Formula.{Formula}
+use Rattle.ilk_cnf.specs.Formula.{Formula, grown, with_vars}
 use Rattle.ilk_cnf.specs.Extends.{Extends, OnlyIf, Then}
-use Rattle.ilk_cnf.specs.Part.{Part, with_part, and_then}
+use Rattle.ilk_cnf.specs.Part.{Part, with_part, as_clauses, and_then}
 use Rattle.ilk_cnf.specs.Truth.{satisfies}
 use Rattle.ilk_cnf.proofs.Parts.{in_turn, in_words}
 use Rattle.ilk_cnf.proofs.Extending.{extends-as_clauses}
@@ -17,23 +16,18 @@ use Rattle.ilk_cnf.proofs.Gates.{with_part-and_then}
 use Rattle.ilk_ir.specs.Tree.{Tree, tree_valid}
 use Rattle.ilk_ir.specs.System.{RuleTree, SystemTree, rule_valid, system_valid, in_ranges}
 use Rattle.ilk_copy.specs.declared.copy.Column.{Column}
-use Rattle.ilk_copy.specs.Copy.{HaveBits, numbers_part, copy_part, total_bits, numbers_bits, columns_bits, copy_bits}
+use Rattle.ilk_copy.specs.Copy.{HaveBits, numbers_part, copy_width, total_bits, numbers_bits, columns_bits, copy_bits}
 use Rattle.ilk_copy.proofs.CopyLaw.{ranges_fit, HaveBits-new, columns-low, numbers-end}
 use Rattle.ilk_step.specs.declared.choice.Choice.{Choice}
 use Rattle.ilk_forms.proofs.DemandLaw.{PartFits}
-use Rattle.ilk_forms.specs.declared.pairs.Pair.{Pair}
-use Rattle.ilk_forms.proofs.PairsLaw.{Has}
-use Rattle.ilk_step.specs.Carry.{carried_pairs, carry_part}
 use Rattle.ilk_unroll.specs.declared.queries.Wanted.{Wanted}
 use Rattle.ilk_unroll.specs.declared.queries.Wanted.TheVariants.{Hazard, Breach, Step}
 use Rattle.ilk_unroll.specs.Goal.{GoalTree, Demanded, goal_valid, wanted_valid, step_count, demanded}
 use Rattle.ilk_unroll.specs.Run.{run_from, met_by, is_wanted_run}
-use Rattle.ilk_unroll.specs.Query.{CopyTables, copies_part, steps_part, demands_part, carried, query_part, query_formula}
-use Rattle.ilk_unroll.proofs.LongLaw.{steps-long}
-use Rattle.ilk_unroll.proofs.CarriedLaw.{implied, has-new, FirstChosen, first-chosen, carried-law}
+use Rattle.ilk_unroll.specs.Query.{CopyTables, copies_part, steps_part, demands_part, query_part, query_formula}
 use Rattle.ilk_unroll.specs.Assignment.{copies_bits, steps_bits, demands_bits, run_bits, run_assignment, IsWantedRun}
 use Rattle.ilk_unroll.specs.Tables.{tables_in, valid_in, HaveRanges, step_choices, AllChosen}
-use Rattle.ilk_unroll.proofs.CopiesLaw.{copies-in, copies-step, copies-tables_in, copies-ranges, copies-many, all_in_ranges, AreCopies, copies-law, TablesSay, copies-say, tables_say-more, tables_in-more, valid_in-from}
+use Rattle.ilk_unroll.proofs.CopiesLaw.{copies-in, copies-end, copies-tables_in, copies-ranges, copies-many, all_in_ranges, AreCopies, copies-law, TablesSay, copies-say, tables_say-more, tables_in-more, valid_in-from}
 use Rattle.ilk_unroll.proofs.StepsLaw.{Joined, AreSteps, steps-fits, steps-law, steps-say}
 use Rattle.ilk_unroll.proofs.DemandsLaw.{demanded_valid, demands-fits, demands-law, demanded-valid}
 use Rattle.ilk_unroll.proofs.Runs.{run-is, joined-run, joined-many}
@@ -85,14 +79,8 @@ query-law s g q valid fit goal_ok =
     t : Part
     t = steps_part s.rules c.tables m
 
-    dem : Part
-    dem = demands_part c.tables ds t.vars
-
-    ps : List Pair
-    ps = carried ranges g q t.vars
-
     d : Part
-    d = and_then dem (carry_part s.rules (m + 1) ps)
+    d = demands_part c.tables ds t.vars
 
     inside : tables_in m c.tables ≡ true
     inside = copies-tables_in count ranges 0 fit
@@ -109,7 +97,7 @@ query-law s g q valid fit goal_ok =
     ds_valid : list_all (demanded_valid ranges (length c.tables)) ds ≡ true
     ds_valid = ap (λ (k : ℕ). list_all (demanded_valid ranges k) ds) (copies-many count ranges 0) ∙ demanded-valid ranges g q goal_ok
 
-    demands_fit : PartFits t.vars dem
+    demands_fit : PartFits t.vars d
     demands_fit = demands-fits ds c.tables ranges t.vars more have ds_valid
 
     first : Extends [] m c.part.clauses (AreCopies count ranges)
@@ -118,23 +106,12 @@ query-law s g q valid fit goal_ok =
     inner : (b : List Bool) → AreCopies count ranges b → List Bool → Type 0
     inner b h = Then (AreSteps s.ranges s.rules h.0) (λ e _. OnlyIf (list_all (met_by h.0) ds) (demands_bits s.ranges h.0 ds))
 
-    chosen_first : (b e : List Bool) → (h : AreCopies count ranges b) → (k : AreSteps s.ranges s.rules h.0 e) → length b ≡ m → TablesSay b m ranges c.tables h.0 → FirstChosen ((b ++ e) ++ demands_bits s.ranges h.0 ds) (m + 1) (length s.rules) k.0
-    chosen_first b e h k long says =
-        let bits = demands_bits s.ranges h.0 ds in
-        let whole : b ++ (steps_bits ranges s.rules h.0 k.0 ++ bits) ≡ (b ++ e) ++ bits = ap (λ (u : List Bool). b ++ (u ++ bits)) (sym k.2) ∙ sym (append_assoc b e bits) in
-        first-chosen c.tables ((b ++ e) ++ bits) m s.rules k.0 (subst (λ (u : List Bool). AllChosen u (step_choices s.rules c.tables m) k.0) whole (steps-say c.tables h.0 k.0 b bits m ranges s.rules long says (rules-valid s valid) k.1))
-
-    has_bits : (b e : List Bool) (run : List (List ℕ)) → length (b ++ e) ≡ t.vars → Has ((b ++ e) ++ demands_bits s.ranges run ds) t.vars (demands_bits s.ranges run ds)
-    has_bits b e run size =
-        let bits = demands_bits s.ranges run ds in
-        subst (λ (u : List Bool). Has ((b ++ e) ++ u) t.vars bits) (append-nil bits) (has-new (b ++ e) bits [] t.vars size)
-
     part : (b : List Bool) → (h : AreCopies count ranges b) → Extends b d.vars (t.clauses ++ d.clauses) (inner b h)
     part b h =
         let long : length b ≡ m = first.sized b h in
         let says : TablesSay b m ranges c.tables h.0 = subst (λ (u : List Bool). TablesSay u m ranges c.tables h.0) (sym h.3) (copies-say count ranges h.0 [] 0 refl fit h.1 h.2) in
         let next = steps-law c.tables h.0 b m ranges s.rules long says (rules-valid s valid) in
-        in_turn b t.vars d.vars t.clauses d.clauses (AreSteps s.ranges s.rules h.0) (λ e _. OnlyIf (list_all (met_by h.0) ds) (demands_bits s.ranges h.0 ds)) (omega (arith, long, steps_fit.low)) demands_fit.low steps_fit.inside next (λ e k. implied (b ++ e) dem.vars dem.clauses (carried_pairs (m + 1) s.rules ps) (list_all (met_by h.0) ds) (demands_bits s.ranges h.0 ds) (demands-law ds c.tables h.0 ranges (b ++ e) t.vars (next.sized e k) more have (tables_say-more c.tables h.0 b e m t.vars ranges long steps_fit.low says) ds_valid) (λ met. carried-law s g q h.0 k.0 ((b ++ e) ++ demands_bits s.ranges h.0 ds) (m + 1) t.vars (rules-valid s valid) h.2 k.1 (chosen_first b e h k long says) h.1 (has_bits b e h.0 (next.sized e k))))
+        in_turn b t.vars d.vars t.clauses d.clauses (AreSteps s.ranges s.rules h.0) (λ e _. OnlyIf (list_all (met_by h.0) ds) (demands_bits s.ranges h.0 ds)) (omega (arith, long, steps_fit.low)) demands_fit.low steps_fit.inside next (λ e k. demands-law ds c.tables h.0 ranges (b ++ e) t.vars (next.sized e k) more have (tables_say-more c.tables h.0 b e m t.vars ranges long steps_fit.low says) ds_valid)
 
     a_run : (b : List Bool) (run : List (List ℕ)) (rules : List ℕ) → length run ≡ count → all_in_ranges ranges run ≡ true → Joined s.rules run rules → list_all (met_by run) ds ≡ true → b ≡ run_bits s g q run rules → IsWantedRun s g q b
     a_run b [] rules many h j met e = absurd (omega arith)
@@ -189,19 +166,26 @@ run-says s g q first rules valid fit w =
 
 -- the calls
 
-pub positive-ranges : (s : SystemTree) → system_valid s ≡ true → list_all (λ range. nat_lt 0 range) s.ranges ≡ true
-positive-ranges s valid = (and_parts _ _ (and_parts _ _ valid).0).1
-
 abbrev pub no_formula : Formula
 no_formula = record { vars = 0; clauses = [] }
 
--- copies in an empty formula: of what follows each step, and then of the first values
-pub copies_made : (ranges : List ℕ) (steps : ℕ) (f g h : Formula) (tables all : List (List Column)) (table : List Column) → f ≡ no_formula → tables ≡ (copies_part ranges steps f.vars).tables → g ≡ with_part f (copies_part ranges steps f.vars).part → table ≡ (copy_part ranges g.vars).columns → h ≡ with_part g (copy_part ranges g.vars).part → all ≡ table ∷ tables → (all ≡ (copies_part ranges (suc steps) 0).tables) × (h ≡ with_part no_formula (copies_part ranges (suc steps) 0).part)
-copies_made ranges steps f g h tables all table empty seen made is more joined =
-    let step = copies-step f g h ranges tables table steps seen made is more in (
-      joined ∙ step.0 ∙ ap (λ (k : Formula). (copies_part ranges (suc steps) k.vars).tables) empty,
-      step.1 ∙ ap (λ (k : Formula). with_part k (copies_part ranges (suc steps) k.vars).part) empty,
-    )
+-- copies in an empty formula, whose variables were taken before
+pub copies_made : (ranges : List ℕ) (steps count : ℕ) (f e d g : Formula) → f ≡ no_formula → e ≡ with_vars f (f.vars + steps * copy_width ranges) → d ≡ with_vars e (e.vars + copy_width ranges) → count ≡ suc steps → g ≡ grown d d.vars (as_clauses (copies_part ranges count 0).part.clauses) → g ≡ with_part no_formula (copies_part ranges (suc steps) 0).part
+copies_made ranges steps count f e d g empty later first many made =
+    let w = copy_width ranges in
+    let p = copies_part ranges (suc steps) 0 in
+    let more : suc steps * w ≡ steps * w + w = suc-mul steps w in
+    let none = ap (λ (k : Formula). k.vars) empty in
+    let all : d.vars ≡ p.part.vars = omega (arith, copies-end (suc steps) ranges 0, more, ap (λ (k : Formula). k.vars) first, ap (λ (k : Formula). k.vars) later, none) in
+    let clear : d.clauses ≡ [] = ap (λ (k : Formula). k.clauses) first ∙ ap (λ (k : Formula). k.clauses) later ∙ ap (λ (k : Formula). k.clauses) empty in
+    let is : d ≡ with_vars no_formula p.part.vars = ap (λ (n : ℕ). with_vars d n) all ∙ ap (λ (cs : List (List Literal)). let k : Formula = record { vars = p.part.vars; clauses = cs } in k) clear in
+    made
+    ∙ ap (λ (k : ℕ). grown d d.vars (as_clauses (copies_part ranges k 0).part.clauses)) many
+    ∙ ap (λ (k : Formula). grown k k.vars (as_clauses p.part.clauses)) is
+
+-- where the variables of the copies stand, which are taken before their clauses are added
+pub first_copies : (ranges : List ℕ) (steps before : ℕ) (f e : Formula) → f ≡ no_formula → e ≡ with_vars f (f.vars + steps * copy_width ranges) → before ≡ e.vars → before ≡ (copies_part ranges steps 0).part.vars
+first_copies ranges steps before f e empty later is = omega (arith, copies-end steps ranges 0, ap (λ (k : Formula). k.vars) later, ap (λ (k : Formula). k.vars) empty, is)
 
 pub unrolled_made : (ranges : List ℕ) (rules : List RuleTree) (steps : ℕ) (g h : Formula) (tables : List (List Column)) → tables ≡ (copies_part ranges (suc steps) 0).tables → g ≡ with_part no_formula (copies_part ranges (suc steps) 0).part → h ≡ with_part g (steps_part rules tables g.vars) → h ≡ with_part no_formula (and_then (copies_part ranges (suc steps) 0).part (steps_part rules (copies_part ranges (suc steps) 0).tables))
 unrolled_made ranges rules steps g h tables seen made last =
@@ -245,23 +229,11 @@ unrolled-reach s steps g h tables valid fit seen made last =
     omega arith
 
 -- the whole formula
-pub query_made : (s : SystemTree) (g : GoalTree) (q : Wanted) (steps : ℕ) (f h i : Formula) (tables : List (List Column)) (first : ℕ) → steps ≡ step_count q → tables ≡ (copies_part s.ranges (suc steps) 0).tables → f ≡ with_part no_formula (and_then (copies_part s.ranges (suc steps) 0).part (steps_part s.rules (copies_part s.ranges (suc steps) 0).tables)) → h ≡ with_part f (demands_part tables (demanded g q) f.vars) → first ≡ (copies_part s.ranges (suc steps) 0).part.vars + 1 → i ≡ with_part h (carry_part s.rules first (carried s.ranges g q f.vars) h.vars) → i ≡ query_formula s g q
-query_made s g q steps f h i tables first count seen made demands begins last =
-    last
-    ∙ ap (λ (k : ℕ). with_part h (carry_part s.rules k (carried s.ranges g q f.vars) h.vars)) begins
-    ∙ ap (λ (u : Formula). with_part u (carry_part s.rules (from steps) (carried s.ranges g q f.vars) u.vars)) (demands ∙ moved tables seen)
-    ∙ with_part-and_then f (demands_part (c steps).tables (demanded g q) f.vars) (carry_part s.rules (from steps) (carried s.ranges g q f.vars))
-    ∙ with_made made
-    ∙ by_count count
+pub query_made : (s : SystemTree) (g : GoalTree) (q : Wanted) (steps : ℕ) (f h : Formula) (tables : List (List Column)) → steps ≡ step_count q → tables ≡ (copies_part s.ranges (suc steps) 0).tables → f ≡ with_part no_formula (and_then (copies_part s.ranges (suc steps) 0).part (steps_part s.rules (copies_part s.ranges (suc steps) 0).tables)) → h ≡ with_part f (demands_part tables (demanded g q) f.vars) → h ≡ query_formula s g q
+query_made s g q steps f h tables count seen made last = last ∙ moved tables seen ∙ with_made made ∙ by_count count
   where
     c : ℕ → CopyTables
     c k = copies_part s.ranges (suc k) 0
-
-    from : ℕ → ℕ
-    from k = (c k).part.vars + 1
-
-    ends : ℕ → ℕ → Part
-    ends k n = and_then (demands_part (c k).tables (demanded g q) n) (carry_part s.rules (from k) (carried s.ranges g q n))
 
     moved : (ts : List (List Column)) → ts ≡ (c steps).tables → with_part f (demands_part ts (demanded g q) f.vars) ≡ with_part f (demands_part (c steps).tables (demanded g q) f.vars)
     moved ts e = ap (λ (us : List (List Column)). with_part f (demands_part us (demanded g q) f.vars)) e
@@ -269,14 +241,14 @@ query_made s g q steps f h i tables first count seen made demands begins last =
     p : Part
     p = and_then (c steps).part (steps_part s.rules (c steps).tables)
 
-    with_made : f ≡ with_part no_formula p → with_part f (ends steps f.vars) ≡ with_part no_formula (and_then (c steps).part (λ m. and_then (steps_part s.rules (c steps).tables m) (ends steps)))
+    with_made : f ≡ with_part no_formula p → with_part f (demands_part (c steps).tables (demanded g q) f.vars) ≡ with_part no_formula (and_then (c steps).part (λ m. and_then (steps_part s.rules (c steps).tables m) (demands_part (c steps).tables (demanded g q))))
     with_made e =
-        ap (λ (k : Formula). with_part k (ends steps k.vars)) e
-        ∙ with_part-and_then no_formula p (ends steps)
-        ∙ ap (λ (cs : List (List Literal)). with_part no_formula (record { vars = (ends steps p.vars).vars; clauses = cs })) (append_assoc (c steps).part.clauses (steps_part s.rules (c steps).tables (c steps).part.vars).clauses (ends steps p.vars).clauses)
+        ap (λ (k : Formula). with_part k (demands_part (c steps).tables (demanded g q) k.vars)) e
+        ∙ with_part-and_then no_formula p (demands_part (c steps).tables (demanded g q))
+        ∙ ap (λ (cs : List (List Literal)). with_part no_formula (record { vars = (demands_part (c steps).tables (demanded g q) p.vars).vars; clauses = cs })) (append_assoc (c steps).part.clauses (steps_part s.rules (c steps).tables (c steps).part.vars).clauses (demands_part (c steps).tables (demanded g q) p.vars).clauses)
 
-    by_count : steps ≡ step_count q → with_part no_formula (and_then (c steps).part (λ m. and_then (steps_part s.rules (c steps).tables m) (ends steps))) ≡ query_formula s g q
-    by_count e = ap (λ (k : ℕ). with_part no_formula (and_then (c k).part (λ m. and_then (steps_part s.rules (c k).tables m) (ends k)))) e
+    by_count : steps ≡ step_count q → with_part no_formula (and_then (c steps).part (λ m. and_then (steps_part s.rules (c steps).tables m) (demands_part (c steps).tables (demanded g q)))) ≡ query_formula s g q
+    by_count e = ap (λ (k : ℕ). with_part no_formula (and_then (c k).part (λ m. and_then (steps_part s.rules (c k).tables m) (demands_part (c k).tables (demanded g q))))) e
 
 -- the goal's forms over the copies
 pub forms-valid : (ranges : List ℕ) (tables : List (List Column)) (ts : List Tree) → HaveRanges ranges tables → list_all (tree_valid ranges) ts ≡ true → list_all (valid_in tables) ts ≡ true
@@ -312,25 +284,6 @@ query-reach s g q valid fit goal_ok =
     let three = steps_fit.low in
     let four = demands_fit.low in
     omega arith
-
--- in a formula of one step there is a variable for each rule
-pub rules-numbered : (s : SystemTree) (g : GoalTree) (q : Wanted) (steps : ℕ) (f h : Formula) (tables : List (List Column)) (first : ℕ) → system_valid s ≡ true → ranges_fit s.ranges ≡ true → goal_valid s.ranges g ≡ true → steps ≡ step_count q → tables ≡ (copies_part s.ranges (suc steps) 0).tables → f ≡ with_part no_formula (and_then (copies_part s.ranges (suc steps) 0).part (steps_part s.rules (copies_part s.ranges (suc steps) 0).tables)) → h ≡ with_part f (demands_part tables (demanded g q) f.vars) → first ≡ (copies_part s.ranges (suc steps) 0).part.vars + 1 → steps ≡ 1 → first + length s.rules ≤ h.vars + 1
-rules-numbered s g q steps f h tables first valid fit goal_ok count seen made demands begins one =
-    let ranges = s.ranges in
-    let k = suc steps in
-    let c = copies_part ranges k 0 in
-    let m = c.part.vars in
-    let t = steps_part s.rules c.tables m in
-    let inside = copies-tables_in k ranges 0 fit in
-    let have = copies-ranges k ranges 0 in
-    let steps_fit = steps-fits c.tables ranges s.rules m inside have (rules-valid s valid) in
-    let ds_valid = ap (λ (j : ℕ). list_all (demanded_valid ranges j) (demanded g q)) (copies-many k ranges 0 ∙ ap suc count) ∙ demanded-valid ranges g q goal_ok in
-    let demands_fit = demands-fits (demanded g q) c.tables ranges t.vars (tables_in-more m t.vars c.tables steps_fit.low inside) have ds_valid in
-    let low = demands_fit.low in
-    let vars : f.vars ≡ t.vars = ap (λ (u : Formula). u.vars) made in
-    let ends : h.vars ≡ (demands_part c.tables (demanded g q) t.vars).vars = ap (λ (u : Formula). u.vars) demands ∙ ap (λ (ts : List (List Column)). (demands_part ts (demanded g q) f.vars).vars) seen ∙ ap (λ (j : ℕ). (demands_part c.tables (demanded g q) j).vars) vars in
-    let long : m + length s.rules ≤ t.vars = subst (λ (j : ℕ). (copies_part ranges (suc j) 0).part.vars + length s.rules ≤ (steps_part s.rules (copies_part ranges (suc j) 0).tables (copies_part ranges (suc j) 0).part.vars).vars) (sym one) (steps-long ranges s.rules (copies_part ranges 2 0).part.vars) in
-    omega (arith, low, ends, long, begins)
 
 -- a satisfying assignment's run, and what tells it
 pub record ReadsAs (s : SystemTree) (g : GoalTree) (q : Wanted) (a : List Bool) (from : ℕ) (choices : List Choice) : Type 0 where

@@ -1,7 +1,6 @@
 pub mod Goal
 pub mod Run
 pub mod Query
-pub mod Reach
 pub mod Satisfied
 pub mod Assignment
 pub mod Tables

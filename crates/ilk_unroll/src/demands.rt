@@ -7,8 +7,8 @@ ghost use Rattle.ilk_unroll.specs.Goal.{holds_in, fails_in, holds_below, demande
 ghost use Rattle.ilk_unroll.specs.Query.{demands_part};
 ghost use Rattle.ilk_unroll.specs.Tables.{tables_in, valid_in};
 
-use crate::copies::Tables;
 use crate::queries::{Goal, Wanted};
+use crate::unroll::Tables;
 use ilk_cnf::Cnf;
 use ilk_forms::{demand, holds_or_some_fails, some_fails};
 use ilk_ir::{Form, Forms};

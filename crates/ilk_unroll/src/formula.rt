@@ -1,12 +1,11 @@
-ghost use Rattle.std.specs.Prelude.{◌≡◌, ℕ, List, Bool, length, OnOk, IfOk, IsTrue};
+ghost use Rattle.std.specs.Prelude.{◌≡◌, ◌≤◌, ◌*◌, ℕ, suc, List, Bool, length, sum, OnOk, IfOk, IsTrue};
 ghost use Rattle.ilk_cnf.specs.Truth.{satisfies};
 ghost use Rattle.ilk_ir.specs.System.{system_tree, system_valid};
-ghost use Rattle.ilk_unroll.specs.Goal.{goal_tree, goal_valid, wanted_valid};
+ghost use Rattle.ilk_unroll.specs.Goal.{goal_tree, goal_valid, wanted_valid, step_count};
 ghost use Rattle.ilk_unroll.specs.Run.{is_wanted_run};
-ghost use Rattle.ilk_unroll.specs.Query.{query_formula};
+ghost use Rattle.ilk_unroll.specs.Query.{copies_part, query_formula};
 ghost use Rattle.ilk_unroll.specs.Assignment.{run_assignment, IsWantedRun};
 
-use crate::carried::carry_families;
 use crate::demands::add_demands;
 use crate::queries::{Goal, Wanted};
 use crate::unroll::unroll;
@@ -14,8 +13,8 @@ use ilk_cnf::Cnf;
 use ilk_ir::System;
 use std::alloc::{AllocError, Global};
 
-/// The formula of a query: a copy of the system's values for the first and after each step, the
-/// steps, and what the query demands of them. Its satisfying assignments are exactly those of the
+/// The formula of a query: a copy of the system's values for the first and after each step, from the
+/// first on, the steps, and what the query demands of them. Its satisfying assignments are exactly those of the
 /// runs that the query asks for, one for each. Nothing is asked of what may follow the last step.
 /// The system is valid, the goal's forms are valid over its ranges, and the query has at most 16
 /// steps, and at least one where it is a step query.
@@ -25,6 +24,9 @@ pub fn query(alloc: Global, system: &System, goal: &Goal, q: Wanted) -> Result<C
     requires wanted { IsTrue (wanted_valid q) }
     ensures formula { IfOk result (λ cnf. cnf ≡ query_formula (system_tree system.now) (goal_tree goal.now) q) }
 
+    // The copies have at most two variables for each value of a variable.
+    ensures copies { OnOk result ((copies_part system.now.ranges (suc (step_count q)) 0).part.vars ≤ 2 * (suc (step_count q) * sum system.now.ranges)) }
+
     // An assignment that satisfies the formula is that of a run that the query asks for.
     ensures sound { OnOk result ((a : List Bool) → length a ≡ (query_formula (system_tree system.now) (goal_tree goal.now) q).vars → IsTrue (satisfies a (query_formula (system_tree system.now) (goal_tree goal.now) q).clauses) → IsWantedRun (system_tree system.now) (goal_tree goal.now) q a) }
 
@@ -33,8 +35,6 @@ pub fn query(alloc: Global, system: &System, goal: &Goal, q: Wanted) -> Result<C
 {
     let mut cnf = Cnf::new(alloc);
     let unrolled = unroll(alloc, &mut cnf, system, q.steps())?;
-    let begin = cnf.vars();
     add_demands(alloc, &mut cnf, &unrolled.tables, goal, q)?;
-    carry_families(alloc, &mut cnf, system, goal, q, unrolled.begin, begin)?;
     Ok(cnf)
 }

@@ -4,9 +4,10 @@
 //! family, or for one that begins anywhere and shows that the families aren't inductive. What it
 //! demands, and of which copy, is a table (`specs/Goal`), and which runs meet it is a test
 //! (`specs/Run`). The formula (`specs/Query`) has a copy of the system's values for each moment of
-//! the run, from the last on, then a step between each two, then the demands, and in a query of one
-//! step what the parts of the families carry over; each part is a function of its own arguments and
-//! of where it begins, and of nothing else.
+//! the run, then a step between each two, and then the demands; each part is a function of its own
+//! arguments and of where its variables begin, and of nothing else. The variables of the copies stand
+//! before all others, those of the last moment's first: a search that decides the lowest first goes
+//! back from the end of a run, where the hazard or the broken family is.
 //!
 //! `query` gives the formula. Its satisfying assignments are exactly those of the runs that the query
 //! asks for (`specs/Assignment`), so each run is one assignment and no variable is left open.
@@ -14,8 +15,6 @@
 //! copy, and the chosen rule of each step.
 #![tactic(auto)]
 
-mod carried;
-mod copies;
 mod demands;
 mod formula;
 mod queries;

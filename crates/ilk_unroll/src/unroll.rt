@@ -1,18 +1,21 @@
-ghost use Rattle.std.specs.Prelude.{◌≡◌, ◌+◌, ◌<◌, ◌≤◌, ◌^◌, suc, [], nat_lt, map, OnOk, IfOk, IsTrue};
+ghost use Rattle.std.specs.Prelude.{◌≡◌, ◌+◌, ◌*◌, ◌<◌, ◌≤◌, ◌^◌, suc, [], nat_lt, map, OnOk, IfOk, IsTrue};
 ghost use Rattle.std.specs.List.{list_all};
-ghost use Rattle.ilk_cnf.specs.Part.{with_part, and_then};
+ghost use Rattle.ilk_cnf.specs.Formula.{grown, with_vars};
+ghost use Rattle.ilk_cnf.specs.Part.{with_part, as_clauses, and_then};
 ghost use Rattle.ilk_ir.specs.System.{rule_tree, rule_valid, system_tree, system_valid};
-ghost use Rattle.ilk_copy.specs.Copy.{total_bits};
+ghost use Rattle.ilk_copy.specs.Copy.{total_bits, copy_width};
 ghost use Rattle.ilk_unroll.specs.Query.{copies_part, steps_part};
 ghost use Rattle.ilk_unroll.specs.Tables.{tables_in, HaveRanges, step_choices, choices_numbered};
 
-use crate::copies::Tables;
 use ilk_base::Row;
 use ilk_cnf::Cnf;
-use ilk_copy::add_copy;
+use ilk_copy::{Table, add_copy, take_copy};
 use ilk_ir::{Ranges, System};
 use ilk_step::{Choice, add_step};
 use std::alloc::{AllocError, Global};
+
+/// The literals of the copy of each moment, from the first on.
+pub type Tables = Row<Table>;
 
 /// For each step, the variables that say which rule is chosen.
 pub type Choices = Row<Choice>;
@@ -23,25 +26,38 @@ pub struct Unrolled {
     pub tables: Tables,
     /// The first variable of the first values' copy.
     pub first: u64,
-    /// The first variable of the steps.
-    pub begin: u64,
     pub choices: Choices,
 }
 
-// Adds so many copies of variables with these ranges, from the last on.
+// Adds the variables of so many copies, and no clause.
+fn take_copies(cnf: &mut Cnf, ranges: &Ranges, count: u32) -> Result<(), AllocError>
+    ensures { OnOk result (cnf.new ≡ with_vars cnf.old (cnf.old.vars + count * copy_width ranges.now)) }
+{
+    for _ in 0..count {
+        take_copy(cnf, ranges)?;
+    }
+    Ok(())
+}
+
+// Adds the clauses of so many copies, from the first moment's to the last's. A copy has `width`
+// variables, and those of the last moment's are the first.
 fn add_copies(
     alloc: Global,
     cnf: &mut Cnf,
     ranges: &Ranges,
+    width: u64,
     count: u32,
 ) -> Result<Tables, AllocError>
-    requires { IsTrue (list_all (λ range. nat_lt 0 range) ranges.now) }
-    ensures tables { IfOk result (λ tables. tables ≡ (copies_part ranges.now count cnf.old.vars).tables) }
-    ensures made { OnOk result (cnf.new ≡ with_part cnf.old (copies_part ranges.now count cnf.old.vars).part) }
+    requires width { width ≡ copy_width ranges.now }
+    requires there { cnf.old.vars ≡ count * copy_width ranges.now }
+    ensures tables { IfOk result (λ tables. tables ≡ (copies_part ranges.now count 0).tables) }
+    ensures made { OnOk result (cnf.new ≡ grown cnf.old cnf.old.vars (as_clauses (copies_part ranges.now count 0).part.clauses)) }
 {
     let mut tables = Tables::new(alloc);
+    let mut before = cnf.vars();
     for _ in 0..count {
-        tables.push_before(add_copy(alloc, cnf, ranges)?)?;
+        before -= width;
+        tables.push(add_copy(alloc, cnf, ranges, before)?)?;
     }
     Ok(tables)
 }
@@ -75,8 +91,9 @@ fn bytes_of(ranges: &[u8]) -> &[u8]
     ranges
 }
 
-/// Adds a copy for the values after each step, from the last on, then one for the first values, and
-/// then the steps. Where memory runs out the formula may have grown, and its owner drops it.
+/// Adds a copy for the first values and for those after each step, and then the steps. The variables
+/// of all copies stand before all others, those of the last moment's first. Where memory runs out the
+/// formula may have grown, and its owner drops it.
 pub fn unroll(
     alloc: Global,
     cnf: &mut Cnf,
@@ -88,7 +105,6 @@ pub fn unroll(
     requires valid { IsTrue (system_valid (system_tree system.now)) }
     ensures tables { IfOk result (λ unrolled. unrolled.tables ≡ (copies_part system.now.ranges (suc steps) 0).tables) }
     ensures first { IfOk result (λ unrolled. unrolled.first ≡ (copies_part system.now.ranges steps 0).part.vars + 1) }
-    ensures begin { IfOk result (λ unrolled. unrolled.begin ≡ (copies_part system.now.ranges (suc steps) 0).part.vars + 1) }
     ensures choices { IfOk result (λ unrolled. unrolled.choices ≡ step_choices (map rule_tree system.now.rules) (copies_part system.now.ranges (suc steps) 0).tables (copies_part system.now.ranges (suc steps) 0).part.vars) }
     ensures made { OnOk result (cnf.new ≡ with_part (record { vars = 0; clauses = [] }) (and_then (copies_part system.now.ranges (suc steps) 0).part (steps_part (map rule_tree system.now.rules) (copies_part system.now.ranges (suc steps) 0).tables))) }
     ensures within { IfOk result (λ unrolled. IsTrue (tables_in cnf.new.vars unrolled.tables)) }
@@ -98,16 +114,16 @@ pub fn unroll(
     ensures bytes { OnOk result (IsTrue (list_all (λ range. nat_lt range 256) system.now.ranges)) }
 {
     let _ranges = bytes_of(system.ranges.as_slice());
-    let mut tables = add_copies(alloc, cnf, &system.ranges, steps)?;
-    let first = cnf.vars() + 1;
-    tables.push_before(add_copy(alloc, cnf, &system.ranges)?)?;
-    let begin = cnf.vars() + 1;
+    take_copies(cnf, &system.ranges, steps)?;
+    let before = cnf.vars();
+    take_copy(cnf, &system.ranges)?;
+    let all = cnf.vars();
+    let tables = add_copies(alloc, cnf, &system.ranges, all - before, steps + 1)?;
     let choices = add_steps(alloc, cnf, system, &tables)?;
     let _ = cnf.vars();
     Ok(Unrolled {
         tables,
-        first,
-        begin,
+        first: before + 1,
         choices,
     })
 }

@@ -3,5 +3,5 @@ use Rattle.std.specs.Prelude.{string_bytes}
 use Rattle.ilk_certificate.specs.Writing.{step_fed}
 use Rattle.ilk_certificate.proofs.text.push_steps.Given as goal
 
-abbrev pub invariant-loop-step : goal.invariant-loop-step
-invariant-loop-step l = string_bytes l.text ≡ string_bytes l.initial.text ++ flat_map step_fed (take l.step-index l.log)
+abbrev pub invariant-loop-i : goal.invariant-loop-i
+invariant-loop-i l = string_bytes l.text ≡ string_bytes l.initial.text ++ flat_map step_fed (take l.i l.log)

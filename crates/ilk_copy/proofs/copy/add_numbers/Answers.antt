@@ -1,16 +1,25 @@
-use Rattle.std.proofs.Common.{◌∙◌, ◌+◌, ℕ, List, drop, get_or, nat_lt, ap, sym}
-use Rattle.std.specs.List.{list_all}
-use Rattle.std.proofs.lemmas.Bool.{and_parts}
+use Rattle.std.proofs.Common.{◌∙◌, ◌+◌, drop, get_or, ap, arith}
 use Rattle.std.proofs.lemmas.List.{drop_more}
-use Rattle.ilk_copy.proofs.CopyLaw.{numbers_step}
+use Rattle.ilk_cnf.specs.Formula.{Formula, with_vars}
+use Rattle.ilk_copy.specs.Copy.{total_bits}
+use Rattle.ilk_copy.proofs.CopyLaw.{numbers_step, number_there}
 use Rattle.ilk_copy.proofs.copy.add_numbers.Goals as goal
+
+pub add_number-requires-clause-within : goal.add_number-requires-clause-within
+add_number-requires-clause-within c =
+    let split = ap total_bits (drop_more c.args.ranges.now c.loop-range.range-index 0 c.loop-range-test.true) in
+    omega (arith, split, c.loop-range.invariant.vars, c.loop-range.invariant.there)
 
 pub loop-range-preserved : goal.loop-range-preserved
 loop-range-preserved c =
     let all = c.args.ranges.now in
     let i = c.loop-range.range-index in
     let split = drop_more all i 0 c.loop-range-test.true in
+    let bits = ap total_bits split in
+    let added = c.in_ok-add_number.ensures in
+    let used = c.loop-range.used in
     record {
-      positive = (and_parts _ _ (sym (ap (λ (rs : List ℕ). list_all (λ r. nat_lt 0 r) rs) split) ∙ c.loop-range.invariant.positive)).1;
-      made = numbers_step c.loop-range.cnf c.number.new.cnf (get_or all i 0) (drop i all) (drop (i + 1) all) split c.in_ok-number.ensures.made ∙ c.loop-range.invariant.made;
+      vars = ap (λ (f : Formula). f.vars) added ∙ c.loop-range.invariant.vars;
+      there = omega (arith, bits, c.bits.ensures.count, c.loop-range.invariant.there);
+      made = numbers_step (with_vars c.loop-range.cnf used) (with_vars c.add_number.new.cnf (used + c.bits.result)) (get_or all i 0) (drop i all) (drop (i + 1) all) split (number_there c.loop-range.cnf c.add_number.new.cnf used (get_or all i 0) c.bits.result c.bits.ensures.count added) ∙ c.loop-range.invariant.made;
     }

@@ -7,7 +7,7 @@ use Rattle.ilk_ints.proofs.limit.at_most.Goals as goal
 pub returns-then-highest_bit_says-clause-law : goal.returns-then-highest_bit_says-clause-law
 returns-then-highest_bit_says-clause-law c =
     λ a v size less is low same.
-    let n = c.args.cnf.now.vars in
+    let n = c.args.used.now in
     let part = at_most_part c.args.n.range c.args.k c.args.below c.args.equal n in
     extends-as_clauses a part.vars part.clauses (Only (at_most_bits c.args.n.range c.args.k v)) (at_most-law a c.args.n.range c.args.k v n c.args.below c.args.equal size c.requires.lits low same)
 
@@ -15,12 +15,12 @@ pub returns-then-highest_bit_says-clause-exact : goal.returns-then-highest_bit_s
 returns-then-highest_bit_says-clause-exact c =
     λ a v size less is.
     let known = c.if-highest_bit_says.ensures in
-    at_most-exact a c.args.n.first c.args.n.range c.args.k v c.args.cnf.now.vars size known.some known.enough less is
+    at_most-exact a c.args.n.first c.args.n.range c.args.k v c.args.used.now size known.some known.enough less is
 
 pub returns-clause-law : goal.returns-clause-law
 returns-clause-law c =
     λ a v size less is low same.
-    let n = c.args.cnf.now.vars in
+    let n = c.args.used.now in
     let part = at_most_part c.args.n.range c.args.k c.args.below c.args.equal n in
     extends-as_clauses a part.vars part.clauses (Only (at_most_bits c.args.n.range c.args.k v)) (at_most-law a c.args.n.range c.args.k v n c.args.below c.args.equal size c.requires.lits low same)
 
@@ -28,4 +28,4 @@ pub returns-clause-exact : goal.returns-clause-exact
 returns-clause-exact c =
     λ a v size less is.
     let known = c.if-highest_bit_says.ensures in
-    at_most-exact a c.args.n.first c.args.n.range c.args.k v c.args.cnf.now.vars size known.some known.enough less is
+    at_most-exact a c.args.n.first c.args.n.range c.args.k v c.args.used.now size known.some known.enough less is

@@ -1,5 +1,5 @@
 use Rattle.std.proofs.Common.{◌≡◌, ◌+◌, ◌≤◌, ◌++◌, ◌∷◌, true, drop}
-use Rattle.ilk_cnf.specs.Formula.{clause_in}
+use Rattle.ilk_cnf.specs.Formula.{clause_in, with_vars}
 use Rattle.ilk_cnf.specs.Part.{with_part}
 use Rattle.ilk_ints.specs.Bits.{bit_count}
 use Rattle.ilk_ints.specs.Named.{bounds_from}
@@ -8,9 +8,10 @@ use Rattle.ilk_ints.proofs.table.add_bounds.Given as goal
 abbrev pub invariant-loop-equal : goal.invariant-loop-equal
 invariant-loop-equal l =
     record {
+      vars : l.cnf.vars ≡ l.fn.cnf.vars;
       place : l.k ≡ 1 + l.equal-index;
-      within : l.n.first + bit_count l.n.range ≤ l.cnf.vars + 1;
-      inside : clause_in l.cnf.vars (l.below ∷ drop l.equal-index l.equals) ≡ true;
-      lits : l.lits ++ (bounds_from l.n.first l.n.range l.below l.k (drop l.equal-index l.equals) l.cnf.vars).lits ≡ (bounds_from l.n.first l.n.range l.fn.below 1 l.equals l.fn.cnf.vars).lits;
-      made : with_part l.cnf (bounds_from l.n.first l.n.range l.below l.k (drop l.equal-index l.equals) l.cnf.vars).part ≡ with_part l.fn.cnf (bounds_from l.n.first l.n.range l.fn.below 1 l.equals l.fn.cnf.vars).part;
+      within : l.n.first + bit_count l.n.range ≤ l.used + 1;
+      inside : clause_in l.used (l.below ∷ drop l.equal-index l.equals) ≡ true;
+      lits : l.lits ++ (bounds_from l.n.first l.n.range l.below l.k (drop l.equal-index l.equals) l.used).lits ≡ (bounds_from l.n.first l.n.range l.fn.below 1 l.equals l.fn.used).lits;
+      made : with_part (with_vars l.cnf l.used) (bounds_from l.n.first l.n.range l.below l.k (drop l.equal-index l.equals) l.used).part ≡ with_part (with_vars l.fn.cnf l.fn.used) (bounds_from l.n.first l.n.range l.fn.below 1 l.equals l.fn.used).part;
     }

@@ -12,7 +12,7 @@ returns-clause-law c =
     let first = c.args.n.first in
     let range = c.args.n.range in
     let values = c.args.values.now in
-    let n = c.args.cnf.now.vars in
+    let n = c.args.used.now in
     let enough : range ≤ 2 ^ bit_count range = subst (λ (b : ℕ). range ≤ 2 ^ b) c.bits.ensures.count c.bits.ensures.enough in
     let part = (bounds_part first range values n).part in
     extends-as_clauses a part.vars part.clauses (Only (bounds_bits range w 1 (bound_count range))) (bounds_part-law values a first range w n size c.requires.from_1 c.requires.within enough c.requires.all c.requires.lits less is says)
@@ -23,4 +23,4 @@ returns-clause-exact c =
     let first = c.args.n.first in
     let range = c.args.n.range in
     let enough : range ≤ 2 ^ bit_count range = subst (λ (b : ℕ). range ≤ 2 ^ b) c.bits.ensures.count c.bits.ensures.enough in
-    bounds_part-say c.args.values.now a d first range w c.args.cnf.now.vars size c.requires.from_1 c.requires.within enough c.requires.all c.requires.lits less is says
+    bounds_part-say c.args.values.now a d first range w c.args.used.now size c.requires.from_1 c.requires.within enough c.requires.all c.requires.lits less is says

@@ -11,7 +11,7 @@ returns-clause-law c =
     λ a w size less is.
     let first = c.args.n.first in
     let range = c.args.n.range in
-    let n = c.args.cnf.now.vars in
+    let n = c.args.used.now in
     let enough : range ≤ 2 ^ bit_count range = subst (λ (b : ℕ). range ≤ 2 ^ b) c.bits.ensures.count c.bits.ensures.enough in
     extends-as_clauses a (values_part first range n).part.vars (values_part first range n).part.clauses (Only (values_bits range w)) (values_part-law a first range w n size c.requires.from_1 c.requires.within enough less is)
 
@@ -20,6 +20,6 @@ returns-clause-exact c =
     λ a d w size less is.
     let first = c.args.n.first in
     let range = c.args.n.range in
-    let n = c.args.cnf.now.vars in
+    let n = c.args.used.now in
     let enough : range ≤ 2 ^ bit_count range = subst (λ (b : ℕ). range ≤ 2 ^ b) c.bits.ensures.count c.bits.ensures.enough in
     values_part-say a d first range w n size c.requires.within enough less is

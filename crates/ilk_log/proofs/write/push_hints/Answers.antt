@@ -6,5 +6,5 @@ use Rattle.ilk_log.proofs.write.push_hints.Goals as goal
 
 pub loop-i-preserved : goal.loop-i-preserved
 loop-i-preserved c =
-    numbers-grow (string_bytes c.args.text.now) (string_bytes c.loop-i.text) _ c.args.hints.now c.loop-i.i c.at.result c.at.ensures c.loop-i.invariant
-    (c.in_ok-push_decimal.ensures ∙ ap (λ t. t ++ decimal c.at.result) c.in_ok-push_str.ensures.bytes)
+    numbers-grow (string_bytes c.args.text.now) (string_bytes c.loop-i.text) _ c.args.hints.now c.loop-i.i c.at.result.now c.at.ensures c.loop-i.invariant
+    (c.in_ok-push_decimal.ensures ∙ ap (λ t. t ++ decimal c.at.result.now) c.in_ok-push_str.ensures.bytes)

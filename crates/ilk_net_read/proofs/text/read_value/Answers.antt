@@ -1,8 +1,9 @@
-use Rattle.std.proofs.Common.{ap}
-use Rattle.ilk_net_read.specs.Fault.{broken, or_fault}
-use Rattle.ilk_net_read.specs.declared.fault.Form.TheVariants.{F2}
-use Rattle.ilk_net_read.specs.declared.fault.Place.TheVariants.{Document}
+use Rattle.ilk_net_read.proofs.Values.{value_of-read, value_of-refused}
 use Rattle.ilk_net_read.proofs.text.read_value.Goals as goal
 
 pub returns-in-Ok : goal.returns-in-Ok
-returns-in-Ok c = ap (or_fault (broken F2 Document)) c.in-Ok.ensures
+returns-in-Ok c = value_of-read _ _ c.in-Ok.ensures.ok.0 c.in-Ok.ensures.ok.1
+
+pub returns-in_default : goal.returns-in_default
+returns-in_default c =
+    rw c.broken.ensures (value_of-refused _ (c.in-Err.ensures.err (λ memory. c.in_default.not-Memory (c.classify.ensures.memory.1 memory))))

@@ -1,19 +1,15 @@
-use Rattle.std.proofs.Common.{◌≡◌, ℕ, ◌∷◌, [], refl, ap, ◌∙◌, arith}
-use Rattle.ilk_cnf.specs.Part.{with_part}
-use Rattle.ilk_step.specs.Carry.{carry_part}
+use Rattle.std.proofs.Common.{◌*◌, ◌≤◌, ◌∷◌, [], suc, refl, arith}
+use Rattle.std.specs.Prelude.{sum}
 use Rattle.ilk_cnf.proofs.Extending.{extends-as_clauses}
 use Rattle.ilk_ir.specs.Tree.{all_of, negation, trees}
-use Rattle.ilk_ir.specs.System.{rule_tree, system_tree}
-use Rattle.std.proofs.lemmas.List.{length-map}
-use Rattle.ilk_unroll.specs.Goal.{step_count}
+use Rattle.ilk_ir.specs.System.{system_tree}
 use Rattle.ilk_copy.proofs.CopyLaw.{ranges_fit-small}
-use Rattle.ilk_unroll.specs.Goal.{goal_tree}
-use Rattle.ilk_unroll.specs.Query.{carried, query_part}
+use Rattle.ilk_unroll.specs.Goal.{goal_tree, step_count}
+use Rattle.ilk_unroll.specs.Query.{copies_part, query_part}
 use Rattle.ilk_unroll.specs.Assignment.{run_assignment, IsWantedRun}
-use Rattle.ilk_unroll.proofs.CopiesLaw.{valid_in-from}
+use Rattle.ilk_unroll.proofs.CopiesLaw.{copies-few, valid_in-from}
 use Rattle.ilk_unroll.proofs.DemandsLaw.{goal-valid}
-use Rattle.ilk_unroll.proofs.EndLaw.{reach-made}
-use Rattle.ilk_unroll.proofs.QueryLaw.{query-law, query_made, rules-numbered, forms-valid, few-wanted, tables-many}
+use Rattle.ilk_unroll.proofs.QueryLaw.{query-law, query_made, forms-valid, few-wanted, tables-many}
 use Rattle.ilk_unroll.proofs.formula.query.Goals as goal
 
 pub unroll-requires-clause-steps : goal.unroll-requires-clause-steps
@@ -57,7 +53,7 @@ add_demands-requires-clause-last c =
 
 pub returns-clause-formula : goal.returns-clause-formula
 returns-clause-formula c =
-    query_made (system_tree c.args.system.now) (goal_tree c.args.goal.now) c.args.q c.steps.result c.unroll.new.cnf c.add_demands.new.cnf c.carry_families.new.cnf c.in_ok-unrolled.unrolled.tables c.in_ok-unrolled.unrolled.begin c.steps.ensures c.in_ok-unrolled.ensures.tables c.in_ok-unrolled.ensures.made c.in_ok-add_demands.ensures c.in_ok-unrolled.ensures.begin (c.in_ok-carry_families.ensures.made ∙ ap (λ (n : ℕ). with_part c.add_demands.new.cnf (carry_part (system_tree c.args.system.now).rules c.in_ok-unrolled.unrolled.begin (carried (system_tree c.args.system.now).ranges (goal_tree c.args.goal.now) c.args.q n) c.add_demands.new.cnf.vars)) c.vars-begin.ensures.count)
+    query_made (system_tree c.args.system.now) (goal_tree c.args.goal.now) c.args.q c.steps.result c.unroll.new.cnf c.add_demands.new.cnf c.in_ok-unrolled.unrolled.tables c.steps.ensures c.in_ok-unrolled.ensures.tables c.in_ok-unrolled.ensures.made c.in_ok-add_demands.ensures
 
 pub returns-clause-sound : goal.returns-clause-sound
 returns-clause-sound c =
@@ -77,18 +73,9 @@ returns-clause-complete c =
     let a = run_assignment s g c.args.q first rules in
     (law.sized a (first, rules, wanted, refl), law.does a (first, rules, wanted, refl))
 
-pub carry_families-requires-clause-from_1 : goal.carry_families-requires-clause-from_1
-carry_families-requires-clause-from_1 c = let begins = c.in_ok-unrolled.ensures.begin in omega (arith, begins)
-
-pub carry_families-requires-clause-reach : goal.carry_families-requires-clause-reach
-carry_families-requires-clause-reach c =
-    reach-made c.args.system.now.ranges (goal_tree c.args.goal.now) c.args.q c.steps.result c.unroll.new.cnf c.add_demands.new.cnf c.in_ok-unrolled.unrolled.tables c.vars-begin.result c.steps.ensures c.in_ok-unrolled.ensures.tables c.in_ok-add_demands.ensures c.vars-begin.ensures.count
-
-pub carry_families-requires-clause-numbered : goal.carry_families-requires-clause-numbered
-carry_families-requires-clause-numbered c =
-    λ one.
-    let s = system_tree c.args.system.now in
-    let steps : c.steps.result ≡ 1 = c.steps.ensures ∙ ap step_count one in
-    let long = length-map c.args.system.now.rules rule_tree in
-    let end = rules-numbered s (goal_tree c.args.goal.now) c.args.q c.steps.result c.unroll.new.cnf c.add_demands.new.cnf c.in_ok-unrolled.unrolled.tables c.in_ok-unrolled.unrolled.begin c.requires.system (ranges_fit-small s.ranges c.in_ok-unrolled.ensures.bytes) c.requires.goal c.steps.ensures c.in_ok-unrolled.ensures.tables c.in_ok-unrolled.ensures.made c.in_ok-add_demands.ensures c.in_ok-unrolled.ensures.begin steps in
-    omega (arith, end, long)
+pub returns-clause-copies : goal.returns-clause-copies
+returns-clause-copies c =
+    let count = suc (step_count c.args.q) in
+    let ranges = c.args.system.now.ranges in
+    let few : (copies_part ranges count 0).part.vars ≤ 2 * (count * sum ranges) = omega (arith, copies-few count ranges 0) in
+    few

@@ -1,31 +1,26 @@
-use Rattle.std.proofs.Common.{◌≡◌, ℕ, ◌∙◌, ◌+◌, suc, ap, arith}
-use Rattle.ilk_cnf.specs.Part.{with_part}
+use Rattle.std.proofs.Common.{◌≡◌, ℕ, ◌∙◌, ◌+◌, ◌-◌, ◌*◌, ◌++◌, List, suc, ap, arith}
+use Rattle.std.proofs.Math.Nat.{suc-mul}
+use Rattle.ilk_cnf.specs.Formula.{Formula}
+use Rattle.ilk_copy.specs.declared.copy.Column.{Column}
+use Rattle.ilk_copy.specs.Copy.{copy_width}
 use Rattle.ilk_unroll.specs.Query.{copies_part}
 use Rattle.ilk_unroll.proofs.CopiesLaw.{copies-step}
-use Rattle.ilk_unroll.proofs.DemandsLaw.{nothing-made}
 use Rattle.ilk_unroll.proofs.unroll.add_copies.Goals as goal
-
-pub loop-init : goal.loop-init
-loop-init c = record { tables = c.new-tables.ensures; made = nothing-made c.args.cnf.now }
 
 pub loop-preserved : goal.loop-preserved
 loop-preserved c =
     let ranges = c.args.ranges.now in
-    let f = c.args.cnf.now in
-    let i = c.loop.counter in
-    let step = copies-step f c.loop.cnf c.add_copy.new.cnf ranges c.loop.tables c.in_ok-add_copy.field-0 i c.loop.invariant.tables c.loop.invariant.made c.in_ok-add_copy.ensures.table c.in_ok-add_copy.ensures.made in
-    let more : suc i ≡ i + 1 = omega arith in
+    let w = copy_width ranges in
+    let i = c.args.count - (c.loop.counter + 1) in
+    let left : c.args.count - c.loop.counter ≡ suc i = omega (arith, c.loop-test.true) in
+    let more : suc i * w ≡ i * w + w = suc-mul i w in
+    let was : c.loop.before ≡ suc i * w = c.loop.invariant.before ∙ ap (λ (k : ℕ). k * w) left in
+    let now : c.loop.before - c.args.width ≡ i * w = omega (arith, more, was, c.requires.width) in
+    let step = copies-step c.loop.cnf c.add_copy.new.cnf ranges c.loop.tables (copies_part ranges c.args.count 0).tables c.in_ok-add_copy.field-0 i (c.args.count - c.loop.counter) (c.loop.before - c.args.width) left now c.loop.invariant.tables c.in_ok-add_copy.ensures.table c.in_ok-add_copy.ensures.made in
     record {
-      tables = c.in_ok-push_before.ensures.ok ∙ step.0 ∙ ap (λ (k : ℕ). (copies_part ranges k f.vars).tables) more;
-      made = step.1 ∙ ap (λ (k : ℕ). with_part f (copies_part ranges k f.vars).part) more;
+      vars = ap (λ (f : Formula). f.vars) c.in_ok-add_copy.ensures.made ∙ c.loop.invariant.vars;
+      before = now;
+      within = omega (arith, c.loop.invariant.within);
+      tables = ap (λ (ts : List (List Column)). ts ++ (copies_part ranges i 0).tables) c.in_ok-push.ensures.ok ∙ step.0;
+      made = step.1 ∙ c.loop.invariant.made;
     }
-
-pub returns-clause-tables : goal.returns-clause-tables
-returns-clause-tables c =
-    let all : c.loop.counter ≡ c.args.count = omega arith in
-    c.loop.invariant.tables ∙ ap (λ (k : ℕ). (copies_part c.args.ranges.now k c.args.cnf.now.vars).tables) all
-
-pub returns-clause-made : goal.returns-clause-made
-returns-clause-made c =
-    let all : c.loop.counter ≡ c.args.count = omega arith in
-    c.loop.invariant.made ∙ ap (λ (k : ℕ). with_part c.args.cnf.now (copies_part c.args.ranges.now k c.args.cnf.now.vars).part) all

@@ -1,11 +1,16 @@
-use Rattle.std.proofs.Common.{◌≡◌}
-use Rattle.ilk_cnf.specs.Part.{with_part}
+use Rattle.std.proofs.Common.{◌≡◌, ◌-◌, ◌*◌, ◌≤◌, ◌++◌}
+use Rattle.ilk_cnf.specs.Formula.{grown}
+use Rattle.ilk_cnf.specs.Part.{as_clauses}
+use Rattle.ilk_copy.specs.Copy.{copy_width}
 use Rattle.ilk_unroll.specs.Query.{copies_part}
 use Rattle.ilk_unroll.proofs.unroll.add_copies.Given as goal
 
 abbrev pub invariant-loop : goal.invariant-loop
 invariant-loop l =
     record {
-      tables : l.tables ≡ (copies_part l.ranges l.counter l.fn.cnf.vars).tables;
-      made : l.cnf ≡ with_part l.fn.cnf (copies_part l.ranges l.counter l.fn.cnf.vars).part;
+      vars : l.cnf.vars ≡ l.fn.cnf.vars;
+      before : l.before ≡ (l.count - l.counter) * copy_width l.ranges;
+      within : l.before ≤ l.fn.cnf.vars;
+      tables : l.tables ++ (copies_part l.ranges (l.count - l.counter) 0).tables ≡ (copies_part l.ranges l.count 0).tables;
+      made : grown l.cnf l.cnf.vars (as_clauses (copies_part l.ranges (l.count - l.counter) 0).part.clauses) ≡ grown l.fn.cnf l.fn.cnf.vars (as_clauses (copies_part l.ranges l.count 0).part.clauses);
     }

@@ -14,6 +14,6 @@ returns-then-self-len-clause-bytes c =
     let step = c.turn_to.new.self in
     let token : c.lead.new.self ≡ codes "step" = c.lead.ensures ∙ ap (λ (t : Bytes). codes "step" ++ t) c.requires in
     sym c.self.view_is
-    ∙ ap (λ (p : Place). line_left p s.step ++ text_of (map step_text (drop s.next s.log))) c.in-Between.is
-    ∙ line_next s.log s.next step c.turn_to.new.step (c.at_mut.ensures.value ∙ ap Some (sym c.turn_to.ensures))
-    ∙ ap (λ (t : Bytes). t ++ (literals_left step ++ text_of (map step_text (drop (s.next + 1) (set s.log s.next c.turn_to.new.step))))) (sym token)
+    ∙ ap (λ (p : Place). line_left p s.step ++ text_of (map step_text (drop s.next s.steps))) c.in-Between.is
+    ∙ line_next s.steps s.next step c.turn_to.new.step (c.at_mut.ensures.value ∙ ap Some (sym c.turn_to.ensures))
+    ∙ ap (λ (t : Bytes). t ++ (literals_left step ++ text_of (map step_text (drop (s.next + 1) (set s.steps s.next c.turn_to.new.step))))) (sym token)

@@ -1,7 +1,6 @@
-use Rattle.std.proofs.Common.{◌≡◌, true, ◌+◌, ◌<◌, ◌^◌, ◌∷◌, [], cond, List, length, arith, ap, sym, ◌∙◌, subst, length-append}
+use Rattle.std.proofs.Common.{◌≡◌, ◌+◌, ◌<◌, ◌^◌, ◌∷◌, [], cond, List, length, arith, ap, sym, ◌∙◌, subst, length-append}
 use Rattle.ilk_cnf.specs.Literal.{Literal, has_var}
-use Rattle.ilk_cnf.specs.Formula.{Formula, clause_in, grown}
-use Rattle.ilk_cnf.proofs.Literals.{clause_in-more}
+use Rattle.ilk_cnf.specs.Formula.{Formula, grown}
 use Rattle.ilk_log.specs.declared.step.Step.{Step}
 use Rattle.ilk_trail.specs.Trail.{TrailList}
 use Rattle.ilk_arena.specs.Arena.{ArenaLists}
@@ -24,15 +23,10 @@ count-requires-2-clause-room c =
     let few : length s.clauses.clauses + 1 < 2 ^ 64 = omega (arith, c.count.ensures.count, made, size, c.count.type_inv) in
     weight-fits (formula_of s.clauses) s.given s.log s.view (2 ^ 64) c.self.invariant.search c.vars.ensures.view.weighed few
 
-pub add_step-requires : goal.add_step-requires
-add_step-requires c =
-    let W : SearchLists → Type 0 = λ x. clause_in x.formula.vars c.args.step.now.clause ≡ true in
-    clause_in-more c.self.inside.clauses.vars (2 ^ 62) c.args.step.now.clause c.arena.ensures.clauses.formula.numbered (subst W (sym c.self.view_is) c.requires.within)
-
 pub invariant_of-result : goal.invariant_of-result
 invariant_of-result c =
     let s = c.self.inside in
-    let step = c.args.step.now in
+    let step = c.args.step in
     let new = c.count-2.new.self in
     let b = c.add.new.self in
     let f = formula_of s.clauses in
@@ -40,7 +34,7 @@ invariant_of-result c =
     let added = held-added f s.given s.log s.view new step c.self.invariant.search (subst O (sym c.self.view_is) c.requires.closed) c.count-2.ensures.trail (λ v p. c.count-2.ensures.weights v p ∙ ap (λ (ls : List Literal). weight_of s.view v + cond (has_var v ls) 1 0) c.as_slice-2.ensures) in
     let clauses : formula_of b ≡ grown f f.vars (step.clause ∷ []) = ap formula_of c.in_ok-add.ensures.ok.is ∙ ap (λ (ls : List Literal). grown f f.vars (ls ∷ [])) c.as_slice.ensures in
     let L : List Step → Type 0 = λ log. HoldsSearch (grown f f.vars (step.clause ∷ [])) s.given log new in
-    let C : Formula → Type 0 = λ g. HoldsSearch g s.given c.add_step.new.log new in
+    let C : Formula → Type 0 = λ g. HoldsSearch g s.given c.push.new.self new in
     let A : SearchLists → Type 0 = λ x. IsAddable x.view.trail.entries step.clause in
     let B : List Literal → Type 0 = λ ls. IsAddable s.view.trail.entries ls in
     let may = subst B (sym c.as_slice.ensures) (subst A (sym c.self.view_is) c.requires.addable) in
@@ -48,6 +42,6 @@ invariant_of-result c =
     let queue = queue-added s.clauses b s.view.trail.entries s.queue.head s.queue.settled c.as_slice.result.now c.self.invariant.queue c.arena.ensures.clauses c.count.ensures.clauses c.in_ok-add.ensures.ok may in
     let T : TrailList → Type 0 = λ t. IsQueue b t.entries s.queue.head s.queue.settled in
     record {
-      search = subst C (sym clauses) (subst L (sym c.in_ok-add_step.ensures.ok) added);
+      search = subst C (sym clauses) (subst L (sym c.in_ok-push.ensures.ok) added);
       queue = subst T (sym c.count-2.ensures.trail) queue;
     }

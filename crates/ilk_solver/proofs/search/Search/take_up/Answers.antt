@@ -10,13 +10,13 @@ use Rattle.ilk_solver.proofs.search.Search.take_up.Goals as goal
 
 pub back_to-requires : goal.back_to-requires
 back_to-requires c =
-    let below = back-below c.args.self.view.trail.entries c.args.learned.now.step.clause c.requires.learned.asserting in
+    let below = back-below c.args.self.view.trail.entries c.args.learned.step.clause c.requires.learned.asserting in
     omega (arith, below, c.requires.level, c.requires.learned.back)
 
 pub add-requires-clause-closed : goal.add-requires-clause-closed
 add-requires-clause-closed c =
     let es = c.args.self.view.trail.entries in
-    let clause = c.args.learned.now.step.clause in
+    let clause = c.args.learned.step.clause in
     let back = ap (λ (x : SearchLists). x.view.trail.entries) c.back_to.ensures.entries in
     let top : level_of (up_to c.args.level es) ≡ c.args.level = ap level_of (sym back) ∙ c.back_to.ensures.level in
     let P : List Entry → Type 0 = λ xs. LevelsClosed (clause ∷ []) xs in
@@ -25,7 +25,7 @@ add-requires-clause-closed c =
 pub add-requires-clause-addable : goal.add-requires-clause-addable
 add-requires-clause-addable c =
     let es = c.args.self.view.trail.entries in
-    let clause = c.args.learned.now.step.clause in
+    let clause = c.args.learned.step.clause in
     let back = ap (λ (x : SearchLists). x.view.trail.entries) c.back_to.ensures.entries in
     let top : level_of (up_to c.args.level es) ≡ c.args.level = ap level_of (sym back) ∙ c.back_to.ensures.level in
     let P : List Entry → Type 0 = λ xs. IsAddable xs clause in

@@ -48,7 +48,7 @@ returns-then-level-eq0-clause-log g c =
     let formula : now.formula ≡ f = ap (λ (x : SearchLists). x.formula) c.in-Some.ensures.same ∙ c.rounds.invariant.formula in
     let log : now.log ≡ old.log = ap (λ (x : SearchLists). x.log) c.in-Some.ensures.same in
     let derived = moved (λ (h : Formula) (l : List Step). is_derived h.vars (h.clauses ++ step_clauses l) last ≡ true) now f old.log formula log c.in_ok-last-in-Some.ensures.derived in
-    let longer : c.add_step.new.log ≡ old.log ++ last ∷ [] = c.in_ok-add_step-in-Some.ensures.ok ∙ ap (λ (l : List Step). l ++ last ∷ []) (c.into_log-log.ensures ∙ log) in
+    let longer : c.push.new.self ≡ old.log ++ last ∷ [] = c.in_ok-push-in-Some.ensures.ok ∙ ap (λ (l : List Step). l ++ last ∷ []) (c.into_log-log.ensures ∙ log) in
     let P : List Step → Type 0 = λ l. IsLog f c.args.budget l in
     subst P (sym longer) (log-ended f c.args.budget old.log last c.rounds.invariant.log derived c.in_ok-last-in-Some.ensures.empty)
 
@@ -61,7 +61,7 @@ returns-then-level-eq0-clause-answer g c =
     let formula : now.formula ≡ f = ap (λ (x : SearchLists). x.formula) c.in-Some.ensures.same ∙ c.rounds.invariant.formula in
     let log : now.log ≡ old.log = ap (λ (x : SearchLists). x.log) c.in-Some.ensures.same in
     let derived = moved (λ (h : Formula) (l : List Step). is_derived h.vars (h.clauses ++ step_clauses l) last ≡ true) now f old.log formula log c.in_ok-last-in-Some.ensures.derived in
-    let longer : c.add_step.new.log ≡ old.log ++ last ∷ [] = c.in_ok-add_step-in-Some.ensures.ok ∙ ap (λ (l : List Step). l ++ last ∷ []) (c.into_log-log.ensures ∙ log) in
+    let longer : c.push.new.self ≡ old.log ++ last ∷ [] = c.in_ok-push-in-Some.ensures.ok ∙ ap (λ (l : List Step). l ++ last ∷ []) (c.into_log-log.ensures ∙ log) in
     let P : List Step → Type 0 = λ l. is_refutation f l ≡ true in
     subst P (sym longer) (refuted f c.args.budget old.log last c.rounds.invariant.log c.rounds.invariant.unfinished derived c.in_ok-last-in-Some.ensures.empty)
 

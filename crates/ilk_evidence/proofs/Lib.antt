@@ -1,0 +1,4 @@
+pub mod Middles
+pub mod Demands
+pub mod Induction
+pub mod Satisfying

@@ -1,4 +1,0 @@
-pub mod Kept
-pub mod Data
-pub mod Names
-pub mod Text
