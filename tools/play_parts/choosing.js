@@ -1,0 +1,115 @@
+// What is chosen on the plan: what is marked for it, and what can be asked of it.
+
+const EVENT_BUTTONS = { mark: "Set (mark)", allocate: "Allocate", lock: "Lock", sense: "Sense", release: "Release",
+  finish: "Finish", cancel: "Cancel", throw: "Throw", settle: "Settle", enter: "Let a train in" };
+
+function noMarks() {
+  return { path: [], beside: [], sections: [], goals: [], boards: new Set(), targets: new Set(), hazard: null };
+}
+
+// the sections of a route, each with the leg by which it leads there
+function legsOf(plant, r) {
+  const legs = new Map(plant.routes[r].wanted);
+  const withLeg = (x) => [x, plant.sections[x].point ? legs.get(x) ?? "plus" : null];
+  return { path: plant.routes[r].path.map(withLeg), beside: plant.routes[r].beside.map(withLeg) };
+}
+
+// the routes from the chosen board that end at a board, or lead out over a section
+function routesTo(plant, chosen, kind, number) {
+  if (chosen?.kind !== "board") return [];
+  return plant.routesFrom[chosen.number].filter((r) => (kind === "board" ? plant.routes[r].destination === number
+    : plant.routes[r].path.at(-1) === number));
+}
+
+// what is marked: what is chosen, or else what the last event was about
+function marksOf(game) {
+  const { plant, state, chosen } = game;
+  const marks = noMarks();
+  marks.hazard = hazard(plant, state)?.section ?? null;
+  const [kind, number] = chosen ? [chosen.kind, chosen.number] : subjectOf(game);
+  const routes = kind === "route" ? [number] : kind === "board" && chosen ? plant.routesFrom[number] : [];
+  for (const r of routes) {
+    const { path, beside } = legsOf(plant, r);
+    marks.path.push(...path);
+    if (kind === "route") marks.beside.push(...beside);
+    const { destination } = plant.routes[r];
+    if (kind === "board" && destination !== null) marks.targets.add(destination);
+    if (kind === "board" && destination === null) marks.goals.push(path.at(-1));
+  }
+  if (kind === "board") marks.boards.add(number);
+  if (kind === "route") marks.boards.add(plant.routes[number].source);
+  if (kind === "section") marks.sections.push([number, null]);
+  if (kind === "train") {
+    const train = state.trains.find((one) => one.number === number);
+    marks.sections.push(...(train ? train.body : []).map((x) => [x, null]));
+  }
+  return marks;
+}
+
+function subjectOf({ play }) {
+  const event = play.events[play.place - 1];
+  return !event ? [null, 0] : [isOfRoute(event.word) ? "route" : "section", event.number];
+}
+
+// what is said of the chosen thing, and what can be asked of it
+function chosenParts(game) {
+  const { plant, state, chosen } = game;
+  if (!chosen) return [element("p", { class: "small" }, "Nothing is chosen.")];
+  const { kind, number } = chosen;
+  if (kind === "board") return boardParts(game, number, plant.routesFrom[number]);
+  if (kind === "pair") return boardParts(game, number, chosen.routes);
+  if (kind === "route") return routeParts(game, number);
+  if (kind === "section") return sectionParts(game, number);
+  const train = state.trains.find((one) => one.number === number);
+  return train ? trainParts(game, train) : [element("p", {}, `Train ${number} has left.`)];
+}
+
+function eventButton(game, word, number) {
+  const one = button(EVENT_BUTTONS[word], () => game.ask({ word, number }),
+    `${EVENT_BUTTONS[word]}: ${thingsOf(game.plant, word)[number].name}`);
+  if (refusal(game.plant, game.state, { word, number })) one.classList.add("refused");
+  return one;
+}
+
+function boardParts(game, b, routes) {
+  const { plant, state } = game;
+  const rows = routes.map((r) => {
+    const way = listed(plant.routes[r].path.map((x) => plant.name(x)));
+    return element("li", { class: "row" }, eventButton(game, "mark", r),
+      ` ${routeWords(plant, r)}, over ${way}; ${modeWords(plant, state, r)}`);
+  });
+  return [element("h3", {}, boardWords(plant, state, b)),
+    rows.length ? element("p", {}, "Its routes; a click on the board or the end to which one leads sets it:")
+      : element("p", {}, "No route begins at this board."), element("ul", {}, ...rows)];
+}
+
+function routeParts(game, r) {
+  const { plant, state } = game;
+  const { path, overlap, wanted, conflicts, protecting_boards: kept } = plant.routes[r];
+  const facts = [["Path", path.map((x) => plant.name(x))], ["Overlap", overlap.map((x) => plant.name(x))],
+    ["Points", wanted.map(([x, position]) => `${plant.name(x)} ${position}`)],
+    ["Protecting boards", kept.map((b) => plant.boards[b].name)],
+    ["Conflicts", conflicts.map((c) => plant.routes[c].name)]];
+  const waits = waitsFor(plant, state, r);
+  return [element("h3", {}, `Route ${routeWords(plant, r)}, ${modeWords(plant, state, r)}`),
+    element("p", { class: "waits" }, waits.length ? `It waits: ${waits.join("; ")}.` : ""),
+    element("div", { class: "bar" }, ...ROUTE_EVENTS.map((word) => eventButton(game, word, r))),
+    element("p", { class: "small" }, facts.filter(([, words]) => words.length)
+      .map(([head, words]) => `${head}: ${words.join(", ")}.`).join(" "))];
+}
+
+function sectionParts(game, x) {
+  const { plant, state } = game;
+  const words = plant.sections[x].point ? ["throw", "settle"] : plant.inward[x] !== null ? ["enter"] : [];
+  const routes = numbersWhere(plant.routes, ({ locked }) => locked.includes(x)).map((r) => plant.routes[r].name);
+  return [element("h3", {}, sectionWords(plant, state, x)),
+    element("div", { class: "bar" }, ...words.map((word) => eventButton(game, word, x))),
+    element("p", { class: "small" },
+      routes.length ? `Routes that lock it: ${routes.join(", ")}.` : "No route locks it.")];
+}
+
+function trainParts({ plant, state }, train) {
+  const why = refusal(plant, state, { word: "head", number: train.body.at(-1) });
+  return [element("h3", {}, trainWords(plant, state, train)),
+    element("p", {}, why ?? "Its head can go on.")];
+}

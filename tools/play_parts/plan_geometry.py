@@ -1,0 +1,37 @@
+"""The plan of tools/page_parts as the script of the page draws it: where lines, signs and trains lie."""
+
+import re
+
+EDGE_OF_ENTRY = 15      # from the end of a border to the sign at which a train comes in
+JOINT = re.compile(r'<path d="M([-0-9 L]+)" class="(j|torn)"/>')
+
+
+def points(line):
+    """A line in whole numbers."""
+    return [[round(x), round(y)] for x, y in line]
+
+
+def entry_place(drawing, x):
+    """Where the sign of a border lies."""
+    if drawing.plant.inward[x] == "up":
+        at, y = drawing.end(x, "down")
+        return [round(at - EDGE_OF_ENTRY), round(y)]
+    at, y = drawing.end(x, "up")
+    return [round(at + EDGE_OF_ENTRY), round(y)]
+
+
+def joints(drawing):
+    """The marks of the joints, each with its class: of what the drawing has under each state."""
+    for match in filter(None, map(JOINT.fullmatch, drawing.tracks())):
+        yield match[2], [[int(place) for place in point.split(" ")] for point in match[1].split("L")]
+
+
+def geometry(drawing):
+    """The plan's strips, the joints, the lines of each section, and where boards and entries stand."""
+    sections = range(len(drawing.plant.sections))
+    return {"strips": [[round(value) for value in strip] for strip in drawing.strips],
+            "joints": list(joints(drawing)),
+            "legs": [{leg: points(line) for leg, line in drawing.legs(x).items()} for x in sections],
+            "signs": points(drawing.signs[b] for b in range(len(drawing.plant.boards))),
+            "middles": points((drawing.middle(x), drawing.y(x)) for x in sections),
+            "entries": {x: entry_place(drawing, x) for x in drawing.plant.inward}}
