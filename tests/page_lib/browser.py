@@ -41,6 +41,9 @@ for (const group of document.querySelectorAll("defs > g[id^=names]")) {
   copy.remove();
 }
 shown.remove();
+for (const cell of document.querySelectorAll("td, th"))
+  if (cell.textContent.trim().length > 12 && cell.getBoundingClientRect().width < 60)
+    wrong.push("a column of a few letters: " + cell.textContent.trim().slice(0, 40));
 if (document.documentElement.scrollWidth > document.documentElement.clientWidth + 1)
   wrong.push("the page is wider than its window");
 document.getElementById("measured").textContent =
@@ -79,3 +82,15 @@ def faults(browser, page):
             yield "the plans weren't measured"
         elif match[2]:
             yield from match[2].split("|")
+
+
+def sheets(browser, page):
+    """How many pages a page takes on paper."""
+    with tempfile.TemporaryDirectory(prefix="irv-paper-") as room:
+        file, paper = Path(room, "page.html"), Path(room, "page.pdf")
+        file.write_text(page, encoding="utf-8")
+        subprocess.run([browser, "--headless", "--no-sandbox", "--disable-gpu",
+                        f"--user-data-dir={room}/browser", "--no-pdf-header-footer",
+                        f"--print-to-pdf={paper}", file.as_uri()],
+                       capture_output=True, timeout=SECONDS, check=False)
+        return len(re.findall(rb"/Type\s*/Page[^s]", paper.read_bytes()))

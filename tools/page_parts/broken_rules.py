@@ -2,9 +2,11 @@
 
 import form
 import rules
+from hunting import suspects_of
 from markup import code, tag, text
 from running import trouble
 from wording import counted
+from words import join
 
 PICTURED = 24           # broken rules with a picture
 WORDED = 600            # broken rules with a sentence
@@ -15,12 +17,13 @@ def rules_part(page, answer, lines):
     page.head("Rules")
     page.show(answer)
     names = list(dict.fromkeys(line.split(" ")[1] for line in lines))
-    page.summary.append(tag("b", text("Rules: ")) + (
-        text(f"{counted(len(lines), 'rule')} broken, of {rules.join(names)}" if len(lines) > 1
-             else f"one rule broken, {names[0]}") if lines else text(answer.said)))
+    page.summary.append(tag("b", text("Rules: ")) + text(
+        f"check refuses it: {counted(len(lines), 'rule')} broken, {join(names)}" if lines
+        else answer.said))
     if answer.status == 0:
-        page.add(tag("p", text("No rule of the form, the network, the table and its columns is "
-                               "broken.")))
+        page.add(tag("p", text("No rule of the form, the network, the table and its columns is broken. "
+                               "That is by itself a proof that no run from the start ends in a "
+                               "hazard: docs/MODEL.md, “What the rules of the columns are good for”.")))
     elif not lines:
         page.add(trouble("That is no answer about the configuration, so the page ends here."))
     elif lines[0].startswith("refused F"):
@@ -48,9 +51,10 @@ def broken_part(page, lines):
                            if len(lines) > 1 else
                            "One rule is broken. Which and where, irv answered; the sentence and "
                            "the picture are the page's own.")))
-    for number, line in enumerate(lines[:WORDED]):
-        rule, places = rules.read_line(line)
-        page.suspects += [i for kind, i in places if kind == "routes"]
+    read = [rules.read_line(line) for line in lines]
+    resting = [one for one in read if rules.rests(page.plant, *one)]
+    page.is_endangered, page.suspects = bool(resting), suspects_of(page.plant, resting)
+    for number, (line, (rule, places)) in enumerate(zip(lines[:WORDED], read)):
         sentences = rules.sentences(page.plant, rule, places)
         words = tag("p", code(line)) + "".join(
             tag("p", tag("b", text(sentence))) for sentence in sentences)

@@ -167,6 +167,12 @@ class Drawing:
 
     # -- views
 
+    def beside(self, frames):
+        """Frames side by side, as many in a row as the plan's width lets one read."""
+        width = max(strip[2] for strip in self.strips)
+        in_row = next((count for count, most in ((3, 470), (2, 700)) if width <= most), 1)
+        return tag("div", frames, class_=f"frames f{in_row}")
+
     def view(self, content, title):
         """A view of all strips: `content` is a pair of what lies below the plan and what over it."""
         self.count += 1

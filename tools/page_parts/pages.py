@@ -1,13 +1,15 @@
 """The page: its parts in order, each asked of the program or marked as the page's own."""
 
 import form
+from advice_part import advice_part
 from asking import Program
 from broken_rules import rules_part
 from drawing import Drawing
-from hunting import Hunt
+from given_part import given_part
 from markup import code, tag, text
 from plant import Plant
 from route_table import routes_part
+from words import join
 from safety_case import safety_part
 from style import CSS
 from verdict import verdict_part
@@ -18,15 +20,21 @@ ASK_SECONDS = 60        # for check
 class Page:
     """A page that is being made."""
 
-    def __init__(self, wishes, given):
-        self.wishes, self.given = wishes, given
+    def __init__(self, wishes, given, given_run=None):
+        self.wishes, self.given, self.given_run = wishes, given, given_run
         self.program = Program(wishes.program, given)
         self.calls = []         # of the program, for the safety case
         self.parts = []
-        self.plant = self.drawing = self.hunt = None
-        self.suspects = []
-        self.line = ""
+        self.plant = self.drawing = None
+        self.suspects = []      # where the hunt should look
+        self.is_refused = self.is_endangered = False    # a rule is broken; one that safety rests on
+        self.said = []          # what the page answers, in one line
         self.summary = []       # what comes first on the page
+
+    @property
+    def line(self):
+        """What the page answers, in one line."""
+        return "; ".join(self.said)
 
     def add(self, *markup):
         """Writes on."""
@@ -53,13 +61,21 @@ class Page:
                      f"<b>{code(answer.said)}</b> ({status}, {answer.seconds:.1f} s)",
                      class_="answer"))
 
+    def show_shortly(self, answer):
+        """A call whose answer is long: that it was asked, and its status."""
+        status = "no status" if answer.status is None else f"status {answer.status}"
+        said = "" if answer.status == 0 else f" {code(answer.said)}"
+        self.add(tag("p", f"{code('irv ' + ' '.join(answer.words))}{said} ({status})", class_="small"))
+
     # -- the parts
 
     def make(self):
         """The whole page."""
         answer = self.ask(["check", "--columns", "strict"], ASK_SECONDS)
         lines = [line for line in answer.output.splitlines() if line.startswith("refused ")]
-        self.line = lines[0] if lines else answer.said
+        self.is_refused = bool(lines)
+        if answer.status != 0 or not self.is_read(answer, lines):
+            self.said.append(first_of(lines) if lines else answer.said)
         if self.is_read(answer, lines):
             self.read_plant()
         self.beginning()
@@ -68,14 +84,24 @@ class Page:
         rules_part(self, answer, lines)
         is_plant = answer.status == 0 or lines and lines[0].startswith("refused C")
         if self.plant and is_plant:
-            columns = "free" if lines else self.wishes.columns
-            self.hunt = Hunt(self.plant, suspects=self.suspects)
-            verdict_part(self, columns, bool(lines))
-            routes_part(self, columns)
+            self.of_plant("free" if lines else self.wishes.columns)
+        elif self.given_run:
+            self.own(f"The file {self.given_run.name} isn't shown: without a plant it is neither a run "
+                     "nor a scenario.")
         safety_part(self)
         summary = "".join(tag("li", line) for line in self.summary)
         self.parts[1:1] = [tag("ul", summary, class_="sum")]
         return self.whole()
+
+    def of_plant(self, columns):
+        """The parts that ask about a plant."""
+        if not self.plant.routes:
+            self.summary.append(text(no_train_moves(self.plant)))
+        if self.given_run:
+            given_part(self, columns)
+        verdict_part(self, columns, self.is_refused)
+        unused = routes_part(self, columns)
+        advice_part(self, unused)
 
     def is_read(self, answer, lines):
         """Whether the configuration has the form of one."""
@@ -97,7 +123,7 @@ class Page:
         self.add(self.drawing.definitions())
         self.add(tag("p", text(
             f"Sections: {len(plant.sections)}, points among them: {len(plant.points)}; boards: "
-            f"{len(plant.boards)}; routes: {len(plant.routes)}.")))
+            f"{len(plant.boards)}; routes: {len(plant.routes)}."), class_="small"))
         self.head("Track plan")
         self.add(self.drawing.plan())
         if self.drawing.is_torn():
@@ -117,3 +143,18 @@ class Page:
         return ("<!doctype html>\n<html lang=\"en\"><head><meta charset=\"utf-8\">"
                 f"<title>{text(self.wishes.name)}: irv</title><style>{CSS}</style></head><body>\n"
                 + "\n".join(self.parts) + tag("p", foot, class_="foot small") + "\n</body></html>\n")
+
+
+def first_of(lines):
+    """The first of the lines of check, and how many more there are."""
+    return lines[0] + (f" and {len(lines) - 1} more" if len(lines) > 1 else "")
+
+
+def no_train_moves(plant):
+    """What holds of a table without routes."""
+    bare = [plant.name(x) for x, inward in plant.inward.items() if (x, inward) not in plant.board_on]
+    if not bare:
+        return ("The table has no routes, so no board ever opens: no train can move but come in, to the "
+                "board of the border.")
+    return ("The table has no routes, so no board ever opens: no train can move but those that come in "
+            f"where the border has no board, at {join(bare)}.")

@@ -3,43 +3,42 @@
 import time
 from concurrent.futures import ThreadPoolExecutor
 
+from hunting import Hunt
 from markup import table, tag, text
 from running import AT_ONCE, RunView
 from state import event_line
 from uses import uses
 from wording import counted
 
-USE_SECONDS = 8         # to find the runs that use routes
+USE_SECONDS = 5         # to find the runs that use routes
 HUNT_SECONDS = 2        # for random runs through others
-ANSWER_SECONDS = 8      # for the answers about them
+ANSWER_SECONDS = 5      # for the answers about them
 LONGEST_CELL = 6000     # characters of a cell
 
 
 def routes_part(page, columns):
-    """The table of routes, and what each is good for."""
+    """The table of routes, and what each is good for. Answers the routes that no run was found to use,
+    where there was time to look for all."""
     page.head("What each route is good for")
     if not page.plant.routes:
         page.add(tag("p", text("The table has no routes.")))
-        return
+        return []
     found, is_all = uses(page.plant, USE_SECONDS)
-    if len(found) < len(page.plant.routes):
-        if page.hunt.runs == 0:
-            page.hunt.for_hazard(min(HUNT_SECONDS, page.wishes.hunt))
-        found = {**page.hunt.used, **found}
+    if len(found) < len(page.plant.routes) and page.wishes.hunt:
+        hunt = Hunt(page.plant, suspects=page.suspects)
+        hunt.for_hazard(min(HUNT_SECONDS, page.wishes.hunt))
+        found = {**hunt.used, **found}
     answers = answered(RunView(page.program, columns, page.plant, page.drawing), found)
     good = sum(said == "no hazard" for said in answers.values())
-    rows = [[str(r), route.name, *route_cells(route),
-             use_cell(page.plant, found.get(r), answers.get(r))]
+    rows = [[*route_cells(route), use_cell(page.plant, found.get(r), answers.get(r))]
             for r, route in enumerate(page.plant.routes)]
     introduce(page, good, len(rows))
     if not is_all or len(answers) < len(found):
         page.own(f"Left out for want of time: {'' if is_all else 'runs that use further routes, and '}"
                  f"answers of irv replay about {counted(len(found) - len(answers), 'run')}.")
         page.summary[-1] += text("; others were left out for want of time")
-    names = [one.name for one in (*page.plant.sections, *page.plant.boards, *page.plant.routes)]
-    tight = "tight" if max(map(len, names)) > 14 else None
-    page.add(table(["no.", "route", "from", "to", "path", "overlap", "points", "protected by",
-                    "conflicts", "a train uses it"], rows, tight))
+    page.add(table(["route", "what it locks", "conflicts", "a train uses it"], rows, "routes"))
+    return [r for r in range(len(rows)) if r not in found] if is_all else []
 
 
 def answered(view, found):
@@ -60,23 +59,28 @@ def introduce(page, good, count):
         f"For {good} of {count} routes a run from the start was found in which one train uses "
         "the route whole, from its being asked for to its being finished; irv replay answered "
         "“no hazard” to each. The runs are the page's own. A route for which none is found may be "
-        "of no use: a table whose routes can't be used is safe.")))
+        "of no use. Safety doesn't ask for use: where each border has its board (C7) and no board "
+        "ever opens, no train moves on, and so no two meet.")))
 
 
 def route_cells(route):
-    """A route's columns."""
+    """A route's columns: its number, its name and its ends, what it locks, and its conflicts."""
     def cut(words):
         line = " ".join(words)
         return line if len(line) <= LONGEST_CELL else line[:LONGEST_CELL] + " … (left out)"
 
-    def positions(member):
-        return [one["point"] + ("+" if one["position"] == "plus" else "−")
-                for one in route.member.get(member, [])]
+    def positions(listed):
+        return [one["point"] + ("+" if one["position"] == "plus" else "−") for one in
+                member.get(listed, [])]
     member = route.member
-    return [member["source"], member["destination"] or "out", cut(member["path"]),
-            cut(member["overlap"]), cut(positions("points")),
-            cut([*positions("protecting_points"), *member.get("protecting_boards", [])]),
-            cut(member["conflicts"])]
+    lists = (("path", member["path"]), ("overlap", member["overlap"]), ("points", positions("points")),
+             ("protected by", [*positions("protecting_points"),
+                               *member.get("protecting_boards", [])]))
+    locks = "".join(tag("div", tag("i", text(what)) + " " + text(cut(words)))
+                    for what, words in lists if words)
+    ends = f"from {member['source']} to {member['destination'] or 'out'}"
+    named = tag("div", text(f"{route.number}: ") + tag("b", text(route.name))) + tag("div", text(ends))
+    return [("", named), ("", locks), cut(member["conflicts"])]
 
 
 def use_cell(plant, run, said):

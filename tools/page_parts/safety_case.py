@@ -3,6 +3,8 @@
 import figures
 from markup import code, table, tag, text
 
+LONGEST_LINE = 160      # of an answer
+
 
 def safety_part(page):
     """What a safety case quotes."""
@@ -17,11 +19,14 @@ def safety_part(page):
              f"{figures.sum_of_file(page.wishes.program)}"),
             ("version", figures.version()), ("sources", figures.sources()),
             ("toolchain (rt version)", figures.toolchain())]
-    page.add(table([], [[name, ("", code(value))] for name, value in rows if value]))
+    if page.given_run:
+        rows.insert(1, (f"{page.given_run.kind} text", f"{page.given_run.name}: sha256 "
+                        f"{figures.sum_of(page.given_run.data)} ({len(page.given_run.data)} bytes)"))
+    page.add(table([], [[name, ("", code(value))] for name, value in rows if value], "sums"))
     page.add(table(["call", "status", "first line"], [
         [("", code("irv " + " ".join(call.words))),
-         "none" if call.status is None else str(call.status), ("", code(call.said))]
-        for call in page.calls]))
+         "none" if call.status is None else str(call.status), ("", code(cut(call.said)))]
+        for call in page.calls], "calls"))
     page.add(tag("p", text(f"Besides, irv replay was called {page.program.replays} times, for the "
                            "runs on this page.")))
     premises_part(page)
@@ -42,3 +47,8 @@ def premises_part(page):
     page.add(tag("p", text("The premises on which the answers rest, by their numbers in "
                            "docs/QUALIFICATION.md:")))
     page.add(table(["no.", "premise"], premises))
+
+
+def cut(line):
+    """A line, cut where it is long, as the configuration is that table prints."""
+    return line if len(line) <= LONGEST_LINE else f"{line[:LONGEST_LINE]} … ({len(line)} characters)"

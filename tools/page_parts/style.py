@@ -9,10 +9,12 @@ code,pre,.line{font:13px/1.4 ui-monospace,"DejaVu Sans Mono",monospace;overflow-
 pre{background:#f1f3f5;padding:8px 10px;white-space:pre-wrap;margin:6px 0}
 table{border-collapse:collapse;margin:8px 0}td,th{border:1px solid #dee2e6;padding:3px 7px;
   text-align:left;vertical-align:top;font-size:12.5px;overflow-wrap:break-word}th{background:#f8f9fa}
-table.tight td,table.tight th{overflow-wrap:anywhere}ul.sum{margin:8px 0;padding-left:20px}
+ul{margin:8px 0;padding-left:20px}
 .answer{background:#e7f5ff;border-left:4px solid #1971c2;padding:2px 8px;margin:6px 0;
   display:block;width:fit-content;max-width:100%}
 .own{background:#fff9db;border-left:4px solid #f08c00;padding:2px 8px;margin:6px 0}
+.advice{border-left:2px dashed #868e96;padding:1px 8px;margin:7px 0}
+.note{font-weight:600;border-top:2px solid #1c1f24;padding:3px 0;margin:10px 0 3px}
 .good{color:#2b8a3e}.bad{color:#c92a2a}.open-end{color:#a85300}
 .frame,.broken{border-top:1px solid #dee2e6;padding:4px 0 6px;break-inside:avoid}
 .frame p,.broken p{margin:3px 0}.what{font-weight:600}.small{font-size:12.5px;color:#495057}
@@ -35,5 +37,16 @@ use.b{color:#1864ab}use.open{color:#2b8a3e}use.closed{color:#c92a2a}
 .ah{fill:#3b2a94}.ah.down{fill:#064b58}
 .hz{fill:none;stroke:#c92a2a;stroke-width:3}
 details{margin:2px 0}summary{cursor:pointer}
-@media print{body{margin:0;max-width:none}details::details-content{content-visibility:visible}}
+.frames{margin:4px 0}.f3>.frame,.f2>.frame{display:inline-block;vertical-align:top}
+.f3>.frame{width:calc(33% - 12px);margin-right:10px}.f2>.frame{width:calc(50% - 12px);margin-right:10px}
+table.routes td:last-child{min-width:15ch}table.calls td:first-child,table.sums td:last-child{min-width:36ch}
+@page{size:A4;margin:11mm}
+@media print{body{margin:0;padding:0;max-width:none;font-size:9.5pt;line-height:1.3}
+h1{font-size:15pt}h2{font-size:12.5pt;margin:14px 0 5px}h3{margin:10px 0 3px}h2,h3{break-after:avoid}
+td,th,.small,code,pre,.line{font-size:7.5pt;line-height:1.25}td,th{padding:1px 4px}tr{break-inside:avoid}
+.f3>.frame{width:calc(50% - 10px);margin-right:6px}.f2>.frame{display:block;width:auto}
+.frame,.broken{padding:2px 0 3px}.frame p,.broken p,.advice p{margin:1px 0}.advice{margin:3px 0}
+.f1 svg.plan,.f2 svg.plan,.broken svg.plan{max-width:70%;max-height:62mm}
+.own,.answer{break-inside:avoid}.foot{margin-top:12px}
+pre.run{columns:4}.minor svg.plan{display:none}}
 """

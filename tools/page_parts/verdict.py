@@ -1,18 +1,18 @@
-"""The verdict on the page: what verify answers, the run that shows it, and a hunt where none does."""
+"""The verdict on the page: what verify answers, the run that shows it, and a hunt beside it."""
 
-import time
 from pathlib import Path
 
-from marks import Marks
 from events import apply, hazard
 from events import replayed as states_of
 from families import broken
+from hunted import add_finding, hunt_part
 from markup import code, tag, text
+from marks import Marks
 from running import LEGEND, RunView, trouble
+from searching import search
 from shrinking import shrunk
-from state import read_run, run_text
-from wishes import without
-from wording import FAMILIES, counted, hazard_words, verdict_words
+from state import read_run
+from wording import FAMILIES, counted, verdict_words
 
 
 def verdict_part(page, columns, is_forced):
@@ -22,35 +22,44 @@ def verdict_part(page, columns, is_forced):
         page.add(tag("p", text("Under strict columns verify refuses this table, by the rules above. "
                                "What follows is asked under free columns, so that one sees what "
                                "the table does.")))
-    answer = ask_verify(page, columns)
-    page.line = answer.said
+    found = ask_verify(page, columns)
+    answer = found.answer
+    under = "under free columns: " if columns == "free" else ""
     page.show(answer)
-    page.summary.append(tag("b", text("Verdict: ")) + code(answer.said)
-                        + (text(", under free columns") if is_forced else ""))
-    page.add(tag("p", text(verdict_words(answer))))
+    found_first = answer.status == 1 and not found.is_first
+    page.said.insert(0 if found_first else len(page.said), under + answer.said)
+    page.summary.insert(0 if found_first else len(page.summary),
+                        tag("b", text("Verdict: ")) + text(under) + code(answer.said))
+    view = RunView(page.program, columns, page.plant, page.drawing)
+    is_hunted = add_finding(page, view, found)
+    page.add(tag("p", text("No verdict: the hunt had found a run before verify answered. It stands "
+                           "below." if answer.status is None and found.run
+                           else verdict_words(answer, is_hunted))))
     if answer.status in (0, 4):
         page.add(tag("p", f"Its certificate is in {code(page.wishes.cert)}."))
-    view = RunView(page.program, columns, page.plant, page.drawing)
     run = answer.output.partition("\n")[2]
     if answer.status in (1, 2, 3) and run.startswith("run 1"):
         state, events = read_run(page.plant, run)
         if answer.status == 2:
-            not_inductive_part(page, view, state, events)
+            if not is_hunted:
+                not_inductive_part(page, view, state, events)
         else:
             run_part(page, view, events, answer)
-    if answer.status in (None, 2, 3, 4):
-        hunt_part(page, view)
+    if answer.status != 0:
+        hunt_part(page, view, found)
 
 
 def ask_verify(page, columns):
-    """Asks verify, with the words that were given and a file for its certificate."""
+    """Asks verify, with the words that were given and a file for its certificate; a hunt goes on beside
+    it where the table is one of which safety isn't known."""
     cert = Path(page.wishes.cert)
-    words = without(without(page.wishes.words, "--columns"), "--cert")
     was_there = cert.exists()
-    answer = page.ask(["verify", "--columns", columns, *words, "--cert", str(cert)], page.wishes.wait)
-    if answer.status is None and not was_there:
+    words = ["verify", "--columns", columns, *page.wishes.words, "--cert", str(cert)]
+    found = search(page, words)
+    page.calls.append(found.answer)
+    if found.answer.status is None and not was_there:
         cert.unlink(missing_ok=True)        # what was written of it, if anything
-    return answer
+    return found
 
 
 def run_part(page, view, events, answer):
@@ -60,7 +69,7 @@ def run_part(page, view, events, answer):
     marks, after = None, ""
     if answer.status == 3 and states:
         marks, after = broken_marks(page, states[-1], answer.line.partition("family=")[2])
-    page.add(view.frames(events, None, marks, after))
+    page.add(page.drawing.beside(view.frames(events, None, marks, after)))
 
 
 def broken_marks(page, state, family=None):
@@ -99,32 +108,4 @@ def not_inductive_part(page, view, first, events):
     apply(page.plant, after, events[-1])
     marks, words = (None, "") if hazard(page.plant, after) else broken_marks(page, after)
     page.add(tag("p", text(LEGEND), class_="small"))
-    page.add(view.frames(events[-1:], state, marks, words))
-
-
-def hunt_part(page, view):
-    """A run to a hazard, by random runs."""
-    page.add(tag("h3", text("A hunt for a run from the start to a hazard")))
-    if not page.wishes.hunt:
-        page.own("No hunt was asked for.")
-        return
-    begin = time.monotonic()
-    run = page.hunt.for_hazard(page.wishes.hunt)
-    seconds = time.monotonic() - begin
-    hunted = (f"{page.hunt.runs} random runs of up to {page.hunt.longest} events, "
-              f"{page.hunt.events} events in all, {seconds:.0f} s")
-    if run is None:
-        page.own(f"None found in {hunted}. That isn't an answer: it doesn't show that there is "
-                 "none.")
-        return
-    said = view.answer(run)
-    at = hazard(page.plant, states_of(page.plant, run)[-1])
-    page.summary.append(tag("b", text(f"A run of {len(run)} events from the start to a hazard: "))
-                        + text(f"{hazard_words(page.plant, at)} It was found by the page, and irv "
-                               "replay answers ") + code(said))
-    page.own(f"A run of {len(run)} events was found, by {hunted}, and shortened. It needn't be the "
-             "shortest. It is the page's own; what irv replay says of it stands beside each step, "
-             f"and of the whole: {said}.")
-    page.add(tag("p", text(LEGEND), class_="small"), view.frames(run))
-    page.add(tag("p", text("The run, for irv replay:"), class_="small"),
-             tag("pre", text(run_text(page.plant, run))))
+    page.add(page.drawing.beside(view.frames(events[-1:], state, marks, words)))

@@ -1,6 +1,6 @@
 """Events, states and verdicts in words."""
 
-from rules import join
+from words import join
 
 HAZARDS = {"two": "Two trains are in section {}: a collision.",
            "wrong": "A train is on point {}, which moves or lies the other way: a derailment."}
@@ -133,9 +133,13 @@ def state_words(plant, state):
     return "; ".join(words)
 
 
-def verdict_words(answer):
-    """What an answer of verify means, in a sentence or two."""
+def verdict_words(answer, is_hunted=False):
+    """What an answer of verify means, in a sentence or two. `is_hunted` tells that a run to a hazard was
+    found beside it."""
     kind = answer.line.partition(" ")[0]
+    if is_hunted and kind in ("breach", "not", "spent"):
+        return ("By itself this leaves open whether a run from the start ends in a hazard. One does: it "
+                "stands below.")
     if answer.status is None:
         return ("No verdict: verify wasn't waited for. That says nothing of the plant; ask again "
                 "with more seconds (--wait).")
@@ -153,3 +157,17 @@ def verdict_words(answer):
                  "--conflicts may find the answer.",
         "refused": "The configuration breaks a rule, and so verify asked nothing of it."}
     return words.get(kind, "That is no verdict on the plant: verify couldn't answer.")
+
+
+def has_trains(plant, state, x):
+    """Which trains are in a section."""
+    return join(f"a train that runs {direction} is in {join(plant.name(y) for y in body)}"
+                for direction, body in state.trains if x in body)
+
+
+def kept_by(holders):
+    """Which routes hold a section."""
+    if not holders:
+        return "no route holds it"
+    return f"route {holders[0]} holds it" if len(holders) == 1 \
+        else f"the routes {join(holders)} hold it"
