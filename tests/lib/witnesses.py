@@ -1,0 +1,72 @@
+"""The lists of docs/ARCHITECTURE.md that say where a change goes, held against a witness each: one thing
+of the kind that the list is about, and every file that names it. Whoever adds another one has to open
+just these files, so the list has each of them, by its name or by a folder above it."""
+
+import re
+
+MAP = "docs/ARCHITECTURE.md"
+SPAN = re.compile(r"``? ?(.+?) ?``?(?!`)")
+# Where a thing may be named: code, definitions, proofs, tools, tests.
+SOURCES = ("crates/*/src/**/*.rt", "crates/*/specs/**/*.antt", "crates/*/proofs/**/*.antt", "tools/**/*",
+           "tests/**/*", "irv")
+# What isn't asked of each list: rt writes the first, and the page says of the others once that they come
+# with each change. tests/cases has what is tried, and the last two are lists of what all files have.
+APART = re.compile(r"/declared/|^tests/cases/|__pycache__|/lib/witnesses\.py$|^tests/docs$|"
+                   r"^tests/(?:twice\.list|walls\.counts)$|\.(?:md|json)$")
+
+def word_of(event):
+    """What names an event: its variant, the calls that end in its name, and its word."""
+    return rf"\b{event.title()} \(?\w|::{event.title()}\b|_{event}\b|[\"']{event}[\"' ]|\b{event}:"
+
+
+# The heading of a list; the witness; words of which each file that names it has one; and what names it.
+WITNESSES = (
+    ("A rule of the network (N), of the table (R), of the columns (C)", "the rule C8", ("C8",), r"\bC8\b"),
+    ("An event", "the event cancel", ("ancel",), word_of("cancel")),
+    ("An event", "the event settle", ("ettle",), word_of("settle")),
+    ("A family of the invariant", "the family V9", ("9",), r"[Vv]9"),
+    ("A command, that takes options that there are", "the command drive", ("rive",), r"\bDrive\b|[\"']drive\b"),
+    ("Another value for a limit", "the depth", ("16", "MAX_DEPTH"),
+     r"MAX_DEPTH|(?<=\w )[≤>] 16\b|\b(?:nat_le|le-leb|leb-true) \S+ 16\b|\b(?:at most|1 to) 16\b"),
+    ("A version of the configuration", "version 2", ("Second", "SECOND", "version"),
+     r"\bVersion\b.*\bSecond\b|\bSECOND\b(?! ?[,)=])|\bversion\W{1,4}2\b(?!>)"),
+)
+
+
+def list_of(page, heading):
+    """The text of a list: what stands below its heading, up to the next one."""
+    found = re.search(rf"^#+ {re.escape(heading)}$\n((?:(?!#).*\n)*)", page, re.M)
+    return found[1] if found else None
+
+
+def texts_of(root):
+    """The files in which a thing may be named, by their paths from the top, with their texts."""
+    found = {path for pattern in SOURCES for path in root.glob(pattern) if path.is_file()}
+    named = {str(path.relative_to(root)): path for path in found}
+    return {name: path.read_text(encoding="utf-8", errors="replace")
+            for name, path in sorted(named.items()) if not APART.search(name)}
+
+
+def named_in(text, places):
+    """The files and folders that a list names; `places` gives for a line what finds them."""
+    found = set()
+    for line in text.splitlines():
+        line_places = places()
+        for span in SPAN.findall(line):
+            if re.fullmatch(r"[\w.*/-]+", span):
+                found.update(line_places.all(span))
+    return found
+
+
+def left_out(root, places):
+    """For each witness its list, what it is, how many files name it, and those of them that the list
+    doesn't have; where there is no such list, none."""
+    page, texts = (root / MAP).read_text(encoding="utf-8"), texts_of(root)
+    for heading, witness, words, pattern in WITNESSES:
+        text = list_of(page, heading)
+        listed = {str(path.relative_to(root)) for path in named_in(text or "", places)}
+        naming = [name for name, source in texts.items()
+                  if any(word in source for word in words) and re.search(pattern, source)]
+        missing = [name for name in naming
+                   if name not in listed and not any(name.startswith(it + "/") for it in listed)]
+        yield heading, witness, len(naming), missing if text else None
