@@ -1,7 +1,10 @@
 #!/usr/bin/env python3
 """Proves what a crate stands on, crates that don't stand on each other side by side.
 
-    tools/side_by_side.py CRATE
+    tools/side_by_side.py CRATE [--ends STATUS]
+
+With `--ends` the crate is a program, which is proved and built then, and run once, without words: it
+has to end with that status.
 
 While `rt` proves a crate it keeps the folders of that crate and of all below it to itself, so that
 two crates over one library would wait for each other. Each crate is therefore proved in a room of
@@ -11,8 +14,9 @@ makes is put in the crate's own `out/`, where `rt` looks for it.
 There are about twice as many processes at once as there are processors, or as many as there is
 memory for (2 GiB each). The crate that the longest chain of others waits for begins first, and gets
 up to half of them. What a proof prints is shown where it fails, and as soon as it does; those that
-run beside it go on to their ends, and what they prove is kept. The status is 0 only where all are
-proved, 1 where one isn't, and 2 where the words are no crate's name.
+run beside it go on to their ends, and what they prove is kept. How far it is stands on standard
+error (`tools/progress.py`). The status is 0 only where all are proved, and the program ended as it
+has to, 1 where one isn't, and 2 where the words are wrong.
 """
 
 import contextlib
@@ -22,32 +26,17 @@ import shutil
 import subprocess
 import sys
 from concurrent.futures import FIRST_COMPLETED, ThreadPoolExecutor, wait
-from pathlib import Path
 
-TOP = Path(__file__).resolve().parent.parent
-CRATES = TOP / "crates"
+sys.dont_write_bytecode = True
+
+from progress import CRATES, Progress, Teller, below, chains, lines, seconds_of  # noqa: E402
+
 BYTES_EACH = 2 << 30
 # at most so many processes prove one crate, and at least so many where they can
 MOST_JOBS, LEAST_JOBS = 4, 2
-
-
-def lines():
-    """The line of each crate in crates.txt: its name, and what it names."""
-    text = (TOP / "crates.txt").read_text()
-    return dict(line.split(":") for line in text.splitlines() if ":" in line and line[0] != "#")
-
-
-def below(crate):
-    """Each crate of this repository that `crate` stands on, with all those that it stands on."""
-    listed, found = lines(), {}
-
-    def enter(name):
-        if name not in found:
-            lower = [low for low in listed[name].split() if low in listed]
-            found[name] = set(lower).union(*map(enter, lower))
-        return found[name]
-
-    return {name: enter(name) for name in enter(crate)}
+# how many seconds the line that tells how far it is stands, where someone watches
+EACH = 1.0
+INTERRUPTED = 130
 
 
 def processes():
@@ -114,30 +103,33 @@ def prove(name, lower, jobs):
     return f"{name} isn't proved:\n".encode() + done.stdout if done.returncode else b""
 
 
-def size(name):
-    """The bytes of a crate's code, as a measure of how long its proof takes."""
-    return sum(file.stat().st_size for file in (CRATES / name / "src").rglob("*.rt"))
-
-
-def show(fault):
+def show(fault, teller):
     """Shows what a proof that failed has printed, before any other ends."""
+    teller.say()
     sys.stdout.buffer.write(fault)
     sys.stdout.flush()
 
 
-def chains(crates):
-    """For each crate the size of the longest chain of crates, each of which stands on the one before,
-    that begins with it."""
-    found = {}
-    for name in sorted(crates, key=lambda name: -len(crates[name])):
-        above = [found[other] for other in found if name in crates[other]]
-        found[name] = size(name) + max(above, default=0)
-    return found
+def begin(name, teller):
+    """Takes down that a proof begins. What it takes is worth a note where nothing is kept of it."""
+    teller.progress.begin(name)
+    kept = CRATES / name / "out"
+    if not (kept / "incremental").exists():
+        kept.mkdir(exist_ok=True)
+        (kept / "seconds").write_text("")
 
 
-def prove_all(crates):
+def end(name, teller):
+    """Tells that a crate is proved, and notes what it took."""
+    teller.end(name)
+    note = CRATES / name / "out/seconds"
+    if note.is_file() and not note.read_text():
+        note.write_text(f"{teller.progress.taken[name]:.1f}\n")
+
+
+def prove_all(crates, teller):
     """Proves the crates, each after those that it stands on, until one fails; whether none did."""
-    chain, most = chains(crates), processes()
+    chain, most = chains(crates, seconds_of(crates)), processes()
     left = sorted(crates, key=lambda name: (-chain[name], name))
     running, proved, idle = {}, set(), most
     failed = False
@@ -148,24 +140,51 @@ def prove_all(crates):
                 name = ready.pop(0)
                 is_first = all(chain[name] >= chain[other] for other, _ in running.values())
                 jobs = max(LEAST_JOBS, min(MOST_JOBS, most // 2)) if is_first else LEAST_JOBS
+                begin(name, teller)
                 running[pool.submit(prove, name, crates[name], jobs)] = name, jobs
                 left.remove(name)
                 idle -= jobs
-            for done in wait(running, None, FIRST_COMPLETED).done:
+            teller.renew()
+            for done in wait(running, EACH if teller.is_watched else None, FIRST_COMPLETED).done:
                 name, jobs = running.pop(done)
                 idle += jobs
                 if done.result():
                     failed = True
-                    show(done.result())
+                    show(done.result(), teller)
                 else:
                     proved.add(name)
+                    end(name, teller)
+    teller.say()
     return not failed
 
 
+def run_program(name, status, teller):
+    """Proves and builds a program, and runs it; whether it ended with this status."""
+    begin(name, teller)
+    with subprocess.Popen(["rt", "run"], cwd=CRATES / name, stdin=subprocess.DEVNULL,
+                          stdout=subprocess.PIPE, stderr=subprocess.STDOUT) as running:
+        with ThreadPoolExecutor(1) as pool:
+            told = pool.submit(running.stdout.read)
+            while wait([told], EACH).not_done:
+                teller.renew()
+    if running.returncode == status:
+        end(name, teller)
+        teller.say()
+    else:
+        show(f"{name} isn't built:\n".encode() + told.result(), teller)
+    return running.returncode == status
+
+
+def status_in(words):
+    """The status that the words after the crate's name say; None where there are none."""
+    return int(words[1]) if len(words) == 2 and words[0] == "--ends" and words[1].isdigit() else None
+
+
 def fault_of(words):
-    """What is wrong with the words, or none: they are one crate's name, and it and all below are there."""
-    if len(words) != 1:
-        return "usage: tools/side_by_side.py CRATE"
+    """What is wrong with the words, or none: they are one crate's name, and it and all below are there,
+    and a status may follow."""
+    if not words or (words[1:] and status_in(words[1:]) is None):
+        return "usage: tools/side_by_side.py CRATE [--ends STATUS]"
     if words[0] not in lines():
         return f"side_by_side: {words[0]} is no crate of crates.txt"
     absent = sorted(name for name in (words[0], *below(words[0])) if not (CRATES / name).is_dir())
@@ -178,9 +197,17 @@ def main(words):
     if fault:
         print(fault, file=sys.stderr)
         return 2
-    crates = below(words[0])
-    with alone_in(crates):
-        return 0 if prove_all(crates) else 1
+    program, crates = words[0], below(words[0])
+    whole = {**crates, program: set(crates)} if words[1:] else crates
+    try:
+        with alone_in(crates):
+            teller = Teller(Progress(whole, max(1, processes() // LEAST_JOBS)))
+            is_well = prove_all(crates, teller)
+        if is_well and words[1:]:
+            is_well = run_program(program, status_in(words[1:]), teller)
+    except KeyboardInterrupt:
+        return INTERRUPTED
+    return 0 if is_well else 1
 
 
 if __name__ == "__main__":
