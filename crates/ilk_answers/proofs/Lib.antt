@@ -3,3 +3,4 @@ pub mod Written
 pub mod Tables
 pub mod Drives
 pub mod Strict
+pub mod Readers

@@ -15,7 +15,8 @@ is_audit _ = false
 -- the reader of a command over a plant has read these bytes, in one piece or in several
 abbrev pub HasRead : Command → PlantLists → Reader → List ℕ → Type 0
 HasRead command p (Text text) bytes = (is_audit command ≡ false) × (text.items ≡ bytes)
-HasRead command p (Certificate reader) bytes = (is_audit command ≡ true) × audit.HasFed p reader bytes
+HasRead command p (Certificate reader) bytes =
+    (is_audit command ≡ true) × (reader.plant.now ≡ p) × audit.HasFed reader bytes
 
 -- between the one and the other the reader took these bytes
 abbrev pub Took : Reader → Reader → List ℕ → Type 0

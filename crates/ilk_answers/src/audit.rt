@@ -11,9 +11,9 @@ use ilk_plant::Plant;
 use ilk_plant_audit::{CertAudit, Ended};
 use std::alloc::{AllocError, Global};
 
-/// The reply to the bytes that an audit took, which are shorter than 2^40.
-pub fn audit_reply(alloc: Global, plant: &Plant, audit: CertAudit) -> Result<Reply, AllocError>
-    ensures reply { IfOk result (λ made. (bytes : List ℕ) → HasFed plant.now audit bytes → length bytes < 2 ^ 40 → TellsAudit plant.now bytes made) }
+/// The reply to the bytes that an audit over the plant took, which are shorter than 2^40.
+pub fn audit_reply(alloc: Global, plant: &Plant, audit: CertAudit<'_>) -> Result<Reply, AllocError>
+    ensures reply { IfOk result (λ made. audit.entry.plant.now ≡ plant.now → (bytes : List ℕ) → HasFed audit.entry bytes → length bytes < 2 ^ 40 → TellsAudit plant.now bytes made) }
     ensures planned { IfOk result (λ made. IsTrue (is_reply made.status) × (made.certificate ≡ [])) }
 {
     certificates_are_right(plant);

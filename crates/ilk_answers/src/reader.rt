@@ -8,16 +8,16 @@ use std::alloc::{AllocError, Global};
 
 /// What a command keeps of what it reads besides the configuration, which comes to it in pieces.
 #[derive(Drop)]
-pub enum Reader {
+pub enum Reader<'a> {
     /// The whole text.
     Text(Vec<u8>),
     /// Of a certificate, what its audit keeps.
-    Certificate(CertAudit),
+    Certificate(CertAudit<'a>),
 }
 
-impl Reader {
+impl<'a> Reader<'a> {
     /// The reader of a command over a plant, which took nothing yet.
-    pub fn new(alloc: Global, command: &Command, plant: &Plant) -> Result<Reader, AllocError>
+    pub fn new(alloc: Global, command: &Command, plant: &'a Plant) -> Result<Reader<'a>, AllocError>
         ensures { IfOk result (λ reader. HasRead command.now plant.now reader []) }
     {
         match command {
@@ -27,6 +27,7 @@ impl Reader {
     }
 
     /// Takes the next piece. Where memory runs out the reader is of no more use.
+    #[tactic(auto, using(crate::proofs::Readers::audit_took))]
     pub fn take(&mut self, piece: &[u8]) -> Result<(), AllocError>
         ensures { OnOk result (Took self.old self.new piece.now) }
     {

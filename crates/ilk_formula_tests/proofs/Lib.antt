@@ -1,1 +1,2 @@
 mod FromOne
+mod Walks

@@ -12,11 +12,15 @@ mod assignments;
 #[cfg(test)]
 mod audit_tests;
 #[cfg(test)]
+mod chain_tests;
+#[cfg(test)]
 mod decide_tests;
 #[cfg(test)]
 mod formula_memory_tests;
 #[cfg(test)]
 mod number_tests;
+#[cfg(test)]
+mod pickers;
 #[cfg(test)]
 mod propagation_tests;
 #[cfg(test)]
@@ -25,5 +29,7 @@ mod query_tests;
 mod row_tests;
 #[cfg(test)]
 mod search_memory_tests;
+#[cfg(test)]
+mod solver_tests;
 #[cfg(test)]
 mod text_tests;

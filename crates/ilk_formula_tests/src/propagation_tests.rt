@@ -1,5 +1,4 @@
 ghost use Rattle.std.specs.Prelude.{◌≡◌, IfOk};
-ghost use Rattle.ilk_clauses.specs.Chained.{formula_of};
 
 use ilk_clauses::Clauses;
 use ilk_cnf::{Cnf, Lit};
@@ -28,17 +27,6 @@ fn formula(alloc: Global, refuted: bool) -> Result<Cnf, AllocError>
     Ok(cnf)
 }
 
-// The clauses of a formula.
-fn clauses_of(alloc: Global, cnf: &Cnf) -> Result<Clauses, AllocError>
-    ensures { IfOk result (λ clauses. clauses.vars ≡ cnf.now.vars) }
-{
-    let mut clauses = Clauses::new(alloc, cnf.vars())?;
-    for c in 0..cnf.clauses() {
-        clauses.add(cnf.clause(c + 1))?;
-    }
-    Ok(clauses)
-}
-
 // How a propagation ended: at a clause that is false, or with so many variables set.
 fn end(conflict: Option<u64>, trail: &Trail) -> Option<u64> {
     match conflict {
@@ -50,7 +38,7 @@ fn end(conflict: Option<u64>, trail: &Trail) -> Option<u64> {
 // How propagation ends by chains, and by a scan.
 fn ends(alloc: Global, refuted: bool) -> Result<(Option<u64>, Option<u64>), AllocError> {
     let cnf = formula(alloc, refuted)?;
-    let mut clauses = clauses_of(alloc, &cnf)?;
+    let mut clauses = Clauses::of(alloc, &cnf)?;
     let mut by_chains = Trail::new(alloc, 4)?;
     let mut by_scan = Trail::new(alloc, 4)?;
     let scanned = propagate_by_scan(&clauses, &mut by_scan);

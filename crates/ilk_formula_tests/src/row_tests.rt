@@ -1,76 +1,9 @@
-ghost use Rattle.std.specs.Prelude.{◌≡◌, ℕ, true, false, IfOk, IsTrue};
-ghost use Rattle.ilk_solver.specs.View.{is_unset};
-
+use crate::pickers::{always, by_greatest, by_heaviest, by_least, never};
 use ilk_cnf::{Assignment, Cnf, Lit};
 use ilk_log::Log;
-use ilk_solver::{Answer, Picker, Restart, Solver, View};
+use ilk_solver::{Answer, Picker, Restart, Solver};
 use std::alloc::{AllocError, Global};
 use std::test::Fail;
-
-// The negative literal of the least unset variable.
-fn least(view: &View) -> Lit
-    ensures unset { (v : ℕ) → IsTrue (is_unset view.now v) → IsTrue (is_unset view.now result.var) }
-    ensures negative { result.positive ≡ false }
-{
-    for v in 1..=view.vars() {
-        if view.unset(v) {
-            return Lit::new(v, false);
-        }
-    }
-    Lit::new(1, false)
-}
-
-// The positive literal of the greatest unset variable.
-fn greatest(view: &View) -> Lit
-    ensures unset { (v : ℕ) → IsTrue (is_unset view.now v) → IsTrue (is_unset view.now result.var) }
-    ensures positive { result.positive ≡ true }
-{
-    let mut v = view.vars();
-    while v > 0 {
-        if view.unset(v) {
-            return Lit::new(v, true);
-        }
-        v -= 1;
-    }
-    Lit::new(1, true)
-}
-
-// The negative literal of the heaviest unset variable.
-fn heaviest(view: &View) -> Lit
-    ensures unset { (v : ℕ) → IsTrue (is_unset view.now v) → IsTrue (is_unset view.now result.var) }
-    ensures negative { result.positive ≡ false }
-{
-    let _ = view.vars();
-    match view.heaviest() {
-        Some(v) => Lit::new(v, false),
-        None => Lit::new(1, false),
-    }
-}
-
-// The picker that decides by `least`.
-fn by_least(alloc: Global) -> Result<Picker, AllocError> {
-    Ok(Picker::new(Box::new(alloc, least)?))
-}
-
-// The picker that decides by `greatest`.
-fn by_greatest(alloc: Global) -> Result<Picker, AllocError> {
-    Ok(Picker::new(Box::new(alloc, greatest)?))
-}
-
-// The picker that decides by `heaviest`.
-fn by_heaviest(alloc: Global) -> Result<Picker, AllocError> {
-    Ok(Picker::new(Box::new(alloc, heaviest)?))
-}
-
-// A restart after each step.
-fn always(_: u64) -> bool {
-    true
-}
-
-// No restart.
-fn never(_: u64) -> bool {
-    false
-}
 
 /// The first so many of the clauses (1 2), (1 -2), (-1 2), (-1 -2).
 pub fn formula(alloc: Global, clauses: u8) -> Result<Cnf, AllocError> {
@@ -104,8 +37,8 @@ fn push_sizes(text: &mut String, log: &Log) -> Result<(), AllocError> {
     Ok(())
 }
 
-// What a search answers, and the sizes of its steps.
-fn search_of(
+/// What a search answers, and the sizes of its steps.
+pub fn search_of(
     alloc: Global,
     cnf: &Cnf,
     picker: Picker,
@@ -126,8 +59,8 @@ fn search_of(
     Ok(text)
 }
 
-// The same of a search over the first so many clauses.
-fn search(
+/// The same of a search over the first so many clauses.
+pub fn search(
     alloc: Global,
     clauses: u8,
     picker: Picker,
@@ -224,65 +157,5 @@ fn no_clause(rt: HostRuntime) -> Result<(), Fail> {
         0,
     )?;
     assert_eq!(rt; a.as_str(), "sat false false");
-    Ok(())
-}
-
-// The negative literal of the first variable of an order that is unset; that of the least unset one
-// where the order has none.
-fn first_of(order: &[u64], view: &View) -> Lit
-    ensures unset { (v : ℕ) → IsTrue (is_unset view.now v) → IsTrue (is_unset view.now result.var) }
-    ensures negative { result.positive ≡ false }
-{
-    for v in order {
-        if 0 < *v && *v <= view.vars() && view.unset(*v) {
-            return Lit::new(*v, false);
-        }
-    }
-    least(view)
-}
-
-// A closure decides, which holds an order of variables. Of the clause (1 2) the variable that is decided
-// first is false, and the other one is forced.
-#[test]
-fn decisions_by_an_order(rt: HostRuntime) -> Result<(), Fail> {
-    for (order, answer) in [([1, 2], "sat false true"), ([2, 1], "sat true false")] {
-        let by_order = move |view: &View| first_of(&order, view);
-        let picker = Picker::new(Box::new(rt.alloc(), by_order)?);
-        let restart = Restart::new(Box::new(rt.alloc(), never)?);
-        let a = search(rt.alloc(), 1, picker, restart, 0)?;
-        assert_eq!(rt; a.as_str(), answer);
-    }
-    Ok(())
-}
-
-// The clauses (2 3 4), (2 3 -4) and (1 -3).
-fn weighing(alloc: Global) -> Result<Cnf, AllocError> {
-    let mut cnf = Cnf::new(alloc);
-    cnf.fresh()?;
-    cnf.fresh()?;
-    cnf.fresh()?;
-    cnf.fresh()?;
-    cnf.add_lits(&[Lit::new(2, true), Lit::new(3, true), Lit::new(4, true)])?;
-    cnf.add_lits(&[Lit::new(2, true), Lit::new(3, true), Lit::new(4, false)])?;
-    cnf.add_lits(&[Lit::new(1, true), Lit::new(3, false)])?;
-    Ok(cnf)
-}
-
-// A closure restarts, which holds a number of steps. Variable 1 is decided to be false, so 3 is false too,
-// and 2 can't be: the step (2 3) is learned, by which 2 is true. Where the search goes back to its start
-// then, 2 and 3 are the heaviest, and 2 is decided to be false: so 3 is true, and 1 too.
-#[test]
-fn restarts_at_a_number(rt: HostRuntime) -> Result<(), Fail> {
-    for (number, answer) in [
-        (1, "sat true false true false longer"),
-        (2, "sat false true false false longer"),
-    ] {
-        let at_number = move |steps: u64| steps == number;
-        let picker = by_heaviest(rt.alloc())?;
-        let restart = Restart::new(Box::new(rt.alloc(), at_number)?);
-        let cnf = weighing(rt.alloc())?;
-        let a = search_of(rt.alloc(), &cnf, picker, restart, 9)?;
-        assert_eq!(rt; a.as_str(), answer, "restart at {number}");
-    }
     Ok(())
 }

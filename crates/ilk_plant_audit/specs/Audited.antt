@@ -9,9 +9,9 @@ use Rattle.ilk_cert_audit.specs.declared.answers.Ended.{Ended}
 use Rattle.ilk_cert_audit.specs.declared.answers.Fed.{Fed}
 use Rattle.ilk_plant_audit.specs.declared.audit.CertAudit.{CertAudit}
 
--- an audit over the plant took these bytes, in one piece or in several
-abbrev pub HasFed : PlantLists → CertAudit → Bytes → Type 0
-HasFed p audit bytes = SystemHasFed (system_of p) (goal_of p) audit.audit bytes
+-- an audit took these bytes, in one piece or in several, over the plant that it keeps a borrow of
+abbrev pub HasFed : CertAudit → Bytes → Type 0
+HasFed audit bytes = SystemHasFed (system_of audit.plant.now) (goal_of audit.plant.now) audit.audit bytes
 
 -- what is answered to a piece, with which the text so far is these bytes
 abbrev pub FedFor : PlantLists → Bytes → Fed → Type 0

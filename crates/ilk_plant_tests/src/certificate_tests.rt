@@ -1,6 +1,8 @@
+ghost use Rattle.std.specs.Prelude.{◌<◌};
+
 use crate::plants::plant_of;
 use crate::texts::line;
-use ilk_engine::{certificate, decide};
+use ilk_engine::{CertAudit, CertificateText, Ended, Fed, Found, certificate, certify, decide};
 use ilk_plant::Plant;
 use std::alloc::{AllocError, Global};
 use std::test::Fail;
@@ -11,13 +13,105 @@ fn written(alloc: Global, plant: &Plant) -> Result<Vec<u8>, AllocError> {
     certificate(alloc, &found)
 }
 
+// The same, to be taken in pieces.
+fn certified(alloc: Global, plant: &Plant) -> Result<CertificateText, AllocError> {
+    let Found { verdict, asked } = decide(alloc, plant, 1, 100)?;
+    certify(alloc, &verdict, asked)
+}
+
+// Whether a text that is taken in pieces is this one, to its end.
+fn is_taken(text: &mut CertificateText, whole: &[u8]) -> bool {
+    for piece in whole.chunks(7) {
+        let mut taken = [0; 7];
+        let count = text.take(&mut taken);
+        if count != piece.len() || !taken.starts_with(piece) {
+            return false;
+        }
+    }
+    text.take(&mut [0]) == 0
+}
+
+// What is answered to a text that comes in pieces of at most this length, with an empty one after each.
+fn ended(alloc: Global, plant: &Plant, text: &[u8], length: usize) -> Result<Ended, AllocError>
+    requires { 0 < length }
+{
+    let mut audit = CertAudit::new(alloc, plant)?;
+    for piece in text.chunks(length) {
+        audit.feed(piece)?;
+        audit.feed(b"".as_slice())?;
+    }
+    Ok(audit.end())
+}
+
+// For what number a text is accepted; 0 where it isn't.
+fn accepted(ended: Ended) -> u32 {
+    match ended {
+        Ended::Accepted { k } => k,
+        Ended::Rejected { .. } => 0,
+    }
+}
+
+// Which line of a text is the first bad one; 0 where none is.
+fn rejected(ended: Ended) -> u64 {
+    match ended {
+        Ended::Accepted { .. } => 0,
+        Ended::Rejected { line } => line,
+    }
+}
+
+// `certificate` and `certify` give one text.
 #[test]
-fn a_certificate_whole(rt: HostRuntime) -> Result<(), Fail> {
+fn a_certificate_whole_and_in_pieces(rt: HostRuntime) -> Result<(), Fail> {
     let alloc = rt.alloc();
     let plant = plant_of(alloc, line())?;
     let whole = written(alloc, &plant)?;
     let head = b"irv certificate 3\nsafe 1\nquery hazard 0\n";
     assert!(rt; whole.as_slice().starts_with(head.as_slice()));
     assert!(rt; whole.as_slice().ends_with(b"\nend\n".as_slice()));
+    let mut text = certified(alloc, &plant)?;
+    assert!(rt; is_taken(&mut text, whole.as_slice()));
+    Ok(())
+}
+
+// A certificate is accepted in whatever pieces it comes.
+#[test]
+fn a_certificate_in_pieces_of_any_length(rt: HostRuntime) -> Result<(), Fail> {
+    let alloc = rt.alloc();
+    let plant = plant_of(alloc, line())?;
+    let whole = written(alloc, &plant)?;
+    for length in [1, 7, 65536] {
+        let ended = ended(alloc, &plant, whole.as_slice(), length)?;
+        assert_eq!(rt; accepted(ended), 1, "pieces of {length}");
+    }
+    Ok(())
+}
+
+// So is the first bad line of a text the same: a query that is asked twice, and an end that isn't there.
+#[test]
+fn a_bad_line_in_pieces_of_any_length(rt: HostRuntime) -> Result<(), Fail> {
+    let alloc = rt.alloc();
+    let plant = plant_of(alloc, line())?;
+    let twice = b"irv certificate 3\nsafe 1\nquery hazard 0\nquery hazard 0\n";
+    for length in [1, 7, 65536] {
+        let ended = ended(alloc, &plant, twice.as_slice(), length)?;
+        assert_eq!(rt; rejected(ended), 4, "pieces of {length}");
+    }
+    Ok(())
+}
+
+// After a bad line each piece is answered with that line.
+#[test]
+fn a_bad_line_stays(rt: HostRuntime) -> Result<(), Fail> {
+    let alloc = rt.alloc();
+    let plant = plant_of(alloc, line())?;
+    let mut audit = CertAudit::new(alloc, &plant)?;
+    for piece in ["irv certificate", " 2\n", "", "safe 1\n"] {
+        let answer = match audit.feed(piece.as_bytes())? {
+            Fed::More => 0,
+            Fed::Bad { line } => line,
+        };
+        assert_eq!(rt; answer, if piece == "irv certificate" { 0 } else { 1 });
+    }
+    assert_eq!(rt; rejected(audit.end()), 1);
     Ok(())
 }

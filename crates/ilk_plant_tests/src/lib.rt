@@ -4,7 +4,8 @@
 //! `walk_tests` goes through many states of a plant, and compares each event with the rules of the
 //! plant's system, and each state with the forms over its image. `form_tests` has states that are made
 //! by hand, and values; `decide_tests` has verdicts, and
-//! `certificate_tests` the certificate of one, whole. `strict_tests` walks over plants whose tables break
+//! `certificate_tests` the certificate of one, whole and in pieces. `name_tests` asks what has a name.
+//! `strict_tests` walks over plants whose tables break
 //! no rule, and asks the invariant after each event.
 #![tactic(auto)]
 
@@ -20,6 +21,8 @@ mod examples;
 mod form_tests;
 #[cfg(test)]
 mod forms;
+#[cfg(test)]
+mod name_tests;
 #[cfg(test)]
 mod plants;
 #[cfg(test)]

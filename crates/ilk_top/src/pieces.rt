@@ -19,7 +19,7 @@ const PIECE: usize = 65536;
 pub fn read_pieces<S: Source>(
     source: &mut S,
     limit: u64,
-    reader: &mut Reader,
+    reader: &mut Reader<'_>,
 ) -> Result<(), ReadError>
     requires limit { limit < 2 ^ 40 }
     ensures whole { IfOk result (λ _. IfSome (S.left source.old) (λ bytes. Took reader.old reader.new bytes × (length bytes ≤ limit))) }

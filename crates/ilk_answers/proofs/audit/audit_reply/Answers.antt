@@ -1,17 +1,25 @@
-use Rattle.std.proofs.Common.{◌<◌, ◌^◌, inl, inr, length, ap, ◌∙◌, subst, arith}
+use Rattle.std.proofs.Common.{◌<◌, ◌^◌, inl, inr, length, ap, ◌∙◌, ◌≡◌, List, ℕ, subst, arith}
 use Rattle.ilk_behave.specs.Behaviour.{system_of}
 use Rattle.ilk_queries.specs.Goal.{goal_of}
+use Rattle.ilk_plant.specs.Plant.{PlantLists}
 use Rattle.ilk_plant_audit.specs.Audited.{EndsFor}
+use Rattle.ilk_plant_audit.specs.declared.audit.CertAudit.{CertAudit}
 use Rattle.ilk_cert_audit.specs.declared.answers.Ended.{Ended}
 use Rattle.ilk_cert_audit.specs.declared.answers.Ended.TheVariants.{Accepted, Rejected}
 use Rattle.ilk_answers.specs.Report.{reply}
 use Rattle.ilk_answers.specs.declared.status.Status.TheVariants.{Good, Rejected as IsRejected}
 use Rattle.ilk_answers.proofs.audit.audit_reply.Goals as goal
 
+-- what is answered of the plant of the audit, under another name of each
+over-plant : (audit : CertAudit) (p : PlantLists) (bytes : List ℕ) (ended told : Ended) → audit.plant.now ≡ p → ended ≡ told → EndsFor audit.plant.now bytes ended → EndsFor p bytes told
+over-plant audit p bytes ended told same is ends =
+    subst (λ q. EndsFor q bytes told) same (subst (λ e. EndsFor audit.plant.now bytes e) is ends)
+
 pub returns-in_ok-text-in-Accepted-clause-reply : goal.returns-in_ok-text-in-Accepted-clause-reply
-returns-in_ok-text-in-Accepted-clause-reply c bytes fed short =
+returns-in_ok-text-in-Accepted-clause-reply c same bytes fed short =
     let p = c.args.plant.now in
-    let ends : EndsFor p bytes (Accepted c.in-Accepted.k) = subst (λ (e : Ended). EndsFor p bytes e) c.in-Accepted.is (c.end.ensures p bytes fed) in
+    let told : Ended = Accepted c.in-Accepted.k in
+    let ends : EndsFor p bytes told = over-plant c.args.audit p bytes c.end.result told same c.in-Accepted.is (c.end.ensures bytes fed) in
     inl (record {
       k = c.in-Accepted.k;
       certificate = ends;
@@ -20,9 +28,10 @@ returns-in_ok-text-in-Accepted-clause-reply c bytes fed short =
     })
 
 pub returns-in_ok-text-in-Rejected-clause-reply : goal.returns-in_ok-text-in-Rejected-clause-reply
-returns-in_ok-text-in-Rejected-clause-reply c bytes fed short =
+returns-in_ok-text-in-Rejected-clause-reply c same bytes fed short =
     let p = c.args.plant.now in
-    let ends : EndsFor p bytes (Rejected c.in-Rejected.line) = subst (λ (e : Ended). EndsFor p bytes e) c.in-Rejected.is (c.end.ensures p bytes fed) in
+    let told : Ended = Rejected c.in-Rejected.line in
+    let ends : EndsFor p bytes told = over-plant c.args.audit p bytes c.end.result told same c.in-Rejected.is (c.end.ensures bytes fed) in
     let fits : length bytes < 2 ^ 63 = grind (arith, short) in
     inr (record {
       line = c.in-Rejected.line;

@@ -5,4 +5,6 @@ use Rattle.ilk_plant_audit.proofs.audit.CertAudit.feed.Goals as goal
 
 -- what is so over each system and goal is so over the plant's
 pub returns-clause-fed : goal.returns-clause-fed
-returns-clause-fed c = on_ok_weaker c.feed.result (λ fed p. fed (system_of p) (goal_of p)) c.feed.ensures.fed
+returns-clause-fed c =
+    let p = c.args.self.now.plant.now in
+    on_ok_weaker c.feed.result (λ fed. fed (system_of p) (goal_of p)) c.feed.ensures.fed

@@ -13,6 +13,6 @@ pub new-requires-clause-goal : goal.new-requires-clause-goal
 new-requires-clause-goal c =
     valid_goal c.args.plant.now c.in_ok-system.system.ranges (goal_tree c.in_ok-goal.goal) (ap (λ s. s.ranges) c.in_ok-system.ensures.system) c.in_ok-goal.ensures.goal c.in_ok-goal.ensures.valid
 
-pub returns : goal.returns
-returns c =
+pub returns-clause-fed : goal.returns-clause-fed
+returns-clause-fed c =
     made_over c.args.plant.now (system_tree c.in_ok-system.system) (goal_tree c.in_ok-goal.goal) c.new.result [] c.in_ok-system.ensures.system c.in_ok-goal.ensures.goal c.new.ensures

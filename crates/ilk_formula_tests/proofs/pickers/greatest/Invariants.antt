@@ -1,6 +1,6 @@
 use Rattle.std.proofs.Common.{◌≡◌, ◌<◌, ◌≤◌, ℕ, false}
 use Rattle.ilk_solver.specs.View.{is_unset}
-use Rattle.ilk_formula_tests.proofs.row_tests.greatest.Given as goal
+use Rattle.ilk_formula_tests.proofs.pickers.greatest.Given as goal
 
 abbrev pub invariant-loop-v : goal.invariant-loop-v
 invariant-loop-v l = record {

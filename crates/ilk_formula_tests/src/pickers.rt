@@ -1,0 +1,88 @@
+ghost use Rattle.std.specs.Prelude.{◌≡◌, ℕ, true, false, IsTrue};
+ghost use Rattle.ilk_solver.specs.View.{is_unset};
+
+use ilk_cnf::Lit;
+use ilk_solver::{Picker, View};
+use std::alloc::{AllocError, Global};
+
+/// The negative literal of the least unset variable.
+pub fn least(view: &View) -> Lit
+    ensures unset { (v : ℕ) → IsTrue (is_unset view.now v) → IsTrue (is_unset view.now result.var) }
+    ensures negative { result.positive ≡ false }
+{
+    for v in 1..=view.vars() {
+        if view.unset(v) {
+            return Lit::new(v, false);
+        }
+    }
+    Lit::new(1, false)
+}
+
+/// The positive literal of the greatest unset variable.
+pub fn greatest(view: &View) -> Lit
+    ensures unset { (v : ℕ) → IsTrue (is_unset view.now v) → IsTrue (is_unset view.now result.var) }
+    ensures positive { result.positive ≡ true }
+{
+    let mut v = view.vars();
+    while v > 0 {
+        if view.unset(v) {
+            return Lit::new(v, true);
+        }
+        v -= 1;
+    }
+    Lit::new(1, true)
+}
+
+/// The negative literal of the heaviest unset variable.
+pub fn heaviest(view: &View) -> Lit
+    ensures unset { (v : ℕ) → IsTrue (is_unset view.now v) → IsTrue (is_unset view.now result.var) }
+    ensures negative { result.positive ≡ false }
+{
+    let _ = view.vars();
+    match view.heaviest() {
+        Some(v) => Lit::new(v, false),
+        None => Lit::new(1, false),
+    }
+}
+
+/// The same of a variable that stands in a step; that of the least unset variable where none does.
+pub fn weighed(view: &View) -> Lit
+    ensures unset { (v : ℕ) → IsTrue (is_unset view.now v) → IsTrue (is_unset view.now result.var) }
+    ensures negative { result.positive ≡ false }
+{
+    let _ = view.vars();
+    match view.heaviest() {
+        Some(v) if view.weight(v) > 0 => Lit::new(v, false),
+        _ => least(view),
+    }
+}
+
+/// The picker that decides by `weighed`.
+pub fn by_weighed(alloc: Global) -> Result<Picker, AllocError> {
+    Ok(Picker::new(Box::new(alloc, weighed)?))
+}
+
+/// The picker that decides by `least`.
+pub fn by_least(alloc: Global) -> Result<Picker, AllocError> {
+    Ok(Picker::new(Box::new(alloc, least)?))
+}
+
+/// The picker that decides by `greatest`.
+pub fn by_greatest(alloc: Global) -> Result<Picker, AllocError> {
+    Ok(Picker::new(Box::new(alloc, greatest)?))
+}
+
+/// The picker that decides by `heaviest`.
+pub fn by_heaviest(alloc: Global) -> Result<Picker, AllocError> {
+    Ok(Picker::new(Box::new(alloc, heaviest)?))
+}
+
+/// A restart after each step.
+pub fn always(_: u64) -> bool {
+    true
+}
+
+/// No restart.
+pub fn never(_: u64) -> bool {
+    false
+}

@@ -1,0 +1,105 @@
+ghost use Rattle.std.specs.Prelude.{◌≡◌, ℕ, false, IsTrue};
+ghost use Rattle.ilk_solver.specs.View.{is_unset};
+
+use crate::pickers::{always, by_heaviest, by_least, by_weighed, least, never};
+use crate::row_tests::{formula, search, search_of};
+use ilk_cnf::{Cnf, Lit};
+use ilk_solver::{Picker, Restart, Solver, View};
+use std::alloc::{AllocError, Global};
+use std::test::Fail;
+
+// The negative literal of the first variable of an order that is unset; that of the least unset one
+// where the order has none.
+fn first_of(order: &[u64], view: &View) -> Lit
+    ensures unset { (v : ℕ) → IsTrue (is_unset view.now v) → IsTrue (is_unset view.now result.var) }
+    ensures negative { result.positive ≡ false }
+{
+    for v in order {
+        if 0 < *v && *v <= view.vars() && view.unset(*v) {
+            return Lit::new(*v, false);
+        }
+    }
+    least(view)
+}
+
+// A closure decides, which holds an order of variables. Of the clause (1 2) the variable that is decided
+// first is false, and the other one is forced.
+#[test]
+fn decisions_by_an_order(rt: HostRuntime) -> Result<(), Fail> {
+    for (order, answer) in [([1, 2], "sat false true"), ([2, 1], "sat true false")] {
+        let by_order = move |view: &View| first_of(&order, view);
+        let picker = Picker::new(Box::new(rt.alloc(), by_order)?);
+        let restart = Restart::new(Box::new(rt.alloc(), never)?);
+        let a = search(rt.alloc(), 1, picker, restart, 0)?;
+        assert_eq!(rt; a.as_str(), answer);
+    }
+    Ok(())
+}
+
+// The clauses (2 3 4), (2 3 -4) and (1 -3).
+fn weighing(alloc: Global) -> Result<Cnf, AllocError> {
+    let mut cnf = Cnf::new(alloc);
+    cnf.fresh()?;
+    cnf.fresh()?;
+    cnf.fresh()?;
+    cnf.fresh()?;
+    cnf.add_lits(&[Lit::new(2, true), Lit::new(3, true), Lit::new(4, true)])?;
+    cnf.add_lits(&[Lit::new(2, true), Lit::new(3, true), Lit::new(4, false)])?;
+    cnf.add_lits(&[Lit::new(1, true), Lit::new(3, false)])?;
+    Ok(cnf)
+}
+
+// A closure restarts, which holds a number of steps. Variable 1 is decided to be false, so 3 is false too,
+// and 2 can't be: the step (2 3) is learned, by which 2 is true. Where the search goes back to its start
+// then, 2 and 3 are the heaviest, and 2 is decided to be false: so 3 is true, and 1 too.
+#[test]
+fn restarts_at_a_number(rt: HostRuntime) -> Result<(), Fail> {
+    for (number, answer) in [
+        (1, "sat true false true false longer"),
+        (2, "sat false true false false longer"),
+    ] {
+        let at_number = move |steps: u64| steps == number;
+        let picker = by_heaviest(rt.alloc())?;
+        let restart = Restart::new(Box::new(rt.alloc(), at_number)?);
+        let cnf = weighing(rt.alloc())?;
+        let a = search_of(rt.alloc(), &cnf, picker, restart, 9)?;
+        assert_eq!(rt; a.as_str(), answer, "restart at {number}");
+    }
+    Ok(())
+}
+
+// A picker that asks for weights decides as the one that asks for the heaviest variable.
+#[test]
+fn decisions_by_weights(rt: HostRuntime) -> Result<(), Fail> {
+    let cnf = weighing(rt.alloc())?;
+    let restart = Restart::new(Box::new(rt.alloc(), always)?);
+    let a = search_of(rt.alloc(), &cnf, by_weighed(rt.alloc())?, restart, 9)?;
+    assert_eq!(rt; a.as_str(), "sat true false true false longer");
+    Ok(())
+}
+
+// The clauses (1), (-1 2) and, where they are to be refuted, (-1 -2).
+fn forcing(alloc: Global, refuted: bool) -> Result<Cnf, AllocError> {
+    let mut cnf = Cnf::new(alloc);
+    cnf.fresh()?;
+    cnf.fresh()?;
+    cnf.add_lits(&[Lit::new(1, true)])?;
+    cnf.add_lits(&[Lit::new(1, false), Lit::new(2, true)])?;
+    if refuted {
+        cnf.add_lits(&[Lit::new(1, false), Lit::new(2, false)])?;
+    }
+    Ok(cnf)
+}
+
+// Where nothing is false propagation answers nothing, else a clause that is false.
+#[test]
+fn propagation_of_a_solver(rt: HostRuntime) -> Result<(), Fail> {
+    for refuted in [false, true] {
+        let cnf = forcing(rt.alloc(), refuted)?;
+        let picker = by_least(rt.alloc())?;
+        let restart = Restart::new(Box::new(rt.alloc(), never)?);
+        let mut solver = Solver::new(rt.alloc(), &cnf, picker, restart)?;
+        assert_eq!(rt; solver.propagate().is_some(), refuted);
+    }
+    Ok(())
+}

@@ -1,0 +1,17 @@
+use crate::plants::plant_of;
+use crate::texts::line;
+use std::test::Fail;
+
+// Sections, boards and routes are found by their names, each kind among its own.
+#[test]
+fn names_of_a_line(rt: HostRuntime) -> Result<(), Fail> {
+    let plant = plant_of(rt.alloc(), line())?;
+    assert_eq!(rt; plant.section_named("b"), Some(1));
+    assert_eq!(rt; plant.board_named("m1"), Some(0));
+    assert_eq!(rt; plant.board_named("m2"), Some(1));
+    assert_eq!(rt; plant.route_named("r2"), Some(1));
+    for name in ["a", "r1", "m", "m22", ""] {
+        assert_eq!(rt; plant.board_named(name), None, "no board is named {name}");
+    }
+    Ok(())
+}
