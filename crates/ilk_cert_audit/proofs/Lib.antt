@@ -10,3 +10,4 @@ pub mod Pieces
 pub mod Words
 pub mod Answered
 pub mod Feeding
+pub mod Hopeless

@@ -1,5 +1,5 @@
 -- A line is taken: the reader is where it is after one more line, or the line is the first bad one.
-use Rattle.std.proofs.Common.{◌≡◌, ℕ, ◌+◌, ◌-◌, true, ◌||◌, List, [], ◌∷◌, ◌++◌, length, take, refl, sym, ap, ◌∙◌, subst, arith, append_assoc, length-append, Some, None}
+use Rattle.std.proofs.Common.{◌≡◌, ℕ, ◌+◌, ◌-◌, true, false, ◌||◌, List, [], ◌∷◌, ◌++◌, length, take, refl, sym, ap, ◌∙◌, subst, arith, append_assoc, length-append, Some, None}
 use Rattle.std.proofs.lemmas.List.{take-append-le, take_all}
 use Rattle.std.proofs.Math.Seq.{take-append_seam}
 use Rattle.ilk_ir.specs.System.{SystemTree}
@@ -104,3 +104,7 @@ unrefused (Between k next) h not_refused = h
 unrefused (Within k q a) h not_refused = h
 unrefused (Ended k) h not_refused = h
 unrefused (Refused n) h not_refused = absurd (not_refused n refl)
+
+-- where no line was bad, the stage is one
+pub staged : (stage : Stage) → is_refused stage ≡ false → (is_refused stage || is_stage stage) ≡ true → is_stage stage ≡ true
+staged stage open_ either = ap (λ b. b || is_stage stage) (sym open_) ∙ either

@@ -1,12 +1,12 @@
 -- What a reader of a certificate has after some lines, and after some bytes.
-use Rattle.std.specs.Prelude.{ℕ, Bool, ◌≡◌, ◌+◌, ◌↔◌, List, ◌++◌, length}
+use Rattle.std.specs.Prelude.{ℕ, Bool, false, ◌≡◌, ◌+◌, ◌↔◌, List, [], ◌++◌, length}
 use Rattle.ilk_ir.specs.System.{SystemTree, system_tree}
 use Rattle.ilk_lines.specs.Lines.{Bytes, after_lines, lines_of}
 use Rattle.ilk_unroll.specs.Goal.{GoalTree, goal_tree}
 use Rattle.ilk_cert_audit.specs.Answers.{in_64_bits}
 use Rattle.ilk_cert_audit.specs.FirstBad.{Begins, IsBadLine}
 use Rattle.ilk_cert_audit.specs.Grammar.{CertificateLines}
-use Rattle.ilk_cert_audit.specs.Stages.{FollowingLines}
+use Rattle.ilk_cert_audit.specs.Stages.{FollowingLines, is_hopeless}
 use Rattle.ilk_cert_audit.specs.declared.audit.CertificateAudit.{CertificateAudit}
 use Rattle.ilk_cert_audit.specs.declared.lines.LineAudit.{LineAudit}
 use Rattle.ilk_cert_audit.specs.declared.stage.Stage.{Stage}
@@ -23,10 +23,16 @@ abbrev pub IsReached : SystemTree → GoalTree → Stage → List Bytes → ℕ 
 IsReached s g (Refused n) lines number = (m : ℕ) × IsBadLine s g lines m × (n ≡ in_64_bits m)
 IsReached s g stage lines number = IsAt s g stage lines number
 
+-- the bytes of a line that isn't finished are kept; of one that is bad whatever follows, the first bytes that show it
+pub record IsKept (stage : Stage) (kept line : Bytes) : Type 0 where
+  pub rest : Bytes
+  pub whole : line ≡ kept ++ rest
+  pub none_left : is_hopeless stage kept ≡ false → rest ≡ []
+
 -- nothing is said of the bytes after a bad line; else those after the last line feed are kept
 abbrev pub Keeps : Stage → Bytes → Bytes → Type 0
 Keeps (Refused n) unfinished bytes = Unit {0}
-Keeps stage unfinished bytes = unfinished ≡ after_lines bytes
+Keeps stage unfinished bytes = IsKept stage unfinished (after_lines bytes)
 
 -- the reader took these lines
 pub record HasTaken (s : SystemTree) (g : GoalTree) (audit : LineAudit) (lines : List Bytes) : Type 0 where

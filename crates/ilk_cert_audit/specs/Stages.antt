@@ -1,5 +1,5 @@
--- Only private contracts and proofs need this file: where a reader of a certificate is, and which lines may follow.
-use Rattle.std.specs.Prelude.{ℕ, Bool, true, false, ◌≡◌, ◌+◌, ◌-◌, ◌&&◌, ◌↔◌, not, List, [], ◌∷◌, ◌++◌, Option, Some, None, IsTrue, nat_le, nat_lt}
+-- Where a reader of a certificate is, and which lines may follow.
+use Rattle.std.specs.Prelude.{ℕ, Bool, true, false, ◌≡◌, ◌+◌, ◌-◌, ◌&&◌, ◌↔◌, not, List, [], ◌∷◌, ◌++◌, Option, Some, None, IsTrue, bytes_eq, codes, length, nat_le, nat_lt, take}
 use Rattle.std.specs.List.{range_with_len, flat_map}
 use Rattle.ilk_ir.specs.System.{SystemTree}
 use Rattle.ilk_lines.specs.Lines.{Bytes}
@@ -15,6 +15,7 @@ use Rattle.ilk_cert_audit.specs.Grammar.{CertificateLines, QueryLines, StepLines
 use Rattle.ilk_cert_audit.specs.declared.next.Line.{Line}
 use Rattle.ilk_cert_audit.specs.declared.next.Line.TheVariants.{Follows, Closes, Bad}
 use Rattle.ilk_cert_audit.specs.declared.stage.Stage.{Stage}
+use Rattle.ilk_cert_audit.specs.declared.stage.TheConstants.{MAX_PLAIN_LINE}
 use Rattle.ilk_cert_audit.specs.declared.stage.Stage.TheVariants.{Head, Told, Between, Within, Ended, Refused}
 
 -- the queries of a certificate for k after one of them
@@ -63,6 +64,20 @@ is_refused (Between k next) = false
 is_refused (Within k q auditor) = false
 is_refused (Ended k) = false
 is_refused (Refused n) = true
+
+-- whether a line that begins so isn't that of a step
+abbrev pub begins_no_step : Bytes → Bool
+begins_no_step begun = nat_le 5 (length begun) && not (bytes_eq (take 5 begun) (codes "step "))
+
+-- whether no line that begins so may stand at a stage, whatever follows: among the steps of a query it isn't that of a step,
+-- and elsewhere it is longer than each that may
+abbrev pub is_hopeless : Stage → Bytes → Bool
+is_hopeless Head begun = nat_lt MAX_PLAIN_LINE (length begun)
+is_hopeless Told begun = nat_lt MAX_PLAIN_LINE (length begun)
+is_hopeless (Between k next) begun = nat_lt MAX_PLAIN_LINE (length begun)
+is_hopeless (Within k q auditor) begun = begins_no_step begun
+is_hopeless (Ended k) begun = nat_lt MAX_PLAIN_LINE (length begun)
+is_hopeless (Refused n) begun = nat_lt MAX_PLAIN_LINE (length begun)
 
 -- the stage after a line; none where the line is bad
 abbrev pub IsNext : SystemTree → GoalTree → Stage → Bytes → Option Stage → Type 0

@@ -11,7 +11,7 @@ use std::alloc::{AllocError, Global};
 #[derive(Drop)]
 pub struct CertificateAudit {
     lines: LineAudit,
-    // the bytes after the last line feed
+    // the bytes after the last line feed; of a line that is bad whatever follows, some first ones
     unfinished: Vec<u8>,
 }
 
@@ -64,18 +64,25 @@ impl CertificateAudit {
         if self.lines.is_refused() {
             return Ok(());
         }
+        if self.lines.is_hopeless(self.unfinished.as_slice()) {
+            self.lines.refuse();
+            return Ok(());
+        }
         self.unfinished.extend_from_slice(rest)?;
         self.lines.take(self.unfinished.as_slice())?;
         self.unfinished.clear();
         Ok(())
     }
 
-    // Takes bytes of a line that isn't ended yet.
+    // Takes bytes of a line that isn't ended yet. Of one that can't become right no more are kept.
     fn keep(&mut self, rest: &[u8]) -> Result<(), AllocError>
         requires { Lacks 10 rest.now }
         ensures { OnOk result ((s : SystemTree) (g : GoalTree) (bytes : List ℕ) → HasFed s g self.old bytes → HasFed s g self.new (bytes ++ rest.now)) }
     {
         if self.lines.is_refused() {
+            return Ok(());
+        }
+        if self.lines.is_hopeless(self.unfinished.as_slice()) {
             return Ok(());
         }
         self.unfinished.extend_from_slice(rest)?;

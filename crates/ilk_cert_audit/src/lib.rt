@@ -4,8 +4,9 @@
 //! What a certificate is, is said in `ilk_certificate`. Its lines, one after another, are those of
 //! `specs/Grammar`, and `specs/FirstBad` says which line of other bytes is the first bad one. A
 //! `CertificateAudit` takes the bytes in pieces of any lengths (`feed`) and answers `end`: what it
-//! answers depends on the bytes alone. Of these it keeps the line that isn't finished yet, and the
-//! clauses of the query at hand, and drops a query's when that is refuted.
+//! answers depends on the bytes alone. Of these it keeps the line that isn't finished yet, but of one
+//! that is too long for its place, or begins among steps as none does, the first bytes alone; and the
+//! clauses of the query at hand, which it drops when that is refuted.
 //!
 //! `LineAudit` takes one line at a time: it knows which lines may follow, and goes on by one stage.
 //! The steps of a query are checked by `ilk_audit`, over the formula that `ilk_unroll` makes.

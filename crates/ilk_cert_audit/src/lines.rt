@@ -1,16 +1,26 @@
-ghost use Rattle.std.specs.Prelude.{IsTrue, ◌||◌};
+ghost use Rattle.std.specs.Prelude.{◌≡◌, IsTrue, ◌||◌};
 ghost use Rattle.ilk_ir.specs.System.{system_tree, system_valid};
 ghost use Rattle.ilk_unroll.specs.Goal.{goal_tree, goal_valid};
-ghost use Rattle.ilk_cert_audit.specs.Stages.{is_refused, is_stage};
+ghost use Rattle.ilk_cert_audit.specs.Stages.{begins_no_step, is_refused, is_stage};
 
 use crate::answers::{Ended, Fed};
 use crate::next::next_stage;
-use crate::stage::Stage;
+use crate::stage::{MAX_PLAIN_LINE, Stage};
 use crate::step_line::StepLine;
 use ilk_ir::System;
 use ilk_unroll::Goal;
 use std::alloc::{AllocError, Global};
 use std::mem;
+
+// Whether a line that begins so isn't that of a step.
+fn begins_no_step(begun: &[u8]) -> bool
+    ensures { result ≡ begins_no_step begun.now }
+{
+    if begun.len() < 5 {
+        return false;
+    }
+    &begun[..5] != b"step ".as_slice()
+}
 
 /// An audit to which the lines come one by one.
 #[derive(Drop)]
@@ -28,12 +38,13 @@ pub struct LineAudit {
 }
 
 impl LineAudit {
-    ghost use Rattle.std.specs.Prelude.{ℕ, List, ◌≡◌, ◌↔◌, ◌++◌, ◌∷◌, [], true, false, OnOk};
+    ghost use Rattle.std.specs.Prelude.{ℕ, List, ◌↔◌, ◌++◌, ◌∷◌, [], true, false, None, OnOk};
     ghost use Rattle.ilk_ir.specs.System.{SystemTree};
     ghost use Rattle.ilk_lines.specs.Lines.{Bytes, after_lines, lines_of};
     ghost use Rattle.ilk_unroll.specs.Goal.{GoalTree};
     ghost use Rattle.ilk_cert_audit.specs.Answers.{EndsAs, TellsLines};
     ghost use Rattle.ilk_cert_audit.specs.Fed.{HasTaken};
+    ghost use Rattle.ilk_cert_audit.specs.Stages.{IsNext, is_hopeless};
 
     /// An audit that took no line.
     pub fn new(alloc: Global, system: System, goal: Goal) -> LineAudit
@@ -58,6 +69,28 @@ impl LineAudit {
         ensures { result ≡ is_refused self.now.stage }
     {
         matches!(self.stage, Stage::Refused { .. })
+    }
+
+    /// Whether the next line is bad whatever follows, where it begins so: then no more of it has to be
+    /// kept.
+    pub fn is_hopeless(&self, begun: &[u8]) -> bool
+        ensures { result ≡ is_hopeless self.now.stage begun.now }
+    {
+        match self.stage {
+            Stage::Within { .. } => begins_no_step(begun),
+            _ => begun.len() > MAX_PLAIN_LINE,
+        }
+    }
+
+    /// Takes the next line, where that is bad whatever its last bytes are.
+    pub fn refuse(&mut self)
+        ensures bad { (s : SystemTree) (g : GoalTree) (lines : List Bytes) (line : Bytes)
+            → HasTaken s g self.old lines → is_refused self.old.stage ≡ false
+            → IsNext s g self.old.stage line None → HasTaken s g self.new (lines ++ line ∷ []) }
+        ensures refused { is_refused self.new.stage ≡ true }
+    {
+        let line = self.line;
+        self.stage = Stage::Refused { line };
     }
 
     /// Takes the next line. After a bad one, nothing changes. Where memory runs out, the audit is of no

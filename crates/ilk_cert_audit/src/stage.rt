@@ -1,6 +1,9 @@
 use ilk_audit::Auditor;
 use ilk_unroll::Wanted;
 
+/// How many bytes a line has at most that isn't the line of a step: the longest names a query.
+pub const MAX_PLAIN_LINE: usize = 32;
+
 /// Where a reader of a certificate is.
 #[derive(Drop)]
 pub enum Stage {

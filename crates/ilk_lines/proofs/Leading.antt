@@ -1,17 +1,14 @@
 -- The values of the first lines, as far as each has one.
-use Rattle.std.proofs.Common.{◌≡◌, All, Option, Some, None, List, [], ◌∷◌, ◌++◌, length, drop, map, refl, sym, ap, ◌∙◌, append_assoc, arith, suc, zero}
-use Rattle.std.proofs.lemmas.List.{drop-drop, length_push}
+use Rattle.std.proofs.Common.{◌≡◌, ℕ, ◌+◌, ◌≤◌, All, Option, Some, None, List, [], ◌∷◌, ◌++◌, length, drop, map, refl, sym, ap, ◌∙◌, append_assoc, arith, suc, zero}
+use Rattle.std.proofs.lemmas.List.{drop-drop, length-append, length-drop}
 use Rattle.std.proofs.lemmas.List.Elements.{All-nil, All-cons}
 use Rattle.ilk_lines.specs.Lines.{Bytes}
+use Rattle.ilk_lines.specs.LinesLeft.{HasTaken, LinesLeft}
 use Rattle.ilk_lines.specs.Reading.{leading, onto}
 
 -- a value moves from what is left to what was taken
 pub taken_one : {A : Type 0} (whole taken left rest new : List A) (x : A) → whole ≡ taken ++ left → left ≡ x ∷ rest → new ≡ taken ++ x ∷ [] → whole ≡ new ++ rest
 taken_one whole taken left rest new x e f g = e ∙ ap (λ xs. taken ++ xs) f ∙ sym (append_assoc taken (x ∷ []) rest) ∙ ap (λ xs. xs ++ rest) (sym g)
-
--- and a line is dropped with it
-pub dropped_one : {A B : Type 0} (lines left rest : List B) (taken new : List A) (x : A) → left ≡ drop (length taken) lines → rest ≡ drop 1 left → new ≡ taken ++ x ∷ [] → rest ≡ drop (length new) lines
-dropped_one lines left rest taken new x e f g = f ∙ ap (drop 1) e ∙ drop-drop 1 (length taken) lines ∙ ap (λ n. drop n lines) (sym (length_push taken x)) ∙ ap (λ xs. drop (length xs) lines) (sym g)
 
 onto_all : {A : Type 0} (value : Bytes → Option A) (P : A → Type 0) (line : Bytes) (o : Option A) → value line ≡ o → (rest : List A) → ((l : Bytes) (v : A) → value l ≡ Some v → P v) → All P rest → All P (onto o rest)
 onto_all value P line None this rest holds later = All-nil P
@@ -38,3 +35,18 @@ leading_back value line_of [] last rest told none = ap (λ o. onto o (leading va
 leading_back value line_of (v ∷ values) last rest told none =
     ap (λ o. onto o (leading value (map line_of values ++ last ∷ rest))) (told zero v (omega arith))
     ∙ ap (λ vs. v ∷ vs) (leading_back value line_of values last rest (λ k d within. told (suc k) d (omega arith)) none)
+
+-- one line more is taken
+pub takes_one : (n : ℕ) (old left rest : LinesLeft) (line : Bytes) → HasTaken n old left → left.lines ≡ line ∷ rest.lines → rest.number ≡ left.number + 1 → rest.after ≡ left.after → HasTaken (n + 1) old rest
+takes_one n old left rest line taken e f g =
+    let long : length (line ∷ rest.lines) ≡ length (drop n old.lines) = ap length (sym e ∙ taken.lines) in
+    record {
+      enough = omega (arith, long, length-drop n old.lines);
+      number = let h = taken.number in omega arith;
+      lines = ap (drop 1) (sym e ∙ taken.lines) ∙ drop-drop 1 n old.lines;
+      after = g ∙ taken.after;
+    }
+
+-- there are as many values at least as were taken
+pub enough_values : {A : Type 0} (whole taken left : List A) → whole ≡ taken ++ left → length taken ≤ length whole
+enough_values whole taken left e = omega (arith, ap length e, length-append taken left)

@@ -219,7 +219,7 @@ lines_told p plant t is = by_answer (told p (lines_of (run_text p t)) (after_lin
     by_answer (Err n) this that = cc
 
 -- lines that begin lines which begin the text of a run
-prefix : (n k : ℕ) (lines : List Bytes) → n ≤ k → (rest : List Bytes) × (take k lines ≡ take n lines ++ rest)
+pub prefix : (n k : ℕ) (lines : List Bytes) → n ≤ k → (rest : List Bytes) × (take k lines ≡ take n lines ++ rest)
 prefix zero k lines h = (take k lines, refl)
 prefix (suc n) zero lines h = absurd (omega arith)
 prefix (suc n) (suc k) [] h = ([], refl)

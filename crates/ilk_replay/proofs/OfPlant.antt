@@ -70,7 +70,7 @@ of_point-about p word name event e =
     event_with-has p word (Point b.0) event (ap (is_point_section p) (sym point.1) ∙ at) b.2
 
 -- an event that a line tells is about what there is
-event_of-about : (p : PlantLists) → IsPlant p → (line : Bytes) (event : Event) → event_of p line ≡ Some event → IsAbout p event
+pub event_of-about : (p : PlantLists) → IsPlant p → (line : Bytes) (event : Event) → event_of p line ≡ Some event → IsAbout p event
 event_of-about p plant line event e =
     let a = bind_some (first_word line) _ event e in
     let word : Bytes = a.0.0 in

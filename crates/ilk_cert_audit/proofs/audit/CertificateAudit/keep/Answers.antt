@@ -1,16 +1,24 @@
-use Rattle.std.proofs.Common.{sym, ◌∙◌, ◌++◌, subst}
+use Rattle.std.proofs.Common.{◌≡◌, true, false, ap, sym, ◌∙◌, ◌++◌, subst}
 use Rattle.ilk_lines.specs.Lines.{Bytes}
 use Rattle.ilk_cert_audit.specs.Fed.{IsFedTo}
-use Rattle.ilk_cert_audit.proofs.Feeding.{refused-fed, rest-fed}
+use Rattle.ilk_cert_audit.specs.Stages.{is_hopeless}
+use Rattle.ilk_cert_audit.proofs.Feeding.{refused-fed, rest-dropped, rest-fed}
 use Rattle.ilk_cert_audit.proofs.audit.CertificateAudit.keep.Goals as goal
 
 pub returns-then-is_refused : goal.returns-then-is_refused
 returns-then-is_refused c = λ s g bytes h. refused-fed s g c.args.self.now.lines c.args.self.now.unfinished.items bytes c.args.rest.now (sym c.is_refused.ensures ∙ c.if-is_refused.true) h
 
+pub returns-then-is_hopeless : goal.returns-then-is_hopeless
+returns-then-is_hopeless c = λ s g bytes h.
+    (let old = c.args.self.now in
+    let hopeless : is_hopeless old.lines.stage old.unfinished.items ≡ true = ap (is_hopeless old.lines.stage) (sym c.as_slice.ensures.value) ∙ sym c.is_hopeless.ensures ∙ c.if-is_hopeless.true in
+    rest-dropped s g old.lines old.unfinished.items bytes c.args.rest.now (sym c.is_refused.ensures ∙ c.if-is_refused.false) hopeless c.requires h)
+
 pub returns : goal.returns
 returns c = λ s g bytes h.
     (let old = c.args.self.now in
     let rest = c.args.rest.now in
-    let fed = rest-fed s g old.lines old.unfinished.items bytes rest (sym c.is_refused.ensures ∙ c.if-is_refused.false) c.requires h in
+    let hope : is_hopeless old.lines.stage old.unfinished.items ≡ false = ap (is_hopeless old.lines.stage) (sym c.as_slice.ensures.value) ∙ sym c.is_hopeless.ensures ∙ c.if-is_hopeless.false in
+    let fed = rest-fed s g old.lines old.unfinished.items bytes rest (sym c.is_refused.ensures ∙ c.if-is_refused.false) hope c.requires h in
     let P : Bytes → Type 0 = λ u. IsFedTo s g old.lines u (bytes ++ rest) in
     subst P (sym (c.in_ok-extend_from_slice.ensures {u = tt}).items) fed)
