@@ -11,7 +11,7 @@ use Rattle.ilk_log.specs.Propagation.{is_false}
 use Rattle.ilk_audit.specs.Hinted.{found_at}
 use Rattle.ilk_audit.specs.Taken.{hints_fault, some_left}
 use Rattle.ilk_audit.specs.declared.hinted.Hinted.{Hinted}
-use Rattle.ilk_audit.proofs.Numbers.{opposite-twice}
+use Rattle.ilk_cnf.proofs.Gates.{opposite-opposite}
 use Rattle.ilk_audit.proofs.Scans.{by_found, hints-found}
 use Rattle.ilk_audit.proofs.Tables.{var-unset}
 
@@ -58,8 +58,8 @@ unset-is l set =
     elim (cases_Bool (is_false set l)) [
       | inl t ↦ rw (t, has-var (opposite l) set t) refl
       | inr f ↦ elim (cases_Bool (is_false set (opposite l))) [
-        | inl t ↦ (let h : has_lit l set ≡ true = ap (λ (m : Literal). has_lit m set) (sym (opposite-twice l)) ∙ t in rw (f, t, has-var l set h) refl)
-        | inr g ↦ (let h : has_lit l set ≡ false = ap (λ (m : Literal). has_lit m set) (sym (opposite-twice l)) ∙ g in rw (f, g, var-unset l set h f) refl)
+        | inl t ↦ (let h : has_lit l set ≡ true = ap (λ (m : Literal). has_lit m set) (sym (opposite-opposite l)) ∙ t in rw (f, t, has-var l set h) refl)
+        | inr g ↦ (let h : has_lit l set ≡ false = ap (λ (m : Literal). has_lit m set) (sym (opposite-opposite l)) ∙ g in rw (f, g, var-unset l set h f) refl)
       ]
     ]
 

@@ -1,6 +1,6 @@
 -- A literal is the one of its number.
 use Rattle.std.proofs.Common.{◌≡◌, ℕ, ◌+◌, ◌*◌, ◌/◌, ◌%◌, Bool, true, false, List, [], ◌∷◌, map, refl, sym, ap, ◌∙◌, arith}
-use Rattle.ilk_cnf.specs.Literal.{Literal, opposite}
+use Rattle.ilk_cnf.specs.Literal.{Literal}
 use Rattle.ilk_cnf.specs.Code.{code_of, literal_of}
 use Rattle.ilk_audit.specs.Stored.{literals_of}
 
@@ -19,13 +19,6 @@ literal_of-code_of l = literal-of l.var l.positive
 
 pub same-code : (l m : Literal) → code_of l ≡ code_of m → l ≡ m
 same-code l m e = sym (literal_of-code_of l) ∙ ap literal_of e ∙ literal_of-code_of m
-
-pub opposite-twice : (l : Literal) → opposite (opposite l) ≡ l
-opposite-twice l = go l.var l.positive
-  where
-    go : (v : ℕ) (b : Bool) → opposite (opposite (record { var = v; positive = b })) ≡ record { var = v; positive = b }
-    go v true = refl
-    go v false = refl
 
 -- the literals of the numbers of a clause are the clause
 pub literals_back : (c : List Literal) → literals_of (map code_of c) ≡ c

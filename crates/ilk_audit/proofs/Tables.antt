@@ -10,7 +10,8 @@ use Rattle.ilk_cnf.specs.Formula.{clause_in, lit_in}
 use Rattle.ilk_cnf.proofs.SameLiterals.{same-lit, lit-is, has-var}
 use Rattle.ilk_log.specs.Propagation.{is_false}
 use Rattle.ilk_audit.specs.Stored.{IsTableOf, PartialList}
-use Rattle.ilk_audit.proofs.Numbers.{opposite-twice, same-code}
+use Rattle.ilk_cnf.proofs.Gates.{opposite-opposite}
+use Rattle.ilk_audit.proofs.Numbers.{same-code}
 
 abbrev partial_of : ℕ → List Literal → PartialList
 partial_of n ls = record { vars = n; set = ls }
@@ -42,7 +43,7 @@ code-within n l h = (let w = lit_in-bounds n l h in go l.var l.positive w.1)
 
 unlike : (l m : Literal) → ¬ (code_of m ≡ code_of (opposite l)) → same_lit (opposite m) l ≡ false
 unlike l m differs = elim (cases_Bool (same_lit (opposite m) l)) [
-  | inl t ↦ absurd (differs (ap code_of (sym (opposite-twice m) ∙ ap opposite (lit-is (opposite m) l t))))
+  | inl t ↦ absurd (differs (ap code_of (sym (opposite-opposite m) ∙ ap opposite (lit-is (opposite m) l t))))
   | inr f ↦ f
 ]
 
@@ -53,7 +54,7 @@ table-set falses n ls l t within unset = record {
   tells = λ m h. elim (cases_eq (code_of m) (code_of (opposite l))) [
     | inl e ↦ (let is : m ≡ opposite l = same-code m (opposite l) e in
         let fits : code_of m < length falses = (let w = code-within n m h in omega (arith, w, t.long)) in
-        let here : is_false (l ∷ ls) m ≡ true = or_left (same_lit (opposite m) l) (is_false ls m) (ap (λ (x : Literal). same_lit (opposite x) l) is ∙ ap (λ (x : Literal). same_lit x l) (opposite-twice l) ∙ same-lit l) in
+        let here : is_false (l ∷ ls) m ≡ true = or_left (same_lit (opposite m) l) (is_false ls m) (ap (λ (x : Literal). same_lit (opposite x) l) is ∙ ap (λ (x : Literal). same_lit x l) (opposite-opposite l) ∙ same-lit l) in
         let P : ℕ → Type 0 = λ c. slice_get (set falses c true) (code_of m) ≡ Some (is_false (l ∷ ls) m) in
         subst P e (slice_get-set_same falses (code_of m) true fits ∙ ap (λ b. Some b) (sym here)))
     | inr d ↦ slice_get-set_other falses (code_of (opposite l)) (code_of m) true (λ e. d (sym e)) ∙ t.tells m h ∙ ap (λ b. Some (b || is_false ls m)) (sym (unlike l m d))
@@ -72,7 +73,7 @@ table-take falses n ls l t =
         | inl e ↦ (let is : m ≡ opposite l = same-code m (opposite l) e in
             let fits : code_of m < length falses = (let w = code-within n m h in omega (arith, w, t.long)) in
             let gone : has_lit l ls ≡ false = elim (cases_Bool (has_lit l ls)) [ inl y ↦ absurd (true≢false (sym (has-var l ls y) ∙ away)) | inr f ↦ f ] in
-            let here : is_false ls m ≡ false = ap (λ (x : Literal). has_lit (opposite x) ls) is ∙ ap (λ (x : Literal). has_lit x ls) (opposite-twice l) ∙ gone in
+            let here : is_false ls m ≡ false = ap (λ (x : Literal). has_lit (opposite x) ls) is ∙ ap (λ (x : Literal). has_lit x ls) (opposite-opposite l) ∙ gone in
             let P : ℕ → Type 0 = λ c. slice_get (set falses c false) (code_of m) ≡ Some (is_false ls m) in
             subst P e (slice_get-set_same falses (code_of m) false fits ∙ ap (λ b. Some b) (sym here)))
         | inr d ↦ slice_get-set_other falses (code_of (opposite l)) (code_of m) false (λ e. d (sym e)) ∙ t.tells m h ∙ ap (λ b. Some (b || is_false ls m)) (unlike l m d)

@@ -30,7 +30,7 @@ use Rattle.ilk_behave.proofs.EnterSteps.{enter-steps, leave-steps}
 use Rattle.ilk_behave.proofs.Fired.{has-neighbour-known, in-one}
 use Rattle.ilk_behave.proofs.HeadSteps.{head-steps}
 use Rattle.ilk_behave.proofs.Located.{of_first, of_rest, past-of}
-use Rattle.ilk_behave.proofs.Occupancies.{numbered-section}
+use Rattle.ilk_plant.proofs.PointNumbers.{numbered-section}
 use Rattle.ilk_behave.proofs.PlantEvents.{listed}
 use Rattle.ilk_behave.proofs.PointSteps.{settle-steps, throw-steps}
 use Rattle.ilk_behave.proofs.ReleaseSteps.{finish-steps, release-steps}

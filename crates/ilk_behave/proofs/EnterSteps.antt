@@ -34,7 +34,8 @@ use Rattle.ilk_layout.specs.Values.{occupancy_value}
 use Rattle.ilk_layout.specs.Variables.{occupancy_var}
 use Rattle.ilk_layout.specs.declared.values.Occupancy.{Occupancy}
 use Rattle.ilk_layout.specs.declared.values.Occupancy.TheVariants.{Vacant, Taken, Crash}
-use Rattle.ilk_layout.proofs.Trains.{count-none, find-none, has_x, occupancy-more, strays-has, with_trains, wrong-none}
+use Rattle.ilk_model.proofs.Straying.{strays-has}
+use Rattle.ilk_layout.proofs.Trains.{count-none, find-none, has_x, occupancy-more, with_trains, wrong-none}
 use Rattle.ilk_layout.proofs.Writes.{image_with, occupancy-written}
 use Rattle.ilk_conditions.specs.Conditions.{lock_is, no_train_at, occupancy_is}
 use Rattle.ilk_behave.specs.Settings.{occupancy_becomes, rule}

@@ -22,7 +22,7 @@ use Rattle.ilk_routes.specs.Claims.{sections_beside, wanted_points}
 use Rattle.ilk_layout.specs.Variables.{lock_var, to_var}
 use Rattle.ilk_conditions.proofs.Valid.{lock_is-valid, to_is-valid}
 use Rattle.ilk_behave.specs.Settings.{commanded, lock_becomes, locks_become, to_becomes}
-use Rattle.ilk_behave.proofs.Occupancies.{number-once}
+use Rattle.ilk_plant.proofs.PointNumbers.{number-once}
 use Rattle.ilk_behave.proofs.RulesValid.{all-flat_map, all-map, fits}
 use Rattle.ilk_behave.proofs.SetOnce.{SetElsewhere, SetOnce, elsewhere-flat_map, elsewhere-map, once-append, once-flat_map, once-map}
 use Rattle.ilk_behave.proofs.Fired.{in-one}

@@ -33,7 +33,8 @@ use Rattle.ilk_behave.specs.PointRules.{lies_elsewhere, rules_of_settle, rules_o
 use Rattle.ilk_behave.specs.Settings.{at_becomes, occupancy_becomes, rule}
 use Rattle.ilk_behave.specs.Steps.{StepAs, can_fire}
 use Rattle.ilk_layout.proofs.Calm.{calm-at}
-use Rattle.ilk_behave.proofs.Occupancies.{numbered-section, occupancies-alone, occupancies-set, point-of, with_point}
+use Rattle.ilk_plant.proofs.PointNumbers.{numbered-section}
+use Rattle.ilk_behave.proofs.Occupancies.{occupancies-alone, occupancies-set, point-of, with_point}
 use Rattle.ilk_behave.proofs.Tools.{no_rules, two_rules_step}
 use Rattle.ilk_conditions.proofs.Values.{at-holds, to-holds, vacant-holds}
 use Rattle.ilk_behave.proofs.Writing.{by_image, with_lists}

@@ -2,7 +2,7 @@
 use Rattle.std.proofs.Common.{◌≡◌, ℕ, zero, suc, ◌+◌, ◌<◌, ◌==◌, Bool, true, false, ◌&&◌, ◌||◌, map, position, remove, set, Option, Some, None, List, [], ◌∷◌, ◌++◌, length, slice_get, inl, inr, subst, refl, sym, ◌∙◌, ap, arith, cond}
 use Rattle.std.specs.List.{list_all}
 use Rattle.std.specs.Option.{option_to_list}
-use Rattle.std.proofs.lemmas.Bool.{and_from, and_parts, eq-eqb, eqb-true, false≢true, ne_eqb, or_right, false_from_ne_true}
+use Rattle.std.proofs.lemmas.Bool.{and_from, and_parts, eq-eqb, eqb-true, false≢true, ne_eqb, false_from_ne_true}
 use Rattle.std.proofs.lemmas.Bool.Decides.{nat_tests}
 use Rattle.std.proofs.lemmas.List.Folds.{list_all-append}
 use Rattle.std.proofs.lemmas.Option.{same_Some, slice_get-map, slice_get_within}
@@ -34,7 +34,8 @@ use Rattle.ilk_motion.specs.Body.{has_tail_before_head, is_first_of_several, wit
 use Rattle.ilk_motion.specs.Trains.{after_tail}
 use Rattle.ilk_motion.proofs.Shape.{after_tail-shape}
 use Rattle.ilk_routes.specs.Lies.{lies_at, lie_in}
-use Rattle.ilk_model.specs.Hazard.{has_pair, hazard, strays}
+use Rattle.ilk_model.specs.Hazard.{hazard, strays}
+use Rattle.ilk_model.proofs.Straying.{rest-has, rest-strays}
 use Rattle.ilk_layout.specs.Image.{image_of}
 use Rattle.ilk_layout.specs.Occupancy.{occupancy_of}
 use Rattle.ilk_layout.specs.Standing.{is_wrong_under}
@@ -80,21 +81,6 @@ rest-at (x ∷ body) k = refl
 rest-length : (body : List ℕ) (k x : ℕ) → slice_get body k ≡ Some x → length (remove body 0) + 1 ≡ length body
 rest-length [] k x at = cc
 rest-length (y ∷ body) k x at = omega arith
-
-rest-pair : (x z : ℕ) (body : List ℕ) → has_pair x z (remove body 0) ≡ true → has_pair x z body ≡ true
-rest-pair x z [] h = h
-rest-pair x z (a ∷ []) h = cc
-rest-pair x z (a ∷ b ∷ rest) h = or_right ((a == x && b == z) || (a == z && b == x)) (has_pair x z (b ∷ rest)) h
-
-rest-has : (x : ℕ) (body : List ℕ) → has_section x (remove body 0) ≡ true → has_section x body ≡ true
-rest-has x [] h = h
-rest-has x (a ∷ rest) h = or_right (a == x) (has_section x rest) h
-
-rest-strays : (x plus minus : ℕ) (lie : Option Lie) (body : List ℕ) → strays x plus minus lie (remove body 0) ≡ true → strays x plus minus lie body ≡ true
-rest-strays x plus minus None body h = h
-rest-strays x plus minus (Some Moving) body h = rest-has x body h
-rest-strays x plus minus (Some LiesPlus) body h = rest-pair x minus body h
-rest-strays x plus minus (Some LiesMinus) body h = rest-pair x plus body h
 
 rest-wrong : (p : PlantLists) (s : State) (x : ℕ) (body : List ℕ) → is_wrong_under p s x body ≡ false → is_wrong_under p s x (remove body 0) ≡ false
 rest-wrong p s x body right = by_section (slice_get p.sections x) refl

@@ -30,7 +30,7 @@ use Rattle.ilk_behave.specs.Guards.{leads_towards, leg_position, passable, right
 use Rattle.ilk_behave.specs.PointRules.{lies_elsewhere, rules_of_settle, rules_of_throw}
 use Rattle.ilk_behave.specs.Settings.{at_becomes, board_becomes, board_closes, occupancy_becomes, rule}
 use Rattle.ilk_behave.specs.TrainRules.{both_directions, free_from, gone_on, head_rules, leave_rule, may_go_on, rules_of_enter, rules_of_head, rules_of_leave, rules_of_tail, tail_rule}
-use Rattle.ilk_behave.proofs.Occupancies.{numbered-section}
+use Rattle.ilk_plant.proofs.PointNumbers.{numbered-section}
 use Rattle.ilk_behave.proofs.RulesValid.{all-append, all-cons, all-flat_map, all-map, fits, is_valid, is_valid_rule, one_rule-valid, rule-valid, two_rules-valid}
 use Rattle.ilk_behave.proofs.SetOnce.{SetElsewhere, SetOnce}
 

@@ -1,14 +1,13 @@
-ghost use Rattle.std.specs.Prelude.{◌≡◌, ◌<◌, ◌++◌, ◌∷◌, [], length, map, flat_map, All, IfOk, OnOk};
+ghost use Rattle.std.specs.Prelude.{◌≡◌, ◌<◌, ◌++◌, length, map, flat_map, All, IfOk, OnOk};
 ghost use Rattle.ilk_ir.specs.Form.{tree_of};
 ghost use Rattle.ilk_ir.specs.Tree.{negation};
 ghost use Rattle.ilk_conditions.specs.Conditions as conditions;
 ghost use Rattle.ilk_behave.specs.Guards as guards;
 
-use ilk_conditions::{
-    board_is, lie_in, lie_is, lies_at_listed, lock_is, mode_is, negated, no_train_at,
-};
+use ilk_conditions::{board_is, lie_is, lies_at_listed, lock_is, mode_is, negated, no_train_at};
 use ilk_ir::Form;
 use ilk_plant::{Aspect, Dir, Hold, Lie, Listed, Mode, Plant, Position, Row, Section};
+use ilk_routes::lie_in;
 use std::alloc::{AllocError, Global};
 
 // The position at which `y` is the leg of a point whose leg plus is this.

@@ -11,10 +11,11 @@ ghost use Rattle.ilk_behave.specs.PointRules as definitions;
 ghost use Rattle.ilk_behave.specs.Settings as settings;
 
 use crate::settings::{at_becomes, occupancy_becomes, push_rule};
-use ilk_conditions::{at_is, lie_in, negated, no_train_at, to_is, train_at};
+use ilk_conditions::{at_is, negated, no_train_at, to_is, train_at};
 use ilk_ir::{Form, Rules};
 use ilk_layout::Occupancy;
 use ilk_plant::{Lie, Plant, Position, Row};
+use ilk_routes::lie_in;
 use std::alloc::{AllocError, Global};
 
 // Point `n` doesn't lie at this position, or isn't commanded to it.

@@ -1,5 +1,4 @@
-ghost use Rattle.std.specs.Prelude.{◌≡◌, ◌<◌, ◌==◌, ◌++◌, ◌∷◌, [], All, if◌then◌else◌, length, map, flat_map, IfOk, OnOk};
-ghost use Rattle.std.specs.List.{list_any};
+ghost use Rattle.std.specs.Prelude.{◌≡◌, ◌<◌, ◌++◌, ◌∷◌, [], All, if◌then◌else◌, length, map, flat_map, IfOk, OnOk};
 ghost use Rattle.ilk_ir.specs.Form.{tree_of};
 ghost use Rattle.ilk_ir.specs.System.{rule_tree};
 ghost use Rattle.ilk_ir.specs.Tree.{negation};
@@ -8,7 +7,6 @@ ghost use Rattle.ilk_plant.specs.TableRules.{sections_locked_for};
 ghost use Rattle.ilk_plant.specs.declared.state.Aspect.TheVariants.{Closed};
 ghost use Rattle.ilk_plant.specs.declared.state.Hold.TheVariants.{Free as FreeLock, Locked as LockedLock};
 ghost use Rattle.ilk_plant.specs.declared.state.Mode.TheVariants.{Free, Marked, Allocating, Locked};
-ghost use Rattle.ilk_routes.specs.Boards.{protects_by};
 ghost use Rattle.ilk_routes.specs.Claims.{wanted_points};
 ghost use Rattle.ilk_conditions.specs.Conditions as conditions;
 ghost use Rattle.ilk_behave.specs.Guards as guards;
@@ -23,6 +21,7 @@ use crate::settings::{
 use ilk_conditions::{board_is, mode_is, negated};
 use ilk_ir::{Form, Rules, Sets};
 use ilk_plant::{Aspect, Hold, Mode, Plant, Route, Row};
+use ilk_routes::protects_by;
 use std::alloc::{AllocError, Global};
 
 /// Adds the rule of mark for route `r`.
@@ -112,20 +111,6 @@ fn push_closed(forms: &mut Vec<Form>, plant: &Plant, boards: &Row<u32>) -> Resul
         forms.push(board_is(plant, *m, Aspect::Closed))?;
     }
     Ok(())
-}
-
-// Whether board `m` is one of the boards.
-fn has_board(boards: &Row<u32>, m: u32) -> bool
-    ensures { result ≡ list_any (λ k. k == m) boards.now }
-{
-    boards.as_slice().iter().any(|k| *k == m)
-}
-
-// Whether route `q` has board `m` among its protecting boards.
-fn protects_by(plant: &Plant, q: u32, m: u32) -> bool
-    ensures { result ≡ protects_by plant.now q m }
-{
-    q < plant.routes() && has_board(&plant.route(q).protecting_boards, m)
 }
 
 // Adds that route `q` isn't Locked, if it is to be asked.

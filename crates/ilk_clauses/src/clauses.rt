@@ -6,7 +6,7 @@ ghost use Rattle.ilk_clauses.specs.Reasons.{clause_at};
 ghost use Rattle.ilk_clauses.specs.Chained.{formula_of, IsClauses, IsClauseAdded};
 
 use ilk_arena::Arena;
-use ilk_cnf::Lit;
+use ilk_cnf::{Cnf, Lit};
 use std::alloc::{AllocError, Global};
 use std::marker::Model;
 
@@ -39,6 +39,17 @@ impl Clauses {
             arena: Arena::new(alloc, vars)?,
             references: Vec::new(alloc),
         })
+    }
+
+    /// The clauses of a formula.
+    pub fn of(alloc: Global, cnf: &Cnf) -> Result<Clauses, AllocError>
+        ensures { IfOk result (λ c. formula_of c ≡ cnf.now) }
+    {
+        let mut clauses = Clauses::new(alloc, cnf.vars())?;
+        for c in 0..cnf.clauses() {
+            clauses.add(cnf.clause(c + 1))?;
+        }
+        Ok(clauses)
     }
 
     /// Adds a clause at the end. Its number is how many there were, and it watches its first two

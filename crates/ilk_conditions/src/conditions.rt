@@ -2,7 +2,6 @@ ghost use Rattle.std.specs.Prelude.{◌≡◌, ◌<◌, length, IfOk};
 ghost use Rattle.ilk_ir.specs.Form.{tree_of};
 ghost use Rattle.ilk_ir.specs.Tree.{negation};
 ghost use Rattle.ilk_plant.specs.Plant.{point_count};
-ghost use Rattle.ilk_routes.specs.Lies as lies;
 ghost use Rattle.ilk_conditions.specs.Conditions as conditions;
 
 use crate::variables::{
@@ -13,6 +12,7 @@ use ilk_layout::{
     Occupancy, aspect_value, hold_value, lie_value, mode_value, occupancy_value, position_value,
 };
 use ilk_plant::{Aspect, Hold, Lie, Listed, Mode, Plant, Position, point_on};
+use ilk_routes::lie_in;
 use std::alloc::{AllocError, Global};
 
 /// Route `r` has the mode.
@@ -109,16 +109,6 @@ pub fn lie_is(plant: &Plant, x: u32, lie: Lie) -> Form
     match point_on(plant, x) {
         None => Form::No,
         Some(n) => at_is(plant, n, lie),
-    }
-}
-
-/// How a point lies in this position.
-pub fn lie_in(position: Position) -> Lie
-    ensures { result ≡ lies.lie_in position }
-{
-    match position {
-        Position::Plus => Lie::Plus,
-        Position::Minus => Lie::Minus,
     }
 }
 

@@ -10,8 +10,8 @@ mod conditions;
 mod variables;
 
 pub use conditions::{
-    at_is, board_is, commanded_at_listed, commanded_is, lie_in, lie_is, lies_at_listed, lock_is,
-    mode_is, negated, no_train_at, occupancy_is, rel_is, seen_is, to_is, train_at,
+    at_is, board_is, commanded_at_listed, commanded_is, lie_is, lies_at_listed, lock_is, mode_is,
+    negated, no_train_at, occupancy_is, rel_is, seen_is, to_is, train_at,
 };
 pub use variables::{
     at_var, board_var, lock_var, mode_var, occupancy_var, rel_var, seen_var, to_var,

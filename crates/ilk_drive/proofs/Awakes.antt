@@ -47,13 +47,14 @@ use Rattle.ilk_model.specs.Event.{next}
 use Rattle.ilk_model.specs.Holding.{is_locked_or_occupied}
 use Rattle.ilk_model.specs.declared.event.Event.{Event}
 use Rattle.ilk_model.specs.declared.event.Event.TheVariants.{Mark, Allocate, Lock, Sense, Release, Finish, Throw, Settle, Enter, Head, Tail, Leave, Cancel}
-use Rattle.ilk_strict.proofs.Table.{number-once}
+use Rattle.ilk_plant.proofs.PointNumbers.{number-once}
+use Rattle.ilk_strict.proofs.After.{same-occupied}
 use Rattle.ilk_strict.proofs.Points.{lie-kept, lie-other, lies-new, lists-named}
 use Rattle.ilk_drive.specs.Awakening.{around, asks_about, bears_on, begins_at, is_concerned, is_guarded_by, is_related, may_enable, share_section, stands_at, wants_point}
 use Rattle.ilk_drive.specs.Commands.{is_command}
 use Rattle.ilk_drive.proofs.Back.{allocate-back, allocating, finish-back, first_dir, head-back, in_occupation, leave-back, lock-back, marked, release-back, sense-back, settle-back, tail-back, throw-back}
 use Rattle.ilk_drive.proofs.Changes.{GivesLock, apart, claims-back, claims-other, claimed-alike, clear-back, lock-back as other-lock-back, lock-same, locks-set, locks-set_with, locks-stay, locks-with, neither, state-new, states-back, states-other, states-stay, true-false}
-use Rattle.ilk_drive.proofs.TrainChanges.{enter-alone, enter-heads, enter-leaves, enter-tails, enter-was, head-alone, head-heads, head-leaves, head-tails, head-was, leave-alone, leave-heads, leave-leaves, leave-tails, leave-was, next-around, same-train, tail-alone, tail-heads, tail-leaves, tail-tails, tail-was}
+use Rattle.ilk_drive.proofs.TrainChanges.{enter-alone, enter-heads, enter-leaves, enter-tails, enter-was, head-alone, head-heads, head-leaves, head-tails, head-was, leave-alone, leave-heads, leave-leaves, leave-tails, leave-was, next-around, tail-alone, tail-heads, tail-leaves, tail-tails, tail-was}
 
 -- tests that are asked of what is known ------------------------------------------------------------------------------
 
@@ -177,10 +178,10 @@ protecting-stays : (p : PlantLists) (s t : State) → t.routes ≡ s.routes → 
 protecting-stays p s t same m = protecting-back p s t m (λ k locked protects. mode-alike s t k Locked (ap (λ (l : List RouteState). slice_get l k) same) locked)
 
 vacant-stays : (s t : State) → t.trains ≡ s.trains → (x : ℕ) → is_occupied t x ≡ false → is_occupied s x ≡ false
-vacant-stays s t same x h = sym (same-train s t same x) ∙ h
+vacant-stays s t same x h = sym (same-occupied s t same x) ∙ h
 
 occupied-stays : (s t : State) → t.trains ≡ s.trains → (x : ℕ) → is_occupied t x ≡ true → is_occupied s x ≡ true
-occupied-stays s t same x h = sym (same-train s t same x) ∙ h
+occupied-stays s t same x h = sym (same-occupied s t same x) ∙ h
 
 throw-stays : (p : PlantLists) (s t : State) (x : ℕ) → t.points ≡ s.points → is_some (next p t (Throw x)) ≡ true → is_some (next p s (Throw x)) ≡ true
 throw-stays p s t x same = throw-back p s t x (λ n number. ap (λ (l : List PointState). slice_get l n) same)

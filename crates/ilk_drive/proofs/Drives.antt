@@ -32,7 +32,7 @@ use Rattle.ilk_drive.specs.declared.outcome.Driven.{Driven}
 use Rattle.ilk_drive.specs.declared.outcome.Rest.{Rest}
 use Rattle.ilk_drive.specs.declared.outcome.Rest.TheVariants.{Driven as IsDriven, Stuck, Hazard}
 use Rattle.ilk_drive.proofs.Potential.{left, points_left, routes_left}
-use Rattle.ilk_drive.proofs.Shapes.{next-shape}
+use Rattle.ilk_model.proofs.Shape.{next-shape}
 use Rattle.ilk_drive.proofs.Turns.{allows, leads-by, turn-lowers, turn-step}
 
 -- where a drive ends: its events are a run to this moment, after which nothing comes

@@ -1,11 +1,11 @@
 pub mod Walks
 pub mod Potential
 pub mod Lowers
-pub mod Shapes
 pub mod Turns
 pub mod Drives
 pub mod Found
 pub mod Scenes
+pub mod SceneTexts
 pub mod Examples
 pub mod Back
 pub mod Changes

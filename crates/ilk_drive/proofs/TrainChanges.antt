@@ -62,11 +62,8 @@ shorter-keeps z x (u ∷ v ∷ rest) several out h = any-remove (λ w. w == z) (
 -- vacant sections were vacant, and occupied ones occupied -----------------------------------------------------------
 
 -- by what an event does to occupied sections
-vacant-by : (a b : Bool) → (a ≡ true → b ≡ true) → b ≡ false → a ≡ false
+pub vacant-by : (a b : Bool) → (a ≡ true → b ≡ true) → b ≡ false → a ≡ false
 vacant-by a b keeps vacant = false_from_ne_true a (λ e. true-false b (keeps e) vacant)
-
-pub same-train : (s t : State) → t.trains ≡ s.trains → (x : ℕ) → is_occupied t x ≡ is_occupied s x
-same-train s t same x = ap (λ (trains : List Train). list_any (λ train. has_section x train.body) trains) same
 
 pub enter-leaves : (p : PlantLists) (s t : State) (x : ℕ) → IsEntered p s t x → (z : ℕ) → is_occupied t z ≡ false → is_occupied s z ≡ false
 enter-leaves p s t x it z = vacant-by (is_occupied s z) (is_occupied t z) (λ e.

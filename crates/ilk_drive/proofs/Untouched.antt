@@ -1,6 +1,6 @@
 -- Where an event doesn't touch a section, it leads to no hazard there; and the least hazard among the sections that it touches
 -- is the least of all, since the others have none.
-use Rattle.std.proofs.Common.{◌≡◌, ℕ, zero, suc, ◌<◌, ◌≤◌, Bool, true, false, ◌||◌, ◌&&◌, ◌==◌, cond, Option, Some, None, option_map, List, [], ◌∷◌, ◌++◌, find, length, option_to_list, append-nil, remove, set, slice_get, inl, inr, refl, sym, ap, ◌∙◌, subst, arith}
+use Rattle.std.proofs.Common.{◌≡◌, ℕ, zero, suc, ◌<◌, ◌≤◌, Bool, true, false, ◌||◌, ◌&&◌, ◌==◌, cond, Option, Some, None, option_map, List, [], ◌∷◌, ◌++◌, find, length, option_to_list, append-nil, set, slice_get, inl, inr, refl, sym, ap, ◌∙◌, subst, arith}
 use Rattle.std.specs.List.{range_with_len}
 use Rattle.std.proofs.lemmas.Bool.{and_parts, both_ways, cases_Bool, eqb-true, false_from_ne_true, or_left, or_right}
 use Rattle.std.proofs.lemmas.Option.{none-some, same_Some}
@@ -24,8 +24,9 @@ use Rattle.ilk_model.specs.Event.{next}
 use Rattle.ilk_model.specs.Hazard.{has_pair, hazard, is_hazardous, is_two, is_wrong, strays}
 use Rattle.ilk_model.specs.declared.event.Event.{Event}
 use Rattle.ilk_model.specs.declared.event.Event.TheVariants.{Mark, Allocate, Lock, Sense, Release, Finish, Throw, Settle, Enter, Head, Tail, Leave, Cancel}
-use Rattle.ilk_model.specs.declared.hazards.HazardAt.{HazardAt}
 use Rattle.ilk_model.specs.declared.hazards.HazardAt.TheVariants.{Two, Wrong}
+use Rattle.ilk_model.proofs.LeastHazard.{hazard_at}
+use Rattle.ilk_model.proofs.Straying.{rest-strays}
 use Rattle.ilk_model.proofs.Frames.{IsEntered, IsHeaded, IsLeft, IsTailed, allocate-frame, cancel-frame, enter-frame, finish-frame, head-frame, leave-frame, lock-frame, mark-frame, release-frame, sense-frame, settle-frame, tail-frame, throw-frame}
 use Rattle.ilk_strict.proofs.After.{two-reads, wrong-reads}
 use Rattle.ilk_strict.proofs.Ahead.{only-one}
@@ -39,16 +40,13 @@ use Rattle.ilk_drive.specs.Touched.{IsHazardAfter, IsLeastHazardous, touched}
 use Rattle.ilk_drive.proofs.Awakes.{headed-around}
 use Rattle.ilk_drive.proofs.Changes.{apart, neither}
 use Rattle.ilk_drive.proofs.Found.{find-none}
-use Rattle.ilk_drive.proofs.TrainChanges.{not-around}
+use Rattle.ilk_drive.proofs.TrainChanges.{not-around, vacant-by}
 
 -- hazards at each section ---------------------------------------------------------------------------------------------
 
 -- no section has a hazard
 abbrev pub IsCalm : PlantLists → State → Type 0
 IsCalm p s = (x : ℕ) → x < length p.sections → is_hazardous p s x ≡ false
-
-abbrev hazard_at : State → ℕ → HazardAt
-hazard_at s x = cond (is_two s x) (Two x) (Wrong x)
 
 found-none : {X : Type 0} (test : X → Bool) (xs : List X) (i : ℕ) (x : X) → find test xs ≡ None → slice_get xs i ≡ Some x → test x ≡ false
 found-none test [] i x none at = cc
@@ -98,11 +96,6 @@ pair-longer a b x y (c ∷ d ∷ rest) last old new h =
       | inr later ↦ or_right ((c == a && d == b) || (c == b && d == a)) (has_pair a b (d ∷ rest)) (pair-longer a b x y (d ∷ rest) last old new later)
     ]
 
-pair-shorter : (a b : ℕ) (body : List ℕ) → has_pair a b (remove body 0) ≡ true → has_pair a b body ≡ true
-pair-shorter a b [] h = cc
-pair-shorter a b (c ∷ []) h = cc
-pair-shorter a b (c ∷ d ∷ rest) h = or_right ((c == a && d == b) || (c == b && d == a)) (has_pair a b (d ∷ rest)) h
-
 strays-longer : (z x y plus minus : ℕ) (lie : Option Lie) (body : List ℕ) → is_last x body ≡ true → (z ≡ x → ⊥) → (z ≡ y → ⊥) → strays z plus minus lie (body ++ y ∷ []) ≡ true → strays z plus minus lie body ≡ true
 strays-longer z x y plus minus None body last old new h = cc
 strays-longer z x y plus minus (Some Moving) body last old new h = elim (longer-has z y body h) [
@@ -112,22 +105,12 @@ strays-longer z x y plus minus (Some Moving) body last old new h = elim (longer-
 strays-longer z x y plus minus (Some Plus) body last old new h = pair-longer z minus x y body last old new h
 strays-longer z x y plus minus (Some Minus) body last old new h = pair-longer z plus x y body last old new h
 
-strays-shorter : (z plus minus : ℕ) (lie : Option Lie) (body : List ℕ) → strays z plus minus lie (remove body 0) ≡ true → strays z plus minus lie body ≡ true
-strays-shorter z plus minus None body h = cc
-strays-shorter z plus minus (Some Moving) body h = shorter-has z body h
-strays-shorter z plus minus (Some Plus) body h = pair-shorter z minus body h
-strays-shorter z plus minus (Some Minus) body h = pair-shorter z plus body h
-
 -- a body of one section strays there at most, on a point
 strays-one : (z x plus minus : ℕ) (lie : Option Lie) → strays z plus minus lie (x ∷ []) ≡ true → x ≡ z
 strays-one z x plus minus None h = cc
 strays-one z x plus minus (Some Moving) h = only-one z x h
 strays-one z x plus minus (Some Plus) h = cc
 strays-one z x plus minus (Some Minus) h = cc
-
--- what doesn't stray with more can't without
-strays-no : (a b : Bool) → (a ≡ true → b ≡ true) → b ≡ false → a ≡ false
-strays-no a b leads none = false_from_ne_true a (λ e. both_ways b none (leads e))
 
 -- events ----------------------------------------------------------------------------------------------------------------
 
@@ -150,7 +133,7 @@ module _ (p : PlantLists) (s t : State) (z : ℕ) (two : is_two s z ≡ false) (
       → is_hazardous p t z ≡ false
   trains-there points apart_ was = no-hazard p t z apart_ (wrong-from p t z (λ stem plus minus faces section i train at.
       let old = was i train at plus minus in
-      rw (points-lie points) (strays-no (strays z plus minus (lie_of p s z) train.body) (strays z plus minus (lie_of p s z) old.1.body) old.3 (wrong-at p s z wrong stem plus minus faces section old.0 old.1 old.2))))
+      rw (points-lie points) (vacant-by (strays z plus minus (lie_of p s z) train.body) (strays z plus minus (lie_of p s z) old.1.body) old.3 (wrong-at p s z wrong stem plus minus faces section old.0 old.1 old.2))))
 
   -- a point that changes lies at another section
   point-there : (x m : ℕ) (point new : PointState) → point_number p x ≡ Some m → slice_get s.points m ≡ Some point → t.points ≡ set s.points m new → t.trains ≡ s.trains → (z ≡ x → ⊥) → is_hazardous p t z ≡ false
@@ -170,7 +153,7 @@ module _ (p : PlantLists) (s t : State) (z : ℕ) (two : is_two s z ≡ false) (
 
       stray : (i : ℕ) (train : Train) → slice_get t.trains i ≡ Some train → (plus minus : ℕ) → (k : ℕ) × (old : Train) × (slice_get s.trains k ≡ Some old) × (strays z plus minus (lie_of p s z) train.body ≡ true → strays z plus minus (lie_of p s z) old.body ≡ true)
       stray i train at plus minus = elim (tail-trains p s t x it i train at) [
-        | inl moved ↦ (it.i, it.train, it.at, λ h. strays-shorter z plus minus (lie_of p s z) it.train.body (subst (λ (one : Train). strays z plus minus (lie_of p s z) one.body ≡ true) moved.1 h))
+        | inl moved ↦ (it.i, it.train, it.at, λ h. rest-strays z plus minus (lie_of p s z) it.train.body (subst (λ (one : Train). strays z plus minus (lie_of p s z) one.body ≡ true) moved.1 h))
         | inr other ↦ (i, train, other.1, λ h. h)
       ]
 

@@ -1,6 +1,7 @@
 pub mod Commands
 pub mod CommandLine
 pub mod Scene
+pub mod SceneText
 pub mod Drive
 pub mod Told
 pub mod Progress

@@ -1,4 +1,4 @@
-ghost use Rattle.std.specs.Prelude.{ℕ, ◌≡◌, ◌≤◌, ◌+◌, ◌==◌, ◌||◌, [], false, true, length, IfSome, IfNone, OnOk, OnErr};
+ghost use Rattle.std.specs.Prelude.{ℕ, ◌≡◌, ◌≤◌, ◌+◌, ◌==◌, ◌||◌, [], false, true, length, IfSome, IfNone, OnOk};
 ghost use Rattle.ilk_plant.specs.Network.{has_section};
 
 use std::alloc::{AllocError, Global};

@@ -1,4 +1,4 @@
-ghost use Rattle.std.specs.Prelude.{◌≡◌, IsTrue, IfSome};
+ghost use Rattle.std.specs.Prelude.{◌≡◌};
 ghost use Rattle.ilk_drive.specs.CommandLine.{command_of};
 ghost use Rattle.ilk_drive.specs.Commands.{is_command};
 

@@ -10,8 +10,9 @@
 //! A drive ends: each automatic event brings a train nearer to its way out, or a route or a point
 //! nearer to its rest, and a command sets them back by less than `MAX_EVENTS_FOR_A_COMMAND`
 //! (`proofs/Potential.antt`). The laws say that a scenario has one drive, that its events are a run
-//! from the start (`drives_are_runs`), and that their text is read and replayed with the same end
-//! (`drives_are_read_again`).
+//! from the start (`drives_are_runs`), that their text is read and replayed with the same end
+//! (`drives_are_read_again`), and that a text is read as a scenario exactly where it is the one
+//! written for it (`scenes_are_those_written`).
 #![tactic(auto)]
 
 mod automatic;
@@ -27,7 +28,7 @@ mod touched;
 mod waking;
 
 pub use driving::drive;
-pub use laws::{drives_are_read_again, drives_are_runs};
+pub use laws::{drives_are_read_again, drives_are_runs, scenes_are_those_written};
 pub use limits::MAX_EVENTS_FOR_A_COMMAND;
 pub use outcome::{Driven, Rest};
 pub use scene::{Scene, read_scene};

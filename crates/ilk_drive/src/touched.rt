@@ -1,13 +1,12 @@
 //! The hazard to which an event leads from a state that had none: it is asked only at the sections
 //! that the event touches, so that a drive takes no longer over a larger plant.
 ghost use Rattle.std.specs.Prelude.{◌≡◌, [], ◌∷◌, option_to_list};
-ghost use Rattle.std.specs.List.{list_any};
-ghost use Rattle.ilk_model.specs.Hazard.{has_pair, is_hazardous, is_two, is_wrong, strays};
+ghost use Rattle.ilk_model.specs.Hazard.{is_hazardous, is_two};
 ghost use Rattle.ilk_drive.specs.Awakening.{around};
 ghost use Rattle.ilk_drive.specs.Touched.{IsHazardAfter, IsLeastHazardous, IsLeastWith, touched};
 
-use ilk_model::{Event, HazardAt};
-use ilk_plant::{Lie, Plant, Row, Section, State, Train, has_section, lie_of};
+use ilk_model::{Event, HazardAt, is_wrong};
+use ilk_plant::{Plant, Section, State, has_section};
 
 // Whether two or more trains have `x` in their bodies.
 fn is_two(s: &State, x: u32) -> bool
@@ -19,55 +18,6 @@ fn is_two(s: &State, x: u32) -> bool
         .filter(|train| has_section(&train.body, x))
         .count()
         > 1
-}
-
-// Whether `x` and `y` stand next to each other in the body, in either order.
-fn has_pair(body: &Row<u32>, x: u32, y: u32) -> bool
-    ensures { result ≡ has_pair x y body.now }
-{
-    let sections = body.as_slice();
-    sections
-        .iter()
-        .zip(sections.iter().skip(1))
-        .any(|(a, b)| (*a == x && *b == y) || (*a == y && *b == x))
-}
-
-// Whether the body is wrong on the point `x`, which lies so.
-fn strays(body: &Row<u32>, x: u32, plus: u32, minus: u32, lie: Option<Lie>) -> bool
-    ensures { result ≡ strays x plus minus lie body.now }
-{
-    match lie {
-        None => false,
-        Some(Lie::Plus) => has_pair(body, x, minus),
-        Some(Lie::Minus) => has_pair(body, x, plus),
-        Some(Lie::Moving) => has_section(body, x),
-    }
-}
-
-// Whether some train's body is wrong on the point `x`, which lies so.
-fn any_strays(trains: &Row<Train>, x: u32, plus: u32, minus: u32, lie: Option<Lie>) -> bool
-    ensures { result ≡ list_any (λ train. strays x plus minus lie train.body) trains.now }
-{
-    trains
-        .as_slice()
-        .iter()
-        .any(|train| strays(&train.body, x, plus, minus, lie))
-}
-
-// Whether `x` is a point on which some train's body is wrong.
-fn is_wrong(plant: &Plant, s: &State, x: u32) -> bool
-    ensures { result ≡ is_wrong plant.now s.now x }
-{
-    if x >= plant.sections() {
-        return false;
-    }
-    match *plant.section(x) {
-        Section::Linear { .. } => false,
-        Section::Point { plus, minus, .. } => {
-            let lie = lie_of(plant, s, x);
-            any_strays(&s.trains, x, plus, minus, lie)
-        }
-    }
 }
 
 // Whether two trains share `x`, or some train's body is wrong on it.

@@ -1,4 +1,6 @@
-//! Whether a finite system keeps to a goal, by induction over runs of values.
+//! Whether a finite system keeps to a goal, by induction over runs of values: M. Sheeran, S. Singh and
+//! G. Stålmarck, "Checking safety properties using induction and a SAT-solver", FMCAD 2000. Unlike
+//! there, the moments of a run needn't differ from each other.
 //!
 //! `decide` asks queries, one after another: whether a run from the start of so many steps reaches a
 //! hazard, whether one breaks a family, and whether a run from anywhere leaves the invariant after so

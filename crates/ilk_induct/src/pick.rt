@@ -6,7 +6,9 @@ use ilk_cnf::Lit;
 use ilk_solver::View;
 
 /// The negative literal of the unset variable of the greatest weight, the least one at a tie: what a
-/// search decides next. Where every variable is set, that of variable 1.
+/// search decides next. Where every variable is set, that of variable 1. A weight counts the learned
+/// clauses that have the variable, after the counts of literals by which Chaff decides (M. W. Moskewicz,
+/// C. F. Madigan, Y. Zhao, L. Zhang and S. Malik, 2001); nothing takes a weight down.
 pub fn decision(view: &View) -> Lit
     ensures unset { (v : ℕ) → IsTrue (is_unset view.now v) → IsTrue (is_unset view.now result.var) }
     ensures heaviest { (v : ℕ) → IsTrue (is_unset view.now v) → IsHeaviest view.now result.var }
@@ -20,7 +22,8 @@ pub fn decision(view: &View) -> Lit
     }
 }
 
-/// Whether a search goes back to its start after so many conflicts: at each multiple of 128.
+/// Whether a search goes back to its start after so many conflicts: at each multiple of 128. The number
+/// stays the same throughout, and there is no chance in it.
 pub fn is_restart_due(conflicts: u64) -> bool
     ensures { result ≡ (conflicts % 128 == 0) }
 {

@@ -1,9 +1,8 @@
-ghost use Rattle.std.specs.Prelude.{◌≡◌, ◌<◌, ◌≤◌, ◌+◌, ◌==◌, ◌++◌, ◌∷◌, [], All, if◌then◌else◌, length, map, slice_get, IfOk, OnOk};
+ghost use Rattle.std.specs.Prelude.{◌≡◌, ◌<◌, ◌+◌, ◌==◌, ◌++◌, ◌∷◌, [], All, if◌then◌else◌, length, map, slice_get, IfOk, OnOk};
 ghost use Rattle.std.specs.List.{range_with_len};
 ghost use Rattle.ilk_ir.specs.Form.{tree_of};
 ghost use Rattle.ilk_ir.specs.Tree.{negation};
 ghost use Rattle.ilk_plant.specs.Plant.{IsRouteOf};
-ghost use Rattle.ilk_plant.specs.declared.limits.TheConstants.{MAX_PATH};
 ghost use Rattle.ilk_plant.specs.declared.state.Aspect.TheVariants.{Closed};
 ghost use Rattle.ilk_plant.specs.declared.state.Mode.TheVariants.{Allocating, Locked, Occupied};
 ghost use Rattle.ilk_conditions.specs.Conditions as conditions;

@@ -1,8 +1,7 @@
-ghost use Rattle.std.specs.Prelude.{◌≡◌, ◌<◌, ◌+◌, ◌==◌, ◌++◌, ◌∷◌, [], All, drop, if◌then◌else◌, length, map, slice_get, IfOk, OnOk};
+ghost use Rattle.std.specs.Prelude.{◌≡◌, ◌<◌, ◌+◌, ◌==◌, ◌++◌, ◌∷◌, [], if◌then◌else◌, length, map, slice_get, IfOk, OnOk};
 ghost use Rattle.ilk_ir.specs.Form.{tree_of};
 ghost use Rattle.ilk_ir.specs.Tree.{negation};
 ghost use Rattle.ilk_plant.specs.Plant.{IsRouteOf};
-ghost use Rattle.ilk_plant.specs.declared.limits.TheConstants.{MAX_PATH};
 ghost use Rattle.ilk_plant.specs.declared.network.Dir.TheVariants.{Up, Down};
 ghost use Rattle.ilk_plant.specs.declared.state.Aspect.TheVariants.{Closed};
 ghost use Rattle.ilk_plant.specs.declared.state.Mode.TheVariants.{Locked, Occupied};

@@ -1,12 +1,13 @@
 -- What stands at a place of a body in which no section stands twice.
-use Rattle.std.proofs.Common.{◌≡◌, ℕ, zero, suc, ◌+◌, ◌-◌, Bool, true, false, ◌&&◌, ◌||◌, ◌==◌, Some, None, List, [], ◌∷◌, length, slice_get, inl, inr, refl, sym, ◌∙◌, ap, arith}
-use Rattle.std.proofs.lemmas.Bool.{eq-eqb, ne_eqb, eqb-true, or_cases, and_parts, or_left, or_right, false_from_ne_true, false≢true}
+use Rattle.std.proofs.Common.{◌≡◌, ℕ, zero, suc, ◌+◌, ◌-◌, Bool, true, false, ◌&&◌, ◌||◌, ◌==◌, Some, None, List, [], ◌∷◌, length, slice_get, refl, sym, ◌∙◌, ap, arith}
+use Rattle.std.proofs.lemmas.Bool.{eq-eqb, ne_eqb, eqb-true, or_left, or_right, false_from_ne_true, false≢true}
 use Rattle.std.proofs.lemmas.Bool.Decides.{nat_tests}
 use Rattle.ilk_base.proofs.Once.{EachOnce}
 use Rattle.ilk_base.proofs.Tested.{list_any-at, list_any-from}
 use Rattle.ilk_plant.specs.Network.{has_section}
 use Rattle.ilk_motion.specs.Body.{is_last}
 use Rattle.ilk_model.specs.Hazard.{has_pair}
+use Rattle.ilk_model.proofs.Straying.{pair-has}
 use Rattle.ilk_layout.specs.Occupancy.{is_first}
 use Rattle.ilk_layout.specs.Standing.{is_beside, section_before}
 
@@ -56,20 +57,6 @@ last-at (y ∷ z ∷ rest) zero x once at =
 last-at (y ∷ z ∷ rest) (suc i) x once at =
     let more : (suc i + 1 == length (y ∷ z ∷ rest)) ≡ (i + 1 == length (z ∷ rest)) = grind (arith, nat_tests) in
     last-at (z ∷ rest) i x (once-rest y (z ∷ rest) once) at ∙ sym more
-
--- a pair has both its sections in the body
-pub pair-has : (x z : ℕ) (body : List ℕ) → has_pair x z body ≡ true → has_section x body ≡ true
-pair-has x z [] h = cc
-pair-has x z (a ∷ []) h = cc
-pair-has x z (a ∷ b ∷ rest) h =
-    elim (or_cases ((a == x && b == z) || (a == z && b == x)) (has_pair x z (b ∷ rest)) h) [
-      | inl here ↦
-          elim (or_cases (a == x && b == z) (a == z && b == x) here) [
-            | inl e ↦ or_left (a == x) (has_section x (b ∷ rest)) (and_parts (a == x) (b == z) e).0
-            | inr e ↦ or_right (a == x) (has_section x (b ∷ rest)) (or_left (b == x) (has_section x rest) (and_parts (a == z) (b == x) e).1)
-          ]
-      | inr later ↦ or_right (a == x) (has_section x (b ∷ rest)) (pair-has x z (b ∷ rest) later)
-    ]
 
 no-pair : (x z : ℕ) (body : List ℕ) → has_section x body ≡ false → has_pair x z body ≡ false
 no-pair x z body none = false_from_ne_true (has_pair x z body) (λ h. false≢true (sym none ∙ pair-has x z body h))

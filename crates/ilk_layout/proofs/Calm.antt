@@ -29,7 +29,8 @@ use Rattle.ilk_model.specs.Hazard.{has_pair, hazard, is_hazardous, is_two, is_wr
 use Rattle.ilk_layout.specs.Occupancy.{occupancy_of}
 use Rattle.ilk_layout.specs.Wellformed.{ahead_by, joined_to}
 use Rattle.ilk_layout.specs.declared.values.Occupancy.TheVariants.{Vacant, Taken, Crash}
-use Rattle.ilk_layout.proofs.Bodies.{first-at, has-at, last-at, pair-has, place-of}
+use Rattle.ilk_model.proofs.Straying.{pair-has}
+use Rattle.ilk_layout.proofs.Bodies.{first-at, has-at, last-at, place-of}
 use Rattle.ilk_layout.proofs.Plants.{body-known, body-once, body-parts, joined-from}
 use Rattle.ilk_layout.proofs.Trains.{find-some, has_x}
 

@@ -17,17 +17,11 @@ use Rattle.ilk_plant.specs.declared.state.Lie.TheVariants.{Plus, Minus, Moving}
 use Rattle.ilk_plant.specs.declared.state.State.{State}
 use Rattle.ilk_plant.specs.declared.state.Train.{Train}
 use Rattle.ilk_model.specs.Hazard.{is_hazardous, is_wrong, strays}
+use Rattle.ilk_model.proofs.Straying.{strays-has}
 use Rattle.ilk_layout.specs.Occupancy.{occupancy_of, taken_by, taken_by_any}
 use Rattle.ilk_layout.specs.Standing.{has_no_train, is_wrong_between, is_wrong_under, section_before, with_train_on}
 use Rattle.ilk_layout.specs.declared.values.Occupancy.TheVariants.{Crash}
-use Rattle.ilk_layout.proofs.Bodies.{has-at, pair-at, pair-has}
-
--- a body is wrong only on sections that it has
-pub strays-has : (x plus minus : ℕ) (lie : Option Lie) (body : List ℕ) → strays x plus minus lie body ≡ true → has_section x body ≡ true
-strays-has x plus minus None body h = cc
-strays-has x plus minus (Some Moving) body h = h
-strays-has x plus minus (Some Plus) body h = pair-has x minus body h
-strays-has x plus minus (Some Minus) body h = pair-has x plus body h
+use Rattle.ilk_layout.proofs.Bodies.{has-at, pair-at}
 
 pub wrong-has : (p : PlantLists) (s : State) (x : ℕ) (body : List ℕ) → is_wrong_under p s x body ≡ true → has_section x body ≡ true
 wrong-has p s x body h = by_section (slice_get p.sections x) refl

@@ -7,3 +7,4 @@ pub mod Examples
 pub mod Sound
 pub mod Count
 pub mod Closed
+pub mod Pushed

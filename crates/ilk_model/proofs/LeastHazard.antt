@@ -10,7 +10,7 @@ use Rattle.ilk_model.specs.declared.hazards.HazardAt.{HazardAt}
 use Rattle.ilk_model.specs.declared.hazards.HazardAt.TheVariants.{Two, Wrong}
 use Rattle.ilk_base.proofs.Ranges.{find-same, find-within}
 
-abbrev hazard_at : State → ℕ → HazardAt
+abbrev pub hazard_at : State → ℕ → HazardAt
 hazard_at s x = cond (is_two s x) (Two x) (Wrong x)
 
 -- the hazard at the least section that is bad by the bits

@@ -7,3 +7,5 @@ pub mod LeastBroken
 pub mod LastItem
 pub mod Alike
 pub mod Frames
+pub mod Straying
+pub mod Shape

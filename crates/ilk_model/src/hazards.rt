@@ -49,8 +49,8 @@ fn any_strays(trains: &Row<Train>, x: u32, plus: u32, minus: u32, lie: Option<Li
         .any(|train| strays(&train.body, x, plus, minus, lie))
 }
 
-// Whether `x` is a point on which some train's body is wrong.
-fn is_wrong(plant: &Plant, s: &State, x: u32) -> bool
+/// Whether `x` is a point on which some train's body is wrong.
+pub fn is_wrong(plant: &Plant, s: &State, x: u32) -> bool
     ensures { result ≡ is_wrong plant.now s.now x }
 {
     if x >= plant.sections() {

@@ -2,37 +2,15 @@
 //! of the invariant are made.
 ghost use Rattle.std.specs.Prelude.{◌≡◌};
 ghost use Rattle.std.specs.List.{list_all};
-ghost use Rattle.ilk_plant.specs.declared.state.Aspect.TheVariants.{Closed};
-ghost use Rattle.ilk_routes.specs.Boards.{has_aspect};
 ghost use Rattle.ilk_model.specs.Holding.{holds_sections, is_kept_on_path, is_locked_or_occupied, is_plain, is_vacant, runs_in};
 
-use ilk_plant::{Aspect, Dir, Mode, Plant, Route, RouteState, Row, State, occupied};
+use ilk_plant::{Dir, Mode, Plant, Route, RouteState, State, occupied};
 
 /// Whether each of the sections is vacant.
 pub(crate) fn all_vacant(s: &State, sections: &[u32]) -> bool
     ensures { result ≡ list_all (is_vacant s.now) sections.now }
 {
     sections.iter().all(|x| !occupied(s, *x))
-}
-
-/// Whether board `m` shows the aspect.
-pub(crate) fn has_aspect(s: &State, m: u32, aspect: Aspect) -> bool
-    ensures { result ≡ has_aspect s.now m aspect }
-{
-    match s.boards.as_slice().get(m as usize) {
-        Some(now) => *now == aspect,
-        None => false,
-    }
-}
-
-/// Whether each of the boards is Closed.
-pub(crate) fn all_closed(s: &State, boards: &Row<u32>) -> bool
-    ensures { result ≡ list_all (λ m. has_aspect s.now m Closed) boards.now }
-{
-    boards
-        .as_slice()
-        .iter()
-        .all(|m| has_aspect(s, *m, Aspect::Closed))
 }
 
 /// Whether a route in this state is Locked or Occupied.

@@ -3,7 +3,7 @@
 //!
 //! A run begins in a state, at the start by `start`, and goes on by `apply`, an event at a time;
 //! `hazard` tells whether a state has two trains in one section, or a train on a point that moves or
-//! lies wrongly. `Event` has its words for run texts. The definition of a run (`specs/Run.antt`) goes
+//! lies wrongly; `is_wrong` asks the second of a single section. `Event` has its words for run texts. The definition of a run (`specs/Run.antt`) goes
 //! on only from states without hazard. `broken_family` tells the least of the nine families of the
 //! invariant (`specs/Families.antt`, and `specs/Meets.antt` for all of them) that a state breaks.
 #![tactic(auto)]
@@ -20,5 +20,5 @@ mod words;
 
 pub use event::{Event, apply};
 pub use families::broken_family;
-pub use hazards::{HazardAt, hazard};
+pub use hazards::{HazardAt, hazard, is_wrong};
 pub use ilk_plant::start_state as start;

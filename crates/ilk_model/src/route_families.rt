@@ -8,21 +8,18 @@ ghost use Rattle.ilk_plant.specs.declared.state.Aspect.TheVariants.{Open, Closed
 ghost use Rattle.ilk_plant.specs.declared.state.Hold.TheVariants.{Locked as LockedLock};
 ghost use Rattle.ilk_plant.specs.declared.state.Mode.TheVariants.{Allocating, Locked, Occupied};
 ghost use Rattle.ilk_routes.specs.Boards.{has_aspect};
-ghost use Rattle.ilk_plant.specs.TableRules.{protecting_points_of};
 ghost use Rattle.ilk_routes.specs.Claims.{sections_beside};
-ghost use Rattle.ilk_routes.specs.Lies.{lies_as_listed};
 ghost use Rattle.ilk_routes.specs.Modes.{same_mode};
 ghost use Rattle.ilk_model.specs.Commanded.{is_commanded_as_listed};
 ghost use Rattle.ilk_model.specs.Families.{has_its_locks, is_commanded_for, keeps_v1, keeps_v3, keeps_v4, keeps_v5, keeps_v6, keeps_v9, lies_for, lock_on_path};
 ghost use Rattle.ilk_model.specs.Holding.{each_place, holds_sections, is_vacant, some_route};
 
-use crate::holding::{
-    all_closed, all_vacant, has_aspect, holds_sections, is_kept_on_path, is_locked_or_occupied,
-};
+use crate::holding::{all_vacant, holds_sections, is_kept_on_path, is_locked_or_occupied};
 use ilk_plant::{
-    Aspect, Hold, Lie, Listed, Mode, Plant, Position, Route, RouteState, Row, State, has_lock,
-    has_section, lie_of, point_on,
+    Aspect, Hold, Listed, Mode, Plant, Route, RouteState, Row, State, has_lock, has_section,
+    point_on,
 };
+use ilk_routes::{all_closed, has_aspect, lies_as_listed};
 
 // Whether the counts of a route fit its mode: an Occupied one has given back less than was seen, and
 // no more was seen than its path has; of another one nothing was seen or given back.
@@ -176,16 +173,6 @@ fn is_commanded_as_listed(plant: &Plant, s: &State, listed: &Listed) -> bool
             None => false,
         },
         None => false,
-    }
-}
-
-// Whether a listed point lies at its listed position.
-fn lies_as_listed(plant: &Plant, s: &State, listed: &Listed) -> bool
-    ensures { result ≡ lies_as_listed plant.now s.now listed.now }
-{
-    match (lie_of(plant, s, listed.point), listed.at) {
-        (Some(Lie::Plus), Position::Plus) | (Some(Lie::Minus), Position::Minus) => true,
-        _ => false,
     }
 }
 

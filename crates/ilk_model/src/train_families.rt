@@ -11,10 +11,9 @@ ghost use Rattle.ilk_routes.specs.Modes.{same_mode};
 ghost use Rattle.ilk_model.specs.Families.{is_kept_for, is_led, keeps_v7, keeps_v8};
 ghost use Rattle.ilk_model.specs.Holding.{is_kept_on_path, is_locked_or_occupied, is_plain, is_vacant, runs_in, some_place};
 
-use crate::holding::{
-    all_vacant, has_aspect, is_kept_on_path, is_locked_or_occupied, is_plain, runs_in,
-};
+use crate::holding::{all_vacant, is_kept_on_path, is_locked_or_occupied, is_plain, runs_in};
 use ilk_plant::{Aspect, Dir, Mode, Plant, Route, RouteState, State, Train};
+use ilk_routes::has_aspect;
 
 // Whether a route in this state may lead a train: it is Occupied, or Locked with its source Closed.
 fn may_lead(s: &State, route: &Route, now: RouteState) -> bool

@@ -11,7 +11,8 @@ use thiserror::Error;
 /// A rule of the form.
 #[derive(Clone, Copy, PartialEq, Eq, Debug)]
 pub enum Form {
-    /// The configuration has at most 4194304 bytes.
+    /// The configuration has at most 4194304 bytes, and the file that is read besides no more than the
+    /// limit of its kind.
     F1,
     /// It is a JSON text.
     F2,

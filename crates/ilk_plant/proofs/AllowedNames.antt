@@ -1,9 +1,9 @@
 -- The names of a plant are of the allowed characters, where each text of its drafts is a name.
-use Rattle.std.proofs.Common.{◌≡◌, ℕ, ◌+◌, true, Option, Some, None, List, [], ◌∷◌, All, map, refl, ap, ◌∙◌}
+use Rattle.std.proofs.Common.{◌≡◌, ℕ, ◌+◌, true, Option, Some, None, List, [], ◌∷◌, All, refl, ap, ◌∙◌}
 use Rattle.std.specs.List.{list_all}
 use Rattle.std.proofs.lemmas.List.{map-append}
 use Rattle.std.proofs.lemmas.List.Folds.{list_all-append, list_all-map}
-use Rattle.ilk_plant.specs.Draft.{NamedBoard, boards_from, boards_on, names_of_boards, names_of_routes, names_of_sections, board_if_named}
+use Rattle.ilk_plant.specs.Draft.{boards_from, boards_on, names_of_boards, names_of_routes, names_of_sections, board_if_named}
 use Rattle.ilk_plant.specs.Limits.{kind_has_names, route_has_names, section_has_names}
 use Rattle.ilk_plant.specs.Name.{IsName, Name, is_name, is_name_if_given}
 use Rattle.ilk_plant.specs.declared.draft.KindDraft.{KindDraft}
@@ -12,6 +12,7 @@ use Rattle.ilk_plant.specs.declared.draft.RouteDraft.{RouteDraft}
 use Rattle.ilk_plant.specs.declared.draft.SectionDraft.{SectionDraft}
 use Rattle.ilk_plant.specs.declared.network.Dir.{Dir}
 use Rattle.ilk_plant.specs.declared.network.Dir.TheVariants.{Up, Down}
+use Rattle.ilk_plant.proofs.Boards.{names_in}
 use Rattle.ilk_base.proofs.Tested.{All-tested, list_all-weaken}
 use Rattle.std.proofs.lemmas.Bool.{and_parts}
 
@@ -40,28 +41,25 @@ route_names-allowed routes h =
     each-name (names_of_routes routes) (list_all-map is_name (λ route. route.name) routes ∙ list_all-weaken route_has_names (λ route. is_name route.name) route-name routes h)
 
 -- the names of boards
-abbrev board_names : List NamedBoard → List Name
-board_names boards = map (λ named. named.name) boards
-
-one-board : (x : ℕ) (d : Dir) (name : Option Name) → is_name_if_given name ≡ true → list_all is_name (board_names (board_if_named x d name)) ≡ true
+one-board : (x : ℕ) (d : Dir) (name : Option Name) → is_name_if_given name ≡ true → list_all is_name (names_in (board_if_named x d name)) ≡ true
 one-board x d None h = refl
 one-board x d (Some name) h = rw h refl
 
-boards-here : (x : ℕ) (kind : KindDraft) → kind_has_names kind ≡ true → list_all is_name (board_names (boards_on x kind)) ≡ true
+boards-here : (x : ℕ) (kind : KindDraft) → kind_has_names kind ≡ true → list_all is_name (names_in (boards_on x kind)) ≡ true
 boards-here x (LinearDraft down up board_down board_up) h =
     let last = and_parts _ (is_name_if_given board_up) h in
     let before = and_parts _ (is_name_if_given board_down) last.0 in
     ap (list_all is_name) (map-append (λ named. named.name) (board_if_named x Down board_down) (board_if_named x Up board_up))
-    ∙ list_all-append is_name (board_names (board_if_named x Down board_down)) (board_names (board_if_named x Up board_up))
+    ∙ list_all-append is_name (names_in (board_if_named x Down board_down)) (names_in (board_if_named x Up board_up))
     ∙ rw (one-board x Down board_down before.1) (one-board x Up board_up last.1)
 boards-here x (PointDraft stem plus minus faces) h = refl
 
-boards-tested : (x : ℕ) (sections : List SectionDraft) → list_all section_has_names sections ≡ true → list_all is_name (board_names (boards_from x sections)) ≡ true
+boards-tested : (x : ℕ) (sections : List SectionDraft) → list_all section_has_names sections ≡ true → list_all is_name (names_in (boards_from x sections)) ≡ true
 boards-tested x [] h = refl
 boards-tested x (section ∷ rest) h =
     let parts = and_parts (section_has_names section) (list_all section_has_names rest) h in
     ap (list_all is_name) (map-append (λ named. named.name) (boards_on x section.kind) (boards_from (x + 1) rest))
-    ∙ list_all-append is_name (board_names (boards_on x section.kind)) (board_names (boards_from (x + 1) rest))
+    ∙ list_all-append is_name (names_in (boards_on x section.kind)) (names_in (boards_from (x + 1) rest))
     ∙ rw (boards-here x section.kind (and_parts (is_name section.name) (kind_has_names section.kind) parts.0).1) (boards-tested (x + 1) rest parts.1)
 
 pub board_names-allowed : (sections : List SectionDraft) → list_all section_has_names sections ≡ true → All IsName (names_of_boards sections)

@@ -31,7 +31,7 @@ use Rattle.ilk_base.proofs.Truth.{or-true}
 use Rattle.std.proofs.lemmas.Bool.{and_parts}
 
 -- a board that stands in a list of named boards has a known name
-abbrev names_in : List NamedBoard → List Name
+abbrev pub names_in : List NamedBoard → List Name
 names_in boards = map (λ named. named.name) boards
 
 -- what is known among some names is known among more

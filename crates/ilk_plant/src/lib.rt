@@ -46,7 +46,7 @@ pub use network::{Board, Dir, Position, Section};
 pub use numbered_drafts::Numbered;
 pub use occupancy::{has_section, occupied};
 pub use plant::Plant;
-pub use points::{lie_of, point_on};
+pub use points::{is_leg, lie_of, point_on};
 pub use start::start_state;
 pub use state::{Aspect, Hold, Lie, Mode, PointState, RouteState, State, Train};
 pub use table::{Listed, Route};

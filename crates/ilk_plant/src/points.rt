@@ -1,8 +1,10 @@
-ghost use Rattle.std.specs.Prelude.{◌≡◌, ◌<◌, IfSome};
+ghost use Rattle.std.specs.Prelude.{◌≡◌, ◌<◌, IfSome, slice_get};
+ghost use Rattle.ilk_base.specs.Option.{is_some_and};
+ghost use Rattle.ilk_plant.specs.ColumnRules.{is_leg};
 ghost use Rattle.ilk_plant.specs.Plant.{point_count, point_number};
 ghost use Rattle.ilk_plant.specs.State.{lie_of};
 
-use crate::{Lie, Plant, State};
+use crate::{Lie, Plant, Position, Section, State};
 
 /// The number of the point on section `x`. None where `x` is no section, or one that is no point.
 pub fn point_on(plant: &Plant, x: u32) -> Option<u32>
@@ -23,4 +25,19 @@ pub fn lie_of(plant: &Plant, s: &State, x: u32) -> Option<Lie>
     let n = point_on(plant, x)?;
     let point = s.points.as_slice().get(n as usize)?;
     Some(point.at)
+}
+
+/// Whether section `y` is the leg of section `x` at a position. No section is the leg of one that is no
+/// point.
+pub fn is_leg(plant: &Plant, x: u32, at: Position, y: u32) -> bool
+    ensures { result ≡ is_some_and (slice_get plant.now.sections x) (is_leg at y) }
+{
+    if x >= plant.sections() {
+        return false;
+    }
+    match (plant.section(x), at) {
+        (Section::Point { plus, .. }, Position::Plus) => *plus == y,
+        (Section::Point { minus, .. }, Position::Minus) => *minus == y,
+        _ => false,
+    }
 }

@@ -6,35 +6,15 @@ use Rattle.ilk_base.proofs.Lists.{item_at}
 use Rattle.ilk_base.proofs.Options.{bind_some, some-is}
 use Rattle.ilk_ir.specs.System.{fired, fired_at}
 use Rattle.ilk_plant.specs.Plant.{IsPlant, PlantLists}
-use Rattle.ilk_plant.specs.Shape.{HasShape}
-use Rattle.ilk_plant.specs.declared.state.State.{State}
-use Rattle.ilk_motion.proofs.Shape.{after_enter-shape, after_head-shape, after_leave-shape, after_tail-shape}
-use Rattle.ilk_routes.proofs.Shape.{after_allocate-shape, after_cancel-shape, after_finish-shape, after_lock-shape, after_mark-shape, after_release-shape, after_sense-shape, after_settle-shape, after_throw-shape}
 use Rattle.ilk_model.specs.Event.{next}
 use Rattle.ilk_model.specs.declared.event.Event.{Event}
-use Rattle.ilk_model.specs.declared.event.Event.TheVariants.{Mark, Allocate, Lock, Sense, Release, Finish, Throw, Settle, Enter, Head, Tail, Leave, Cancel}
+use Rattle.ilk_model.proofs.Shape.{next-shape}
 use Rattle.ilk_layout.specs.Image.{image_of}
 use Rattle.ilk_layout.specs.Laws.{IsCalm}
 use Rattle.ilk_behave.specs.Behaviour.{event_of_rule, events_of, events_of_rules, system_of}
 use Rattle.ilk_behave.specs.Steps.{RuleGives, StepsAs}
 use Rattle.ilk_behave.proofs.Located.{as_many}
 use Rattle.ilk_queries.specs.Lifting.{RulesStep}
-
--- an event keeps the shape
-next-shape : (p : PlantLists) → IsPlant p → (s t : State) (event : Event) → HasShape p s → next p s event ≡ Some t → HasShape p t
-next-shape p plant s t (Mark r) shape e = after_mark-shape p s t r shape e
-next-shape p plant s t (Allocate r) shape e = after_allocate-shape p s t r shape e
-next-shape p plant s t (Lock r) shape e = after_lock-shape p s t r shape e
-next-shape p plant s t (Sense r) shape e = after_sense-shape p s t r shape e
-next-shape p plant s t (Release r) shape e = after_release-shape p s t r shape e
-next-shape p plant s t (Finish r) shape e = after_finish-shape p s t r shape e
-next-shape p plant s t (Throw x) shape e = after_throw-shape p s t x shape e
-next-shape p plant s t (Settle x) shape e = after_settle-shape p s t x shape e
-next-shape p plant s t (Enter x) shape e = after_enter-shape p s t x shape e
-next-shape p plant s t (Head x) shape e = after_head-shape p s t x shape e
-next-shape p plant s t (Tail x) shape e = after_tail-shape p s t x plant shape e
-next-shape p plant s t (Leave x) shape e = after_leave-shape p s t x shape e
-next-shape p plant s t (Cancel r) shape e = after_cancel-shape p s t r shape e
 
 -- a rule that is there has an event
 rule-event : (p : PlantLists) (i : ℕ) (values next : List ℕ) → fired_at (system_of p) i values ≡ Some next → (event : Event) × (event_of_rule p i ≡ Some event)

@@ -1,4 +1,4 @@
--- Cited by proofs alone: how rules step as events do, and what the forms of a goal say of states.
+-- How rules step as events do, what the forms of a goal say of states, and which events rules are.
 use Rattle.std.specs.Prelude.{ℕ, ◌≡◌, ◌↔◌, Bool, true, Option, Some, None, List, [], ◌∷◌, is_some, is_none}
 use Rattle.std.specs.List.{list_all}
 use Rattle.ilk_base.specs.Option.{◌>>=◌}

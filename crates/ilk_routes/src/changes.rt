@@ -1,6 +1,6 @@
 ghost use Rattle.std.specs.Prelude.{◌≡◌, ◌<◌, [], ◌∷◌, All, length, map};
 ghost use Rattle.ilk_plant.specs.Plant.{point_count};
-ghost use Rattle.ilk_plant.specs.TableRules.{protecting_points_of, sections_locked_for};
+ghost use Rattle.ilk_plant.specs.TableRules.{sections_locked_for};
 ghost use Rattle.ilk_routes.specs.Claims.{sections_beside, wanted_points};
 ghost use Rattle.ilk_routes.specs.Lies.{with_commands};
 ghost use Rattle.ilk_routes.specs.Locks.{with_locks};

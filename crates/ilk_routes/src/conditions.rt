@@ -1,4 +1,4 @@
-ghost use Rattle.std.specs.Prelude.{◌≡◌, ◌≤◌, ◌<◌, ◌-◌, ◌&&◌, ◌==◌, IfSome, Some, length, map, slice_get};
+ghost use Rattle.std.specs.Prelude.{◌≡◌, ◌≤◌, ◌<◌, ◌-◌, ◌&&◌, ◌==◌, Some, length, map, slice_get};
 ghost use Rattle.ilk_plant.specs.Plant.{IsRouteOf};
 ghost use Rattle.ilk_plant.specs.Shape.{HasShape};
 ghost use Rattle.std.specs.List.{list_any, list_all};
@@ -7,7 +7,7 @@ ghost use Rattle.ilk_plant.specs.State.{is_clear};
 ghost use Rattle.ilk_plant.specs.declared.state.Aspect.TheVariants.{Closed};
 ghost use Rattle.ilk_plant.specs.declared.state.Mode.TheVariants.{Locked};
 ghost use Rattle.ilk_routes.specs.Boards.{has_aspect, is_protecting, protects_by};
-ghost use Rattle.ilk_plant.specs.TableRules.{protecting_points_of, sections_locked_for};
+ghost use Rattle.ilk_plant.specs.TableRules.{sections_locked_for};
 ghost use Rattle.ilk_routes.specs.Claims.{wanted_points};
 ghost use Rattle.ilk_routes.specs.Lies.{is_moving, lie_in, lies_as_listed, lies_at};
 ghost use Rattle.ilk_routes.specs.Modes.{has_mode, is_claimed};
@@ -110,8 +110,8 @@ pub fn lies_at(lie: Lie, position: Position) -> bool
     lie == lie_in(position)
 }
 
-// Whether a listed point lies at its listed position.
-fn lies_as_listed(plant: &Plant, s: &State, listed: &Listed) -> bool
+/// Whether a listed point lies at its listed position.
+pub fn lies_as_listed(plant: &Plant, s: &State, listed: &Listed) -> bool
     ensures { result ≡ lies_as_listed plant.now s.now listed.now }
 {
     match lie_of(plant, s, listed.point) {
@@ -138,8 +138,8 @@ fn all_wanted_lie(plant: &Plant, s: &State, route: &Route) -> bool
         && all_lie_as_listed(plant, s, &route.protecting_points)
 }
 
-// Whether board `m` shows the aspect.
-fn has_aspect(s: &State, m: u32, aspect: Aspect) -> bool
+/// Whether board `m` shows the aspect.
+pub fn has_aspect(s: &State, m: u32, aspect: Aspect) -> bool
     ensures { result ≡ has_aspect s.now m aspect }
 {
     match s.boards.as_slice().get(m as usize) {
@@ -148,8 +148,8 @@ fn has_aspect(s: &State, m: u32, aspect: Aspect) -> bool
     }
 }
 
-// Whether each of the boards is Closed.
-fn all_closed(s: &State, boards: &Row<u32>) -> bool
+/// Whether each of the boards is Closed.
+pub fn all_closed(s: &State, boards: &Row<u32>) -> bool
     ensures { result ≡ list_all (λ m. has_aspect s.now m Closed) boards.now }
 {
     boards
@@ -165,8 +165,8 @@ fn has_board(boards: &Row<u32>, m: u32) -> bool
     boards.as_slice().iter().any(|k| *k == m)
 }
 
-// Whether route `q` has board `m` among its protecting boards.
-fn protects_by(plant: &Plant, q: u32, m: u32) -> bool
+/// Whether route `q` has board `m` among its protecting boards.
+pub fn protects_by(plant: &Plant, q: u32, m: u32) -> bool
     ensures { result ≡ protects_by plant.now q m }
 {
     q < plant.routes() && has_board(&plant.route(q).protecting_boards, m)

@@ -15,7 +15,7 @@ mod conditions;
 mod points;
 mod routes;
 
-pub use conditions::last_of;
+pub use conditions::{all_closed, has_aspect, last_of, lie_in, lies_as_listed, protects_by};
 pub use points::{step_settle, step_throw};
 pub use routes::{
     step_allocate, step_cancel, step_finish, step_lock, step_mark, step_release, step_sense,

@@ -1,12 +1,12 @@
 -- What is known, as a clause of one literal is added.
-use Rattle.std.proofs.Common.{◌≡◌, ◌<◌, ◌≤◌, ◌+◌, ◌&&◌, ◌++◌, ◌∷◌, [], ◌⊎◌, ℕ, zero, suc, inl, inr, true, false, eqb, List, Some, length, take, set, get_or, refl, sym, ap, ◌∙◌, subst, arith, add-one, length-append}
-use Rattle.std.specs.Prelude.{Option, None, IsSomeAnd, slice_get, not, nat_lt, Result, OnOk}
+use Rattle.std.proofs.Common.{◌≡◌, ◌<◌, ◌+◌, ◌&&◌, ◌++◌, ◌∷◌, [], ◌⊎◌, ℕ, suc, inl, inr, true, false, eqb, List, Some, length, take, set, get_or, refl, sym, ap, ◌∙◌, subst, arith, add-one, length-append}
+use Rattle.std.specs.Prelude.{Option, None, IsSomeAnd, slice_get, not, nat_lt}
 use Rattle.std.specs.List.{list_all}
 use Rattle.std.proofs.lemmas.Bool.{and_from, and_parts, cases_Bool, eqb-true, eqb-false, true≢false, or_left, or_cases, ltb-true, le-leb}
 use Rattle.std.proofs.lemmas.List.{get_or-set_same, get_or-set_other}
 use Rattle.std.proofs.Math.ListN.{get_or-append, length-set, length-take}
 use Rattle.std.proofs.lemmas.Option.{same_Some, slice_get_within}
-use Rattle.ilk_base.proofs.Lists.{at-before, at-past, slice_get-push_cases}
+use Rattle.ilk_base.proofs.Lists.{at-before, slice_get-push_cases}
 use Rattle.ilk_base.proofs.Ranges.{below_or_past}
 use Rattle.ilk_base.proofs.Tested.{list_all-more}
 use Rattle.ilk_cnf.specs.Literal.{Literal, opposite, same_lit, has_lit, has_var, vars_differ}
@@ -14,28 +14,27 @@ use Rattle.ilk_cnf.specs.Formula.{Formula, clause_in}
 use Rattle.ilk_cnf.proofs.SameLiterals.{same-lit, lit-is}
 use Rattle.ilk_clauses.specs.Reasons.{clause_at, is_conflict, is_reason}
 use Rattle.ilk_log.specs.declared.step.Step.{Step}
-use Rattle.ilk_log.specs.Derived.{each_derived, ends_empty, ends_false, is_derived, is_derived_log, is_empty, is_refutation, opposites, step_clauses}
+use Rattle.ilk_log.specs.Derived.{ends_empty, ends_false, is_derived, is_derived_log, is_empty, is_refutation, opposites, step_clauses}
 use Rattle.ilk_log.specs.Fresh.{others}
+use Rattle.ilk_log.proofs.Pushed.{clauses-push, derived-push}
 use Rattle.ilk_log.specs.Propagation.{is_falsified}
 use Rattle.ilk_trail.specs.declared.entry.Entry.{Entry}
 use Rattle.ilk_trail.specs.Laws.{lits_of}
 use Rattle.ilk_watches.proofs.Entries.{entry-of-lit, one-entry}
 use Rattle.ilk_learn.proofs.Derived.{false-at}
 use Rattle.ilk_learn.proofs.Members.{kept-at, no-var}
-use Rattle.ilk_learn.proofs.Latest.{take-one-more}
 use Rattle.ilk_learn.proofs.Walk.{stands}
-use Rattle.std.proofs.lemmas.List.{append-nil}
 use Rattle.std.proofs.Common.{append_assoc}
 use Rattle.std.proofs.lemmas.Bool.{not_from_false}
 use Rattle.ilk_rup.specs.Backed.{Alone, Backed, Same}
 use Rattle.ilk_rup.specs.Needs.{AreHints, Explains, IsForced, IsKnown}
 use Rattle.ilk_rup.specs.Standing.{IsClauseOf, IsLogged}
-use Rattle.ilk_rup.proofs.Backing.{backed-alone, backed-same}
+use Rattle.ilk_rup.proofs.Backing.{backed-alone}
 use Rattle.ilk_rup.proofs.Explaining.{not-in}
 use Rattle.ilk_rup.proofs.Passing.{at-taken, next-at, reason-in}
 
 -- one clause more at the end
-last-at : {X : Type 0} (xs : List X) (x : X) → slice_get (xs ++ x ∷ []) (length xs) ≡ Some x
+pub last-at : {X : Type 0} (xs : List X) (x : X) → slice_get (xs ++ x ∷ []) (length xs) ≡ Some x
 last-at [] x = refl
 last-at (y ∷ xs) x = last-at xs x
 
@@ -132,22 +131,12 @@ name-explains cs es k r e at once b reason =
 pub step-derived : (n : ℕ) (cs : List (List Literal)) (set c : List Literal) (hints : List ℕ) → AreHints cs set hints → IsClauseOf n set c → is_derived n cs (record { clause = c; hints = hints }) ≡ true
 step-derived n cs set c hints h k = and_from (clause_in n c && vars_differ c) (ends_false cs (opposites c) hints) (and_from (clause_in n c) (vars_differ c) k.within k.differ) (h c k.differ k.fewer k.more)
 
-derived-push : (n : ℕ) (cs : List (List Literal)) (log : List Step) (s : Step) → each_derived n cs log ≡ true → is_derived n (cs ++ step_clauses log) s ≡ true → each_derived n cs (log ++ s ∷ []) ≡ true
-derived-push n cs [] s h d = and_from (is_derived n cs s) true (ap (λ xs. is_derived n xs s) (sym (append-nil cs)) ∙ d) refl
-derived-push n cs (t ∷ log) s h d =
-    let p = and_parts (is_derived n cs t) (each_derived n (cs ++ t.clause ∷ []) log) h in
-    and_from (is_derived n cs t) (each_derived n (cs ++ t.clause ∷ []) (log ++ s ∷ [])) p.0 (derived-push n (cs ++ t.clause ∷ []) log s p.1 (ap (λ xs. is_derived n xs s) (append_assoc cs (t.clause ∷ []) (step_clauses log)) ∙ d))
-
 ends-push : (log : List Step) (s : Step) → list_all (λ (t : Step). not (is_empty t.clause)) log ≡ true → is_empty s.clause ≡ true → ends_empty (log ++ s ∷ []) ≡ true
 ends-push [] s h e = e
 ends-push (t ∷ []) s h e = (let p = and_parts (not (is_empty t.clause)) true h in and_from (not (is_empty t.clause)) (is_empty s.clause) p.0 e)
 ends-push (t ∷ (u ∷ log)) s h e =
     let p = and_parts (not (is_empty t.clause)) (list_all (λ (x : Step). not (is_empty x.clause)) (u ∷ log)) h in
     and_from (not (is_empty t.clause)) (ends_empty ((u ∷ log) ++ s ∷ [])) p.0 (ends-push (u ∷ log) s p.1 e)
-
-clauses-push : (log : List Step) (s : Step) → step_clauses (log ++ s ∷ []) ≡ step_clauses log ++ s.clause ∷ []
-clauses-push [] s = refl
-clauses-push (t ∷ log) s = ap (λ (cs : List (List Literal)). t.clause ∷ cs) (clauses-push log s)
 
 pub logged-more : (f : Formula) (cs : List (List Literal)) (log : List Step) (s : Step) → IsLogged f cs log → is_derived f.vars cs s ≡ true → is_empty s.clause ≡ false → IsLogged f (cs ++ s.clause ∷ []) (log ++ s ∷ [])
 logged-more f cs log s k d e = record {
@@ -158,6 +147,3 @@ logged-more f cs log s k d e = record {
 
 pub log-refutes : (f : Formula) (cs : List (List Literal)) (log : List Step) (s : Step) → IsLogged f cs log → is_derived f.vars cs s ≡ true → is_empty s.clause ≡ true → is_refutation f (log ++ s ∷ []) ≡ true
 log-refutes f cs log s k d e = and_from (is_derived_log f (log ++ s ∷ [])) (ends_empty (log ++ s ∷ [])) (derived-push f.vars f.clauses log s k.derived (ap (λ (xs : List (List Literal)). is_derived f.vars xs s) (sym k.clauses_are) ∙ d)) (ends-push log s k.unended e)
-
-pub copied-more : (f : Formula) (c : ℕ) (x : List Literal) → c < length f.clauses → slice_get f.clauses c ≡ Some x → take c f.clauses ++ x ∷ [] ≡ take (c + 1) f.clauses
-copied-more f c x h e = sym (ap (λ (n : ℕ). take n f.clauses) (add-one c) ∙ take-one-more f.clauses c x e)

@@ -1,24 +1,23 @@
 -- The clause of an item is taken.
-use Rattle.std.proofs.Common.{◌≡◌, ◌<◌, ◌≤◌, ◌+◌, ◌++◌, ◌∷◌, [], ◌⊎◌, ◌&&◌, ℕ, zero, suc, inl, inr, Bool, true, false, List, Option, Some, None, length, refl, sym, ap, ◌∙◌, subst, arith, length-append}
+use Rattle.std.proofs.Common.{◌≡◌, ◌+◌, ◌++◌, ◌∷◌, [], ◌⊎◌, ◌&&◌, ℕ, zero, suc, inl, inr, Bool, true, false, List, Option, Some, None, length, refl, sym, ap, ◌∙◌, subst, arith}
 use Rattle.std.specs.Prelude.{◌==◌, IfNone, IfSome, not, slice_get}
 use Rattle.std.specs.List.{filter}
 use Rattle.std.proofs.lemmas.Bool.{and_from, and_parts, cases_Bool, not-true, not_from_false, or_cases, or_from, or_left, or_right, true≢false}
 use Rattle.std.proofs.lemmas.List.Folds.{list_any-append}
-use Rattle.std.proofs.lemmas.Option.{same_Some, slice_get_within}
+use Rattle.std.proofs.lemmas.Option.{slice_get_within}
 use Rattle.ilk_base.specs.Option.{◌>>=◌, is_some_and}
 use Rattle.ilk_base.proofs.Lists.{at-before, slice_get-push_cases}
 use Rattle.ilk_base.proofs.Options.{bind_some, some-and}
 use Rattle.ilk_cnf.specs.Literal.{Literal, opposite, same_lit, has_lit, has_var, vars_differ}
 use Rattle.ilk_cnf.specs.Formula.{Formula, clause_in}
-use Rattle.ilk_cnf.proofs.Gates.{opposite-opposite}
-use Rattle.ilk_cnf.proofs.SameLiterals.{same-lit, lit-is, has-var}
+use Rattle.ilk_cnf.proofs.SameLiterals.{same-lit}
 use Rattle.ilk_arena.specs.Arena.{ArenaLists}
 use Rattle.ilk_clauses.specs.Chained.{IsClauses, IsClauseAdded}
 use Rattle.ilk_log.specs.declared.step.Step.{Step}
-use Rattle.ilk_log.specs.Derived.{ends_false, is_derived, is_empty, opposites}
+use Rattle.ilk_log.specs.Derived.{ends_false, is_empty, opposites}
 use Rattle.ilk_log.specs.Propagation.{after_hint, after_hints, is_falsified, unit_of}
 use Rattle.ilk_trail.specs.declared.entry.Entry.{Entry}
-use Rattle.ilk_trail.specs.Trail.{TrailList, level_of, up_to}
+use Rattle.ilk_trail.specs.Trail.{TrailList, level_of}
 use Rattle.ilk_trail.specs.Laws.{IsTrail, climbs, is_set, lits_of}
 use Rattle.ilk_trail.proofs.Levels.{up_to-all}
 use Rattle.ilk_watches.specs.declared.queue.Queue.{Queue}
@@ -29,7 +28,7 @@ use Rattle.ilk_watches.proofs.Prefixes.{up-level}
 use Rattle.ilk_learn.proofs.Derived.{false-from, has-opposite, opposite-of}
 use Rattle.ilk_learn.proofs.Members.{differ-kept, each-within, kept-at, kept-from, same-var, var-of}
 use Rattle.ilk_rup.specs.Accepted.{Follows}
-use Rattle.ilk_rup.specs.Backed.{Alone, Backed, Ends, Reaches, Same, Sets, Sound}
+use Rattle.ilk_rup.specs.Backed.{Alone, Backed, Ends, Same, Sound}
 use Rattle.ilk_rup.specs.Needs.{AreHints, IsForced, IsKnown, unset_first}
 use Rattle.ilk_rup.specs.Standing.{Held, IsClauseOf, IsDerivedStep, IsLogged, IsStepAdded, Loose, Settled}
 use Rattle.ilk_rup.specs.declared.base.Base.{Base}
@@ -37,7 +36,7 @@ use Rattle.ilk_rup.specs.declared.checker.Checker.{Checker}
 use Rattle.ilk_rup.specs.Taken.{EachDiffers, Stands}
 use Rattle.ilk_rup.proofs.Backing.{backed-ends, backed-same}
 use Rattle.ilk_rup.proofs.Holds.{added-clauses, held-step}
-use Rattle.ilk_rup.proofs.Keeping.{backed-more, forced-more, logged-more, same-more, step-derived}
+use Rattle.ilk_rup.proofs.Keeping.{backed-more, forced-more, last-at, logged-more, same-more, step-derived}
 use Rattle.ilk_rup.proofs.Signs.{var-either}
 
 -- clauses more at the end
@@ -214,10 +213,6 @@ known-grown units cs more es n k h = record {
   told = λ i e b at. (let t = h.told i e b at in (t.0, t.1, at-before cs more t.0 (e.lit ∷ []) t.2));
   only = h.only;
 }
-
-last-at : {X : Type 0} (xs : List X) (x : X) → slice_get (xs ++ x ∷ []) (length xs) ≡ Some x
-last-at [] x = refl
-last-at (y ∷ xs) x = last-at xs x
 
 not-empty : (c : List Literal) (l : Literal) → has_lit l c ≡ true → is_empty c ≡ false
 not-empty [] l h = absurd (true≢false (sym h))

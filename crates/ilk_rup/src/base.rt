@@ -1,11 +1,9 @@
 //! What is known between two items: the clauses so far, what they set at level 0, and the steps that
 //! show it.
 
-ghost use Rattle.std.specs.Prelude.{◌≡◌, ◌≢◌, ◌<◌, ◌≤◌, ◌+◌, ◌++◌, ◌∷◌, [], ℕ, true, false, List, length, replicate, ◌^◌, IfOk, IfNone, IfSome, OnOk, OnErr, IsTrue};
-ghost use Rattle.ilk_arena.specs.Arena.{ArenaLists};
+ghost use Rattle.std.specs.Prelude.{◌≡◌, ◌<◌, ◌≤◌, ◌+◌, ◌∷◌, [], ℕ, true, false, List, length, replicate, ◌^◌, IfOk, IfNone, IfSome, OnOk, IsTrue};
 ghost use Rattle.ilk_cnf.specs.Formula.{Formula, clause_in};
 ghost use Rattle.ilk_cnf.specs.Literal.{Literal, has_lit, vars_differ};
-ghost use Rattle.ilk_clauses.specs.Chained.{formula_of, IsClauseAdded};
 ghost use Rattle.ilk_clauses.specs.Reasons.{is_conflict};
 ghost use Rattle.ilk_log.specs.Propagation.{is_closed};
 ghost use Rattle.ilk_trail.specs.Laws.{lits_of};
@@ -288,22 +286,11 @@ pub fn started(alloc: Global, cnf: &Cnf) -> Result<Base, AllocError>
     let vars = cnf.vars();
     let _ = cnf.clauses();
     Ok(Base {
-        clauses: copied(alloc, cnf)?,
+        clauses: Clauses::of(alloc, cnf)?,
         trail: Trail::new(alloc, vars)?,
         queue: Queue::new(),
         units: zeros(alloc, vars)?,
         named: 0,
         log: Log::new(alloc),
     })
-}
-
-// The clauses of a formula.
-fn copied(alloc: Global, cnf: &Cnf) -> Result<Clauses, AllocError>
-    ensures { IfOk result (λ clauses. formula_of clauses ≡ cnf.now) }
-{
-    let mut clauses = Clauses::new(alloc, cnf.vars())?;
-    for c in 0..cnf.clauses() {
-        clauses.add(cnf.clause(c + 1))?;
-    }
-    Ok(clauses)
 }

@@ -3,7 +3,7 @@
 ghost use Rattle.std.specs.Prelude.{◌≡◌, ◌<◌, ◌≤◌, ◌^◌, ◌++◌, ◌∷◌, [], false, length, slice_get, Some, IfOk, IsTrue};
 ghost use Rattle.ilk_cnf.specs.Formula.{clause_in, lit_in};
 ghost use Rattle.ilk_cnf.specs.Literal.{has_lit, has_var, vars_differ};
-ghost use Rattle.ilk_trail.specs.Laws.{lits_of, is_set, IsTrail};
+ghost use Rattle.ilk_trail.specs.Laws.{lits_of};
 
 use ilk_cnf::Lit;
 use ilk_trail::Trail;

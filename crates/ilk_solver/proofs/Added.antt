@@ -17,13 +17,14 @@ use Rattle.ilk_solver.specs.View.{ViewLists, weight_of}
 use Rattle.ilk_solver.specs.Held.{HoldsSearch}
 use Rattle.ilk_solver.proofs.ClosedLevels.{closed-added}
 use Rattle.ilk_solver.proofs.Searches.{known-closed, known-reasons}
-use Rattle.ilk_solver.proofs.Weights.{count_by-push, step_clauses-push}
+use Rattle.ilk_log.proofs.Pushed.{clauses-push}
+use Rattle.ilk_solver.proofs.Weights.{count_by-push}
 
 pub held-added : (cs : Formula) (given : ℕ) (log : List Step) (view new : ViewLists) (s : Step) → HoldsSearch cs given log view → LevelsClosed (s.clause ∷ []) view.trail.entries → new.trail ≡ view.trail → ((v : ℕ) → 0 < v → weight_of new v ≡ weight_of view v + cond (has_var v s.clause) 1 0) → HoldsSearch (grown cs cs.vars (s.clause ∷ [])) given (log ++ s ∷ []) new
 held-added cs given log view new s h apart same counts =
     let c = s.clause in
     let front : take given (cs.clauses ++ c ∷ []) ≡ take given cs.clauses = take-append-le given cs.clauses (c ∷ []) h.first in
-    let laid : cs.clauses ++ c ∷ [] ≡ take given (cs.clauses ++ c ∷ []) ++ step_clauses (log ++ s ∷ []) = ap (λ xs. xs ++ c ∷ []) h.laid ∙ append_assoc (take given cs.clauses) (step_clauses log) (c ∷ []) ∙ ap (λ xs. take given cs.clauses ++ xs) (sym (step_clauses-push log s)) ∙ ap (λ xs. xs ++ step_clauses (log ++ s ∷ [])) (sym front) in
+    let laid : cs.clauses ++ c ∷ [] ≡ take given (cs.clauses ++ c ∷ []) ++ step_clauses (log ++ s ∷ []) = ap (λ xs. xs ++ c ∷ []) h.laid ∙ append_assoc (take given cs.clauses) (step_clauses log) (c ∷ []) ∙ ap (λ xs. take given cs.clauses ++ xs) (sym (clauses-push log s)) ∙ ap (λ xs. xs ++ step_clauses (log ++ s ∷ [])) (sym front) in
     let reasons = reasons-grown cs.clauses (c ∷ []) view.trail.entries (known-reasons cs given log view h) in
     let closed = closed-added cs.clauses c view.trail.entries (known-closed cs given log view h) apart in
     let R : List (List Literal) → Type 0 = λ xs. HasReasons xs view.trail.entries in
@@ -40,7 +41,7 @@ held-added cs given log view new s h apart same counts =
         weighed = λ v w.
             (let known = h.search.weighed v (ap (λ (t : TrailList). lit_in t.vars (plus v)) (sym same) ∙ w) in
             let from_1 = ltb-true 0 v (and_parts _ _ w).0 in
-            counts v from_1 ∙ ap (λ n. n + cond (has_var v c) 1 0) known ∙ sym (count_by-push (has_var v) (step_clauses log) c) ∙ ap (count_by (has_var v)) (sym (step_clauses-push log s)));
+            counts v from_1 ∙ ap (λ n. n + cond (has_var v c) 1 0) known ∙ sym (count_by-push (has_var v) (step_clauses log) c) ∙ ap (count_by (has_var v)) (sym (clauses-push log s)));
       };
     }
 

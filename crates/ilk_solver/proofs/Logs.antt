@@ -1,18 +1,12 @@
 -- A log with a step more.
-use Rattle.std.proofs.Common.{◌≡◌, ℕ, true, false, not, List, [], ◌∷◌, ◌++◌, refl, sym, ap, ◌∙◌, subst, append_assoc}
+use Rattle.std.proofs.Common.{◌≡◌, true, false, not, List, [], ◌∷◌, ◌++◌, sym, subst, append_assoc}
 use Rattle.std.proofs.lemmas.Bool.{and_parts, and_from}
 use Rattle.std.proofs.lemmas.List.{append-nil}
 use Rattle.ilk_cnf.specs.Literal.{Literal}
 use Rattle.ilk_log.specs.declared.step.Step.{Step}
-use Rattle.ilk_log.specs.Derived.{each_derived, ends_empty, is_derived, is_empty, step_clauses}
+use Rattle.ilk_log.specs.Derived.{ends_empty, is_empty, step_clauses}
 use Rattle.ilk_log.specs.Fresh.{EachFresh, IsFresh}
 use Rattle.ilk_solver.specs.Answered.{none_empty}
-
-pub derived-push : (n : ℕ) (cs : List (List Literal)) (log : List Step) (s : Step) → each_derived n cs log ≡ true → is_derived n (cs ++ step_clauses log) s ≡ true → each_derived n cs (log ++ s ∷ []) ≡ true
-derived-push n cs [] s h d = and_from (is_derived n cs s) true (ap (λ xs. is_derived n xs s) (sym (append-nil cs)) ∙ d) refl
-derived-push n cs (t ∷ log) s h d =
-    let p = and_parts (is_derived n cs t) (each_derived n (cs ++ t.clause ∷ []) log) h in
-    and_from (is_derived n cs t) (each_derived n (cs ++ t.clause ∷ []) (log ++ s ∷ [])) p.0 (derived-push n (cs ++ t.clause ∷ []) log s p.1 (ap (λ xs. is_derived n xs s) (append_assoc cs (t.clause ∷ []) (step_clauses log)) ∙ d))
 
 pub fresh-push : (cs : List (List Literal)) (log : List Step) (s : Step) → EachFresh cs log → (is_empty s.clause ≡ false → IsFresh (cs ++ step_clauses log) s.clause) → EachFresh cs (log ++ s ∷ [])
 fresh-push cs [] s h f =

@@ -12,7 +12,8 @@ use Rattle.ilk_log.specs.Fresh.{IsFresh, IsStuck}
 use Rattle.ilk_log.proofs.Count.{fresh_few}
 use Rattle.ilk_solver.specs.Search.{SearchLists}
 use Rattle.ilk_solver.specs.Answered.{IsLog, IsSpent, none_empty}
-use Rattle.ilk_solver.proofs.Logs.{derived-push, fresh-push, ends-push}
+use Rattle.ilk_log.proofs.Pushed.{derived-push}
+use Rattle.ilk_solver.proofs.Logs.{fresh-push, ends-push}
 use Rattle.ilk_solver.proofs.Weights.{count_by-push}
 
 pub log-start : (f : Formula) (budget : ℕ) → IsLog f budget []

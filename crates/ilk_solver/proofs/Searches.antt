@@ -1,9 +1,7 @@
 -- A search whose trail changes.
-use Rattle.std.proofs.Common.{◌≡◌, ◌+◌, ◌-◌, zero, suc, ◌<◌, ◌≤◌, ℕ, true, List, [], ◌∷◌, ◌++◌, length, take, replicate, get_or, Some, refl, sym, ap, ◌∙◌, subst, arith}
-use Rattle.std.proofs.lemmas.List.{append-nil, take_more}
+use Rattle.std.proofs.Common.{◌≡◌, ◌-◌, zero, suc, ◌≤◌, ℕ, true, List, [], ◌++◌, length, take, replicate, get_or, refl, sym, ap, ◌∙◌, subst, arith}
+use Rattle.std.proofs.lemmas.List.{append-nil}
 use Rattle.std.proofs.Math.Seq.{take-length}
-use Rattle.std.proofs.lemmas.Option.{get_or_from_slice_get}
-use Rattle.std.specs.List.{slice_get}
 use Rattle.ilk_cnf.specs.Literal.{Literal}
 use Rattle.ilk_cnf.specs.Formula.{Formula}
 use Rattle.ilk_log.specs.declared.step.Step.{Step}
@@ -77,10 +75,6 @@ held-start cs = record {
 
     none : (n v : ℕ) → ◌≡◌ {A = ℕ} (get_or (replicate n 0) (v - 1) 0) 0
     none n v = zeros n (v - 1)
-
--- one clause more of a formula is copied
-pub copied-more : (f : Formula) (c : ℕ) (x : List Literal) → c < length f.clauses → slice_get f.clauses c ≡ Some x → take c f.clauses ++ x ∷ [] ≡ take (c + 1) f.clauses
-copied-more f c x h e = sym (take_more f.clauses c x h ∙ ap (λ y. take c f.clauses ++ y ∷ []) (get_or_from_slice_get f.clauses c x x e))
 
 -- the same clauses as a formula
 pub formula-same : (a b : ArenaLists) → SameClauses a b → formula_of b ≡ formula_of a

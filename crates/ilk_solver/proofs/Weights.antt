@@ -1,13 +1,11 @@
 -- The weights of a view when a clause is counted.
-use Rattle.std.proofs.Common.{◌≡◌, ◌≢◌, ◌+◌, ◌-◌, ◌<◌, ◌||◌, ℕ, Bool, true, false, not, zero, suc, inl, inr, cond, eqb, List, [], ◌∷◌, ◌++◌, length, drop, get_or, set, refl, sym, ap, ◌∙◌, subst, arith}
+use Rattle.std.proofs.Common.{◌≡◌, ◌≢◌, ◌+◌, ◌-◌, ◌<◌, ◌||◌, ℕ, Bool, true, false, not, zero, suc, inl, inr, cond, eqb, List, [], ◌∷◌, ◌++◌, length, drop, get_or, set, refl, sym, ◌∙◌, subst, arith}
 use Rattle.std.specs.Prelude.{count_by}
 use Rattle.std.proofs.lemmas.Bool.{and_parts, not-true}
 use Rattle.std.proofs.lemmas.Bool.Decides.{eqb_tells}
 use Rattle.std.proofs.lemmas.List.Sums.{sum_by-cons}
 use Rattle.std.proofs.lemmas.List.{get_or-set_same, get_or-set_other}
 use Rattle.ilk_cnf.specs.Literal.{Literal, has_var, vars_differ}
-use Rattle.ilk_log.specs.declared.step.Step.{Step}
-use Rattle.ilk_log.specs.Derived.{step_clauses}
 
 pub counted-step : (w : List ℕ) (v : ℕ) (l : Literal) (rest : List Literal) → vars_differ (l ∷ rest) ≡ true → 0 < v → 0 < l.var → l.var - 1 < length w → get_or (set w (l.var - 1) (get_or w (l.var - 1) 0 + 1)) (v - 1) 0 + cond (has_var v rest) 1 0 ≡ get_or w (v - 1) 0 + cond (has_var v (l ∷ rest)) 1 0
 counted-step w v l rest d v1 l1 in_w =
@@ -30,11 +28,6 @@ differ-drop [] zero d = refl
 differ-drop [] (suc i) d = refl
 differ-drop (l ∷ ls) zero d = d
 differ-drop (l ∷ ls) (suc i) d = differ-drop ls i (and_parts (not (has_var l.var ls)) (vars_differ ls) d).1
-
--- a step more
-pub step_clauses-push : (log : List Step) (s : Step) → step_clauses (log ++ s ∷ []) ≡ step_clauses log ++ s.clause ∷ []
-step_clauses-push [] s = refl
-step_clauses-push (t ∷ log) s = ap (λ cs. t.clause ∷ cs) (step_clauses-push log s)
 
 pub count_by-push : {X : Type 0} (p : X → Bool) (xs : List X) (x : X) → count_by p (xs ++ x ∷ []) ≡ count_by p xs + cond (p x) 1 0
 count_by-push p [] x = (let e = sum_by-cons (λ y. cond (p y) 1 0) x [] in omega (arith, e))

@@ -1,4 +1,4 @@
--- Only private contracts and proofs need this file: the assignment that a view tells.
+-- Which variables of a view are set, and the assignment that it tells.
 use Rattle.std.specs.Prelude.{ℕ, ◌+◌, ◌<◌, ◌≤◌, ◌≡◌, Bool, true, false, IsTrue, List, map, unwrap_or}
 use Rattle.std.specs.List.{range_with_len}
 use Rattle.ilk_cnf.specs.Literal.{plus}

@@ -14,6 +14,12 @@
 //! Propagation goes along chains of watching clauses (`ilk_watches`), and how far it has come is kept
 //! beside the clauses.
 //!
+//! It is the search of GRASP (J. P. Marques-Silva and K. A. Sakallah, 1996 and 1999), with the watched
+//! literals, the restarts and the weights of Chaff (M. W. Moskewicz, C. F. Madigan, Y. Zhao, L. Zhang
+//! and S. Malik, 2001). It learns at the first unique implication point (L. Zhang, C. F. Madigan,
+//! M. W. Moskewicz and S. Malik, 2001). Unlike Chaff's, a weight is of a variable and not of a literal,
+//! and is never divided; and no learned clause is taken out again.
+//!
 //! A decision asks for the heaviest unset variable. A view has a tree of winners among its unset
 //! variables (`specs/Tree`, `src/tree`), as in a knock-out tournament, and it stands at the top. A node
 //! has its variable and the weight in one word (`specs/Word`), so that a match looks at two words side

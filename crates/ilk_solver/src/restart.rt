@@ -1,7 +1,8 @@
 ghost use Rattle.std.specs.Prelude.{◌≡◌, ◌≤◌, Bool, if◌then◌else◌};
 
 /// When a search goes back to its start: a closure over the number of steps so far that have a
-/// literal. It is asked after each of them.
+/// literal. It is asked after each of them. What was learned stays, as in Chaff (M. W. Moskewicz,
+/// C. F. Madigan, Y. Zhao, L. Zhang and S. Malik, 2001).
 #[derive(Drop)]
 pub struct Restart {
     asks: Box<dyn Fn(u64) -> bool>,

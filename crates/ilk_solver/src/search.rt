@@ -1,6 +1,5 @@
-ghost use Rattle.std.specs.Prelude.{◌≡◌, ◌≤◌, ◌<◌, ◌+◌, [], ◌∷◌, false, true, IfNone, IfOk, IfSome, IsTrue};
+ghost use Rattle.std.specs.Prelude.{◌≡◌, ◌≤◌, ◌<◌, [], ◌∷◌, false, true, IfNone, IfOk, IfSome, IsTrue};
 ghost use Rattle.ilk_clauses.specs.Reasons.{is_conflict};
-ghost use Rattle.ilk_clauses.specs.Chained.{formula_of};
 ghost use Rattle.ilk_watches.specs.Watched.{IsAddable};
 ghost use Rattle.ilk_cnf.specs.Formula.{clause_in, lit_in};
 ghost use Rattle.ilk_cnf.specs.Literal.{vars_differ};
@@ -55,7 +54,7 @@ impl Search {
         ensures { IfOk result (λ s. s ≡ new_search cnf.now) }
     {
         let view = View::new(alloc, cnf.vars())?;
-        let clauses = copied(alloc, cnf)?;
+        let clauses = Clauses::of(alloc, cnf)?;
         let given = clauses.count();
         let queue = Queue::new();
         let log = Log::new(alloc);
@@ -213,15 +212,4 @@ impl Search {
         let Search { log, .. } = self;
         log
     }
-}
-
-// The clauses of a formula.
-fn copied(alloc: Global, cnf: &Cnf) -> Result<Clauses, AllocError>
-    ensures { IfOk result (λ clauses. formula_of clauses ≡ cnf.now) }
-{
-    let mut clauses = Clauses::new(alloc, cnf.vars())?;
-    for c in 0..cnf.clauses() {
-        clauses.add(cnf.clause(c + 1))?;
-    }
-    Ok(clauses)
 }

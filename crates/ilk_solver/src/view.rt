@@ -1,7 +1,7 @@
 ghost use Rattle.std.specs.Prelude.{◌≡◌, ◌≤◌, ◌<◌, ◌+◌, ◌^◌, ◌-◌, ℕ, [], false, true, length, not, replicate, slice_index, if◌then◌else◌, IfNone, IfOk, IfSome, IsTrue};
 ghost use Rattle.ilk_cnf.specs.Formula.{clause_in, lit_in};
 ghost use Rattle.ilk_cnf.specs.Literal.{has_var, vars_differ};
-ghost use Rattle.ilk_trail.specs.Trail.{decided, level_of, up_to, value_of_literal};
+ghost use Rattle.ilk_trail.specs.Trail.{decided, level_of, up_to};
 ghost use Rattle.ilk_trail.specs.Laws.{is_set, lits_of};
 ghost use Rattle.ilk_log.specs.Propagation.{is_closed};
 ghost use Rattle.ilk_clauses.specs.Reasons.{is_conflict};

@@ -1,4 +1,4 @@
-ghost use Rattle.std.specs.Prelude.{◌≡◌, ◌⊎◌, ◌≤◌, ◌<◌, ◌^◌, length};
+ghost use Rattle.std.specs.Prelude.{◌≡◌, ◌⊎◌, ◌≤◌, ◌<◌, length};
 ghost use Rattle.ilk_solver.specs.Word.{variable_of, word_of};
 
 // The word of variable `v`, whose weight is entry v - 1: the weight is the upper half, and in the lower

@@ -32,15 +32,17 @@ use Rattle.ilk_strict.specs.IsStrict.{IsFrom, IsStrict}
 use Rattle.ilk_strict.proofs.After.{wrong-reads}
 use Rattle.ilk_strict.proofs.Ahead.{leg, legs-differ, only-one, other_leg, stem-no_other, leg-no_other, strays-lie_in, leg_at-lie_in}
 use Rattle.ilk_model.proofs.Alike.{own_lie}
+use Rattle.ilk_model.proofs.Straying.{rest-strays, strays-has}
 use Rattle.ilk_model.proofs.Frames.{IsAllocated, IsCancelled, IsEntered, IsFinished, IsHeaded, IsLeft, IsLocked, IsMarked, IsReleased, IsSensed, IsSettled, IsTailed, IsThrown}
 use Rattle.ilk_strict.proofs.Heads.{GoesOn, lies-ahead}
 use Rattle.ilk_strict.proofs.HeldPoints.{IsSet, held-point}
 use Rattle.ilk_strict.proofs.KeepsV4.{headed-goes_on}
 use Rattle.ilk_strict.proofs.Points.{commanded-is, lie-alike, lie-is, lie-kept, lie-other}
 use Rattle.ilk_strict.proofs.Reading.{section-at}
-use Rattle.ilk_strict.proofs.Table.{numbered-section, route-source}
+use Rattle.ilk_plant.proofs.PointNumbers.{numbered-section}
+use Rattle.ilk_strict.proofs.Table.{route-source}
 use Rattle.ilk_strict.proofs.TrainFacts.{IsKeptBy, Keeps, body-kept, wrong-at, wrong-from}
-use Rattle.ilk_strict.proofs.Trains.{enter-trains, head-trains, last-is, leave-trains, longer-has, shorter-has, tail-trains}
+use Rattle.ilk_strict.proofs.Trains.{enter-trains, head-trains, last-is, leave-trains, longer-has, tail-trains}
 
 -- no train stands on a point that moves or lies wrongly
 abbrev pub AreRight : PlantLists → State → Type 0
@@ -68,38 +70,6 @@ pair-pushed a b x y (c ∷ d ∷ rest) last h =
         | inr new ↦ inr new
       ]
     ]
-
--- both of a pair stand in the body
-pair-has : (a b : ℕ) (body : List ℕ) → has_pair a b body ≡ true → has_section a body ≡ true
-pair-has a b [] h = cc
-pair-has a b (c ∷ []) h = cc
-pair-has a b (c ∷ d ∷ rest) h =
-    elim (either ((c == a && d == b) || (c == b && d == a)) (has_pair a b (d ∷ rest)) h) [
-      | inl here ↦ elim (either (c == a && d == b) (c == b && d == a) here) [
-        | inl e ↦ or_left (c == a) (has_section a (d ∷ rest)) (and_parts (c == a) (d == b) e).0
-        | inr e ↦ or_right (c == a) (has_section a (d ∷ rest)) (or_left (d == a) (has_section a rest) (and_parts (c == b) (d == a) e).1)
-      ]
-      | inr later ↦ or_right (c == a) (has_section a (d ∷ rest)) (pair-has a b (d ∷ rest) later)
-    ]
-
--- a pair of a shorter body is one of the body
-pair-shorter : (a b : ℕ) (body : List ℕ) → has_pair a b (remove body 0) ≡ true → has_pair a b body ≡ true
-pair-shorter a b [] h = cc
-pair-shorter a b (c ∷ []) h = cc
-pair-shorter a b (c ∷ d ∷ rest) h = or_right ((c == a && d == b) || (c == b && d == a)) (has_pair a b (d ∷ rest)) h
-
--- a body that strays on a point has it
-strays-has : (x plus minus : ℕ) (lie : Option Lie) (body : List ℕ) → strays x plus minus lie body ≡ true → has_section x body ≡ true
-strays-has x plus minus None body h = cc
-strays-has x plus minus (Some Moving) body h = h
-strays-has x plus minus (Some LiesPlus) body h = pair-has x minus body h
-strays-has x plus minus (Some LiesMinus) body h = pair-has x plus body h
-
-strays-shorter : (x plus minus : ℕ) (lie : Option Lie) (body : List ℕ) → strays x plus minus lie (remove body 0) ≡ true → strays x plus minus lie body ≡ true
-strays-shorter x plus minus None body h = cc
-strays-shorter x plus minus (Some Moving) body h = shorter-has x body h
-strays-shorter x plus minus (Some LiesPlus) body h = pair-shorter x minus body h
-strays-shorter x plus minus (Some LiesMinus) body h = pair-shorter x plus body h
 
 -- a point is no border, has no board, and has a neighbour on each side
 point-no_border : (p : PlantLists) (x stem plus minus : ℕ) (faces d : Dir) → slice_get p.sections x ≡ Some (Point stem plus minus faces) → border p x ≡ Some d → ⊥
@@ -311,7 +281,7 @@ module _ (p : PlantLists) (plant : IsPlant p) (strict : IsStrict p) (s t : State
   tail-keeps_right it =
       lie-as_before (points-lie it.points) (λ z stem plus minus faces section i train at. elim (tail-trains p s t n it i train at) [
         | inl moved ↦ subst (λ (one : Train). strays z plus minus (lie_of p s z) one.body ≡ false) (sym moved.1) (false_from_ne_true (strays z plus minus (lie_of p s z) (remove it.train.body 0)) (λ h.
-            both_ways (strays z plus minus (lie_of p s z) it.train.body) (no-strays z stem plus minus faces section it.i it.train it.at) (strays-shorter z plus minus (lie_of p s z) it.train.body h)))
+            both_ways (strays z plus minus (lie_of p s z) it.train.body) (no-strays z stem plus minus faces section it.i it.train it.at) (rest-strays z plus minus (lie_of p s z) it.train.body h)))
         | inr other ↦ no-strays z stem plus minus faces section i train other.1
       ])
 

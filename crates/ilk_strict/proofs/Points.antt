@@ -15,7 +15,7 @@ use Rattle.ilk_plant.specs.declared.table.Listed.{Listed}
 use Rattle.ilk_routes.specs.Lies.{lie_in, lies_as_listed, listed_position, lists_point, with_commands}
 use Rattle.ilk_model.specs.Commanded.{commanded_position, is_commanded_as_listed, same_position}
 use Rattle.ilk_model.proofs.Alike.{one_position, own_lie, own_position}
-use Rattle.ilk_strict.proofs.Table.{number-once}
+use Rattle.ilk_plant.proofs.PointNumbers.{number-once}
 
 -- a listed point that is commanded, or lies, as listed
 pub commanded-at_listed : (p : PlantLists) (s : State) (listed : Listed) → is_commanded_as_listed p s listed ≡ true → commanded_position p s listed.point ≡ Some listed.at

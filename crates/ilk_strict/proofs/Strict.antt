@@ -1,16 +1,12 @@
 -- A table in which C1, C2 in its part on the end of a path, C3 in its part on the path, and C7 are broken at no place has
 -- what strict safety uses; so has one in which no rule of the columns is broken.
-use Rattle.std.proofs.Common.{◌≡◌, ℕ, zero, suc, ◌+◌, ◌<◌, Bool, true, false, not, ◌==◌, ◌&&◌, ◌||◌, Option, Some, None, List, [], ◌∷◌, drop, length, nat_lt, slice_get, take, refl, sym, ap, ◌∙◌, subst, arith}
-use Rattle.std.specs.List.{filter, range_with_len}
+use Rattle.std.proofs.Common.{◌≡◌, ℕ, zero, suc, ◌+◌, Bool, true, false, not, ◌==◌, ◌&&◌, ◌||◌, Option, Some, None, List, [], ◌∷◌, drop, length, nat_lt, slice_get, take, refl, sym, ap, ◌∙◌, subst, arith}
 use Rattle.std.proofs.lemmas.Bool.{and_parts, eqb-true}
 use Rattle.std.proofs.lemmas.Option.{same_Some, slice_get_within}
 use Rattle.ilk_base.specs.Option.{is_some_and}
 use Rattle.ilk_base.proofs.FlatMaps.{flat_map-none}
-use Rattle.ilk_base.proofs.Lists.{last_or-at, map-none}
+use Rattle.ilk_base.proofs.Lists.{last_or-at}
 use Rattle.ilk_base.proofs.Options.{some-and}
-use Rattle.ilk_base.proofs.Ranges.{range-at}
-use Rattle.ilk_base.proofs.Tested.{filter-none}
-use Rattle.ilk_plant.specs.Broken.{broken_at}
 use Rattle.ilk_plant.specs.ColumnRules.{breaks_columns, column_rule_broken, column_rules, column_rules_broken, ends_path, has_no_board, is_between_boards, is_border_without_board, is_listed_towards, path_ends_at_board, path_leads_on, points_are_set, points_lead_along, source_passes}
 use Rattle.ilk_plant.specs.Network.{has_section, last_of}
 use Rattle.ilk_plant.specs.Plant.{PlantLists, border, board_of, is_point_section, next_to}
@@ -23,6 +19,7 @@ use Rattle.ilk_plant.specs.declared.network.Dir.{Dir}
 use Rattle.ilk_plant.specs.declared.table.Listed.{Listed}
 use Rattle.ilk_plant.specs.declared.table.Route.{Route}
 use Rattle.ilk_plant.proofs.RoutesOf.{route-passes}
+use Rattle.ilk_plant.proofs.Rules.{rule-kept}
 use Rattle.ilk_motion.proofs.Shape.{border-known}
 use Rattle.ilk_model.specs.Holding.{is_plain}
 use Rattle.ilk_strict.specs.IsStrict.{IsFrom, IsStrict, KeepsPathRules, path_end_is_not_plain, path_points_are_set}
@@ -96,11 +93,6 @@ strict_from_rules p rules = record {
       subst Next next (points-at p route.points source.section route.path (source-passes p r route source (λ b. points_lead_along p route.points b.section route.path) it (route-passes p (path_points_are_set p) r route (rules.c3 r (slice_get_within p.routes r route it.known)) it.known)) k before x at also is_point);
   borders = λ x d at. border-has_board p x d (rules.c7 x (border-known p x d at)) at;
 }
-
--- a rule that is broken at no place
-rule-kept : (rule : Rule) (n : ℕ) (test : ℕ → Bool) → broken_at rule n test ≡ [] → (i : ℕ) → i < n → test i ≡ false
-rule-kept rule n test e i h =
-    filter-none test (range_with_len 0 n) i i (map-none (λ j. record { rule = rule; first = j; second = None }) (filter test (range_with_len 0 n)) e) (range-at n i h)
 
 -- C3 asks more than its part on the path
 part-fails : (p : PlantLists) (i : ℕ) → route_fails p (points_are_set p) i ≡ false → route_fails p (path_points_are_set p) i ≡ false

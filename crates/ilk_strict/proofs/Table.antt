@@ -1,21 +1,19 @@
 -- What a route of a plant has, by the places of its path and of its points.
-use Rattle.std.proofs.Common.{◌≡◌, ℕ, zero, suc, ◌+◌, ◌<◌, true, false, ◌==◌, ◌||◌, Option, Some, None, List, [], ◌∷◌, ◌++◌, count_by, cond, inl, inr, ◌⊎◌, length, map, slice_get, take, refl, sym, ap, ◌∙◌, arith}
+use Rattle.std.proofs.Common.{◌≡◌, ℕ, zero, suc, ◌+◌, ◌<◌, true, false, ◌==◌, ◌||◌, Option, Some, None, List, [], ◌∷◌, ◌++◌, inl, inr, ◌⊎◌, length, map, slice_get, refl, sym, ap, ◌∙◌}
 use Rattle.std.specs.Option.{option_or}
 use Rattle.std.proofs.lemmas.Bool.{or_left, or_right, both_ways}
 use Rattle.std.proofs.lemmas.List.Folds.{list_any-append}
-use Rattle.std.proofs.lemmas.List.Sums.{sum_by-cons}
 use Rattle.std.proofs.lemmas.Option.{cond_some, same_Some}
 use Rattle.ilk_base.specs.Option.{only_if}
 use Rattle.ilk_base.proofs.Lists.{at-before, at-either, at-past, item_at, map-at}
 use Rattle.ilk_base.proofs.ListTests.{all-at}
-use Rattle.ilk_base.proofs.Options.{bind_some, or_cases}
+use Rattle.ilk_base.proofs.Options.{or_cases}
 use Rattle.ilk_base.proofs.Truth.{either}
-use Rattle.ilk_plant.specs.Network.{has_section, is_point}
-use Rattle.ilk_plant.specs.Plant.{IsRouteOf, PlantLists, point_number}
+use Rattle.ilk_plant.specs.Network.{has_section}
+use Rattle.ilk_plant.specs.Plant.{IsRouteOf, PlantLists}
 use Rattle.ilk_plant.specs.TableRules.{protecting_points_of, sections_locked_for, sections_of}
 use Rattle.ilk_plant.specs.declared.network.Board.{Board}
 use Rattle.ilk_plant.specs.declared.network.Position.{Position}
-use Rattle.ilk_plant.specs.declared.network.Section.{Section}
 use Rattle.ilk_plant.specs.declared.table.Listed.{Listed}
 use Rattle.ilk_plant.specs.declared.table.Route.{Route}
 use Rattle.ilk_plant.proofs.Once.{none_twice-places}
@@ -93,35 +91,6 @@ locked_for-cases route x h =
       ]
       | inr protecting ↦ inr (section-from (sections_beside route) (length route.overlap + protecting.0) x (at-past route.overlap (protecting_points_of route) protecting.0 x protecting.1))
     ]
-
--- points that have one number are one section
-same-count : (xs : List Section) (i j : ℕ) (a b : Section) → slice_get xs i ≡ Some a → slice_get xs j ≡ Some b → is_point a ≡ true → is_point b ≡ true → count_by is_point (take i xs) ≡ count_by is_point (take j xs) → i ≡ j
-same-count [] i j a b at also pa pb e = cc
-same-count (z ∷ xs) zero zero a b at also pa pb e = refl
-same-count (z ∷ xs) zero (suc j) a b at also pa pb e =
-    let first : ◌≡◌ {A = ℕ} (cond (is_point z) 1 0) 1 = ap (λ v. cond v 1 0) (ap is_point (same_Some z a at) ∙ pa) in
-    let step = sum_by-cons (λ v. cond (is_point v) 1 0) z (take j xs) in
-    absurd (omega (arith, first, step, e))
-same-count (z ∷ xs) (suc i) zero a b at also pa pb e =
-    let first : ◌≡◌ {A = ℕ} (cond (is_point z) 1 0) 1 = ap (λ v. cond v 1 0) (ap is_point (same_Some z b also) ∙ pb) in
-    let step = sum_by-cons (λ v. cond (is_point v) 1 0) z (take i xs) in
-    absurd (omega (arith, first, step, e))
-same-count (z ∷ xs) (suc i) (suc j) a b at also pa pb e =
-    let one = sum_by-cons (λ v. cond (is_point v) 1 0) z (take i xs) in
-    let two = sum_by-cons (λ v. cond (is_point v) 1 0) z (take j xs) in
-    ap suc (same-count xs i j a b at also pa pb (omega (arith, one, two, e)))
-
-pub numbered-section : (p : PlantLists) (x n : ℕ) → point_number p x ≡ Some n → (section : Section) × (slice_get p.sections x ≡ Some section) × (is_point section ≡ true) × (count_by is_point (take x p.sections) ≡ n)
-numbered-section p x n e =
-    let section = bind_some (slice_get p.sections x) _ n e in
-    let is = cond_some (is_point section.0) (count_by is_point (take x p.sections)) n section.2 in
-    (section.0, section.1, is.0, is.1)
-
-pub number-once : (p : PlantLists) (x y n : ℕ) → point_number p x ≡ Some n → point_number p y ≡ Some n → x ≡ y
-number-once p x y n e f =
-    let a = numbered-section p x n e in
-    let b = numbered-section p y n f in
-    same-count p.sections x y a.0 b.0 a.1 b.1 a.2 b.2 (a.3 ∙ sym b.3)
 
 -- the position that counts for a point is one at which an entry lists it
 counts-at : (p : PlantLists) (n : ℕ) (entries : List Listed) (to : Position) → listed_position p n entries ≡ Some to → (j : ℕ) × (one : Listed) × (slice_get entries j ≡ Some one) × (lists_point p n one ≡ true) × (one.at ≡ to)

@@ -1,4 +1,4 @@
-ghost use Rattle.std.specs.Prelude.{◌≡◌, ◌==◌, ◌&&◌, ◌<◌, ◌++◌, IfOk, OnOk, length, map, not};
+ghost use Rattle.std.specs.Prelude.{◌≡◌, ◌==◌, ◌&&◌, ◌<◌, ◌++◌, IfOk, OnOk, map, not};
 ghost use Rattle.std.specs.List.{list_all, list_any};
 ghost use Rattle.ilk_plant.specs.Broken.{broken_at, places_of};
 ghost use Rattle.ilk_plant.specs.Network.{has_section};

@@ -8,7 +8,7 @@ ghost use Rattle.ilk_plant.specs.Plant.{is_point_section};
 ghost use Rattle.ilk_plant.specs.ColumnRules.{has_no_board, is_between_boards, is_leg, is_listed_towards, overlap_leads_on, path_ends_at_board, path_leads_on, points_are_set, points_lead_along, ends_path};
 
 use crate::listed::is_listed;
-use ilk_plant::{Board, Dir, Listed, Plant, Position, Route, Row, Section};
+use ilk_plant::{Board, Dir, Listed, Plant, Position, Route, Row, Section, is_leg};
 
 // Section `x`. None where there is no such section.
 fn section_at(plant: &Plant, x: u32) -> Option<&Section>
@@ -101,17 +101,6 @@ fn is_point_section(plant: &Plant, x: u32) -> bool
     match section_at(plant, x) {
         Some(section) => section.is_point(),
         None => false,
-    }
-}
-
-// Whether section `y` is the leg of section `x` at a position.
-fn is_leg(plant: &Plant, x: u32, at: Position, y: u32) -> bool
-    ensures { result ≡ is_some_and (slice_get plant.now.sections x) (is_leg at y) }
-{
-    match (section_at(plant, x), at) {
-        (Some(Section::Point { plus, .. }), Position::Plus) => *plus == y,
-        (Some(Section::Point { minus, .. }), Position::Minus) => *minus == y,
-        _ => false,
     }
 }
 

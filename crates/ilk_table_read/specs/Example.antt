@@ -1,5 +1,4 @@
--- Worked configurations, cited by private contracts alone: short lines of two sections, a and b from down to up, their
--- values and their drafts.
+-- Worked configurations: short lines of two sections, a and b from down to up, their values and their drafts.
 use Rattle.std.specs.Prelude.{ℕ, List, [], ◌∷◌, Option, Some, None, codes}
 use Rattle.serde_json.specs.Data.{Data, null, number, unsigned, string, array, object, Items, no_items, item, no_members, member}
 use Rattle.ilk_plant.specs.Name.{Name}

@@ -48,9 +48,6 @@ use Rattle.ilk_tablegen.specs.Ways.{all_ways, first_without_end}
 use Rattle.ilk_tablegen.specs.declared.walks.Walks.TheVariants.{Routes, TooLong, TooMany}
 use Rattle.ilk_tablegen.specs.declared.ways.Way.{Way}
 
-tests-below : (x n : ℕ) → x < n → nat_lt x n ≡ true
-tests-below x n h = grind (arith, nat_tests)
-
 tests-within : (x n : ℕ) → x ≤ n → nat_le x n ≡ true
 tests-within x n h = grind (arith, nat_tests)
 

@@ -1,4 +1,4 @@
-ghost use Rattle.std.specs.Prelude.{◌≡◌, ◌<◌, IfOk, false, length, map, replicate, set, slice_index_or, true};
+ghost use Rattle.std.specs.Prelude.{◌≡◌, ◌<◌, IfOk, false, replicate, set, slice_index_or, true};
 ghost use Rattle.ilk_tablegen.specs.Flags.{any_flagged, flags_of};
 
 use ilk_plant::Row;

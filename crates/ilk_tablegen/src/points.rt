@@ -1,25 +1,11 @@
-ghost use Rattle.std.specs.Prelude.{◌≡◌, ◌∷◌, ◌++◌, ◌<◌, [], All, IfOk, OnOk, length, slice_get, take};
+ghost use Rattle.std.specs.Prelude.{◌≡◌, ◌∷◌, ◌++◌, ◌<◌, [], IfOk, OnOk, slice_get, take};
 ghost use Rattle.std.specs.List.{list_any};
 ghost use Rattle.ilk_base.specs.Option.{is_some_and};
 ghost use Rattle.ilk_plant.specs.ColumnRules.{is_leg};
 ghost use Rattle.ilk_tablegen.specs.Routes.{listed_between, points_along, position_towards};
 
-use ilk_plant::{Listed, Plant, Position, Row, Section};
+use ilk_plant::{Listed, Plant, Position, Row, is_leg};
 use std::alloc::{AllocError, Global};
-
-// Whether section `y` is the leg of section `x` at a position.
-fn is_leg(plant: &Plant, x: u32, at: Position, y: u32) -> bool
-    ensures { result ≡ is_some_and (slice_get plant.now.sections x) (is_leg at y) }
-{
-    if x >= plant.sections() {
-        return false;
-    }
-    match (plant.section(x), at) {
-        (Section::Point { plus, .. }, Position::Plus) => *plus == y,
-        (Section::Point { minus, .. }, Position::Minus) => *minus == y,
-        _ => false,
-    }
-}
 
 // Whether the leg of section `x` at a position is the section before it or the first after it.
 fn leads_along(plant: &Plant, x: u32, at: Position, before: u32, after: &[u32]) -> bool

@@ -1,4 +1,4 @@
-ghost use Rattle.std.specs.Prelude.{◌≡◌, ◌∷◌, ◌++◌, ◌<◌, [], All, IfOk, IfSome, OnOk, None, flat_map, length, map, nat_lt, option_to_list};
+ghost use Rattle.std.specs.Prelude.{◌≡◌, ◌++◌, ◌<◌, All, IfOk, OnOk, None, flat_map, length, map, nat_lt, option_to_list};
 ghost use Rattle.ilk_plant.specs.Network.{last_of};
 ghost use Rattle.ilk_tablegen.specs.Rounds.{begun_ways, few_ways, head_of, is_ended, longer_ways, way_over};
 ghost use Rattle.ilk_tablegen.specs.Ways.{first_without_end};

@@ -1,4 +1,5 @@
-//! Propagation by two watched literals.
+//! Propagation by two watched literals, as in M. W. Moskewicz, C. F. Madigan, Y. Zhao, L. Zhang and
+//! S. Malik, "Chaff: engineering an efficient SAT solver", DAC 2001.
 //!
 //! Each clause of two or more literals watches two of them, and stands in the chains of both
 //! (`ilk_arena`). As long as neither is false the clause can't force anything. So when a literal

@@ -16,7 +16,9 @@ use ilk_clauses::Clauses;
 use ilk_cnf::Lit;
 use ilk_trail::Trail;
 
-// A clause with more literals keeps where its last search for a watch ended.
+// A clause with more literals keeps where its last search for a watch ended, and the next one goes on
+// there, around the clause: I. P. Gent, "Optimal implementation of watched literals and more general
+// techniques", JAIR 48, 2013.
 const SHORT: u64 = 8;
 
 /// What a visit of a clause did: it keeps its watch, it moved it, or the clause is false.

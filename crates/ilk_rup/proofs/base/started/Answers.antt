@@ -1,4 +1,4 @@
-use Rattle.std.proofs.Common.{◌≡◌, ◌+◌, [], ◌∙◌, List, ℕ, ap, sym, subst, replicate}
+use Rattle.std.proofs.Common.{◌+◌, [], ◌∙◌, List, ℕ, ap, sym, subst, replicate}
 use Rattle.ilk_cnf.specs.Formula.{Formula}
 use Rattle.ilk_log.specs.declared.step.Step.{Step}
 use Rattle.ilk_trail.specs.Trail.{TrailList}
@@ -10,8 +10,8 @@ use Rattle.ilk_rup.proofs.base.started.Goals as goal
 pub returns : goal.returns
 returns c =
     let f = c.args.cnf.now in
-    let a = c.in_ok-copied.field-0 in
-    let is = c.in_ok-copied.ensures in
+    let a = c.in_ok-of.field-0 in
+    let is = c.in_ok-of.ensures in
     let T : TrailList → Type 0 = λ t. Held f f.clauses a t (record { head = 0; settled = 0 }) (replicate (f.vars + 1) 0) 0 [] in
     let Q : Queue → Type 0 = λ q. Held f f.clauses a c.in_ok-new.field-0 q (replicate (f.vars + 1) 0) 0 [] in
     let U : List ℕ → Type 0 = λ us. Held f f.clauses a c.in_ok-new.field-0 c.new-2.result us 0 [] in

@@ -3,8 +3,8 @@ use Rattle.std.specs.List.{slice_get}
 use Rattle.ilk_cnf.specs.Literal.{Literal}
 use Rattle.ilk_cnf.specs.Formula.{Formula, grown}
 use Rattle.ilk_clauses.specs.Chained.{formula_of}
-use Rattle.ilk_solver.proofs.Searches.{copied-more}
-use Rattle.ilk_solver.proofs.search.copied.Goals as goal
+use Rattle.ilk_clauses.proofs.Copied.{copied-more}
+use Rattle.ilk_clauses.proofs.clauses.Clauses.of.Goals as goal
 
 pub loop-c-preserved : goal.loop-c-preserved
 loop-c-preserved c =
