@@ -41,7 +41,7 @@ def faults_of_form(folder):
         yield f"it isn't repeated: {lines}"
 
 
-def trial_safe(program):
+def trial_safe(program, _):
     """A safe table: the answers, the certificate, its judges, and no difference when repeated."""
     given = example("platforms.json")
     with made(program, given) as (folder, said):
@@ -75,7 +75,7 @@ def without_conflicts(value):
         route["conflicts"] = []
 
 
-def trial_deviations(program):
+def trial_deviations(program, _):
     """A table that breaks C6 fourteen times, on which safety doesn't rest: each is told, with its way."""
     given = changed(example("station.json"), without_conflicts)
     scene = ("--run", CROSSING, "--run", CROSSING, "--solvers", "0")
@@ -95,7 +95,7 @@ def trial_deviations(program):
             yield "the second scenario isn't driven"
 
 
-def trial_unsafe(program):
+def trial_unsafe(program, _):
     """A table that isn't safe: the deviation, that safety rests on it, and the run that shows it."""
     with made(program, example("platforms-wrong-position.json"), "--depth", "8") as (folder, said):
         if said != "with deviations, under free columns: not safe: hazard two pl1, by verify.run":
@@ -114,7 +114,7 @@ def trial_unsafe(program):
             yield "another run isn't found"
 
 
-def trial_not_shown(program):
+def trial_not_shown(program, _):
     """Where verify finds neither, and no run is hunted, the case says that nothing is shown."""
     words = ("--hunt", "0", "--depth", "1")
     with made(program, example("platforms-wrong-position.json"), *words) as (folder, said):
@@ -126,7 +126,7 @@ def trial_not_shown(program):
             yield "case.html doesn't say that nothing is shown"
 
 
-def trial_run_is_kept(program):
+def trial_run_is_kept(program, _):
     """A run that is given is replayed, and a hazard that it comes to is told of it, not of the search."""
     with made(program, example("two-sections.json"), "--run", MEET, "--hunt", "0", "--depth", "2") \
             as (folder, said):
@@ -135,7 +135,7 @@ def trial_run_is_kept(program):
             yield f"{said}; {answer!r}"
 
 
-def trial_no_plant(program):
+def trial_no_plant(program, _):
     """What isn't a plant gets a case that says so, and is asked nothing but its rules."""
     def twice(value):
         value["sections"].append(value["sections"][0])
@@ -150,7 +150,7 @@ def trial_no_plant(program):
                 yield f"{rule}: something further is asked"
 
 
-def trial_changes(program):
+def trial_changes(program, _):
     """Each changed, missing and new file is found by the sums, and a changed configuration, certificate,
     answer and program also where the sums are made anew."""
     with made(program, example("line-with-boards.json"), "--solvers", "0") as (folder, said):
@@ -187,7 +187,7 @@ def hidden(folder, name):
     (folder / "SHA256SUMS").write_bytes(sums)
 
 
-def trial_moved(program):
+def trial_moved(program, _):
     """A case is repeated from a copy elsewhere, by a program that is named, and changes nothing."""
     with made(program, example("line-with-boards.json"), "--solvers", "0") as (folder, _):
         copy = folder.parent / "a copy with spaces"

@@ -19,10 +19,16 @@ def call(program, folder, given, *words):
 
 
 @contextmanager
+def place():
+    """The name of a folder that isn't there, in a room that is taken away."""
+    with tempfile.TemporaryDirectory(prefix="irv-case-") as room:
+        yield Path(room) / "filed"
+
+
+@contextmanager
 def made(program, given, *words):
     """A case in a folder that is taken away, with what was printed; the first line without the folder."""
-    with tempfile.TemporaryDirectory(prefix="irv-case-") as room:
-        folder = Path(room) / "filed"
+    with place() as folder:
         done = call(program, folder, given, *words)
         said = done.stdout.decode().partition("\n")[0].removeprefix(f"{folder}: ")
         yield folder, said if done.returncode == 0 else f"{done.returncode} {done.stderr.decode()}"

@@ -35,7 +35,7 @@ def state_of(room):
             for path in room.rglob("*")}
 
 
-def trial_refusals(program):
+def trial_refusals(program, _):
     """Each refusal is told with status 125, and what stands stays as it is."""
     with tempfile.TemporaryDirectory(prefix="irv-case-") as name:
         room = Path(name)
@@ -56,7 +56,7 @@ def call_in(room, program, words):
                           capture_output=True, check=False)
 
 
-def trial_empty_folder(program):
+def trial_empty_folder(program, _):
     """An empty folder is taken."""
     with tempfile.TemporaryDirectory(prefix="irv-case-") as name:
         folder = Path(name) / "empty"

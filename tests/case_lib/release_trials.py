@@ -1,90 +1,35 @@
-"""Trials of releases, in a small repository with a gate that only pretends."""
+"""Trials of releases, in a small repository."""
 
-import hashlib
-import shutil
 import subprocess
 import tarfile
-import tempfile
-from contextlib import contextmanager
-from pathlib import Path
 
-from made_case import TOP
+from small_repository import LOG, git, release, repository
 
-GATE = """set -u
-cd "$(dirname "$0")/.." || exit 2
-tests/first || exit $?
-sources=$(./irv --sources) || exit $?
-rt ci | tools/progress.py || exit $?
-./irv --build || exit $?
-tests/second --self-check || exit $?
-tests/second crates/irv/out/irv || exit $?
-"""
-LOG = """3 passed, 0 failed
-== low
-axioms libc: libc::open (1 of the 9 declared)
-logic=proved functions=2 axioms=1 sum=0
-== irv
-axioms libc: libc::close, libc::open (2 of the 9 declared)
-axioms std: std::abort (1 of the 1 declared)
-logic=proved functions=6 axioms=3 sum=0
-7 passed, 0 failed
-40 passed, 0 failed
-5 passed, 0 failed
-600 passed, 0 failed
-"""
-FILES = {".ci/run": GATE, "VERSION": "1.2.3\n", "CHANGELOG.md": "c\n", "docs/QUALIFICATION.md": "q\n",
-         "docs/RELEASES.md": "r\n", ".gitignore": "out/\n", "irv": "#!/bin/sh\necho s0\n",
-         "tests/first": '"""Tries the first thing."""\n', "tests/second": '"""Tries the second thing.\n\nMore."""\n',
-         "crates/low/must-fail/a.edit": "", "crates/low/wrong-bodies/b.edit": "",
-         "crates/low/wrong-bodies/c.edit": "", "crates/irv/src/main.rt": ""}
+RECORD = ("| `tests/first` | 3 | Tries the first thing. |", "| `rt ci` | 40 | ",
+          "| `tests/second --self-check` | 5 | The check itself: Tries the second thing, and what \\| is. |",
+          "| `tests/second crates/irv/out/irv` | 600 | Tries the second thing, and what \\| is. |",
+          "| `low` | 1 | 2 |\n| all | 1 | 2 |", "5, as the gate counted them and as the prover lists them",
+          "- `libc::close`\n- `libc::open`\n- `libc::read`\n- `libc::write`\n- `os::c::errno`\n",
+          "| `serde_json` | serde_json 1.2.3 | LICENSE-APACHE, LICENSE-MIT |",
+          "| `std` | none is told | no file comes with it |",
+          "| `tests/page P --long` | none is told | 9 passed, 0 failed | battery-1.log |",
+          "| `tests/first P --seed 3` | 3 | 8 passed, 0 failed | battery-2.log |",
+          "| `tests/first P` | 7 | 8 passed, 0 failed | battery-3.log |")
 
 
-def git(top, *words):
-    """Calls git in the repository."""
-    subprocess.run(["git", "-c", "user.name=n", "-c", "user.email=e", "-C", top, *words], check=True,
-                   capture_output=True)
-
-
-@contextmanager
-def repository():
-    """The small repository, with a built program and the log of its gate beside it."""
-    with tempfile.TemporaryDirectory(prefix="irv-release-") as name:
-        top = Path(name) / "top"
-        for place, text in FILES.items():
-            (top / place).parent.mkdir(parents=True, exist_ok=True)
-            (top / place).write_text(text)
-        (top / "irv").chmod(0o755)
-        for part in ("release", "release_parts", "case_parts", "page_parts"):
-            copy = shutil.copytree if (TOP / "tools" / part).is_dir() else shutil.copy
-            (top / "tools").mkdir(exist_ok=True)
-            copy(TOP / "tools" / part, top / "tools" / part)
-        shutil.rmtree(top / "tools/page_parts/__pycache__", ignore_errors=True)
-        git(top, "init", "-q")
-        git(top, "add", "-A")
-        git(top, "commit", "-q", "-m", "m")
-        program = top / "crates/irv/out/irv"
-        program.parent.mkdir()
-        program.write_bytes(b"program")
-        program.with_name("irv.licences").write_text("licences\n")
-        total = hashlib.sha256(b"program").hexdigest()
-        program.with_name("irv.built").write_text(f"sources s0\nprogram {total}\ntoolchain kit 1\n")
-        (top.parent / "gate.log").write_text(LOG)
-        yield top
-
-
-def release(top, *words, folder="made", log="gate.log"):
-    """Makes a release."""
-    return subprocess.run([top / "tools/release", top.parent / folder, "--gate", top.parent / log, *words],
-                          capture_output=True, check=False, cwd=top.parent)
-
-
-def trial_release(_):
-    """A release has what the gate printed, check by check, and the sources as an archive; made twice it is
-    the same, byte for byte."""
+def trial_release(_, __):
+    """A release has what the gate printed, check by check, the axioms by name, the libraries with versions and
+    licences, the batteries, and the sources as an archive; made twice it is the same, byte for byte."""
     with repository() as top:
-        (top.parent / "long.log").write_text("$ tests/page P --long\nmuch\n9 passed, 0 failed\n")
+        logs = {"long.log": "$ tests/page P --long\nmuch\n9 passed, 0 failed\n",
+                "-seeded.log": "$ tests/first P --seed 3\nmuch\n8 passed, 0 failed\n",
+                "own.log": "$ tests/first P\n8 passed, 0 failed\n"}
+        words = []
+        for name, text in logs.items():
+            (top.parent / name).write_text(text)
+            words.append(f"--battery={name}")
         for name in ("made", "again"):
-            done = release(top, "--battery", top.parent / "long.log", folder=name)
+            done = release(top, *words, folder=name)
             if done.returncode:
                 yield done.stderr.decode()
                 return
@@ -92,38 +37,62 @@ def trial_release(_):
             yield "made twice it isn't the same"
         made = top.parent / "made"
         record = (made / "record.md").read_text()
-        for line in ("| `tests/first` | 3 | Tries the first thing. |", "| `rt ci` | 40 | ",
-                     "| `tests/second --self-check` | 5 | The check itself: Tries the second thing. |",
-                     "| `tests/second crates/irv/out/irv` | 600 | Tries the second thing. |",
-                     "| `low` | 1 | 2 |", "The gate printed that there are 3:",
-                     "- libc: libc::close, libc::open (2 of the 9 declared)\n- std: std::abort",
-                     "| `tests/page P --long` | 9 passed, 0 failed |"):
-            if line not in record:
-                yield f"the record hasn't {line!r}: {record}"
+        yield from (f"the record hasn't {line!r}: {record}" for line in RECORD if line not in record)
         with tarfile.open(made / "sources.tar.gz") as archive:
             if "irv-1.2.3/crates/irv/src/main.rt" not in archive.getnames():
                 yield "the archive hasn't the sources"
-        if "toolchain kit 1\nsources s0\n" not in (made / "version.txt").read_text():
-            yield "version.txt hasn't the toolchain and the sum of the sources"
+        told = (made / "version.txt").read_text()
+        if "toolchain kit 1\nsources s0\n" not in told or f"tree {git(top, 'rev-parse', 'HEAD^{tree}')}\n" not in told:
+            yield f"version.txt hasn't the toolchain, the sum of the sources and the tree: {told}"
         if subprocess.run(["sha256sum", "-c", "--quiet", "SHA256SUMS"], cwd=made, capture_output=True).returncode:
             yield "the sums aren't those of the files"
 
 
-def trial_release_refused(_):
-    """Refused, without a folder, are a gate that failed or isn't whole, a changed checkout, a program of other
-    sources, and a folder in which something stands."""
-    def changed_log(old, new):
-        return lambda top: (top.parent / "gate.log").write_text(LOG.replace(old, new))
-    built = "crates/irv/out/irv.built"
-    changes = {
-        "the gate didn't pass: tests/second crates": changed_log("600 passed, 0", "600 passed, 1"),
-        "the gate didn't pass: rt ci": changed_log("7 passed, 0", "7 passed, 1"),
+def changed(place, old, new):
+    """A change of a file beside the repository."""
+    def change(top):
+        file = top.parent / place
+        before = file.read_text()
+        file.write_text(before.replace(old, new))
+        assert file.read_text() != before, place
+    return change
+
+
+def commit_more(top):
+    """Commits something further, after the gate."""
+    (top / "VERSION").write_text("1.2.4\n")
+    git(top, "commit", "-q", "-a", "-m", "m")
+
+
+def changes():
+    """What is changed before a release is made, by a part of the reason why it is refused then."""
+    edited = ", and not all is committed"
+    return {
+        "the gate didn't pass: tests/second crates": changed("gate.log", "600 passed, 0", "600 passed, 1"),
+        "the gate didn't pass: rt ci": changed("gate.log", "7 passed, 0", "7 passed, 1"),
         "it isn't whole": lambda top: (top.parent / "gate.log").write_text("3 passed, 0 failed\n"),
+        "doesn't tell over which tree": changed("gate.log", "gate passed, ", ""),
+        "the gate was begun over another tree": commit_more,
+        "the gate was passed over another tree": lambda top: (top.parent / "gate.log").write_text(
+            LOG.replace("@TREE@", git(top, "rev-parse", "HEAD^{tree}"), 1).replace("@TREE@", "0" * 40)),
+        f"{edited}, and here stands": lambda top: (top.parent / "gate.log").write_text(
+            LOG.replace("@TREE@", git(top, "rev-parse", "HEAD^{tree}") + edited)),
         "the checkout isn't clean": lambda top: (top / "new").write_text(""),
-        "isn't known to be built": lambda top: (top / built).write_text("sources other\n"),
+        "isn't known to be built": changed("the top/crates/irv/out/irv.built", "sources s0", "sources other"),
+        "the prover tells of 5 axioms, and lists 4": changed("listed", "  libc::read   reached\n", ""),
+        "lists 4 axioms here, and the log of the gate tells of 5": lambda top: (
+            changed("listed", "  libc::read   reached\n", "")(top), changed("listed", "axioms=5", "axioms=4")(top)),
+        "or of others": changed("listed", "libc::read ", "libc::rand "),
+        "didn't find the program proved over": changed("listed", "logic=proved", "logic=not-proved"),
+        "crates/low/out has no library": lambda top: (top / "crates/low/out/rlib/low.rlib").rmdir(),
         "isn't an empty folder": lambda top: (top.parent / "made").write_text("kept"),
         "No such file": lambda top: (top.parent / "gate.log").unlink()}
-    for why, change in changes.items():
+
+
+def trial_release_refused(_, __):
+    """Refused, without a folder, are a gate that failed, isn't whole or is of another tree, other axioms than the
+    gate counted, a changed checkout, a program of other sources, and a folder in which something stands."""
+    for why, change in changes().items():
         with repository() as top:
             change(top)
             before = sorted(top.parent.iterdir())
@@ -134,4 +103,35 @@ def trial_release_refused(_):
                 yield f"{why}: something is left"
 
 
-TRIALS = (trial_release, trial_release_refused)
+def trial_same_bytes(_, __):
+    """tests/same_bytes finds builds with the same bytes the same and others not, and takes no folder in which
+    something else stands."""
+    with repository() as top:
+        room = top.parent / "room"
+        done = same_bytes(top, room)
+        if done.returncode != 1 or "1 passed, 1 failed" not in done.stdout:
+            yield f"the program here is another one: {done}"
+        (top / "crates/irv/out/irv").write_text("")
+        for _ in range(2):
+            done = same_bytes(top, room)
+            if done.returncode or "2 passed, 0 failed" not in done.stdout:
+                yield f"the same bytes: {done}"
+        (top / "crates/low/src/lib.rt").write_text("pwd")
+        for why, change in (("not all that stands here is committed", lambda: None),
+                            ("isn't a clone of", lambda: git(top, "commit", "-q", "-a", "-m", "m")),
+                            ("isn't an empty folder", lambda: (room / "irv-same-bytes").unlink())):
+            change()
+            done = same_bytes(top, room)
+            if done.returncode != 2 or why not in done.stderr:
+                yield f"{why}: {done}"
+        done = same_bytes(top, top.parent / "new")
+        if done.returncode != 1 or "0 passed, 2 failed" not in done.stdout:
+            yield f"other bytes: {done}"
+
+
+def same_bytes(top, room):
+    """What tests/same_bytes of the small repository says."""
+    return subprocess.run([top / "tests/same_bytes", room], capture_output=True, check=False, text=True)
+
+
+TRIALS = (trial_release, trial_release_refused, trial_same_bytes)

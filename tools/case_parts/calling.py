@@ -6,6 +6,8 @@ import shlex
 import subprocess
 from dataclasses import dataclass
 
+from told import why_no_answer
+
 PROGRAM = "program/irv"
 CONFIGURATION = "configuration.json"
 # what stands for the program and for the place of what is made, in a call that is made again
@@ -34,6 +36,19 @@ class Call:
         """The last line of what it said; of what printed a run, what it said of that."""
         said = self.errors if self.output.startswith("run 1\n") else self.output or self.errors
         return (said.strip() or "nothing").splitlines()[-1]
+
+    @property
+    def fault(self):
+        """Why what came is no answer of the program; none where it is one, or where another tool was called."""
+        if not self.is_of_program:
+            return None
+        complaint = (self.errors.strip() or "").rpartition("\n")[2]
+        return why_no_answer(self.words[1], self.status, self.output.partition("\n")[0], complaint)
+
+    @property
+    def told(self):
+        """Its first line where it is an answer, or that it is none, and why."""
+        return f"no answer: {self.fault}" if self.fault else self.line
 
     @property
     def is_of_program(self):

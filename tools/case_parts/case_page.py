@@ -6,6 +6,7 @@ import shlex
 import figures
 import filed
 from markup import code, table, tag, text
+from names import shown
 from style import CSS
 
 # who signs, and for what
@@ -64,32 +65,39 @@ class CasePage:
     def result(self):
         """What the case says of the table."""
         case = self.case
-        mark = "good" if case.is_safe else "bad"
+        mark = "good" if case.is_safe and not case.contradictions else "bad"
         self.head("Result")
         self.add(tag("p", tag("b", text(case.said), class_=mark)))
         if not case.is_plant:
             self.say("The configuration isn't a plant: nothing was asked of it but its rules, and this case "
                      "shows nothing of its safety.")
-        elif case.is_safe:
+        elif case.contradictions:
+            self.say("Answers of this case can't both be right. The program, a tool or the machine is wrong, and "
+                     "nothing of this case counts before it is known which.")
+        elif case.is_safe or case.is_clean and not case.hazard:
             self.safe_ways()
         elif case.hazard:
             self.say("The table isn't safe: a run from the start ends in a hazard. That it is a run, and ends "
-                     "so, irv replay answered.")
+                     "so, the program answered, by irv replay or irv drive.")
         else:
             self.say("It isn't shown that the table is safe, and no run to a hazard was found. This case "
                      "can't be filed as one of a safe table.")
         if not case.version[-1].startswith("proved"):
-            self.add(tag("p", text("The program isn't known to be the proved one: no note of its build stood "
-                                   "beside it. Answers of such a program aren't for a safety case."),
-                         class_="own bad"))
+            self.add(tag("p", text(f"The program isn't known to be the proved one: {case.version[-1]}. Answers of "
+                                   "such a program aren't for a safety case."), class_="own bad"))
 
     def safe_ways(self):
         """By which ways the table is safe."""
         if self.case.is_clean:
             self.say("No rule is broken under strict columns. That by itself is a proof that no run from the "
                      "start, of whatever length, ends in a hazard: a clause of the program's contract.")
-        self.say("Besides," if self.case.is_clean else "", "irv verify answered that no run, of whatever "
-                 "length, ends in a hazard, and wrote a certificate of it, which the checkers below judged.")
+        if self.case.is_safe:
+            self.say("Besides," if self.case.is_clean else "", "irv verify answered that no run, of whatever "
+                     "length, ends in a hazard, and wrote a certificate of it, which irv audit and tools/audit "
+                     "accepted.")
+        else:
+            self.say("There is no certificate of it, and nothing that others could check: irv verify gave "
+                     f"{self.case.verdict.told}.")
 
     def deviations(self):
         """Each broken rule, and what it means."""
@@ -110,6 +118,8 @@ class CasePage:
         case = self.case
         if not case.is_plant:
             return "None: there is no plant, and no verdict."
+        if case.contradictions:
+            return "None, before the contradiction above is resolved."
         if case.is_safe:
             return (f"By the certificate of irv verify under free columns ({case.verdict.line}), which is of "
                     "the table with all its deviations.")
@@ -118,7 +128,7 @@ class CasePage:
         if not deviation.is_resting:
             return ("None is shown. This deviation alone would leave a table safe that has none on which "
                     "safety rests.")
-        return f"None is shown: {case.verdict.line}."
+        return f"None is shown: {case.verdict.told}."
 
     # -- what was asked
 
@@ -146,17 +156,19 @@ class CasePage:
         self.say("None of these is proved: they are Python. Where they stand beside an answer of the program, "
                  "they are a second check of it, and where they draw or hunt, what counts is what the program "
                  "answers.")
+        for version, call in self.case.solvers:
+            self.say(f"Asked besides: {version}. What tools/safe_by says of it: {call.last}.")
         if self.case.solvers:
-            self.say(f"Asked besides: {', '.join(self.case.solvers)}. Nothing rests on a solver, since irv "
-                     "rup judged each of its refutations; that all queries were asked rests on tools/safe_by.")
+            self.say("Nothing rests on a solver: irv rup judged each refutation, and those that it accepted are "
+                     "kept. That all queries were asked rests on tools/safe_by.")
         elif self.case.is_safe:
-            self.say("No solver that writes refutations was on the machine, so none was asked.")
+            self.say("No solver was asked: none that writes refutations was on the machine, or none was wanted.")
         self.table_of(calls)
 
     def table_of(self, calls):
         """Some calls, with their answers."""
         rows = [[("", code(call.shown)), str(call.status),
-                 ("", code(call.line if call.is_of_program else call.last)),
+                 ("", code(call.told if call.is_of_program else call.last)),
                  ("", link(f"answers/{call.name}.txt"))] for call in calls]
         self.add(table(["call", "status", "line", "whole"], rows, "calls"))
 
@@ -168,7 +180,7 @@ class CasePage:
         elif not self.case.is_plant:
             self.say("What was given wasn't asked about, since there is no plant.")
         for name, run in self.case.runs:
-            self.say(f"{run.name}, a {run.kind}:", (link(name),))
+            self.say(f"{shown(run.name)}, a {run.kind}:", (link(name),))
         if (self.case.room / "page.html").exists():
             self.say("The plan, the rules in sentences and the runs are drawn on the page:",
                      (link("page.html"),))

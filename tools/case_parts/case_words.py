@@ -4,6 +4,7 @@ from pathlib import Path
 
 from given import Given
 from wishes import Refused as PageRefused
+from names import shown
 from wishes import name_of_input
 
 OF_VERIFY = {"--depth": range(1, 17), "--conflicts": range(0, 200001)}
@@ -33,7 +34,7 @@ class Words:
         self.hunt, self.solvers = (number_of(name, options.get(name, value), range(MOST_SECONDS + 1))
                                    for name, value in SECONDS.items())
         self.of_verify = [word for name in OF_VERIFY if name in options for word in (name, options[name])]
-        self.name = Path(name_of_input()).name
+        self.name = shown(Path(name_of_input()).name)
         self.guard_folder()
         try:
             self.runs = [Given(name) for name in runs]

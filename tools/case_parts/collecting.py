@@ -7,9 +7,10 @@ from pathlib import Path
 
 from calling import CONFIGURATION, PROGRAM, Calls
 from case_page import CasePage
+from case_words import Refused
 from deviations import deviations_of
 from repeating import repeat_script
-from versions import version_lines
+from versions import version_lines, version_of
 
 TOP = Path(__file__).resolve().parent.parent.parent
 CERTIFICATE, FOUND_RUN, HUNTED_RUN, PAGE = "verify.cert", "verify.run", "hunted.run", "page.html"
@@ -35,8 +36,9 @@ class Case:
         self.columns = "strict"
         self.verdict = self.hunted = None
         self.is_plant = self.is_clean = self.is_safe = False
-        self.hazard = None          # the line of replay that tells a hazard
-        self.solvers = []           # each that was asked, with its version
+        self.hazard = None          # the line that tells a hazard, and of which file
+        self.contradictions = []    # answers that can't both be right
+        self.solvers = []           # each that was asked: its version, and the call
         self.sum_of_sums = ""
 
     @property
@@ -45,11 +47,15 @@ class Case:
         if not self.is_plant:
             return f"not a plant: {self.calls.all[0].line}"
         under = "" if self.is_clean else "with deviations, under free columns: "
+        if self.contradictions:
+            return f"{under}a contradiction: {'; '.join(self.contradictions)}"
         if self.is_safe:
             return under + self.verdict.line
         if self.hazard:
             return f"{under}not safe: {self.hazard}"
-        return f"{under}not shown to be safe: {self.verdict.line}"
+        if self.is_clean:
+            return f"clean, and so safe, without a certificate: {self.verdict.told}"
+        return f"{under}not shown to be safe: {self.verdict.told}"
 
     def make(self):
         """Makes all of it."""
@@ -59,6 +65,7 @@ class Case:
         if self.is_plant:
             self.ask_runs()
             self.ask_verdict()
+            self.compare()
         self.draw()
         (self.room / "version.txt").write_text("\n".join(self.version) + "\n", encoding="utf-8")
         (self.room / "case.html").write_text(CasePage(self).whole(), encoding="utf-8")
@@ -100,6 +107,8 @@ class Case:
     def ask_rules(self):
         """The rules, and what the broken ones mean."""
         check = self.calls.program("check-strict", "check", "strict")
+        if check.fault:
+            raise Refused(f"nothing is known of the configuration: {check.fault}")
         lines = [line for line in check.output.splitlines() if line.startswith("refused ")]
         self.is_clean = check.status == GOOD
         self.is_plant = self.is_clean or bool(lines) and all(it.split()[1][0] == "C" for it in lines)
@@ -112,14 +121,30 @@ class Case:
         """The verdict, and all by which it can be judged."""
         self.verdict = self.calls.program("verify", "verify", self.columns, *self.words.of_verify,
                                           "--cert", CERTIFICATE, made=[CERTIFICATE])
-        self.is_safe = self.verdict.status == GOOD
+        self.is_safe = self.verdict.status == GOOD and not self.verdict.fault
         if self.is_safe:
             self.judge(self.verdict.line.removeprefix("safe k="))
             return
-        if self.verdict.status in (UNSAFE, NOT_INDUCTIVE, BREACH):
+        if self.verdict.status in (UNSAFE, NOT_INDUCTIVE, BREACH) and not self.verdict.fault:
             self.replay(FOUND_RUN, "replay-verify", self.verdict.output.partition("\n")[2])
         if self.hazard is None and self.words.hunt:
             self.hunt()
+
+    def compare(self):
+        """Looks for answers that can't both be right: that the program, a tool or the machine is wrong is no
+        less than that."""
+        said = {call.name: call for call in self.calls.all}
+        safe = self.verdict.line if self.is_safe else "clean" if self.is_clean else None
+        if safe and self.hazard:
+            self.contradictions.append(f"{safe}, and {self.hazard}")
+        if not self.is_safe:
+            return
+        for name, wanted in (("audit", f"accepted {self.verdict.line[5:]}"), ("audit-outside", "accepted: ")):
+            if not said[name].line.startswith(wanted):
+                self.contradictions.append(f"{safe}, and {name}: {said[name].told}")
+        for call in self.calls.all:
+            if call.name.startswith("rup-") and not call.line.startswith("refuted "):
+                self.contradictions.append(f"{call.name} was refuted before, and now: {call.told}")
 
     def judge(self, k):
         """Has the certificate judged, and the queries refuted by others."""
@@ -141,7 +166,7 @@ class Case:
             "--seconds", str(self.words.solvers), "--keep", str(folder), *words, CONFIGURATION],
             is_repeated=False)
         asked.words[1] = "tools/safe_by"
-        self.solvers.append(name)
+        self.solvers.append((version_of(name), asked))
         refuted = [line.split()[1:] for line in asked.output.splitlines() if line.startswith("refuted ")]
         kept = {f"{kind}-{number}.proof" for kind, number in refuted}
         for file in (self.room / folder).iterdir():

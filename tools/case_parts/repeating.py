@@ -14,10 +14,11 @@ SCRIPT = r"""#!/usr/bin/env bash
 # Not made again: page.html, what a solver wrote, and the hunt, which looks for a run by chance. The
 # refutations and the run that they gave are judged again by the program, and all files by their sums.
 set -u
+unset CDPATH
 export LC_ALL=C PYTHONDONTWRITEBYTECODE=1
 program=${1:-}
-[ -z "$program" ] || program=$(realpath "$program")
-cd "$(dirname "${BASH_SOURCE[0]}")" || exit 2
+[ -z "$program" ] || program=$(realpath -- "$program")
+cd -- "$(dirname -- "${BASH_SOURCE[0]}")" || exit 2
 [ -n "$program" ] || program=$PWD/program/irv
 room=$(mktemp -d) || exit 2
 trap 'rm -rf "$room"' EXIT
@@ -32,10 +33,12 @@ see_sums() {
     while read -r line; do
         differs "$line"
     done < <(sha256sum -c --quiet SHA256SUMS 2>/dev/null)
+    # a line that names no sum is passed over there
+    sha256sum -c --strict --status SHA256SUMS 2>/dev/null || [ "$differ" -ne 0 ] || differs SHA256SUMS
     while read -r line; do
         differs "the files that are there: $line"
     done < <(diff <(cut -c 67- SHA256SUMS | sort) \
-        <(find . -type f ! -path ./SHA256SUMS | cut -c 3- | sort) | grep '^[<>]')
+        <(find . ! -type d ! -path ./SHA256SUMS | cut -c 3- | sort) | grep '^[<>]')
     [ "$differ" -ne 0 ] || is_same
 }
 

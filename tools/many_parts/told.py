@@ -11,7 +11,7 @@ from pathlib import Path
 sys.path.insert(0, str(Path(__file__).resolve().parent.parent.parent / "tests/lib"))
 sys.dont_write_bytecode = True
 
-from answers import HAZARD, NUMBER, STATUS_OF, VERDICT, kind_of  # noqa: E402
+from first_lines import HAZARD, NUMBER, STATUS_OF, VERDICT, kind_of  # noqa: E402
 
 REFUSED = 5
 REFUSAL = r"refused [A-Z][0-9] (?:document|extra|[a-z]+\[[0-9]+\](?: routes\[[0-9]+\])?)"

@@ -11,9 +11,10 @@ from pathlib import Path
 
 import report_files
 import report_page
-from doing import call_program, safe_by_line
+from doing import call_program
 from planning import FORM
 from refusing import Refused
+from refuting import safe_by_line
 from report import FILE, rows_of, sizes_of
 from safe_by_parts import name_of, queries_for
 from store import sum_of, sum_of_file, text_of

@@ -1,11 +1,12 @@
-"""What the gate printed: the count of each of its checks, in the order of `.ci/run`, and the axioms that
-the proof of the program names."""
+"""What the gate printed: of which tree it was, and the count of each of its checks, in the order of
+`.ci/run`."""
 
 import re
 from dataclasses import dataclass
 
 COUNT = re.compile(r"^(\d+) passed, (\d+) failed$", re.M)
 CALL = re.compile(r"^(rt ci|(?:tests|tools)/\w+(?: [^|\n]*?)?)(?: \| .*?)?(?: \|\| .*)?$", re.M)
+TREE = re.compile(r"^gate (begun|passed), tree of git: (.+)$", re.M)
 
 
 class Unread(Exception):
@@ -24,7 +25,18 @@ def checks_of(script):
     return [match[1].strip() for match in CALL.finditer(script)]
 
 
-def read(script, log):
+def see_tree(log, tree):
+    """Sees that the gate began and passed over this tree."""
+    told = TREE.findall(log)
+    if [word for word, _ in told] != ["begun", "passed"]:
+        raise Unread("the log of the gate doesn't tell over which tree it began and passed: it isn't whole, or "
+                     "is of another gate")
+    for word, name in told:
+        if name != tree:
+            raise Unread(f"the gate was {word} over another tree than this one: {name}, and here stands {tree}")
+
+
+def read(script, log, tree):
     """Each check with its count. What `rt ci` prints may have counts besides its last one."""
     commands, counts = checks_of(script), [tuple(map(int, found)) for found in COUNT.findall(log)]
     if "rt ci" not in commands:
@@ -38,12 +50,5 @@ def read(script, log):
     failed = [command for command, (_, bad) in zip(commands, own) if bad]
     if failed or any(bad for _, bad in counts):
         raise Unread(f"the gate didn't pass: {', '.join(failed) or 'rt ci'}")
+    see_tree(log, tree)
     return [Check(command, passed) for command, (passed, _) in zip(commands, own)]
-
-
-def axioms(log, crate="irv"):
-    """The lines on axioms that the proof of a crate printed, and how many it says there are."""
-    part = re.search(rf"^== {crate}\n(.*?)(?=^== |\Z)", log, re.M | re.S)
-    text = part[1] if part else ""
-    total = re.search(r"^logic=proved .*?\baxioms=(\d+)", text, re.M)
-    return re.findall(r"^axioms (.+)$", text, re.M), int(total[1]) if total else None
