@@ -85,7 +85,7 @@ def faults(browser, page):
 
 
 def sheets(browser, page):
-    """How many pages a page takes on paper."""
+    """The pages that a page takes on paper, each as its width and its height in points."""
     with tempfile.TemporaryDirectory(prefix="irv-paper-") as room:
         file, paper = Path(room, "page.html"), Path(room, "page.pdf")
         file.write_text(page, encoding="utf-8")
@@ -93,4 +93,5 @@ def sheets(browser, page):
                         f"--user-data-dir={room}/browser", "--no-pdf-header-footer",
                         f"--print-to-pdf={paper}", file.as_uri()],
                        capture_output=True, timeout=SECONDS, check=False)
-        return len(re.findall(rb"/Type\s*/Page[^s]", paper.read_bytes()))
+        boxes = re.findall(rb"/MediaBox\s*\[\s*0\s+0\s+([0-9.]+)\s+([0-9.]+)\s*\]", paper.read_bytes())
+    return [(float(width), float(height)) for width, height in boxes]

@@ -3,7 +3,7 @@ be: for the page's time and size."""
 
 import json
 
-from conf import linear, made_stations
+from conf import document, linear, made_stations
 
 MOST_BYTES = 4194304
 LONG = 32
@@ -27,19 +27,23 @@ def siding(count):
             for down, name, up in zip(names, names[1:], names[2:])]
 
 
-def document():
-    """Stations in a row, and a line beside them; each route lists all others as conflicts."""
-    whole = json.loads(made_stations(STATIONS))
-    whole["sections"] += siding(SECTIONS - len(whole["sections"]))
-    routes = [route["name"] for route in whole["routes"]]
-    for route in whole["routes"]:
-        route["conflicts"] = [name for name in routes if name != route["name"]]
-    names = {section["name"] for section in whole["sections"]} | set(routes)
-    names |= {section[side] for section in whole["sections"] for side in ("board_down", "board_up")
+def stations():
+    """The sections and the routes of stations in a row, and of a line beside them."""
+    sections, routes = made_stations(STATIONS)
+    return sections + siding(SECTIONS - len(sections)), routes
+
+
+def lengthened_stations():
+    """The same with long names, as a document; each route lists all others as conflicts."""
+    sections, routes = stations()
+    for route in routes:
+        route["conflicts"] = [other["name"] for other in routes if other is not route]
+    names = {one["name"] for one in sections + routes}
+    names |= {section[side] for section in sections for side in ("board_down", "board_up")
               if section.get(side)}
-    return lengthened(whole, names)
+    return lengthened(json.loads(document(sections, routes)), names)
 
 
 def given():
     """Its bytes, filled up with blanks."""
-    return json.dumps(document()).encode().ljust(MOST_BYTES)
+    return json.dumps(lengthened_stations()).encode().ljust(MOST_BYTES)

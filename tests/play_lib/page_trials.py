@@ -12,7 +12,6 @@ import fakes
 import large
 import line
 import markup_check
-from asking import Program
 
 TOP = Path(__file__).resolve().parents[2]
 MOST_BYTES = 2000000
@@ -40,9 +39,7 @@ def page(program, given):
 
 def largest():
     """Configurations of 256 sections and 256 routes, by name: one line, and stations with a siding."""
-    sections, routes = conf.made_stations(large.STATIONS)
-    sections += large.siding(large.SECTIONS - len(sections))
-    return {"one line": conf.made("largest"), "stations": conf.document(sections, routes)}
+    return {"one line": conf.made("largest"), "stations": conf.document(*large.stations())}
 
 
 def trial_pages(program, _):

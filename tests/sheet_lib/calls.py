@@ -11,8 +11,6 @@ import calling
 import markup_check
 import refusals
 
-markup_check.ALLOWED.update(("thead", "tbody"))
-
 
 class Done:
     """What a call printed, and its status."""

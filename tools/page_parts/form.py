@@ -24,6 +24,11 @@ LIMITS = {"path": (1, 32), "overlap": (0, 8), "points": (0, 40), "conflicts": (0
 CHOICES = {"kind": ("linear", "point"), "faces": ("up", "down"), "position": ("plus", "minus")}
 
 
+def route_members(version):
+    """The members of a route of a version, in the order of a sheet's columns."""
+    return ROUTE if version == 1 else {**ROUTE, **SECOND}
+
+
 def no_constant(word):
     """JSON has no such number; Python would read one."""
     raise ValueError(f"{word} is no JSON")
@@ -192,7 +197,7 @@ def entry_faults(rule, value, place):
     if list_ == "sections":
         members = POINT if isinstance(entry, dict) and entry.get("kind") == "point" else LINEAR
     else:
-        members = ROUTE if value["version"] == 1 else {**ROUTE, **SECOND}
+        members = route_members(value["version"])
     if rule == "F3":
         yield from member_faults(entry, members, what)
     elif rule == "F5":

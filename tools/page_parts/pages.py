@@ -8,6 +8,7 @@ from drawing import Drawing
 from given_part import given_part
 from markup import code, tag, text
 from plant import Plant
+from route_sheet import sheet_part
 from route_table import routes_part
 from words import join
 from safety_case import safety_part
@@ -100,6 +101,7 @@ class Page:
         if self.given_run:
             given_part(self, columns)
         verdict_part(self, columns, self.is_refused)
+        sheet_part(self)
         unused = routes_part(self, columns)
         advice_part(self, unused)
 

@@ -1,4 +1,4 @@
-"""The table of routes on the page, with what each route is good for."""
+"""What each route is good for, on the page."""
 
 import time
 from concurrent.futures import ThreadPoolExecutor
@@ -13,12 +13,11 @@ from wording import counted
 USE_SECONDS = 5         # to find the runs that use routes
 HUNT_SECONDS = 2        # for random runs through others
 ANSWER_SECONDS = 5      # for the answers about them
-LONGEST_CELL = 6000     # characters of a cell
 
 
 def routes_part(page, columns):
-    """The table of routes, and what each is good for. Answers the routes that no run was found to use,
-    where there was time to look for all."""
+    """What each route is good for. Answers the routes that no run was found to use, where there was time
+    to look for all."""
     page.head("What each route is good for")
     if not page.plant.routes:
         page.add(tag("p", text("The table has no routes.")))
@@ -30,14 +29,14 @@ def routes_part(page, columns):
         found = {**hunt.used, **found}
     answers = answered(RunView(page.program, columns, page.plant, page.drawing), found)
     good = sum(said == "no hazard" for said in answers.values())
-    rows = [[*route_cells(route), use_cell(page.plant, found.get(r), answers.get(r))]
+    rows = [[route_cell(route), use_cell(page.plant, found.get(r), answers.get(r))]
             for r, route in enumerate(page.plant.routes)]
     introduce(page, good, len(rows))
     if not is_all or len(answers) < len(found):
         page.own(f"Left out for want of time: {'' if is_all else 'runs that use further routes, and '}"
                  f"answers of irv replay about {counted(len(found) - len(answers), 'run')}.")
         page.summary[-1] += text("; others were left out for want of time")
-    page.add(table(["route", "what it locks", "conflicts", "a train uses it"], rows, "routes"))
+    page.add(table(["route", "a train uses it"], rows, "routes"))
     return [r for r in range(len(rows)) if r not in found] if is_all else []
 
 
@@ -63,24 +62,11 @@ def introduce(page, good, count):
         "ever opens, no train moves on, and so no two meet.")))
 
 
-def route_cells(route):
-    """A route's columns: its number, its name and its ends, what it locks, and its conflicts."""
-    def cut(words):
-        line = " ".join(words)
-        return line if len(line) <= LONGEST_CELL else line[:LONGEST_CELL] + " … (left out)"
-
-    def positions(listed):
-        return [one["point"] + ("+" if one["position"] == "plus" else "−") for one in
-                member.get(listed, [])]
-    member = route.member
-    lists = (("path", member["path"]), ("overlap", member["overlap"]), ("points", positions("points")),
-             ("protected by", [*positions("protecting_points"),
-                               *member.get("protecting_boards", [])]))
-    locks = "".join(tag("div", tag("i", text(what)) + " " + text(cut(words)))
-                    for what, words in lists if words)
-    ends = f"from {member['source']} to {member['destination'] or 'out'}"
-    named = tag("div", text(f"{route.number}: ") + tag("b", text(route.name))) + tag("div", text(ends))
-    return [("", named), ("", locks), cut(member["conflicts"])]
+def route_cell(route):
+    """A route's number, its name and its ends."""
+    ends = f"from {route.member['source']} to {route.member['destination'] or 'out'}"
+    return "", (tag("div", text(f"{route.number}: ") + tag("b", text(route.name)))
+                + tag("div", text(ends)))
 
 
 def use_cell(plant, run, said):

@@ -18,12 +18,13 @@ from wording import event_words, hazard_words, state_words
 
 MOST_SECONDS = 12       # for the answers about one run
 AT_ONCE = 4             # calls
-PICTURED = ("enter", "head", "lock")    # events that have a picture on paper too
+PICTURED = ("enter", "head", "lock")    # events that have a picture on paper too, the last of a run
+MOST_PICTURED = 10
 LEGEND = ("Orange, green and grey: sections whose lock is used, locked, free. Red and green boards are "
           "closed and open. The leg to which a point doesn't lie is dashed; a point with a red dot "
           "moves. Trains are violet where they run up, and blue where they run down. Yellow is what "
-          "the event is about. On paper only events by which a train comes in or moves on and by "
-          "which a board opens have a picture, and the last one.")
+          f"the event is about. On paper only the last {MOST_PICTURED} events by which a train comes in or "
+          "moves on or a board opens have a picture, and the last of all.")
 
 
 class RunView:
@@ -122,10 +123,15 @@ class RunView:
             words.append(tag("b", text(hazard_words(plant, at)), class_="bad"))
         small = " · ".join(filter(None, [text(state_words(plant, state)),
                                          f"irv replay: <code>{text(said)}</code>"]))
-        is_pictured = place == len(events) or place and events[place - 1][0] in PICTURED
+        is_pictured = place == len(events) or place in pictured(events)
         return tag("div", tag("p", " ".join(words)) + tag("p", small, class_="small")
                    + self.drawing.frame(state, marks, title),
                    class_="frame" if is_pictured else "frame minor")
+
+
+def pictured(events):
+    """The places of the events of a run that have a picture on paper too, but for its last."""
+    return [place for place, (word, _) in enumerate(events[:-1], 1) if word in PICTURED][-MOST_PICTURED:]
 
 
 def trouble(words):

@@ -40,7 +40,10 @@ details{margin:2px 0}summary{cursor:pointer}
 .frames{margin:4px 0}.f3>.frame,.f2>.frame{display:inline-block;vertical-align:top}
 .f3>.frame{width:calc(33% - 12px);margin-right:10px}.f2>.frame{width:calc(50% - 12px);margin-right:10px}
 table.routes td:last-child{min-width:15ch}table.calls td:first-child,table.sums td:last-child{min-width:36ch}
-@page{size:A4;margin:11mm}
+.sheet th,.sheet td{border-color:#adb5bd}.sheet td{min-width:12ch;overflow-wrap:anywhere}
+.whole{white-space:nowrap}
+.sheet thead{display:table-header-group}.sheet tr{break-inside:avoid}
+@page{size:A4;margin:11mm}@page wide{size:A4 landscape}
 @media print{body{margin:0;padding:0;max-width:none;font-size:9.5pt;line-height:1.3}
 h1{font-size:15pt}h2{font-size:12.5pt;margin:14px 0 5px}h3{margin:10px 0 3px}h2,h3{break-after:avoid}
 td,th,.small,code,pre,.line{font-size:7.5pt;line-height:1.25}td,th{padding:1px 4px}tr{break-inside:avoid}
@@ -48,5 +51,5 @@ td,th,.small,code,pre,.line{font-size:7.5pt;line-height:1.25}td,th{padding:1px 4
 .frame,.broken{padding:2px 0 3px}.frame p,.broken p,.advice p{margin:1px 0}.advice{margin:3px 0}
 .f1 svg.plan,.f2 svg.plan,.broken svg.plan{max-width:70%;max-height:62mm}
 .own,.answer{break-inside:avoid}.foot{margin-top:12px}
-pre.run{columns:4}.minor svg.plan{display:none}}
+.wide{page:wide}pre.run{columns:4}.minor{border:0;padding:0}.minor svg.plan,.minor .small{display:none}}
 """

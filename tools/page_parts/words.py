@@ -1,4 +1,6 @@
-"""Lists and ways in words."""
+"""Lists, points and ways in words."""
+
+SIGNS = {"plus": "+", "minus": "-"}
 
 
 def join(words, last="and"):
@@ -7,6 +9,16 @@ def join(words, last="and"):
     if len(words) < 2:
         return "".join(words)
     return f"{', '.join(words[:-1])} {last} {words[-1]}"
+
+
+def point_word(listed):
+    """A listed point with the sign of its position."""
+    return listed["point"] + SIGNS[listed["position"]]
+
+
+def list_words(listed):
+    """The words of a list: names, or points with the signs of their positions."""
+    return [one if isinstance(one, str) else point_word(one) for one in listed]
 
 
 def way_words(plant, x, side):

@@ -10,9 +10,9 @@ import re
 
 from form import NAME
 from refusing import shown
+from words import SIGNS, point_word
 
 APOSTROPHE = "'"
-SIGNS = {"plus": "+", "minus": "-"}
 POSITIONS = {sign: position for position, sign in SIGNS.items()}
 
 # The months, as spreadsheets of several languages know them, with their short forms.
@@ -67,11 +67,6 @@ def list_text(names):
 def points_text(points):
     """A cell with a list of points."""
     return kept(" ".join(map(point_word, points)))
-
-
-def point_word(one):
-    """A point with the sign of its position."""
-    return one["point"] + SIGNS[one["position"]]
 
 
 class WrongCell(Exception):

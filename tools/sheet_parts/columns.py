@@ -4,6 +4,7 @@ cell of each is written and read.
 
 import cells
 from form import CHOICES, LINEAR, POINT, ROUTE, SECOND
+from route_sheet import heading
 
 SECTIONS, ROUTES = "sections.csv", "routes.csv"
 
@@ -13,7 +14,7 @@ class Column:
 
     def __init__(self, member, write, read):
         self.member, self.write, self.read = member, write, read
-        self.heading = member.replace("_", " ")
+        self.heading = heading(member)
 
 
 def word_text(word):

@@ -6,6 +6,7 @@ import cells
 import columns
 from matching import Match, first_numbers
 from renaming import BOARD, SECTION
+from words import list_words
 
 IN_ORDER = ("path", "overlap")      # lists whose order says something
 CAME, WENT, RENAMED, CHANGED = "came", "went", "renamed", "changed"
@@ -131,7 +132,7 @@ class Comparison:
                 if said[0] != said[1]:
                     yield changed(column, *said)
             else:
-                yield from listed(column.heading, *map(words_of, said))
+                yield from listed(column.heading, *(list_words(one or []) for one in said))
 
     def conflicts(self, route, other):
         """Which conflicts a route has more and less. A route that went is none less, and one that came
@@ -165,11 +166,6 @@ def shown(column, said):
 def changed(column, old, new):
     """That an entry says something else."""
     return f"{column.heading} {shown(column, old)}, now {shown(column, new)}"
-
-
-def words_of(said):
-    """The words of a list: names, or points with their positions."""
-    return [one if isinstance(one, str) else cells.point_word(one) for one in said or []]
 
 
 def listed(heading, olds, news):

@@ -6,7 +6,7 @@ compared; all other rules are for `irv check`.
 import json
 
 import form
-from form import LINEAR, MOST_BYTES, POINT, ROUTE, SECOND
+from form import LINEAR, MOST_BYTES, POINT, route_members
 from refusing import Refused, reason
 
 
@@ -74,7 +74,7 @@ def members_of(entry, version):
     """The members of a section or of a route, in their order."""
     if "kind" in entry:
         return POINT if entry["kind"] == "point" else LINEAR
-    return {**ROUTE, **SECOND} if version == 2 else ROUTE
+    return route_members(version)
 
 
 def written(value):

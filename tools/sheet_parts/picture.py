@@ -4,27 +4,24 @@ one sheet that prints.
 
 import re
 
-import cells
-import columns
+import route_sheet
 from comparing import CAME, CHANGED, RENAMED, WENT
 from drawing import Drawing
+from form import route_members
 from markup import tag, text
 from marks import Marks
 from plant import Plant
+from route_sheet import row
 from style import CSS
 
 MOST_ROUTES = 24        # that have pictures
-LONGEST_CELL = 6000     # characters of a cell
 # what stands before a row of the sheet
 WORDS = {WENT: "went", CAME: "came", "old": "was", "new": "is"}
 WORDS_OF_NETWORK = {WENT: "no route", CAME: "no way of the network", "old": "network", "new": "table"}
 OWN = """
-.sheet{border-collapse:collapse;font-size:12px}.sheet th,.sheet td{border:1px solid #adb5bd;
-  padding:3px 6px;vertical-align:top;text-align:left;overflow-wrap:anywhere}
-.sheet thead{display:table-header-group}.sheet tr{break-inside:avoid}
 .sheet .differs{background:#fff3bf}.sheet .old{color:#495057}
 .side{break-inside:avoid}
-@media print{@page{size:landscape;margin:12mm}body{margin:0;padding:0}.sheet{font-size:9px}}
+@media print{@page{size:landscape;margin:12mm}}
 """
 
 
@@ -126,10 +123,8 @@ class Picture:
         versions = {self.new.value["version"]}
         if not self.comparison.is_of_network:
             versions.add(self.old.value["version"])
-        known = columns.of_routes(max(versions))
-        head = tag("thead", tag("tr", tag("th", "") + "".join(
-            tag("th", text(column.heading)) for column in known)))
-        return tag("table", head + tag("tbody", "\n".join(self.rows(known))), class_="sheet")
+        known = route_members(max(versions))
+        return route_sheet.sheet("", known, self.rows(known))
 
     def rows(self, known):
         """The rows of the sheet: the routes of the new table in order, and those that went at the end."""
@@ -138,33 +133,22 @@ class Picture:
         differ = {one.new for one in self.comparison.differences if one.thing == "route"}
         for s, route in enumerate(match.new["routes"]):
             if s not in old_of:
-                yield row(self.words[CAME], route, known, set(range(len(known))))
+                yield row(self.words[CAME], route, known, known)
             elif s not in differ:
-                yield row("", route, known, set())
+                yield row("", route, known)
             else:
                 old = match.given_old["routes"][old_of[s]]
                 renamed = match.old["routes"][old_of[s]]
-                marked = {place for place, column in enumerate(known)
-                          if self.differs(column, renamed, route)}
+                marked = [member for member in known if self.differs(member, renamed, route)]
                 yield row(self.words["old"], old, known, marked, "old")
                 yield row(self.words["new"], route, known, marked)
         for r, route in enumerate(match.given_old["routes"]):
             if r not in match.routes:
-                yield row(self.words[WENT], route, known, set(range(len(known))), "old")
+                yield row(self.words[WENT], route, known, known, "old")
 
-    def differs(self, column, old, new):
+    def differs(self, member, old, new):
         """Whether an entry of a route differs."""
-        if column.member == "name":
+        if member == "name":
             return old["name"] != new["name"] and not self.comparison.is_of_network
-        return any(line.startswith(column.heading + " ") for line in self.comparison.changes(old, new))
-
-
-def row(word, route, known, marked, class_=None):
-    """A row of the sheet, with the cells that are marked."""
-    made = tag("th", text(word))
-    for place, column in enumerate(known):
-        said = cells.bare(column.write(route[column.member])) if route.get(column.member) else ""
-        if len(said) > LONGEST_CELL:
-            said = said[:LONGEST_CELL] + " … (left out)"
-        made += tag("td", text(said), class_="differs" if place in marked else None)
-    return tag("tr", made, class_=class_)
+        return any(line.startswith(route_sheet.heading(member) + " ")
+                   for line in self.comparison.changes(old, new))
