@@ -6,25 +6,9 @@ import re
 import certificate
 import dimacs
 import program as programs
+from first_lines import HAZARD, STATUS_OF, judgement, kind_of
 
-NUMBER = "(?:0|[1-9][0-9]*)"
-HAZARD = "(?:two|wrong) [A-Za-z0-9_-]{1,32}"
-STATIONS = rf"stations={NUMBER} sections={NUMBER} routes={NUMBER} "
-VERDICT = re.compile(rf"(?:{STATIONS})?(?:safe k=(?:[1-9]|1[0-6])|unsafe steps={NUMBER} hazard={HAZARD}"
-                     rf"|not inductive steps={NUMBER}|breach steps={NUMBER} family=V[1-9]"
-                     rf"|spent conflicts={NUMBER})")
 LARGE_FILE = 2 ** 24
-STATUS_OF = {"safe": 0, "unsafe": 1, "not": 2, "breach": 3, "spent": 4}
-
-
-def judgement(line):
-    """A verdict without what demo prints before it."""
-    return re.sub(f"^{STATIONS}", "", line)
-
-
-def kind_of(verdict):
-    """The first word of a verdict."""
-    return judgement(verdict).split(" ")[0]
 
 
 def certificate_of(verdict):

@@ -3,8 +3,8 @@
 import json
 import re
 
-import answers
 import conf
+import first_lines
 import program
 import trials
 from casefile import EXAMPLES, STATUSES, CaseError
@@ -23,7 +23,7 @@ HAZARD = f"hazard (two|wrong) {NAME}"
 STEPS = rf" steps=(0|[1-9][0-9]*)\nrun 1\nstart\n([a-z]+ {NAME}\n)*end\n"
 REPORTS = {
     0: re.compile(rf"clean\n|{HAZARD}\n|accepted k=([1-9]|1[0-6])\n|driven{STEPS}"
-                  rf"|refuted (hazard|breach|step) (0|[1-9][0-9]*)\n|{answers.STATIONS}safe k=1\n"),
+                  rf"|refuted (hazard|breach|step) (0|[1-9][0-9]*)\n|{first_lines.STATIONS}safe k=1\n"),
     1: re.compile(rf"{HAZARD}{STEPS}"),
     6: re.compile(r"no hazard\n|not a run at [1-9][0-9]*\n|rejected (line|item) [1-9][0-9]*\n"
                   rf"|stuck at [1-9][0-9]*{STEPS}"),
@@ -61,7 +61,7 @@ def check_refusals(case):
 def check_answer(case):
     """A verdict is one that verify has, and a formula and a certificate belong to their commands."""
     for verdict in case.verdicts:
-        if not answers.VERDICT.fullmatch(verdict):
+        if not first_lines.VERDICT.fullmatch(verdict):
             raise CaseError(f"{case.where}: {case.name}: no verdict: {verdict!r}")
     commands = ("export",) if case.has_formula else CERTIFIES
     due = case.verdicts or case.has_formula or case.certificate

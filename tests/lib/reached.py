@@ -1,0 +1,106 @@
+"""Which definitions public contracts reach, held against files of definitions that say in their first
+line that private contracts or proofs alone cite them.
+
+A contract is public where others can call its function: `lib.rt` hands on the function, or the type or
+trait whose method it is. It reaches what its clauses name, what that names, and so on, as
+`tools/definitions` looks names up. How a type keeps its values, its private fields and what is kept of
+them, is no part of a contract."""
+
+import importlib.machinery
+import importlib.util
+import re
+import sys
+
+# what the first line of a file says that denies it
+DENIES = re.compile(r"-- .*\b(?:private contracts|proofs alone)\b")
+HANDED_ON = re.compile(r"^pub use (?!ilk_)\w+::(?:\{([^}]*)\}|(\w+));", re.M)
+OWNER = re.compile(r"(pub trait|impl)\b(?:<.*?>)? (?:(\w+)[^{]*? for )?&?(\w+)")
+CALL = re.compile(r"( *)(pub )?(?:const )?fn (\w+)")
+CLAUSE = re.compile(r" *(?:requires|ensures|lends)\b")
+KEPT = re.compile(r" +ghost (?!Value\b)")
+
+
+def tool_of(root):
+    """tools/definitions of a copy of the repository, as a module."""
+    loader = importlib.machinery.SourceFileLoader("definitions", str(root / "tools/definitions"))
+    module = importlib.util.module_from_spec(importlib.util.spec_from_loader("definitions", loader))
+    writes, sys.dont_write_bytecode = sys.dont_write_bytecode, True
+    loader.exec_module(module)
+    sys.dont_write_bytecode = writes
+    return module
+
+
+def handed_on(crate):
+    """What a crate hands on of its modules."""
+    library = crate / "src/lib.rt"
+    text = library.read_text(encoding="utf-8") if library.exists() else ""
+    return {name for listed, single in HANDED_ON.findall(text)
+            for name in re.findall(r"\w+", listed or single)}
+
+
+def calls(path, public):
+    """The public calls of a file, each with the lines of its clauses; and the types that are seen as
+    values, each with the line that says as which."""
+    owner, is_open, clauses, indent = None, False, None, ""
+    for line in path.read_text(encoding="utf-8").split("\n"):
+        block, call = OWNER.match(line), CALL.match(line)
+        if block:
+            owner, is_open = block[3], block[3] in public
+            every = block[1] == "pub trait" or block[2] is not None
+        elif line == "}":
+            owner = None
+        if call:
+            clauses, indent = [], call[1]
+            name = f"{owner}::{call[3]}" if owner else call[3]
+            told = (is_open and (every or call[2])) if owner else (call[2] and call[3] in public)
+        elif owner and is_open and line.lstrip().startswith("ghost Value"):
+            yield f"{owner}, its value", [line]
+        if clauses is None:
+            continue
+        if clauses or CLAUSE.match(line):
+            clauses.append(line)
+        if (line in (indent + "{", indent + "{}") or line.endswith((";", "{}"))
+                or line.endswith("{") and line.startswith((call[0] if call else "\0", indent + ")"))):
+            if told:
+                yield name, clauses
+            clauses = None
+
+
+def named_in(tool, path, lines):
+    """The definitions that some lines of a file name: each file, and a name there."""
+    file, here = tool.file_at(path), ".".join(path.relative_to(tool.CRATES).with_suffix("").parts)
+    for word in {word for line in lines for word in tool.names_in(line)}:
+        named = file.named(here, word)
+        place = named and tool.place_of(*named)
+        if place and place[0].is_file() and place[1] in tool.file_at(place[0]).items:
+            yield place
+
+
+def shown(lines):
+    """Those lines of a declaration that say what others see: no private field of a type."""
+    if not lines or not lines[0].startswith("pub struct"):
+        return [line for line in lines if not KEPT.match(line)]
+    return [line for line in lines if not re.match(r" +(?!pub |ghost Value)\w", line)]
+
+
+def denied(root):
+    """How many public calls there are; and each file that denies it, with a call that reaches it and what
+    it reaches there, or none."""
+    tool, count, queue = tool_of(root), 0, []
+    for crate in sorted((root / "crates").iterdir()):
+        public = handed_on(crate)
+        for path in sorted((crate / "src").rglob("*.rt")) if public else ():
+            for name, lines in calls(path, public):
+                count += 1
+                queue.extend((place, f"{crate.name}, {name}") for place in named_in(tool, path, lines))
+    found, reached = set(), {}
+    while queue:
+        place, name = queue.pop()
+        if place not in found:
+            found.add(place)
+            reached.setdefault(place[0], (name, place[1]))
+            below = shown(tool.file_at(place[0]).items[place[1]])
+            queue.extend((lower, name) for lower in named_in(tool, place[0], below))
+    denying = [path for path in sorted((root / "crates").glob("*/specs/*.antt"))
+               if DENIES.match(path.read_text(encoding="utf-8").split("\n", 1)[0])]
+    return count, {path: reached.get(path) for path in denying}
