@@ -1,6 +1,7 @@
 -- How the fields follow the list of entries.
 use Rattle.std.proofs.Common.{◌≡◌, ◌≢◌, ℕ, ◌+◌, ◌^◌, ◌<◌, ◌≤◌, inl, inr, Bool, true, false, List, [], ◌∷◌, ◌++◌, length, get_or, set, sym, ap, subst, ◌∙◌, arith, Option, Some, None, length-append}
 use Rattle.std.specs.List.{slice_get}
+use Rattle.std.specs.Bool.{beq}
 use Rattle.std.specs.Option.{option_map}
 use Rattle.std.proofs.lemmas.Bool.{cases_eq}
 use Rattle.std.proofs.lemmas.Option.{slice_get_within}
@@ -16,10 +17,12 @@ use Rattle.ilk_trail.specs.Stored.{Stored}
 use Rattle.ilk_base.proofs.Lists.{slice_get-push_cases, at-before}
 use Rattle.ilk_trail.proofs.Entries.{lits_of-push, entry_of-unset, entry_of-other, entry_of-new, found, set-at}
 use Rattle.ilk_trail.proofs.Literals.{lit_in-parts, vars_differ-front, clause_in-push, clause_in-front, count_of_vars}
+use Rattle.ilk_trail.proofs.Values.{set_both, length-set_both, set_both-same, set_both-other}
 use Rattle.ilk_trail.proofs.Levels.{climbs-push, climbs-front, level-small}
 
-abbrev sign : Entry → Bool
-sign e = e.lit.positive
+-- whether literal m is true, where e is the entry of its variable
+abbrev truth : Literal → Entry → Bool
+truth m e = beq e.lit.positive m.positive
 
 -- the trail with one more entry
 pub trail-add : (n : ℕ) (es : List Entry) (e : Entry) → IsTrail (record { vars = n; entries = es }) → lit_in n e.lit ≡ true → is_set es e.lit.var ≡ false → is_level_next (last_level 0 es) e ≡ true → IsTrail (record { vars = n; entries = es ++ e ∷ [] })
@@ -45,15 +48,14 @@ room-for n es l t h u =
     omega (arith, c, m)
 
 -- the fields after an entry was added
-pub stored-add : (values : List (Option Bool)) (places : List ℕ) (n : ℕ) (es : List Entry) (e : Entry) (size more : ℕ) → Stored values places (record { vars = n; entries = es }) size → size ≤ more → lit_in n e.lit ≡ true → is_set es e.lit.var ≡ false → is_level_next (last_level 0 es) e ≡ true → Stored (set values e.lit.var (Some e.lit.positive)) (set places e.lit.var (length es)) (record { vars = n; entries = es ++ e ∷ [] }) more
+pub stored-add : (values : List (Option Bool)) (places : List ℕ) (n : ℕ) (es : List Entry) (e : Entry) (size more : ℕ) → Stored values places (record { vars = n; entries = es }) size → size ≤ more → lit_in n e.lit ≡ true → is_set es e.lit.var ≡ false → is_level_next (last_level 0 es) e ≡ true → Stored (set_both values e.lit (λ b. Some b)) (set places e.lit.var (length es)) (record { vars = n; entries = es ++ e ∷ [] }) more
 stored-add values places n es e size more k le h u c = let w : e.lit.var ≤ n = (lit_in-parts n e.lit h).1 in record {
-  values_long = simp length-set k.values_long;
+  values_long = length-set_both values e.lit (λ b. Some b) ∙ k.values_long;
   places_long = simp length-set k.places_long;
   roomy = omega (arith, k.roomy);
-  value = λ v b. elim (cases_eq v e.lit.var) [
-    | inl p ↦ (let P : ℕ → Type 0 = λ j. get_or (set values e.lit.var (Some e.lit.positive)) j None ≡ option_map sign (entry_of (es ++ e ∷ []) j) in
-        subst P (sym p) (get_or-set_same values e.lit.var (Some e.lit.positive) None (omega (arith, k.values_long, w)) ∙ sym (ap (option_map sign) (entry_of-new es e u))))
-    | inr p ↦ get_or-set_other values e.lit.var v (Some e.lit.positive) None p ∙ k.value v b ∙ sym (ap (option_map sign) (entry_of-other es e v p))
+  value = λ m b. elim (cases_eq m.var e.lit.var) [
+    | inl p ↦ set_both-same values e.lit m (λ c. Some c) n k.values_long w p ∙ sym (ap (option_map (truth m)) (ap (entry_of (es ++ e ∷ [])) p ∙ entry_of-new es e u))
+    | inr p ↦ set_both-other values e.lit m (λ c. Some c) p ∙ k.value m b ∙ sym (ap (option_map (truth m)) (entry_of-other es e m.var p))
   ];
   place = λ i x s. elim (slice_get-push_cases es e x i s) [
     | inl p ↦ (let differs : x.lit.var ≢ e.lit.var = λ q. (let P : ℕ → Type 0 = λ j. is_set es j ≡ true in let y : is_set es e.lit.var ≡ true = subst P q (set-at es i x p) in cc) in
@@ -65,19 +67,18 @@ stored-add values places n es e size more k le h u c = let w : e.lit.var ≤ n =
 }
 
 -- the fields after the last entry was taken off
-pub stored-take : (values : List (Option Bool)) (places : List ℕ) (n : ℕ) (es : List Entry) (e : Entry) (size more : ℕ) → Stored values places (record { vars = n; entries = es ++ e ∷ [] }) size → size ≤ more → Stored (set values e.lit.var None) places (record { vars = n; entries = es }) more
+pub stored-take : (values : List (Option Bool)) (places : List ℕ) (n : ℕ) (es : List Entry) (e : Entry) (size more : ℕ) → Stored values places (record { vars = n; entries = es ++ e ∷ [] }) size → size ≤ more → Stored (set_both values e.lit (λ b. None)) places (record { vars = n; entries = es }) more
 stored-take values places n es e size more k le =
     let t = trail-take n es e k.is_trail in
     let w : e.lit.var ≤ n = (lit_in-parts n e.lit t.1).1 in
     let u : is_set es e.lit.var ≡ false = t.2 in
     record {
-      values_long = simp length-set k.values_long;
+      values_long = length-set_both values e.lit (λ b. None) ∙ k.values_long;
       places_long = k.places_long;
       roomy = omega (arith, k.roomy);
-      value = λ v b. elim (cases_eq v e.lit.var) [
-        | inl p ↦ (let P : ℕ → Type 0 = λ j. get_or (set values e.lit.var None) j None ≡ option_map sign (entry_of es j) in
-            subst P (sym p) (get_or-set_same values e.lit.var None None (omega (arith, k.values_long, w)) ∙ sym (ap (option_map sign) (entry_of-unset es e.lit.var u))))
-        | inr p ↦ get_or-set_other values e.lit.var v None None p ∙ k.value v b ∙ ap (option_map sign) (entry_of-other es e v p)
+      value = λ m b. elim (cases_eq m.var e.lit.var) [
+        | inl p ↦ set_both-same values e.lit m (λ c. None) n k.values_long w p ∙ sym (ap (option_map (truth m)) (ap (entry_of es) p ∙ entry_of-unset es e.lit.var u))
+        | inr p ↦ set_both-other values e.lit m (λ c. None) p ∙ k.value m b ∙ ap (option_map (truth m)) (entry_of-other es e m.var p)
       ];
       place = λ i x s. k.place i x (at-before es (e ∷ []) i x s);
       is_trail = t.0;

@@ -1,4 +1,5 @@
 pub mod Literals
 pub mod Entries
 pub mod Levels
+pub mod Values
 pub mod Kept

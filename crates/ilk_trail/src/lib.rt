@@ -1,7 +1,7 @@
 //! The trail of a search: the literals that are set, in the order in which they were set, each with
 //! the level at which it was set and the clause that forced it.
 //!
-//! A search asks the value of a literal far more often than anything else, so each variable's value
+//! A search asks the value of a literal far more often than anything else, so each literal's value
 //! is a byte of its own; where the entry of a variable stands in the list is kept beside it. All
 //! room is taken by `new`, so that no later call can fail.
 //!

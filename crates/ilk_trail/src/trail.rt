@@ -1,4 +1,5 @@
 ghost use Rattle.std.specs.Prelude.{◌≡◌, ◌≤◌, ◌<◌, ◌+◌, ◌^◌, ℕ, Bool, true, false, Some, [], ◌∷◌, ◌++◌, length, slice_get, option_map, IfOk, IsTrue};
+ghost use Rattle.ilk_cnf.specs.Code.{code_of};
 ghost use Rattle.ilk_cnf.specs.Formula.{lit_in};
 ghost use Rattle.ilk_trail.specs.Trail.{assigned, decided, entry_of, level_of, up_to, value_of_literal};
 ghost use Rattle.ilk_trail.specs.Laws.{IsTrail, is_level_next, is_set};
@@ -11,7 +12,7 @@ use std::marker::Model;
 /// The literals that are set, in the order in which they were set.
 #[derive(Drop)]
 pub struct Trail {
-    // by variable: its value, where it is set
+    // by literal: whether it is true, where its variable is set
     values: Vec<Option<bool>>,
     // by variable: where its entry stands, where it is set
     places: Vec<u64>,
@@ -25,9 +26,9 @@ impl Model for Trail {
 
     ghost Value = { TrailList };
 
-    ghost view = { λ t. record { vars = length t.values.items - 1; entries = t.entries.items } };
+    ghost view = { λ t. record { vars = length t.places.items - 1; entries = t.entries.items } };
 
-    ghost invariant = { λ t. Stored t.values.items t.places.items (record { vars = length t.values.items - 1; entries = t.entries.items }) (vec_capacity t.entries) };
+    ghost invariant = { λ t. Stored t.values.items t.places.items (record { vars = length t.places.items - 1; entries = t.entries.items }) (vec_capacity t.entries) };
 }
 
 impl Trail {
@@ -38,7 +39,7 @@ impl Trail {
     {
         let size = vars as usize + 1;
         Ok(Trail {
-            values: vec![in alloc; None; size]?,
+            values: vec![in alloc; None; 2 * size]?,
             places: vec![in alloc; 0; size]?,
             entries: Vec::with_capacity(alloc, size)?,
         })
@@ -49,7 +50,7 @@ impl Trail {
         requires { IsTrue (lit_in self.now.vars l) }
         ensures { result ≡ value_of_literal self.now.entries l }
     {
-        self.values[l.var() as usize].map(|positive| positive == l.positive())
+        self.values[place_of(l)]
     }
 
     /// The current level.
@@ -151,8 +152,9 @@ impl Trail {
         requires level { IsTrue (is_level_next (level_of self.old.entries) entry) }
         ensures { self.new ≡ record self.old { entries = self.old.entries ++ entry ∷ [] } }
     {
+        self.values[place_of(entry.lit)] = Some(true);
+        self.values[place_of(entry.lit.negated())] = Some(false);
         let var = entry.lit.var() as usize;
-        self.values[var] = Some(entry.lit.positive());
         self.places[var] = self.entries.len() as u64;
         self.entries.push(entry).unwrap();
     }
@@ -163,7 +165,16 @@ impl Trail {
         ensures { self.old ≡ record self.new { entries = self.new.entries ++ result ∷ [] } }
     {
         let entry = self.entries.pop().unwrap();
-        self.values[entry.lit.var() as usize] = None;
+        self.values[place_of(entry.lit)] = None;
+        self.values[place_of(entry.lit.negated())] = None;
         entry
     }
+}
+
+// Where the value of `l` stands.
+fn place_of(l: Lit) -> usize
+    requires { l.var ≤ 2 ^ 62 }
+    ensures { result ≡ code_of l }
+{
+    2 * l.var() as usize + l.positive() as usize
 }
