@@ -68,6 +68,10 @@ impl CertificateAudit {
             self.lines.refuse();
             return Ok(());
         }
+        if self.unfinished.is_empty() {
+            self.lines.take(rest)?;
+            return Ok(());
+        }
         self.unfinished.extend_from_slice(rest)?;
         self.lines.take(self.unfinished.as_slice())?;
         self.unfinished.clear();
