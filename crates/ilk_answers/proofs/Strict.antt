@@ -1,5 +1,5 @@
--- Under strict columns a configuration that breaks no rule is safe for ever, so check is good only for such ones, and verify
--- says `safe k=1` of them, or that all conflicts are spent.
+-- Under strict columns a configuration that breaks no rule is safe for ever, so check is good only for such ones, verify says
+-- `safe k=1` of them, or that all conflicts are spent, and no drive tells a hazard.
 use Rattle.std.proofs.Common.{◌≡◌, inl, inr, ℕ, ◌<◌, Bool, true, false, ◌&&◌, if◌then◌else◌, Option, Some, None, IfOk, IfSome, Result, Ok, Err, List, [], ◌++◌, append-nil, length, nat_le, nat_lt, refl, sym, ap, ◌∙◌, subst}
 use Rattle.std.specs.Prelude.{◌≢◌}
 use Rattle.std.proofs.lemmas.Bool.{leb-true}
@@ -31,9 +31,10 @@ use Rattle.ilk_words.specs.declared.lengths.TheConstants.{MAX_CONFIGURATION}
 use Rattle.ilk_words.specs.declared.limits.TheConstants.{MAX_DEPTH, MAX_SEARCH_CONFLICTS}
 use Rattle.ilk_words.specs.declared.plan.Stages.{Stages}
 use Rattle.ilk_words.specs.declared.plan.Stages.TheVariants.{All, Network}
-use Rattle.ilk_answers.specs.Answer.{AnswersFound, form_refused, plant_of, plant_of_drafts, refusals_of}
+use Rattle.ilk_answers.specs.Answer.{AnswersFound, IsAnswerTo, form_refused, plant_of, plant_of_drafts, refusals_of}
+use Rattle.ilk_answers.specs.Besides.{AnswersSome}
 use Rattle.ilk_answers.specs.Stages.{columns_broken, or_later, rules_broken}
-use Rattle.ilk_answers.specs.Strict.{HasTableOf, IsCleanAndSafe, IsCleanFor, IsStrictlyRight, SaysSafeAtOneOrSpent}
+use Rattle.ilk_answers.specs.Strict.{HasTableOf, IsCleanAndSafe, IsCleanFor, IsStrictlyRight, SaysSafeAtOneOrSpent, TellsNoHazard}
 use Rattle.ilk_answers.specs.Verdicts.{TellsVerdict, verdict_line, verdict_run, verdict_status}
 use Rattle.ilk_answers.specs.declared.refusals.Refusals.{Refusals}
 use Rattle.ilk_answers.specs.declared.reply.Reply.{Reply}
@@ -109,44 +110,51 @@ sound-at (Err refusals) sound p is = absurd (cc)
 sound-at (Ok q) sound p is = let same : q ≡ p = cc in subst IsSound same sound
 
 -- what answers what came of a configuration has what strict columns give besides
-module _ (command : Command) (stages : Stages) (planned : (plan_of command).stages ≡ Some stages) (found : Result PlantLists Refusals) (sound : IfOk found IsSound) (extra : Option (List ℕ)) (made : Reply) (told : AnswersFound command found extra made) where
+module _ (command : Command) (stages : Stages) (planned : (plan_of command).stages ≡ Some stages) (found : Result PlantLists Refusals) (sound : IfOk found IsSound) (extra : Option (List ℕ)) (made : Reply) (some : AnswersSome command found extra made) where
   -- which stages were asked
   asked-by : (c : List ℕ) (asked : Command) (s : Stages) → command ≡ asked → (plan_of asked).stages ≡ Some s → found ≡ plant_of stages c → found ≡ plant_of s c
   asked-by c asked s is by known =
       let same : Some stages ≡ Some s = sym planned ∙ ap (λ k. (plan_of k).stages) is ∙ by in
       known ∙ ap (λ o. plant_of o c) (same_Some stages s same)
 
-  told-as : (asked : Command) → command ≡ asked → AnswersFound asked found extra made
-  told-as asked is = subst (λ k. AnswersFound k found extra made) is told
+  told-as : (asked : Command) → command ≡ asked → AnswersFound asked found (Some some.text) made
+  told-as asked is = subst (λ k. AnswersFound k found (Some some.text) made) is some.answer
 
   check-right : (conf : Option (List ℕ)) → IfSome conf (λ c. found ≡ plant_of stages c) → command ≡ Check Strict → made.status ≡ Good → IfSome conf IsCleanAndSafe
   check-right None known is good = tt
   check-right (Some c) known is good =
-      check-safe c found extra made (asked-by c (Check Strict) (All Strict) is refl known) sound (told-as (Check Strict) is) good
+      check-safe c found (Some some.text) made (asked-by c (Check Strict) (All Strict) is refl known) sound (told-as (Check Strict) is) good
 
   verify-right : (conf : Option (List ℕ)) → has_option_limits command ≡ true → IfSome conf (λ c. found ≡ plant_of stages c) → (depth conflicts : ℕ) (cert : List ℕ) → command ≡ Verify Strict depth conflicts cert → (bytes : List ℕ) (p : PlantLists) → conf ≡ Some bytes → IsCleanFor bytes p → SaysSafeAtOneOrSpent p depth conflicts made
   verify-right None limits known depth conflicts cert is bytes p at clean = absurd (cc)
   verify-right (Some c) limits known depth conflicts cert is bytes p at clean =
       let here : found ≡ Ok p = asked-by c (Verify Strict depth conflicts cert) (All Strict) is refl known ∙ ap (plant_of (All Strict)) (same_Some c bytes at) ∙ clean in
-      verify-safe found bytes depth conflicts cert extra made p here sound (subst (λ k. has_option_limits k ≡ true) is limits) (told-as (Verify Strict depth conflicts cert) is) clean
+      verify-safe found bytes depth conflicts cert (Some some.text) made p here sound (subst (λ k. has_option_limits k ≡ true) is limits) (told-as (Verify Strict depth conflicts cert) is) clean
 
   routes-right : (conf : Option (List ℕ)) → IfSome conf (λ c. found ≡ plant_of stages c) → (columns : Columns) → command ≡ Table columns → made.status ≡ Good → IfSome conf (λ c. HasTableOf columns c made)
   routes-right None known columns is good = tt
   routes-right (Some c) known columns is good =
-      table-right columns c found extra made (asked-by c (Table columns) (Network columns) is refl known) (sound-at found sound) (told-as (Table columns) is) good
+      table-right columns c found (Some some.text) made (asked-by c (Table columns) (Network columns) is refl known) (sound-at found sound) (told-as (Table columns) is) good
 
-  scene-right : (conf : Option (List ℕ)) → IfSome conf (λ c. found ≡ plant_of stages c) → (run bytes text : List ℕ) → command ≡ Drive Strict run → conf ≡ Some bytes → extra ≡ Some text → made.status ≢ Unsafe
-  scene-right None known run bytes text is at beside = absurd (cc)
-  scene-right (Some c) known run bytes text is at beside =
-      drive-safe c found run text made (asked-by c (Drive Strict run) (All Strict) is refl known) sound (subst (λ x. AnswersFound (Drive Strict run) found x made) beside (told-as (Drive Strict run) is))
+  scene-right : (conf : Option (List ℕ)) → IfSome conf (λ c. found ≡ plant_of stages c) → (run bytes : List ℕ) → command ≡ Drive Strict run → conf ≡ Some bytes → TellsNoHazard run bytes extra made
+  scene-right None known run bytes is at = absurd (cc)
+  scene-right (Some c) known run bytes is at =
+      let here : found ≡ plant_of (All Strict) c = asked-by c (Drive Strict run) (All Strict) is refl known in
+      let told : AnswersFound (Drive Strict run) found (Some some.text) made = told-as (Drive Strict run) is in
+      record {
+        scenario = some.text;
+        whole = some.whole;
+        answer = subst (λ b. IsAnswerTo (Some (Drive Strict run)) (Some b) (Some some.text) made) (same_Some c bytes at) (subst (λ f. AnswersFound (Drive Strict run) f (Some some.text) made) here told);
+        safe = drive-safe c found run some.text made here sound told;
+      }
 
-pub strictly-right : {E : Type 0} (command : Command) (stages : Stages) (conf extra : Option (List ℕ)) (found : Result PlantLists Refusals) (made : Result Reply E) → (plan_of command).stages ≡ Some stages → has_option_limits command ≡ true → IfSome conf (λ c. found ≡ plant_of stages c) → IfOk found IsSound → IfOk made (AnswersFound command found extra) → IfOk made (IsStrictlyRight (Some command) conf extra)
-strictly-right command stages conf extra found (Err e) planned limits known sound told = tt
-strictly-right command stages conf extra found (Ok made) planned limits known sound told = record {
-  check = λ asked good. check-right command stages planned found sound extra made told conf known (same_Some command (Check Strict) asked) good;
-  verify = λ depth conflicts cert asked. verify-right command stages planned found sound extra made told conf limits known depth conflicts cert (same_Some command (Verify Strict depth conflicts cert) asked);
-  table = λ columns asked good. routes-right command stages planned found sound extra made told conf known columns (same_Some command (Table columns) asked) good;
-  drive = λ run bytes text asked. scene-right command stages planned found sound extra made told conf known run bytes text (same_Some command (Drive Strict run) asked);
+pub strictly-right : {E : Type 0} (command : Command) (stages : Stages) (conf extra : Option (List ℕ)) (found : Result PlantLists Refusals) (made : Result Reply E) → (plan_of command).stages ≡ Some stages → has_option_limits command ≡ true → IfSome conf (λ c. found ≡ plant_of stages c) → IfOk found IsSound → IfOk made (AnswersSome command found extra) → IfOk made (IsStrictlyRight (Some command) conf extra)
+strictly-right command stages conf extra found (Err e) planned limits known sound some = tt
+strictly-right command stages conf extra found (Ok made) planned limits known sound some = record {
+  check = λ asked good. check-right command stages planned found sound extra made some conf known (same_Some command (Check Strict) asked) good;
+  verify = λ depth conflicts cert asked. verify-right command stages planned found sound extra made some conf limits known depth conflicts cert (same_Some command (Verify Strict depth conflicts cert) asked);
+  table = λ columns asked good. routes-right command stages planned found sound extra made some conf known columns (same_Some command (Table columns) asked) good;
+  drive = λ run bytes asked. scene-right command stages planned found sound extra made some conf known run bytes (same_Some command (Drive Strict run) asked);
 }
 
 -- a command that reads no configuration is none of them
@@ -156,7 +164,7 @@ alone-right command conf extra (Ok made) alone = record {
   check = λ asked good. absurd (no-stages (Check Strict) (All Strict) (same_Some command (Check Strict) asked) refl);
   verify = λ depth conflicts cert asked. absurd (no-stages (Verify Strict depth conflicts cert) (All Strict) (same_Some command (Verify Strict depth conflicts cert) asked) refl);
   table = λ columns asked. absurd (no-stages (Table columns) (Network columns) (same_Some command (Table columns) asked) refl);
-  drive = λ run bytes text asked. absurd (no-stages (Drive Strict run) (All Strict) (same_Some command (Drive Strict run) asked) refl);
+  drive = λ run bytes asked. absurd (no-stages (Drive Strict run) (All Strict) (same_Some command (Drive Strict run) asked) refl);
 }
   where
     no-stages : (asked : Command) (stages : Stages) → command ≡ asked → (plan_of asked).stages ≡ Some stages → ⊥

@@ -33,8 +33,8 @@ use Rattle.ilk_answers.specs.Verdicts.{TellsFormula, TellsVerdict, wanted_query}
 use Rattle.ilk_answers.specs.Report.{clean_line, hazard_line, no_hazard_line, not_a_run_line, rejected_line, reply}
 use Rattle.ilk_answers.specs.Stages.{asked_table, rules_broken}
 use Rattle.ilk_answers.specs.Refusal.{refusal_line}
-use Rattle.ilk_answers.specs.declared.refusal.Refusal.{Refusal}
-use Rattle.ilk_answers.specs.declared.refusal.Refusal.TheVariants.{Form as FormRefusal, Rule as RuleRefusal}
+use Rattle.ilk_answers.specs.declared.refusals.Refusal.{Refusal}
+use Rattle.ilk_answers.specs.declared.refusals.Refusal.TheVariants.{Form as FormRefusal, Rule as RuleRefusal}
 use Rattle.ilk_answers.specs.declared.refusals.Refusals.{Refusals}
 use Rattle.ilk_answers.specs.declared.reply.Reply.{Reply}
 use Rattle.ilk_answers.specs.declared.status.Status.TheVariants.{Good, Refused as IsRefused, Rejected, Usage}

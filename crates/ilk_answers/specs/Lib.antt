@@ -13,5 +13,6 @@ pub mod Reader
 pub mod Reply
 pub mod Writable
 pub mod Judged
+pub mod Besides
 pub mod Strict
 pub mod Untaken

@@ -18,6 +18,6 @@ HasRead command p (Text text) bytes = (is_audit command ≡ false) × (text.item
 HasRead command p (Certificate reader) bytes =
     (is_audit command ≡ true) × (reader.plant.now ≡ p) × audit.HasFed reader bytes
 
--- between the one and the other the reader took these bytes
-abbrev pub Took : Reader → Reader → List ℕ → Type 0
-Took before after bytes = (command : Command) (p : PlantLists) (read : List ℕ) → HasRead command p before read → HasRead command p after (read ++ bytes)
+-- between the one and the other the reader was fed these bytes
+abbrev pub WasFed : Reader → Reader → List ℕ → Type 0
+WasFed before after bytes = (command : Command) (p : PlantLists) (read : List ℕ) → HasRead command p before read → HasRead command p after (read ++ bytes)

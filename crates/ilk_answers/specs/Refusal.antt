@@ -6,8 +6,8 @@ use Rattle.ilk_net_read.specs.declared.fault.Place.{Place}
 use Rattle.ilk_net_read.specs.declared.fault.Place.TheVariants.{Document, Extra, Section, Route}
 use Rattle.ilk_plant.specs.Broken.{places_of, places_word, rule_word}
 use Rattle.ilk_plant.specs.declared.broken.Broken.{Broken}
-use Rattle.ilk_answers.specs.declared.refusal.Refusal.{Refusal}
-use Rattle.ilk_answers.specs.declared.refusal.Refusal.TheVariants.{Form as FormRefusal, Rule as RuleRefusal}
+use Rattle.ilk_answers.specs.declared.refusals.Refusal.{Refusal}
+use Rattle.ilk_answers.specs.declared.refusals.Refusal.TheVariants.{Form as FormRefusal, Rule as RuleRefusal}
 
 abbrev pub form_name : Form → List ℕ
 form_name F1 = codes "F1"

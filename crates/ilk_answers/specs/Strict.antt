@@ -12,7 +12,7 @@ use Rattle.ilk_words.specs.declared.plan.Stages.TheVariants.{All}
 use Rattle.ilk_plant.specs.declared.draft.NetDraft.{NetDraft}
 use Rattle.ilk_plant.specs.declared.draft.TableDraft.{TableDraft}
 use Rattle.ilk_table_read.specs.Table.{drafts_of}
-use Rattle.ilk_answers.specs.Answer.{plant_of}
+use Rattle.ilk_answers.specs.Answer.{IsAnswerTo, plant_of}
 use Rattle.ilk_answers.specs.Tables.{HasTable}
 use Rattle.ilk_answers.specs.declared.reply.Reply.{Reply}
 use Rattle.ilk_answers.specs.declared.status.Status.TheVariants.{Good, Spent, Unsafe}
@@ -37,6 +37,14 @@ pub record SaysSafeAtOne (p : PlantLists) (depth conflicts : ℕ) (made : Reply)
 abbrev pub SaysSafeAtOneOrSpent : PlantLists → ℕ → ℕ → Reply → Type 0
 SaysSafeAtOneOrSpent p depth conflicts made = SaysSafeAtOne p depth conflicts made ⊎ (made.status ≡ Spent)
 
+-- a reply of drive tells no hazard: it is the answer to some scenario, over a configuration of these bytes, and its status
+-- isn't that of a drive which rests with a hazard; where it is told what is read besides, that is the scenario
+pub record TellsNoHazard (run conf : List ℕ) (extra : Option (List ℕ)) (made : Reply) : Type 0 where
+  pub scenario : List ℕ
+  pub whole : IfSome extra (λ bytes. scenario ≡ bytes)
+  pub answer : IsAnswerTo (Some (Drive Strict run)) (Some conf) (Some scenario) made
+  pub safe : made.status ≢ Unsafe
+
 -- a configuration of these bytes tells a network, and a reply has the table of its routes
 pub record HasTableOf (columns : Columns) (conf : List ℕ) (made : Reply) : Type 0 where
   pub net : NetDraft
@@ -55,4 +63,4 @@ pub record IsStrictlyRight (asked : Option Command) (conf extra : Option (List �
   -- safe for ever
   pub table : (columns : Columns) → asked ≡ Some (Table columns) → made.status ≡ Good → IfSome conf (λ bytes. HasTableOf columns bytes made)
   -- under strict columns no drive comes to a hazard
-  pub drive : (run bytes text : List ℕ) → asked ≡ Some (Drive Strict run) → conf ≡ Some bytes → extra ≡ Some text → made.status ≢ Unsafe
+  pub drive : (run bytes : List ℕ) → asked ≡ Some (Drive Strict run) → conf ≡ Some bytes → TellsNoHazard run bytes extra made

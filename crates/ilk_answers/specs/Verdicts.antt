@@ -1,11 +1,8 @@
 -- What is answered to a plant where its verdict is asked for, and where the formula of a query is.
-use Rattle.std.specs.Prelude.{ℕ, ◌≡◌, ◌↔◌, ◌++◌, ◌⊎◌, true, false, List, [], ◌∷◌, codes, decimal, length}
+use Rattle.std.specs.Prelude.{ℕ, ◌≡◌, ◌↔◌, ◌++◌, ◌⊎◌, false, List, [], ◌∷◌, codes, decimal, length}
 use Rattle.ilk_plant.specs.Plant.{PlantLists}
-use Rattle.ilk_plant.specs.Start.{start}
-use Rattle.ilk_plant.specs.declared.state.State.{State}
-use Rattle.ilk_model.specs.declared.event.Event.{Event}
 use Rattle.ilk_replay.specs.RunText.{run_text}
-use Rattle.ilk_replay.specs.declared.told.Told.{Told}
+use Rattle.ilk_drive.specs.Told.{told_of}
 use Rattle.ilk_unroll.specs.Query.{query_formula}
 use Rattle.ilk_unroll.specs.declared.queries.Wanted.{Wanted}
 use Rattle.ilk_unroll.specs.declared.queries.Wanted.TheVariants.{Hazard, Breach as BreachQuery, Step}
@@ -26,14 +23,6 @@ use Rattle.ilk_answers.specs.declared.reply.Reply.{Reply}
 use Rattle.ilk_answers.specs.declared.status.Status.{Status}
 use Rattle.ilk_answers.specs.declared.status.Status.TheVariants as status
 
--- a run from the start, as it is told
-abbrev pub run_from_start : PlantLists → List Event → Told
-run_from_start p events = record { first = start p; from_start = true; events = events }
-
--- a run from a state
-abbrev pub run_from_state : State → List Event → Told
-run_from_state s events = record { first = s; from_start = false; events = events }
-
 -- the line that tells a verdict, where this many conflicts were given to the searches
 abbrev pub verdict_line : PlantLists → ℕ → Verdict → List ℕ
 verdict_line p conflicts (Safe k) = codes "safe k=" ++ decimal k ++ 10 ∷ []
@@ -44,9 +33,9 @@ verdict_line p conflicts Spent = codes "spent conflicts=" ++ decimal conflicts +
 
 -- the text of the run that a verdict comes with: for unsafe and breach from the start, for not inductive from a state
 abbrev pub verdict_run : PlantLists → Verdict → List ℕ
-verdict_run p (Unsafe events at) = run_text p (run_from_start p events)
-verdict_run p (Breach events family) = run_text p (run_from_start p events)
-verdict_run p (NotInductive first events) = run_text p (run_from_state first events)
+verdict_run p (Unsafe events at) = run_text p (told_of p events)
+verdict_run p (Breach events family) = run_text p (told_of p events)
+verdict_run p (NotInductive first events) = run_text p (record { first = first; from_start = false; events = events })
 verdict_run p _ = []
 
 abbrev pub verdict_status : Verdict → Status

@@ -1,4 +1,4 @@
-ghost use Rattle.std.specs.Prelude.{◌≡◌, ◌^◌, ◌<◌, ℕ, List, None, true, false, IfOk, IsTrue, is_some, length};
+ghost use Rattle.std.specs.Prelude.{◌≡◌, ◌^◌, ◌<◌, ℕ, List, [], None, true, false, IfOk, IsTrue, is_some, length};
 ghost use Rattle.ilk_answers.specs.Answer.{Answers, AnswersAlone};
 ghost use Rattle.ilk_answers.specs.Reader.{HasRead, is_audit};
 ghost use Rattle.ilk_answers.specs.Reply.{IsPlanned};
@@ -51,8 +51,20 @@ fn text_reply(
     }
 }
 
-/// The reply of a command to a plant, and to what its reader took, if it reads anything besides the
-/// configuration. The only error is want of memory.
+/// The reply of a command to a plant, where it reads nothing besides the configuration. The only error
+/// is want of memory.
+#[tactic(auto, using(crate::proofs::Readers::reads_no_certificate))]
+pub fn answer_plant(alloc: Global, command: &Command, plant: &Plant) -> Result<Reply, AllocError>
+    requires options { IsTrue (has_option_limits command.now) }
+    requires over { is_some (plan_of command.now).stages ≡ true }
+    requires no_more { (plan_of command.now).extra ≡ None }
+    ensures reply { IfOk result (Answers command.now plant.now []) }
+    ensures planned { IfOk result (IsPlanned (plan_of command.now)) }
+{
+    text_reply(alloc, command, plant, &[])
+}
+
+/// The reply of a command to a plant, and to what its reader was fed. The only error is want of memory.
 pub fn answer(
     alloc: Global,
     command: &Command,

@@ -3,15 +3,16 @@
 //! want of memory; `ilk_top` reads, writes and counts faults.
 //!
 //! A configuration becomes a plant, or all that it is refused with (`plant_of`, over `checks`).
-//! `refuse` is a command's reply to the one, `answer` to the other: the list of the refusals
-//! (`refusing`), the verdict with its run or its certificate (`verify`), the routes of the network
-//! (`table`), the formula of a query (`export`), and what is said of the text that is read besides: of a
+//! All that a configuration is refused with is a value (`refusals`), and `refuse` is a command's reply to
+//! it (`refused_reply`). To a plant `answer_plant` is the reply of a command that reads nothing else: the
+//! verdict with its run or its certificate (`verify`), the routes of the network (`table`), the formula of
+//! a query (`export`). `answer` is that of one which does, and says something of what it read: of a
 //! certificate (`audit`), a run (`replay`), another solver's refutation (`rup`), a scenario (`drive`).
 //! `answer_alone` is the reply of a command that reads no configuration (`made`). What a command reads
-//! besides comes to it in pieces (`reader`), and what a reply has to be written is taken from it in
-//! pieces (`content`). The lines of reports are those of `report` and `refusal`. `specs/Answer.antt` says
-//! which replies are answers; `specs/Verdicts.antt`, `Audits`, `Refutations`, `Drives`, `Tables` and
-//! `Made` say it of single commands.
+//! besides is fed to its reader in pieces (`reader`), and what a reply has to be written is taken from it
+//! in pieces (`content`). The lines of reports are those of `report` and `refusal_text`.
+//! `specs/Answer.antt` says which replies are answers; `specs/Verdicts.antt`, `Audits`, `Refutations`,
+//! `Drives`, `Tables` and `Made` say it of single commands.
 #![tactic(auto)]
 
 mod answering;
@@ -23,9 +24,9 @@ mod drive;
 mod export;
 mod made;
 mod reader;
-mod refusal;
+mod refusal_text;
 mod refusals;
-mod refusing;
+mod refused_reply;
 mod replay;
 mod reply;
 mod report;
@@ -35,12 +36,11 @@ mod status;
 mod table;
 mod verify;
 
-pub use answering::{answer, answer_alone};
+pub use answering::{answer, answer_alone, answer_plant};
 pub use configuration::plant_of;
 pub use content::Content;
 pub use reader::Reader;
-pub use refusal::Refusal;
-pub use refusals::Refusals;
-pub use refusing::refuse;
+pub use refusals::{Refusal, Refusals};
+pub use refused_reply::refuse;
 pub use reply::Reply;
 pub use status::Status;

@@ -1,5 +1,5 @@
 ghost use Rattle.std.specs.Prelude.{◌≡◌, [], IfOk, OnOk};
-ghost use Rattle.ilk_answers.specs.Reader.{HasRead, Took};
+ghost use Rattle.ilk_answers.specs.Reader.{HasRead, WasFed};
 
 use ilk_plant::Plant;
 use ilk_plant_audit::CertAudit;
@@ -16,7 +16,7 @@ pub enum Reader<'a> {
 }
 
 impl<'a> Reader<'a> {
-    /// The reader of a command over a plant, which took nothing yet.
+    /// The reader of a command over a plant, which was fed nothing yet.
     pub fn new(alloc: Global, command: &Command, plant: &'a Plant) -> Result<Reader<'a>, AllocError>
         ensures { IfOk result (λ reader. HasRead command.now plant.now reader []) }
     {
@@ -26,10 +26,12 @@ impl<'a> Reader<'a> {
         }
     }
 
-    /// Takes the next piece. Where memory runs out the reader is of no more use.
-    #[tactic(auto, using(crate::proofs::Readers::audit_took))]
-    pub fn take(&mut self, piece: &[u8]) -> Result<(), AllocError>
-        ensures { OnOk result (Took self.old self.new piece.now) }
+    /// Feeds the next piece to it. Where memory runs out the reader is of no more use.
+    ///
+    /// All is read, whatever comes: that a line of a certificate is bad is told at its end alone.
+    #[tactic(auto, using(crate::proofs::Readers::audit_fed))]
+    pub fn feed(&mut self, piece: &[u8]) -> Result<(), AllocError>
+        ensures { OnOk result (WasFed self.old self.new piece.now) }
     {
         match self {
             Reader::Text(text) => text.extend_from_slice(piece),

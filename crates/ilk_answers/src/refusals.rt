@@ -1,11 +1,21 @@
+//! Why a configuration is refused, as values.
+
 ghost use Rattle.std.specs.Prelude.{◌≡◌};
 ghost use Rattle.ilk_answers.specs.Answer.{form_refused, refusals_of};
 ghost use Rattle.ilk_net_read.specs.Fault.{broken};
 
-use crate::Refusal;
 use ilk_net_read::{Form, FormFault, Place};
 use ilk_plant::{Broken, Row};
 use std::alloc::Global;
+
+/// Why a configuration is refused.
+#[derive(Clone, Copy, PartialEq, Eq, Debug)]
+pub enum Refusal {
+    /// A rule of the form is broken.
+    Form(FormFault),
+    /// A rule of the network or of the table of routes is broken.
+    Rule(Broken),
+}
 
 /// All that a configuration is refused with: the first fault of its form, or all broken rules of
 /// the first stage that has any.

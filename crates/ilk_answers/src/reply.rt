@@ -1,10 +1,10 @@
 ghost use Rattle.std.specs.Prelude.{◌≡◌, IfOk, string_bytes};
 ghost use Rattle.ilk_answers.specs.Answer.{refused};
 ghost use Rattle.ilk_answers.specs.Report.{reply};
-ghost use Rattle.ilk_answers.specs.declared.refusal.Refusal.TheVariants as refusal;
+ghost use Rattle.ilk_answers.specs.declared.refusals.Refusal.TheVariants as refusal;
 ghost use Rattle.ilk_net_read.specs.Fault.{broken};
 
-use crate::refusal::refusal_line;
+use crate::refusal_text::refusal_line;
 use crate::{Content, Refusal, Status};
 use ilk_net_read::{Form, FormFault, Place};
 use std::alloc::{AllocError, Global};

@@ -5,7 +5,7 @@ ghost use Rattle.ilk_plant.specs.declared.draft.TableDraft.{TableDraft};
 ghost use Rattle.ilk_answers.specs.Status.{is_reply};
 ghost use Rattle.ilk_answers.specs.Tables.{IsReadBack, TellsTable, endless_line, text_with, too_many_line};
 
-use crate::refusal::{entry_text, refused_at};
+use crate::refusal_text::{entry_text, refused_at};
 use crate::{Reply, Status};
 use ilk_conf_write::{Version, write_configuration};
 use ilk_plant::{Plant, TableDraft};

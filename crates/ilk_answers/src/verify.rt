@@ -3,10 +3,11 @@ ghost use Rattle.ilk_answers.specs.Verdicts.{TellsVerdict, verdict_line, verdict
 ghost use Rattle.ilk_answers.specs.Writable.{HasRuns};
 
 use crate::report::verdict_line;
-use crate::run_text::{text_from_start, text_from_state};
+use crate::run_text::text_from_start;
 use crate::{Content, Reply, Status};
 use ilk_engine::{CertificateText, Found, Verdict, certify, decide};
 use ilk_plant::Plant;
+use ilk_replay::{Told, write_run};
 use std::alloc::{AllocError, Global};
 
 // The text of the run that a verdict comes with; empty where it comes with none.
@@ -17,7 +18,14 @@ fn verdict_run(alloc: Global, plant: &Plant, verdict: Verdict) -> Result<Vec<u8>
     match verdict {
         Verdict::Unsafe { events, .. } => text_from_start(alloc, plant, events),
         Verdict::Breach { events, .. } => text_from_start(alloc, plant, events),
-        Verdict::NotInductive { first, events } => text_from_state(alloc, plant, first, events),
+        Verdict::NotInductive { first, events } => {
+            let told = Told {
+                first,
+                from_start: false,
+                events,
+            };
+            write_run(alloc, plant, &told)
+        }
         Verdict::Safe { .. } | Verdict::Spent => Ok(Vec::new(alloc)),
     }
 }

@@ -1,49 +1,51 @@
--- What a reader took of a source, by calls that follow one another.
-use Rattle.std.proofs.Common.{◌≡◌, ℕ, ◌+◌, ◌<◌, ◌≤◌, Option, Some, None, IfSome, List, [], ◌++◌, length, append-nil, append_assoc, refl, ap, subst, sym, length-append, arith}
-use Rattle.ilk_answers.specs.Reader.{HasRead, Took}
+-- What a reader was fed of a source, by calls that follow one another.
+use Rattle.std.proofs.Common.{◌≡◌, ℕ, ◌+◌, ◌<◌, ◌≤◌, IfErr, IfOk, Option, Result, Ok, Err, List, [], ◌++◌, length, append-nil, append_assoc, refl, ap, subst, sym, length-append, arith}
+use Rattle.ilk_answers.specs.Reader.{HasRead, WasFed}
 use Rattle.ilk_answers.specs.declared.reader.Reader.{Reader}
 use Rattle.ilk_io.proofs.Taken.{Takes-none, Takes-then, Takes-whole, Takes-longer}
+use Rattle.ilk_io.specs.ReadError.{HasCause}
+use Rattle.ilk_io.specs.declared.reading.ReadError.{ReadError}
+use Rattle.ilk_io.specs.declared.reading.ReadError.TheVariants.{TooLong}
 use Rattle.ilk_io.specs.Source.{IsAtEnd, IsLonger, Takes, TakesAtMost}
+use Rattle.ilk_top.specs.Feeding.{WasFedWhole}
 
--- a reader that took nothing took no bytes
-Took-none : (reader : Reader) → Took reader reader []
-Took-none reader command p read h = subst (HasRead command p reader) (sym (append-nil read)) h
+-- a reader that was fed nothing was fed no bytes
+WasFed-none : (reader : Reader) → WasFed reader reader []
+WasFed-none reader command p read h = subst (HasRead command p reader) (sym (append-nil read)) h
 
--- what was taken in two pieces was taken
-Took-then : (first second third : Reader) (front back : List ℕ) → Took first second front → Took second third back → Took first third (front ++ back)
-Took-then first second third front back one two command p read h =
+-- what was fed in two pieces was fed
+WasFed-then : (first second third : Reader) (front back : List ℕ) → WasFed first second front → WasFed second third back → WasFed first third (front ++ back)
+WasFed-then first second third front back one two command p read h =
     subst (HasRead command p third) (append_assoc read front back) (two command p (read ++ front) (one command p read h))
 
--- the reader took what was taken of the source so far, which is this many bytes
+-- the reader was fed what was taken of the source so far, which is this many bytes
 pub record Fed (old new : Option (List ℕ)) (before reader : Reader) (count : ℕ) : Type 0 where
   pub done : List ℕ
   pub takes : Takes old new done
-  pub took : Took before reader done
+  pub fed : WasFed before reader done
   pub counted : length done ≡ count
 
 -- nothing was taken yet
 pub Fed-none : (old : Option (List ℕ)) (reader : Reader) → Fed old old reader reader 0
-Fed-none old reader = record { done = []; takes = Takes-none old old refl; took = Took-none reader; counted = refl }
+Fed-none old reader = record { done = []; takes = Takes-none old old refl; fed = WasFed-none reader; counted = refl }
 
--- the next piece was taken too, and given to the reader
-pub Fed-more : (old new after : Option (List ℕ)) (before reader more : Reader) (count : ℕ) (piece given : List ℕ) (n : ℕ) → Fed old new before reader count → Takes new after piece → length piece ≡ n → given ≡ piece → Took reader more given → Fed old after before more (count + n)
-Fed-more old new after before reader more count piece given n fed takes same whole took = record {
-  done = fed.done ++ piece;
-  takes = Takes-then old new after fed.done piece fed.takes takes;
-  took = subst (Took before more) (ap (λ last. fed.done ++ last) whole) (Took-then before reader more fed.done given fed.took took);
-  counted = omega (arith, length-append fed.done piece, fed.counted, same);
+-- the next piece was taken too, and fed to the reader
+pub Fed-more : (old new after : Option (List ℕ)) (before reader more : Reader) (count : ℕ) (piece given : List ℕ) (n : ℕ) → Fed old new before reader count → Takes new after piece → length piece ≡ n → given ≡ piece → WasFed reader more given → Fed old after before more (count + n)
+Fed-more old new after before reader more count piece given n so_far takes same whole fed = record {
+  done = so_far.done ++ piece;
+  takes = Takes-then old new after so_far.done piece so_far.takes takes;
+  fed = subst (WasFed before more) (ap (λ last. so_far.done ++ last) whole) (WasFed-then before reader more so_far.done given so_far.fed fed);
+  counted = omega (arith, length-append so_far.done piece, so_far.counted, same);
 }
 
--- the reader took something, if only no byte
-pub Fed-some : (old new : Option (List ℕ)) (before reader : Reader) (count : ℕ) → Fed old new before reader count → (bytes : List ℕ) × Took before reader bytes
-Fed-some old new before reader count fed = (fed.done, fed.took)
-
 -- what was taken up to the end is all that was left
-pub Fed-whole : (old new : Option (List ℕ)) (before reader : Reader) (count limit : ℕ) → Fed old new before reader count → IsAtEnd new → count ≤ limit → IfSome old (λ bytes. Took before reader bytes × (length bytes ≤ limit))
-Fed-whole None new before reader count limit fed end within = tt
-Fed-whole (Some x) new before reader count limit fed end within =
-    let Read : List ℕ → Type 0 = λ bytes. Took before reader bytes × (length bytes ≤ limit) in
-    subst Read (Takes-whole (Some x) new fed.done fed.takes end) (fed.took, omega (arith, fed.counted, within))
+pub Fed-whole : (old new : Option (List ℕ)) (before reader : Reader) (count limit : ℕ) → Fed old new before reader count → IsAtEnd new → count ≤ limit → WasFedWhole old limit before reader
+Fed-whole old new before reader count limit fed end within = record {
+  bytes = fed.done;
+  fed = fed.fed;
+  whole = Takes-whole old new fed.done fed.takes end;
+  within = omega (arith, fed.counted, within);
+}
 
 -- what was taken was there
 pub Fed-longer : (old new : Option (List ℕ)) (before reader : Reader) (count limit : ℕ) → Fed old new before reader count → limit < count → IsLonger old limit
@@ -60,3 +62,20 @@ Fed-then old new after before reader count piece n fed takes within = (
   omega (arith, length-append fed.done piece, fed.counted, within),
   Takes-then old new after fed.done piece fed.takes takes,
 )
+
+-- ---- what is kept of a reading
+
+-- where the reading didn't fail the reader is kept, as it was fed
+pub kept-whole : {A E : Type 0} (left : Option (List ℕ)) (limit : ℕ) (before after kept : Reader) (x : A) (read : Result A E) (result : Result Reader E)
+    → result ≡ Ok kept → IfOk result (λ k. (k ≡ after) × (read ≡ Ok x)) → IfOk read (λ _. WasFedWhole left limit before after) → WasFedWhole left limit before kept
+kept-whole left limit before after kept x read result is held whole =
+    let both : (kept ≡ after) × (read ≡ Ok x) = subst (λ r. IfOk r (λ k. (k ≡ after) × (read ≡ Ok x))) is held in
+    let fed : WasFedWhole left limit before after = subst (λ r. IfOk r (λ _. WasFedWhole left limit before after)) both.1 whole in
+    subst (WasFedWhole left limit before) (sym both.0) fed
+
+-- where it stopped at the limit there was more
+pub kept-longer : {A B : Type 0} (left : Option (List ℕ)) (limit old new : ℕ) (read : Result A ReadError) (result : Result B ReadError)
+    → result ≡ Err TooLong → IfErr result (λ e. read ≡ Err e) → IfErr read (λ e. HasCause e limit left old new) → IsLonger left limit
+kept-longer left limit old new read result is failed cause =
+    let same : read ≡ Err TooLong = subst (λ r. IfErr r (λ e. read ≡ Err e)) is failed in
+    subst (λ r. IfErr r (λ e. HasCause e limit left old new)) same cause

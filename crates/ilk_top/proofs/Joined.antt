@@ -2,8 +2,10 @@
 use Rattle.std.proofs.Common.{◌≡◌, ℕ, Bool, true, false, Option, Some, None, IfOk, IfSome, Result, Ok, Err, List, [], inl, inr, refl, ap, subst, sym, is_ok, option_map, arith, ◌∙◌}
 use Rattle.std.specs.Prelude.{◌≢◌}
 use Rattle.ilk_answers.specs.Answer.{AnswersAlone, AnswersConf, AnswersFound, IsAnswerTo, comes_to_extra, conf_limit, found_by, plant_of}
+use Rattle.ilk_answers.specs.Besides.{AnswersSome}
 use Rattle.ilk_answers.specs.declared.refusals.Refusals.{Refusals}
 use Rattle.ilk_answers.specs.declared.reply.Reply.{Reply}
+use Rattle.ilk_answers.proofs.Besides.{some-answer}
 use Rattle.ilk_io.proofs.Taken.{Takes-none}
 use Rattle.ilk_io.specs.Faults.{RoseByOne}
 use Rattle.ilk_plant.specs.Plant.{PlantLists}
@@ -75,14 +77,14 @@ comes-maybe plan stages (Some c) plant s k e =
     let told : Some true ≡ Some false = sym (comes-told plan stages (Some c) (Ok plant) s k) ∙ e in absurd (cc)
 
 -- what answers what was found answers the configuration
-pub answer-told : {E : Type 0} (command : Command) (stages : Stages) (left extra : Option (List ℕ)) (found : Result PlantLists Refusals) (made : Result Reply E) → (plan_of command).stages ≡ Some stages → IfSome left (λ c. found ≡ plant_of stages c) → IfOk made (AnswersFound command found extra) → IfOk made (IsAnswerTo (Some command) left extra)
-answer-told command stages left extra found (Err e) s k known = tt
-answer-told command stages None extra found (Ok made) s k known =
+pub answer-told : {E : Type 0} (command : Command) (stages : Stages) (left extra : Option (List ℕ)) (found : Result PlantLists Refusals) (made : Result Reply E) → (plan_of command).stages ≡ Some stages → IfSome left (λ c. found ≡ plant_of stages c) → IfOk made (AnswersSome command found extra) → IfOk made (IsAnswerTo (Some command) left extra)
+answer-told command stages left extra found (Err e) s k some = tt
+answer-told command stages None extra found (Ok made) s k some =
     let Told : Option Stages → Type 0 = λ o. AnswersConf o command None extra made in subst Told (sym s) tt
-answer-told command stages (Some c) extra found (Ok made) s k known =
+answer-told command stages (Some c) extra found (Ok made) s k some =
     let Told : Option Stages → Type 0 = λ o. AnswersConf o command (Some c) extra made in
     let Found : Result PlantLists Refusals → Type 0 = λ f. AnswersFound command f extra made in
-    subst Told (sym s) (subst Found k known)
+    subst Told (sym s) (subst Found k (some-answer command found extra made some))
 
 -- what a command answers that reads no configuration is the answer
 pub alone-told : {E : Type 0} (command : Command) (left extra : Option (List ℕ)) (made : Result Reply E) → (plan_of command).stages ≡ None → IfOk made (AnswersAlone command) → IfOk made (IsAnswerTo (Some command) left extra)

@@ -1,12 +1,11 @@
 -- What a call that tells answers under strict columns says of the configuration, and what it tells.
 use Rattle.std.proofs.Common.{◌≡◌, ℕ, true, Option, Some, IfSome, List, refl, sym, ◌∙◌, subst}
-use Rattle.std.specs.Prelude.{◌≢◌}
 use Rattle.ilk_plant.specs.Plant.{PlantLists}
 use Rattle.ilk_answers.specs.Status.{is_answer}
-use Rattle.ilk_answers.specs.Strict.{HasTableOf, IsCleanAndSafe, IsCleanFor, IsStrictlyRight, SaysSafeAtOneOrSpent}
+use Rattle.ilk_answers.specs.Strict.{HasTableOf, IsCleanAndSafe, IsCleanFor, IsStrictlyRight, SaysSafeAtOneOrSpent, TellsNoHazard}
 use Rattle.ilk_answers.specs.declared.reply.Reply.{Reply}
 use Rattle.ilk_answers.specs.declared.status.Status.{Status}
-use Rattle.ilk_answers.specs.declared.status.Status.TheVariants.{Good, Unsafe}
+use Rattle.ilk_answers.specs.declared.status.Status.TheVariants.{Good}
 use Rattle.ilk_words.specs.declared.command.Columns.{Columns}
 use Rattle.ilk_words.specs.declared.command.Columns.TheVariants.{Strict}
 use Rattle.ilk_words.specs.declared.command.Command.{Command}
@@ -36,7 +35,7 @@ module _ {L O : Type 0} (cert_written : L → Option (List ℕ)) (cert_faults : 
   table-told asked conf extra told columns is =
       Tells-as (IsStrictlyRight asked conf extra) (λ made. made.status ≡ Good → IfSome conf (λ bytes. HasTableOf columns bytes made)) (λ made right. right.table columns is) told
 
-  -- no drive comes to a hazard
-  pub drive-told : (asked : Option Command) (conf extra : Option (List ℕ)) → Tells (IsStrictlyRight asked conf extra) cert_written cert_faults out_written out_faults status cert_old cert_new out_old out_new → (name bytes text : List ℕ) → asked ≡ Some (Drive Strict name) → conf ≡ Some bytes → extra ≡ Some text → status ≢ Unsafe
-  drive-told asked conf extra told name bytes text is at beside unsafe =
-      let t = told.whole (subst (λ s. is_answer s ≡ true) (sym unsafe) refl) in t.1.drive name bytes text is at beside (sym t.2 ∙ unsafe)
+  -- drive tells no hazard
+  pub drive-told : (asked : Option Command) (conf extra : Option (List ℕ)) → Tells (IsStrictlyRight asked conf extra) cert_written cert_faults out_written out_faults status cert_old cert_new out_old out_new → (name bytes : List ℕ) → asked ≡ Some (Drive Strict name) → conf ≡ Some bytes → Tells (TellsNoHazard name bytes extra) cert_written cert_faults out_written out_faults status cert_old cert_new out_old out_new
+  drive-told asked conf extra told name bytes is at =
+      Tells-as (IsStrictlyRight asked conf extra) (TellsNoHazard name bytes extra) (λ made right. right.drive name bytes is at) told

@@ -1,5 +1,5 @@
 ghost use Rattle.std.specs.Prelude.{◌≡◌, ◌^◌, ◌<◌, true, IfErr, IfOk, IsTrue, Ok, Err, Some, is_ok, is_some};
-ghost use Rattle.ilk_answers.specs.Answer.{AnswersPlant};
+ghost use Rattle.ilk_answers.specs.Besides.{AnswersSome};
 ghost use Rattle.ilk_answers.specs.Reply.{IsPlanned};
 ghost use Rattle.ilk_top.specs.Handled.{SourceHandled};
 ghost use Rattle.ilk_words.specs.Limits.{has_option_limits};
@@ -7,7 +7,7 @@ ghost use Rattle.ilk_words.specs.Plan.{plan_of};
 
 use crate::no_reply::NoReply;
 use crate::pieces::read_pieces;
-use ilk_answers::{Reader, Reply, answer};
+use ilk_answers::{Reader, Reply, answer, answer_plant};
 use ilk_io::{ReadError, Source};
 use ilk_plant::Plant;
 use ilk_words::Command;
@@ -37,7 +37,7 @@ fn reply_to_extra<D: Source>(
     requires over { is_some (plan_of command.now).stages ≡ true }
     requires limit { (plan_of command.now).extra ≡ Some limit }
     requires small { limit < 2 ^ 40 }
-    ensures reply { IfOk result (AnswersPlant (plan_of command.now).extra command.now plant.now (D.left extra.old)) }
+    ensures reply { IfOk result (AnswersSome command.now (Ok plant.now) (D.left extra.old)) }
     ensures planned { IfOk result (IsPlanned (plan_of command.now)) }
     ensures handled { SourceHandled D.left D.faults (Some true) (plan_of command.now).extra (result ≡ Err NoReply.ReadFault) (is_ok result) extra.old extra.new }
 {
@@ -61,15 +61,12 @@ pub fn plant_reply<D: Source>(
 ) -> Result<Reply, NoReply>
     requires options { IsTrue (has_option_limits command.now) }
     requires over { is_some (plan_of command.now).stages ≡ true }
-    ensures reply { IfOk result (AnswersPlant (plan_of command.now).extra command.now plant.now (D.left extra.old)) }
+    ensures reply { IfOk result (AnswersSome command.now (Ok plant.now) (D.left extra.old)) }
     ensures planned { IfOk result (IsPlanned (plan_of command.now)) }
     ensures handled { SourceHandled D.left D.faults (Some true) (plan_of command.now).extra (result ≡ Err NoReply.ReadFault) (is_ok result) extra.old extra.new }
 {
     match command.plan().extra {
         Some(limit) => reply_to_extra(alloc, command, plant, limit, extra),
-        None => {
-            let reader = Reader::new(alloc, command, plant)?;
-            Ok(answer(alloc, command, plant, reader)?)
-        }
+        None => Ok(answer_plant(alloc, command, plant)?),
     }
 }

@@ -1,7 +1,7 @@
-ghost use Rattle.std.specs.Prelude.{◌≡◌, ◌≢◌, ℕ, List, ◌+◌, ◌^◌, ◌<◌, ◌≤◌, Err, IfOk, IfErr, IfSome, length};
-ghost use Rattle.ilk_answers.specs.Reader.{Took};
+ghost use Rattle.std.specs.Prelude.{◌≡◌, ◌≢◌, ◌+◌, ◌^◌, ◌<◌, ◌≤◌, Err, IfOk, IfErr};
 ghost use Rattle.ilk_io.specs.ReadError.{HasCause};
 ghost use Rattle.ilk_io.specs.Source.{IsAtEnd, TakesAtMost};
+ghost use Rattle.ilk_top.specs.Feeding.{WasFedWhole};
 
 use ilk_answers::Reader;
 use ilk_io::{Failed, ReadError, Source};
@@ -9,8 +9,8 @@ use ilk_io::{Failed, ReadError, Source};
 // How many bytes are asked of a source at once.
 const PIECE: usize = 65536;
 
-/// Reads the source to its end, at most `limit` bytes, and hands them to the reader in pieces: what
-/// the reader took is all that was left, where the source tells that.
+/// Reads the source to its end, at most `limit` bytes, and feeds them to the reader in pieces: they are
+/// all that was left, where the source tells that.
 ///
 /// `Failed` comes at the first call of the source that failed, which is not called again: exactly
 /// one fault is counted. `TooLong` comes where more than `limit` bytes are there and no call failed
@@ -22,8 +22,7 @@ pub fn read_pieces<S: Source>(
     reader: &mut Reader<'_>,
 ) -> Result<(), ReadError>
     requires limit { limit < 2 ^ 40 }
-    ensures whole { IfOk result (λ _. IfSome (S.left source.old) (λ bytes. Took reader.old reader.new bytes × (length bytes ≤ limit))) }
-    ensures some { IfOk result (λ _. (bytes : List ℕ) × Took reader.old reader.new bytes) }
+    ensures whole { IfOk result (λ _. WasFedWhole (S.left source.old) limit reader.old reader.new) }
     ensures end { IfOk result (λ _. IsAtEnd (S.left source.new)) }
     ensures cause { IfErr result (λ e. HasCause e limit (S.left source.old) (S.faults source.old) (S.faults source.new)) }
     ensures taken { TakesAtMost (limit + 1) (S.left source.old) (S.left source.new) }
@@ -38,7 +37,7 @@ pub fn read_pieces<S: Source>(
         match source.read(&mut piece[..want]) {
             Ok(0) => return Ok(()),
             Ok(n) => {
-                if reader.take(&piece[..n]).is_err() {
+                if reader.feed(&piece[..n]).is_err() {
                     return Err(ReadError::OutOfMemory);
                 }
                 count += n as u64;

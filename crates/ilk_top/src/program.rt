@@ -1,7 +1,7 @@
 ghost use Rattle.std.specs.Prelude.{ℕ, ◌≡◌, ◌≢◌, ◌⊎◌, ◌↔◌, Some, None, IfSome, List, true, false, map, string_bytes};
 ghost use Rattle.ilk_answers.specs.Answer.{IsAnswerTo, comes_to_extra, conf_limit, plan_asked};
 ghost use Rattle.ilk_answers.specs.Status.{came_to_writing};
-ghost use Rattle.ilk_answers.specs.Strict.{HasTableOf, IsCleanAndSafe, IsCleanFor, SaysSafeAtOneOrSpent};
+ghost use Rattle.ilk_answers.specs.Strict.{HasTableOf, IsCleanAndSafe, IsCleanFor, SaysSafeAtOneOrSpent, TellsNoHazard};
 ghost use Rattle.ilk_io.specs.Faults.{RoseByOne};
 ghost use Rattle.ilk_plant.specs.Plant.{PlantLists};
 ghost use Rattle.ilk_top.specs.Outside.{ReadByPlan, RisesOnlyAt, Tells};
@@ -47,10 +47,12 @@ pub fn run<C: Source, D: Source, O: Sink, L: Sink>(
         (columns : Columns) → asked ≡ Some (Command.Table columns)
         → Tells (λ made. made.status ≡ Status.Good → IfSome (C.left conf.old) (λ bytes. HasTableOf columns bytes made)) L.written L.faults O.written O.faults result cert.old cert.new out.old out.new }
 
-    // no drive under strict columns comes to a hazard
+    // no drive under strict columns tells a hazard, whether or not the source of the scenario tells what is left; after a write fault what was written is of an answer that tells none
     ensures strict_drive { let asked = command_of (map string_bytes words.now.items) in
-        (name bytes text : List ℕ) → asked ≡ Some (Command.Drive Columns.Strict name) → C.left conf.old ≡ Some bytes → D.left extra.old ≡ Some text
-        → result ≢ Status.Unsafe }
+        (name bytes : List ℕ) → asked ≡ Some (Command.Drive Columns.Strict name)
+        → C.left conf.old ≡ Some bytes
+        → Tells (TellsNoHazard name bytes (D.left extra.old))
+        L.written L.faults O.written O.faults result cert.old cert.new out.old out.new }
 
     // with a read fault exactly one call of one source failed, so that nothing is called again after it; a count that rose is told as a fault
     ensures read_fault { result ≡ Status.ReadFault

@@ -1,6 +1,7 @@
 use Rattle.std.proofs.Common.{◌≡◌, true, Ok, Err, IfSome, Result, subst, is_ok}
 use Rattle.ilk_answers.specs.Answer.{plant_of}
 use Rattle.ilk_answers.specs.declared.refusals.Refusals.{Refusals}
+use Rattle.ilk_answers.proofs.Besides.{some-refused}
 use Rattle.ilk_answers.proofs.Strict.{strictly-right}
 use Rattle.ilk_plant.specs.Plant.{PlantLists}
 use Rattle.ilk_words.specs.Plan.{plan_of}
@@ -32,4 +33,4 @@ returns-in_ok-reply-in-Err-clause-handled g c =
 pub returns-in_ok-reply-in-Err-clause-strict : goal.returns-in_ok-reply-in-Err-clause-strict
 returns-in_ok-reply-in-Err-clause-strict g c =
     let Found : Result PlantLists Refusals → Type 0 = λ found. IfSome (g.C.Source.left c.args.conf.now) (λ x. found ≡ plant_of c.args.stages x) in
-    strictly-right {E = NoReply} c.args.command.now c.args.stages (g.C.Source.left c.args.conf.now) (g.D.Source.left c.args.extra.now) (Err c.in-Err.refusals) (Ok c.in_ok-reply-in-Err.field-0) c.requires.stages c.requires.options (subst Found c.in-Err.is c.in_ok-plant.ensures.found) tt c.in_ok-reply-in-Err.ensures.reply
+    strictly-right {E = NoReply} c.args.command.now c.args.stages (g.C.Source.left c.args.conf.now) (g.D.Source.left c.args.extra.now) (Err c.in-Err.refusals) (Ok c.in_ok-reply-in-Err.field-0) c.requires.stages c.requires.options (subst Found c.in-Err.is c.in_ok-plant.ensures.found) tt (some-refused c.args.command.now c.in-Err.refusals (g.D.Source.left c.args.extra.now) c.in_ok-reply-in-Err.field-0 c.in_ok-reply-in-Err.ensures.reply)

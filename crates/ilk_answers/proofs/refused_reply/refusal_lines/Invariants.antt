@@ -1,7 +1,7 @@
 use Rattle.std.proofs.Common.{◌≡◌, ◌++◌, string_bytes, take}
 use Rattle.ilk_answers.specs.Answer.{broken_lines}
 use Rattle.ilk_answers.specs.Refusal.{refusal_line}
-use Rattle.ilk_answers.proofs.refusing.refusal_lines.Given as goal
+use Rattle.ilk_answers.proofs.refused_reply.refusal_lines.Given as goal
 
 abbrev pub invariant-loop-broken : goal.invariant-loop-broken
 invariant-loop-broken l =

@@ -1,10 +1,12 @@
+//! The reply to a configuration that is refused.
+
 ghost use Rattle.std.specs.Prelude.{◌≡◌, ◌++◌, IfOk, string_bytes};
 ghost use Rattle.ilk_answers.specs.Answer.{broken_lines, refused_by};
 ghost use Rattle.ilk_answers.specs.Refusal.{refusal_line};
 ghost use Rattle.ilk_answers.specs.Reply.{IsPlanned};
 ghost use Rattle.ilk_words.specs.Plan.{plan_of};
 
-use crate::refusal::refusal_line;
+use crate::refusal_text::refusal_line;
 use crate::{Refusal, Refusals, Reply, Status};
 use ilk_words::Command;
 use std::alloc::{AllocError, Global};

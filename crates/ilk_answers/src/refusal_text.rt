@@ -1,18 +1,12 @@
+//! The line that a refusal prints, and its parts.
+
 ghost use Rattle.std.specs.Prelude.{◌≡◌, ◌++◌, IfOk, codes, string_bytes};
 ghost use Rattle.ilk_answers.specs.Refusal.{form_name, place_text, broken_places, entry_text, refusal_line, refused_at};
 
-use ilk_net_read::{Form, FormFault, Place};
+use crate::Refusal;
+use ilk_net_read::{Form, Place};
 use ilk_plant::{Broken, Worded};
 use std::alloc::{AllocError, Global};
-
-/// Why a configuration is refused.
-#[derive(Clone, Copy, PartialEq, Eq, Debug)]
-pub enum Refusal {
-    /// A rule of the form is broken.
-    Form(FormFault),
-    /// A rule of the network or of the table of routes is broken.
-    Rule(Broken),
-}
 
 // The name of a rule of the form.
 fn form_name(form: Form) -> &'static str
