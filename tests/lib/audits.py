@@ -7,6 +7,7 @@ import threading
 
 import exported
 import mutations
+import twins
 
 STATUS_OF = {"accepted": 0, "rejected": 6}
 SHOWN_BYTES = 120
@@ -17,11 +18,15 @@ class AuditError(Exception):
 
 
 class Audit:
-    """A configuration with its certificate, in a folder."""
+    """A configuration with its certificate, in a folder. Where a judge is named, the compiled twin of
+    certificate.py, that says what has to be answered."""
 
-    def __init__(self, program, conf, folder):
+    def __init__(self, program, conf, folder, judge=None):
         self.program, self.conf, self.folder = program, conf, folder
         self.formula_of = functools.lru_cache(None)(exported.formulas_of(program, conf, "strict"))
+        self.twin = judge and twins.CertificateTwin(
+            judge, folder, lambda kind, number: exported.text_of(program, conf, "strict", kind, number))
+        (folder / "plant").write_bytes(conf)
         done = self.call("verify", folder / "certificate")
         if done.returncode != 0:
             raise AuditError(f"verify ended with {done.returncode}: {done.stdout!r} {done.stderr!r}")
@@ -36,15 +41,33 @@ class Audit:
         """What has to be answered to a text."""
         return mutations.answer(self.certificate, text, self.formula_of)
 
-    def answer(self, text):
-        """What the program answers to a text: the line, or what there is in its place."""
-        path = self.folder / f"changed-{os.getpid()}-{threading.get_ident()}"
+    def file_of(self, text, number=0):
+        """A file with a text, of this number among those of this thread."""
+        path = self.folder / f"changed-{os.getpid()}-{threading.get_ident()}-{number}"
         path.write_bytes(text)
-        done = self.call("audit", path)
+        return path
+
+    def answer(self, text):
+        """What the program answers to a text."""
+        return self.answer_to(self.file_of(text))
+
+    def answer_to(self, path):
+        """What the program answers to a file: the line, or what there is in its place."""
+        with open(self.folder / "plant", "rb") as given, open(path.with_name(f"{path.name}-errors"), "w+b") as told:
+            done = subprocess.run([str(self.program), "audit", "--cert", str(path)], stdin=given,
+                                  stdout=subprocess.PIPE, stderr=told)
+            told.seek(0)
+            errors = told.read()
         said = done.stdout.decode(errors="replace")
-        if done.stderr or done.returncode != STATUS_OF.get(said.partition(" ")[0]) or said[-1:] != "\n":
-            return f"status {done.returncode}, {said!r} and {done.stderr!r}"
+        if errors or done.returncode != STATUS_OF.get(said.partition(" ")[0]) or said[-1:] != "\n":
+            return f"status {done.returncode}, {said!r} and {errors!r}"
         return said[:-1]
+
+    def judged(self, texts):
+        """What has to be answered to each of some texts, and what the program answers."""
+        paths = [self.file_of(text, number) for number, text in enumerate(texts)]
+        wanted = self.twin.audited(paths) if self.twin else map(self.wanted, texts)
+        return zip(wanted, map(self.answer_to, paths))
 
     def fault(self, text, wanted, got):
         """A sentence of a wrong answer, with what was changed."""

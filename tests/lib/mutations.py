@@ -12,6 +12,7 @@ import certificate
 
 BYTES = b"0123456789 -\n\r\tqsex\x00\xff"
 NAMED_CUTS = 100
+NUMBER = re.compile(rb"[0-9]+")
 
 
 def queries(lines):
@@ -31,12 +32,19 @@ def put(lines, first, after, *new):
     return b"".join(line + b"\n" for line in [*lines[:first], *new, *lines[after:]])
 
 
+def number_somewhere(text, chance):
+    """A number of a text, that in which a place by chance lies, or the next."""
+    at = chance.randrange(len(text))
+    while at > 0 and text[at - 1:at].isdigit():
+        at -= 1
+    return NUMBER.search(text, at) or NUMBER.search(text)
+
+
 def number_changed(text, chance):
     """A number somewhere is another one."""
-    numbers = list(re.finditer(rb"[0-9]+", text))
-    at = chance.choice(numbers)
+    at = number_somewhere(text, chance)
     value = int(at[0]) + chance.choice([-10, -2, -1, 1, 2, 10])
-    new = chance.choice([value, int(chance.choice(numbers)[0]), 0, 2 ** 64, -int(at[0])])
+    new = chance.choice([value, int(number_somewhere(text, chance)[0]), 0, 2 ** 64, -int(at[0])])
     return text[:at.start()] + str(new).encode() + text[at.end():]
 
 

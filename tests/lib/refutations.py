@@ -5,6 +5,7 @@ formula, and that is one that `irv export` prints.
 """
 
 import functools
+import io
 import os
 import random
 import subprocess
@@ -12,11 +13,13 @@ import threading
 
 import exported
 import rup
+import twins
 
 OTHER_WORDS = [b"1", b"-1", b"2", b"-7", b"d", b"x", b"01", b"-0", b"+1", b"99999999",
                b"18446744073709551617"]
 STATUS_OF = {"refuted": 0, "refused": 5, "rejected": 6}
 LONGEST = 67108864      # bytes that rup reads
+SHORT = 20000           # bytes of a text of which Python is asked beside its twin
 
 
 def items_of(text):
@@ -31,7 +34,7 @@ def text_of(items):
 
 def additions_of(text):
     """A solver's text without the lines that only delete: they add nothing, and may be half of it."""
-    return b"".join(line for line in text.splitlines(keepends=True) if not line.startswith(b"d"))
+    return b"".join(line for line in io.BytesIO(text) if not line.startswith(b"d"))
 
 
 def steps_text(steps):
@@ -124,15 +127,22 @@ def changes(text, count, seed):
 
 
 class Refutations:
-    """The queries of a configuration under free columns, in a folder."""
+    """The queries of a configuration under free columns, in a folder. Where a judge is named, the compiled
+    twin of rup.py, that says what has to be answered."""
 
-    def __init__(self, program, conf, folder):
+    def __init__(self, program, conf, folder, judge=None):
         self.program, self.conf, self.folder = program, conf, folder
         self.formula_of = functools.lru_cache(None)(exported.formulas_of(program, conf, "free"))
+        self.twin = judge and twins.RupTwin(
+            judge, folder, lambda kind, number: exported.text_of(program, conf, "free", kind, number))
 
     def wanted(self, kind, number, text, known=0):
         """What has to be answered to a text."""
-        return rup.answer(f"{kind} {number}", *self.formula_of(kind, number), text, known)
+        by_twin = self.twin and self.twin.answer(kind, number, text)
+        if by_twin and len(text) > SHORT:
+            return by_twin
+        found = rup.answer(f"{kind} {number}", *self.formula_of(kind, number), text, known)
+        return found if by_twin in (None, found) else f"{found} by Python, and by its twin {by_twin}"
 
     def answer(self, kind, number, text):
         """What the program answers to a text: the line, or what there is in its place."""

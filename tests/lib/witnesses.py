@@ -6,13 +6,16 @@ import re
 
 MAP = "docs/ARCHITECTURE.md"
 SPAN = re.compile(r"``? ?(.+?) ?``?(?!`)")
-# Where a thing may be named: code, definitions, proofs, tools, tests.
+# Where a thing may be named: code, definitions, proofs, tools, tests, documents.
 SOURCES = ("crates/*/src/**/*.rt", "crates/*/specs/**/*.antt", "crates/*/proofs/**/*.antt", "tools/**/*",
-           "tests/**/*", "irv")
-# What isn't asked of each list: rt writes the first, and the page says of the others once that they come
-# with each change. tests/cases has what is tried, and the last two are lists of what all files have.
-APART = re.compile(r"/declared/|^tests/cases/|__pycache__|/lib/witnesses\.py$|^tests/docs$|"
-                   r"^tests/(?:twice\.list|walls\.counts)$|\.(?:md|json)$")
+           "tests/**/*", "irv", "*.md", "docs/*.md", "examples/*.md")
+# What isn't asked of each list: rt writes the first; tests/cases has what is tried; two are lists of what
+# all files have; and of the last, which are documents, the page says once that they come with each change.
+APART = re.compile(r"/declared/|^tests/cases/|__pycache__|/lib/witnesses\.py$|^tests/docs$|\.json$|"
+                   r"^tests/(?:twice\.list|walls\.counts)$|"
+                   r"^(?:README|CHANGELOG)\.md$|^docs/(?:ARCHITECTURE|PROVED|TRACEABILITY)\.md$")
+RULES = "A rule of the network (N), of the table (R), of the columns (C)"
+
 
 def word_of(event):
     """What names an event: its variant, the calls that end in its name, and its word."""
@@ -21,13 +24,19 @@ def word_of(event):
 
 # The heading of a list; the witness; words of which each file that names it has one; and what names it.
 WITNESSES = (
-    ("A rule of the network (N), of the table (R), of the columns (C)", "the rule C8", ("C8",), r"\bC8\b"),
+    (RULES, "the rule N8", ("N8",), r"\bN8\b"),
+    (RULES, "the rule R8", ("R8",), r"\bR8\b"),
+    (RULES, "the rule C8", ("C8",), r"\bC8\b"),
     ("An event", "the event cancel", ("ancel",), word_of("cancel")),
     ("An event", "the event settle", ("ettle",), word_of("settle")),
     ("A family of the invariant", "the family V9", ("9",), r"[Vv]9"),
     ("A command, that takes options that there are", "the command drive", ("rive",), r"\bDrive\b|[\"']drive\b"),
     ("Another value for a limit", "the depth", ("16", "MAX_DEPTH"),
      r"MAX_DEPTH|(?<=\w )[≤>] 16\b|\b(?:nat_le|le-leb|leb-true) \S+ 16\b|\b(?:at most|1 to) 16\b"),
+    ("A new limit, of what a route lists", "the most protecting boards", ("MAX_PROTECTING_BOARDS",),
+     r"\bMAX_PROTECTING_BOARDS\b"),
+    ("A member of a route", "the protecting points", ("protecting_points",),
+     r"(?<!route\.)\bprotecting_points\"? ?[=:](?!=)"),
     ("A version of the configuration", "version 2", ("Second", "SECOND", "version"),
      r"\bVersion\b.*\bSecond\b|\bSECOND\b(?! ?[,)=])|\bversion\W{1,4}2\b(?!>)"),
 )
@@ -48,13 +57,14 @@ def texts_of(root):
 
 
 def named_in(text, places):
-    """The files and folders that a list names; `places` gives for a line what finds them."""
+    """The files and folders that a list names; `places` gives for a line what finds them. A folder has a
+    slash, without which it is a crate that is spoken of."""
     found = set()
     for line in text.splitlines():
         line_places = places()
         for span in SPAN.findall(line):
             if re.fullmatch(r"[\w.*/-]+", span):
-                found.update(line_places.all(span))
+                found.update(path for path in line_places.all(span) if "/" in span or path.is_file())
     return found
 
 
