@@ -1,6 +1,8 @@
-"""Hundreds of configurations, judged one after the other by plain calls, and then together: how the times
-compare, that a second call judges none, and that after one change one is judged. It isn't for the gate: its
-figures are those of a machine that has nothing else to do.
+"""Hundreds of configurations, judged by plain calls one after the other and four at once, and then together: how
+the times compare, that a second call judges none, and that after one change one is judged. It isn't for the
+gate: its figures are those of a machine that has nothing else to do. Where something else is at work, four at
+once get no four times as much of the machine as one: then what plain calls take four at once, and the seconds
+of the processors, tell more than the clock.
 
 The configurations are the same at each run: the examples, a station of tests/plants, made stations, lines of
 the trials of the page, plain and with protection that is put by chance; and of each one with a single
@@ -8,8 +10,10 @@ fault. Of each is asked what breaks the rules, the verdict under free columns, w
 the audit of its certificate.
 """
 
+import concurrent.futures
 import copy
 import json
+import os
 import random
 import resource
 import subprocess
@@ -25,7 +29,7 @@ from chance_faults import FAULTS, with_fault, with_protection  # noqa: E402
 from conf import stations_text  # noqa: E402
 from lines import NETWORKS, with_routes  # noqa: E402
 
-OF_VERIFY = ("--columns", "free", "--conflicts", "20000")
+OF_VERIFY = ("--columns", "free", "--conflicts", "2000")
 WANTED = ("check", " ".join(("verify", *OF_VERIFY)), "audit")
 CORES = 4
 MOST_STATIONS = 12
@@ -64,13 +68,13 @@ def with_a_fault(name, document):
 
 def fill(room, count):
     """Writes so many configurations, half of them with faults."""
-    made = 0
+    made = set()
     for name, document in right_ones(str(room.true_program)):
         for title, value in ((name, document), (f"{name}, a fault", with_a_fault(name, document))):
-            if value is not None and made < count:
+            if value is not None and len(made) < count:
                 (room.folder / f"{title}.json").write_text(json.dumps(value), encoding="ascii")
-                made += 1
-        if made == count:
+                made.add(title)
+        if len(made) == count:
             return
 
 
@@ -80,17 +84,23 @@ def used():
     return time.monotonic(), children.ru_utime + children.ru_stime
 
 
-def alone(room):
-    """Judges each by plain calls, one after the other; answers what it took."""
-    begin, certificate = used(), str(room.room / "certificate")
-    for path in sorted(room.folder.glob("*.json")):
-        for words in (["check"], ["verify", *OF_VERIFY, "--cert", certificate],
-                      ["audit", "--columns", "free", "--cert", certificate]):
-            with open(path, "rb") as given:
-                done = subprocess.run([str(room.true_program), *words], stdin=given, check=False,
-                                      stdout=subprocess.PIPE)
-            if words[0] == "verify" and not done.stdout.startswith(b"safe "):
-                break
+def by_plain_calls(room, path):
+    """Judges one by plain calls."""
+    certificate = str(room.room / f"{path.stem}.certificate")
+    for words in (["check"], ["verify", *OF_VERIFY, "--cert", certificate],
+                  ["audit", "--columns", "free", "--cert", certificate]):
+        with open(path, "rb") as given:
+            done = subprocess.run([str(room.true_program), *words], stdin=given, check=False,
+                                  stdout=subprocess.PIPE)
+        if words[0] == "verify" and not done.stdout.startswith(b"safe "):
+            break
+
+
+def plain(room, at_once):
+    """Judges each by plain calls, so many at once; answers what it took."""
+    begin = used()
+    with concurrent.futures.ThreadPoolExecutor(at_once) as pool:
+        list(pool.map(lambda path: by_plain_calls(room, path), sorted(room.folder.glob("*.json"))))
     return [now - before for now, before in zip(used(), begin)]
 
 
@@ -105,12 +115,19 @@ def together(room):
 def measure(room, count):
     """Makes the trial; answers the faults."""
     fill(room, count)
-    one = alone(room)
-    print(f"{count} configurations: alone {one[0]:.1f} s, {one[1]:.1f} s of the processors", flush=True)
+    found = len(list(room.folder.glob("*.json")))
+    yield from differs("configurations", found, count)
+    print(f"{found} configurations; {os.getloadavg()[0]:.1f} processes are at work beside", flush=True)
+    one = plain(room, 1)
+    print(f"plain calls, one after the other: {one[0]:.1f} s, {one[1]:.1f} s of the processors", flush=True)
+    best = plain(room, CORES)
+    print(f"plain calls, {CORES} at once: {best[0]:.1f} s, {best[1]:.1f} s of the processors: "
+          f"{best[0] * CORES / one[0]:.2f} times the sum over {CORES}", flush=True)
     done, all_ = together(room)
     ratio = all_[0] * CORES / one[0]
     print(f"together {all_[0]:.1f} s, {all_[1]:.1f} s of the processors: {ratio:.2f} times the sum over {CORES}, "
-          f"and {all_[1] / one[1]:.2f} times the processors' seconds\n{done.stdout.strip()}", flush=True)
+          f"{all_[0] / best[0]:.2f} times plain calls, and {all_[1] / one[1]:.2f} times their processors' seconds\n"
+          f"{done.stdout.strip()}", flush=True)
     if ratio >= MOST_RATIO:
         yield f"{ratio:.2f} times the sum of the times over {CORES}, and less than {MOST_RATIO} is wanted"
     again, took = together(room)

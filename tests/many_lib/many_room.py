@@ -20,6 +20,7 @@ case "$1:$(cat '{wish}')" in
         exit 0 ;;
     verify:empty) exit 1 ;;
     verify:orphan) kill -9 $PPID; sleep 60 ;;
+    audit:worker) kill -9 "$(cut -d ' ' -f 4 /proc/$PPID/stat)"; sleep 60 ;;
 esac
 exec '{program}' "$@"
 """

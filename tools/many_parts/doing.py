@@ -2,6 +2,7 @@
 refuting.py. Each answers a value for its answer: `line`, what is told; `is_good`; what it took; and
 `files`, made in the room of the job, by what they are."""
 
+import os
 import sys
 from pathlib import Path
 
@@ -11,14 +12,19 @@ from told import NoAnswer, why_no_answer
 
 TOP = Path(__file__).resolve().parent.parent.parent
 PAGE_TOOL = TOP / "tools/page"
+# of each file that was seen to have its sum the length and the times that it had then
+SEEN = {}
 NOTHING_TOOK = {"seconds": 0.0, "processor_seconds": 0.0, "memory_kib": 0}
 
 
 def handed(store, sum_):
-    """What was handed over, once more seen to have its sum."""
+    """What was handed over, seen to have its sum; once more where it isn't as it was when that was seen."""
     path = store.given(sum_)
-    if sum_of_file(path) != sum_:
+    about = os.stat(path)
+    mark = about.st_dev, about.st_ino, about.st_size, about.st_mtime_ns, about.st_ctime_ns
+    if SEEN.get(path) != mark and sum_of_file(path) != sum_:
         raise NoAnswer(f"{path} has another sum than its name says")
+    SEEN[path] = mark
     return path
 
 

@@ -14,7 +14,7 @@ CONTRADICTION, HAZARD, NO_ANSWER, REFUSED, BROKEN, OPEN, NOTHING, GOOD = range(8
 STANDINGS = ("contradiction", "hazard", "no answer", "refused", "not shown", "not shown", "left out", "good")
 BY_WORD = {"unsafe": HAZARD, "hazard": HAZARD, "refused": REFUSED, "breach": BROKEN, "not inductive": BROKEN}
 SAYS_SAFE = ("check", "verify", "audit", "safe_by")
-UNTOLD = "it ended without a word, as what is killed does"
+UNTOLD = "it wasn't begun"
 
 
 def sizes_of(data):

@@ -8,6 +8,7 @@ import shutil
 import signal
 import subprocess
 import sys
+import time
 from pathlib import Path
 
 from measuring import end_with_parent
@@ -16,22 +17,23 @@ from refusing import Refused
 ENGINE = "snakemake"
 SNAKEFILE = Path(__file__).resolve().parent / "Snakefile"
 LOOKS = 10              # seconds between two looks at how far it is
+SEEN_WITHIN = 60        # seconds in which what another machine wrote is seen here
 MISSING = ("Snakemake isn't here, which has the work done: install it, as by "
            "`apt-get install --no-install-recommends snakemake`")
 
 
-def find_engine():
-    """Where Snakemake is; where it isn't there, that is refused."""
-    program = shutil.which(ENGINE)
-    if program is None:
+def need_engine():
+    """Sees that Snakemake is there."""
+    if shutil.which(ENGINE) is None:
         raise Refused(MISSING)
-    return program
 
 
-def version_of(program):
-    """Snakemake's name and version."""
-    done = subprocess.run([program, "--version"], stdin=subprocess.DEVNULL, capture_output=True, check=False)
-    return f"{ENGINE} {done.stdout.decode(errors='replace').strip() or 'unknown'}"
+def version_in(store):
+    """Snakemake's name and version, which it wrote down when it last had something to do here."""
+    try:
+        return f"{ENGINE} {(store.top / 'engine').read_text(encoding='utf-8').strip()}"
+    except (OSError, ValueError):
+        return f"{ENGINE} of an unknown version"
 
 
 @contextlib.contextmanager
@@ -48,17 +50,19 @@ def alone(store):
 
 
 def sweep(store, jobs):
-    """Takes away what stopped works left, and each answer that isn't whole; answers the jobs that have none."""
-    for left in store.making.iterdir():
+    """Takes away what stopped works left, and each answer that isn't whole; answers the jobs that have none, and
+    the keys of those of them that were begun before."""
+    for left in (*store.making.iterdir(), *store.lots.iterdir()):
         if left.is_dir() and not left.is_symlink():
             shutil.rmtree(left, ignore_errors=True)
         else:
             left.unlink(missing_ok=True)
     missing = [job for job in jobs.values() if store.answer(job) is None]
+    tried = {job["key"] for job in missing if store.failure(job) is not None}
     for job in missing:
         store.answer_file(job).unlink(missing_ok=True)
         store.failure_file(job["key"]).unlink(missing_ok=True)
-    return missing
+    return missing, tried
 
 
 def words_of(store, handed_on):
@@ -81,16 +85,33 @@ def watch(child, store, missing):
                 last = done
 
 
+def put_targets(store, lots, apart):
+    """Keeps the lots, and the files for which Snakemake is asked."""
+    ends = [store.lot_end(store.put_lot(lot)) for lot in lots] + [store.answer_file(job) for job in apart]
+    targets = [os.path.relpath(end, store.top) for end in ends]
+    store.put(store.top / "targets.json", json.dumps(targets).encode(), is_settled=False)
+
+
+def see_lots(store):
+    """Waits until the answers of the lots that came to their ends are seen: a file system that many machines share
+    may show a file late, and Snakemake has seen no more than the ends."""
+    end = time.monotonic() + SEEN_WITHIN
+    keys = {key for lot in store.lots.glob("*.done") for key in store.lot(lot.stem)}
+    while any(store.answer(store.job(key)) is None for key in keys) and time.monotonic() < end:
+        time.sleep(1)
+
+
 def do_all(store, missing, handed_on, lock):
-    """Has these jobs done; answers Snakemake's status. What it prints goes to a file."""
-    targets = [os.path.relpath(store.answer_file(job), store.top) for job in missing]
-    store.put(store.top / "targets.json", json.dumps(targets).encode())
+    """Has Snakemake do what it was asked for, by which these jobs get their answers; answers its status. What it
+    prints goes to a file."""
     with open(store.top / "snakemake.log", "wb") as log:
         child = subprocess.Popen(words_of(store, handed_on), stdin=subprocess.DEVNULL, stdout=log, stderr=log,
                                  pass_fds=[lock.fileno()],
                                  preexec_fn=lambda: end_with_parent(signal.SIGTERM))
         try:
-            return watch(child, store, missing)
+            status = watch(child, store, missing)
+            see_lots(store)
+            return status
         except BaseException:
             child.send_signal(signal.SIGTERM)
             child.wait()

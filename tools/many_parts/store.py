@@ -1,8 +1,10 @@
 """Where the work is kept: a folder in which each thing has the sum of what it is made of as its name.
 
 Nothing in it is ever half written: a file is written under another name, and takes its own when all
-of it is on the disk. An answer is the last file of its work that takes its name, and tells the sums
-of the others; so a work that was stopped has no answer.
+of it is there. An answer is the last file of its work that takes its name, and tells the sums of the
+others; so a work that was stopped has no answer. An answer and its files are on the disk before they
+take their names. What is seen to be right before it is used again, since its bytes are compared or its
+sum is, isn't waited for: what was handed over, and what says which jobs and lots there are.
 """
 
 import hashlib
@@ -55,29 +57,32 @@ class Store:
         self.top = Path(top)
         self.making = self.top / "making"
         self.failures = self.top / "failures"
+        self.lots = self.top / "lots"
 
     def prepare(self):
         """Makes the folders that are always there."""
-        for folder in (self.making, self.failures, self.top / "jobs", self.top / "given"):
+        for folder in (self.making, self.failures, self.lots, self.top / "jobs", self.top / "given"):
             folder.mkdir(parents=True, exist_ok=True)
 
-    def put(self, path, data):
-        """Writes a file whole, or not at all; answers where it stands."""
+    def put(self, path, data, is_settled=True):
+        """Writes a file whole, or not at all, and where that is wanted sees that it is on the disk; answers where
+        it stands."""
         path.parent.mkdir(parents=True, exist_ok=True)
         handle, name = tempfile.mkstemp(dir=self.making)
         try:
             with os.fdopen(handle, "wb") as file:
                 file.write(data)
                 os.fchmod(handle, usual_rights())
-            self.take_in(Path(name), path)
+            self.take_in(Path(name), path, is_settled)
         except BaseException:
             Path(name).unlink(missing_ok=True)
             raise
         return path
 
-    def take_in(self, made, path):
+    def take_in(self, made, path, is_settled=True):
         """Gives a file that was made in this folder its name."""
-        settle(made)
+        if is_settled:
+            settle(made)
         path.parent.mkdir(parents=True, exist_ok=True)
         os.replace(made, path)
 
@@ -90,7 +95,7 @@ class Store:
         sum_ = sum_of(data)
         path = self.given(sum_)
         if not path.is_file() or sum_of_file(path) != sum_:
-            self.put(path, data)
+            self.put(path, data, is_settled=False)
         return sum_
 
     def job_file(self, key):
@@ -119,6 +124,24 @@ class Store:
         except (OSError, ValueError, KeyError, TypeError):
             return None
         return answer if whole else None
+
+    def lot_file(self, lot):
+        """The file that has the keys of a lot's jobs."""
+        return self.lots / f"{lot}.json"
+
+    def lot_end(self, lot):
+        """The file that is there when each job of a lot has its answer."""
+        return self.lots / f"{lot}.done"
+
+    def put_lot(self, jobs):
+        """Keeps a lot; answers its name."""
+        keys = text_of([job["key"] for job in jobs])
+        self.put(self.lot_file(sum_of(keys)), keys, is_settled=False)
+        return sum_of(keys)
+
+    def lot(self, lot):
+        """The keys of a lot's jobs."""
+        return json.loads(self.lot_file(lot).read_bytes())
 
     def failure_file(self, key):
         """The file that says why a job has no answer."""
