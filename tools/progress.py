@@ -4,68 +4,55 @@
     rt ci | tools/progress.py     hands its input on, and says it after each crate that `rt` proves
     tools/progress.py --renew     writes tools/crate_seconds.txt by what the last proofs here took
 
-tools/crate_seconds.txt has how many seconds the proof of each crate took on the clock, beside the
-others; what a crate takes that isn't on the list is reckoned by the bytes of its code.
-`tools/side_by_side.py` notes what each proof from nothing takes in the crate's own `out/seconds`.
+tools/crate_seconds.txt has how many seconds the proof of each crate takes; what a crate takes that isn't
+on the list is reckoned by the bytes of its code. What proofs take is noted in `out/seconds`.
 
-What is left is told by these seconds: they are shared among as many proofs as go on at once, but it
-takes no less than the longest chain of crates, each of which stands on the one before; and the pace
-is that of what is done.
+`rt ci` says when a crate is proved; that a proof began is seen by its process. What is left is told by
+the listed seconds: they are shared among as many proofs as go on at once, but it takes no less than the
+longest chain of crates, each of which stands on the one before; and the pace is that of what is done.
+What an earlier run proved counts as done, and for no pace.
 """
 
 import os
 import re
 import sys
+import threading
 import time
 from pathlib import Path
 
-TOP = Path(__file__).resolve().parent.parent
-CRATES = TOP / "crates"
+sys.dont_write_bytecode = True
+
+from bodies.libraries import TOP, Crates  # noqa: E402
+
 LISTED = TOP / "tools/crate_seconds.txt"
-REMARK = """# How many seconds the proof of each crate takes on the clock, with others beside it, on four
-# processors: the progress of a build is told by it, and its order. `tools/progress.py --renew` writes
-# it by what the last build took.
+NOTED = TOP / "out/seconds"
+REMARK = """# How many seconds the proof of each crate takes, others beside it, on four processors: the progress of a
+# build is told by it. `tools/progress.py --renew` writes it by what the last proofs here took.
 """
 # what a crate takes that isn't listed: so many seconds, and one for so many bytes of its code
 LEAST_SECONDS, BYTES_A_SECOND = 20.0, 250
-PROVED = re.compile(rb"^rt: (\w+) proved$")
+PROVED = re.compile(rb"^rt: (\w+) (proved|is kept: .*)$")
+# how many seconds lie between two looks at what goes on
+EACH = 1.0
 
 
-def lines():
-    """The line of each crate in crates.txt: its name, and what it names."""
-    text = (TOP / "crates.txt").read_text()
-    return dict(line.split(":") for line in text.splitlines() if ":" in line and line[0] != "#")
-
-
-def below(crate):
-    """Each crate of this repository that `crate` stands on, with all those that it stands on."""
-    listed, found = lines(), {}
-
-    def enter(name):
-        if name not in found:
-            lower = [low for low in listed[name].split() if low in listed]
-            found[name] = set(lower).union(*map(enter, lower))
-        return found[name]
-
-    return {name: enter(name) for name in enter(crate)}
-
-
-def listed_seconds():
-    """The list, as it is kept."""
-    text = LISTED.read_text() if LISTED.is_file() else ""
+def listed_seconds(file=LISTED):
+    """The list, as it is kept, or what was noted."""
+    text = file.read_text() if file.is_file() else ""
     words = (line.split() for line in text.splitlines() if line and line[0] != "#")
     return {name: float(seconds) for name, seconds in words}
 
 
 def seconds_of(names):
     """How many seconds the proof of each of these crates takes, as far as is known."""
-    listed = listed_seconds()
-    return {name: listed.get(name) or LEAST_SECONDS + size(name) / BYTES_A_SECOND for name in names}
+    listed, crates = listed_seconds(), Crates()
+    return {name: listed.get(name) or LEAST_SECONDS + size(crates.folder(name)) / BYTES_A_SECOND
+            for name in names}
 
 
-def size(name):
-    """The bytes of a crate's code."""
-    return sum(file.stat().st_size for file in (CRATES / name / "src").rglob("*.rt"))
+def size(folder):
+    """The bytes of the code of a crate in this folder."""
+    return sum(file.stat().st_size for file in (folder / "src").rglob("*.rt"))
 
 
 def chains(crates, seconds):
@@ -97,13 +84,19 @@ class Progress:
         self.whole = self.left()
 
     def begin(self, name):
-        """The proof of a crate begins."""
-        self.begun[name] = self.clock()
+        """The proof of a crate goes on."""
+        self.begun.setdefault(name, self.clock())
 
     def end(self, name):
-        """A crate is proved; what it took."""
-        self.taken[name] = self.clock() - self.begun.get(name, self.beginning)
+        """A crate is proved: what it took is known where it was seen to begin."""
+        self.taken[name] = self.clock() - self.begun[name] if name in self.begun else None
         return self.taken[name]
+
+    def keep(self, name):
+        """A crate was proved before, which takes no time, and so says nothing of the pace."""
+        left = self.left()
+        self.taken[name] = None
+        self.whole -= left - self.left()
 
     def left(self):
         """How many seconds are left by the list."""
@@ -147,36 +140,84 @@ class Teller:
             self.sink.flush()
             self.shown = True
 
-    def end(self, name):
-        """A crate is proved."""
-        seconds = self.progress.end(name)
+    def end(self, name, is_kept):
+        """A crate is proved, or was before."""
+        if is_kept:
+            self.progress.keep(name)
+            how = " is kept"
+        else:
+            seconds = self.progress.end(name)
+            how = "" if seconds is None else f" took {spoken(seconds)}"
         if self.is_watched:
             self.renew()
         else:
-            self.say(f"{name} took {spoken(seconds)}: {self.progress.told()}")
+            self.say(f"{name}{how}: {self.progress.told()}")
+
+
+def at_work(folder, processes=Path("/proc")):
+    """The crates in this folder whose proofs go on, as the processes of the prover show them."""
+    for process in processes.glob("[0-9]*"):
+        try:
+            if (process / "comm").read_text() != "rattle\n":
+                continue
+            place = Path(os.readlink(process / "cwd"))
+            words = (process / "cmdline").read_bytes().split(b"\0")
+        except OSError:
+            continue
+        if place.parent == folder and b"--test" not in words:
+            yield place.name
+
+
+def follow(source, crates, folder, hand_on, sink=sys.stderr):
+    """Reads what `rt ci` prints in this folder of crates, hands each line on, and tells the progress."""
+    teller = Teller(Progress(crates, len(os.sched_getaffinity(0))), sink)
+    lock, ended = threading.Lock(), threading.Event()
+
+    def watch():
+        while not ended.wait(EACH):
+            with lock:
+                for name in {*at_work(folder)} & crates.keys():
+                    teller.progress.begin(name)
+                teller.renew()
+
+    watching = threading.Thread(target=watch, daemon=True)
+    watching.start()
+    for line in source:
+        hand_on(line)
+        found = PROVED.match(line)
+        if found and (name := found[1].decode()) in crates:
+            with lock:
+                teller.end(name, is_kept=found[2] != b"proved")
+    ended.set()
+    watching.join()
+    teller.say()
+    note(teller.progress.taken)
+
+
+def note(taken):
+    """Notes what the proofs took that were seen from their beginning on."""
+    new = {name: seconds for name, seconds in taken.items() if seconds is not None}
+    known = {**listed_seconds(NOTED), **new}
+    if not new:
+        return
+    try:
+        NOTED.parent.mkdir(exist_ok=True)
+        NOTED.write_text("".join(f"{name} {seconds:.1f}\n" for name, seconds in known.items()))
+    except OSError:
+        pass
 
 
 def renew():
-    """Writes the list anew, by what the last proofs took; a crate that wasn't proved keeps its own."""
-    known = listed_seconds()
-    for name in lines():
-        note = CRATES / name / "out/seconds"
-        if note.is_file() and (told := note.read_text()):
-            known[name] = float(told)
-    told = "".join(f"{name} {round(known[name])}\n" for name in lines() if name in known)
-    LISTED.write_text(REMARK + told)
+    """Writes the list anew, by what was noted; a crate of which nothing was keeps its own."""
+    known = {**listed_seconds(), **listed_seconds(NOTED)}
+    LISTED.write_text(REMARK + "".join(f"{name} {round(known[name])}\n" for name in Crates().rows
+                                       if name in known))
 
 
-def hand_on(source, sink, teller):
-    """Hands on each line, and tells the progress after each crate."""
-    for line in source:
-        sink.write(line)
-        sink.flush()
-        found = PROVED.match(line)
-        name = found and found[1].decode()
-        if name in teller.progress.crates:
-            teller.progress.end(name)
-            teller.say(teller.progress.told())
+def hand_on(line):
+    """Hands a line on."""
+    sys.stdout.buffer.write(line)
+    sys.stdout.buffer.flush()
 
 
 def main(words):
@@ -187,9 +228,9 @@ def main(words):
         print("usage: tools/progress.py [--renew]", file=sys.stderr)
         return 2
     else:
-        crates = {name: set(below(name)) for name in lines()}
-        teller = Teller(Progress(crates, len(os.sched_getaffinity(0))))
-        hand_on(sys.stdin.buffer, sys.stdout.buffer, teller)
+        every = Crates()
+        crates = {name: {*every.below(name)} for name in every.rows}
+        follow(sys.stdin.buffer, crates, TOP / "crates", hand_on)
     return 0
 
 

@@ -1,9 +1,13 @@
 """Trials of releases, in a small repository."""
 
+import hashlib
+import os
+import shutil
 import subprocess
 import tarfile
+import tempfile
 
-from small_repository import LOG, git, release, repository
+from small_repository import LOG, called, git, release, repository
 
 RECORD = ("| `tests/first` | 3 | Tries the first thing. |", "| `rt ci` | 40 | ",
           "| `tests/second --self-check` | 5 | The check itself: Tries the second thing, and what \\| is. |",
@@ -82,6 +86,8 @@ def changes():
         "the prover tells of 5 axioms, and lists 4": changed("listed", "  libc::read   reached\n", ""),
         "lists 4 axioms here, and the log of the gate tells of 5": lambda top: (
             changed("listed", "  libc::read   reached\n", "")(top), changed("listed", "axioms=5", "axioms=4")(top)),
+        "the log of the gate has no number of axioms of the program": changed(
+            "gate.log", "logic=proved functions=6 axioms=5 sum=0\n", "rt: irv is kept\n"),
         "or of others": changed("listed", "libc::read ", "libc::rand "),
         "didn't find the program proved over": changed("listed", "logic=proved", "logic=not-proved"),
         "crates/low/out has no library": lambda top: (top / "crates/low/out/rlib/low.rlib").rmdir(),
@@ -103,11 +109,25 @@ def trial_release_refused(_, __):
                 yield f"{why}: something is left"
 
 
+def can_hide():
+    """Whether what is kept can be hidden here from a build; that it can't is said."""
+    words = ["unshare", *(() if os.geteuid() == 0 else ("--user", "--map-root-user")), "--mount",
+             "mount", "-t", "tmpfs", "tmpfs", tempfile.gettempdir()]
+    can = shutil.which(words[0]) and subprocess.run(words, capture_output=True, check=False).returncode == 0
+    if not can:
+        print("no folder can be hidden here from a build: tests/same_bytes isn't tried")
+    return can
+
+
 def trial_same_bytes(_, __):
-    """tests/same_bytes finds builds with the same bytes the same and others not, and takes no folder in which
-    something else stands."""
+    """tests/same_bytes finds builds with the same bytes the same and others not, builds where nothing is seen of
+    what is kept, and takes no folder in which something else stands."""
+    if not can_hide():
+        return
     with repository() as top:
-        room = top.parent / "room"
+        room, kept = top.parent / "room", top.parent / "rattle-kept"
+        kept.mkdir()
+        (kept / "library").write_text("kept")
         done = same_bytes(top, room)
         if done.returncode != 1 or "1 passed, 1 failed" not in done.stdout:
             yield f"the program here is another one: {done}"
@@ -129,9 +149,42 @@ def trial_same_bytes(_, __):
             yield f"other bytes: {done}"
 
 
-def same_bytes(top, room):
+def trial_given_build(_, __):
+    """tests/same_bytes takes a build of the gate for one of its two where the gate passed over this tree, from
+    nothing, and the program is noted to be of these sources and to have these bytes; else it is refused."""
+    if not can_hide():
+        return
+    with repository() as top:
+        (top / "crates/irv/out/irv").write_text("")
+        note, log = top / "crates/irv/out/irv.built", top.parent / "gate.log"
+        total = hashlib.sha256(b"").hexdigest()
+        note.write_text(f"sources s0\nprogram {total}\ntoolchain kit 1\n")
+        words = ("--given", top, log)
+        for why, file, old, new in (
+                ("doesn't tell that every proof", log, "rt: ok; every proof", "rt: ok; some proof"),
+                ("the gate was begun over another tree", log, "begun, tree of git: ", "begun, tree of git: 0"),
+                ("isn't known to be built of the sources here", note, "sources s0", "sources s1"),
+                ("isn't known to be built of the sources here", note, f"program {total[:9]}", "program 0"),
+                ("isn't known to be built of the sources here", note, "toolchain kit 1", "toolchain kit 2")):
+            before = file.read_text()
+            assert old in before, old
+            file.write_text(before.replace(old, new))
+            done = same_bytes(top, top.parent / "room", *words)
+            file.write_text(before)
+            if done.returncode != 2 or why not in done.stderr or (top.parent / "room").exists():
+                yield f"{why}: {done}"
+        done = same_bytes(top, top.parent / "room", *words)
+        if done.returncode or "1 passed, 0 failed" not in done.stdout:
+            yield f"the same bytes: {done}"
+        if (top.parent / "room/a").exists() or not (top.parent / "room/another/longer-one").is_dir():
+            yield "not one is built, in the folder of the longer name"
+
+
+def same_bytes(top, room, *words):
     """What tests/same_bytes of the small repository says."""
-    return subprocess.run([top / "tests/same_bytes", room], capture_output=True, check=False, text=True)
+    done = called(top, top / "tests/same_bytes", room, *words)
+    done.stdout, done.stderr = done.stdout.decode(), done.stderr.decode()
+    return done
 
 
-TRIALS = (trial_release, trial_release_refused, trial_same_bytes)
+TRIALS = (trial_release, trial_release_refused, trial_same_bytes, trial_given_build)

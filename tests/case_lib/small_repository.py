@@ -31,6 +31,7 @@ axioms libc: libc::close, libc::open, libc::read, ... (4 of the 9 declared)
 axioms os: os::c::errno (1 of the 1 declared)
 logic=proved functions=6 axioms=5 sum=0
 7 passed, 0 failed
+rt: ok; every proof and must-fail edit was done in this run
 40 passed, 0 failed
 5 passed, 0 failed
 600 passed, 0 failed
@@ -56,11 +57,12 @@ LICENCES = """
 RT = """#!/bin/sh
 case $1 in doc) echo '{room}/kit/START-HERE.md' ;; version) echo 'kit 1' ;; esac
 """
-# a launcher whose build is the place where it stands, where the sources say so
+# a launcher whose build is the place where it stands, where the sources say so, and what is kept
 LAUNCHER = """#!/bin/sh
 case $1 in
-    --build) mkdir -p crates/irv/out; { cat crates/low/src/lib.rt; [ ! -s crates/low/src/lib.rt ] || pwd; } \
-        > crates/irv/out/irv ;;
+    --build) mkdir -p crates/irv/out
+        { cat crates/low/src/lib.rt; [ ! -s crates/low/src/lib.rt ] || pwd
+          cat "$(dirname "$(rt doc)")/../rattle-kept/"* || :; } > crates/irv/out/irv 2>/dev/null ;;
     --version) echo "program sha256 $(sha256sum < crates/irv/out/irv | cut -d ' ' -f 1)" ;;
     --sources) echo s0 ;;
 esac
@@ -137,8 +139,12 @@ def repository():
         yield top
 
 
+def called(top, *words):
+    """What came of a call with the pretended toolchain on the path."""
+    environment = {**os.environ, "PATH": f"{top.parent}/bin:{os.environ['PATH']}"}
+    return subprocess.run(words, capture_output=True, check=False, cwd=top.parent, env=environment)
+
+
 def release(top, *words, folder="made", log="gate.log"):
     """Makes a release."""
-    environment = {**os.environ, "PATH": f"{top.parent}/bin:{os.environ['PATH']}"}
-    return subprocess.run([top / "tools/release", folder, "--gate", log, *words], capture_output=True,
-                          check=False, cwd=top.parent, env=environment)
+    return called(top, top / "tools/release", folder, "--gate", log, *words)

@@ -1,4 +1,4 @@
-"""Trials of building: when, what is proved before, and what side by side."""
+"""Trials of building: when, what is proved, and what is shown of it."""
 
 import os
 import shutil
@@ -8,27 +8,36 @@ from concurrent.futures import ThreadPoolExecutor
 
 from copy_of import CRATES, call, environment
 
+# the call by which what the program stands on is proved, lowest first
+PROVING = "low beside middle high irv : ci"
+
+
+def has_built(calls):
+    """Whether these calls of the toolchain built the program."""
+    return any(line.endswith(": ci") for line in calls)
+
 
 def builds_once(top):
-    """The first call proves what the program stands on, lowest first, and no other; the next only runs."""
-    output, _, status, calls = call(top, "check", data=b"in")
+    """The first call proves the program and what it stands on, and no other; the next only runs."""
+    first = call(top, "check", data=b"in")
     again = call(top, "check", data=b"in")
-    return ((output, status) == (b"check\nin", 6)
-            and [name for name in calls if name != "beside: lib"]
-            == ["low: lib", "middle: lib", "high: lib", "irv: run"]
-            and "beside: lib" in calls[1:-1]
+    return ((first[0], first[2], first[3]) == (b"check\nin", 6, [PROVING])
             and again == (b"check\nin", b"", 6, []))
 
 
-def builds_side_by_side(top):
-    """Crates that don't stand on each other are proved at once, and what that makes is in their own
-    folders: their libraries, and what the next proof begins with."""
-    (top / "together").write_text("")
-    _, _, status, _ = call(top, "--build")
-    made = sorted(str(path.relative_to(top / "crates")) for path in top.glob("crates/*/out/*/*"))
-    names = ("beside", "high", "low", "middle")
-    return (status, made) == (0, [f"{name}/out/{file}" for name in names
-                                  for file in (f"incremental/{name}", f"rlib/{name}.rlib")])
+def builds_in_a_room(top):
+    """It is proved in a copy without wrong bodies and what was made of the crates, of which nothing is
+    left."""
+    (top / "look").write_text("")
+    for name in ("specs/Lib.antt", "must-fail/a.edit", "wrong-bodies/b.edit", "out/rlib/low.rlib"):
+        (top / "crates/low" / name).parent.mkdir(parents=True, exist_ok=True)
+        (top / "crates/low" / name).write_text("")
+    status = call(top, "--build")[2]
+    names = ("beside", "high", "irv", "low", "middle")
+    sources = [f"./crates/{name}/src/main.rt" for name in names]
+    seen = sorted(["./HANDLES", "./crates.txt", "./crates/low/specs/Lib.antt", *sources])
+    return ((status, (top / "seen").read_text().split()) == (0, seen)
+            and not list(top.glob("irv-proving-*")) and (top / "crates/low/out/rlib/low.rlib").exists())
 
 
 def builds_beside_itself(top):
@@ -42,7 +51,7 @@ def builds_beside_itself(top):
 def builds_alone(top):
     """With --build it builds, and prints nothing."""
     output, _, status, calls = call(top, "--build")
-    return (output, status, calls[-1]) == (b"", 0, "irv: run")
+    return (output, status, calls) == (b"", 0, [PROVING])
 
 
 def builds_what_changed(top):
@@ -61,7 +70,7 @@ def builds_what_changed(top):
     for change in changes:
         change()
         _, _, status, calls = call(top, "--build")
-        if status != 0 or "irv: run" not in calls or call(top, "--build")[3]:
+        if status != 0 or not has_built(calls) or call(top, "--build")[3]:
             return False
     return True
 
@@ -77,6 +86,7 @@ def builds_nothing_for_the_rest(top):
     (top / "crates/low/must-fail").mkdir()
     (top / "crates/low/must-fail/wrong.edit").write_text("file: src/main.rt")
     (top / "crates/aside/src/main.rt").write_text("// other")
+    (top / "crates/low/out").mkdir()
     (top / "crates/low/out/more").write_text("")
     (top / "crates.txt").write_text(CRATES.replace("aside: low", "# again\naside: low middle"))
     return call(top, "check") == (b"check\n", b"", 6, [])
@@ -90,7 +100,7 @@ def builds_again_after_an_edit(top):
     again = call(top, "check")
     return ((edited[0], edited[2]) == (b"", 125)
             and edited[1].endswith(b"so the next call builds again\n")
-            and (again[0], again[2]) == (b"check\n", 6) and "irv: run" in again[3])
+            and (again[0], again[2]) == (b"check\n", 6) and has_built(again[3]))
 
 
 def adopts(top):
@@ -98,68 +108,71 @@ def adopts(top):
     before = call(top, "--sources")[0].decode().strip()
     gate = [top / "bin/rt", "ci"]
     early = call(top, "--adopt", before)
-    subprocess.run(gate, cwd=top, check=True)
+    subprocess.run(gate, cwd=top, stdout=subprocess.DEVNULL, check=True)
     other = call(top, "--adopt", before[::-1])
     taken = call(top, "--adopt", before)
     built = call(top, "check")
     twice = call(top, "--adopt", before)
     (top / "crates/low/src/main.rt").write_text("// other")
-    subprocess.run(gate, cwd=top, check=True)
+    subprocess.run(gate, cwd=top, stdout=subprocess.DEVNULL, check=True)
     edited = call(top, "--adopt", before)
     refused = [(output, status, errors.count(b"\n"))
                for output, errors, status, _ in (early, other, twice, edited)]
     return (refused == [(b"", 125, 1)] * 4 and taken[:3] == (b"", b"", 0)
-            and built == (b"check\n", b"", 6, []) and "irv: run" in call(top, "check")[3])
+            and built == (b"check\n", b"", 6, []) and has_built(call(top, "check")[3]))
 
 
 def fails_without_proof(top):
-    """Where a crate isn't proved, the status is 125, and nothing above it is proved or run."""
+    """Where a crate isn't proved, the status is 125, no program stands there, and what was printed of
+    that crate is shown, and of no other."""
     (top / "unproved").write_text("middle")
     output, errors, status, calls = call(top, "check")
-    return ((output, status) == (b"", 125) and sorted(calls) == ["beside: lib", "low: lib", "middle: lib"]
-            and b"middle isn't proved" in errors and b"the program wasn't built" in errors)
+    return ((output, status, calls) == (b"", 125, [PROVING])
+            and b"== middle\nits proof\nrt: middle NOT PROVED\n" in errors and b"== low" not in errors
+            and b"the program wasn't built" in errors and not (top / "crates/irv/out/irv").exists()
+            and not list(top.glob("irv-proving-*")))
 
 
 def shows_a_fault_at_once(top):
-    """A proof that fails is shown while another one goes on, which ends, and whose library is kept."""
-    (top / "unproved").write_text("middle")
-    (top / "patient").write_text("")
-    with subprocess.Popen([top / "tools/side_by_side.py", "irv"], cwd=top, env=environment(top),
+    """A proof that fails is shown while others go on."""
+    for name, text in (("unproved", "middle"), ("patient", "")):
+        (top / name).write_text(text)
+    with subprocess.Popen([top / "tools/prove_program.py"], cwd=top, env=environment(top),
                           stdout=subprocess.PIPE, stderr=subprocess.DEVNULL) as builder:
-        said = builder.stdout.readline()
+        said = [builder.stdout.readline() for _ in range(3)]
         (top / "shown").write_text("")
         rest = builder.stdout.read()
-    return ((said, rest, builder.returncode) == (b"middle isn't proved:\n", b"", 1)
-            and not (top / "late").exists()
-            and (top / "crates/beside/out/rlib/beside.rlib").exists())
+    return ((said, rest, builder.returncode)
+            == ([b"== middle\n", b"its proof\n", b"rt: middle NOT PROVED\n"], b"", 1))
 
 
-def side_by_side(top, *words):
+def ends_as_it_has_to(top):
+    """A program that `rt ci` refuses isn't put in its place, and what was printed last is shown."""
+    (top / "otherwise").write_text("")
+    status, said, _ = proving(top)
+    return ((status, said.splitlines()[-1]) == (1, b"rt: irv wrote something else")
+            and not (top / "crates/irv/out").exists())
+
+
+def proving(top, *words):
     """Calls the builder in the copy: its status, what it printed, and what it said beside."""
-    done = subprocess.run([top / "tools/side_by_side.py", *words], cwd=top, env=environment(top),
+    done = subprocess.run([top / "tools/prove_program.py", *words], cwd=top, env=environment(top),
                           stdin=subprocess.DEVNULL, stdout=subprocess.PIPE, stderr=subprocess.PIPE)
     return done.returncode, done.stdout, done.stderr
 
 
-def refuses_no_crate(top):
-    """Without a crate's name, or with more words than one, the builder says in a line how it is called."""
-    usage = 2, b"", b"usage: tools/side_by_side.py CRATE [--ends STATUS]\n"
-    return side_by_side(top) == usage and side_by_side(top, "low", "high") == usage
-
-
-def refuses_an_unknown_crate(top):
-    """A name that crates.txt doesn't have is refused in a line."""
-    return all(side_by_side(top, name) == (2, b"", f"side_by_side: {name} is no crate of crates.txt\n"
-                                           .encode()) for name in ("lowest", "serde_json"))
+def refuses_other_words(top):
+    """With other words the builder says in a line how it is called."""
+    usage = 2, b"", b"usage: tools/prove_program.py [--anew]\n"
+    return proving(top, "irv") == usage and proving(top, "--anew", "--anew") == usage
 
 
 def refuses_an_absent_crate(top):
-    """A crate whose folder isn't there is refused in a line, also where it is below the one named."""
+    """A crate whose folder isn't there is refused in a line, before anything is proved."""
     shutil.rmtree(top / "crates/middle")
-    return all(side_by_side(top, name) == (2, b"", b"side_by_side: crates/middle isn't there\n")
-               for name in ("middle", "irv"))
+    return proving(top) == (1, b"", b"prove_program: crates/middle isn't there\n")
 
 
-TRIALS = (builds_once, builds_side_by_side, builds_beside_itself, builds_alone, builds_what_changed,
+TRIALS = (builds_once, builds_in_a_room, builds_beside_itself, builds_alone, builds_what_changed,
           builds_nothing_for_the_rest, builds_again_after_an_edit, adopts, fails_without_proof,
-          shows_a_fault_at_once, refuses_no_crate, refuses_an_unknown_crate, refuses_an_absent_crate)
+          shows_a_fault_at_once, ends_as_it_has_to, refuses_other_words, refuses_an_absent_crate)

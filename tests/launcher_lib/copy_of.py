@@ -15,44 +15,31 @@ case $1 in
     version) echo "rattle-kit-pretended"; exit ;;
     doc) echo "$top/kit/START-HERE.md"; exit ;;
 esac
+[ "$1" = ci ] && name=$(cut -d : -f 1 crates.txt | grep -v '^#' | tr '\n' ' ')
 echo "$name: $1" >> "$top/calls"
 case $1 in
-    lib)
-        [ ! -e "$top/unproved" ] || [ "$(cat "$top/unproved")" != "$name" ] || exit 1
-        # it goes on until the fault of the crate beside it has been shown
-        if [ "$name" = beside ] && [ -e "$top/patient" ]; then
-            for _ in $(seq 3000); do
-                [ -e "$top/shown" ] && break
-                sleep 0.1
-            done
-            [ -e "$top/shown" ] || touch "$top/late"
-        fi
-        [ ! -e "$top/slow" ] || sleep 0.2
-        # what it stands on is built
-        for low in $(sed -n "s/^$name://p" ../../crates.txt); do
-            [ -e "../$low/out/rlib/$low.rlib" ] || { echo "$low isn't built" >&2; exit 1; }
-        done
-        # the first of two waits until the other has begun
-        if [ "$name" != low ] && [ -e "$top/together" ]; then
-            touch "$top/$name.begun"
-            for _ in $(seq 3000); do
-                [ "$(ls "$top"/*.begun | wc -l)" -ge 2 ] && break
-                sleep 0.1
-            done
-            [ "$(ls "$top"/*.begun | wc -l)" -ge 2 ] || exit 1
-        fi
-        mkdir -p out/rlib out/incremental
-        touch "out/rlib/$name.rlib" "out/incremental/$name" ;;
-    run)
-        [ ! -e "$top/edit" ] || echo "// edited" >> src/main.rt
-        mkdir -p out
-        cp "$top/program" out/irv
-        out/irv; exit ;;
     ci)
+        [ ! -e "$top/look" ] || find . -type f | LC_ALL=C sort > "$top/seen"
         # what stood in the folders out/ is moved away
         rm -rf crates/*/out
+        for crate in $name; do
+            [ ! -e "$top/slow" ] || sleep 0.5
+            printf '== %s\nits proof\n' "$crate"
+            if [ -e "$top/unproved" ] && [ "$(cat "$top/unproved")" = "$crate" ]; then
+                echo "rt: $crate NOT PROVED"
+                # it goes on until that has been shown
+                for _ in $(seq 3000); do
+                    [ ! -e "$top/patient" ] || [ -e "$top/shown" ] && break
+                    sleep 0.1
+                done
+                exit 1
+            fi
+            echo "rt: $crate proved"
+        done
+        [ ! -e "$top/otherwise" ] || { echo "rt: irv wrote something else"; exit 1; }
+        [ ! -e "$top/edit" ] || echo "// edited" >> "$top/crates/irv/src/main.rt"
         mkdir -p crates/irv/out
-        cp program crates/irv/out/irv ;;
+        cp "$top/program" crates/irv/out/irv ;;
     try)
         [ -e "$top/broken" ] && { echo "error: no such word" >&2; exit 1; }
         [ ! -e "$top/edit" ] || echo "// edited" >> src/main.rt
@@ -184,6 +171,7 @@ def lay_out(top):
         (top / "crates" / name / "src").mkdir(parents=True)
         (top / "crates" / name / "src/main.rt").write_text("")
     (top / "VERSION").write_text("1.2.3\n")
+    (top / "HANDLES").write_text("Handles allowed: none.\n")
     (top / "crates.txt").write_text(CRATES)
     (top / "docs").mkdir()
     shutil.copy(TOP / "docs/COMMANDS.md", top / "docs")

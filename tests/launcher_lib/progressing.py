@@ -6,7 +6,7 @@ import subprocess
 import sys
 
 from calling import left_on_screen, on_a_terminal
-from copy_of import TOP, call, environment, write_scripts
+from copy_of import TOP, call
 
 sys.path.insert(0, str(TOP / "tools"))
 
@@ -16,30 +16,21 @@ import progress  # noqa: E402
 def tells_each_crate(top):
     """A build whose standard error is no terminal tells each crate in a line, the program at last."""
     told = call(top, "--build")[1].decode().splitlines()
-    lines = [re.fullmatch(r"irv: (\w+) took (\d+ \w+): (\d) of 5 crates proved in (\d+ \w+)"
-                          r"(, about \d+ \w+ more)?", line) for line in told[1:]]
+    lines = [re.fullmatch(r"irv: (\w+): (\d) of 5 crates proved in \d+ \w+(, about \d+ \w+ more)?",
+                          line) for line in told[1:]]
     if len(lines) != 5 or None in lines:
         return False
-    return ([line[3] for line in lines] == list("12345") and lines[0][1] == "low"
-            and lines[4][1] == "irv" and [bool(line[5]) for line in lines] == [True] * 4 + [False])
+    return ([line[2] for line in lines] == list("12345") and lines[0][1] == "low"
+            and lines[4][1] == "irv" and [bool(line[3]) for line in lines] == [True] * 4 + [False])
 
 
 def renews_a_line(top):
     """On a terminal there is one line, which is renewed, and is taken away at the end."""
     (top / "slow").write_text("")
-    shown, status = on_a_terminal(top, "irv", "--ends", "7", script="tools/side_by_side.py")
+    shown, status = on_a_terminal(top, script="tools/prove_program.py")
     counts = re.findall(r"\r\x1b\[Kirv: (\d) of 5 crates proved in", shown)
-    return (status == 0 and counts == sorted(counts) and {"0", "1", "4"} <= set(counts)
+    return (status == 0 and counts == sorted(counts) and {*"12345"} <= {*counts}
             and left_on_screen(shown) == [""])
-
-
-def ends_as_it_has_to(top):
-    """A program that ends otherwise than it has to isn't built, and what was printed is shown."""
-    write_scripts(top, {"program": "#!/usr/bin/env bash\necho no such thing\nexit 3\n"})
-    done = subprocess.run([top / "tools/side_by_side.py", "irv", "--ends", "7"], cwd=top,
-                          env=environment(top), stdin=subprocess.DEVNULL, stdout=subprocess.PIPE,
-                          stderr=subprocess.PIPE)
-    return (done.returncode, done.stdout) == (1, b"irv isn't built:\nno such thing\n")
 
 
 class Clock:
@@ -76,31 +67,61 @@ def estimates(top):
             and third[1] == "1 of 4 crates proved in 3 minutes, about 10 minutes more")
 
 
+def counts_no_pace_of_what_is_kept(_):
+    """What an earlier run proved is done, and what is left takes what it took before."""
+    clock = Clock()
+    crates = {"low": set(), "left": {"low"}, "right": {"low"}}
+    kept = progress.Progress(crates, 1, {"low": 100.0, "left": 40.0, "right": 60.0}, clock)
+    clock.now += 1
+    kept.keep("low")
+    return (abs(kept.remaining() - 100 * (1 + 10) / 10) < 1e-9
+            and kept.told().startswith("1 of 3 crates proved in 1 second, about "))
+
+
+def sees_what_goes_on(top):
+    """The proofs of crates that go on are seen by the processes of the prover: no other's, no test's, and
+    none in another folder."""
+    here = (top / "crates").resolve()
+    shown = {"1": ("rattle", here / "low", b"rattle\0build\0--lib"),
+             "2": ("rattle", here / "middle", b"rattle\0build\0--test\0--lib"),
+             "3": ("bash", here / "high", b"bash\0--lib"),
+             "4": ("rattle", top / "bin", b"rattle\0check"),
+             "5": ("rattle", here / "irv", b"rattle\0check\0src/main.rt")}
+    for number, (name, place, words) in shown.items():
+        process = top / "proc" / number
+        process.mkdir(parents=True)
+        (process / "comm").write_text(f"{name}\n")
+        (process / "cmdline").write_bytes(words)
+        (process / "cwd").symlink_to(place)
+    (top / "proc/6").mkdir()
+    (top / "proc/self").mkdir()
+    return sorted(progress.at_work(here, top / "proc")) == ["irv", "low"]
+
+
 def hands_on_the_gate(top):
     """What the gate prints is handed on as it is, and after each proved crate the progress is told."""
-    given = b"== low\nrt: low proved\nrt: low: its tests are proved\nrt: nothing proved\nrt: ok\n"
+    given = (b"== low\nrt: low proved\nrt: low: its tests are proved\nrt: nothing proved\n"
+             b"rt: middle is kept: an earlier run on this machine proved the same files\nrt: ok\n")
     done = subprocess.run([top / "tools/progress.py"], cwd=top, input=given, stdout=subprocess.PIPE,
                           stderr=subprocess.PIPE)
     told = done.stderr.decode().splitlines()
-    return (done.returncode, done.stdout) == (0, given) and len(told) == 1 \
-        and re.match(r"irv: 1 of 6 crates proved in \d+ \w+, about \d+ \w+ more", told[0])
+    wanted = ("irv: low: 1 of 6", "irv: middle is kept: 2 of 6")
+    return (done.returncode, done.stdout) == (0, given) and len(told) == 2 \
+        and all(re.match(rf"{begin} crates proved in \d+ \w+, about \d+ \w+ more", line)
+                for begin, line in zip(wanted, told))
 
 
 def renews_the_list(top):
-    """The list is written anew by what proofs from nothing took; a crate that was proved over what was
-    kept, or not at all, keeps its own."""
+    """The list is written anew by what was noted of proofs; a crate of which nothing was keeps its own."""
     (top / "tools/crate_seconds.txt").write_text("# old\nlow 7\naside 9\n")
+    (top / "out").mkdir()
+    (top / "out/seconds").write_text("low 31.4\nirv 12.6\n")
     call(top, "--build")
-    (top / "crates/low/out/seconds").write_text("31.4\n")
-    (top / "crates/irv/src/main.rt").write_text("// other")
-    call(top, "--build")
-    kept = (top / "crates/low/out/seconds").read_text()
-    (top / "crates/high/out/seconds").write_text("")
+    kept = (top / "out/seconds").read_text()
     subprocess.run([top / "tools/progress.py", "--renew"], check=True)
     lines = (top / "tools/crate_seconds.txt").read_text().splitlines()
-    names = [line.split()[0] for line in lines if line[0] != "#"]
-    return (kept == "31.4\n" and "low 31" in lines and "aside 9" in lines
-            and names == ["aside", "beside", "irv", "low", "middle"])
+    return (kept == "low 31.4\nirv 12.6\n"
+            and [line for line in lines if line[0] != "#"] == ["aside 9", "irv 13", "low 31"])
 
 
 def says_how_it_is_called(top):
@@ -111,5 +132,5 @@ def says_how_it_is_called(top):
     return done.returncode == 2 and told == ["usage: tools/progress.py [--renew]\n"]
 
 
-TRIALS = (tells_each_crate, renews_a_line, ends_as_it_has_to, estimates, hands_on_the_gate,
-          renews_the_list, says_how_it_is_called)
+TRIALS = (tells_each_crate, renews_a_line, estimates, counts_no_pace_of_what_is_kept, sees_what_goes_on,
+          hands_on_the_gate, renews_the_list, says_how_it_is_called)

@@ -3,6 +3,7 @@
 import os
 import time
 
+from building import has_built
 from copy_of import call, write_scripts
 
 SUMS = r"""#!/usr/bin/env bash
@@ -54,7 +55,7 @@ def sees_a_change(top):
                lambda: change_unseen_by_time(program, program.read_text().replace("slow", "fast"))]
     for change in changes:
         change()
-        if "irv: run" not in sums(top, "check")[1]:
+        if not has_built(sums(top, "check")[1]):
             return False
         time.sleep(1.2)
         if sums(top, "check")[1] or sums(top, "check") != (0, []):

@@ -6,7 +6,8 @@ import subprocess
 import tempfile
 from pathlib import Path
 
-from copy_of import PAGE, TOP, call, path_without
+from building import has_built
+from copy_of import PAGE, TOP, call, environment, lay_out, path_without
 
 
 def says_what_is_missing(top):
@@ -70,6 +71,32 @@ def tells_its_version(top):
             and second == (right, {**told_of, "commit": commit, "program": f"sha256 {program}"})
             and third == (right, {**told_of, "commit": f"{commit}, edited since",
                                   "program": "built of other sources"}))
+
+
+def ends_unheard(top):
+    """Where what it tells by itself can't be written, it says so with status 125, and builds nothing."""
+    seen = []
+    for word in ("--help", "--version", "--sources"):
+        (top / "calls").write_text("")
+        with open("/dev/full", "wb") as full:
+            done = subprocess.run([top / "irv", word], cwd=top, env=environment(top), stdout=full,
+                                  stderr=subprocess.PIPE)
+        seen.append((done.returncode, b"irv: " in done.stderr, (top / "calls").read_text()))
+    return seen == [(125, True, "")] * 3
+
+
+def tells_no_other_commit(top):
+    """In a folder of another repository --version tells no commit, since that one isn't of what stands here."""
+    outer = top / "outer"
+    outer.mkdir()
+    (outer / "file").write_text("")
+    git = ["git", "-c", "user.name=n", "-c", "user.email=e", "-C", str(outer)]
+    for words in (["init", "-q"], ["add", "file"], ["commit", "-q", "-m", "m"]):
+        subprocess.run([*git, *words], check=True)
+    inner = outer / "inner"
+    inner.mkdir()
+    lay_out(inner)
+    return b"\ncommit unknown\n" in call(inner, "--version")[0]
 
 
 def installs(top):
@@ -137,7 +164,9 @@ def completes(top):
                               stdout=subprocess.PIPE, check=True)
         return done.stdout.decode().split()
 
-    return (offered("ver") == ["verify"] and offered("re") == ["replay"] and len(offered("")) == 10
+    commands = re.findall(r"^\./irv ([a-z]+) ", (TOP / "docs/COMMANDS.md").read_text(), re.MULTILINE)
+    return (offered("ver") == ["verify"] and offered("re") == ["replay"]
+            and sorted(offered("")) == sorted(commands)
             and offered("make", "--") == ["--stations"]
             and offered("export", "--q") == ["--query"] and offered("check", "--depth", "4", "--q") == []
             and offered("rup", "--query", "") == ["hazard", "breach", "step"]
@@ -152,7 +181,7 @@ def makes_sheets(top):
     answers = []
     for words in (("--in", "a b"), ("--compare", "--with-network", "x")):
         output, _, status, calls = call(top, "--sheet", *words)
-        answers.append((output, status, calls[-1], "irv: run" in calls))
+        answers.append((output, status, calls[-1], has_built(calls)))
     told = [f"page: --program {program} {words}" for words in ("--in a b", "--compare --with-network x")]
     (top / "tools/sheet").unlink()
     return (answers == [(b"", 3, told[0], False), (b"", 3, told[1], True)]
@@ -167,7 +196,7 @@ def makes_pages(top):
         output, _, status, calls = call(top, f"--{word}", "p.html", "--columns", "free")
         if calls[-1] != f"page: --program {program} p.html --columns free" or (output, status) != (b"", 3):
             return False
-        if word == "page" and "irv: run" not in calls:
+        if word == "page" and not has_built(calls):
             return False
         (top / "tools" / word).unlink()
         if call(top, f"--{word}", "p.html")[2] != 125:
@@ -175,5 +204,5 @@ def makes_pages(top):
     return True
 
 
-TRIALS = (says_what_is_missing, helps, tells_its_version, installs, has_a_manual, completes,
-          makes_pages, makes_sheets)
+TRIALS = (says_what_is_missing, helps, tells_its_version, tells_no_other_commit, ends_unheard, installs,
+          has_a_manual, completes, makes_pages, makes_sheets)

@@ -50,7 +50,7 @@ class Crates:
 
     def __init__(self, top=TOP):
         text = (top / "crates.txt").read_text()
-        self.top = top
+        self.top, self.lower = top, {}
         self.rows = {name.split()[0]: uses.split() for name, _, uses in
                      (line.partition(":") for line in text.splitlines()) if uses or name.strip()
                      if not name.startswith("#")}
@@ -61,12 +61,13 @@ class Crates:
 
     def below(self, name):
         """The crates of the repository below a crate, each after those that it stands on."""
-        found = []
-        for low in self.rows[name]:
-            for it in [*self.below(low), low] if low in self.rows else []:
-                if it not in found:
-                    found.append(it)
-        return found
+        if name not in self.lower:
+            found = {}
+            for low in self.rows[name]:
+                if low in self.rows:
+                    found.update(dict.fromkeys([*self.below(low), low]))
+            self.lower[name] = list(found)
+        return self.lower[name]
 
     def sources(self, name):
         """The texts of a crate's files of code, by path."""
@@ -85,17 +86,21 @@ class Crates:
                         found.update(repr((crate, path, file.read_bytes())).encode())
         return found.hexdigest()
 
+    def lay_out(self, names, room):
+        """Copies crates to a room, in which `rt ci` proves these alone: without their wrong bodies, and
+        without what was made of them."""
+        for crate in names:
+            shutil.copytree(self.folder(crate), room / "crates" / crate,
+                            ignore=shutil.ignore_patterns("out", "must-fail", "wrong-bodies"))
+        shutil.copy(self.top / "HANDLES", room / "HANDLES")
+        (room / "crates.txt").write_text(
+            "".join(f"{it}: {' '.join(self.rows[it])}\n" for it in names))
+
     def build_below(self, names, room):
         """Has `rt ci` make the libraries that these crates stand on in a room: what it proved of the
         same files on this machine it takes as it is."""
         lower = [it for it in self.rows if any(it in self.below(name) for name in names)]
-        for crate in lower:
-            for part in PARTS:
-                if (self.folder(crate) / part).is_dir():
-                    shutil.copytree(self.folder(crate) / part, room / "crates" / crate / part)
-        shutil.copy(self.top / "HANDLES", room / "HANDLES")
-        (room / "crates.txt").write_text(
-            "".join(f"{it}: {' '.join(self.rows[it])}\n" for it in lower))
+        self.lay_out(lower, room)
         if lower:
             done = subprocess.run(["rt", "ci"], cwd=room, stdin=subprocess.DEVNULL,
                                   stdout=subprocess.PIPE, stderr=subprocess.STDOUT, errors="replace")

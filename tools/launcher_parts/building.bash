@@ -11,8 +11,7 @@ build() {
     need rt python3
     sources=$(sum_of_sources) || exit
     echo "irv: building the program, each part of which is proved first: this takes a while" >&2
-    # it is run once without words, which it answers with the status of usage
-    run_alone "$top/tools/side_by_side.py" irv --ends "$usage" >&2 || no_answer "the program wasn't built"
+    run_alone "$top/tools/prove_program.py" >&2 || no_answer "the program wasn't built"
     [ "$(sum_of_sources)" = "$sources" ] \
         || no_answer "sources were edited during the build, so the next call builds again"
     note_proved "$sources"

@@ -13,7 +13,9 @@ state_of() {
 
 version() {
     local commit toolchain
-    commit=$(git -C "$top" rev-parse HEAD 2>/dev/null) || commit=unknown
+    # the commit of a repository in which this one only stands is no commit of it
+    commit=$(git -C "$top" rev-parse HEAD 2>/dev/null) \
+        && [ -z "$(git -C "$top" rev-parse --show-prefix)" ] || commit=unknown
     [ "$commit" = unknown ] || git -C "$top" diff --quiet HEAD 2>/dev/null || commit+=", edited since"
     toolchain=$(rt version 2>/dev/null) || toolchain=unknown
     know_sums

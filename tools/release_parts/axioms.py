@@ -59,7 +59,8 @@ def see_same(names, printed):
     """Sees that these names are those of which the gate printed the number and the first."""
     total = TOTAL.search(printed)
     if not total:
-        raise Unlisted("the log of the gate has no number of axioms of the program")
+        raise Unlisted("the log of the gate has no number of axioms of the program: it tells one where rt ci proved "
+                       "irv in that run, and didn't take it from an earlier one")
     counted = [(library, first.split(", "), int(number)) for library, first, number in PRINTED.findall(printed)]
     of = {library: [name for name in names if name.startswith(f"{library}::")] for library, _, _ in counted}
     is_same = int(total[1]) == len(names) == sum(number for _, _, number in counted) and all(

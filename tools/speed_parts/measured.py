@@ -1,0 +1,118 @@
+"""What tools/benchmark printed, read back."""
+
+import re
+from dataclasses import dataclass, field
+
+HEAD = re.compile(r"(machine|day|program|solvers|load): (.+)")
+PLANT = re.compile(r"(.+), (\d+) sections, (\d+) points, (\d+) routes: (.+); (\d+\.\d+) s user, \d+\.\d+ s, "
+                   r"(\d+) MiB")
+CERTIFICATE = re.compile(r"    certificate of (\d+) bytes, (\d+) conflicts")
+QUERY = re.compile(r"    (hazard|breach|step) (\d+): (\d+) variables, (\d+) clauses, (\d+) conflicts; "
+                   r"export \d+\.\d+ s \d+ MiB; (.+)")
+SOLVER = re.compile(r"(\w+) (?:-|(sat|unsat|over|status -?\d+) (\d+\.\d+) s (-|\d+) conflicts)")
+CHECK = r"([^,;]+), (\d+\.\d+) s (\d+) MiB(?:; the yardstick: .+)?"
+AUDIT = re.compile(f"    audit: {CHECK}")
+RUP = re.compile(rf"    rup, a text of (\d+) bytes: {CHECK}")
+PROVED = "crates/irv/out/irv"
+
+
+class NotMeasured(Exception):
+    """A text that tools/benchmark doesn't print: the message says where."""
+
+
+@dataclass
+class Time:
+    """Seconds, at least so many where it was ended before its answer."""
+
+    seconds: float
+    is_over: bool = False
+
+    def __add__(self, other):
+        return Time(self.seconds + other.seconds, self.is_over or other.is_over)
+
+
+@dataclass
+class Check:
+    """What audit or rup answered, its seconds and mebibytes."""
+
+    answer: str
+    seconds: float
+    memory: int
+
+
+@dataclass
+class Plant:
+    """What was measured of a plant. The times of a solver are those of all queries of the certificate."""
+
+    name: str
+    sections: int
+    points: int
+    routes: int
+    answer: str
+    seconds: float
+    memory: int
+    certificate: int = 0
+    conflicts: int = 0
+    clauses: int = 0
+    solvers: dict = field(default_factory=dict)
+    audit: Check = None
+    text: int = 0
+    rup: Check = None
+
+
+class Measured:
+    """A whole text: its head, and its plants in order."""
+
+    def __init__(self, text):
+        self.head, self.loads, self.plants = {}, [], []
+        for number, line in enumerate(text.splitlines(), 1):
+            if not self.takes(line):
+                raise NotMeasured(f"line {number} is none of tools/benchmark: {line}")
+        for name in ("machine", "day", "program", "solvers"):
+            if name not in self.head:
+                raise NotMeasured(f"there is no line of the {name}")
+        if not self.plants:
+            raise NotMeasured("there is no plant")
+
+    @property
+    def is_proved(self):
+        """Whether the program is the one that a build makes which proves it."""
+        return self.head["program"].startswith(f"{PROVED},")
+
+    def takes(self, line):
+        """Takes a line; whether it may stand there."""
+        head, plant = HEAD.fullmatch(line), PLANT.fullmatch(line)
+        if head:
+            self.head[head[1]] = head[2]
+            self.loads += [head[2]] if head[1] == "load" else []
+        elif plant:
+            self.plants.append(Plant(plant[1], *map(int, plant.groups()[1:4]), plant[5], float(plant[6]),
+                                     int(plant[7])))
+        else:
+            return bool(self.plants) and takes_part(self.plants[-1], line)
+        return True
+
+
+def takes_part(plant, line):
+    """Takes a line of a plant; whether it is one."""
+    certificate, query = CERTIFICATE.fullmatch(line), QUERY.fullmatch(line)
+    audit, rup = AUDIT.fullmatch(line), RUP.fullmatch(line)
+    if certificate:
+        plant.certificate, plant.conflicts = int(certificate[1]), int(certificate[2])
+    elif query:
+        plant.clauses = max(plant.clauses, int(query[4]))
+        return all(takes_solver(plant, told) for told in query[6].split("; "))
+    elif audit:
+        plant.audit = Check(audit[1], float(audit[2]), int(audit[3]))
+    elif rup:
+        plant.text, plant.rup = int(rup[1]), Check(rup[2], float(rup[3]), int(rup[4]))
+    return bool(certificate or audit or rup)
+
+
+def takes_solver(plant, told):
+    """Adds what a solver took for a query; whether that is well written. One that isn't there has no time."""
+    found = SOLVER.fullmatch(told)
+    if found and found[2] in ("sat", "unsat", "over"):
+        time = Time(float(found[3]), found[2] == "over")
+        plant.solvers[found[1]] = plant.solvers.get(found[1], Time(0)) + time
+    return bool(found)

@@ -1,0 +1,94 @@
+"""The part of docs/SPEED.md that is made of a measurement."""
+
+import re
+
+from measured import PROVED, Time
+
+BEGIN, END = "<!-- measured: begins -->\n", "<!-- measured: ends -->\n"
+SOLVERS = ("cadical", "minisat", "picosat")
+MADE = re.compile(r"stations ([0-9]+)")
+PICTURE = "pictures/speed.svg"
+
+
+class NoPlace(Exception):
+    """A document without the two marks."""
+
+
+def shown(name):
+    """A plant's name: so many made stations, a line by its letters, or a file."""
+    made = MADE.fullmatch(name)
+    if made:
+        return f"{made[1]} made station{'' if made[1] == '1' else 's'}"
+    return name
+
+
+def seconds(time):
+    """Seconds, in three digits or so."""
+    if time is None:
+        return "-"
+    digits = 2 if time.seconds < 10 else 1 if time.seconds < 100 else 0
+    return f"{'over ' if time.is_over else ''}{time.seconds:.{digits}f}"
+
+
+def megabytes(count):
+    """Bytes, in millions."""
+    return f"{count / 1e6:.1f}" if count else "-"
+
+
+def table(head, rows):
+    """A table of Markdown."""
+    lines = [f"| {' | '.join(row)} |" for row in (head, *rows)]
+    return "\n".join([lines[0], "|" + "---|" * len(head), *lines[1:]]) + "\n"
+
+
+def answers(plants):
+    """The table of verify and of other solvers."""
+    head = ["plant", "sections, points, routes", "answer", "`verify`, s", "MiB", "conflicts",
+            *(f"{name}, s" for name in SOLVERS)]
+    return table(head, [[shown(plant.name), f"{plant.sections}, {plant.points}, {plant.routes}", plant.answer,
+                         seconds(Time(plant.seconds)), str(plant.memory), str(plant.conflicts),
+                         *(seconds(plant.solvers.get(name)) for name in SOLVERS)] for plant in plants])
+
+
+def check(found):
+    """The cells of what audit or rup took, or of its answer where that isn't the one that is hoped for."""
+    if found is None:
+        return ["-", "-"]
+    if not found.answer.startswith(("accepted", "refuted")):
+        return [found.answer, "-"]
+    return [seconds(Time(found.seconds)), str(found.memory)]
+
+
+def checks(plants):
+    """The table of audit and rup."""
+    head = ["plant", "certificate, MB", "`audit`, s", "MiB", "cadical's text, MB", "`rup`, s", "MiB"]
+    return table(head, [[shown(plant.name), megabytes(plant.certificate), *check(plant.audit),
+                         megabytes(plant.text), *check(plant.rup)] for plant in plants])
+
+
+def origin(measured):
+    """What was measured, where, and beside what."""
+    name, _, rest = measured.head["program"].partition(", ")
+    program = (f"The program was the proved one, `{PROVED}` ({rest})." if measured.is_proved else
+               f"**The program wasn't proved**: it was made of this repository's sources as they were then, "
+               f"without their proofs ({name}, {rest}).")
+    loads = " and ".join(measured.loads)
+    return (f"Measured on {measured.head['day']}: {measured.head['machine']}. {program} Other solvers: "
+            f"{measured.head['solvers']} of a processor. Processes at work in the minute before the beginning, "
+            f"and before the end: {loads}. Where they are more than there are processors, the seconds are longer "
+            "than they would be alone.\n")
+
+
+def part(measured):
+    """The whole part, without its marks."""
+    return (f"\n{origin(measured)}\n{answers(measured.plants)}\n"
+            f"![Seconds over the number of sections]({PICTURE})\n\n{checks(measured.plants)}\n")
+
+
+def renewed(document, measured):
+    """A document with the part made anew."""
+    before, begin, rest = document.partition(BEGIN)
+    _, end, behind = rest.partition(END)
+    if not begin or not end:
+        raise NoPlace("the document lacks the marks of what is measured")
+    return before + begin + part(measured) + end + behind
