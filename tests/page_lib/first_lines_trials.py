@@ -150,10 +150,11 @@ def trial_side_by_side(_, __):
             yield f"a clean table: {said}"
 
 
-# lines of check with rules that the page has no words for: whether a hunt begins there, what is said of safety
-UNHEARD = [("refused C9 routes[0]", True, rules.UNKNOWN), ("refused C9 routes[0] routes[1]", True, rules.UNKNOWN),
-           ("refused C9 sections[0]", True, rules.UNKNOWN), ("refused N9 boards[0]", False, rules.NEEDED),
-           ("refused R9 routes[1]", False, rules.NEEDED), ("refused D1 document", False, rules.UNKNOWN)]
+# lines of check with rules that the page has no words for, since no rule has the number 0: whether a hunt
+# begins there, what is said of safety
+UNHEARD = [("refused C0 routes[0]", True, rules.UNKNOWN), ("refused C0 routes[0] routes[1]", True, rules.UNKNOWN),
+           ("refused C0 sections[0]", True, rules.UNKNOWN), ("refused N0 boards[0]", False, rules.NEEDED),
+           ("refused R0 routes[1]", False, rules.NEEDED), ("refused D1 document", False, rules.UNKNOWN)]
 
 
 def trial_unheard_rules(_, __):
@@ -174,7 +175,7 @@ def trial_unheard_rules(_, __):
                                      "verify": {"says": "spent conflicts=1\n", "status": 4},
                                      "replay": {"says": "no hazard\n"}})
         text, said = page(newer, wrong, "--hunt", "0")
-        if plain(text).count("The page has no words for the rule C9") != 3 \
+        if plain(text).count("The page has no words for the rule C0") != 3 \
                 or not all(refusal in plain(text) for refusal, *_ in UNHEARD[:3]) or "spent conflicts=1" not in said:
             yield f"a rule of the columns that is new: {said}"
 

@@ -7,6 +7,7 @@ import form
 import line
 import members
 import rules
+import selfcheck
 from plant import Plant
 from sentences import LINE_SENTENCES, NOT_RESTING, RESTING, SENTENCES, WORDLESS
 
@@ -52,8 +53,7 @@ def trial_sentences(_, __):
         if sentences != [sentence]:
             yield f"{name}: {sentences}"
     told = {entry[2].split(" ")[1] for entry in SENTENCES}
-    wanted = {f"{kind}{i}" for kind, count in (("F", 6), ("N", 8), ("R", 8), ("C", 8))
-              for i in range(1, count + 1)}
+    wanted = {rule for rule in selfcheck.RULES if rule[0] in "FNRC"}
     yield from (f"no sentence of {rule} is tried" for rule in sorted(wanted - told))
 
 
