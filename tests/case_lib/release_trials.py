@@ -7,7 +7,12 @@ import subprocess
 import tarfile
 import tempfile
 
+from gate_log import COUNT, checks_of
+from made_case import TOP
 from small_repository import LOG, called, git, release, repository
+
+# of the checks that the gate has of checks the one that takes long
+LONG_CHECK = "tests/docs --self-check"
 
 RECORD = ("| `tests/first` | 3 | Tries the first thing. |", "| `rt ci` | 40 | ",
           "| `tests/second --self-check` | 5 | The check itself: Tries the second thing, and what \\| is. |",
@@ -187,4 +192,18 @@ def same_bytes(top, room, *words):
     return done
 
 
-TRIALS = (trial_release, trial_release_refused, trial_same_bytes, trial_given_build)
+def trial_counts(_, __):
+    """Each check of a check that the gate calls ends with a count, by which a release reads the log of the gate;
+    tests/docs, whose check takes long, isn't asked."""
+    asked = [command for command in checks_of((TOP / ".ci/run").read_text(encoding="utf-8"))
+             if command.endswith(" --self-check") and command != LONG_CHECK]
+    if not asked:
+        yield "the gate calls none"
+    for command in asked:
+        done = subprocess.run(command.split(), cwd=TOP, stdout=subprocess.PIPE, text=True, check=False)
+        last = done.stdout.rstrip("\n").rpartition("\n")[2]
+        if done.returncode or not COUNT.fullmatch(last):
+            yield f"{command} ends with status {done.returncode} and {last!r}"
+
+
+TRIALS = (trial_release, trial_release_refused, trial_same_bytes, trial_given_build, trial_counts)

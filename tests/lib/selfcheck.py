@@ -102,7 +102,7 @@ def check_case(case):
 
 
 def check(cases):
-    """Checks all cases and examples; answers a line that counts them."""
+    """Checks all cases and examples; answers a line that counts them, and how many that are together."""
     seen = set()
     for case in cases:
         check_case(case)
@@ -118,5 +118,6 @@ def check(cases):
         text = path.read_text(encoding="ascii")
         if not (text.startswith("run 1\n") and text.endswith("\nend\n")):
             raise CaseError(f"{path}: no run's text")
+    told = trials.check_trials()
     return (f"{len(cases)} cases, {len(plants)} plants and {len(runs)} runs are well formed; "
-            f"{trials.check_trials()} certificates are told apart")
+            f"{told} certificates are told apart"), len(cases) + len(plants) + len(runs) + told
