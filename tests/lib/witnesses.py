@@ -29,6 +29,8 @@ WITNESSES = (
     (RULES, "the rule C8", ("C8",), r"\bC8\b"),
     ("An event", "the event cancel", ("ancel",), word_of("cancel")),
     ("An event", "the event settle", ("ettle",), word_of("settle")),
+    ("A third kind of section", "the linear section", ("inear",),
+     r"(?<!= )\bLinear(?:Draft)? down up\b|::Linear \{[^{}]*\} (?:=>|\|)|[\"']linear[\"'](?:, \"point\"|: \(|:\n)"),
     ("A family of the invariant", "the family V9", ("9",), r"[Vv]9"),
     ("A command, that takes options that there are", "the command drive", ("rive",), r"\bDrive\b|[\"']drive\b"),
     ("Another value for a limit", "the depth", ("16", "MAX_DEPTH"),

@@ -156,17 +156,3 @@ strictly-right command stages conf extra found (Ok made) planned limits known so
   table = λ columns asked good. routes-right command stages planned found sound extra made some conf known columns (same_Some command (Table columns) asked) good;
   drive = λ run bytes asked. scene-right command stages planned found sound extra made some conf known run bytes (same_Some command (Drive Strict run) asked);
 }
-
--- a command that reads no configuration is none of them
-pub alone-right : {E : Type 0} (command : Command) (conf extra : Option (List ℕ)) (made : Result Reply E) → (plan_of command).stages ≡ None → IfOk made (IsStrictlyRight (Some command) conf extra)
-alone-right command conf extra (Err e) alone = tt
-alone-right command conf extra (Ok made) alone = record {
-  check = λ asked good. absurd (no-stages (Check Strict) (All Strict) (same_Some command (Check Strict) asked) refl);
-  verify = λ depth conflicts cert asked. absurd (no-stages (Verify Strict depth conflicts cert) (All Strict) (same_Some command (Verify Strict depth conflicts cert) asked) refl);
-  table = λ columns asked. absurd (no-stages (Table columns) (Network columns) (same_Some command (Table columns) asked) refl);
-  drive = λ run bytes asked. absurd (no-stages (Drive Strict run) (All Strict) (same_Some command (Drive Strict run) asked) refl);
-}
-  where
-    no-stages : (asked : Command) (stages : Stages) → command ≡ asked → (plan_of asked).stages ≡ Some stages → ⊥
-    no-stages asked stages is planned =
-        let none : None ≡ Some stages = sym alone ∙ ap (λ k. (plan_of k).stages) is ∙ planned in absurd (cc)

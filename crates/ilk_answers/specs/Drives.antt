@@ -2,9 +2,9 @@
 use Rattle.std.specs.Prelude.{ℕ, ◌≡◌, ◌++◌, List, [], ◌∷◌, codes, decimal, length}
 use Rattle.ilk_plant.specs.Plant.{PlantLists}
 use Rattle.ilk_replay.specs.RunText.{run_text}
+use Rattle.ilk_replay.specs.Told.{told_of}
 use Rattle.ilk_drive.specs.Drive.{IsDriveOf}
 use Rattle.ilk_drive.specs.Scene.{scene_of}
-use Rattle.ilk_drive.specs.Told.{told_of}
 use Rattle.ilk_drive.specs.declared.outcome.Driven.{Driven}
 use Rattle.ilk_drive.specs.declared.outcome.Rest.{Rest}
 use Rattle.ilk_drive.specs.declared.outcome.Rest.TheVariants as rest

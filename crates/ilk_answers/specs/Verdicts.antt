@@ -2,7 +2,7 @@
 use Rattle.std.specs.Prelude.{ℕ, ◌≡◌, ◌↔◌, ◌++◌, ◌⊎◌, false, List, [], ◌∷◌, codes, decimal, length}
 use Rattle.ilk_plant.specs.Plant.{PlantLists}
 use Rattle.ilk_replay.specs.RunText.{run_text}
-use Rattle.ilk_drive.specs.Told.{told_of}
+use Rattle.ilk_replay.specs.Told.{told_of}
 use Rattle.ilk_unroll.specs.Query.{query_formula}
 use Rattle.ilk_unroll.specs.declared.queries.Wanted.{Wanted}
 use Rattle.ilk_unroll.specs.declared.queries.Wanted.TheVariants.{Hazard, Breach as BreachQuery, Step}

@@ -1,6 +1,5 @@
-ghost use Rattle.std.specs.Prelude.{◌≡◌, ℕ, List, [], IfOk, IsTrue};
+ghost use Rattle.std.specs.Prelude.{◌≡◌, List, [], IfOk, IsTrue};
 ghost use Rattle.ilk_drive.specs.Drive.{IsDriveOf};
-ghost use Rattle.ilk_drive.specs.Commands.{AreCommands};
 ghost use Rattle.ilk_model.specs.declared.event.Event.{Event};
 ghost use Rattle.ilk_answers.specs.Drives.{TellsDrive, driven_reply, rest_status};
 ghost use Rattle.ilk_answers.specs.Status.{is_reply};

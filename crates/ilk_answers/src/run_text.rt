@@ -1,7 +1,7 @@
 ghost use Rattle.std.specs.Prelude.{◌≡◌, All, IfOk};
 ghost use Rattle.ilk_replay.specs.RunText.{run_text};
 ghost use Rattle.ilk_replay.specs.Writable.{IsAbout};
-ghost use Rattle.ilk_drive.specs.Told.{told_of};
+ghost use Rattle.ilk_replay.specs.Told.{told_of};
 
 use ilk_model::{Event, start};
 use ilk_plant::{Plant, Row};

@@ -1,4 +1,4 @@
-ghost use Rattle.std.specs.Prelude.{◌≡◌, ℕ, List, [], Option, Some, None, IfOk, IsTrue};
+ghost use Rattle.std.specs.Prelude.{◌≡◌, [], Option, Some, None, IfOk, IsTrue};
 ghost use Rattle.ilk_unroll.specs.Goal.{wanted_valid};
 ghost use Rattle.ilk_answers.specs.Judged.{IsJudgedFor};
 ghost use Rattle.ilk_answers.specs.Refutations.{TellsRefutation};

@@ -3,7 +3,7 @@ ghost use Rattle.ilk_tablegen.specs.Table.{walks};
 ghost use Rattle.ilk_tablegen.specs.declared.walks.Walks.TheVariants as walk;
 ghost use Rattle.ilk_plant.specs.declared.draft.TableDraft.{TableDraft};
 ghost use Rattle.ilk_answers.specs.Status.{is_reply};
-ghost use Rattle.ilk_answers.specs.Tables.{IsReadBack, TellsTable, endless_line, text_with, too_many_line};
+ghost use Rattle.ilk_answers.specs.Tables.{IsReadBack, TellsTable, endless_line, text_with};
 
 use crate::refusal_text::{entry_text, refused_at};
 use crate::{Reply, Status};

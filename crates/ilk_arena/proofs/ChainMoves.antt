@@ -38,12 +38,6 @@ pub distinct-back : (pre : List ℕ) (x : ℕ) (post : List ℕ) → Distinct (p
 distinct-back [] x post d = d.0
 distinct-back (p ∷ pre) x post d = distinct-back pre x post d.1
 
-pub distinct-drop : (pre : List ℕ) (x : ℕ) (post : List ℕ) → Distinct (pre ++ (x ∷ post)) → Distinct (pre ++ post)
-distinct-drop [] x post d = d.1
-distinct-drop (p ∷ pre) x post d =
-    let e = d.0 in
-    (each-join (λ y. y ≢ p) pre post (each-front (λ y. y ≢ p) pre (x ∷ post) e) (each-back (λ y. y ≢ p) pre (x ∷ post) e).1, distinct-drop pre x post d.1)
-
 pub distinct-skip : (pre : List ℕ) (b c : ℕ) (post : List ℕ) → Distinct (pre ++ (b ∷ (c ∷ post))) → Distinct (pre ++ (b ∷ post))
 distinct-skip [] b c post d = (d.0.1, d.1.1)
 distinct-skip (p ∷ pre) b c post d =

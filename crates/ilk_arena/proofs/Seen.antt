@@ -19,9 +19,6 @@ pub stands-to : (c : ℕ) (cs : List ℕ) → Stands cs c → stands_in c cs ≡
 stands-to c [] s = absurd s
 stands-to c (x ∷ cs) s = elim s [ inl e ↦ or_left (eqb x c) (stands_in c cs) (eq-eqb x c e) | inr r ↦ or_right (eqb x c) (stands_in c cs) (stands-to c cs r) ]
 
-pub stands-not : (c : ℕ) (cs : List ℕ) → stands_in c cs ≡ false → Stands cs c → ⊥
-stands-not c cs h s = (let q = stands-to c cs s in absurd (cc))
-
 -- the place of a literal
 pub lit-at-place : (l : Literal) → lit_at (place l) ≡ l
 lit-at-place l = go l.var l.positive

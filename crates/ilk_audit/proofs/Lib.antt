@@ -4,5 +4,4 @@ pub mod Tables
 pub mod Blocks
 pub mod Scans
 pub mod Faults
-pub mod Lists
 pub mod Examples

@@ -45,17 +45,10 @@ scan-open n set whole code rest a f within = record {
   within = and_from (lit_in n (literal_of code)) true within refl;
 }
 
--- at the second
-pub scan-two : (n : ℕ) (set : List Literal) (whole : List ℕ) (lone : Literal) (code : ℕ) (rest : List ℕ) → AtCodes n set whole (Some lone) (code ∷ rest) → is_false set (literal_of code) ≡ false → found_in set (literals_of whole) ≡ Other
-scan-two n set whole lone code rest a f = sym a.found ∙ ap (λ (ls : List Literal). found_open set (lone ∷ ls)) (open-more set code rest f)
-
 -- at the end
 pub scan-end : (n : ℕ) (set : List Literal) (whole : List ℕ) (lone : Option Literal) → AtCodes n set whole lone [] → found_open set (option_to_list lone) ≡ found_in set (literals_of whole)
 scan-end n set whole None a = a.found
 scan-end n set whole (Some l) a = a.found
-
-pub scan-start : (n : ℕ) (set : List Literal) (whole : List ℕ) → AtCodes n set whole None whole
-scan-start n set whole = record { found = refl; within = refl }
 
 -- a number in a clause over the variables 1 to n is that of a literal
 pub code-at : (n : ℕ) (codes : List ℕ) (i : ℕ) → clause_in n (literals_of codes) ≡ true → i < length codes → (lit_in n (literal_of (get_or codes i 0)) ≡ true) × (0 < get_or codes i 0 / 2) × (get_or codes i 0 / 2 ≤ n)

@@ -1,8 +1,8 @@
 -- The table of what is false, where a literal is set or taken back.
 use Rattle.std.proofs.Common.{◌≡◌, ℕ, ◌+◌, ◌*◌, ◌<◌, ◌≤◌, inl, inr, Bool, true, false, ◌||◌, not, eqb, List, [], ◌∷◌, length, set, refl, sym, ap, ◌∙◌, subst, arith, Some}
-use Rattle.std.specs.Prelude.{nat_le, nat_lt, slice_get}
+use Rattle.std.specs.Prelude.{slice_get}
 use Rattle.std.proofs.Math.ListN.{length-set}
-use Rattle.std.proofs.lemmas.Bool.{cases_Bool, cases_eq, and_parts, and_from, or_left, or_parts, or_from, ne_eqb, eq-eqb, not-true, not_from_false, true≢false, leb-true, ltb-true}
+use Rattle.std.proofs.lemmas.Bool.{cases_Bool, cases_eq, and_parts, and_from, or_left, or_parts, or_from, ne_eqb, eq-eqb, not-true, not_from_false, true≢false}
 use Rattle.ilk_base.proofs.Lists.{slice_get-set_same, slice_get-set_other}
 use Rattle.ilk_cnf.specs.Literal.{Literal, opposite, same_lit, has_lit, has_var, vars_differ}
 use Rattle.ilk_cnf.specs.Code.{code_of}
@@ -11,6 +11,7 @@ use Rattle.ilk_cnf.proofs.SameLiterals.{same-lit, lit-is, has-var}
 use Rattle.ilk_log.specs.Propagation.{is_false}
 use Rattle.ilk_audit.specs.Stored.{IsTableOf, PartialList}
 use Rattle.ilk_cnf.proofs.Gates.{opposite-opposite}
+use Rattle.ilk_cnf.proofs.Literals.{lit_in-parts}
 use Rattle.ilk_audit.proofs.Numbers.{same-code}
 
 abbrev partial_of : ℕ → List Literal → PartialList
@@ -30,12 +31,9 @@ var-unset l (m ∷ ls) a b =
     same_var v w false true e p q = true≢false (sym (rw (eq-eqb v w e) refl) ∙ q)
     same_var v w false false e p q = true≢false (sym (rw (eq-eqb v w e) refl) ∙ p)
 
-pub lit_in-bounds : (n : ℕ) (l : Literal) → lit_in n l ≡ true → (0 < l.var) × (l.var ≤ n)
-lit_in-bounds n l h = (let p = and_parts (nat_lt 0 l.var) (nat_le l.var n) h in (ltb-true 0 l.var p.0, leb-true l.var n p.1))
-
 -- the number of a literal, and of its opposite, has a place in the table
 pub code-within : (n : ℕ) (l : Literal) → lit_in n l ≡ true → code_of l < 2 * n + 2
-code-within n l h = (let w = lit_in-bounds n l h in go l.var l.positive w.1)
+code-within n l h = (let w = lit_in-parts n l h in go l.var l.positive w.1)
   where
     go : (v : ℕ) (b : Bool) → v ≤ n → code_of (record { var = v; positive = b }) < 2 * n + 2
     go v true w = omega arith

@@ -11,7 +11,7 @@ ghost use Rattle.ilk_audit.specs.Stored.{literals_of};
 use crate::codes::{Codes, literal_of};
 use crate::hinted::Hinted;
 use crate::partial::Partial;
-use ilk_cnf::{Cnf, Lit};
+use ilk_cnf::Lit;
 use std::alloc::{AllocError, Global};
 use std::marker::Model;
 

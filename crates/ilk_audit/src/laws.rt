@@ -1,4 +1,4 @@
-ghost use Rattle.std.specs.Prelude.{◌≡◌, ◌++◌, List, true};
+ghost use Rattle.std.specs.Prelude.{◌≡◌};
 ghost use Rattle.ilk_log.specs.Derived.{is_derived};
 ghost use Rattle.ilk_log.specs.declared.step.Step.{Step as StepValue};
 ghost use Rattle.ilk_audit.specs.Audited.{Audited};

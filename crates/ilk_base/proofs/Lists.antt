@@ -1,6 +1,6 @@
 -- Items of lists: at an index, after a write, and of lists joined.
-use Rattle.std.proofs.Common.{Bool, true, add-one, ◌≡◌, ℕ, List, [], ◌∷◌, ◌++◌, ◌+◌, length, arith, slice_get, set, Some, refl, ap, zero, suc, inl, inr, ◌⊎◌, sym, ◌∙◌, map, ◌<◌, Option, take, get_or, replicate, drop, drop-cons}
-use Rattle.std.proofs.lemmas.List.{get_or-replicate, length-replicate, set-get_or, drop_more}
+use Rattle.std.proofs.Common.{Bool, true, add-one, ◌≡◌, ℕ, List, [], ◌∷◌, ◌++◌, ◌+◌, ◌-◌, length, arith, slice_get, set, Some, None, refl, ap, zero, suc, inl, inr, ◌⊎◌, sym, ◌∙◌, map, ◌<◌, Option, take, get_or, replicate, drop, drop-cons}
+use Rattle.std.proofs.lemmas.List.{get_or-replicate, length-replicate, set-get_or, drop_more, take_more}
 use Rattle.std.proofs.lemmas.Option.{get_or_from_slice_get, slice_get_within, same_Some}
 use Rattle.std.proofs.Math.Seq.{take-append_seam}
 use Rattle.std.specs.List.{last_or, find}
@@ -188,3 +188,14 @@ taken-before (suc n) (y ∷ xs) (suc k) x at =
 pub last-some : {X : Type 0} (x : X) (xs : List X) → (y : X) × (last_or (Some x) xs ≡ Some y)
 last-some x [] = (x, refl)
 last-some x (z ∷ xs) = last-some z xs
+
+-- the last item, by its place
+pub last_item : {X : Type 0} (xs : List X) → last_or None xs ≡ slice_get xs (length xs - 1)
+last_item [] = refl
+last_item {X} (x ∷ xs) =
+    let found : (y : X) × (slice_get (x ∷ xs) (length (x ∷ xs) - 1) ≡ Some y) = item_at (x ∷ xs) (length (x ∷ xs) - 1) (omega arith) in
+    last_or-at None (x ∷ xs) (length (x ∷ xs) - 1) found.0 (omega arith) found.1 ∙ sym found.1
+
+-- a list, taken up to the next item
+pub take-next : {X : Type 0} (xs : List X) (i : ℕ) (x : X) → slice_get xs i ≡ Some x → take (i + 1) xs ≡ take i xs ++ x ∷ []
+take-next xs i x at = take_more xs i x (slice_get_within xs i x at) ∙ ap (λ y. take i xs ++ y ∷ []) (get_or_from_slice_get xs i x x at)

@@ -1,12 +1,34 @@
--- Lists whose items are made anew by number.
+-- Lists by number: the places of an enumerated list, and lists whose items are made anew by number.
 use Rattle.std.proofs.Common.{◌≡◌, ℕ, ◌+◌, ◌==◌, Bool, true, false, Option, Some, None, List, [], ◌∷◌, map, option_map, length, slice_get, set, refl, ◌∙◌, sym, zero, suc, ap, arith}
 use Rattle.std.proofs.lemmas.Grind.{common_steps}
 use Rattle.std.proofs.lemmas.List.FromFn.{length-enumerate_from}
 use Rattle.std.proofs.lemmas.List.{length-map}
-use Rattle.std.proofs.lemmas.Option.{slice_get_within}
+use Rattle.std.proofs.lemmas.Option.{slice_get_within, same_Some}
 use Rattle.std.specs.List.{enumerate_from}
 use Rattle.ilk_base.specs.Numbered.{map_numbered}
 use Rattle.ilk_base.proofs.Lists.{same_by_slice_get, slice_get-set_other, slice_get-set_same}
+
+-- a place of an enumerated list, and its item
+pub enumerated : {X : Type 0} (k : ℕ) (xs : List X) (i : ℕ) (place : ℕ × X) → slice_get (enumerate_from k xs) i ≡ Some place → (place.0 ≡ k + i) × (slice_get xs i ≡ Some place.1)
+enumerated k [] i place at = cc
+enumerated k (x ∷ xs) zero place at =
+    let same : (k, x) ≡ place = same_Some (k, x) place at in
+    let sum : k ≡ k + 0 = omega arith in
+    (ap (λ q. q.0) (sym same) ∙ sum, ap (λ q. Some q.1) same)
+enumerated k (x ∷ xs) (suc i) place at =
+    let rest = enumerated (k + 1) xs i place at in
+    let sum : (k + 1) + i ≡ k + suc i = omega arith in
+    (rest.0 ∙ sum, rest.1)
+
+pub enumerated-at : {X : Type 0} (k : ℕ) (xs : List X) (i : ℕ) (x : X) → slice_get xs i ≡ Some x → slice_get (enumerate_from k xs) i ≡ Some (k + i, x)
+enumerated-at k [] i x at = cc
+enumerated-at k (y ∷ xs) zero x at =
+    let same : y ≡ x = same_Some y x at in
+    let sum : k ≡ k + 0 = omega arith in
+    ap (λ z. Some (k, z)) same ∙ ap (λ j. Some (j, x)) sum
+enumerated-at k (y ∷ xs) (suc i) x at =
+    let sum : (k + 1) + i ≡ k + suc i = omega arith in
+    enumerated-at (k + 1) xs i x at ∙ ap (λ j. Some (j, x)) sum
 
 slice_get-map_from : {X : Type 0} (f : ℕ → X → X) (n : ℕ) (xs : List X) (i : ℕ) → slice_get (map (λ numbered. f numbered.0 numbered.1) (enumerate_from n xs)) i ≡ option_map (f (n + i)) (slice_get xs i)
 slice_get-map_from f n [] i = refl

@@ -19,6 +19,11 @@ pub mapped-Some : {A B : Type 0} (f : A → B) (o : Option A) (y : B) → option
 mapped-Some f None y e = cc
 mapped-Some f (Some x) y e = (x, refl, same_Some _ _ e)
 
+-- where nothing is made of it, there is none
+pub mapped-None : {A B : Type 0} (f : A → B) (o : Option A) → option_map f o ≡ None → o ≡ None
+mapped-None f None e = refl
+mapped-None f (Some x) e = cc
+
 -- where the whole has a value, so has the first, and the rest from it
 pub bind_some : {A B : Type 0} (o : Option A) (f : A → Option B) (y : B) → option_and_then f o ≡ Some y → (x : A) × (o ≡ Some x) × (f x ≡ Some y)
 bind_some None f y e = cc

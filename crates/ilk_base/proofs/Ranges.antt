@@ -77,6 +77,13 @@ pub pushed : {X : Type 0} (f : ℕ → X) (n : ℕ) (made new : List X) (x : X) 
 pushed f n made new x more before here =
     let step = map-range_with_len_more f 0 n n (omega arith) in cc
 
+-- a number below the next one is below this one, or is this one
+pub below_or_at : (k n : ℕ) → k < n + 1 → (k < n) ⊎ (k ≡ n)
+below_or_at zero zero h = inr refl
+below_or_at zero (suc n) h = inl (omega arith)
+below_or_at (suc k) zero h = absurd (omega (arith, h))
+below_or_at (suc k) (suc n) h = elim (below_or_at k n (omega (arith, h))) [ inl p ↦ inl (omega (arith, p)) | inr p ↦ inr (ap suc p) ]
+
 -- a number is below another or not
 pub below_or_past : (x n : ℕ) → (x < n) ⊎ (n ≤ x)
 below_or_past x n = by_test (nat_lt x n) refl

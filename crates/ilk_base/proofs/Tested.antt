@@ -1,10 +1,10 @@
 -- Tests of the items of a list: some pass, all pass, how many pass.
-use Rattle.std.proofs.Common.{◌≡◌, ℕ, zero, suc, Bool, true, false, Some, List, [], ◌∷◌, ◌++◌, map, slice_get, refl, ◌<◌, not, All, length, arith, ◌+◌, ◌||◌, cond, count_by, sym, ◌∙◌, ap, take, find, ◌≤◌, inl, inr}
+use Rattle.std.proofs.Common.{◌≡◌, ℕ, zero, suc, Bool, true, false, Some, None, List, [], ◌∷◌, ◌++◌, map, slice_get, refl, ◌<◌, not, All, length, arith, ◌+◌, ◌||◌, cond, count_by, sym, ◌∙◌, ap, take, find, ◌≤◌, inl, inr}
 use Rattle.std.proofs.lemmas.Bool.{and_parts, cases_Bool, false≢true, false_from_ne_true}
 use Rattle.std.proofs.lemmas.List.Elements.{All-nil, All-cons, recursion_from_All}
 use Rattle.std.proofs.lemmas.List.Folds.{list_all-append, list_any_at}
 use Rattle.std.proofs.lemmas.List.Sums.{count_by_more_yes, sum_by-take-le, sum_by-cons}
-use Rattle.std.proofs.lemmas.Option.{slice_get_within, get_or_from_slice_get, same_Some}
+use Rattle.std.proofs.lemmas.Option.{slice_get_within, get_or_from_slice_get, same_Some, none-some}
 use Rattle.std.specs.List.{AllByRecursion, list_all, list_any, filter, prefix_len}
 
 -- where some item passes, one does at an index
@@ -166,6 +166,24 @@ find-at {X} p (z ∷ xs) x e =
       | inl here ↦ (let same : Some z ≡ Some x = rw here at e in (zero, same, ap p (sym (same_Some z x same)) ∙ here))
       | inr later ↦ (let rest : find p xs ≡ Some x = rw later at e in let found = find-at p xs x rest in (suc found.0, found.1, found.2))
     ]
+
+-- where nothing is found, the item at an index doesn't pass
+pub find-none-at : {X : Type 0} (p : X → Bool) (xs : List X) (i : ℕ) (x : X) → find p xs ≡ None → slice_get xs i ≡ Some x → p x ≡ false
+find-none-at p [] i x e at = cc
+find-none-at {X} p (z ∷ xs) i x e at =
+    elim (cases_Bool (p z)) [
+      | inl here ↦ (let some : Some z ≡ None = rw here at e in absurd (none-some z (sym some)))
+      | inr away ↦ (let rest : find p xs ≡ None = rw away at e in by_place i at rest away (find-none-at p xs))
+    ]
+  where
+    by_place : (j : ℕ) → slice_get (z ∷ xs) j ≡ Some x → find p xs ≡ None → p z ≡ false → ((k : ℕ) (v : X) → find p xs ≡ None → slice_get xs k ≡ Some v → p v ≡ false) → p x ≡ false
+    by_place zero here rest away ih = ap p (sym (same_Some z x here)) ∙ away
+    by_place (suc j) here rest away ih = ih j x rest here
+
+-- and where each item fails, nothing is found
+pub find-none-from : {X : Type 0} (p : X → Bool) (xs : List X) → ((i : ℕ) (x : X) → slice_get xs i ≡ Some x → p x ≡ false) → find p xs ≡ None
+find-none-from p [] each = refl
+find-none-from p (x ∷ xs) each = rw (each zero x refl) (find-none-from p xs (λ i y at. each (suc i) y at))
 
 -- where each item fails, none passes
 pub none-pass : {X : Type 0} (f : X → Bool) (xs : List X) → ((i : ℕ) (x : X) → slice_get xs i ≡ Some x → f x ≡ false) → list_any f xs ≡ false

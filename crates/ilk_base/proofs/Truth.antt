@@ -1,5 +1,6 @@
 -- Tests joined by and, or and not.
 use Rattle.std.proofs.Common.{◌≡◌, Bool, true, false, refl, ◌&&◌, ◌||◌, ◌⊎◌, inl, inr, sym, not}
+use Rattle.std.specs.Prelude.{if◌then◌else◌}
 
 -- one of two tests passes
 pub either : (a b : Bool) → (a || b) ≡ true → (a ≡ true) ⊎ (b ≡ true)
@@ -24,3 +25,12 @@ same_truth false false there back = refl
 pub fails : (b : Bool) → not b ≡ true → b ≡ false
 fails true e = cc
 fails false e = refl
+
+-- a test that is asked only where another passes
+pub if-passes : (a b : Bool) → (if a then b else true) ≡ true → a ≡ true → b ≡ true
+if-passes true b h e = h
+if-passes false b h e = cc
+
+pub passes-if : (a b : Bool) → (a ≡ true → b ≡ true) → (if a then b else true) ≡ true
+passes-if true b f = f refl
+passes-if false b f = refl

@@ -5,3 +5,4 @@ pub mod Row
 pub mod Once
 pub mod Words
 pub mod Numbered
+pub mod Numbers

@@ -17,12 +17,12 @@ use Rattle.ilk_plant.specs.declared.network.Dir.{Dir}
 use Rattle.ilk_plant.specs.declared.network.Dir.TheVariants.{Up, Down}
 use Rattle.ilk_plant.specs.declared.state.State.{State}
 use Rattle.ilk_plant.proofs.Sides.{back-opposite}
+use Rattle.ilk_plant.proofs.InLists.{section-at}
 use Rattle.ilk_layout.specs.Image.{image_of}
 use Rattle.ilk_layout.specs.Occupancy.{occupancy_of}
 use Rattle.ilk_layout.specs.Values.{occupancy_of_value, occupancy_value}
 use Rattle.ilk_layout.specs.declared.values.Occupancy.{Occupancy}
 use Rattle.ilk_layout.specs.declared.values.Occupancy.TheVariants.{Taken}
-use Rattle.ilk_layout.proofs.Bodies.{place-of}
 use Rattle.ilk_layout.proofs.Read.{occupancy-back}
 use Rattle.ilk_conditions.specs.Conditions.{occupancy_is}
 use Rattle.ilk_conditions.proofs.Values.{occupancy-holds}
@@ -87,7 +87,7 @@ neighbour_steps p s following x rules told some =
     (λ t e.
     (let found = some t e in
     let dir = direction-at found.dir in
-    let place = place-of (next_to p x found.dir) found.neighbour found.beside in
+    let place = section-at found.neighbour (next_to p x found.dir) found.beside in
     any-of-all (can_fire p s) (λ d. flat_map (rules d) (next_to p x d)) (Up ∷ Down ∷ []) dir.0 found.dir dir.1 (any-of-all (can_fire p s) (rules found.dir) (next_to p x found.dir) place.0 found.neighbour place.1 found.fires)))
 
 -- the position of the only one that passes

@@ -24,6 +24,7 @@ use Rattle.ilk_plant.specs.declared.state.Lie.{Lie}
 use Rattle.ilk_plant.specs.declared.state.Lie.TheVariants.{Plus as LiesPlus, Minus as LiesMinus, Moving}
 use Rattle.ilk_plant.specs.declared.state.State.{State}
 use Rattle.ilk_plant.specs.declared.state.Train.{Train}
+use Rattle.ilk_plant.proofs.InLists.{section-from, section-at, only-one}
 use Rattle.ilk_motion.specs.Ahead.{ahead}
 use Rattle.ilk_motion.specs.Body.{has_head, with_new_head}
 use Rattle.ilk_motion.specs.Trains.{after_head, may_pass, with_board_closed, with_train}
@@ -36,8 +37,8 @@ use Rattle.ilk_layout.specs.Values.{occupancy_value}
 use Rattle.ilk_layout.specs.Variables.{occupancy_var}
 use Rattle.ilk_layout.specs.declared.values.Occupancy.{Occupancy}
 use Rattle.ilk_layout.specs.declared.values.Occupancy.TheVariants.{Taken, Crash}
-use Rattle.ilk_layout.proofs.Bodies.{before-suc, has-at, last-at, last-has, place-of}
-use Rattle.ilk_layout.proofs.Calm.{alone, body-of, calm-at, only-one}
+use Rattle.ilk_layout.proofs.Bodies.{before-suc, last-at, last-has}
+use Rattle.ilk_layout.proofs.Calm.{alone, body-of, calm-at}
 use Rattle.ilk_layout.proofs.Changes.{image-board, image-two, occupied}
 use Rattle.ilk_layout.proofs.Made.{other-leg}
 use Rattle.ilk_layout.proofs.Plants.{body-known, body-once}
@@ -103,7 +104,7 @@ module _ (p : PlantLists) (plant : IsPlant p) (never : NeverReturns p) (s : Stat
     head-first : position (has_head x) s.trains ≡ Some i
     head-first =
         only-position (has_head x) s.trains i t at (last-at t.body k x once place ∙ eq-eqb (k + 1) (length t.body) last)
-        (λ j v e h. alone p plant never s shape calm j i x v t e at (last-has x v.body h) (has-at t.body k x place))
+        (λ j v e h. alone p plant never s shape calm j i x v t e at (last-has x v.body h) (section-from t.body k x place))
 
     pub head-follows : after_head p s x ≡ Some (with_board_closed (board_of p x t.dir) (with_trains s (set s.trains i (with_new_head y t))))
     head-follows =
@@ -145,19 +146,19 @@ module _ (p : PlantLists) (plant : IsPlant p) (never : NeverReturns p) (s : Stat
     not-own : has_section y t.body ≡ false
     not-own =
         false_from_ne_true (has_section y t.body) (λ h.
-        (let own = place-of t.body y h in
+        (let own = section-at y t.body h in
         let less = slice_get_within t.body own.0 y own.1 in
         let places : own.0 ≡ length t.body = once-more own.0 (length t.body) y (at-before t.body (y ∷ []) own.0 y own.1) place-y in
         absurd (omega (arith, less, places))))
 
     apart : x ≡ y → ⊥
-    apart same = false≢true (sym not-own ∙ ap (λ v. has_section v t.body) (sym same) ∙ has-at t.body k x place)
+    apart same = false≢true (sym not-own ∙ ap (λ v. has_section v t.body) (sym same) ∙ section-from t.body k x place)
 
     -- the train is wrong on no section but y
     right-more : (z : ℕ) → z < length p.sections → (z ≡ y → ⊥) → is_wrong_under p s z (t.body ++ y ∷ []) ≡ false
     right-more z within not_y =
         elim (cases_Bool (has_section z t.body)) [
-          | inl has ↦ (let there = place-of t.body z has in at-place there.0 there.1 (cases_eq z x))
+          | inl has ↦ (let there = section-at z t.body has in at-place there.0 there.1 (cases_eq z x))
           | inr none ↦ false_from_ne_true (is_wrong_under p s z (t.body ++ y ∷ [])) (λ h. false≢true (sym none ∙ had-before z y t.body not_y (wrong-has p s z (t.body ++ y ∷ []) h)))
         ]
       where
@@ -202,7 +203,7 @@ module _ (p : PlantLists) (plant : IsPlant p) (never : NeverReturns p) (s : Stat
         ∙ ap (is_wrong_between p s y (Some x)) past
 
     has-new : has_section y (t.body ++ y ∷ []) ≡ true
-    has-new = has-at (t.body ++ y ∷ []) (length t.body) y place-y
+    has-new = section-from (t.body ++ y ∷ []) (length t.body) y place-y
 
     -- where y isn't free, that is a crash
     pub head-crash : (is_occupied s y || is_wrong_between p s y (Some x) None) ≡ true → occupancy_of p (with_trains s (set s.trains i (with_new_head y t))) y ≡ Crash

@@ -31,6 +31,7 @@ use Rattle.ilk_plant.specs.declared.state.Train.{Train}
 use Rattle.ilk_plant.specs.NetworkRules.{opposite_direction}
 use Rattle.ilk_plant.proofs.PointNumbers.{point_number-below}
 use Rattle.ilk_plant.proofs.Sides.{back-opposite}
+use Rattle.ilk_plant.proofs.InLists.{section-at, only-one}
 use Rattle.ilk_motion.specs.Ahead.{ahead}
 use Rattle.ilk_motion.specs.Body.{has_head, is_last, with_new_head}
 use Rattle.ilk_motion.specs.Trains.{after_head, is_open, may_pass, with_board_closed}
@@ -43,8 +44,8 @@ use Rattle.ilk_layout.specs.Occupancy.{occupancy_of}
 use Rattle.ilk_layout.specs.Standing.{is_wrong_between}
 use Rattle.ilk_layout.specs.declared.values.Occupancy.{Occupancy}
 use Rattle.ilk_layout.specs.declared.values.Occupancy.TheVariants.{Taken, Crash}
-use Rattle.ilk_layout.proofs.Bodies.{last-at, last-has, place-of}
-use Rattle.ilk_layout.proofs.Calm.{body-of, lie-known, occupancy-in, only-one, taken-in}
+use Rattle.ilk_layout.proofs.Bodies.{last-at, last-has}
+use Rattle.ilk_layout.proofs.Calm.{body-of, lie-known, occupancy-in, taken-in}
 use Rattle.ilk_layout.proofs.Made.{legs-differ}
 use Rattle.ilk_layout.proofs.Plants.{body-known, body-once}
 use Rattle.ilk_layout.proofs.Trains.{with_trains}
@@ -280,7 +281,7 @@ module _ (p : PlantLists) (plant : IsPlant p) (never : NeverReturns p) (s : Stat
       let next = bind_some (ahead p s x train.0.dir) _ after train.2 in
       let passes = (cond_some (may_pass s (board_of p x train.0.dir)) _ after next.2).0 in
       let last = position-at (has_head x) s.trains first.0 train.0 first.1 train.1 in
-      let place = place-of train.0.body x (last-has x train.0.body last) in
+      let place = section-at x train.0.body (last-has x train.0.body last) in
       from first.0 train.0 next.0 place.0 train.1 place.1 last next.1 passes
     where
       flag : (tail : Bool) → (k : ℕ) × (slice_get (true ∷ false ∷ []) k ≡ Some tail)

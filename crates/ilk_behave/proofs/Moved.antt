@@ -15,11 +15,12 @@ use Rattle.ilk_plant.specs.declared.network.Section.{Section}
 use Rattle.ilk_plant.specs.declared.network.Section.TheVariants.{Linear, Point}
 use Rattle.ilk_plant.specs.declared.state.State.{State}
 use Rattle.ilk_plant.specs.declared.state.Train.{Train}
+use Rattle.ilk_plant.proofs.InLists.{section-from, section-at}
 use Rattle.ilk_model.specs.Hazard.{hazard, is_hazardous, is_two, is_wrong, strays}
 use Rattle.ilk_layout.specs.Occupancy.{occupancy_of}
 use Rattle.ilk_layout.specs.Standing.{is_wrong_under}
 use Rattle.ilk_layout.specs.declared.values.Occupancy.TheVariants.{Taken}
-use Rattle.ilk_layout.proofs.Bodies.{first-at, has-at, last-at, place-of}
+use Rattle.ilk_layout.proofs.Bodies.{first-at, last-at}
 use Rattle.ilk_layout.proofs.Calm.{alone, calm-at}
 use Rattle.ilk_layout.proofs.Plants.{body-once}
 use Rattle.ilk_layout.proofs.Trains.{find-some, has_x, with_trains}
@@ -65,7 +66,7 @@ safe-from p s x one right =
 -- the occupancy of a section of a body, where no hazard stands at it
 pub occupancy-there : (p : PlantLists) → NeverReturns p → (s : State) → HasShape p s → (i k x : ℕ) (t : Train) → slice_get s.trains i ≡ Some t → slice_get t.body k ≡ Some x → is_hazardous p s x ≡ false → occupancy_of p s x ≡ Taken t.dir (k == 0) (k + 1 == length t.body)
 occupancy-there p never s shape i k x t at place safe =
-    let has : has_section x t.body ≡ true = has-at t.body k x place in
+    let has : has_section x t.body ≡ true = section-from t.body k x place in
     let once = body-once p t never (list_all-slice_get (is_body p) s.trains i t shape.bodies at) in
     let some = find-some (has_x x) s.trains (list_any-from (has_x x) s.trains i t at has) in
     let found = find-at (has_x x) s.trains some.0 some.1 in
@@ -111,7 +112,7 @@ module _ (p : PlantLists) (plant : IsPlant p) (never : NeverReturns p) (s : Stat
   pub kept : (x : ℕ) → x < length p.sections → u.dir ≡ t.dir → (has_section x u.body ≡ true → has_section x t.body ≡ true) → is_wrong_under p s x u.body ≡ false → ((k : ℕ) → slice_get t.body k ≡ Some x → (m : ℕ) × (slice_get u.body m ≡ Some x) × ((m == 0) ≡ (k == 0)) × ((m + 1 == length u.body) ≡ (k + 1 == length t.body))) → occupancy_of p (with_trains s (set s.trains i u)) x ≡ occupancy_of p s x
   kept x within dir had right placed =
       elim (cases_Bool (is_occupied s x)) [
-        | inl there ↦ (let found : (j : ℕ) × (v : Train) × (slice_get s.trains j ≡ Some v) × (has_section x v.body ≡ true) = list_any-at (has_x x) s.trains there in by_train found.0 found.1 found.2 (cases_eq i found.0) (place-of found.1.body x found.3))
+        | inl there ↦ (let found : (j : ℕ) × (v : Train) × (slice_get s.trains j ≡ Some v) × (has_section x v.body ≡ true) = list_any-at (has_x x) s.trains there in by_train found.0 found.1 found.2 (cases_eq i found.0) (section-at x found.1.body found.3))
         | inr away ↦ vacant-as p (with_trains s (set s.trains i u)) x (none-pass (has_x x) (set s.trains i u) (λ j v e. false_from_ne_true (has_section x v.body) (λ has. (let w = was-there x had j v e has in false≢true (sym (list_any-none (has_x x) s.trains j w.0 away w.1) ∙ w.2))))) ∙ sym (vacant-as p s x away)
       ]
     where

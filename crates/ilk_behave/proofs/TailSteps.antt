@@ -29,21 +29,21 @@ use Rattle.ilk_plant.specs.declared.state.Lie.{Lie}
 use Rattle.ilk_plant.specs.declared.state.Lie.TheVariants.{Plus as LiesPlus, Minus as LiesMinus, Moving}
 use Rattle.ilk_plant.specs.declared.state.State.{State}
 use Rattle.ilk_plant.specs.declared.state.Train.{Train}
+use Rattle.ilk_plant.proofs.InLists.{section-from, section-at, only-one, rest-has}
 use Rattle.ilk_motion.specs.Ahead.{ahead, leg_at, leads_to}
 use Rattle.ilk_motion.specs.Body.{has_tail_before_head, is_first_of_several, without_tail}
 use Rattle.ilk_motion.specs.Trains.{after_tail}
 use Rattle.ilk_motion.proofs.Shape.{after_tail-shape}
 use Rattle.ilk_routes.specs.Lies.{lies_at, lie_in}
 use Rattle.ilk_model.specs.Hazard.{hazard, strays}
-use Rattle.ilk_model.proofs.Straying.{rest-has, rest-strays}
+use Rattle.ilk_model.proofs.Straying.{rest-strays}
 use Rattle.ilk_layout.specs.Image.{image_of}
 use Rattle.ilk_layout.specs.Occupancy.{occupancy_of}
 use Rattle.ilk_layout.specs.Standing.{is_wrong_under}
 use Rattle.ilk_layout.specs.Values.{occupancy_value}
 use Rattle.ilk_layout.specs.Variables.{occupancy_var}
 use Rattle.ilk_layout.specs.declared.values.Occupancy.TheVariants.{Vacant, Taken}
-use Rattle.ilk_layout.proofs.Bodies.{has-at, place-of}
-use Rattle.ilk_layout.proofs.Calm.{alone, body-beside, body-of, calm-at, led-on, occupancy-in, only-one, pair-of, taken-in}
+use Rattle.ilk_layout.proofs.Calm.{alone, body-beside, body-of, calm-at, led-on, occupancy-in, pair-of, taken-in}
 use Rattle.ilk_layout.proofs.Changes.{image-two, occupied}
 use Rattle.ilk_layout.proofs.Made.{legs-differ}
 use Rattle.ilk_layout.proofs.Plants.{body-known, body-once}
@@ -104,7 +104,7 @@ several x y (a ∷ []) at next = cc
 several x y (a ∷ b ∷ rest) at next = eq-eqb a x (same_Some a x at)
 
 has-first : (x : ℕ) (body : List ℕ) → is_first_of_several x body ≡ true → has_section x body ≡ true
-has-first x body h = let two = first-two x body h in has-at body 0 x two.1
+has-first x body h = let two = first-two x body h in section-from body 0 x two.1
 
 module _ (p : PlantLists) (plant : IsPlant p) (s : State) (shape : HasShape p s) (calm : hazard p s ≡ None) where
   -- x leads to its neighbour y exactly where y lies ahead of it
@@ -165,7 +165,7 @@ module _ (p : PlantLists) (plant : IsPlant p) (never : NeverReturns p) (s : Stat
     tail-follows : after_tail p s x ≡ Some (with_trains s (set s.trains i (without_tail t)))
     tail-follows =
         let section = item_at p.sections x within-x in
-        let position_is = only-position (has_tail_before_head x) s.trains i t at (several x y t.body first second) (λ j v e h. alone p plant never s shape calm j i x v t e at (has-first x v.body h) (has-at t.body 0 x first)) in
+        let position_is = only-position (has_tail_before_head x) s.trains i t at (several x y t.body first second) (λ j v e h. alone p plant never s shape calm j i x v t e at (has-first x v.body h) (section-from t.body 0 x first)) in
         rw (section.1, position_is, at) refl
 
     tail-moved : HasShape p (with_trains s (set s.trains i (without_tail t)))
@@ -180,7 +180,7 @@ module _ (p : PlantLists) (plant : IsPlant p) (never : NeverReturns p) (s : Stat
     no-longer : has_section x (remove t.body 0) ≡ false
     no-longer =
         false_from_ne_true (has_section x (remove t.body 0)) (λ h.
-        (let place = place-of (remove t.body 0) x h in
+        (let place = section-at x (remove t.body 0) h in
         let places : 0 ≡ suc place.0 = once 0 (suc place.0) x first (sym (rest-at t.body place.0) ∙ place.1) in
         absurd (omega (arith, places))))
 
@@ -190,7 +190,7 @@ module _ (p : PlantLists) (plant : IsPlant p) (never : NeverReturns p) (s : Stat
         (none-pass (has_x x) (set s.trains i (without_tail t)) (λ j v e.
         elim (now-there p plant never s shape calm i t (without_tail t) at tail-moved j v e) [
           | inl h ↦ ap (λ (w : Train). has_section x w.body) (sym h.1) ∙ no-longer
-          | inr h ↦ false_from_ne_true (has_section x v.body) (λ has. h.0 (alone p plant never s shape calm i j x t v at h.1 (has-at t.body 0 x first) has))
+          | inr h ↦ false_from_ne_true (has_section x v.body) (λ has. h.0 (alone p plant never s shape calm i j x t v at h.1 (section-from t.body 0 x first) has))
         ]))
 
     safe-rest : (z : ℕ) → z < length p.sections → is_wrong_under p s z (remove t.body 0) ≡ false

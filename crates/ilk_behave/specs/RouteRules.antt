@@ -1,6 +1,6 @@
 -- The rules of the seven events of routes. Each has a condition for each of the words of the event's row in the table
 -- of events, and then sets what the row changes.
-use Rattle.std.specs.Prelude.{ℕ, ◌+◌, ◌-◌, None, List, [], ◌∷◌, ◌++◌, ◌==◌, length, map, filter, flat_map, slice_get, if◌then◌else◌}
+use Rattle.std.specs.Prelude.{ℕ, ◌+◌, ◌-◌, List, [], ◌∷◌, ◌++◌, ◌==◌, length, map, filter, flat_map, slice_get, if◌then◌else◌}
 use Rattle.std.specs.List.{enumerate_from, range_with_len}
 use Rattle.ilk_ir.specs.System.{RuleTree}
 use Rattle.ilk_ir.specs.Tree.{Tree, any_of, negation, trees}

@@ -12,7 +12,7 @@ use ilk_layout::{
     Occupancy, aspect_value, hold_value, lie_value, mode_value, occupancy_value, position_value,
 };
 use ilk_plant::{Aspect, Dir, Hold, Lie, Listed, Mode, Plant, Position, Row, point_on};
-use std::alloc::{AllocError, Global};
+use std::alloc::AllocError;
 
 /// Adds a rule: where all of the forms hold, this is set.
 pub fn push_rule(rules: &mut Rules, forms: Vec<Form>, sets: Sets) -> Result<(), AllocError>

@@ -1,12 +1,11 @@
 -- The stage after a line: what may follow there is what may follow the line.
-use Rattle.std.proofs.Common.{◌≡◌, ℕ, suc, ◌+◌, ◌-◌, ◌<◌, ◌≤◌, Bool, true, false, List, [], ◌∷◌, ◌++◌, codes, refl, sym, ap, ◌∙◌, subst, arith, add-one, Option, Some, None}
+use Rattle.std.proofs.Common.{◌≡◌, ℕ, suc, ◌+◌, ◌-◌, ◌<◌, ◌≤◌, Bool, true, List, [], ◌∷◌, ◌++◌, codes, sym, ap, ◌∙◌, subst, arith, add-one, Option, Some, None}
 use Rattle.std.specs.Prelude.{flat_map, nat_le, nat_lt}
 use Rattle.std.specs.List.{range_with_len}
 use Rattle.std.specs.Fmt.{decimal}
 use Rattle.std.proofs.lemmas.Bool.{and_parts, leb-true, ltb-true}
 use Rattle.std.proofs.lemmas.List.{append_cancel_left}
 use Rattle.std.proofs.lemmas.Option.{same_Some}
-use Rattle.ilk_cnf.specs.Formula.{Formula}
 use Rattle.ilk_ir.specs.System.{SystemTree}
 use Rattle.ilk_lines.specs.Decimal.{decimal_up_to}
 use Rattle.ilk_lines.specs.Lines.{Bytes}
@@ -16,24 +15,15 @@ use Rattle.ilk_log.specs.Derived.{is_empty}
 use Rattle.ilk_unroll.specs.declared.queries.Wanted.{Wanted}
 use Rattle.ilk_unroll.specs.declared.queries.Wanted.TheVariants as wanted
 use Rattle.ilk_unroll.specs.Goal.{GoalTree}
-use Rattle.ilk_unroll.specs.Query.{query_formula}
 use Rattle.ilk_audit.specs.Audited.{Audited}
 use Rattle.ilk_certificate.specs.Certificate.{base_queries, certified_queries}
-use Rattle.ilk_certificate.specs.CertificateText.{query_line}
 use Rattle.ilk_cert_audit.specs.Grammar.{Either, QueryLines, safe_line, StepLines, ToldLines}
 use Rattle.ilk_cert_audit.specs.Stages.{IsLineOf, is_number, IsNext, queries_after, queries_from}
 use Rattle.ilk_cert_audit.specs.declared.next.Line.TheVariants.{Bad, Closes, Follows}
-use Rattle.ilk_cert_audit.specs.declared.stage.Stage.TheVariants.{Head, Told, Between, Within, Ended}
+use Rattle.ilk_cert_audit.specs.declared.stage.Stage.TheVariants.{Told, Between, Within, Ended}
 
 pub number-parts : (k : ℕ) → is_number k ≡ true → (0 < k) × (k ≤ 16)
 number-parts k h = (let p = and_parts (nat_lt 0 k) (nat_le k 16) h in (ltb-true 0 k p.0, leb-true k 16 p.1))
-
--- the head
-pub next-head : (s : SystemTree) (g : GoalTree) (line : Bytes) → line ≡ codes "irv certificate 3" → IsNext s g Head line (Some Told)
-next-head s g line e may k lines = ((λ h. h.1), (λ told. (e, told)))
-
-pub bad-head : (s : SystemTree) (g : GoalTree) (line : Bytes) → ¬ (line ≡ codes "irv certificate 3") → IsNext s g Head line None
-bad-head s g line differs may k lines h = differs h.0
 
 -- the line that tells the number
 -- a line tells one number
@@ -60,30 +50,9 @@ next-told s g line m e num may k lines =
           subst K (sym h.0) (e, p.0, p.1, subst Q (sym (certified-first m)) h.1)),
     )
 
-pub bad-told : (s : SystemTree) (g : GoalTree) (line : Bytes) → ((k : ℕ) → 0 < k → k ≤ 16 → ¬ (line ≡ safe_line k)) → IsNext s g Told line None
-bad-told s g line none may k lines h = none k h.1 h.2 h.0
-
--- the line of a query
-pub next-query : (s : SystemTree) (g : GoalTree) (m : ℕ) (q : Wanted) (line : Bytes) (f : Formula) (a : Audited) → line ≡ query_line q → f ≡ query_formula s g q → a ≡ record { vars = f.vars; clauses = f.clauses; closed = false } → IsNext s g (Between m (Some q)) line (Some (Within m q a))
-next-query s g m q line f a e made new may k lines =
-    let F : Formula → Type 0 = λ x. StepLines may x.vars x.clauses (QueryLines may s g (queries_after m q)) lines in
-    let A : Audited → Type 0 = λ x. StepLines may x.vars x.clauses (QueryLines may s g (queries_after m q)) lines in (
-      λ h. (h.0, subst A (sym new) (subst F (sym made) h.1.1)),
-      λ h. (h.0, (e, subst F made (subst A new h.1))),
-    )
-
-pub bad-query : (s : SystemTree) (g : GoalTree) (m : ℕ) (q : Wanted) (line : Bytes) → ¬ (line ≡ query_line q) → IsNext s g (Between m (Some q)) line None
-bad-query s g m q line differs may k lines h = differs h.1.0
-
 -- the last line
 pub next-end : (s : SystemTree) (g : GoalTree) (m : ℕ) (line : Bytes) → line ≡ codes "end" → IsNext s g (Between m None) line (Some (Ended m))
 next-end s g m line e may k lines = ((λ h. (h.0, h.1.1)), (λ h. (h.0, (e, h.1))))
-
-pub bad-end : (s : SystemTree) (g : GoalTree) (m : ℕ) (line : Bytes) → ¬ (line ≡ codes "end") → IsNext s g (Between m None) line None
-bad-end s g m line differs may k lines h = differs h.1.0
-
-pub bad-ended : (s : SystemTree) (g : GoalTree) (m : ℕ) (line : Bytes) → IsNext s g (Ended m) line None
-bad-ended s g m line may k lines h = (let z = h.1 in cc)
 
 -- among the steps of a query
 pub bad-step : (s : SystemTree) (g : GoalTree) (m : ℕ) (q : Wanted) (a new : Audited) (line : Bytes) → IsLineOf line a new Bad → IsNext s g (Within m q a) line None
@@ -114,15 +83,7 @@ next-closed s g m q next a new line taken left may k lines =
     )
 
 -- the queries after one
-pub after-hazard : (k n : ℕ) → queries_from k (Some (wanted.Breach n)) ≡ queries_after k (wanted.Hazard n)
-after-hazard k n = refl
-
 pub after-breach : (k n : ℕ) → n < k → queries_from k (Some (wanted.Hazard (n + 1))) ≡ queries_after k (wanted.Breach n)
 after-breach k n lt =
     let one : k - n ≡ suc (k - (n + 1)) = omega (arith, lt) in
     ap (λ i. flat_map base_queries (range_with_len (n + 1) i) ++ wanted.Step k ∷ []) (sym one)
-
-pub after-last : (k n : ℕ) → k ≤ n → queries_from k (Some (wanted.Step k)) ≡ queries_after k (wanted.Breach n)
-after-last k n le =
-    let none : k - n ≡ 0 = omega (arith, le) in
-    ap (λ i. flat_map base_queries (range_with_len (n + 1) i) ++ wanted.Step k ∷ []) (sym none)

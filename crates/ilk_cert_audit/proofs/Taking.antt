@@ -39,14 +39,6 @@ may-stop s g (Within k q a) h = (k, (refl, refl))
 may-stop s g (Ended k) h = (k, (refl, refl))
 may-stop s g (Refused m) h = absurd (cc)
 
--- before any line
-pub at-start : (s : SystemTree) (g : GoalTree) → IsAt s g Head [] 1
-at-start s g = record {
-  begins = (0, refl);
-  follows = λ may k more. ((λ h. h), (λ h. h));
-  number_is = refl;
-}
-
 -- after one more line
 pub at-next : (s : SystemTree) (g : GoalTree) (stage next : Stage) (lines : List Bytes) (n m : ℕ) (line : Bytes) → IsAt s g stage lines n → IsNext s g stage line (Some next) → is_stage next ≡ true → m ≡ in_64_bits (n + 1) → IsAt s g next (lines ++ line ∷ []) m
 at-next s g stage next lines n m line at goes staged counted =

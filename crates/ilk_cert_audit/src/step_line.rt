@@ -7,32 +7,12 @@ ghost use Rattle.ilk_base.specs.Option.{only_if};
 ghost use Rattle.ilk_lines.specs.Words.{words_of};
 ghost use Rattle.ilk_log.specs.StepText.{has_numbers, step_text};
 ghost use Rattle.ilk_log.specs.declared.step.Step.{Step as StepValue};
-ghost use Rattle.ilk_log.specs.StepReading.{count_of, hints_of, lit_of, lits_of_words, step_of};
+ghost use Rattle.ilk_log.specs.StepReading.{hints_of, lits_of_words, step_of};
 
 use ilk_cnf::Lit;
-use ilk_lines::{decimal_up_to, next_word};
+use ilk_lines::next_word;
+use ilk_log::{count_of, lit_of};
 use std::alloc::AllocError;
-
-// A number from 1 to the limit.
-fn count_of(word: &[u8], limit: u64) -> Option<u64>
-    ensures { result ≡ count_of limit word.now }
-{
-    let n = decimal_up_to(word, limit)?;
-    if n > 0 { Some(n) } else { None }
-}
-
-// The greatest variable.
-const MAX_VAR: u64 = 1 << 62;
-
-// The literal that a word writes.
-fn lit_of(word: &[u8]) -> Option<Lit>
-    ensures { result ≡ lit_of word.now }
-{
-    match word {
-        [b'-', var @ ..] => Some(Lit::new(count_of(var, MAX_VAR)?, false)),
-        _ => Some(Lit::new(count_of(word, MAX_VAR)?, true)),
-    }
-}
 
 // Reads the literals before the word 0, and answers what has the words after it.
 fn read_lits<'a>(

@@ -1,9 +1,8 @@
 -- How the clause of some literals is made in one walk over them.
 use Rattle.std.proofs.Common.{◌≡◌, ◌<◌, ◌+◌, length, get_or, drop, subst, Option, Some, option_to_list, Bool, true, false, not, ◌&&◌, List, [], ◌∷◌, ◌++◌, refl, eqb, ℕ, sym, ap, ◌∙◌, append_assoc, cond}
 use Rattle.std.specs.List.{list_all}
-use Rattle.std.proofs.lemmas.List.{append-nil}
 use Rattle.std.proofs.lemmas.List.Folds.{list_all-append}
-use Rattle.std.proofs.lemmas.Bool.{and_parts, and_from, or_parts, or_from, or_left, cond_both, true≢false, eq-eqb, eqb-false, ne_eqb, not-true, not_from_false}
+use Rattle.std.proofs.lemmas.Bool.{and_parts, and_from, or_parts, or_from, cond_both, true≢false, eq-eqb, eqb-false, ne_eqb, not-true, not_from_false}
 use Rattle.ilk_base.proofs.Lists.{drop_at}
 use Rattle.ilk_cnf.specs.Literal.{Literal, has_lit, has_var, opposite}
 use Rattle.ilk_cnf.specs.Formula.{distinct, is_tautology, as_clause, clause_in, clauses_in}
@@ -17,9 +16,6 @@ pub record Reading (ls kept rest : List Literal) : Type 0 where
   pub clash : is_tautology ls ≡ is_tautology rest
   pub literals : distinct ls ≡ kept ++ distinct rest
   pub apart : none_again kept rest ≡ true
-
-pub reading_start : (ls : List Literal) → Reading ls [] ls
-reading_start ls = record { clash = refl; literals = refl; apart = refl }
 
 none_again-less : (ks : List Literal) (l : Literal) (ls : List Literal) → none_again ks (l ∷ ls) ≡ true → none_again ks ls ≡ true
 none_again-less [] l ls h = refl
@@ -41,12 +37,6 @@ no_var l (m ∷ ls) h k =
     apart e true false x y = true≢false (sym (ap (λ (b : Bool). b && true) e) ∙ x)
     apart e false true x y = true≢false (sym (ap (λ (b : Bool). b && true) e) ∙ x)
     apart e false false x y = true≢false (sym (ap (λ (b : Bool). b && true) e) ∙ y)
-
--- the next literal, where its opposite stands in the rest
-pub reading_clash : (ls kept : List Literal) (l : Literal) (rest : List Literal) → Reading ls kept (l ∷ rest) → has_lit (opposite l) rest ≡ true → as_clause ls ≡ []
-reading_clash ls kept l rest r h =
-    let both : is_tautology ls ≡ true = r.clash ∙ or_left _ (is_tautology rest) h in
-    rw both refl
 
 -- where it stands there itself
 pub reading_skip : (ls kept : List Literal) (l : Literal) (rest : List Literal) → Reading ls kept (l ∷ rest) → has_lit (opposite l) rest ≡ false → has_lit l rest ≡ true → Reading ls kept rest
@@ -74,9 +64,6 @@ reading_new ls kept l rest r = new kept r.apart
         let parts = and_parts _ _ h in
         let none = or_parts _ _ (not-true (has_var k.var (l ∷ rest)) parts.0) in
         or_from _ _ (ne_eqb k.var l.var (λ e. eqb-false l.var k.var none.0 (sym e))) (new ks parts.1)
-
-pub reading_end : (ls kept : List Literal) → Reading ls kept [] → as_clause ls ≡ kept ∷ []
-reading_end ls kept r = rw (r.clash, r.literals) (ap (λ (c : List Literal). c ∷ []) (append-nil kept))
 
 -- the same, where the rest is told by an index
 pub reading_at : (ls kept : List Literal) (i : ℕ) (l : Literal) → i < length ls → l ≡ get_or ls i l → Reading ls kept (drop i ls) → Reading ls kept (l ∷ drop (i + 1) ls)

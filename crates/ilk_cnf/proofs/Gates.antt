@@ -10,7 +10,6 @@ use Rattle.ilk_cnf.specs.Formula.{Formula, grown, lit_in, clause_in, clauses_in,
 use Rattle.ilk_cnf.specs.Truth.{value, is_true, some_true, satisfies}
 use Rattle.ilk_cnf.specs.Part.{Part, as_clauses, with_part, and_then, equals_all, all_of_part, any_of_part}
 use Rattle.ilk_cnf.proofs.Literals.{clause_in-more}
-use Rattle.ilk_cnf.proofs.Distinct.{as_clause_in}
 
 -- literals
 
@@ -29,13 +28,6 @@ opposite-opposite l = ap (λ (p : Bool). let m : Literal = record { var = l.var;
     twice : (p : Bool) → not (not p) ≡ p
     twice true = refl
     twice false = refl
-
-pub opposites-opposite : (ls : List Literal) → map opposite (map opposite ls) ≡ ls
-opposites-opposite [] = refl
-opposites-opposite (l ∷ ls) =
-    let one = opposite-opposite l in
-    let rest = opposites-opposite ls in
-    rw (one, rest) refl
 
 same_lit-true : (a : List Bool) (l m : Literal) → same_lit l m ≡ true → is_true a l ≡ is_true a m
 same_lit-true a l m h =
@@ -101,12 +93,6 @@ pub satisfies-as_clauses : (a : List Bool) (lss : List (List Literal)) → satis
 satisfies-as_clauses a [] = refl
 satisfies-as_clauses a (ls ∷ lss) =
     list_all-append (some_true a) (as_clause ls) (as_clauses lss) ∙ (let one = satisfies-as_clause a ls in let rest = satisfies-as_clauses a lss in rw (one, rest) refl)
-
-pub as_clauses_in : (n : ℕ) (lss : List (List Literal)) → clauses_in n lss ≡ true → clauses_in n (as_clauses lss) ≡ true
-as_clauses_in n [] h = refl
-as_clauses_in n (ls ∷ lss) h =
-    let parts = and_parts _ _ h in
-    list_all-append (clause_in n) (as_clause ls) (as_clauses lss) ∙ and_from _ _ (as_clause_in n ls parts.0) (as_clauses_in n lss parts.1)
 
 pub as_clauses-append : (lss mss : List (List Literal)) → as_clauses (lss ++ mss) ≡ as_clauses lss ++ as_clauses mss
 as_clauses-append [] mss = refl

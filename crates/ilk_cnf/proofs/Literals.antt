@@ -1,7 +1,8 @@
 -- Literals over different variables, and literals of the variables 1 to n.
-use Rattle.std.proofs.Common.{◌≡◌, ◌==◌, ◌≤◌, ◌^◌, true, false, List, [], ◌∷◌, ◌++◌, refl, eqb, ℕ, sym, ◌∙◌, arith}
+use Rattle.std.proofs.Common.{◌≡◌, ◌==◌, ◌<◌, ◌≤◌, ◌^◌, true, false, List, [], ◌∷◌, ◌++◌, refl, eqb, ℕ, sym, ◌∙◌, arith}
+use Rattle.std.specs.Prelude.{nat_le, nat_lt}
 use Rattle.std.proofs.lemmas.List.Folds.{list_any-append}
-use Rattle.std.proofs.lemmas.Bool.{and_parts, and_from, or_parts, or_from, eqb-false, ne_eqb, not-true, not_from_false, leb-true, le-leb}
+use Rattle.std.proofs.lemmas.Bool.{and_parts, and_from, or_parts, or_from, eqb-false, ne_eqb, not-true, not_from_false, leb-true, ltb-true, le-leb}
 use Rattle.ilk_cnf.specs.Literal.{Literal, has_var, vars_differ}
 use Rattle.ilk_cnf.specs.Formula.{lit_in, clause_in, clauses_in, Formula, IsFormula}
 
@@ -15,6 +16,10 @@ vars_differ-push (m ∷ ls) l h k =
     let other : eqb l.var m.var ≡ false = ne_eqb l.var m.var (λ e. eqb-false m.var l.var away.0 (sym e)) in
     let both : has_var m.var (ls ++ l ∷ []) ≡ false = list_any-append (λ (x : Literal). x.var == m.var) ls (l ∷ []) ∙ or_from _ _ none (or_from _ _ other refl) in
     and_from _ _ (not_from_false _ both) (vars_differ-push ls l parts.1 away.1)
+
+-- the variable of a literal is one of 1 to n
+pub lit_in-parts : (n : ℕ) (l : Literal) → lit_in n l ≡ true → (0 < l.var) × (l.var ≤ n)
+lit_in-parts n l h = (let p = and_parts (nat_lt 0 l.var) (nat_le l.var n) h in (ltb-true 0 l.var p.0, leb-true l.var n p.1))
 
 pub lit_in-more : (m n : ℕ) (l : Literal) → m ≤ n → lit_in m l ≡ true → lit_in n l ≡ true
 lit_in-more m n l le h =

@@ -13,7 +13,6 @@ use Rattle.serde_json.specs.View.{items_of}
 use Rattle.ilk_base.specs.Result.{in_order}
 use Rattle.ilk_plant.specs.Limits.{HasLimits, counts_are_allowed, route_has_limits, route_has_names, section_has_names}
 use Rattle.ilk_plant.specs.Name.{Name}
-use Rattle.ilk_plant.specs.Words.{direction_of_word, direction_word, position_of_word, position_word}
 use Rattle.ilk_plant.specs.declared.draft.KindDraft.{KindDraft}
 use Rattle.ilk_plant.specs.declared.draft.KindDraft.TheVariants.{Linear, Point}
 use Rattle.ilk_plant.specs.declared.draft.ListedDraft.{ListedDraft}
@@ -22,10 +21,7 @@ use Rattle.ilk_plant.specs.declared.draft.RouteDraft.{RouteDraft}
 use Rattle.ilk_plant.specs.declared.draft.SectionDraft.{SectionDraft}
 use Rattle.ilk_plant.specs.declared.draft.TableDraft.{TableDraft}
 use Rattle.ilk_plant.specs.declared.limits.TheConstants.{MAX_ROUTES, MAX_SECTIONS}
-use Rattle.ilk_plant.specs.declared.network.Dir.{Dir}
-use Rattle.ilk_plant.specs.declared.network.Dir.TheVariants.{Up, Down}
-use Rattle.ilk_plant.specs.declared.network.Position.{Position}
-use Rattle.ilk_plant.specs.declared.network.Position.TheVariants.{Plus, Minus}
+use Rattle.ilk_plant.proofs.WordsBack.{direction_back, position_back}
 use Rattle.ilk_net_read.specs.Document.{Parts, has_allowed_counts}
 use Rattle.ilk_net_read.specs.Member.{as_optional_text, each_as, entries_of}
 use Rattle.ilk_net_read.specs.Network.{document_of, network_of, section_of}
@@ -77,23 +73,15 @@ optional-read : (x : Option Name) → as_optional_text (optional_value x) ≡ So
 optional-read None = refl
 optional-read (Some text) = refl
 
-direction-read : (d : Dir) → direction_of_word (direction_word d) ≡ Some d
-direction-read Up = refl
-direction-read Down = refl
-
-position-read : (at : Position) → position_of_word (position_word at) ≡ Some at
-position-read Plus = refl
-position-read Minus = refl
-
 section-read : (s : SectionDraft) → as_section (section_value s) ≡ Some s
 section-read s = by_kind s.kind
   where
     by_kind : (kind : KindDraft) → as_section (section_value (record { name = s.name; kind = kind })) ≡ Some (record { name = s.name; kind = kind })
     by_kind (Linear down up board_down board_up) = rw (optional-read down, optional-read up, optional-read board_down, optional-read board_up) refl
-    by_kind (Point stem plus minus faces) = rw (direction-read faces) refl
+    by_kind (Point stem plus minus faces) = rw (direction_back faces) refl
 
 listed-read : (l : ListedDraft) → as_listed (listed_value l) ≡ Some l
-listed-read l = rw (position-read l.at) refl
+listed-read l = rw (position_back l.at) refl
 
 -- ---- lists of values
 

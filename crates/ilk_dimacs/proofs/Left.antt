@@ -1,8 +1,7 @@
 -- What is left of the text of a formula, a word after the other.
 use Rattle.std.proofs.Common.{◌≡◌, ℕ, ◌+◌, ◌-◌, ◌≤◌, List, [], ◌∷◌, ◌++◌, Some, length, drop, refl, sym, ap, ◌∙◌, arith, append_assoc, slice_get}
 use Rattle.std.specs.Prelude.{codes}
-use Rattle.std.proofs.lemmas.List.{drop_all, drop_more}
-use Rattle.std.proofs.lemmas.Option.{get_or_from_slice_get, slice_get_within}
+use Rattle.std.proofs.lemmas.List.{drop_all}
 use Rattle.ilk_cnf.specs.Literal.{Literal}
 use Rattle.ilk_cnf.specs.Formula.{Formula}
 use Rattle.ilk_lines.specs.Lines.{Bytes}
@@ -10,10 +9,7 @@ use Rattle.ilk_log.specs.StepText.{lit_word}
 use Rattle.ilk_dimacs.specs.DimacsText.{clause_words, dimacs_text, header_words}
 use Rattle.ilk_dimacs.specs.Left.{clauses_left, fed, lines_fed, lits_spaced}
 use Rattle.ilk_dimacs.proofs.Lines.{line-lits, lines-fed}
-
--- what is left of a list begins with the item at that place
-dropped : {A : Type 0} (xs : List A) (i : ℕ) (x : A) → slice_get xs i ≡ Some x → drop i xs ≡ x ∷ drop (i + 1) xs
-dropped xs i x at = drop_more xs i x (slice_get_within xs i x at) ∙ ap (λ y. y ∷ drop (i + 1) xs) (get_or_from_slice_get xs i x x at)
+use Rattle.ilk_base.proofs.Lists.{drop_from}
 
 -- where no literal of the next clause is made, the lines of all clauses are left
 pub left_whole : (cs : List (List Literal)) → clauses_left 0 cs ≡ lines_fed cs
@@ -28,24 +24,20 @@ left_whole (c ∷ cs) =
 pub left-literal : (cs : List (List Literal)) (i n : ℕ) (c : List Literal) (l : Literal) → slice_get cs (i + 1 - 1) ≡ Some c → slice_get c n ≡ Some l → (lit_word l ++ 32 ∷ []) ++ clauses_left (n + 1) (drop i cs) ≡ clauses_left n (drop i cs)
 left-literal cs i n c l clause literal =
     let same : i ≡ i + 1 - 1 = omega arith in
-    let here : drop i cs ≡ c ∷ drop (i + 1) cs = dropped cs i c (ap (slice_get cs) same ∙ clause) in
+    let here : drop i cs ≡ c ∷ drop (i + 1) cs = drop_from cs i c (ap (slice_get cs) same ∙ clause) in
     ap (λ (ds : List (List Literal)). (lit_word l ++ 32 ∷ []) ++ clauses_left (n + 1) ds) here
     ∙ sym (append_assoc (lit_word l ++ 32 ∷ []) (lits_spaced (drop (n + 1) c)) (codes "0\n" ++ lines_fed (drop (i + 1) cs)))
-    ∙ ap (λ (ls : List Literal). lits_spaced ls ++ (codes "0\n" ++ lines_fed (drop (i + 1) cs))) (sym (dropped c n l literal))
+    ∙ ap (λ (ls : List Literal). lits_spaced ls ++ (codes "0\n" ++ lines_fed (drop (i + 1) cs))) (sym (drop_from c n l literal))
     ∙ ap (clauses_left n) (sym here)
 
 -- before the end of a clause
 pub left-end : (cs : List (List Literal)) (i n : ℕ) (c : List Literal) → slice_get cs (i + 1 - 1) ≡ Some c → length c ≤ n → codes "0\n" ++ clauses_left 0 (drop (i + 1) cs) ≡ clauses_left n (drop i cs)
 left-end cs i n c clause past =
     let same : i ≡ i + 1 - 1 = omega arith in
-    let here : drop i cs ≡ c ∷ drop (i + 1) cs = dropped cs i c (ap (slice_get cs) same ∙ clause) in
+    let here : drop i cs ≡ c ∷ drop (i + 1) cs = drop_from cs i c (ap (slice_get cs) same ∙ clause) in
     ap (λ (t : Bytes). codes "0\n" ++ t) (left_whole (drop (i + 1) cs))
     ∙ ap (λ (ls : List Literal). lits_spaced ls ++ (codes "0\n" ++ lines_fed (drop (i + 1) cs))) (sym (drop_all n c past))
     ∙ ap (clauses_left n) (sym here)
-
--- past the last clause
-pub left-none : (cs : List (List Literal)) (i n : ℕ) → length cs ≤ i → clauses_left n (drop i cs) ≡ []
-left-none cs i n past = ap (clauses_left n) (drop_all i cs past)
 
 -- after the first line
 pub text_is : (f : Formula) (header rest : Bytes) → header ≡ fed (header_words f) → rest ≡ lines_fed f.clauses → header ++ rest ≡ dimacs_text f

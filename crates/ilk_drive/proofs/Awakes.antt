@@ -6,10 +6,10 @@ use Rattle.std.specs.List.{list_any, range_with_len}
 use Rattle.std.proofs.lemmas.Bool.{and_parts, cases_Bool, cases_eq, eq-eqb, eqb-true, false_from_ne_true}
 use Rattle.std.specs.Cmp.Derive.{both_true}
 use Rattle.ilk_base.specs.Option.{◌>>=◌, is_some_and, only_if}
-use Rattle.ilk_base.proofs.Lists.{at-before, slice_get-set_other, slice_get_set}
+use Rattle.ilk_base.proofs.Lists.{slice_get-set_other, slice_get_set}
 use Rattle.ilk_base.proofs.Numbered.{slice_get-map_numbered}
 use Rattle.ilk_base.proofs.Options.{mapped-Some, some-and}
-use Rattle.ilk_base.proofs.Tested.{list_all-slice_get, list_any-at, list_any-from, list_any-none, none-pass}
+use Rattle.ilk_base.proofs.Tested.{list_all-slice_get, list_any-at, list_any-none, none-pass}
 use Rattle.ilk_base.proofs.Truth.{fails}
 use Rattle.ilk_plant.specs.Network.{has_section}
 use Rattle.ilk_plant.specs.Plant.{IsPlant, PlantLists, board_of, point_number}
@@ -48,8 +48,10 @@ use Rattle.ilk_model.specs.Holding.{is_locked_or_occupied}
 use Rattle.ilk_model.specs.declared.event.Event.{Event}
 use Rattle.ilk_model.specs.declared.event.Event.TheVariants.{Mark, Allocate, Lock, Sense, Release, Finish, Throw, Settle, Enter, Head, Tail, Leave, Cancel}
 use Rattle.ilk_plant.proofs.PointNumbers.{number-once}
+use Rattle.ilk_plant.proofs.InLists.{section-from, section-at}
 use Rattle.ilk_strict.proofs.After.{same-occupied}
 use Rattle.ilk_strict.proofs.Points.{lie-kept, lie-other, lies-new, lists-named}
+use Rattle.ilk_strict.proofs.Table.{path-locked_for}
 use Rattle.ilk_drive.specs.Awakening.{around, asks_about, bears_on, begins_at, is_concerned, is_guarded_by, is_related, may_enable, share_section, stands_at, wants_point}
 use Rattle.ilk_drive.specs.Commands.{is_command}
 use Rattle.ilk_drive.proofs.Back.{allocate-back, allocating, finish-back, first_dir, head-back, in_occupation, leave-back, lock-back, marked, release-back, sense-back, settle-back, tail-back, throw-back}
@@ -57,14 +59,6 @@ use Rattle.ilk_drive.proofs.Changes.{GivesLock, apart, claims-back, claims-other
 use Rattle.ilk_drive.proofs.TrainChanges.{enter-alone, enter-heads, enter-leaves, enter-tails, enter-was, head-alone, head-heads, head-leaves, head-tails, head-was, leave-alone, leave-heads, leave-leaves, leave-tails, leave-was, next-around, tail-alone, tail-heads, tail-leaves, tail-tails, tail-was}
 
 -- tests that are asked of what is known ------------------------------------------------------------------------------
-
--- a list has what stands in it
-in-list : (xs : List ℕ) (k x : ℕ) → slice_get xs k ≡ Some x → has_section x xs ≡ true
-in-list xs k x at = list_any-from (λ y. y == x) xs k x at (eq-eqb x x refl)
-
-in-path : (route : Route) (k x : ℕ) → slice_get route.path k ≡ Some x → has_section x (sections_locked_for route) ≡ true
-in-path route k x at =
-    in-list (sections_locked_for route) k x (at-before (sections_of route) (protecting_points_of route) k x (at-before route.path route.overlap k x at))
 
 -- an unrelated route has no conflict with r, shares no section with it, and neither guards the other
 record AreApart (r : ℕ) (route other : Route) : Type 0 where
@@ -84,11 +78,8 @@ are-apart p r q route other known that out =
 -- a section of the one isn't one of the other
 not-shared : (a b : Route) → share_section a b ≡ false → (x : ℕ) → has_section x (sections_locked_for b) ≡ true → has_section x (sections_locked_for a) ≡ false
 not-shared a b out x in_ = false_from_ne_true (has_section x (sections_locked_for a)) (λ h.
-    let found = list_any_at (sections_locked_for a) x h in
+    let found = section-at x (sections_locked_for a) h in
     true-false (has_section x (sections_locked_for b)) in_ (list_any-none (λ y. has_section y (sections_locked_for b)) (sections_locked_for a) found.0 x out found.1))
-  where
-    list_any_at : (xs : List ℕ) (x : ℕ) → has_section x xs ≡ true → (k : ℕ) × (slice_get xs k ≡ Some x)
-    list_any_at xs x h = let found = list_any-at (λ y. y == x) xs h in (found.0, found.2 ∙ ap Some (eqb-true found.1 x found.3))
 
 -- what an unconcerned route doesn't ask about
 record AsksNot (p : PlantLists) (x : ℕ) (route : Route) : Type 0 where
@@ -401,7 +392,7 @@ sense-keeps p plant s t shape r it (Cancel q) own out h = cc
 
 release-keeps : (p : PlantLists) → IsPlant p → (s t : State) → HasShape p s → (r : ℕ) → IsReleased p s t r → Keeps p s t (Release r)
 release-keeps p plant s t shape r it (Mark q) own out h = cc
-release-keeps p plant s t shape r it (Allocate q) own out h = allocate-back p s t q (states-back p s t r it.route it.now (record it.now { rel = it.now.rel + 1 }) it.changes q marked (ap (λ (m : Mode). same_mode m Marked) it.was)) (λ route known k c at free. claims-back p s t r it.route it.now (record it.now { rel = it.now.rel + 1 }) it.changes (inl (ap (λ (m : Mode). same_mode m Allocating || same_mode m Locked) it.was)) c free) (λ route known k x at. clear-back s t x (lock-same s t FreeLock (λ z. z == it.x) (locks-set s t it.x FreeLock it.locks) x FreeLock (not-these (sections_locked_for it.route) x it.x (not-shared it.route route (are-apart p r q it.route route it.changes.known known out).sections x (in-list (sections_locked_for route) k x at)) (in-path it.route it.now.rel it.x it.first))) (vacant-stays s t it.trains x)) h
+release-keeps p plant s t shape r it (Allocate q) own out h = allocate-back p s t q (states-back p s t r it.route it.now (record it.now { rel = it.now.rel + 1 }) it.changes q marked (ap (λ (m : Mode). same_mode m Marked) it.was)) (λ route known k c at free. claims-back p s t r it.route it.now (record it.now { rel = it.now.rel + 1 }) it.changes (inl (ap (λ (m : Mode). same_mode m Allocating || same_mode m Locked) it.was)) c free) (λ route known k x at. clear-back s t x (lock-same s t FreeLock (λ z. z == it.x) (locks-set s t it.x FreeLock it.locks) x FreeLock (not-these (sections_locked_for it.route) x it.x (not-shared it.route route (are-apart p r q it.route route it.changes.known known out).sections x (section-from (sections_locked_for route) k x at)) (path-locked_for it.route it.now.rel it.x it.first))) (vacant-stays s t it.trains x)) h
 release-keeps p plant s t shape r it (Lock q) own out h = lock-back p s t q (states-back p s t r it.route it.now (record it.now { rel = it.now.rel + 1 }) it.changes q allocating (ap (λ (m : Mode). same_mode m Allocating) it.was)) (λ route known k listed at. lies-back p s t listed (lie-stays p s t it.points listed.point)) (λ route known k m at. aspect-stays s t it.boards m Closed) (λ route known. protecting-keeps p s t r it.route it.now (record it.now { rel = it.now.rel + 1 }) it.changes (inl (ap (λ (m : Mode). same_mode m Locked) it.was)) route.source) h
 release-keeps p plant s t shape r it (Sense q) own out h = sense-back p s t q (states-other p s t r it.route it.now (record it.now { rel = it.now.rel + 1 }) it.changes q is_locked_or_occupied out) (λ route now x known at next occupied locked. (occupied-stays s t it.trains x occupied, other-lock-back s t FreeLock (λ z. z == it.x) (locks-set s t it.x FreeLock it.locks) x LockedLock refl locked)) h
 release-keeps p plant s t shape r it (Release q) own out h = release-back p s t q (states-other p s t r it.route it.now (record it.now { rel = it.now.rel + 1 }) it.changes q in_occupation out) (λ route now x known at first vacant used. (vacant-stays s t it.trains x vacant, other-lock-back s t FreeLock (λ z. z == it.x) (locks-set s t it.x FreeLock it.locks) x UsedLock refl used)) h
@@ -417,11 +408,11 @@ release-keeps p plant s t shape r it (Cancel q) own out h = cc
 -- what a route doesn't lock isn't given back as it finishes
 finished-other : (route : Route) (k x z : ℕ) → slice_get route.path k ≡ Some x → has_section z (sections_locked_for route) ≡ false → (z == x || has_section z (sections_beside route)) ≡ false
 finished-other route k x z at out =
-    ap (λ (b : Bool). b || has_section z (sections_beside route)) (not-these (sections_locked_for route) z x out (in-path route k x at)) ∙ beside-none z route out
+    ap (λ (b : Bool). b || has_section z (sections_beside route)) (not-these (sections_locked_for route) z x out (path-locked_for route k x at)) ∙ beside-none z route out
 
 finish-keeps : (p : PlantLists) → IsPlant p → (s t : State) → HasShape p s → (r : ℕ) → IsFinished p s t r → Keeps p s t (Finish r)
 finish-keeps p plant s t shape r it (Mark q) own out h = cc
-finish-keeps p plant s t shape r it (Allocate q) own out h = allocate-back p s t q (states-back p s t r it.route it.now (record { mode = Free; seen = 0; rel = 0 }) it.changes q marked (refl)) (λ route known k c at free. claims-back p s t r it.route it.now (record { mode = Free; seen = 0; rel = 0 }) it.changes (inl (ap (λ (m : Mode). same_mode m Allocating || same_mode m Locked) it.was)) c free) (λ route known k x at. clear-back s t x (lock-same s t FreeLock (λ z. z == it.x || has_section z (sections_beside it.route)) (locks-set_with s t it.x (sections_beside it.route) FreeLock it.locks) x FreeLock (finished-other it.route it.now.rel it.x x it.last (not-shared it.route route (are-apart p r q it.route route it.changes.known known out).sections x (in-list (sections_locked_for route) k x at)))) (vacant-stays s t it.trains x)) h
+finish-keeps p plant s t shape r it (Allocate q) own out h = allocate-back p s t q (states-back p s t r it.route it.now (record { mode = Free; seen = 0; rel = 0 }) it.changes q marked (refl)) (λ route known k c at free. claims-back p s t r it.route it.now (record { mode = Free; seen = 0; rel = 0 }) it.changes (inl (ap (λ (m : Mode). same_mode m Allocating || same_mode m Locked) it.was)) c free) (λ route known k x at. clear-back s t x (lock-same s t FreeLock (λ z. z == it.x || has_section z (sections_beside it.route)) (locks-set_with s t it.x (sections_beside it.route) FreeLock it.locks) x FreeLock (finished-other it.route it.now.rel it.x x it.last (not-shared it.route route (are-apart p r q it.route route it.changes.known known out).sections x (section-from (sections_locked_for route) k x at)))) (vacant-stays s t it.trains x)) h
 finish-keeps p plant s t shape r it (Lock q) own out h = lock-back p s t q (states-back p s t r it.route it.now (record { mode = Free; seen = 0; rel = 0 }) it.changes q allocating (refl)) (λ route known k listed at. lies-back p s t listed (lie-stays p s t it.points listed.point)) (λ route known k m at. aspect-stays s t it.boards m Closed) (λ route known. protecting-keeps p s t r it.route it.now (record { mode = Free; seen = 0; rel = 0 }) it.changes (inl (ap (λ (m : Mode). same_mode m Locked) it.was)) route.source) h
 finish-keeps p plant s t shape r it (Sense q) own out h = sense-back p s t q (states-back p s t r it.route it.now (record { mode = Free; seen = 0; rel = 0 }) it.changes q is_locked_or_occupied (refl)) (λ route now x known at next occupied locked. (occupied-stays s t it.trains x occupied, other-lock-back s t FreeLock (λ z. z == it.x || has_section z (sections_beside it.route)) (locks-set_with s t it.x (sections_beside it.route) FreeLock it.locks) x LockedLock refl locked)) h
 finish-keeps p plant s t shape r it (Release q) own out h = release-back p s t q (states-back p s t r it.route it.now (record { mode = Free; seen = 0; rel = 0 }) it.changes q in_occupation (refl)) (λ route now x known at first vacant used. (vacant-stays s t it.trains x vacant, other-lock-back s t FreeLock (λ z. z == it.x || has_section z (sections_beside it.route)) (locks-set_with s t it.x (sections_beside it.route) FreeLock it.locks) x UsedLock refl used)) h
@@ -456,7 +447,7 @@ cancelled-locks p s t r it = given-back s t (sections_locked_for it.route) (same
 
 cancel-keeps : (p : PlantLists) → IsPlant p → (s t : State) → HasShape p s → (r : ℕ) → IsCancelled p s t r → Keeps p s t (Cancel r)
 cancel-keeps p plant s t shape r it (Mark q) own out h = cc
-cancel-keeps p plant s t shape r it (Allocate q) own out h = allocate-back p s t q (states-back p s t r it.route it.now (record it.now { mode = Free }) it.changes q marked (refl)) (λ route known k c at free. claims-other p s t r it.route it.now (record it.now { mode = Free }) it.changes c (list_any-none (λ z. z == r) route.conflicts k c (are-apart p r q it.route route it.changes.known known out).conflict at) free) (λ route known k x at. clear-back s t x (lock-same s t FreeLock (cancelled-locks p s t r it).changed (cancelled-locks p s t r it).gives x FreeLock ((cancelled-locks p s t r it).only x (not-shared it.route route (are-apart p r q it.route route it.changes.known known out).sections x (in-list (sections_locked_for route) k x at)))) (vacant-stays s t it.trains x)) h
+cancel-keeps p plant s t shape r it (Allocate q) own out h = allocate-back p s t q (states-back p s t r it.route it.now (record it.now { mode = Free }) it.changes q marked (refl)) (λ route known k c at free. claims-other p s t r it.route it.now (record it.now { mode = Free }) it.changes c (list_any-none (λ z. z == r) route.conflicts k c (are-apart p r q it.route route it.changes.known known out).conflict at) free) (λ route known k x at. clear-back s t x (lock-same s t FreeLock (cancelled-locks p s t r it).changed (cancelled-locks p s t r it).gives x FreeLock ((cancelled-locks p s t r it).only x (not-shared it.route route (are-apart p r q it.route route it.changes.known known out).sections x (section-from (sections_locked_for route) k x at)))) (vacant-stays s t it.trains x)) h
 cancel-keeps p plant s t shape r it (Lock q) own out h = lock-back p s t q (states-back p s t r it.route it.now (record it.now { mode = Free }) it.changes q allocating (refl)) (λ route known k listed at. lies-back p s t listed (lie-stays p s t it.points listed.point)) (λ route known k m at. aspect-stays s t it.boards m Closed) (λ route known. protecting-keeps p s t r it.route it.now (record it.now { mode = Free }) it.changes (inl (cancelled-unlocked it.now.mode it.was)) route.source) h
 cancel-keeps p plant s t shape r it (Sense q) own out h = sense-back p s t q (states-back p s t r it.route it.now (record it.now { mode = Free }) it.changes q is_locked_or_occupied (refl)) (λ route now x known at next occupied locked. (occupied-stays s t it.trains x occupied, other-lock-back s t FreeLock (cancelled-locks p s t r it).changed (cancelled-locks p s t r it).gives x LockedLock refl locked)) h
 cancel-keeps p plant s t shape r it (Release q) own out h = release-back p s t q (states-back p s t r it.route it.now (record it.now { mode = Free }) it.changes q in_occupation (refl)) (λ route now x known at first vacant used. (vacant-stays s t it.trains x vacant, other-lock-back s t FreeLock (cancelled-locks p s t r it).changed (cancelled-locks p s t r it).gives x UsedLock refl used)) h
@@ -522,7 +513,7 @@ enter-keeps : (p : PlantLists) → IsPlant p → (s t : State) → HasShape p s 
 enter-keeps p plant s t shape x it (Mark q) own out h = cc
 enter-keeps p plant s t shape x it (Allocate q) own out h = allocate-back p s t q (states-stay s t it.routes q marked) (λ route known k c at free. conflicts-stay s t it.routes c free) (λ route known k w at. clear-back s t w (locks-kept s t it.locks w FreeLock) (enter-leaves p s t x it w)) h
 enter-keeps p plant s t shape x it (Lock q) own out h = lock-back p s t q (states-stay s t it.routes q allocating) (λ route known k listed at. lies-back p s t listed (lie-stays p s t it.points listed.point)) (λ route known k m at. aspect-stays s t it.boards m Closed) (λ route known. protecting-stays p s t it.routes route.source) h
-enter-keeps p plant s t shape x it (Sense q) own out h = sense-back p s t q (states-stay s t it.routes q is_locked_or_occupied) (λ route now w known at next occupied locked. (enter-was p s t x it w (not-that (sections_locked_for route) w x (in-path route now.seen w next) (asks-not p x q route known out).section) occupied, locks-kept s t it.locks w LockedLock locked)) h
+enter-keeps p plant s t shape x it (Sense q) own out h = sense-back p s t q (states-stay s t it.routes q is_locked_or_occupied) (λ route now w known at next occupied locked. (enter-was p s t x it w (not-that (sections_locked_for route) w x (path-locked_for route now.seen w next) (asks-not p x q route known out).section) occupied, locks-kept s t it.locks w LockedLock locked)) h
 enter-keeps p plant s t shape x it (Release q) own out h = release-back p s t q (states-stay s t it.routes q in_occupation) (λ route now w known at first vacant used. (enter-leaves p s t x it w vacant, locks-kept s t it.locks w UsedLock used)) h
 enter-keeps p plant s t shape x it (Finish q) own out h = finish-back p s t q (states-stay s t it.routes q in_occupation) h
 enter-keeps p plant s t shape x it (Throw z) own out h = throw-stays p s t z it.points h
@@ -550,7 +541,7 @@ head-keeps : (p : PlantLists) → IsPlant p → (s t : State) → HasShape p s �
 head-keeps p plant s t shape x it (Mark q) own out h = cc
 head-keeps p plant s t shape x it (Allocate q) own out h = allocate-back p s t q (states-stay s t it.routes q marked) (λ route known k c at free. conflicts-stay s t it.routes c free) (λ route known k w at. clear-back s t w (locks-kept s t it.locks w FreeLock) (head-leaves p s t x it w)) h
 head-keeps p plant s t shape x it (Lock q) own out h = lock-back p s t q (states-stay s t it.routes q allocating) (λ route known k listed at. lies-back p s t listed (lie-stays p s t it.points listed.point)) (λ route known k m at. aspect-alike s t m Closed (headed-board p plant s t x it m (list_any-none (stands_at p x) route.protecting_boards k m (asks-not p x q route known out).board at))) (λ route known. protecting-stays p s t it.routes route.source) h
-head-keeps p plant s t shape x it (Sense q) own out h = sense-back p s t q (states-stay s t it.routes q is_locked_or_occupied) (λ route now w known at next occupied locked. (head-was p s t x it w (not-that (sections_locked_for route) w it.y (in-path route now.seen w next) (asks-not p it.y q route known (headed-unasked p s t x q it out)).section) occupied, locks-kept s t it.locks w LockedLock locked)) h
+head-keeps p plant s t shape x it (Sense q) own out h = sense-back p s t q (states-stay s t it.routes q is_locked_or_occupied) (λ route now w known at next occupied locked. (head-was p s t x it w (not-that (sections_locked_for route) w it.y (path-locked_for route now.seen w next) (asks-not p it.y q route known (headed-unasked p s t x q it out)).section) occupied, locks-kept s t it.locks w LockedLock locked)) h
 head-keeps p plant s t shape x it (Release q) own out h = release-back p s t q (states-stay s t it.routes q in_occupation) (λ route now w known at first vacant used. (head-leaves p s t x it w vacant, locks-kept s t it.locks w UsedLock used)) h
 head-keeps p plant s t shape x it (Finish q) own out h = finish-back p s t q (states-stay s t it.routes q in_occupation) h
 head-keeps p plant s t shape x it (Throw z) own out h = throw-stays p s t z it.points h
@@ -563,10 +554,10 @@ head-keeps p plant s t shape x it (Cancel q) own out h = cc
 
 tail-keeps : (p : PlantLists) → IsPlant p → (s t : State) → HasShape p s → (x : ℕ) → IsTailed p s t x → Keeps p s t (Tail x)
 tail-keeps p plant s t shape x it (Mark q) own out h = cc
-tail-keeps p plant s t shape x it (Allocate q) own out h = allocate-back p s t q (states-stay s t it.routes q marked) (λ route known k c at free. conflicts-stay s t it.routes c free) (λ route known k w at. clear-back s t w (locks-kept s t it.locks w FreeLock) (tail-leaves p s t x it w (not-that (sections_locked_for route) w x (in-list (sections_locked_for route) k w at) (asks-not p x q route known out).section))) h
+tail-keeps p plant s t shape x it (Allocate q) own out h = allocate-back p s t q (states-stay s t it.routes q marked) (λ route known k c at free. conflicts-stay s t it.routes c free) (λ route known k w at. clear-back s t w (locks-kept s t it.locks w FreeLock) (tail-leaves p s t x it w (not-that (sections_locked_for route) w x (section-from (sections_locked_for route) k w at) (asks-not p x q route known out).section))) h
 tail-keeps p plant s t shape x it (Lock q) own out h = lock-back p s t q (states-stay s t it.routes q allocating) (λ route known k listed at. lies-back p s t listed (lie-stays p s t it.points listed.point)) (λ route known k m at. aspect-stays s t it.boards m Closed) (λ route known. protecting-stays p s t it.routes route.source) h
 tail-keeps p plant s t shape x it (Sense q) own out h = sense-back p s t q (states-stay s t it.routes q is_locked_or_occupied) (λ route now w known at next occupied locked. (tail-was p s t x it w occupied, locks-kept s t it.locks w LockedLock locked)) h
-tail-keeps p plant s t shape x it (Release q) own out h = release-back p s t q (states-stay s t it.routes q in_occupation) (λ route now w known at first vacant used. (tail-leaves p s t x it w (not-that (sections_locked_for route) w x (in-path route now.rel w first) (asks-not p x q route known out).section) vacant, locks-kept s t it.locks w UsedLock used)) h
+tail-keeps p plant s t shape x it (Release q) own out h = release-back p s t q (states-stay s t it.routes q in_occupation) (λ route now w known at first vacant used. (tail-leaves p s t x it w (not-that (sections_locked_for route) w x (path-locked_for route now.rel w first) (asks-not p x q route known out).section) vacant, locks-kept s t it.locks w UsedLock used)) h
 tail-keeps p plant s t shape x it (Finish q) own out h = finish-back p s t q (states-stay s t it.routes q in_occupation) h
 tail-keeps p plant s t shape x it (Throw z) own out h = throw-stays p s t z it.points h
 tail-keeps p plant s t shape x it (Settle z) own out h = settle-stays p s t z it.points h
@@ -578,10 +569,10 @@ tail-keeps p plant s t shape x it (Cancel q) own out h = cc
 
 leave-keeps : (p : PlantLists) → IsPlant p → (s t : State) → HasShape p s → (x : ℕ) → IsLeft p s t x → Keeps p s t (Leave x)
 leave-keeps p plant s t shape x it (Mark q) own out h = cc
-leave-keeps p plant s t shape x it (Allocate q) own out h = allocate-back p s t q (states-stay s t it.routes q marked) (λ route known k c at free. conflicts-stay s t it.routes c free) (λ route known k w at. clear-back s t w (locks-kept s t it.locks w FreeLock) (leave-leaves p s t x it w (not-that (sections_locked_for route) w x (in-list (sections_locked_for route) k w at) (asks-not p x q route known out).section))) h
+leave-keeps p plant s t shape x it (Allocate q) own out h = allocate-back p s t q (states-stay s t it.routes q marked) (λ route known k c at free. conflicts-stay s t it.routes c free) (λ route known k w at. clear-back s t w (locks-kept s t it.locks w FreeLock) (leave-leaves p s t x it w (not-that (sections_locked_for route) w x (section-from (sections_locked_for route) k w at) (asks-not p x q route known out).section))) h
 leave-keeps p plant s t shape x it (Lock q) own out h = lock-back p s t q (states-stay s t it.routes q allocating) (λ route known k listed at. lies-back p s t listed (lie-stays p s t it.points listed.point)) (λ route known k m at. aspect-stays s t it.boards m Closed) (λ route known. protecting-stays p s t it.routes route.source) h
 leave-keeps p plant s t shape x it (Sense q) own out h = sense-back p s t q (states-stay s t it.routes q is_locked_or_occupied) (λ route now w known at next occupied locked. (leave-was p s t x it w occupied, locks-kept s t it.locks w LockedLock locked)) h
-leave-keeps p plant s t shape x it (Release q) own out h = release-back p s t q (states-stay s t it.routes q in_occupation) (λ route now w known at first vacant used. (leave-leaves p s t x it w (not-that (sections_locked_for route) w x (in-path route now.rel w first) (asks-not p x q route known out).section) vacant, locks-kept s t it.locks w UsedLock used)) h
+leave-keeps p plant s t shape x it (Release q) own out h = release-back p s t q (states-stay s t it.routes q in_occupation) (λ route now w known at first vacant used. (leave-leaves p s t x it w (not-that (sections_locked_for route) w x (path-locked_for route now.rel w first) (asks-not p x q route known out).section) vacant, locks-kept s t it.locks w UsedLock used)) h
 leave-keeps p plant s t shape x it (Finish q) own out h = finish-back p s t q (states-stay s t it.routes q in_occupation) h
 leave-keeps p plant s t shape x it (Throw z) own out h = throw-stays p s t z it.points h
 leave-keeps p plant s t shape x it (Settle z) own out h = settle-stays p s t z it.points h

@@ -1,7 +1,7 @@
 -- The places that are to be asked have each automatic event that is enabled: as long as places are asked, and after an event.
-use Rattle.std.proofs.Common.{◌≡◌, ℕ, ◌<◌, ◌≤◌, Bool, true, false, ◌||◌, ◌==◌, Option, Some, None, List, [], ◌∷◌, ◌++◌, length, slice_get, unwrap_or, is_some, inl, inr, sym, ap, ◌∙◌, subst, arith}
+use Rattle.std.proofs.Common.{◌≡◌, ℕ, ◌≤◌, Bool, true, false, ◌==◌, Option, Some, None, List, [], ◌∷◌, ◌++◌, length, slice_get, unwrap_or, is_some, inl, inr, sym, ap, ◌∙◌, subst, arith}
 use Rattle.std.proofs.lemmas.Bool.{cases_Bool, eqb-true, false_from_ne_true}
-use Rattle.std.proofs.lemmas.Option.{same_Some, slice_get_within}
+use Rattle.std.proofs.lemmas.Option.{same_Some}
 use Rattle.ilk_base.proofs.Lists.{slice_get-push_cases}
 use Rattle.ilk_base.proofs.Tested.{list_any-none}
 use Rattle.ilk_base.proofs.Truth.{either}
@@ -46,10 +46,6 @@ covers-without p s place places covers none j event at enabled = elim (either (p
 pub none-covered : (p : PlantLists) (s : State) (places : List ℕ) → Covers p s places → ((j : ℕ) → has_section j places ≡ false) → first_automatic p s ≡ None
 none-covered p s places covers none = first-none p s (λ j event at. false_from_ne_true (is_some (next p s event)) (λ enabled. true-false (has_section j places) (covers j event at enabled) (none j)))
 
--- what was taken out and what is left
-pub covers-taken : (p : PlantLists) (s : State) (place : ℕ) (old new : List ℕ) → Covers p s old → ((j : ℕ) → has_section j old ≡ (place == j || has_section j new)) → CoversWith p s place new
-covers-taken p s place old new covers taken j event at enabled = sym (taken j) ∙ covers j event at enabled
-
 -- the list of what each event wakes, with one event more
 pub wakes-more : (p : PlantLists) (events : List Event) (woken new : List (List ℕ)) (i : ℕ) (event : Event) (places : List ℕ) → length woken ≡ i → slice_get events i ≡ Some event → AreWoken p event places → new ≡ woken ++ places ∷ [] → WakeAsListed p events woken → WakeAsListed p events new
 wakes-more p events woken new i event places long here wakes grown before k other listed at listed_at = elim (slice_get-push_cases woken places listed k (ap (λ (l : List (List ℕ)). slice_get l k) (sym grown) ∙ listed_at)) [
@@ -58,11 +54,6 @@ wakes-more p events woken new i event places long here wakes grown before k othe
       (let same : event ≡ other = same_Some _ _ (sym here ∙ ap (slice_get events) (sym (last.0 ∙ long)) ∙ at) in
       subst (λ (l : List ℕ). AreWoken p other l) last.1 (subst (λ (e : Event). AreWoken p e places) same wakes))
 ]
-
--- all places have whatever is enabled
-pub covers-all : (p : PlantLists) (s : State) (events : List Event) (places : List ℕ) → events ≡ automatic_events p → ((j : ℕ) → j < length events → has_section j places ≡ true) → Covers p s places
-covers-all p s events places same all j event at enabled =
-    all j (subst (λ (es : List Event). j < length es) (sym same) (slice_get_within (automatic_events p) j event at))
 
 -- an event that was done leads to the state that is left
 pub done-is : (o : Option State) (s new : State) → is_some o ≡ true → new ≡ unwrap_or o s → o ≡ Some new

@@ -19,15 +19,15 @@ use Rattle.ilk_replay.proofs.Enabled.{run-about}
 use Rattle.ilk_replay.proofs.OfPlant.{written-told}
 use Rattle.ilk_replay.specs.RunText.{run_text}
 use Rattle.ilk_replay.specs.Seen.{seen_of}
-use Rattle.ilk_replay.specs.Told.{tale_of}
+use Rattle.ilk_replay.specs.Told.{tale_of, told_of}
 use Rattle.ilk_replay.specs.Writable.{IsOfPlant}
 use Rattle.ilk_replay.specs.declared.seen.Seen.TheVariants.{NoHazard, Hazard as SeenHazard}
 use Rattle.ilk_replay.specs.declared.told.Tale.TheVariants.{Told as IsTold}
 use Rattle.ilk_strict.proofs.Invariant.{forever-safe}
 use Rattle.ilk_strict.specs.IsStrict.{IsStrict}
 use Rattle.ilk_drive.specs.Drive.{Drives, IsDriveOf, Moment, Turn, beginning, is_done, rest_at, turn}
-use Rattle.ilk_drive.specs.Progress.{Comes, moment_of}
-use Rattle.ilk_drive.specs.Told.{IsRun, RestsSafely, seen_at, told_of}
+use Rattle.ilk_drive.specs.Progress.{Comes}
+use Rattle.ilk_drive.specs.Told.{IsRun, RestsSafely, seen_at}
 use Rattle.ilk_drive.specs.declared.outcome.Driven.{Driven}
 use Rattle.ilk_drive.specs.declared.outcome.Rest.{Rest}
 use Rattle.ilk_drive.specs.declared.outcome.Rest.TheVariants.{Driven as IsDriven, Stuck, Hazard}
@@ -174,6 +174,3 @@ drives-end p scene m after events o rest before comes none is =
     let ends : (turn p m ≡ None) × (after ≡ m) = subst (Comes (turn p m) m after) none comes in
     let whole : Drives p (beginning p scene) (events ++ []) rest = before [] rest (ends.0, is ∙ ap (rest_at p) ends.1) in
     subst (λ (es : List Event). Drives p (beginning p scene) es rest) (append-nil events) whole
-
-pub drives-begin : (p : PlantLists) (scene : List Event) (s : State) → s ≡ start p → (later : List Event) (rest : Rest) → Drives p (moment_of scene s 0) later rest → Drives p (beginning p scene) later rest
-drives-begin p scene s is later rest drives = subst (λ (u : State). Drives p (moment_of scene u 0) later rest) is drives

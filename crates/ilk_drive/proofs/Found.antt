@@ -1,12 +1,13 @@
 -- The first of a list that passes a test, by the places before it; and numbers that become events.
-use Rattle.std.proofs.Common.{◌⊎◌, inl, inr, get_or, unwrap_or, ◌≡◌, ℕ, zero, suc, ◌+◌, ◌<◌, ◌≤◌, Bool, true, false, Option, Some, None, List, [], ◌∷◌, ◌++◌, find, map, length, slice_get, is_some, refl, sym, ap, ◌∙◌, subst, arith}
+use Rattle.std.proofs.Common.{get_or, unwrap_or, ◌≡◌, ℕ, zero, suc, ◌+◌, ◌<◌, Bool, true, false, Option, Some, None, List, [], ◌∷◌, ◌++◌, find, map, length, slice_get, is_some, refl, sym, ap, ◌∙◌, subst, arith}
 use Rattle.std.specs.List.{range_with_len}
 use Rattle.std.proofs.lemmas.List.{append_assoc, map-append}
 use Rattle.std.proofs.lemmas.Option.{same_Some}
 use Rattle.ilk_base.proofs.Ranges.{range-more}
-use Rattle.std.proofs.lemmas.Option.{slice_get-get_or, slice_get_within}
+use Rattle.std.proofs.lemmas.Option.{slice_get-get_or}
 use Rattle.ilk_base.specs.Option.{◌>>=◌}
 use Rattle.ilk_base.proofs.Options.{none-of}
+use Rattle.ilk_base.proofs.Tested.{find-none-from}
 use Rattle.ilk_plant.specs.Plant.{PlantLists}
 use Rattle.ilk_plant.specs.declared.state.State.{State}
 use Rattle.ilk_model.specs.Event.{next}
@@ -21,10 +22,6 @@ find-first test (y ∷ ys) zero x at passes before =
     rw (ap test same ∙ passes) (ap Some same)
 find-first test (y ∷ ys) (suc i) x at passes before =
     rw (before 0 y (omega arith) refl) (find-first test ys i x at passes (λ j z less there. before (suc j) z (omega (arith, less)) there))
-
-pub find-none : {A : Type 0} (test : A → Bool) (xs : List A) → ((j : ℕ) (y : A) → slice_get xs j ≡ Some y → test y ≡ false) → find test xs ≡ None
-find-none test [] none = refl
-find-none test (y ∷ ys) none = rw (none 0 y refl) (find-none test ys (λ j z there. none (suc j) z there))
 
 pub numbers-more : (f : ℕ → Event) (n : ℕ) (start now new : List Event) (e : Event) → now ≡ start ++ map f (range_with_len 0 n) → new ≡ now ++ e ∷ [] → e ≡ f n → new ≡ start ++ map f (range_with_len 0 (n + 1))
 numbers-more f n start now new e before grown is =
@@ -45,10 +42,7 @@ pub first-is : (p : PlantLists) (s : State) (i : ℕ) (event : Event) → slice_
 first-is p s i event at enabled before = find-first (λ e. is_some (next p s e)) (automatic_events p) i event at enabled before
 
 pub first-none : (p : PlantLists) (s : State) → ((j : ℕ) (event : Event) → slice_get (automatic_events p) j ≡ Some event → is_some (next p s event) ≡ false) → first_automatic p s ≡ None
-first-none p s none = find-none (λ e. is_some (next p s e)) (automatic_events p) none
-
-pub after-found : (p : PlantLists) (s new : State) (event : Event) → first_automatic p s ≡ Some event → new ≡ unwrap_or (next p s event) s → new ≡ after_first p s
-after-found p s new event first is = is ∙ sym (ap (λ (o : Option Event). unwrap_or (o >>= next p s) s) first)
+first-none p s none = find-none-from (λ e. is_some (next p s e)) (automatic_events p) none
 
 pub after-none : (p : PlantLists) (s : State) → first_automatic p s ≡ None → s ≡ after_first p s
 after-none p s first = sym (ap (λ (o : Option Event). unwrap_or (o >>= next p s) s) first)
@@ -56,33 +50,6 @@ after-none p s first = sym (ap (λ (o : Option Event). unwrap_or (o >>= next p s
 -- what isn't enabled leaves the state
 pub left-alone : (p : PlantLists) (s new : State) (event : Event) → is_some (next p s event) ≡ false → new ≡ unwrap_or (next p s event) s → new ≡ s
 left-alone p s new event none is = is ∙ ap (λ (o : Option State). unwrap_or o s) (none-of (next p s event) none)
-
-pub none-before-more : (p : PlantLists) (s : State) (i : ℕ) (event : Event) → slice_get (automatic_events p) i ≡ Some event → is_some (next p s event) ≡ false → NoneBefore p s i → NoneBefore p s (i + 1)
-none-before-more p s i event at none before j other less there = elim (before_or_at j i less) [
-  | inl earlier ↦ before j other earlier there
-  | inr here ↦
-      let same : event ≡ other = same_Some _ _ (sym at ∙ ap (slice_get (automatic_events p)) (sym here) ∙ there) in
-      ap (λ (e : Event). is_some (next p s e)) (sym same) ∙ none
-]
-  where
-    before_or_at : (j i : ℕ) → j < i + 1 → (j < i) ⊎ (j ≡ i)
-    before_or_at zero zero h = inr refl
-    before_or_at zero (suc i) h = inl (omega arith)
-    before_or_at (suc j) zero h = absurd (omega (arith, h))
-    before_or_at (suc j) (suc i) h = elim (before_or_at j i (omega (arith, h))) [ inl e ↦ inl (omega (arith, e)) | inr e ↦ inr (ap suc e) ]
-
--- the event that is read at a place
-pub read-at : (p : PlantLists) (items automatic : List Event) (d : Event) (i : ℕ) → items ≡ automatic → automatic ≡ automatic_events p → i < length items → slice_get (automatic_events p) i ≡ Some (get_or items i d)
-read-at p items automatic d i same all within =
-    subst (λ (xs : List Event). slice_get xs i ≡ Some (get_or items i d)) (same ∙ all) (slice_get-get_or items i d within)
-
--- where all places were asked, none is enabled
-pub all-asked : (p : PlantLists) (s : State) (items automatic : List Event) (i : ℕ) → items ≡ automatic → automatic ≡ automatic_events p → length items ≤ i → NoneBefore p s i → first_automatic p s ≡ None
-all-asked p s items automatic i same all past before =
-    first-none p s (λ j event there.
-    let within : j < length (automatic_events p) = slice_get_within (automatic_events p) j event there in
-    let long : length items ≡ length (automatic_events p) = ap length (same ∙ all) in
-    before j event (omega (arith, within, long, past)) there)
 
 -- what a look-up at a place gave
 pub got-at : (items events : List Event) (i : ℕ) (event : Event) → items ≡ events → i < length items → event ≡ get_or items i event → slice_get events i ≡ Some event

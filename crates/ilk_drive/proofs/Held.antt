@@ -1,103 +1,83 @@
 -- Places in a heap, by how far they are from the greatest number; and lists of places that grow.
-use Rattle.std.proofs.Common.{◌≡◌, ℕ, zero, suc, ◌+◌, ◌-◌, ◌<◌, ◌≤◌, Bool, true, false, ◌||◌, ◌==◌, All, Some, List, [], ◌∷◌, ◌++◌, map, slice_get, ◌⊎◌, inl, inr, refl, sym, ap, ◌∙◌, arith}
+use Rattle.std.proofs.Common.{◌≡◌, ℕ, ◌+◌, ◌-◌, ◌<◌, ◌≤◌, Bool, true, false, ◌||◌, ◌==◌, All, Some, List, ◌∷◌, map, slice_get, inl, inr, refl, sym, ap, ◌∙◌, arith}
 use Rattle.std.specs.List.{list_any}
 use Rattle.std.specs.List.Sorted.{IsPermutation}
 use Rattle.std.proofs.lemmas.Bool.{eqb-true, eq-eqb}
-use Rattle.std.proofs.lemmas.List.Folds.{list_any-append}
 use Rattle.std.proofs.lemmas.Option.{same_Some}
 use Rattle.std.proofs.lemmas.List.Sorted.{list_any-IsPermutation}
 use Rattle.ilk_base.proofs.ListTests.{all-at}
 use Rattle.ilk_base.proofs.Tested.{list_any-at, list_any-map}
-use Rattle.ilk_plant.specs.Network.{has_section}
+use Rattle.ilk_base.specs.Numbers.{has_number}
+use Rattle.ilk_base.proofs.Ranges.{below_or_at}
 use Rattle.ilk_plant.specs.Plant.{PlantLists}
 use Rattle.ilk_model.specs.declared.event.Event.{Event}
 use Rattle.ilk_drive.specs.Awakening.{may_enable}
 use Rattle.ilk_drive.specs.Places.{place_of_rank}
 
 -- a test of the items of a list, made anew
-pub any_mapped : {X Y : Type 0} (p : Y → Bool) (f : X → Y) (xs : List X) → list_any p (map f xs) ≡ list_any (λ x. p (f x)) xs
-any_mapped p f xs = list_any-map p f xs
+pub ruleset any_mapped = (list_any-map)
 
-held-by : (j : ℕ) (ranks : List ℕ) → has_section j (map place_of_rank ranks) ≡ list_any (λ rank. place_of_rank rank == j) ranks
+held-by : (j : ℕ) (ranks : List ℕ) → has_number j (map place_of_rank ranks) ≡ list_any (λ rank. place_of_rank rank == j) ranks
 held-by j ranks = list_any-map (λ place. place == j) place_of_rank ranks
 
 -- after a push, and before a pop
-pub held-more : (rank j : ℕ) (old new : List ℕ) → IsPermutation (rank ∷ old) new → has_section j (map place_of_rank new) ≡ (place_of_rank rank == j || has_section j (map place_of_rank old))
+pub held-more : (rank j : ℕ) (old new : List ℕ) → IsPermutation (rank ∷ old) new → has_number j (map place_of_rank new) ≡ (place_of_rank rank == j || has_number j (map place_of_rank old))
 held-more rank j old new order =
     held-by j new ∙ sym (list_any-IsPermutation (λ r. place_of_rank r == j) (rank ∷ old) new order) ∙ ap (λ (b : Bool). place_of_rank rank == j || b) (sym (held-by j old))
 
-pub held-pushed : (rank place j : ℕ) (old new : List ℕ) → IsPermutation (rank ∷ old) new → place_of_rank rank ≡ place → has_section j (map place_of_rank new) ≡ (place == j || has_section j (map place_of_rank old))
-held-pushed rank place j old new order is = held-more rank j old new order ∙ ap (λ (p : ℕ). p == j || has_section j (map place_of_rank old)) is
+pub held-pushed : (rank place j : ℕ) (old new : List ℕ) → IsPermutation (rank ∷ old) new → place_of_rank rank ≡ place → has_number j (map place_of_rank new) ≡ (place == j || has_number j (map place_of_rank old))
+held-pushed rank place j old new order is = held-more rank j old new order ∙ ap (λ (p : ℕ). p == j || has_number j (map place_of_rank old)) is
 
-pub held-popped : (rank j : ℕ) (old new : List ℕ) → IsPermutation old (rank ∷ new) → has_section j (map place_of_rank old) ≡ (place_of_rank rank == j || has_section j (map place_of_rank new))
+pub held-popped : (rank j : ℕ) (old new : List ℕ) → IsPermutation old (rank ∷ new) → has_number j (map place_of_rank old) ≡ (place_of_rank rank == j || has_number j (map place_of_rank new))
 held-popped rank j old new order =
     held-by j old ∙ list_any-IsPermutation (λ r. place_of_rank r == j) old (rank ∷ new) order ∙ ap (λ (b : Bool). place_of_rank rank == j || b) (sym (held-by j new))
 
 -- the greatest rank is that of the least place
-pub held-least : (rank j : ℕ) (ranks : List ℕ) → All (λ r. r ≤ rank) ranks → has_section j (map place_of_rank ranks) ≡ true → place_of_rank rank ≤ j
+pub held-least : (rank j : ℕ) (ranks : List ℕ) → All (λ r. r ≤ rank) ranks → has_number j (map place_of_rank ranks) ≡ true → place_of_rank rank ≤ j
 held-least rank j ranks most h =
     let found = list_any-at (λ r. place_of_rank r == j) ranks (sym (held-by j ranks) ∙ h) in
     let least : found.1 ≤ rank = all-at (λ r. r ≤ rank) ranks found.0 found.1 most found.2 in
     let is : 18446744073709551615 - found.1 ≡ j = eqb-true (place_of_rank found.1) j found.3 in
     omega (arith, least, is)
 
--- a list of places with one more
-pub has-pushed : (j place : ℕ) (old new : List ℕ) → new ≡ old ++ place ∷ [] → has_section j old ≡ true → has_section j new ≡ true
-has-pushed j place old new grown h =
-    ap (has_section j) grown ∙ list_any-append (λ y. y == j) old (place ∷ []) ∙ ap (λ (b : Bool). b || has_section j (place ∷ [])) h
-
-pub has-added : (place : ℕ) (old new : List ℕ) → new ≡ old ++ place ∷ [] → has_section place new ≡ true
-has-added place old new grown =
-    ap (has_section place) grown ∙ list_any-append (λ y. y == place) old (place ∷ []) ∙ ap (λ (b : Bool). has_section place old || (b || false)) (eq-eqb place place refl) ∙ or-last (has_section place old)
-  where
-    or-last : (b : Bool) → (b || (true || false)) ≡ true
-    or-last true = refl
-    or-last false = refl
-
-before_or_at : (j i : ℕ) → j < i + 1 → (j < i) ⊎ (j ≡ i)
-before_or_at zero zero h = inr refl
-before_or_at zero (suc i) h = inl (omega arith)
-before_or_at (suc j) zero h = absurd (omega (arith, h))
-before_or_at (suc j) (suc i) h = elim (before_or_at j i (omega (arith, h))) [ inl e ↦ inl (omega (arith, e)) | inr e ↦ inr (ap suc e) ]
-
 -- one place more was looked at
-pub woken-more : (p : PlantLists) (event at_place : Event) (automatic : List Event) (i : ℕ) (wanted : Bool) (old new : List ℕ) → slice_get automatic i ≡ Some at_place → wanted ≡ may_enable p event at_place → ((j : ℕ) (other : Event) → j < i → slice_get automatic j ≡ Some other → may_enable p event other ≡ true → has_section j old ≡ true) → ((j : ℕ) → has_section j old ≡ true → has_section j new ≡ true) → (wanted ≡ true → has_section i new ≡ true) → (j : ℕ) (other : Event) → j < i + 1 → slice_get automatic j ≡ Some other → may_enable p event other ≡ true → has_section j new ≡ true
-woken-more p event at_place automatic i wanted old new here is before keeps adds j other less at may = elim (before_or_at j i less) [
+pub woken-more : (p : PlantLists) (event at_place : Event) (automatic : List Event) (i : ℕ) (wanted : Bool) (old new : List ℕ) → slice_get automatic i ≡ Some at_place → wanted ≡ may_enable p event at_place → ((j : ℕ) (other : Event) → j < i → slice_get automatic j ≡ Some other → may_enable p event other ≡ true → has_number j old ≡ true) → ((j : ℕ) → has_number j old ≡ true → has_number j new ≡ true) → (wanted ≡ true → has_number i new ≡ true) → (j : ℕ) (other : Event) → j < i + 1 → slice_get automatic j ≡ Some other → may_enable p event other ≡ true → has_number j new ≡ true
+woken-more p event at_place automatic i wanted old new here is before keeps adds j other less at may = elim (below_or_at j i less) [
   | inl earlier ↦ keeps j (before j other earlier at may)
   | inr same ↦
       (let one : other ≡ at_place = same_Some _ _ (sym at ∙ ap (slice_get automatic) same ∙ here) in
-      ap (λ (k : ℕ). has_section k new) same ∙ adds (is ∙ ap (may_enable p event) (sym one) ∙ may))
+      ap (λ (k : ℕ). has_number k new) same ∙ adds (is ∙ ap (may_enable p event) (sym one) ∙ may))
 ]
 
 -- one place is added
-pub kept-on : (place : ℕ) (old new : List ℕ) → ((j : ℕ) → has_section j new ≡ (place == j || has_section j old)) → (j : ℕ) → has_section j old ≡ true → has_section j new ≡ true
+pub kept-on : (place : ℕ) (old new : List ℕ) → ((j : ℕ) → has_number j new ≡ (place == j || has_number j old)) → (j : ℕ) → has_number j old ≡ true → has_number j new ≡ true
 kept-on place old new grows j h = grows j ∙ ap (λ (b : Bool). place == j || b) h ∙ or-true (place == j)
   where
     or-true : (b : Bool) → (b || true) ≡ true
     or-true true = refl
     or-true false = refl
 
-pub added-on : (place : ℕ) (old new : List ℕ) → ((j : ℕ) → has_section j new ≡ (place == j || has_section j old)) → has_section place new ≡ true
-added-on place old new grows = grows place ∙ ap (λ (b : Bool). b || has_section place old) (eq-eqb place place refl)
+pub added-on : (place : ℕ) (old new : List ℕ) → ((j : ℕ) → has_number j new ≡ (place == j || has_number j old)) → has_number place new ≡ true
+added-on place old new grows = grows place ∙ ap (λ (b : Bool). b || has_number place old) (eq-eqb place place refl)
 
 -- all places below a bound, with the next
-pub below-more : (place : ℕ) (old new : List ℕ) → ((j : ℕ) → has_section j new ≡ (place == j || has_section j old)) → ((j : ℕ) → j < place → has_section j old ≡ true) → (j : ℕ) → j < place + 1 → has_section j new ≡ true
-below-more place old new grows before j less = elim (before_or_at j place less) [
+pub below-more : (place : ℕ) (old new : List ℕ) → ((j : ℕ) → has_number j new ≡ (place == j || has_number j old)) → ((j : ℕ) → j < place → has_number j old ≡ true) → (j : ℕ) → j < place + 1 → has_number j new ≡ true
+below-more place old new grows before j less = elim (below_or_at j place less) [
   | inl earlier ↦ kept-on place old new grows j (before j earlier)
-  | inr same ↦ ap (λ (k : ℕ). has_section k new) same ∙ added-on place old new grows
+  | inr same ↦ ap (λ (k : ℕ). has_number k new) same ∙ added-on place old new grows
 ]
 
 -- all places of a list, up to the next
-pub listed-more : (places : List ℕ) (i place : ℕ) (old new : List ℕ) → slice_get places i ≡ Some place → ((j : ℕ) → has_section j new ≡ (place == j || has_section j old)) → ((k j : ℕ) → k < i → slice_get places k ≡ Some j → has_section j old ≡ true) → (k j : ℕ) → k < i + 1 → slice_get places k ≡ Some j → has_section j new ≡ true
-listed-more places i place old new here grows before k j less at = elim (before_or_at k i less) [
+pub listed-more : (places : List ℕ) (i place : ℕ) (old new : List ℕ) → slice_get places i ≡ Some place → ((j : ℕ) → has_number j new ≡ (place == j || has_number j old)) → ((k j : ℕ) → k < i → slice_get places k ≡ Some j → has_number j old ≡ true) → (k j : ℕ) → k < i + 1 → slice_get places k ≡ Some j → has_number j new ≡ true
+listed-more places i place old new here grows before k j less at = elim (below_or_at k i less) [
   | inl earlier ↦ kept-on place old new grows j (before k j earlier at)
   | inr same ↦
       (let one : j ≡ place = same_Some _ _ (sym at ∙ ap (slice_get places) same ∙ here) in
-      ap (λ (v : ℕ). has_section v new) one ∙ added-on place old new grows)
+      ap (λ (v : ℕ). has_number v new) one ∙ added-on place old new grows)
 ]
 
 -- where all places of a list were added
-pub listed-all : (places new : List ℕ) → ((k j : ℕ) → slice_get places k ≡ Some j → has_section j new ≡ true) → (j : ℕ) → has_section j places ≡ true → has_section j new ≡ true
+pub listed-all : (places new : List ℕ) → ((k j : ℕ) → slice_get places k ≡ Some j → has_number j new ≡ true) → (j : ℕ) → has_number j places ≡ true → has_number j new ≡ true
 listed-all places new each j h =
     let found = list_any-at (λ y. y == j) places h in
-    ap (λ (v : ℕ). has_section v new) (sym (eqb-true found.1 j found.3)) ∙ each found.0 found.1 found.2
+    ap (λ (v : ℕ). has_number v new) (sym (eqb-true found.1 j found.3)) ∙ each found.0 found.1 found.2

@@ -12,6 +12,7 @@ use Rattle.ilk_plant.specs.declared.network.Dir.{Dir}
 use Rattle.ilk_plant.specs.declared.network.Dir.TheVariants.{Up, Down}
 use Rattle.ilk_plant.specs.declared.state.State.{State}
 use Rattle.ilk_plant.specs.declared.state.Train.{Train}
+use Rattle.ilk_plant.proofs.InLists.{section-behind}
 use Rattle.ilk_motion.specs.Body.{has_head, has_tail_before_head, is_first_of_several, is_last, is_only, stands_on, train_on, with_new_head, without_tail}
 use Rattle.ilk_model.proofs.Frames.{IsEntered, IsHeaded, IsLeft, IsTailed}
 use Rattle.ilk_strict.proofs.Trains.{enter-vacant, head-vacant, leave-vacant, tail-vacant}
@@ -155,13 +156,9 @@ any-joined_left : (z : ℕ) (xs ys : List ℕ) → has_section z xs ≡ true →
 any-joined_left z [] ys h = cc
 any-joined_left z (u ∷ xs) ys h = any-either (u == z) (has_section z xs) (u == z) (has_section z (xs ++ ys)) h (λ e. e) (λ e. any-joined_left z xs ys e)
 
-any-joined_right : (z : ℕ) (xs ys : List ℕ) → has_section z ys ≡ true → has_section z (xs ++ ys) ≡ true
-any-joined_right z [] ys h = h
-any-joined_right z (u ∷ xs) ys h = any-either false true (u == z) (has_section z (xs ++ ys)) refl (λ e. cc) (λ e. any-joined_right z xs ys h)
-
 pub next-around : (p : PlantLists) (x y : ℕ) (d : Dir) → has_section y (next_to p x d) ≡ true → has_section y (around p x) ≡ true
 next-around p x y Down h = any-joined_left y (next_to p x Down) (next_to p x Up) h
-next-around p x y Up h = any-joined_right y (next_to p x Down) (next_to p x Up) h
+next-around p x y Up h = section-behind y (next_to p x Down) (next_to p x Up) h
 
 -- what isn't around x isn't a section that is
 pub not-around : (p : PlantLists) (x y z : ℕ) → has_section y (around p x) ≡ true → has_section z (around p x) ≡ false → (y == z) ≡ false

@@ -1,11 +1,12 @@
 -- Where an event doesn't touch a section, it leads to no hazard there; and the least hazard among the sections that it touches
 -- is the least of all, since the others have none.
-use Rattle.std.proofs.Common.{◌≡◌, ℕ, zero, suc, ◌<◌, ◌≤◌, Bool, true, false, ◌||◌, ◌&&◌, ◌==◌, cond, Option, Some, None, option_map, List, [], ◌∷◌, ◌++◌, find, length, option_to_list, append-nil, set, slice_get, inl, inr, refl, sym, ap, ◌∙◌, subst, arith}
+use Rattle.std.proofs.Common.{◌≡◌, ℕ, ◌<◌, Bool, true, false, ◌||◌, ◌&&◌, ◌==◌, cond, Option, Some, None, option_map, List, [], ◌∷◌, ◌++◌, find, length, option_to_list, append-nil, set, slice_get, inl, inr, refl, sym, ap, ◌∙◌, subst, arith}
 use Rattle.std.specs.List.{range_with_len}
 use Rattle.std.proofs.lemmas.Bool.{and_parts, both_ways, cases_Bool, eqb-true, false_from_ne_true, or_left, or_right}
-use Rattle.std.proofs.lemmas.Option.{none-some, same_Some}
 use Rattle.ilk_base.proofs.Ranges.{find-least, range-at, range_within}
 use Rattle.ilk_base.proofs.Truth.{either}
+use Rattle.ilk_base.proofs.Options.{mapped-None}
+use Rattle.ilk_base.proofs.Tested.{find-none-at, find-none-from}
 use Rattle.ilk_plant.specs.Network.{has_section}
 use Rattle.ilk_plant.specs.Plant.{PlantLists, border, point_number}
 use Rattle.ilk_plant.specs.Start.{start}
@@ -18,6 +19,7 @@ use Rattle.ilk_plant.specs.declared.state.Lie.TheVariants.{Plus, Minus, Moving}
 use Rattle.ilk_plant.specs.declared.state.PointState.{PointState}
 use Rattle.ilk_plant.specs.declared.state.State.{State}
 use Rattle.ilk_plant.specs.declared.state.Train.{Train}
+use Rattle.ilk_plant.proofs.InLists.{only-one, rest-has}
 use Rattle.ilk_motion.specs.Body.{is_last, train_on}
 use Rattle.ilk_routes.specs.Claims.{wanted_points}
 use Rattle.ilk_model.specs.Event.{next}
@@ -29,17 +31,15 @@ use Rattle.ilk_model.proofs.LeastHazard.{hazard_at}
 use Rattle.ilk_model.proofs.Straying.{rest-strays}
 use Rattle.ilk_model.proofs.Frames.{IsEntered, IsHeaded, IsLeft, IsTailed, allocate-frame, cancel-frame, enter-frame, finish-frame, head-frame, leave-frame, lock-frame, mark-frame, release-frame, sense-frame, settle-frame, tail-frame, throw-frame}
 use Rattle.ilk_strict.proofs.After.{two-reads, wrong-reads}
-use Rattle.ilk_strict.proofs.Ahead.{only-one}
 use Rattle.ilk_strict.proofs.Points.{lie-alike, lie-kept, lie-other}
 use Rattle.ilk_strict.proofs.Reading.{occupied-from}
 use Rattle.ilk_strict.proofs.TrainFacts.{two-at, two-from, wrong-at, wrong-from}
-use Rattle.ilk_strict.proofs.Trains.{enter-trains, head-trains, leave-trains, longer-has, removed-once, shorter-has, tail-trains}
+use Rattle.ilk_strict.proofs.Trains.{enter-trains, head-trains, leave-trains, longer-has, removed-once, tail-trains}
 use Rattle.ilk_strict.proofs.Invariant.{start-meets}
 use Rattle.ilk_drive.specs.Awakening.{around}
 use Rattle.ilk_drive.specs.Touched.{IsHazardAfter, IsLeastHazardous, touched}
 use Rattle.ilk_drive.proofs.Awakes.{headed-around}
 use Rattle.ilk_drive.proofs.Changes.{apart, neither}
-use Rattle.ilk_drive.proofs.Found.{find-none}
 use Rattle.ilk_drive.proofs.TrainChanges.{not-around, vacant-by}
 
 -- hazards at each section ---------------------------------------------------------------------------------------------
@@ -48,28 +48,13 @@ use Rattle.ilk_drive.proofs.TrainChanges.{not-around, vacant-by}
 abbrev pub IsCalm : PlantLists → State → Type 0
 IsCalm p s = (x : ℕ) → x < length p.sections → is_hazardous p s x ≡ false
 
-found-none : {X : Type 0} (test : X → Bool) (xs : List X) (i : ℕ) (x : X) → find test xs ≡ None → slice_get xs i ≡ Some x → test x ≡ false
-found-none test [] i x none at = cc
-found-none {X} test (y ∷ ys) i x none at = elim (cases_Bool (test y)) [
-  | inl passes ↦ (let some : Some y ≡ None = rw passes at none in absurd (none-some y (sym some)))
-  | inr fails ↦ (let rest : find test ys ≡ None = rw fails at none in by_place i at rest fails (found-none test ys))
-]
-  where
-    by_place : (j : ℕ) → slice_get (y ∷ ys) j ≡ Some x → find test ys ≡ None → test y ≡ false → ((k : ℕ) (v : X) → find test ys ≡ None → slice_get ys k ≡ Some v → test v ≡ false) → test x ≡ false
-    by_place zero here rest fails later = ap test (sym (same_Some y x here)) ∙ fails
-    by_place (suc j) here rest fails later = later j x rest here
-
-unmapped : {X Y : Type 0} (f : X → Y) (o : Option X) → option_map f o ≡ None → o ≡ None
-unmapped f None e = refl
-unmapped f (Some x) e = cc
-
 pub calm-of : (p : PlantLists) (s : State) → hazard p s ≡ None → IsCalm p s
 calm-of p s none x within =
-    found-none (is_hazardous p s) (range_with_len 0 (length p.sections)) x x (unmapped (hazard_at s) (find (is_hazardous p s) (range_with_len 0 (length p.sections))) none) (range-at (length p.sections) x within)
+    find-none-at (is_hazardous p s) (range_with_len 0 (length p.sections)) x x (mapped-None (hazard_at s) (find (is_hazardous p s) (range_with_len 0 (length p.sections))) none) (range-at (length p.sections) x within)
 
 pub none-calm : (p : PlantLists) (s : State) → IsCalm p s → hazard p s ≡ None
 none-calm p s calm =
-    ap (option_map (hazard_at s)) (find-none (is_hazardous p s) (range_with_len 0 (length p.sections)) (λ j x at. calm x (range_within (length p.sections) j x at).1))
+    ap (option_map (hazard_at s)) (find-none-from (is_hazardous p s) (range_with_len 0 (length p.sections)) (λ j x at. calm x (range_within (length p.sections) j x at).1))
 
 pub start-calm : (p : PlantLists) → hazard p (start p) ≡ None
 start-calm p = (start-meets p).no_hazard
@@ -147,7 +132,7 @@ module _ (p : PlantLists) (s t : State) (z : ℕ) (two : is_two s z ≡ false) (
     where
       was : (i : ℕ) (one : Train) → slice_get t.trains i ≡ Some one → has_section z one.body ≡ true → (old : Train) × (slice_get s.trains i ≡ Some old) × (has_section z old.body ≡ true)
       was i one at has = elim (tail-trains p s t x it i one at) [
-        | inl moved ↦ (it.train, ap (slice_get s.trains) moved.0 ∙ it.at, shorter-has z it.train.body (subst (λ (train : Train). has_section z train.body ≡ true) moved.1 has))
+        | inl moved ↦ (it.train, ap (slice_get s.trains) moved.0 ∙ it.at, rest-has z it.train.body (subst (λ (train : Train). has_section z train.body ≡ true) moved.1 has))
         | inr other ↦ (one, other.1, has)
       ]
 
@@ -288,35 +273,6 @@ least-passed p s x sections (Some z) free least = (
     | inr among ↦ least.2 y among within e
   ],
 )
-
--- nor is one that comes after
-pub least-kept : (p : PlantLists) (s : State) (x z : ℕ) (sections : List ℕ) → z ≤ x → IsLeastHazardous p s sections (Some z) → IsLeastHazardous p s (x ∷ sections) (Some z)
-least-kept p s x z sections after least = (
-  least.0,
-  least.1,
-  λ y in_ within e. elim (either (x == y) (has_section y sections) in_) [
-    | inl same ↦ (let here = eqb-true x y same in omega (arith, here, after))
-    | inr among ↦ least.2 y among within e
-  ],
-)
-
--- one that comes before is less, and so is the first that is found
-pub least-taken : (p : PlantLists) (s : State) (x : ℕ) (sections : List ℕ) (o : Option ℕ) → x < length p.sections → is_hazardous p s x ≡ true → ((z : ℕ) → o ≡ Some z → x ≤ z) → IsLeastHazardous p s sections o → IsLeastHazardous p s (x ∷ sections) (Some x)
-least-taken p s x sections o within passes before least = (
-  within,
-  passes,
-  λ y in_ there e. elim (either (x == y) (has_section y sections) in_) [
-    | inl same ↦ (let here = eqb-true x y same in omega (arith, here))
-    | inr among ↦ by_found o refl least y among there e
-  ],
-)
-  where
-    by_found : (o' : Option ℕ) → o ≡ o' → IsLeastHazardous p s sections o' → (y : ℕ) → has_section y sections ≡ true → y < length p.sections → is_hazardous p s y ≡ true → x ≤ y
-    by_found None is least y among there e = absurd (both_ways (is_hazardous p s y) (least y among there) e)
-    by_found (Some z) is least y among there e =
-        let first = before z is in
-        let second = least.2 y among there e in
-        omega (arith, first, second)
 
 -- the sections next to a linear section, and next to a point
 pub least-linear : (p : PlantLists) (s : State) (x : ℕ) (down up board_down board_up o : Option ℕ) → slice_get p.sections x ≡ Some (Linear down up board_down board_up) → IsLeastHazardous p s (option_to_list down ++ (option_to_list up ++ [])) o → IsLeastHazardous p s (around p x) o

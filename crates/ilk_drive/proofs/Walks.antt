@@ -1,5 +1,5 @@
 -- How many sections lie ahead of a section: with each step there are fewer.
-use Rattle.std.proofs.Common.{◌≡◌, ℕ, zero, suc, ◌+◌, ◌<◌, ◌≤◌, Bool, true, false, not, ◌&&◌, ◌||◌, ◌==◌, Option, Some, List, [], ◌∷◌, ◌++◌, length, slice_get, count_by, cond, inl, inr, refl, sym, ap, ◌∙◌, subst, arith}
+use Rattle.std.proofs.Common.{◌≡◌, ℕ, zero, suc, ◌+◌, ◌<◌, ◌≤◌, Bool, true, false, not, ◌&&◌, ◌||◌, Option, Some, List, [], ◌∷◌, ◌++◌, length, slice_get, count_by, cond, inl, inr, refl, sym, ap, ◌∙◌, subst, arith}
 use Rattle.std.specs.List.{last_or, range_with_len}
 use Rattle.std.proofs.lemmas.Bool.{and_parts, eq-eqb, false_from_ne_true}
 use Rattle.std.proofs.lemmas.List.FromFn.{length-range_with_len}
@@ -16,6 +16,7 @@ use Rattle.ilk_plant.specs.Plant.{IsPlant, PlantLists, next_to}
 use Rattle.ilk_plant.specs.Shape.{leads_on}
 use Rattle.ilk_plant.specs.Sound.{NeverReturns}
 use Rattle.ilk_plant.specs.declared.network.Dir.{Dir}
+use Rattle.ilk_plant.proofs.InLists.{section-behind}
 
 -- whether y is next to x on side d
 abbrev pub is_step : PlantLists → Dir → ℕ → ℕ → Bool
@@ -46,14 +47,6 @@ ends-joined : (o : Option ℕ) (z : ℕ) (front back : List ℕ) → last_or o f
 ends-joined o z [] back e = ap (λ (v : Option ℕ). last_or v back) e
 ends-joined o z (u ∷ front) back e = ends-joined (Some u) z front back e
 
-comes-joined : (y : ℕ) (front back : List ℕ) → has_section y back ≡ true → has_section y (front ++ back) ≡ true
-comes-joined y [] back h = h
-comes-joined y (u ∷ front) back h = later (u == y) (comes-joined y front back h)
-  where
-    later : (b : Bool) → has_section y (front ++ back) ≡ true → (b || has_section y (front ++ back)) ≡ true
-    later true h = refl
-    later false h = h
-
 -- what is reached is reached by a walk
 walk-to : (p : PlantLists) (d : Dir) (n x y : ℕ) → leads_by (is_step p d) n x y ≡ true → WalkTo p d x y
 walk-to p d zero x y h = record {
@@ -72,7 +65,7 @@ walk-to p d (suc n) x y h =
           record {
             walk = a.walk ++ b.walk;
             on = walk-joined p d x n a.walk b.walk a.on a.ends b.on;
-            comes = comes-joined y a.walk b.walk b.comes;
+            comes = section-behind y a.walk b.walk b.comes;
             ends = ends-joined (Some x) n a.walk b.walk a.ends ∙ from-last n x b;
           }
     ]

@@ -3,6 +3,7 @@
 use Rattle.std.specs.Prelude.{ℕ, Bool, false, List, ◌==◌, ◌||◌, ◌++◌, slice_get}
 use Rattle.std.specs.List.{list_any}
 use Rattle.ilk_base.specs.Option.{is_some_and}
+use Rattle.ilk_base.specs.Numbers.{has_number}
 use Rattle.ilk_plant.specs.Network.{has_section}
 use Rattle.ilk_plant.specs.Plant.{PlantLists, next_to}
 use Rattle.ilk_plant.specs.TableRules.{sections_locked_for}
@@ -18,13 +19,13 @@ share_section a b = list_any (λ x. has_section x (sections_locked_for b)) (sect
 
 -- whether the source of a route is among the protecting boards of another
 abbrev pub is_guarded_by : Route → Route → Bool
-is_guarded_by a b = list_any (λ m. m == a.source) b.protecting_boards
+is_guarded_by a b = has_number a.source b.protecting_boards
 
 -- whether what becomes of route number r bears on whether another can be allocated or locked: that lists it as a conflict,
 -- shares a section with it, or one has the other's source among its protecting boards
 abbrev pub bears_on : ℕ → Route → Route → Bool
 bears_on r route other =
-    list_any (λ c. c == r) other.conflicts || (share_section route other || (is_guarded_by route other || is_guarded_by other route))
+    has_number r other.conflicts || (share_section route other || (is_guarded_by route other || is_guarded_by other route))
 
 abbrev pub is_related : PlantLists → ℕ → ℕ → Bool
 is_related p r q = is_some_and (slice_get p.routes r) (λ route. is_some_and (slice_get p.routes q) (λ other. bears_on r route other))

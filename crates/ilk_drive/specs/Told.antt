@@ -1,5 +1,5 @@
 -- The run of a drive, as its text tells it and as a replay shows it.
-use Rattle.std.specs.Prelude.{◌≡◌, ◌≢◌, true, Some, List}
+use Rattle.std.specs.Prelude.{◌≡◌, ◌≢◌, Some, List}
 use Rattle.ilk_plant.specs.Plant.{PlantLists}
 use Rattle.ilk_plant.specs.Start.{start}
 use Rattle.ilk_plant.specs.declared.state.State.{State}
@@ -8,17 +8,12 @@ use Rattle.ilk_model.specs.declared.event.Event.{Event}
 use Rattle.ilk_model.specs.declared.hazards.HazardAt.{HazardAt}
 use Rattle.ilk_replay.specs.declared.seen.Seen.{Seen}
 use Rattle.ilk_replay.specs.declared.seen.Seen.TheVariants.{NoHazard, Hazard as SeenHazard}
-use Rattle.ilk_replay.specs.declared.told.Told.{Told}
 use Rattle.ilk_drive.specs.declared.outcome.Rest.{Rest}
 use Rattle.ilk_drive.specs.declared.outcome.Rest.TheVariants.{Driven, Stuck, Hazard}
 
 -- these events are a run from the start
 abbrev pub IsRun : PlantLists → List Event → Type 0
 IsRun p events = (t : State) × (run p (start p) events ≡ Some t)
-
--- the run of these events from the start, as its text tells it
-abbrev pub told_of : PlantLists → List Event → Told
-told_of p events = record { first = start p; from_start = true; events = events }
 
 -- what a replay shows of the events of a drive that rests so: the hazard in which it rests, or else none
 abbrev pub seen_at : Rest → Seen

@@ -1,9 +1,9 @@
 ghost use Rattle.std.specs.Prelude.{ℕ, ◌≡◌, ◌++◌, ◌<◌, ◌^◌, true, IfOk, OnOk, length, map};
 ghost use Rattle.std.specs.List.{range_with_len};
-ghost use Rattle.ilk_plant.specs.Network.{has_section};
 ghost use Rattle.ilk_model.specs.declared.event.Event.{Event};
 ghost use Rattle.ilk_drive.specs.Drive.{automatic_events};
 ghost use Rattle.ilk_drive.specs.Places.{IsAutomaticOf, WakeAsListed};
+ghost use Rattle.ilk_base.specs.Numbers.{has_number};
 
 use crate::candidates::Candidates;
 use crate::waking::places_woken;
@@ -83,7 +83,7 @@ impl Automatic {
 
     /// The places of all of them.
     pub(crate) fn all_places(&self, alloc: Global) -> Result<Candidates, AllocError>
-        ensures { IfOk result (λ candidates. (j : ℕ) → j < length self.now.events → has_section j candidates ≡ true) }
+        ensures { IfOk result (λ candidates. (j : ℕ) → j < length self.now.events → has_number j candidates ≡ true) }
     {
         let mut candidates = Candidates::new(alloc);
         for place in 0..self.events.len() {

@@ -7,6 +7,7 @@ ghost use Rattle.ilk_plant.specs.TableRules.{sections_locked_for, sections_of};
 ghost use Rattle.ilk_routes.specs.Claims.{wanted_points};
 ghost use Rattle.ilk_drive.specs.Awakening.{around, bears_on, begins_at, is_concerned, is_guarded_by, is_related, share_section, stands_at, wants_point};
 
+use ilk_base::has_number;
 use ilk_plant::{Dir, Listed, Plant, Route, Row, Section, has_section};
 
 // Whether some of these entries is of the point on section `x`.
@@ -81,14 +82,14 @@ fn share_section(a: &Route, b: &Route) -> bool
 fn is_guarded_by(a: &Route, b: &Route) -> bool
     ensures { result ≡ is_guarded_by a.now b.now }
 {
-    has_section(&b.protecting_boards, a.source)
+    has_number(b.protecting_boards.as_slice(), a.source)
 }
 
 // Whether what becomes of route number `r` bears on whether another can be allocated or locked.
 fn bears_on(r: u32, route: &Route, other: &Route) -> bool
     ensures { result ≡ bears_on r route.now other.now }
 {
-    has_section(&other.conflicts, r)
+    has_number(other.conflicts.as_slice(), r)
         || (share_section(route, other)
             || (is_guarded_by(route, other) || is_guarded_by(other, route)))
 }

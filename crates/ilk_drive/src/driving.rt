@@ -1,18 +1,19 @@
 ghost use Rattle.std.specs.Prelude.{ℕ, ◌≡◌, ◌≤◌, ◌*◌, true, IfOk, OnOk, None, length};
 ghost use Rattle.std.specs.List.{list_all};
-ghost use Rattle.ilk_plant.specs.Network.{has_section};
 ghost use Rattle.ilk_plant.specs.Plant.{PlantLists};
 ghost use Rattle.ilk_plant.specs.Shape.{HasShape};
 ghost use Rattle.ilk_plant.specs.declared.state.Mode.TheVariants.{Free};
 ghost use Rattle.ilk_routes.specs.Modes.{same_mode};
 ghost use Rattle.ilk_model.specs.Hazard.{hazard};
 ghost use Rattle.ilk_replay.specs.Writable.{IsOfPlant};
+ghost use Rattle.ilk_replay.specs.Told.{told_of};
 ghost use Rattle.ilk_strict.specs.IsStrict.{IsStrict};
 ghost use Rattle.ilk_drive.specs.Drive.{IsDriveOf, by_command, first_automatic, is_done, rest_at, turn};
 ghost use Rattle.ilk_drive.specs.Progress.{Comes, after_first, moment_of};
 ghost use Rattle.ilk_drive.specs.Places.{Covers, CoversWith, IsAutomaticOf, IsDone, IsFirst, IsLeast};
-ghost use Rattle.ilk_drive.specs.Told.{IsRun, RestsSafely, told_of};
+ghost use Rattle.ilk_drive.specs.Told.{IsRun, RestsSafely};
 ghost use Rattle.ilk_drive.specs.declared.limits.TheConstants.{MAX_EVENTS_FOR_A_COMMAND};
+ghost use Rattle.ilk_base.specs.Numbers.{has_number};
 
 use crate::automatic::Automatic;
 use crate::candidates::Candidates;
@@ -35,8 +36,8 @@ pub(crate) struct Standing {
 
 // Adds places to those that are to be asked.
 fn push_all(candidates: &mut Candidates, places: &Row<u64>) -> Result<(), AllocError>
-    ensures kept { OnOk result ((j : ℕ) → has_section j candidates.old ≡ true → has_section j candidates.new ≡ true) }
-    ensures added { OnOk result ((j : ℕ) → has_section j places.now ≡ true → has_section j candidates.new ≡ true) }
+    ensures kept { OnOk result ((j : ℕ) → has_number j candidates.old ≡ true → has_number j candidates.new ≡ true) }
+    ensures added { OnOk result ((j : ℕ) → has_number j places.now ≡ true → has_number j candidates.new ≡ true) }
 {
     for place in places.as_slice() {
         candidates.push(*place)?;

@@ -1,16 +1,16 @@
 //! Which automatic events an event may enable: the others needn't be asked again after it.
 ghost use Rattle.std.specs.Prelude.{ℕ, ◌≡◌, ◌==◌, true, IsTrue, IfOk, OnOk};
-ghost use Rattle.ilk_plant.specs.Network.{has_section};
 ghost use Rattle.ilk_model.specs.declared.event.Event.TheVariants.{Mark, Allocate, Lock, Sense, Release, Finish, Throw, Settle, Enter, Head, Tail, Leave, Cancel};
 ghost use Rattle.ilk_drive.specs.Drive.{automatic_events};
 ghost use Rattle.ilk_drive.specs.Places.{AreWoken};
 ghost use Rattle.ilk_drive.specs.Awakening.{begins_at, is_concerned, is_related, may_enable, wants_point};
+ghost use Rattle.ilk_base.specs.Numbers.{has_number};
 
 use crate::concerns::{
     begins_at, is_around, is_concerned, is_concerned_around, is_related, wants_point,
 };
 use ilk_model::Event;
-use ilk_plant::{Plant, Row, has_section};
+use ilk_plant::{Plant, Row};
 use std::alloc::{AllocError, Global};
 
 // Whether allocate of route `r` may enable the event.
@@ -193,8 +193,8 @@ fn may_enable(plant: &Plant, event: Event, other: Event) -> bool
 
 // Adds the place, where it is wanted.
 fn push_if(places: &mut Row<u64>, wanted: bool, place: u64) -> Result<(), AllocError>
-    ensures kept { OnOk result ((j : ℕ) → has_section j places.old ≡ true → has_section j places.new ≡ true) }
-    ensures added { OnOk result (IsTrue wanted → has_section place places.new ≡ true) }
+    ensures kept { OnOk result ((j : ℕ) → has_number j places.old ≡ true → has_number j places.new ≡ true) }
+    ensures added { OnOk result (IsTrue wanted → has_number place places.new ≡ true) }
 {
     if wanted {
         places.push(place)?;

@@ -1,5 +1,5 @@
 -- What a verdict rests on is so of runs of events where it is so of runs of values, if for each query the two exist together.
-use Rattle.std.proofs.Common.{◌≡◌, ℕ, ◌<◌, ◌≤◌, true, arith}
+use Rattle.std.proofs.Common.{◌≡◌, ℕ, ◌≤◌, true, arith}
 use Rattle.std.proofs.lemmas.Bool.{le-leb}
 use Rattle.ilk_unroll.specs.Goal.{wanted_valid}
 use Rattle.ilk_unroll.specs.declared.queries.Wanted.{Wanted}

@@ -1,8 +1,8 @@
 -- The last state of a run, by its events one after another; and what it has where the run ends in a hazard or a breach.
 use Rattle.std.proofs.Common.{◌≡◌, ℕ, ◌+◌, ◌<◌, Bool, true, false, not, ◌&&◌, Option, Some, None, List, [], ◌∷◌, drop, get_or, length, refl, sym, ap, ◌∙◌}
-use Rattle.std.specs.Prelude.{find, is_some, is_none, option_and_then, slice_get, unwrap_or, ◌-◌}
+use Rattle.std.specs.Prelude.{find, is_some, is_none, slice_get, unwrap_or, ◌-◌}
 use Rattle.std.specs.List.{range_with_len}
-use Rattle.std.proofs.lemmas.Bool.{and_parts, false≢true}
+use Rattle.std.proofs.lemmas.Bool.{false≢true}
 use Rattle.std.proofs.lemmas.List.{drop_more}
 use Rattle.ilk_base.proofs.Truth.{fails}
 use Rattle.ilk_base.specs.Option.{◌>>=◌, is_some_and, only_if}
@@ -16,9 +16,7 @@ use Rattle.ilk_model.specs.Hazard.{hazard}
 use Rattle.ilk_model.specs.Meets.{keeps_all, least_broken}
 use Rattle.ilk_model.specs.Run.{run}
 use Rattle.ilk_model.specs.declared.event.Event.{Event}
-use Rattle.ilk_model.specs.declared.hazards.HazardAt.{HazardAt}
 use Rattle.ilk_queries.specs.Asked.{ends_in_breach, ends_in_hazard}
-use Rattle.ilk_engine.specs.Right.{broken_after, hazard_after}
 
 -- the rest of a run goes on from the state after its first event
 pub run-next : (p : PlantLists) (s : State) (event : Event) (rest : List Event) (whole : Option State) → is_some whole ≡ true → run p s (event ∷ rest) ≡ whole → run p (unwrap_or (next p s event) s) rest ≡ whole
@@ -44,9 +42,6 @@ hazard-run p s events ends = let found = some-and (run p s events) (λ t. is_som
 pub breach-run : (p : PlantLists) (s : State) (events : List Event) → ends_in_breach p s events ≡ true → is_some (run p s events) ≡ true
 breach-run p s events ends = let found = some-and (run p s events) (λ t. is_none (hazard p t) && not (keeps_all p t)) ends in ap is_some found.1
 
-pub hazard-at : (p : PlantLists) (s t : State) (events : List Event) → ends_in_hazard p s events ≡ true → run p s events ≡ Some t → is_some (hazard p t) ≡ true
-hazard-at p s t events ends is = ap (λ (o : Option State). is_some_and o (λ u. is_some (hazard p u))) (sym is) ∙ ends
-
 -- of nine tests of which not all pass, one is the first
 nine : (a b c d e f g h i : Bool) → (a && (b && (c && (d && (e && (f && (g && (h && (i && true))))))))) ≡ false
     → is_some (find (λ j. not (is_some_and (slice_get (a ∷ b ∷ c ∷ d ∷ e ∷ f ∷ g ∷ h ∷ i ∷ []) (j - 1)) (λ x. x))) (range_with_len 1 9)) ≡ true
@@ -63,18 +58,6 @@ nine true true true true true true true true true fails = absurd (false≢true (
 
 least-some : (p : PlantLists) (t : State) → keeps_all p t ≡ false → is_some (least_broken p t) ≡ true
 least-some p t broken = nine (keeps_v1 p t) (keeps_v2 p t) (keeps_v3 p t) (keeps_v4 p t) (keeps_v5 p t) (keeps_v6 p t) (keeps_v7 p t) (keeps_v8 p t) (keeps_v9 p t) broken
-
-pub breach-at : (p : PlantLists) (s t : State) (events : List Event) → ends_in_breach p s events ≡ true → run p s events ≡ Some t → is_some (least_broken p t) ≡ true
-breach-at p s t events ends is =
-    let here : (is_none (hazard p t) && not (keeps_all p t)) ≡ true = ap (λ (o : Option State). is_some_and o (λ u. is_none (hazard p u) && not (keeps_all p u))) (sym is) ∙ ends in
-    least-some p t (fails (keeps_all p t) (and_parts (is_none (hazard p t)) (not (keeps_all p t)) here).1)
-
--- what the last state has
-pub hazard-there : (p : PlantLists) (events : List Event) (t : State) (at : HazardAt) → run p (start p) events ≡ Some t → hazard p t ≡ Some at → hazard_after p events ≡ Some at
-hazard-there p events t at is has = ap (option_and_then (hazard p)) is ∙ has
-
-pub broken-there : (p : PlantLists) (events : List Event) (t : State) (family : ℕ) → run p (start p) events ≡ Some t → least_broken p t ≡ Some family → broken_after p events ≡ Some family
-broken-there p events t family is has = ap (option_and_then (least_broken p)) is ∙ has
 
 -- over the events of a run, one after another
 pub run-begins : (p : PlantLists) (s : State) (items events : List Event) → s ≡ start p → items ≡ events → run p s (drop 0 items) ≡ run p (start p) events

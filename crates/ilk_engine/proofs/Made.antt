@@ -1,5 +1,5 @@
 -- What is made of the verdict on a plant's system.
-use Rattle.std.proofs.Common.{◌≡◌, ℕ, ◌<◌, ◌≤◌, true, Some, List, inl, inr, refl, sym, subst, ◌∙◌}
+use Rattle.std.proofs.Common.{◌≡◌, ℕ, ◌<◌, ◌≤◌, true, Some, List, inl, inr, sym, subst, ◌∙◌}
 use Rattle.std.specs.Prelude.{◌⊎◌, is_some}
 use Rattle.ilk_ir.specs.System.{SystemTree, in_ranges}
 use Rattle.ilk_plant.specs.Plant.{IsPlant, PlantLists}
@@ -79,22 +79,7 @@ module _ (p : PlantLists) (plant : IsPlant p) (steps : StepsAs p) (goal : IsGoal
     asked = λ conflicts asked was. was;
   }
 
-pub spent-made : (p : PlantLists) (depth : ℕ) → IsMadeOf p depth system.Spent Spent
-spent-made p depth = record { right = inr refl; lasts = tt; asked = λ conflicts asked was. was }
-
 -- a verdict that isn't spent is right
-pub right-unsafe : (s : SystemTree) (g : GoalTree) (depth : ℕ) (verdict : SystemVerdict) (trace : Trace) → verdict ≡ system.Unsafe trace → IsRight s g depth verdict ⊎ (verdict ≡ system.Spent) → IsRight s g depth (system.Unsafe trace)
-right-unsafe s g depth verdict trace same (inl right) = subst (IsRight s g depth) same right
-right-unsafe s g depth verdict trace same (inr spent) = let clash : system.Unsafe trace ≡ system.Spent = sym same ∙ spent in absurd cc
-
-pub right-breach : (s : SystemTree) (g : GoalTree) (depth : ℕ) (verdict : SystemVerdict) (trace : Trace) → verdict ≡ system.Breach trace → IsRight s g depth verdict ⊎ (verdict ≡ system.Spent) → IsRight s g depth (system.Breach trace)
-right-breach s g depth verdict trace same (inl right) = subst (IsRight s g depth) same right
-right-breach s g depth verdict trace same (inr spent) = let clash : system.Breach trace ≡ system.Spent = sym same ∙ spent in absurd cc
-
-pub right-not-inductive : (s : SystemTree) (g : GoalTree) (depth : ℕ) (verdict : SystemVerdict) (trace : Trace) → verdict ≡ system.NotInductive trace → IsRight s g depth verdict ⊎ (verdict ≡ system.Spent) → IsRight s g depth (system.NotInductive trace)
-right-not-inductive s g depth verdict trace same (inl right) = subst (IsRight s g depth) same right
-right-not-inductive s g depth verdict trace same (inr spent) = let clash : system.NotInductive trace ≡ system.Spent = sym same ∙ spent in absurd cc
-
 pub right-safe : (s : SystemTree) (g : GoalTree) (depth : ℕ) (verdict : SystemVerdict) (k : ℕ) → verdict ≡ system.Safe k → IsRight s g depth verdict ⊎ (verdict ≡ system.Spent) → IsRight s g depth (system.Safe k)
 right-safe s g depth verdict k same (inl right) = subst (IsRight s g depth) same right
 right-safe s g depth verdict k same (inr spent) = let clash : system.Safe k ≡ system.Spent = sym same ∙ spent in absurd cc

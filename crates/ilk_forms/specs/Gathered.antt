@@ -1,5 +1,5 @@
 -- Literals that stand for a form of a copy.
-use Rattle.std.specs.Prelude.{ℕ, ◌+◌, Bool, true, not, List, [], ◌∷◌, ◌++◌, Option, Some, None, if◌then◌else◌}
+use Rattle.std.specs.Prelude.{ℕ, ◌+◌, Bool, not, List, [], ◌∷◌, ◌++◌, Option, Some, None, if◌then◌else◌}
 use Rattle.ilk_cnf.specs.Literal.{Literal, plus, opposite}
 use Rattle.ilk_cnf.specs.Part.{Part, nothing_at, and_then, all_of_part, any_of_part}
 use Rattle.ilk_ints.specs.Named.{Named}

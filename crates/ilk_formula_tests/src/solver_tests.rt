@@ -2,7 +2,7 @@ ghost use Rattle.std.specs.Prelude.{◌≡◌, ℕ, false, IsTrue};
 ghost use Rattle.ilk_solver.specs.View.{is_unset};
 
 use crate::pickers::{always, by_heaviest, by_least, by_weighed, least, never};
-use crate::row_tests::{formula, search, search_of};
+use crate::row_tests::{search, search_of};
 use ilk_cnf::{Cnf, Lit};
 use ilk_solver::{Picker, Restart, Solver, View};
 use std::alloc::{AllocError, Global};

@@ -1,7 +1,6 @@
 -- Lists that grow in a loop.
-use Rattle.std.proofs.Common.{◌≡◌, ℕ, ◌+◌, ◌<◌, List, [], ◌∷◌, ◌++◌, length, map, take, get_or, sym, ap, ◌∙◌, arith, append_assoc, append-nil, add-one}
+use Rattle.std.proofs.Common.{◌≡◌, ℕ, ◌+◌, List, [], ◌∷◌, ◌++◌, sym, ap, ◌∙◌, arith, append_assoc, append-nil, add-one}
 use Rattle.std.specs.List.{flat_map, range_with_len}
-use Rattle.std.proofs.lemmas.List.{map-append, take_more}
 use Rattle.std.proofs.lemmas.List.Concat.{flat_map-append}
 use Rattle.ilk_base.proofs.Ranges.{range-suc}
 
@@ -18,16 +17,6 @@ stations-more f i =
 pub station-pushed : {X : Type 0} (f : ℕ → List X) (i : ℕ) (start now next : List X) → now ≡ start ++ flat_map f (range_with_len 1 i) → next ≡ now ++ f (i + 1) → next ≡ start ++ flat_map f (range_with_len 1 (i + 1))
 station-pushed f i start now next sofar grown =
     grown ∙ ap (λ xs. xs ++ f (i + 1)) sofar ∙ append_assoc start (flat_map f (range_with_len 1 i)) (f (i + 1)) ∙ ap (λ xs. start ++ xs) (sym (stations-more f i))
-
--- what is seen of a list that grew by what stands for the next item
-pub item-pushed : {A B C : Type 0} (f : A → C) (g : B → C) (made next : List A) (from : List B) (i : ℕ) (x : A) (y : B) → i < length from → y ≡ get_or from i y → next ≡ made ++ x ∷ [] → f x ≡ g y → map f made ≡ map g (take i from) → map f next ≡ map g (take (i + 1) from)
-item-pushed f g made next from i x y within is grown same sofar =
-    ap (map f) grown
-    ∙ map-append f made (x ∷ [])
-    ∙ ap (λ zs. zs ++ f x ∷ []) sofar
-    ∙ ap (λ z. map g (take i from) ++ z ∷ []) (same ∙ ap g is)
-    ∙ sym (map-append g (take i from) (get_or from i y ∷ []))
-    ∙ ap (map g) (sym (take_more from i y within))
 
 -- a list that grew by one item, at the end of others
 pub one-more : {X : Type 0} (start done now next : List X) (x y : X) → now ≡ start ++ done → next ≡ now ++ x ∷ [] → x ≡ y → next ≡ start ++ (done ++ y ∷ [])

@@ -1,9 +1,8 @@
 //! The names of sections, boards and routes.
 
-ghost use Rattle.std.specs.Prelude.{◌≡◌, ◌≤◌, ◌<◌, IfOk};
+ghost use Rattle.std.specs.Prelude.{◌≡◌, ◌<◌, IfOk};
 ghost use Rattle.ilk_gen.specs.StationRoutes as routes;
 ghost use Rattle.ilk_gen.specs.Stations as stations;
-ghost use Rattle.ilk_gen.specs.declared.making.TheConstants.{MAX_STATIONS};
 
 use ilk_plant::{Position, Text};
 use std::alloc::{AllocError, Global};

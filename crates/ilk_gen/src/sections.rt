@@ -2,7 +2,6 @@
 
 ghost use Rattle.std.specs.Prelude.{◌≡◌, ◌≤◌, ◌++◌, IfOk, OnOk};
 ghost use Rattle.ilk_gen.specs.Stations as stations;
-ghost use Rattle.ilk_gen.specs.declared.making.TheConstants.{MAX_STATIONS};
 
 use crate::names::{
     down_board, down_point, line, line_down_board, line_up_board, point_above, point_below, track,

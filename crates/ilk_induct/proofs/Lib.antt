@@ -1,6 +1,5 @@
 pub mod Orders
 pub mod Follows
-pub mod Mapped
 pub mod Certified
 pub mod Certificates
 pub mod Wantable

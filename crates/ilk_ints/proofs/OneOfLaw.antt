@@ -1,12 +1,12 @@
 -- Exactly one of some literals: the law, and how many clauses there are.
 use Rattle.std.proofs.Common.{◌≡◌, ℕ, zero, suc, ◌+◌, ◌*◌, ◌<◌, ◌≤◌, Bool, true, false, not, ◌&&◌, ◌||◌, List, [], ◌∷◌, ◌++◌, length, map, drop, get_or, refl, sym, ap, ◌∙◌, subst, arith, length-append}
 use Rattle.std.proofs.Math.Bool.{beq}
-use Rattle.std.proofs.lemmas.List.{append-nil, map-append, length-map}
+use Rattle.std.proofs.lemmas.List.{map-append, length-map}
 use Rattle.std.proofs.lemmas.List.Folds.{list_all-append}
 use Rattle.std.proofs.lemmas.Bool.{and_parts, and_from, cond_both, leb-true}
 use Rattle.ilk_base.proofs.Lists.{drop_at}
 use Rattle.ilk_cnf.specs.Literal.{Literal, opposite, plus}
-use Rattle.ilk_cnf.specs.Formula.{Formula, grown, as_clause, distinct, is_tautology, lit_in, clause_in, clauses_in}
+use Rattle.ilk_cnf.specs.Formula.{Formula, as_clause, distinct, is_tautology, lit_in, clause_in, clauses_in}
 use Rattle.ilk_cnf.specs.Part.{Part, and_then, with_part, as_clauses}
 use Rattle.ilk_cnf.specs.Truth.{value, is_true}
 use Rattle.ilk_cnf.specs.Extends.{Extends, OnlyIf}
@@ -228,9 +228,3 @@ join-step f g s l ls made inside =
           ∙ with_part-and_then f (either_part s l n) (one_of_part next)
           ∙ ap (λ (p : Part). with_part f p) (one_of-join s l ls n),
     )
-
--- where one literal is left at most
-pub join-last : (f : Formula) (ls : List Literal) → length ls ≤ 1 → grown f f.vars (as_clause ls) ≡ with_part f (one_of_part ls f.vars)
-join-last f [] few = ap (grown f f.vars) (sym (append-nil (as_clause [])))
-join-last f (l ∷ []) few = ap (grown f f.vars) (sym (append-nil (as_clause (l ∷ []))))
-join-last f (s ∷ l ∷ ls) few = absurd (omega arith)

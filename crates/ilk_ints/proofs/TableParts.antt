@@ -85,9 +85,6 @@ bounds_part-in (e ∷ es) first range n low high enough h =
     ]
 
 -- a variable that is there
-pub there-in : (m n : ℕ) (p : Bool) → n < m → clause_in m ((record { var = n + 1; positive = p }) ∷ []) ≡ true
-there-in m n p less = and_from _ _ (and_from _ _ (lt-ltb 0 (n + 1) (omega arith)) (le-leb (n + 1) m (omega arith))) refl
-
 pub at_most-there : (first range k n m : ℕ) (below e : Literal) (es rest : List Literal) → es ≡ e ∷ rest → (bounds_from first range below k es n).part.vars ≤ m → (at_most_part range k below e n).vars ≤ m
 at_most-there first range k n m below e es rest split high =
     let whole : (bounds_from first range below k (e ∷ rest) n).part.vars ≤ m = subst (λ (ls : List Literal). (bounds_from first range below k ls n).part.vars ≤ m) split high in

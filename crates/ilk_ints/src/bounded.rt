@@ -1,5 +1,4 @@
-ghost use Rattle.std.specs.Prelude.{◌≡◌, ◌==◌, ℕ, ◌+◌, ◌-◌, ◌*◌, ◌<◌, ◌≤◌, ◌^◌, ◌∷◌, ◌++◌, [], List, Bool, length, map, OnOk, IfOk, IsTrue};
-ghost use Rattle.std.specs.List.{range_with_len};
+ghost use Rattle.std.specs.Prelude.{◌≡◌, ◌==◌, ℕ, ◌+◌, ◌-◌, ◌*◌, ◌<◌, ◌≤◌, ◌^◌, ◌∷◌, [], List, Bool, length, map, OnOk, IfOk, IsTrue};
 ghost use Rattle.ilk_cnf.specs.Extends.{PartExtends, Only};
 ghost use Rattle.ilk_cnf.specs.Formula.{grown, with_vars, as_clause, clause_in};
 ghost use Rattle.ilk_cnf.specs.Literal.{opposite, plus};

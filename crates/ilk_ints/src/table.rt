@@ -1,4 +1,4 @@
-ghost use Rattle.std.specs.Prelude.{◌≡◌, ◌==◌, ℕ, ◌+◌, ◌-◌, ◌<◌, ◌≤◌, ◌^◌, ◌∷◌, ◌++◌, [], List, Bool, nat_lt, min, length, map, OnOk, IfOk, IsTrue};
+ghost use Rattle.std.specs.Prelude.{◌≡◌, ◌==◌, ℕ, ◌+◌, ◌-◌, ◌<◌, ◌≤◌, ◌^◌, ◌∷◌, ◌++◌, [], List, Bool, min, length, map, OnOk, IfOk, IsTrue};
 ghost use Rattle.ilk_cnf.specs.Extends.{PartExtends, Only};
 ghost use Rattle.ilk_cnf.specs.Formula.{clause_in, with_vars};
 ghost use Rattle.ilk_cnf.specs.Literal.{plus};

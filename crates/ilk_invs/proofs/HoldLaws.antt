@@ -7,13 +7,14 @@ use Rattle.std.proofs.lemmas.Bool.{and_from, and_parts, cases_Bool, cases_eq, eq
 use Rattle.std.proofs.lemmas.Bool.Decides.{nat_tests}
 use Rattle.std.proofs.lemmas.List.Folds.{list_all-append, list_all-map}
 use Rattle.std.proofs.lemmas.Option.{same_Some}
-use Rattle.ilk_base.proofs.Truth.{same_truth}
+use Rattle.ilk_base.proofs.Truth.{same_truth, if-passes, passes-if}
 use Rattle.ilk_base.specs.Each.{each_below}
 use Rattle.ilk_base.proofs.Lists.{get-dropped, item_at, take-at, taken-before}
 use Rattle.ilk_base.proofs.ListTests.{all-at, list_all-alike, list_all-flat_map}
 use Rattle.ilk_base.proofs.Once.{EachOnce}
 use Rattle.ilk_base.proofs.Ranges.{below_or_past, passing_within, range-at, range_within}
 use Rattle.ilk_base.proofs.Tested.{list_all-slice_get, all-pass}
+use Rattle.ilk_base.proofs.Numbered.{enumerated, enumerated-at}
 use Rattle.ilk_ir.specs.Tree.{negation, tree_holds}
 use Rattle.ilk_plant.specs.Network.{has_section}
 use Rattle.ilk_plant.specs.Plant.{IsPlant, PlantLists}
@@ -27,6 +28,7 @@ use Rattle.ilk_plant.specs.declared.table.Route.{Route}
 use Rattle.ilk_routes.specs.Claims.{sections_beside}
 use Rattle.ilk_model.specs.Families.{has_its_locks, keeps_v2, keeps_v3, lock_on_path}
 use Rattle.ilk_model.specs.Holding.{each_place, holds_section, holds_sections, is_kept_on_path, route_holds}
+use Rattle.ilk_model.proofs.Kept.{kept-on_path}
 use Rattle.ilk_layout.specs.Image.{image_of}
 use Rattle.ilk_conditions.specs.Conditions.{lock_is}
 use Rattle.ilk_conditions.proofs.Values.{lock-holds}
@@ -36,9 +38,8 @@ use Rattle.ilk_invs.specs.HoldFamilies.{held_by_halves, held_in_order, held_once
 use Rattle.ilk_invs.specs.Parts.{each_of, of_each_place, of_each_route}
 use Rattle.ilk_invs.proofs.HeldLaws.{below-next, holding_section-holds, is_holding-holds, rel_below-holds, seen_below-holds}
 use Rattle.ilk_invs.proofs.PartLaws.{each-place, each-route, each_of-holds, state_of_route, where-holds}
-use Rattle.ilk_invs.proofs.PointLaws.{kept-has}
 use Rattle.ilk_invs.proofs.Sections.{sections_of_route}
-use Rattle.ilk_invs.proofs.Tests.{enumerated, enumerated-at, if-passes, passes-if, dropped-at}
+use Rattle.ilk_invs.proofs.Tests.{dropped-at}
 use Rattle.ilk_routes.proofs.Shape.{beside-known}
 
 -- numbers of a range that pass a test: each stands once, and each that passes stands there
@@ -198,7 +199,7 @@ module _ (p : PlantLists) (plant : IsPlant p) (s : State) (shape : HasShape p s)
       locked route now e =
           sections_of_route x route ∙ elim (or_cases (has_section x (sections_beside route)) (is_kept_on_path route now x) e) [
             | inl beside ↦ or_right (has_section x route.path) (has_section x (sections_beside route)) beside
-            | inr kept ↦ or_left (has_section x route.path) (has_section x (sections_beside route)) (kept-has route now x kept)
+            | inr kept ↦ or_left (has_section x route.path) (has_section x (sections_beside route)) (kept-on_path route now x kept)
           ]
 
   -- of two routes in order, the later one's condition speaks of the earlier one

@@ -1,6 +1,6 @@
 -- What the parts of families ask of a state, by its image: of each route, of each place, where another holds.
 use Rattle.std.proofs.Common.{◌≡◌, ℕ, ◌<◌, Bool, true, false, not, ◌&&◌, ◌||◌, Some, None, List, [], ◌∷◌, length, map, slice_get, refl, ◌∙◌, ap, arith}
-use Rattle.std.proofs.Math.Bool.{and-true, or-false}
+use Rattle.std.proofs.Math.Bool.{or-false}
 use Rattle.std.specs.Prelude.{if◌then◌else◌}
 use Rattle.std.specs.List.{enumerate_from, list_all, list_any, range_with_len}
 use Rattle.std.proofs.lemmas.List.Folds.{list_all-map}
@@ -8,6 +8,7 @@ use Rattle.std.proofs.lemmas.Option.{slice_get_within}
 use Rattle.ilk_base.proofs.Lists.{item_at}
 use Rattle.ilk_base.proofs.ListTests.{list_all-alike, list_all-flat_map, list_any-alike}
 use Rattle.ilk_base.proofs.Ranges.{range_within}
+use Rattle.ilk_base.proofs.Numbered.{enumerated}
 use Rattle.ilk_ir.specs.Tree.{Tree, tree_holds}
 use Rattle.ilk_ir.proofs.Trees.{all_of-holds, any_of-holds}
 use Rattle.ilk_plant.specs.Plant.{PlantLists}
@@ -21,7 +22,7 @@ use Rattle.ilk_layout.specs.Image.{image_of}
 use Rattle.ilk_conditions.specs.Conditions.{no_train_at}
 use Rattle.ilk_conditions.proofs.Values.{vacant-holds}
 use Rattle.ilk_invs.specs.Parts.{conditions_for, each_of, of_each_place, of_each_route, some_of, where_holds}
-use Rattle.ilk_invs.proofs.Tests.{enumerated, list_any-flat_map}
+use Rattle.ilk_invs.proofs.Tests.{list_any-flat_map}
 
 pub then-this : (a b : Bool) → (not a || (b || false)) ≡ (if a then b else true)
 then-this true true = refl
@@ -39,10 +40,6 @@ pub where-holds : (values : List ℕ) (t u : Tree) (a b : Bool) → tree_holds v
 where-holds values t u a b one two = rw (one, two) (then-this a b)
 
 -- a condition that is asked or not
-pub all-if : (values : List ℕ) (t : Tree) (b : Bool) → list_all (tree_holds values) (if b then t ∷ [] else []) ≡ (if b then tree_holds values t else true)
-all-if values t true = and-true (tree_holds values t)
-all-if values t false = refl
-
 pub any-if : (values : List ℕ) (t : Tree) (b : Bool) → list_any (tree_holds values) (if b then t ∷ [] else []) ≡ (b && tree_holds values t)
 any-if values t true = or-false (tree_holds values t)
 any-if values t false = refl

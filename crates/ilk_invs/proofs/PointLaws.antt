@@ -1,11 +1,10 @@
 -- V6 as a condition holds of the image of a state exactly where the state keeps it.
-use Rattle.std.proofs.Common.{◌≡◌, ℕ, ◌==◌, Bool, true, false, not, ◌&&◌, ◌||◌, map, nat_le, slice_get, Some, refl, sym, ◌∙◌, ap}
+use Rattle.std.proofs.Common.{◌≡◌, ℕ, Bool, true, false, not, ◌&&◌, ◌||◌, map, slice_get, Some, refl, sym, ◌∙◌, ap}
 use Rattle.std.specs.Prelude.{if◌then◌else◌}
-use Rattle.std.specs.List.{enumerate_from, list_all}
-use Rattle.std.proofs.lemmas.Bool.{and_parts, false≢true, false_from_ne_true}
+use Rattle.std.specs.List.{list_all}
+use Rattle.std.proofs.lemmas.Bool.{false≢true, false_from_ne_true}
 use Rattle.std.proofs.lemmas.List.Folds.{list_all-map}
 use Rattle.ilk_base.proofs.ListTests.{list_all-alike}
-use Rattle.ilk_base.proofs.Tested.{list_any-at, list_any-from}
 use Rattle.ilk_ir.specs.Tree.{tree_holds}
 use Rattle.ilk_plant.specs.Network.{has_section}
 use Rattle.ilk_plant.specs.Plant.{PlantLists}
@@ -20,6 +19,7 @@ use Rattle.ilk_routes.specs.Modes.{same_mode}
 use Rattle.ilk_model.specs.Commanded.{is_commanded_as_listed}
 use Rattle.ilk_model.specs.Families.{is_commanded_for, keeps_v6, lies_for}
 use Rattle.ilk_model.specs.Holding.{is_kept_on_path, is_locked_or_occupied}
+use Rattle.ilk_model.proofs.Kept.{kept-on_path}
 use Rattle.ilk_layout.specs.Image.{image_of}
 use Rattle.ilk_conditions.specs.Conditions.{commanded_at_listed, lies_at_listed, mode_is}
 use Rattle.ilk_conditions.proofs.Listed.{commanded_at_listed-holds, lies_at_listed-holds}
@@ -29,17 +29,10 @@ use Rattle.ilk_invs.specs.Parts.{of_each_route}
 use Rattle.ilk_invs.specs.PointFamily.{points_of_path, set_for, v6_tree}
 use Rattle.ilk_invs.proofs.HeldLaws.{kept_on_path-holds, locked_or_occupied-holds}
 use Rattle.ilk_invs.proofs.PartLaws.{each-route, each_of-holds}
-use Rattle.ilk_invs.proofs.Tests.{enumerated, list_all-filter}
-
--- what a route keeps on its path is on its path
-pub kept-has : (route : Route) (now : RouteState) (x : ℕ) → is_kept_on_path route now x ≡ true → has_section x route.path ≡ true
-kept-has route now x h =
-    let found : (k : ℕ) × (place : ℕ × ℕ) × (slice_get (enumerate_from 0 route.path) k ≡ Some place) × ((nat_le now.rel place.0 && (place.1 == x)) ≡ true) = list_any-at (λ place. nat_le now.rel place.0 && (place.1 == x)) (enumerate_from 0 route.path) h in
-    let it = enumerated 0 route.path found.0 found.1 found.2 in
-    list_any-from (λ y. y == x) route.path found.0 found.1.1 it.1 (and_parts (nat_le now.rel found.1.0) (found.1.1 == x) found.3).1
+use Rattle.ilk_invs.proofs.Tests.{list_all-filter}
 
 pub not-kept : (route : Route) (now : RouteState) (x : ℕ) → has_section x route.path ≡ false → is_kept_on_path route now x ≡ false
-not-kept route now x away = false_from_ne_true (is_kept_on_path route now x) (λ h. false≢true (sym away ∙ kept-has route now x h))
+not-kept route now x away = false_from_ne_true (is_kept_on_path route now x) (λ h. false≢true (sym away ∙ kept-on_path route now x h))
 
 module _ (p : PlantLists) (s : State) (shape : HasShape p s) where
   set_for-holds : (r : ℕ) (route : Route) (now : RouteState) (listed : Listed) → slice_get p.routes r ≡ Some route → slice_get s.routes r ≡ Some now → tree_holds (image_of p s) (set_for p r route listed) ≡ ((not (same_mode now.mode Allocating) || is_commanded_as_listed p s listed) && (not (is_locked_or_occupied now && is_kept_on_path route now listed.point) || (is_commanded_as_listed p s listed && lies_as_listed p s listed)))

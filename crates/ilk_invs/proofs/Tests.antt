@@ -1,11 +1,9 @@
 -- Tests of lists that conditions are made of: of ranges, of places, of lists of lists.
-use Rattle.std.proofs.Common.{◌≡◌, ℕ, zero, suc, ◌+◌, ◌<◌, ◌==◌, Bool, true, false, not, ◌&&◌, ◌||◌, Some, List, [], ◌∷◌, drop, filter, nat_lt, slice_get, refl, sym, ◌∙◌, ap, arith}
-use Rattle.std.specs.List.{enumerate_from, flat_map, list_all, list_any, range_with_len}
+use Rattle.std.proofs.Common.{◌≡◌, ℕ, ◌+◌, ◌<◌, ◌==◌, Bool, true, false, not, ◌&&◌, ◌||◌, Some, List, [], ◌∷◌, drop, filter, nat_lt, slice_get, refl, sym, ◌∙◌, ap, arith}
+use Rattle.std.specs.List.{flat_map, list_all, list_any, range_with_len}
 use Rattle.std.proofs.lemmas.Bool.{and_from, and_parts, eq-eqb, eqb-true}
 use Rattle.std.proofs.lemmas.Bool.Decides.{nat_tests}
 use Rattle.std.proofs.lemmas.List.Folds.{list_any-append}
-use Rattle.std.proofs.lemmas.Option.{same_Some}
-use Rattle.std.specs.Prelude.{if◌then◌else◌}
 use Rattle.ilk_base.proofs.Lists.{get-dropped}
 use Rattle.ilk_base.proofs.Ranges.{range-at, range_within}
 use Rattle.ilk_base.proofs.Tested.{list_all-slice_get, list_any-at, list_any-from, all-pass}
@@ -29,28 +27,6 @@ list_all-filter f g (x ∷ xs) = by_test (list_all-filter f g xs) (g x) refl
     by_test : list_all f (filter g xs) ≡ list_all (λ y. not (g y) || f y) xs → (b : Bool) → g x ≡ b → list_all f (filter g (x ∷ xs)) ≡ list_all (λ y. not (g y) || f y) (x ∷ xs)
     by_test rest true e = rw e (ap (λ b. f x && b) rest)
     by_test rest false e = rw e rest
-
--- a place of an enumerated list, and its item
-pub enumerated : {X : Type 0} (k : ℕ) (xs : List X) (i : ℕ) (place : ℕ × X) → slice_get (enumerate_from k xs) i ≡ Some place → (place.0 ≡ k + i) × (slice_get xs i ≡ Some place.1)
-enumerated k [] i place at = cc
-enumerated k (x ∷ xs) zero place at =
-    let same : (k, x) ≡ place = same_Some (k, x) place at in
-    let sum : k ≡ k + 0 = omega arith in
-    (ap (λ q. q.0) (sym same) ∙ sum, ap (λ q. Some q.1) same)
-enumerated k (x ∷ xs) (suc i) place at =
-    let rest = enumerated (k + 1) xs i place at in
-    let sum : (k + 1) + i ≡ k + suc i = omega arith in
-    (rest.0 ∙ sum, rest.1)
-
-pub enumerated-at : {X : Type 0} (k : ℕ) (xs : List X) (i : ℕ) (x : X) → slice_get xs i ≡ Some x → slice_get (enumerate_from k xs) i ≡ Some (k + i, x)
-enumerated-at k [] i x at = cc
-enumerated-at k (y ∷ xs) zero x at =
-    let same : y ≡ x = same_Some y x at in
-    let sum : k ≡ k + 0 = omega arith in
-    ap (λ z. Some (k, z)) same ∙ ap (λ j. Some (j, x)) sum
-enumerated-at k (y ∷ xs) (suc i) x at =
-    let sum : (k + 1) + i ≡ k + suc i = omega arith in
-    enumerated-at (k + 1) xs i x at ∙ ap (λ j. Some (j, x)) sum
 
 -- one of the numbers below n is c exactly where c is below n
 pub counted-below : (c n : ℕ) → list_any (λ x. c == x) (range_with_len 0 n) ≡ nat_lt c n
@@ -85,15 +61,6 @@ found-at test c n within =
     let passes = and_parts (test found.1) (c == found.1) found.3 in
     ap test (eqb-true c found.1 passes.1) ∙ passes.0) (λ h.
     list_any-from (λ k. test k && (c == k)) (range_with_len 0 n) c c (range-at n c within) (and_from (test c) (c == c) h (eq-eqb c c refl)))
-
--- a test that is asked only where another passes
-pub if-passes : (a b : Bool) → (if a then b else true) ≡ true → a ≡ true → b ≡ true
-if-passes true b h e = h
-if-passes false b h e = cc
-
-pub passes-if : (a b : Bool) → (a ≡ true → b ≡ true) → (if a then b else true) ≡ true
-passes-if true b f = f refl
-passes-if false b f = refl
 
 -- what stands in the rest of a list
 pub dropped-at : {X : Type 0} (n : ℕ) (xs : List X) (k : ℕ) (x : X) → slice_get (drop n xs) k ≡ Some x → slice_get xs (n + k) ≡ Some x

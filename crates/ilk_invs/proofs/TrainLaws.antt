@@ -7,18 +7,18 @@ use Rattle.std.specs.List.{enumerate_from, flat_map, last_or, list_all, list_any
 use Rattle.std.proofs.lemmas.Bool.{and_parts, and_from, cases_lt, eq-eqb, eqb-true}
 use Rattle.std.proofs.lemmas.Bool.Decides.{nat_tests}
 use Rattle.std.proofs.lemmas.List.Folds.{list_all-append}
-use Rattle.ilk_base.proofs.Truth.{same_truth}
+use Rattle.ilk_base.proofs.Truth.{same_truth, if-passes, passes-if}
 use Rattle.ilk_base.specs.Option.{is_some_and}
-use Rattle.ilk_base.proofs.Lists.{last_or-at, last-some}
+use Rattle.ilk_base.proofs.Lists.{last_or-at}
 use Rattle.ilk_base.proofs.ListTests.{all-at, list_all-alike, list_all-flat_map}
 use Rattle.ilk_base.proofs.Ranges.{range-at, range_within}
 use Rattle.ilk_base.proofs.Tested.{list_all-slice_get, all-pass}
 use Rattle.ilk_ir.specs.Tree.{Tree, negation, tree_holds}
 use Rattle.ilk_plant.specs.Network.{has_section}
 use Rattle.ilk_plant.specs.Plant.{IsPlant, PlantLists}
-use Rattle.ilk_plant.specs.Shape.{HasShape, is_body}
+use Rattle.ilk_plant.specs.Shape.{HasShape}
 use Rattle.ilk_plant.specs.Sound.{NeverReturns}
-use Rattle.ilk_plant.proofs.Shapes.{fits_path-counts}
+use Rattle.ilk_plant.proofs.Shapes.{fits_path-counts, body-last}
 use Rattle.ilk_plant.specs.declared.network.Dir.{Dir}
 use Rattle.ilk_plant.specs.declared.network.Dir.TheVariants.{Up, Down}
 use Rattle.ilk_plant.specs.declared.state.Aspect.TheVariants.{Closed}
@@ -47,7 +47,7 @@ use Rattle.ilk_invs.specs.TrainFamilies.{body_at, head_at, keeps_at, kept_at, le
 use Rattle.ilk_invs.proofs.HeldLaws.{below-next, kept_on_path-holds, locked_or_occupied-holds, seen_below-holds}
 use Rattle.ilk_invs.proofs.PartLaws.{any-if, each_of-holds, some-place, some-route, some_of-holds, vacant-all}
 use Rattle.ilk_invs.proofs.PointLaws.{not-kept}
-use Rattle.ilk_invs.proofs.Tests.{dropped-at, list_any-never, if-passes, passes-if}
+use Rattle.ilk_invs.proofs.Tests.{dropped-at, list_any-never}
 
 -- whether an occupancy is by a train in direction d; whether it has its head there
 abbrev has_head_in : Dir → Occupancy → Bool
@@ -160,13 +160,6 @@ last-place (y ∷ rest) x e = past y rest x e
         let later = past z rest x e in
         let sum = later.2 in
         (suc later.0, later.1, omega (arith, sum))
-
-body-last : (p : PlantLists) (t : Train) → is_body p t ≡ true → (x : ℕ) × (last_or None t.body ≡ Some x)
-body-last p t h = by_body t.dir t.body h
-  where
-    by_body : (d : Dir) (body : List ℕ) → is_body p (record { dir = d; body = body }) ≡ true → (x : ℕ) × (last_or None body ≡ Some x)
-    by_body d [] h = cc
-    by_body d (y ∷ rest) h = last-some y rest
 
 module _ (p : PlantLists) (plant : IsPlant p) (s : State) (shape : HasShape p s) (calm : hazard p s ≡ None) where
   head_at-holds : (d : Dir) (x : ℕ) → x < length p.sections → tree_holds (image_of p s) (head_at p d x) ≡ has_head_in d (occupancy_of p s x)

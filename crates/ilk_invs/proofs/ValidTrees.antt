@@ -1,12 +1,12 @@
 -- Each family as a condition is valid over the ranges of the plant.
-use Rattle.std.proofs.Common.{◌≡◌, ℕ, zero, suc, ◌+◌, ◌-◌, ◌/◌, ◌<◌, ◌≤◌, ◌==◌, Bool, true, false, ◌&&◌, Option, Some, None, List, [], ◌∷◌, ◌++◌, drop, length, map, nat_le, nat_lt, slice_get, take, unwrap_or, refl, ◌∙◌, ap, arith}
-use Rattle.std.specs.Prelude.{if◌then◌else◌}
+use Rattle.std.proofs.Common.{◌≡◌, ℕ, zero, suc, ◌+◌, ◌-◌, ◌/◌, ◌<◌, ◌≤◌, ◌==◌, Bool, true, false, ◌&&◌, Option, Some, None, List, [], ◌∷◌, ◌++◌, drop, length, map, nat_le, nat_lt, slice_get, take, unwrap_or, refl, ◌∙◌, ap, arith, if◌then◌else◌}
 use Rattle.std.specs.List.{enumerate_from, flat_map, list_all, range_with_len}
 use Rattle.std.proofs.lemmas.List.Folds.{list_all-append, list_all-map}
 use Rattle.std.proofs.lemmas.Option.{slice_get_within}
 use Rattle.ilk_base.proofs.ListTests.{all-at, list_all-flat_map}
 use Rattle.ilk_base.proofs.Ranges.{range_within}
 use Rattle.ilk_base.proofs.Tested.{list_all-slice_get, all-pass}
+use Rattle.ilk_base.proofs.Numbered.{enumerated}
 use Rattle.ilk_ir.specs.Tree.{Tree, negation, no, tree_valid}
 use Rattle.ilk_ir.proofs.Trees.{all_of-valid, any_of-valid}
 use Rattle.ilk_plant.specs.Network.{has_section}
@@ -34,7 +34,7 @@ use Rattle.ilk_invs.specs.Parts.{conditions_for, each_of, of_each_place, of_each
 use Rattle.ilk_invs.specs.PointFamily.{points_of_path, set_for, v6_tree}
 use Rattle.ilk_invs.specs.RouteFamilies.{counts_of, opened_for, path_vacant, v1_tree, v4_tree, v5_tree, v9_tree}
 use Rattle.ilk_invs.specs.TrainFamilies.{body_at, head_at, keeps_at, kept_at, leads_at, leads_from, led_at, none_seen_past, v7_tree, v8_tree, vacant_or_up}
-use Rattle.ilk_invs.proofs.Tests.{dropped-at, enumerated}
+use Rattle.ilk_invs.proofs.Tests.{dropped-at}
 use Rattle.ilk_routes.proofs.Shape.{beside-known}
 
 module _ (p : PlantLists) (plant : IsPlant p) where

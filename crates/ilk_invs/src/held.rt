@@ -7,6 +7,7 @@ ghost use Rattle.ilk_routes.specs.Claims.{sections_beside};
 ghost use Rattle.ilk_conditions.specs.Conditions as conditions;
 ghost use Rattle.ilk_invs.specs.Held as definitions;
 
+use ilk_base::has_number;
 use ilk_conditions::{mode_is, negated, rel_is, seen_is};
 use ilk_ir::Form;
 use ilk_plant::{Listed, Mode, Plant, Route, Row, has_section};
@@ -59,13 +60,6 @@ pub fn is_holding(alloc: Global, plant: &Plant, r: u32) -> Result<Form, AllocErr
     negated(alloc, Form::Or(forms))
 }
 
-// Whether section `x` is among these.
-fn is_among(sections: &[u32], x: u32) -> bool
-    ensures { result ≡ has_section x sections.now }
-{
-    sections.iter().any(|y| *y == x)
-}
-
 // Adds that route `r` has released so many sections, if it keeps the section then.
 fn push_if_kept(
     forms: &mut Vec<Form>,
@@ -103,7 +97,7 @@ pub fn kept_on_path(
             plant,
             r,
             count as u8,
-            is_among(&path[count..], x),
+            has_number(&path[count..], x),
         )?;
     }
     Ok(Form::Or(forms))

@@ -8,7 +8,7 @@ use crate::held::{holding_section, is_beside};
 use crate::parts::where_holds;
 use ilk_conditions::negated;
 use ilk_ir::Form;
-use ilk_plant::{Plant, Route, has_section};
+use ilk_plant::{Plant, has_section};
 use std::alloc::{AllocError, Global};
 
 /// Up to so many routes that may hold a section are asked one after another whether another holds it;

@@ -47,9 +47,3 @@ pub Written-prefix : (old new : Option (List ℕ)) (text rest : List ℕ) → Wr
 Written-prefix old new text rest w =
     let whole : take (length w.done) text ≡ w.done = ap (take (length w.done)) w.split ∙ take-append_seam w.done rest in
     (length w.done, omega (arith, ap length w.split, length-append w.done rest), subst (Adds old new) (sym whole) w.adds)
-
--- nothing is left to write
-pub Written-whole : (old new : Option (List ℕ)) (text rest : List ℕ) → Written old new text rest → rest ≡ [] → Adds old new text
-Written-whole old new text rest w e =
-    let whole : text ≡ w.done = w.split ∙ ap (λ tail. w.done ++ tail) e ∙ append-nil w.done in
-    subst (Adds old new) (sym whole) w.adds

@@ -1,4 +1,4 @@
-ghost use Rattle.std.specs.Prelude.{◌≡◌, ◌≢◌, ℕ, ◌+◌, ◌^◌, ◌<◌, ◌≤◌, Err, IfOk, IfErr, vec_len};
+ghost use Rattle.std.specs.Prelude.{◌≡◌, ◌≢◌, ◌+◌, ◌^◌, ◌<◌, ◌≤◌, Err, IfOk, IfErr, vec_len};
 ghost use Rattle.ilk_io.specs.Source.{TakesAtMost, IsAtEnd, IsWhole};
 ghost use Rattle.ilk_io.specs.ReadError.{HasCause};
 

@@ -1,4 +1,4 @@
-ghost use Rattle.std.specs.Prelude.{◌≡◌, length, take, drop, min, IfOk};
+ghost use Rattle.std.specs.Prelude.{◌≡◌, length, take, drop, min};
 
 use std::marker::Model;
 

@@ -3,8 +3,8 @@ use Rattle.std.proofs.Common.{◌≡◌, ℕ, zero, suc, ◌+◌, ◌-◌, Bool,
 use Rattle.std.proofs.lemmas.Bool.{eq-eqb, ne_eqb, eqb-true, or_left, or_right, false_from_ne_true, false≢true}
 use Rattle.std.proofs.lemmas.Bool.Decides.{nat_tests}
 use Rattle.ilk_base.proofs.Once.{EachOnce}
-use Rattle.ilk_base.proofs.Tested.{list_any-at, list_any-from}
 use Rattle.ilk_plant.specs.Network.{has_section}
+use Rattle.ilk_plant.proofs.InLists.{section-at}
 use Rattle.ilk_motion.specs.Body.{is_last}
 use Rattle.ilk_model.specs.Hazard.{has_pair}
 use Rattle.ilk_model.proofs.Straying.{pair-has}
@@ -19,19 +19,11 @@ pub later-differs : (y : ℕ) (rest : List ℕ) (i x : ℕ) → EachOnce (y ∷ 
 later-differs y rest i x once at =
     false_from_ne_true (y == x) (λ e. let places : zero ≡ suc i = once zero (suc i) x (ap Some (eqb-true y x e)) at in absurd (omega arith))
 
-pub has-at : (body : List ℕ) (i x : ℕ) → slice_get body i ≡ Some x → has_section x body ≡ true
-has-at body i x at = list_any-from (λ y. y == x) body i x at (eq-eqb x x refl)
-
-pub place-of : (body : List ℕ) (x : ℕ) → has_section x body ≡ true → (i : ℕ) × (slice_get body i ≡ Some x)
-place-of body x h =
-    let found : (k : ℕ) × (y : ℕ) × (slice_get body k ≡ Some y) × ((y == x) ≡ true) = list_any-at (λ y. y == x) body h in
-    (found.0, found.2 ∙ ap Some (eqb-true found.1 x found.3))
-
 -- the first of a body stands later no more
 pub not-later : (y : ℕ) (rest : List ℕ) → EachOnce (y ∷ rest) → has_section y rest ≡ false
 not-later y rest once =
     false_from_ne_true (has_section y rest) (λ h.
-    let there = place-of rest y h in
+    let there = section-at y rest h in
     let no : (y == y) ≡ false = later-differs y rest there.0 y once there.1 in
     absurd (false≢true (sym no ∙ eq-eqb y y refl)))
 

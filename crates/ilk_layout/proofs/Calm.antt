@@ -1,13 +1,13 @@
 -- States without hazard: one train a section at most, each section of a body joined to the next.
 use Rattle.std.proofs.Common.{◌≡◌, ℕ, zero, suc, ◌+◌, ◌<◌, ◌≤◌, Bool, true, false, not, ◌&&◌, ◌||◌, ◌==◌, count_by, find, take, option_and_then, option_to_list, Option, Some, None, option_map, List, [], ◌∷◌, length, slice_get, ◌⊎◌, inl, inr, refl, sym, ◌∙◌, ap, arith}
 use Rattle.std.specs.List.{list_any, range_with_len}
-use Rattle.std.proofs.lemmas.Bool.{and_parts, cases_Bool, eq-eqb, eqb-true, false≢true, ltb-false, or_cases, or_parts, or_right}
+use Rattle.std.proofs.lemmas.Bool.{and_parts, eq-eqb, eqb-true, false≢true, ltb-false, or_cases, or_parts, or_right}
 use Rattle.std.proofs.lemmas.Option.{cond_some, none-some, same_Some, slice_get_within}
 use Rattle.ilk_base.specs.Option.{is_some_and}
 use Rattle.ilk_base.proofs.Lists.{item_at}
-use Rattle.ilk_base.proofs.Options.{bind_some}
+use Rattle.ilk_base.proofs.Options.{bind_some, mapped-None}
 use Rattle.ilk_base.proofs.Ranges.{range-at}
-use Rattle.ilk_base.proofs.Tested.{count-one, count_by-take-lt, find-at, list_all-slice_get, list_any-from, list_any-none}
+use Rattle.ilk_base.proofs.Tested.{count-one, count_by-take-lt, find-at, list_all-slice_get, list_any-from, list_any-none, find-none-at}
 use Rattle.ilk_plant.specs.Network.{beside, has_section, is_point}
 use Rattle.ilk_plant.specs.NetworkRules.{opposite_direction}
 use Rattle.ilk_plant.specs.Plant.{IsPlant, PlantLists, next_to, point_count, point_number}
@@ -23,6 +23,7 @@ use Rattle.ilk_plant.specs.declared.state.Lie.TheVariants.{Plus, Minus, Moving}
 use Rattle.ilk_plant.specs.declared.state.State.{State}
 use Rattle.ilk_plant.specs.declared.state.Train.{Train}
 use Rattle.ilk_plant.proofs.Sides.{back-opposite}
+use Rattle.ilk_plant.proofs.InLists.{section-from, section-at, only-one}
 use Rattle.ilk_motion.specs.Ahead.{leads_to, leg_at}
 use Rattle.ilk_routes.specs.Lies.{is_moving}
 use Rattle.ilk_model.specs.Hazard.{has_pair, hazard, is_hazardous, is_two, is_wrong, strays}
@@ -30,30 +31,13 @@ use Rattle.ilk_layout.specs.Occupancy.{occupancy_of}
 use Rattle.ilk_layout.specs.Wellformed.{ahead_by, joined_to}
 use Rattle.ilk_layout.specs.declared.values.Occupancy.TheVariants.{Vacant, Taken, Crash}
 use Rattle.ilk_model.proofs.Straying.{pair-has}
-use Rattle.ilk_layout.proofs.Bodies.{first-at, has-at, last-at, place-of}
+use Rattle.ilk_layout.proofs.Bodies.{first-at, last-at}
 use Rattle.ilk_layout.proofs.Plants.{body-known, body-once, body-parts, joined-from}
 use Rattle.ilk_layout.proofs.Trains.{find-some, has_x}
 
--- where nothing is found, nothing passes
-find-none-at : {X : Type 0} (p : X → Bool) (xs : List X) (i : ℕ) (x : X) → find p xs ≡ None → slice_get xs i ≡ Some x → p x ≡ false
-find-none-at p [] i x e at = cc
-find-none-at {X} p (z ∷ xs) i x e at =
-    elim (cases_Bool (p z)) [
-      | inl here ↦ (let some : Some z ≡ None = rw here at e in absurd (none-some z (sym some)))
-      | inr away ↦ (let rest : find p xs ≡ None = rw away at e in by_place i at rest away (find-none-at p xs))
-    ]
-  where
-    by_place : (j : ℕ) → slice_get (z ∷ xs) j ≡ Some x → find p xs ≡ None → p z ≡ false → ((k : ℕ) (v : X) → find p xs ≡ None → slice_get xs k ≡ Some v → p v ≡ false) → p x ≡ false
-    by_place zero here rest away ih = ap p (sym (same_Some z x here)) ∙ away
-    by_place (suc j) here rest away ih = ih j x rest here
-
-unmapped : {Y : Type 0} (f : ℕ → Y) (o : Option ℕ) → option_map f o ≡ None → o ≡ None
-unmapped f None e = refl
-unmapped f (Some v) e = cc
-
 -- no hazard is found exactly where no section is hazardous
 pub none-hazardous : (p : PlantLists) (s : State) → hazard p s ≡ None → find (is_hazardous p s) (range_with_len 0 (length p.sections)) ≡ None
-none-hazardous p s calm = unmapped _ (find (is_hazardous p s) (range_with_len 0 (length p.sections))) calm
+none-hazardous p s calm = mapped-None _ (find (is_hazardous p s) (range_with_len 0 (length p.sections))) calm
 
 pub no-hazard : (p : PlantLists) (s : State) → find (is_hazardous p s) (range_with_len 0 (length p.sections)) ≡ None → hazard p s ≡ None
 no-hazard p s none = ap (option_map _) none
@@ -109,10 +93,6 @@ body-beside p train k x y h at next = beside_in train.dir train.body h at next
     beside_in d [] h at next = cc
     beside_in d (a ∷ rest) h at next = next-beside p d a rest k x y (body-parts p d a rest h).1 at next
 
--- what stands in a list of one
-pub only-one : (x y : ℕ) → has_section x (y ∷ []) ≡ true → y ≡ x
-only-one x y h = elim (or_cases (y == x) false h) [ inl e ↦ eqb-true y x e | inr e ↦ absurd (false≢true e) ]
-
 module _ (p : PlantLists) (plant : IsPlant p) (never : NeverReturns p) (s : State) (shape : HasShape p s) (calm : hazard p s ≡ None) where
   pub body-of : (i : ℕ) (t : Train) → slice_get s.trains i ≡ Some t → is_body p t ≡ true
   body-of i t at = list_all-slice_get (is_body p) s.trains i t shape.bodies at
@@ -126,14 +106,14 @@ module _ (p : PlantLists) (plant : IsPlant p) (never : NeverReturns p) (s : Stat
   -- a section is in the body of one train alone
   pub alone : (i j x : ℕ) (t u : Train) → slice_get s.trains i ≡ Some t → slice_get s.trains j ≡ Some u → has_section x t.body ≡ true → has_section x u.body ≡ true → i ≡ j
   alone i j x t u at also h g =
-      let place = place-of t.body x h in
+      let place = section-at x t.body h in
       let within = body-known p t place.0 x plant (body-of i t at) place.1 in
       count-one (has_x x) s.trains (not_two x within) i j t u at also h g
 
   -- the occupancy of each section of a body
   pub occupancy-in : (i k x : ℕ) (t : Train) → slice_get s.trains i ≡ Some t → slice_get t.body k ≡ Some x → occupancy_of p s x ≡ Taken t.dir (k == 0) (k + 1 == length t.body)
   occupancy-in i k x t at place =
-      let has : has_section x t.body ≡ true = has-at t.body k x place in
+      let has : has_section x t.body ≡ true = section-from t.body k x place in
       let within = body-known p t k x plant (body-of i t at) place in
       let once = body-once p t never (body-of i t at) in
       let some = find-some (has_x x) s.trains (list_any-from (has_x x) s.trains i t at has) in
@@ -154,7 +134,7 @@ module _ (p : PlantLists) (plant : IsPlant p) (never : NeverReturns p) (s : Stat
       by_found None f safe = (let bad : Vacant ≡ Taken d tail head = rw (safe, f) at e in cc)
       by_found (Some t) f safe =
           let found = find-at (has_x x) s.trains t f in
-          let place = place-of t.body x found.2 in
+          let place = section-at x t.body found.2 in
           (found.0, t, place.0, found.1, place.1)
 
       by_hazard : (b : Bool) → is_hazardous p s x ≡ b → (i : ℕ) × (t : Train) × (k : ℕ) × (slice_get s.trains i ≡ Some t) × (slice_get t.body k ≡ Some x)
@@ -233,7 +213,7 @@ module _ (p : PlantLists) (plant : IsPlant p) (never : NeverReturns p) (s : Stat
       by_section (Point stem plus minus faces) e is f =
           let none = not_strays i t x stem plus minus faces at e in
           let moves : has_section x t.body ≡ false = rw f at none in
-          false≢true (sym moves ∙ has-at t.body k x here)
+          false≢true (sym moves ∙ section-from t.body k x here)
 
       by_lie : (o : Option Lie) → lie_of p s x ≡ o → not (is_some_and o is_moving) ≡ true
       by_lie None f = refl

@@ -1,35 +1,28 @@
 -- One change of a state is one write to its image; where occupancies change too, a write for each section whose
 -- occupancy changes.
-use Rattle.std.proofs.Common.{◌≡◌, ℕ, ◌<◌, true, false, ◌==◌, ◌||◌, ◌≤◌, cond, count_by, find, length-set, nat_lt, option_map, Option, Some, None, List, length, map, set, slice_get, inl, inr, refl, sym, ◌∙◌, ap, subst, arith}
+use Rattle.std.proofs.Common.{◌≡◌, ℕ, ◌<◌, true, false, ◌==◌, ◌||◌, ◌≤◌, cond, count_by, find, nat_lt, option_map, Option, Some, None, List, length, map, set, slice_get, inl, inr, refl, sym, ◌∙◌, ap, subst, arith}
 use Rattle.std.specs.List.{list_any, range_with_len}
 use Rattle.std.proofs.lemmas.Bool.{cases_eq, eq-eqb, ne_eqb}
 use Rattle.std.proofs.lemmas.List.FromFn.{length-map-range_with_len}
-use Rattle.std.proofs.lemmas.Option.{slice_get-map, slice_get_past, slice_get_within}
-use Rattle.ilk_base.specs.Option.{◌>>=◌}
+use Rattle.std.proofs.lemmas.Option.{slice_get-map, slice_get_past}
 use Rattle.ilk_base.proofs.Lists.{same_by_slice_get, slice_get-set_other, slice_get-set_same}
-use Rattle.ilk_base.proofs.Ranges.{below_or_past, map-range-congr, range-at}
-use Rattle.ilk_plant.specs.Plant.{PlantLists, point_number}
+use Rattle.ilk_base.proofs.Ranges.{below_or_past, range-at}
+use Rattle.ilk_plant.specs.Plant.{PlantLists}
 use Rattle.ilk_plant.specs.Shape.{HasShape}
 use Rattle.ilk_plant.specs.State.{lie_of}
-use Rattle.ilk_plant.specs.declared.network.Position.{Position}
 use Rattle.ilk_plant.specs.declared.network.Section.{Section}
 use Rattle.ilk_plant.specs.declared.network.Section.TheVariants.{Linear, Point}
 use Rattle.ilk_plant.specs.declared.state.Aspect.{Aspect}
-use Rattle.ilk_plant.specs.declared.state.Hold.{Hold}
-use Rattle.ilk_plant.specs.declared.state.Lie.{Lie}
-use Rattle.ilk_plant.specs.declared.state.Mode.{Mode}
-use Rattle.ilk_plant.specs.declared.state.PointState.{PointState}
-use Rattle.ilk_plant.specs.declared.state.RouteState.{RouteState}
 use Rattle.ilk_plant.specs.declared.state.State.{State}
 use Rattle.ilk_plant.specs.declared.state.Train.{Train}
 use Rattle.ilk_model.specs.Hazard.{is_wrong, strays}
 use Rattle.ilk_layout.specs.Image.{image_of, occupancy_values}
 use Rattle.ilk_layout.specs.Occupancy.{occupancy_of, taken_by_any}
-use Rattle.ilk_layout.specs.Values.{aspect_value, hold_value, lie_value, mode_value, occupancy_value, position_value}
-use Rattle.ilk_layout.specs.Variables.{at_var, board_var, lock_var, mode_var, occupancy_var, rel_var, seen_var, to_var}
+use Rattle.ilk_layout.specs.Values.{aspect_value, occupancy_value}
+use Rattle.ilk_layout.specs.Variables.{board_var, occupancy_var}
 use Rattle.ilk_layout.proofs.Trains.{has_x, with_trains}
 use Rattle.ilk_layout.specs.declared.values.Occupancy.TheVariants.{Crash}
-use Rattle.ilk_layout.proofs.Writes.{at-written, board-written, image_with, lock-written, mode-written, occupancy-written, rel-written, seen-written, to-written}
+use Rattle.ilk_layout.proofs.Writes.{board-written, image_with, occupancy-written}
 
 -- an occupancy hangs on the trains and on where the point of its section lies
 pub occupancy-kept : (p : PlantLists) (s t : State) (x : ℕ) → t.trains ≡ s.trains → lie_of p t x ≡ lie_of p s x → occupancy_of p t x ≡ occupancy_of p s x
@@ -94,64 +87,10 @@ abbrev pub occupied : PlantLists → State → ℕ → ℕ
 occupied p s x = occupancy_value (occupancy_of p s x)
 
 module _ (p : PlantLists) (s : State) (shape : HasShape p s) where
-  pub image-mode : (r : ℕ) (now : RouteState) (m : Mode) → slice_get s.routes r ≡ Some now → set (image_of p s) (mode_var r) (mode_value m) ≡ image_of p (record s { routes = set s.routes r (record now { mode = m }) })
-  image-mode r now m at = mode-written p s (occupancy_values p s) shape r now m at
-
-  pub image-seen : (r : ℕ) (now : RouteState) (k : ℕ) → slice_get s.routes r ≡ Some now → set (image_of p s) (seen_var r) k ≡ image_of p (record s { routes = set s.routes r (record now { seen = k }) })
-  image-seen r now k at = seen-written p s (occupancy_values p s) shape r now k at
-
-  pub image-rel : (r : ℕ) (now : RouteState) (k : ℕ) → slice_get s.routes r ≡ Some now → set (image_of p s) (rel_var r) k ≡ image_of p (record s { routes = set s.routes r (record now { rel = k }) })
-  image-rel r now k at = rel-written p s (occupancy_values p s) shape r now k at
-
   pub image-board : (m : ℕ) (aspect : Aspect) → m < length p.boards → set (image_of p s) (board_var p m) (aspect_value aspect) ≡ image_of p (record s { boards = set s.boards m aspect })
   image-board m aspect within = board-written p s (occupancy_values p s) shape m aspect within
 
-  pub image-lock : (x : ℕ) (hold : Hold) → x < length p.sections → set (image_of p s) (lock_var p x) (hold_value hold) ≡ image_of p (record s { locks = set s.locks x hold })
-  image-lock x hold within = lock-written p s (occupancy_values p s) shape x hold within
-
-  abbrev commanded : ℕ → PointState → Position → State
-  commanded n point to = record s { points = set s.points n (record point { to = to }) }
-
-  -- a command moves no point, and so changes no occupancy
-  pub image-to : (n : ℕ) (point : PointState) (to : Position) → slice_get s.points n ≡ Some point → set (image_of p s) (to_var p n) (position_value to) ≡ image_of p (record s { points = set s.points n (record point { to = to }) })
-  image-to n point to at =
-      to-written p s (occupancy_values p s) shape n point to at
-      ∙ ap (image_with (commanded n point to)) (map-range-congr (occupied p s) (occupied p (commanded n point to)) 0 (length p.sections) (λ x low high. ap occupancy_value (sym (occupancy-kept p s (commanded n point to) x refl (lies x)))))
-    where
-      lies : (x : ℕ) → lie_of p (commanded n point to) x ≡ lie_of p s x
-      lies x = by_number (point_number p x) refl
-        where
-          by_number : (o : Option ℕ) → point_number p x ≡ o → (o >>= λ m. slice_get (set s.points n (record point { to = to })) m >>= λ q. Some q.at) ≡ (o >>= λ m. slice_get s.points m >>= λ q. Some q.at)
-          by_number None e = refl
-          by_number (Some m) e =
-              elim (cases_eq n m) [
-                | inl same ↦
-                    (let P : ℕ → Type 0 = λ v. (slice_get (set s.points n (record point { to = to })) v >>= λ q. Some q.at) ≡ (slice_get s.points v >>= λ q. Some q.at) in
-                    subst P same (rw (slice_get-set_same s.points n (record point { to = to }) (slice_get_within s.points n point at), at) refl))
-                | inr apart ↦ ap (λ o. o >>= λ q. Some q.at) (slice_get-set_other s.points n m (record point { to = to }) apart)
-              ]
-
-  -- a point that moves or comes to lie: one write where no occupancy changes, two where that of one section does
-  pub image-at : (n : ℕ) (point : PointState) (lie : Lie) → slice_get s.points n ≡ Some point → ((x : ℕ) → x < length p.sections → occupancy_of p (record s { points = set s.points n (record point { at = lie }) }) x ≡ occupancy_of p s x) → set (image_of p s) (at_var p n) (lie_value lie) ≡ image_of p (record s { points = set s.points n (record point { at = lie }) })
-  image-at n point lie at same =
-      at-written p s (occupancy_values p s) shape n point lie at
-      ∙ ap (image_with (record s { points = set s.points n (record point { at = lie }) })) (map-range-congr _ _ 0 (length p.sections) (λ x low high. ap occupancy_value (sym (same x (omega arith)))))
-
-  pub image-at-and-one : (n x : ℕ) (point : PointState) (lie : Lie) → slice_get s.points n ≡ Some point → x < length p.sections → ((y : ℕ) → y < length p.sections → (y ≡ x → ⊥) → occupancy_of p (record s { points = set s.points n (record point { at = lie }) }) y ≡ occupancy_of p s y)
-      → set (set (image_of p s) (at_var p n) (lie_value lie)) (occupancy_var p x) (occupied p (record s { points = set s.points n (record point { at = lie }) }) x) ≡ image_of p (record s { points = set s.points n (record point { at = lie }) })
-  image-at-and-one n x point lie at within other =
-      let t : State = record s { points = set s.points n (record point { at = lie }) } in
-      let moved : HasShape p t = record { routes = shape.routes; points = length-set s.points n _ ∙ shape.points; boards = shape.boards; locks = shape.locks; counts = shape.counts; bodies = shape.bodies } in
-      ap (λ v. set v (occupancy_var p x) (occupied p t x)) (at-written p s (occupancy_values p s) shape n point lie at)
-      ∙ occupancy-written p t (occupancy_values p s) moved x (occupied p t x)
-      ∙ ap (image_with t) (table-one (occupied p s) (occupied p t) (length p.sections) x within (λ y less ne. ap occupancy_value (other y less ne)))
-
-  -- trains that move: one write where the occupancy of one section changes, two where those of two sections do
-  pub image-one : (ts : List Train) (x : ℕ) → x < length p.sections → ((y : ℕ) → y < length p.sections → (y ≡ x → ⊥) → occupancy_of p (with_trains s ts) y ≡ occupancy_of p s y) → set (image_of p s) (occupancy_var p x) (occupied p (with_trains s ts) x) ≡ image_of p (with_trains s ts)
-  image-one ts x within other =
-      occupancy-written p s (occupancy_values p s) shape x (occupied p (with_trains s ts) x)
-      ∙ ap (image_with s) (table-one (occupied p s) (occupied p (with_trains s ts)) (length p.sections) x within (λ y less ne. ap occupancy_value (other y less ne)))
-
+  -- trains that move: two writes where the occupancies of two sections change
   pub image-two : (ts : List Train) (x y : ℕ) → x < length p.sections → y < length p.sections → (x ≡ y → ⊥) → ((z : ℕ) → z < length p.sections → (z ≡ x → ⊥) → (z ≡ y → ⊥) → occupancy_of p (with_trains s ts) z ≡ occupancy_of p s z)
       → set (set (image_of p s) (occupancy_var p x) (occupied p (with_trains s ts) x)) (occupancy_var p y) (occupied p (with_trains s ts) y) ≡ image_of p (with_trains s ts)
   image-two ts x y within_x within_y apart other =

@@ -1,5 +1,5 @@
 -- A state made of occupancies that fit: it has the shape, no hazard, and these occupancies.
-use Rattle.std.proofs.Common.{◌≡◌, ℕ, zero, suc, ◌+◌, ◌<◌, Bool, true, false, ◌==◌, count_by, find, option_and_then, Option, Some, None, List, [], ◌∷◌, length, nat_lt, slice_get, inl, inr, refl, sym, ◌∙◌, ap, subst, arith}
+use Rattle.std.proofs.Common.{◌≡◌, ℕ, zero, suc, ◌+◌, ◌<◌, Bool, true, false, ◌==◌, count_by, option_and_then, Option, Some, None, List, [], ◌∷◌, length, nat_lt, slice_get, inl, inr, refl, sym, ◌∙◌, ap, subst, arith}
 use Rattle.std.specs.List.{list_any, range_with_len}
 use Rattle.std.proofs.lemmas.Bool.{and_from, eqb-false, eqb-true, false_from_ne_true, false≢true, le-ltb, ne_eqb, or_from}
 use Rattle.std.proofs.lemmas.Bool.Decides.{nat_tests}
@@ -8,7 +8,7 @@ use Rattle.ilk_base.specs.Option.{is_some_and}
 use Rattle.ilk_base.proofs.Lists.{item_at}
 use Rattle.ilk_base.proofs.Options.{some-and}
 use Rattle.ilk_base.proofs.Ranges.{range-at, range_within}
-use Rattle.ilk_base.proofs.Tested.{all-pass, few-from_places, none-pass}
+use Rattle.ilk_base.proofs.Tested.{all-pass, few-from_places, none-pass, find-none-from}
 use Rattle.ilk_plant.specs.Network.{has_section}
 use Rattle.ilk_plant.specs.NetworkRules.{opposite_direction}
 use Rattle.ilk_plant.specs.Once.{none_twice}
@@ -25,6 +25,7 @@ use Rattle.ilk_plant.specs.declared.state.Lie.TheVariants.{Plus, Minus, Moving}
 use Rattle.ilk_plant.specs.declared.state.State.{State}
 use Rattle.ilk_plant.specs.declared.state.Train.{Train}
 use Rattle.ilk_plant.proofs.Once.{none_twice-places}
+use Rattle.ilk_plant.proofs.InLists.{section-at}
 use Rattle.ilk_motion.specs.Ahead.{leads_to}
 use Rattle.ilk_model.specs.Hazard.{has_pair, hazard, is_hazardous, is_two, is_wrong, strays}
 use Rattle.ilk_layout.specs.Decoded.{backward, backward_from, chase, onward, onward_from, train_from, trains_of}
@@ -32,7 +33,6 @@ use Rattle.ilk_layout.specs.Occupancy.{occupancy_of}
 use Rattle.ilk_layout.specs.Wellformed.{ahead_by, has_more_behind, joined_to, section_fits}
 use Rattle.ilk_layout.specs.declared.values.Occupancy.{Occupancy}
 use Rattle.ilk_layout.specs.declared.values.Occupancy.TheVariants.{Vacant, Taken, Crash}
-use Rattle.ilk_layout.proofs.Bodies.{place-of}
 use Rattle.ilk_layout.proofs.Calm.{no-hazard, occupancy-in, pair-places}
 use Rattle.ilk_layout.proofs.Chains.{IsChain, chain-before, chain-last, chain-walk, chased, first_of, one_first}
 use Rattle.ilk_layout.proofs.Orders.{filter_map-at, filter_map-of}
@@ -69,10 +69,6 @@ other-leg p plant lie x stem plus minus faces d at =
     minus-only Down Down o l apart e = let same : Some minus ≡ Some plus = rw l at e in apart.0 (sym (same_Some minus plus same))
     minus-only Up Down o l apart e = apart.2 (same_Some stem plus e)
     minus-only Down Up o l apart e = apart.2 (same_Some stem plus e)
-
-none-found : {X : Type 0} (test : X → Bool) (xs : List X) → ((i : ℕ) (x : X) → slice_get xs i ≡ Some x → test x ≡ false) → find test xs ≡ None
-none-found test [] f = refl
-none-found test (x ∷ xs) f = rw (f zero x refl) (none-found test xs (λ i y at. f (suc i) y at))
 
 module _ (p : PlantLists) (plant : IsPlant p) (never : NeverReturns p) (lie : ℕ → Option Lie) (occupancy : ℕ → Option Occupancy) (fits : (x : ℕ) → x < length p.sections → section_fits p lie occupancy x (occupancy x) ≡ true) where
   abbrev on : ℕ → Option ℕ
@@ -158,8 +154,8 @@ module _ (p : PlantLists) (plant : IsPlant p) (never : NeverReturns p) (lie : �
     made-alone i j y u v at also hu hv =
         let m = made-at i u at in
         let l = made-at j v also in
-        let pu = place-of u.body y hu in
-        let pv = place-of v.body y hv in
+        let pu = section-at y u.body hu in
+        let pv = section-at y v.body hv in
         let tail-first : (a : ℕ) (d : Dir) (h : Bool) → occupancy a ≡ Some (Taken d true h) → backward p lie occupancy a ≡ None = λ a d h is. ap (backward_from p lie a) is in
         let taken : (a : ℕ) (d : Dir) (h : Bool) → a < length p.sections → occupancy a ≡ Some (Taken d true h) → IsTaken p occupancy a = λ a d h within is. record { dir = d; tail = true; head = h; within = within; is = is } in
         let same : m.0 ≡ l.0 =
@@ -181,7 +177,7 @@ module _ (p : PlantLists) (plant : IsPlant p) (never : NeverReturns p) (lie : �
     made-right i u x stem plus minus faces at section None l = refl
     made-right i u x stem plus minus faces at section (Some Moving) l =
         false_from_ne_true (has_section x u.body) (λ h.
-        let place = place-of u.body x h in
+        let place = section-at x u.body h in
         let still = (demands p plant never lie occupancy fits x u.dir (place.0 == 0) (place.0 + 1 == length u.body) (slice_get_within p.sections x (Point stem plus minus faces) section) (made-in i place.0 x u at place.1)).0 in
         false≢true (rw l at still))
     made-right i u x stem plus minus faces at section (Some Plus) l =
@@ -211,7 +207,7 @@ module _ (p : PlantLists) (plant : IsPlant p) (never : NeverReturns p) (lie : �
             rw e right
 
     pub made-calm : hazard p s ≡ None
-    made-calm = no-hazard p s (none-found (is_hazardous p s) (range_with_len 0 (length p.sections)) (λ i x at. made-safe x))
+    made-calm = no-hazard p s (find-none-from (is_hazardous p s) (range_with_len 0 (length p.sections)) (λ i x at. made-safe x))
 
     pub made-occupancy : (x : ℕ) → x < length p.sections → occupancy x ≡ Some (occupancy_of p s x)
     made-occupancy x within = by_occupancy (occupancy x) refl (fits x within)
@@ -219,7 +215,7 @@ module _ (p : PlantLists) (plant : IsPlant p) (never : NeverReturns p) (lie : �
         not-had : occupancy x ≡ Some Vacant → (i : ℕ) (u : Train) → slice_get s.trains i ≡ Some u → has_x x u ≡ false
         not-had is i u at =
             false_from_ne_true (has_x x u) (λ h.
-            let place = place-of u.body x h in
+            let place = section-at x u.body h in
             let taken : Some Vacant ≡ Some (Taken u.dir (place.0 == 0) (place.0 + 1 == length u.body)) = sym is ∙ made-in i place.0 x u at place.1 in
             cc)
 
@@ -228,7 +224,7 @@ module _ (p : PlantLists) (plant : IsPlant p) (never : NeverReturns p) (lie : �
         by_occupancy (Some Crash) is h = cc
         by_occupancy (Some Vacant) is h =
             let safe = made-safe x in
-            let none = none-found (has_x x) s.trains (not-had is) in
+            let none = find-none-from (has_x x) s.trains (not-had is) in
             rw (safe, none) refl
         by_occupancy (Some (Taken d t head)) is h =
             let first = first_of (length p.sections) (IsTaken p occupancy) (onward p lie occupancy) (backward p lie occupancy) (tracks p plant never lie occupancy fits) x (record { dir = d; tail = t; head = head; within = within; is = is }) in

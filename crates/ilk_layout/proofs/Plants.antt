@@ -9,7 +9,7 @@ use Rattle.std.proofs.lemmas.Option.{cond_some, slice_get_within}
 use Rattle.ilk_base.proofs.Once.{EachOnce}
 use Rattle.ilk_base.proofs.Options.{bind_some}
 use Rattle.ilk_base.proofs.Tested.{list_any-at}
-use Rattle.ilk_plant.specs.Network.{beside, has_section, same_direction}
+use Rattle.ilk_plant.specs.Network.{beside, has_section}
 use Rattle.ilk_plant.specs.NetworkRules.{opposite_direction}
 use Rattle.ilk_plant.specs.Plant.{IsPlant, PlantLists, next_to}
 use Rattle.ilk_plant.specs.Shape.{is_body, leads_on}
@@ -99,10 +99,6 @@ ahead-beside p lie x y d e =
 pub turned-twice : (d : Dir) → opposite_direction (opposite_direction d) ≡ d
 turned-twice Up = refl
 turned-twice Down = refl
-
-pub own-direction : (d : Dir) → same_direction d d ≡ true
-own-direction Up = refl
-own-direction Down = refl
 
 -- the two halves of the way from one section to the next
 pub joined-parts : (p : PlantLists) (lie : ℕ → Option Lie) (x y : ℕ) (d : Dir) → joined_to p lie x d ≡ Some y → (ahead_by p lie x d ≡ Some y) × (ahead_by p lie y (opposite_direction d) ≡ Some x)

@@ -1,8 +1,7 @@
 -- Values in range are those of lists: of routes, points, boards and locks; and well-formed values are an image.
 use Rattle.std.proofs.Common.{◌≡◌, ◌↔◌, ℕ, zero, suc, ◌+◌, ◌<◌, true, false, ◌&&◌, ◌==◌, Option, Some, None, option_map, List, [], ◌∷◌, ◌++◌, IsTrue, length, map, nat_lt, replicate, slice_get, inl, inr, refl, sym, ◌∙◌, ap, subst, arith}
 use Rattle.std.specs.List.{flat_map, range_with_len}
-use Rattle.std.proofs.lemmas.Bool.{and_from, and_parts, eqb-true, false≢true}
-use Rattle.std.proofs.lemmas.Bool.Decides.{nat_tests}
+use Rattle.std.proofs.lemmas.Bool.{and_from, and_parts, eqb-true, false≢true, lt-ltb}
 use Rattle.std.proofs.lemmas.List.{length-replicate}
 use Rattle.std.proofs.lemmas.List.FromFn.{length-range_with_len}
 use Rattle.std.proofs.lemmas.Option.{same_Some, slice_get-map, slice_get_past}
@@ -62,9 +61,6 @@ joined (x ∷ xs) ys [] qs h k = cc
 joined (x ∷ xs) ys (r ∷ rs) qs h k =
     let parts = and_parts (nat_lt x r) (in_ranges xs rs) h in
     and_from (nat_lt x r) (in_ranges (xs ++ ys) (rs ++ qs)) parts.0 (joined xs ys rs qs parts.1 k)
-
-less : (v n : ℕ) → v < n → nat_lt v n ≡ true
-less v n h = grind (arith, nat_tests)
 
 -- each number below the range is that of a value
 mode-of : (v : ℕ) → v < 5 → (m : Mode) × (mode_value m ≡ v)
@@ -216,7 +212,7 @@ route-in_ranges (route ∷ routes) (now ∷ rs) n fits =
     let seen = counts.0 in
     let rel = counts.1 in
     let rest = route-in_ranges routes rs (omega arith) (λ r q v e f. fits (suc r) q v e f) in
-    and_from _ _ (mode-below now.mode) (and_from _ _ (less now.seen (length route.path + 1) (omega arith)) (and_from _ _ (less now.rel (length route.path + 1) (omega arith)) rest))
+    and_from _ _ (mode-below now.mode) (and_from _ _ (lt-ltb now.seen (length route.path + 1) (omega arith)) (and_from _ _ (lt-ltb now.rel (length route.path + 1) (omega arith)) rest))
   where
     mode-below : (m : Mode) → nat_lt (mode_value m) 5 ≡ true
     mode-below Free = refl

@@ -15,12 +15,13 @@ use Rattle.ilk_plant.specs.Shape.{is_body}
 use Rattle.ilk_plant.specs.Sound.{NeverReturns}
 use Rattle.ilk_plant.specs.declared.state.State.{State}
 use Rattle.ilk_plant.specs.declared.state.Train.{Train}
+use Rattle.ilk_plant.proofs.InLists.{section-at}
 use Rattle.ilk_model.proofs.SharedSections.{has_more}
 use Rattle.ilk_layout.specs.Occupancy.{occupancy_of}
 use Rattle.ilk_layout.specs.Standing.{after_taking, with_train_on, AreWithTrainOn}
 use Rattle.ilk_layout.specs.declared.values.Occupancy.{Occupancy}
 use Rattle.ilk_layout.specs.declared.values.Occupancy.TheVariants.{Vacant}
-use Rattle.ilk_layout.proofs.Bodies.{first-at, last-at, place-of}
+use Rattle.ilk_layout.proofs.Bodies.{first-at, last-at}
 use Rattle.ilk_layout.proofs.Plants.{body-known, body-once}
 use Rattle.ilk_layout.proofs.Trains.{occupancy-more, with_trains, wrong-at, wrong-none}
 
@@ -35,7 +36,7 @@ taken-at (y ∷ xs) (suc n) (suc j) x at = let rest = taken-at xs n j x at in (r
 not-yet : (body : List ℕ) (i x : ℕ) → EachOnce body → slice_get body i ≡ Some x → has_section x (take i body) ≡ false
 not-yet body i x once at =
     false_from_ne_true (has_section x (take i body)) (λ h.
-    let there = place-of (take i body) x h in
+    let there = section-at x (take i body) h in
     let found = taken-at body i there.0 x there.1 in
     let places : there.0 ≡ i = once there.0 i x found.0 at in
     absurd (omega (arith, places, found.1)))

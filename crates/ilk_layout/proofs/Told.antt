@@ -17,17 +17,18 @@ use Rattle.ilk_plant.specs.State.{lie_of}
 use Rattle.ilk_plant.specs.declared.network.Dir.{Dir}
 use Rattle.ilk_plant.specs.declared.state.State.{State}
 use Rattle.ilk_plant.specs.declared.state.Train.{Train}
+use Rattle.ilk_plant.proofs.InLists.{section-from}
+use Rattle.ilk_plant.proofs.Alike.{own_direction}
 use Rattle.ilk_model.specs.Hazard.{hazard, is_hazardous}
 use Rattle.ilk_layout.specs.Decoded.{chase, onward, onward_from, train_from, trains_of}
 use Rattle.ilk_layout.specs.Occupancy.{occupancy_of, taken_by_any}
 use Rattle.ilk_layout.specs.Wellformed.{has_more_ahead, has_more_behind, joined_to, section_fits}
 use Rattle.ilk_layout.specs.declared.values.Occupancy.{Occupancy}
 use Rattle.ilk_layout.specs.declared.values.Occupancy.TheVariants.{Vacant, Taken, Crash}
-use Rattle.ilk_layout.proofs.Bodies.{has-at}
 use Rattle.ilk_layout.proofs.Calm.{alone, body-of, calm-at, joined-in, not_moving, occupancy-in, taken-in}
 use Rattle.ilk_layout.proofs.Chains.{IsChain, chain-same, chased}
 use Rattle.ilk_layout.proofs.Orders.{Within, filter_map-at, filter_map-of, filter_map-once, permuted}
-use Rattle.ilk_layout.proofs.Plants.{body-known, joined-back, own-direction}
+use Rattle.ilk_layout.proofs.Plants.{body-known, joined-back}
 use Rattle.ilk_layout.proofs.Trains.{has_x}
 use Rattle.ilk_layout.proofs.Tracks.{IsTaken, tracks}
 
@@ -66,10 +67,10 @@ module _ (p : PlantLists) (plant : IsPlant p) (never : NeverReturns p) (s : Stat
       told x (body-known p t k x plant (body-of p plant never s shape calm i t at) here) ∙ ap Some (occupancy-in p plant never s shape calm i k x t at here)
 
   next-taken : (k : ℕ) (d : Dir) (head : Bool) → has_more_behind d (Taken d (suc k == 0) head) ≡ true
-  next-taken k d head = let no_tail : (suc k == 0) ≡ false = ne_eqb (suc k) 0 (λ e. absurd (omega arith)) in rw (no_tail, own-direction d) refl
+  next-taken k d head = let no_tail : (suc k == 0) ≡ false = ne_eqb (suc k) 0 (λ e. absurd (omega arith)) in rw (no_tail, own_direction d) refl
 
   before-taken : (k n : ℕ) (d : Dir) (tail : Bool) → suc k < n → has_more_ahead d (Taken d tail (k + 1 == n)) ≡ true
-  before-taken k n d tail less = let no_head : (k + 1 == n) ≡ false = ne_eqb (k + 1) n (λ e. absurd (omega arith)) in rw (no_head, own-direction d) refl
+  before-taken k n d tail less = let no_head : (k + 1 == n) ≡ false = ne_eqb (k + 1) n (λ e. absurd (omega arith)) in rw (no_head, own_direction d) refl
 
   -- what the occupancy at a place of a body demands
   head_fits : (i k x : ℕ) (t : Train) → slice_get s.trains i ≡ Some t → slice_get t.body k ≡ Some x → ((k + 1 == length t.body) || is_some_and (joined_to p (lie_of p s) x t.dir) (λ y. is_some_and (occupancy y) (has_more_behind t.dir))) ≡ true
@@ -155,7 +156,7 @@ module _ (p : PlantLists) (plant : IsPlant p) (never : NeverReturns p) (s : Stat
   pub state-once : EachOnce s.trains
   state-once i j t at also =
       let begin = body-begins i t at in
-      let has : has_section begin.0 t.body ≡ true = has-at t.body 0 begin.0 (ap (λ body. slice_get body 0) begin.2) in
+      let has : has_section begin.0 t.body ≡ true = section-from t.body 0 begin.0 (ap (λ body. slice_get body 0) begin.2) in
       alone p plant never s shape calm i j begin.0 t t at also has has
 
   all-told : Within s.trains (trains_of p (lie_of p s) occupancy)

@@ -11,6 +11,7 @@ use Rattle.ilk_plant.specs.Shape.{leads_on}
 use Rattle.ilk_plant.specs.Sound.{NeverReturns}
 use Rattle.ilk_plant.specs.declared.network.Dir.{Dir}
 use Rattle.ilk_plant.specs.declared.state.Lie.{Lie}
+use Rattle.ilk_plant.proofs.Alike.{one_direction}
 use Rattle.ilk_routes.specs.Lies.{is_moving}
 use Rattle.ilk_layout.specs.Decoded.{backward, backward_from, onward, onward_from}
 use Rattle.ilk_layout.specs.Wellformed.{has_more_ahead, has_more_behind, joined_to, section_fits}
@@ -18,7 +19,6 @@ use Rattle.ilk_layout.specs.declared.values.Occupancy.{Occupancy}
 use Rattle.ilk_layout.specs.declared.values.Occupancy.TheVariants.{Vacant, Taken, Crash}
 use Rattle.ilk_layout.proofs.Chains.{GoesBack, IsWalk}
 use Rattle.ilk_layout.proofs.Plants.{ahead-beside, joined-back, joined-parts, turned-twice, walk-short}
-use Rattle.ilk_plant.proofs.Neighbours.{same-dir}
 
 -- a section of the plant that has a train
 pub record IsTaken (p : PlantLists) (occupancy : ℕ → Option Occupancy) (x : ℕ) : Type 0 where
@@ -36,7 +36,7 @@ more-behind d Vacant h = cc
 more-behind d Crash h = cc
 more-behind d (Taken e tail head) h =
     let parts = and_parts (same_direction e d) (not tail) h in
-    let same : e ≡ d = same-dir e d parts.0 in
+    let same : e ≡ d = one_direction e d parts.0 in
     let no_tail : tail ≡ false = not-true tail parts.1 in
     (head, ap (λ v. Taken v tail head) same ∙ ap (λ t. Taken d t head) no_tail)
 
@@ -45,7 +45,7 @@ more-ahead d Vacant h = cc
 more-ahead d Crash h = cc
 more-ahead d (Taken e tail head) h =
     let parts = and_parts (same_direction e d) (not head) h in
-    let same : e ≡ d = same-dir e d parts.0 in
+    let same : e ≡ d = one_direction e d parts.0 in
     let no_head : head ≡ false = not-true head parts.1 in
     (tail, ap (λ v. Taken v tail head) same ∙ ap (λ k. Taken d tail k) no_head)
 

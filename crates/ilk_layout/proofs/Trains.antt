@@ -16,12 +16,13 @@ use Rattle.ilk_plant.specs.declared.state.Lie.{Lie}
 use Rattle.ilk_plant.specs.declared.state.Lie.TheVariants.{Plus, Minus, Moving}
 use Rattle.ilk_plant.specs.declared.state.State.{State}
 use Rattle.ilk_plant.specs.declared.state.Train.{Train}
+use Rattle.ilk_plant.proofs.InLists.{section-from}
 use Rattle.ilk_model.specs.Hazard.{is_hazardous, is_wrong, strays}
 use Rattle.ilk_model.proofs.Straying.{strays-has}
 use Rattle.ilk_layout.specs.Occupancy.{occupancy_of, taken_by, taken_by_any}
 use Rattle.ilk_layout.specs.Standing.{has_no_train, is_wrong_between, is_wrong_under, section_before, with_train_on}
 use Rattle.ilk_layout.specs.declared.values.Occupancy.TheVariants.{Crash}
-use Rattle.ilk_layout.proofs.Bodies.{has-at, pair-at}
+use Rattle.ilk_layout.proofs.Bodies.{pair-at}
 
 pub wrong-has : (p : PlantLists) (s : State) (x : ℕ) (body : List ℕ) → is_wrong_under p s x body ≡ true → has_section x body ≡ true
 wrong-has p s x body h = by_section (slice_get p.sections x) refl
@@ -39,7 +40,7 @@ wrong-at p s body i x once at = by_section (slice_get p.sections x) refl (lie_of
     by_section None e l f = rw e refl
     by_section (Some (Linear down up b c)) e l f = rw e refl
     by_section (Some (Point stem plus minus faces)) e None f = rw (e, f) refl
-    by_section (Some (Point stem plus minus faces)) e (Some Moving) f = rw (e, f) (has-at body i x at)
+    by_section (Some (Point stem plus minus faces)) e (Some Moving) f = rw (e, f) (section-from body i x at)
     by_section (Some (Point stem plus minus faces)) e (Some Plus) f = rw (e, f) (pair-at body i x minus once at)
     by_section (Some (Point stem plus minus faces)) e (Some Minus) f = rw (e, f) (pair-at body i x plus once at)
 

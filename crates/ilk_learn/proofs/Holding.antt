@@ -19,14 +19,14 @@ use Rattle.ilk_base.proofs.Tested.{list_all-slice_get}
 use Rattle.ilk_clauses.specs.Reasons.{clause_at, HasReasons}
 use Rattle.ilk_cnf.specs.Literal.{Literal, opposite, same_lit, has_lit, has_var, vars_differ}
 use Rattle.ilk_cnf.specs.Formula.{Formula, IsFormula, lit_in, clause_in}
-use Rattle.ilk_cnf.proofs.Literals.{vars_differ-push}
+use Rattle.ilk_cnf.proofs.Literals.{vars_differ-push, lit_in-parts}
 use Rattle.ilk_log.specs.Propagation.{is_false, is_falsified}
 use Rattle.ilk_log.specs.Fresh.{others}
 use Rattle.ilk_trail.specs.declared.entry.Entry.{Entry}
 use Rattle.ilk_trail.specs.Trail.{TrailList, entry_of, level_of}
 use Rattle.ilk_trail.specs.Laws.{IsTrail, lits_of, is_set}
 use Rattle.ilk_trail.proofs.Entries.{found}
-use Rattle.ilk_trail.proofs.Literals.{clause_in-push, count_of_vars, lit_in-parts}
+use Rattle.ilk_trail.proofs.Literals.{clause_in-push, count_of_vars}
 use Rattle.ilk_learn.specs.Resolvent.{without_variable, with_lit, with_each_lit, resolvent}
 use Rattle.ilk_learn.specs.Levels.{level_at, is_current, highest_level}
 use Rattle.ilk_learn.specs.Asserting.{begins_at, is_asserting}

@@ -86,9 +86,6 @@ each_then value items n next lines bytes = each_told value items n lines >>= (λ
 abbrev pub part_reader : {A T : Type 0} → (LinesPart A → Bytes → Result T ℕ) → List A → ℕ → Reader T
 part_reader next values number lines bytes = next (record { values = values; number = number; lines = lines }) bytes
 
-each_none : {A T : Type 0} (value : ℕ → Bytes → Option A) (n : ℕ) (next : LinesPart A → Bytes → Result T ℕ) (lines : List Bytes) (bytes : Bytes) → each_then value [] n next lines bytes ≡ part_reader next [] (n + 0) lines bytes
-each_none value n next lines bytes = refl
-
 none_enough : (k : ℕ) → (0 == suc k) ≡ false
 none_enough k = grind (arith, nat_tests)
 

@@ -6,7 +6,7 @@ use Rattle.std.specs.List.{list_all}
 use Rattle.std.specs.Prelude.{◌↔◌}
 use Rattle.std.specs.Str.{all_ascii_digits}
 use Rattle.std.specs.Str.Parse.{digits_value}
-use Rattle.std.proofs.lemmas.Bool.{and_from, and_parts, or_right}
+use Rattle.std.proofs.lemmas.Bool.{and_from, and_parts, or_right, le-leb}
 use Rattle.std.proofs.lemmas.Bool.Decides.{nat_tests}
 use Rattle.std.proofs.lemmas.Fmt.{decimal-digits_value, decimal_digit, decimal_nonempty, digits_decimal, digits_value-decimal, first_decimal}
 use Rattle.std.proofs.lemmas.Option.{cond_some}
@@ -32,9 +32,6 @@ alone n first h e = grind (arith, nat_tests)
 
 at_most : (k m : ℕ) → nat_le k m ≡ true → k ≤ m
 at_most k m h = grind (arith, nat_tests)
-
-within_limit : (k m : ℕ) → k ≤ m → nat_le k m ≡ true
-within_limit k m h = grind (arith, nat_tests)
 
 -- a number that is read is written so, and is within the limit
 pub decimal-written : (limit : ℕ) (word : Bytes) (n : ℕ) → limit < 2 ^ 64 → decimal_up_to limit word ≡ Some n → (word ≡ decimal n) × (n ≤ limit)
@@ -72,7 +69,7 @@ decimal_back limit n small below =
     let nonempty : not (length (decimal n) == 0) ≡ true = grind (arith, nat_tests) in
     let number : is_decimal (decimal n) ≡ true = and_from _ _ (and_from _ _ digits nonempty) (first_of_decimal n (omega arith)) in
     let value : digits_value 10 (decimal n) ≡ n = digits_value-decimal own n (omega arith) in
-    let within : nat_le (digits_value 10 (decimal n)) limit ≡ true = ap (λ k. nat_le k limit) value ∙ within_limit n limit below in
+    let within : nat_le (digits_value 10 (decimal n)) limit ≡ true = ap (λ k. nat_le k limit) value ∙ le-leb n limit below in
     ap (λ b. only_if b (digits_value 10 (decimal n))) (and_from _ _ number within) ∙ ap (λ k. Some k) value
 
 -- a number has no byte but digits

@@ -10,8 +10,8 @@
 //! A text is read by `Lines::of`; then, line by line, by `pass` where one line must stand, by
 //! `read_each` where a line must tell of each item, by `read_leading` for as many lines as tell
 //! something, or by `next`, `line` and `split_first` in a loop of the caller's own; and last by
-//! `finish`. A line is taken apart by `after_word`, `first_word` and `next_word`, and its numbers
-//! are read by `decimal_up_to`. `push_decimal` writes a number. The laws say that what is written is
+//! `finish`. A text of another form is taken apart at a byte by `cut`. A line is taken apart by
+//! `after_word`, `first_word` and `next_word`, and its numbers are read by `decimal_up_to`. `push_decimal` writes a number. The laws say that what is written is
 //! read again, and nothing else: `texts_are_their_lines`, `lines_are_their_words`,
 //! `decimals_are_those_written`.
 //!
@@ -36,6 +36,7 @@ pub use decimal::{decimal_up_to, is_decimal, push_decimal};
 pub use each::{read_each, read_leading};
 pub use fault::LineFault;
 pub use laws::{decimals_are_those_written, lines_are_their_words, texts_are_their_lines};
+pub use parts::cut;
 pub use token::Token;
 pub use untaken::Untaken;
 pub use words::{after_start, after_word, first_word, next_word};

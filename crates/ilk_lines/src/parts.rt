@@ -10,7 +10,7 @@ pub(crate) fn place_of(text: &[u8], at: u8) -> Option<usize>
 }
 
 /// What stands before the first byte `at`, and what stands after it, if there is one.
-pub(crate) fn cut(text: &[u8], at: u8) -> (&[u8], Option<&[u8]>)
+pub fn cut(text: &[u8], at: u8) -> (&[u8], Option<&[u8]>)
     ensures parts { parts_at at text.now
         ≡ result.0.now ∷ option_map_or (λ rest. parts_at at rest.now) result.1 [] }
     ensures shorter { IfSome result.1 (λ rest. length rest.now < length text.now) }

@@ -172,10 +172,6 @@ each-closed clauses all h =
     none None h = refl
     none (Some l) h = absurd (cc)
 
--- where propagation is at its end with these literals, hints that start within them set no others
-pub hints-within : (clauses : List (List Literal)) (set all next : List Literal) (hints : List ℕ) → is_closed clauses all ≡ true → Within set all → after_hints clauses set hints ≡ Some next → Within next all
-hints-within clauses set all next hints k w e = hints-taken clauses set all next hints (each-closed clauses all k) w e
-
 -- and end at no false clause
 pub no-false-end : (clauses : List (List Literal)) (set all : List Literal) (hints : List ℕ) → is_closed clauses all ≡ true → Within set all → ends_false clauses set hints ≡ false
 no-false-end clauses set all hints k w = no-end-false clauses set all hints (each-closed clauses all k) w

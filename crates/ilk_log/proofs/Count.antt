@@ -193,9 +193,6 @@ fresh-new n i clauses c s fr at d ci e =
 abbrev has_literal : Step → Bool
 has_literal s = not (is_empty s.clause)
 
-abbrev codes_of : ℕ → List Step → List ℕ
-codes_of n log = map (λ (s : Step). code n s.clause) (filter (λ (s : Step). not (is_empty s.clause)) log)
-
 later-differ : (n i : ℕ) (clauses : List (List Literal)) (c : List Literal) (log : List Step) → each_derived n clauses log ≡ true → EachFresh clauses log → slice_get clauses i ≡ Some c → vars_differ c ≡ true → clause_in n c ≡ true → AllByRecursion (λ y. eqb (code n c) y ≡ false) (map (λ (s : Step). code n s.clause) (filter (λ (s : Step). not (is_empty s.clause)) log))
 later-differ n i clauses c [] dl fr at d ci = tt
 later-differ n i clauses c (s ∷ log) dl fr at d ci =

@@ -1,6 +1,5 @@
 -- The words of a line tell a step exactly where they are that step's words.
-use Rattle.std.proofs.Common.{◌≡◌, ℕ, ◌-◌, ◌^◌, ◌<◌, ◌≤◌, inl, inr, Bool, true, false, ◌&&◌, ◌==◌, List, [], ◌∷◌, ◌++◌, map, refl, sym, ap, ◌∙◌, subst, arith, append_assoc, Option, Some, None, lit<}
-use Rattle.std.proofs.lemmas.List.{append-nil}
+use Rattle.std.proofs.Common.{◌≡◌, ℕ, ◌-◌, ◌^◌, ◌<◌, ◌≤◌, inl, inr, Bool, true, false, ◌&&◌, ◌==◌, List, [], ◌∷◌, ◌++◌, map, refl, sym, ap, ◌∙◌, subst, arith, Option, Some, None, lit<}
 use Rattle.std.specs.Prelude.{Result, Ok, Err, IfOk, codes, bytes_eq, nat_lt, All, ◌↔◌, option_map, nat_le}
 use Rattle.std.specs.Fmt.{decimal}
 use Rattle.std.specs.List.{list_all, list_any}
@@ -21,7 +20,8 @@ use Rattle.ilk_lines.proofs.Cuts.{parts_follow}
 use Rattle.ilk_lines.proofs.LineWords.{line-words, words_back}
 use Rattle.ilk_log.specs.declared.step.Step.{Step}
 use Rattle.ilk_log.specs.StepText.{lit_word, step_words, step_text, has_numbers}
-use Rattle.ilk_log.specs.StepReading.{count_of, lit_of, lits_of_words, no_words, hints_of, step_of}
+use Rattle.ilk_log.specs.StepReading.{lits_of_words, no_words, hints_of, step_of}
+use Rattle.ilk_log.specs.StepWords.{count_of, lit_of}
 
 -- numbers
 count-written : (limit n : ℕ) (word : Bytes) → limit < 2 ^ 64 → count_of limit word ≡ Some n → (word ≡ decimal n) × (0 < n) × (n ≤ limit)
@@ -113,9 +113,6 @@ lits-back (l ∷ ls) rest h =
     rw (not-zero (lit_word l) l b, b, lits-back ls rest p.1) refl
 
 -- the hints of a line
-abbrev hints_fit : List ℕ → Bool
-hints_fit hints = list_all (λ h. nat_lt 0 h && nat_lt h (2 ^ 64)) hints
-
 hints-written : (words : List Bytes) (hs : List ℕ) → hints_of words ≡ Some hs → (words ≡ map decimal hs ++ codes "0" ∷ []) × (list_all (λ h. nat_lt 0 h && nat_lt h (2 ^ 64)) hs ≡ true)
 hints-written [] hs h = absurd (cc)
 hints-written (word ∷ words) hs h =
@@ -207,70 +204,14 @@ with_lits front o = option_map (λ r. (front ++ r.0, r.1)) o
 pub record AtLits (whole : List Bytes) (taken : List Literal) (left : List Bytes) : Type 0 where
   pub is : lits_of_words whole ≡ with_lits taken (lits_of_words left)
 
-pub lits-start : (whole : List Bytes) → AtLits whole [] whole
-lits-start whole = record { is = sym (go (lits_of_words whole)) }
-  where
-    go : (o : Option (List Literal × List Bytes)) → with_lits [] o ≡ o
-    go None = refl
-    go (Some r) = refl
-
-pub lits-end : (whole left words : List Bytes) (taken : List Literal) (word : Bytes) → AtLits whole taken left → left ≡ word ∷ words → bytes_eq word (codes "0") ≡ true → lits_of_words whole ≡ Some (taken, words)
-lits-end whole left words taken word a e h =
-    a.is ∙ ap (λ (ws : List Bytes). with_lits taken (lits_of_words ws)) e ∙ rw h (ap (λ (ls : List Literal). Some (ls, words)) (append-nil taken))
-
-pub lits-bad : (whole left words : List Bytes) (taken : List Literal) (word : Bytes) → AtLits whole taken left → left ≡ word ∷ words → bytes_eq word (codes "0") ≡ false → lit_of word ≡ None → lits_of_words whole ≡ None
-lits-bad whole left words taken word a e h n =
-    a.is ∙ ap (λ (ws : List Bytes). with_lits taken (lits_of_words ws)) e ∙ rw (h, n) refl
-
-pub lits-cut : (whole left : List Bytes) (taken : List Literal) (word : Bytes) (l : Literal) → AtLits whole taken left → left ≡ word ∷ [] → bytes_eq word (codes "0") ≡ false → lit_of word ≡ Some l → lits_of_words whole ≡ None
-lits-cut whole left taken word l a e h n =
-    a.is ∙ ap (λ (ws : List Bytes). with_lits taken (lits_of_words ws)) e ∙ rw (h, n) refl
-
-pub lits-next : (whole left words : List Bytes) (taken : List Literal) (word : Bytes) (l : Literal) → AtLits whole taken left → left ≡ word ∷ words → bytes_eq word (codes "0") ≡ false → lit_of word ≡ Some l → AtLits whole (taken ++ l ∷ []) words
-lits-next whole left words taken word l a e h n = record {
-  is = a.is ∙ ap (λ (ws : List Bytes). with_lits taken (lits_of_words ws)) e ∙ rw (h, n) (go (lits_of_words words));
-}
-  where
-    go : (o : Option (List Literal × List Bytes)) → with_lits taken (o >>= (λ (r : List Literal × List Bytes). Some (l ∷ r.0, r.1))) ≡ with_lits (taken ++ l ∷ []) o
-    go None = refl
-    go (Some r) = ap (λ (ls : List Literal). Some (ls, r.1)) (sym (append_assoc taken (l ∷ []) r.0))
-
 -- the same of hints
 pub record AtHints (whole : List Bytes) (taken : List ℕ) (left : List Bytes) : Type 0 where
   pub is : hints_of whole ≡ option_map (λ r. taken ++ r) (hints_of left)
-
-pub hints-start : (whole : List Bytes) → AtHints whole [] whole
-hints-start whole = record { is = sym (go (hints_of whole)) }
-  where
-    go : (o : Option (List ℕ)) → option_map (λ r. [] ++ r) o ≡ o
-    go None = refl
-    go (Some r) = refl
-
-pub hints-end : (whole left : List Bytes) (taken : List ℕ) (word : Bytes) → AtHints whole taken left → left ≡ word ∷ [] → bytes_eq word (codes "0") ≡ true → hints_of whole ≡ Some taken
-hints-end whole left taken word a e h =
-    a.is ∙ ap (λ (ws : List Bytes). option_map (λ (r : List ℕ). taken ++ r) (hints_of ws)) e ∙ rw h (ap (λ (ns : List ℕ). Some ns) (append-nil taken))
 
 pub hints_more : (whole left : List Bytes) (taken : List ℕ) (word rest : Bytes) → AtHints whole taken left → left ≡ word ∷ words_of rest → bytes_eq word (codes "0") ≡ true → hints_of whole ≡ None
 hints_more whole left taken word rest a e h =
     let p = parts_follow 32 rest in
     a.is ∙ ap (λ (ws : List Bytes). option_map (λ (r : List ℕ). taken ++ r) (hints_of ws)) (e ∙ ap (λ (ws : List Bytes). word ∷ ws) p.2) ∙ rw h refl
-
-pub hints-bad : (whole left words : List Bytes) (taken : List ℕ) (word : Bytes) → AtHints whole taken left → left ≡ word ∷ words → bytes_eq word (codes "0") ≡ false → count_of (2 ^ 64 - 1) word ≡ None → hints_of whole ≡ None
-hints-bad whole left words taken word a e h n =
-    a.is ∙ ap (λ (ws : List Bytes). option_map (λ (r : List ℕ). taken ++ r) (hints_of ws)) e ∙ rw (h, n) refl
-
-pub hints-cut : (whole left : List Bytes) (taken : List ℕ) (word : Bytes) (k : ℕ) → AtHints whole taken left → left ≡ word ∷ [] → bytes_eq word (codes "0") ≡ false → count_of (2 ^ 64 - 1) word ≡ Some k → hints_of whole ≡ None
-hints-cut whole left taken word k a e h n =
-    a.is ∙ ap (λ (ws : List Bytes). option_map (λ (r : List ℕ). taken ++ r) (hints_of ws)) e ∙ rw (h, n) refl
-
-pub hints-next : (whole left words : List Bytes) (taken : List ℕ) (word : Bytes) (k : ℕ) → AtHints whole taken left → left ≡ word ∷ words → bytes_eq word (codes "0") ≡ false → count_of (2 ^ 64 - 1) word ≡ Some k → AtHints whole (taken ++ k ∷ []) words
-hints-next whole left words taken word k a e h n = record {
-  is = a.is ∙ ap (λ (ws : List Bytes). option_map (λ (r : List ℕ). taken ++ r) (hints_of ws)) e ∙ rw (h, n) (go (hints_of words));
-}
-  where
-    go : (o : Option (List ℕ)) → option_map (λ (r : List ℕ). taken ++ r) (o >>= (λ (r : List ℕ). Some (k ∷ r))) ≡ option_map (λ (r : List ℕ). (taken ++ k ∷ []) ++ r) o
-    go None = refl
-    go (Some r) = ap (λ (ns : List ℕ). Some ns) (sym (append_assoc taken (k ∷ []) r))
 
 -- what is read of a line is the step whose line it is, or none
 pub told-exactly : {E : Type 0} (r : Result (Option Step) E) (line : Bytes) → IfOk r (λ told. told ≡ step_of (words_of line)) → IfOk r (λ told. (s : Step) → (told ≡ Some s) ↔ ((line ≡ step_text s) × (has_numbers s ≡ true)))

@@ -3,6 +3,7 @@ pub mod Derived
 pub mod Conflicts
 pub mod Fresh
 pub mod StepText
+pub mod StepWords
 pub mod StepReading
 pub mod TextLeft
 pub mod Packed

@@ -1,21 +1,10 @@
 -- Only private contracts and proofs need this file: how the words of a line are read, one by one.
-use Rattle.std.specs.Prelude.{ℕ, Bool, true, false, ◌==◌, ◌-◌, ◌^◌, List, [], ◌∷◌, Option, Some, None, bytes_eq, codes, nat_lt, option_map, if◌then◌else◌}
+use Rattle.std.specs.Prelude.{ℕ, Bool, true, false, ◌-◌, ◌^◌, List, [], ◌∷◌, Option, Some, None, bytes_eq, codes, if◌then◌else◌}
 use Rattle.ilk_base.specs.Option.{◌>>=◌, only_if}
 use Rattle.ilk_cnf.specs.Literal.{Literal}
 use Rattle.ilk_lines.specs.Lines.{Bytes}
-use Rattle.ilk_lines.specs.Decimal.{decimal_up_to}
+use Rattle.ilk_log.specs.StepWords.{count_of, lit_of}
 use Rattle.ilk_log.specs.declared.step.Step.{Step}
-
--- a number from 1 to the limit
-abbrev pub count_of : ℕ → Bytes → Option ℕ
-count_of limit word = do
-  n ← decimal_up_to limit word
-  only_if (nat_lt 0 n) n
-
--- a literal
-abbrev pub lit_of : Bytes → Option Literal
-lit_of [] = None
-lit_of (b ∷ word) = if b == 45 then option_map (λ v. record { var = v; positive = false }) (count_of (2 ^ 62) word) else option_map (λ v. record { var = v; positive = true }) (count_of (2 ^ 62) (b ∷ word))
 
 -- the literals before the word 0, and the words after it
 abbrev pub lits_of_words : List Bytes → Option (List Literal × List Bytes)

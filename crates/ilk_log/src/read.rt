@@ -1,9 +1,10 @@
 ghost use Rattle.std.specs.Prelude.{◌≡◌, ◌↔◌, IfOk, Some, [], option_map, IsTrue};
 ghost use Rattle.std.specs.Option.{option_map_or};
 ghost use Rattle.ilk_lines.specs.Words.{words_of};
-ghost use Rattle.ilk_log.specs.StepReading.{count_of, hints_of, lit_of, lits_of_words, step_of};
+ghost use Rattle.ilk_log.specs.StepReading.{hints_of, lits_of_words, step_of};
 ghost use Rattle.ilk_log.specs.StepText.{has_numbers, step_text};
 ghost use Rattle.ilk_log.specs.declared.step.Step.{Step as StepValue};
+ghost use Rattle.ilk_log.specs.StepWords.{count_of, lit_of};
 
 use crate::hints::Hints;
 use crate::step::Step;
@@ -12,8 +13,8 @@ use ilk_cnf::{Lit, Lits};
 use ilk_lines::{decimal_up_to, next_word};
 use std::alloc::{AllocError, Global};
 
-// A number from 1 to the limit.
-fn count_of(word: &[u8], limit: u64) -> Option<u64>
+/// The number from 1 to the limit that a word is. None exactly where it is none.
+pub fn count_of(word: &[u8], limit: u64) -> Option<u64>
     ensures { result ≡ count_of limit word.now }
 {
     let n = decimal_up_to(word, limit)?;
@@ -23,8 +24,8 @@ fn count_of(word: &[u8], limit: u64) -> Option<u64>
 // The greatest variable.
 const MAX_VAR: u64 = 1 << 62;
 
-// The literal that a word writes.
-fn lit_of(word: &[u8]) -> Option<Lit>
+/// The literal that a word writes, over a variable from 1 to 2^62. None exactly where it writes none.
+pub fn lit_of(word: &[u8]) -> Option<Lit>
     ensures { result ≡ lit_of word.now }
 {
     match word {

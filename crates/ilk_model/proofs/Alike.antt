@@ -1,9 +1,6 @@
 -- Tests that two values are one.
 use Rattle.std.proofs.Common.{◌≡◌, true, refl}
-use Rattle.ilk_plant.specs.Network.{same_direction}
 use Rattle.ilk_plant.specs.State.{same_hold}
-use Rattle.ilk_plant.specs.declared.network.Dir.{Dir}
-use Rattle.ilk_plant.specs.declared.network.Dir.TheVariants.{Up, Down}
 use Rattle.ilk_plant.specs.declared.network.Position.{Position}
 use Rattle.ilk_plant.specs.declared.network.Position.TheVariants.{Plus, Minus}
 use Rattle.ilk_plant.specs.declared.state.Aspect.{Aspect}
@@ -11,7 +8,7 @@ use Rattle.ilk_plant.specs.declared.state.Aspect.TheVariants.{Open, Closed}
 use Rattle.ilk_plant.specs.declared.state.Hold.{Hold}
 use Rattle.ilk_plant.specs.declared.state.Hold.TheVariants.{Free as FreeLock, Locked as LockedLock, Used as UsedLock}
 use Rattle.ilk_plant.specs.declared.state.Lie.{Lie}
-use Rattle.ilk_plant.specs.declared.state.Lie.TheVariants.{Plus as LiesPlus, Minus as LiesMinus, Moving}
+use Rattle.ilk_plant.specs.declared.state.Lie.TheVariants.{Plus as LiesPlus, Minus as LiesMinus}
 use Rattle.ilk_plant.specs.declared.state.Mode.{Mode}
 use Rattle.ilk_plant.specs.declared.state.Mode.TheVariants.{Free, Marked, Allocating, Locked, Occupied}
 use Rattle.ilk_routes.specs.Boards.{same_aspect}
@@ -26,13 +23,6 @@ one_mode Allocating Allocating h = refl
 one_mode Locked Locked h = refl
 one_mode Occupied Occupied h = refl
 one_mode a b h = cc
-
-pub own_mode : (a : Mode) → same_mode a a ≡ true
-own_mode Free = refl
-own_mode Marked = refl
-own_mode Allocating = refl
-own_mode Locked = refl
-own_mode Occupied = refl
 
 pub one_hold : (a b : Hold) → same_hold a b ≡ true → a ≡ b
 one_hold FreeLock FreeLock h = refl
@@ -53,15 +43,6 @@ one_aspect a b h = cc
 pub own_aspect : (a : Aspect) → same_aspect a a ≡ true
 own_aspect Open = refl
 own_aspect Closed = refl
-
-pub one_direction : (a b : Dir) → same_direction a b ≡ true → a ≡ b
-one_direction Up Up h = refl
-one_direction Down Down h = refl
-one_direction a b h = cc
-
-pub own_direction : (a : Dir) → same_direction a a ≡ true
-own_direction Up = refl
-own_direction Down = refl
 
 pub one_position : (a b : Position) → same_position a b ≡ true → a ≡ b
 one_position Plus Plus h = refl

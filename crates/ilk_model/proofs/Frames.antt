@@ -1,9 +1,9 @@
 -- What each event leaves alone: one law for each of the thirteen events. It has what was asked, what the event changes, and
 -- says of every other list of the state that it is as it was.
-use Rattle.std.proofs.Common.{◌≡◌, ℕ, zero, suc, ◌+◌, ◌≤◌, Bool, true, false, not, ◌==◌, ◌&&◌, ◌||◌, Option, Some, None, List, [], ◌∷◌, ◌++◌, length, nat_le, position, remove, set, slice_get, refl, sym, ap, ◌∙◌, arith}
+use Rattle.std.proofs.Common.{◌≡◌, ℕ, ◌+◌, ◌≤◌, true, false, not, ◌==◌, ◌&&◌, ◌||◌, Option, Some, None, List, [], ◌∷◌, ◌++◌, length, nat_le, position, remove, set, slice_get, refl, sym, ap, ◌∙◌, arith}
 use Rattle.std.specs.Prelude.{if◌then◌else◌}
 use Rattle.std.specs.List.{last_or, list_all}
-use Rattle.std.proofs.lemmas.Bool.{and_parts, eqb-true, cases_Bool}
+use Rattle.std.proofs.lemmas.Bool.{and_parts, eqb-true}
 use Rattle.std.proofs.lemmas.Bool.Decides.{nat_tests}
 use Rattle.std.proofs.lemmas.Option.{cond_some, option_and_then_some, same_Some}
 use Rattle.ilk_base.proofs.Lists.{item_at, last_or-at}
@@ -29,7 +29,7 @@ use Rattle.ilk_routes.specs.Boards.{has_aspect, is_protecting}
 use Rattle.ilk_routes.specs.Claims.{sections_beside, wanted_points}
 use Rattle.ilk_routes.specs.Lies.{is_moving, lie_in, lies_as_listed, lies_at, with_commands}
 use Rattle.ilk_routes.specs.Locks.{with_locks}
-use Rattle.ilk_routes.specs.Modes.{is_claimed, same_mode}
+use Rattle.ilk_routes.specs.Modes.{same_mode}
 use Rattle.ilk_routes.specs.Points.{after_settle, after_throw}
 use Rattle.ilk_routes.specs.Routes.{after_allocate, after_cancel, after_finish, after_lock, after_mark, after_release, after_sense, can_claim, can_lock}
 use Rattle.ilk_model.specs.Holding.{is_locked_or_occupied}

@@ -4,8 +4,8 @@ pub mod SharedSections
 pub mod LeastHazard
 pub mod HeldTwice
 pub mod LeastBroken
-pub mod LastItem
 pub mod Alike
 pub mod Frames
 pub mod Straying
 pub mod Shape
+pub mod Kept

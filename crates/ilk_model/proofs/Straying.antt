@@ -5,6 +5,7 @@ use Rattle.ilk_base.proofs.Truth.{either}
 use Rattle.ilk_plant.specs.Network.{has_section}
 use Rattle.ilk_plant.specs.declared.state.Lie.{Lie}
 use Rattle.ilk_plant.specs.declared.state.Lie.TheVariants.{Plus, Minus, Moving}
+use Rattle.ilk_plant.proofs.InLists.{rest-has}
 use Rattle.ilk_model.specs.Hazard.{has_pair, strays}
 
 -- both of a pair stand in the body
@@ -26,11 +27,6 @@ strays-has x plus minus None body h = cc
 strays-has x plus minus (Some Moving) body h = h
 strays-has x plus minus (Some Plus) body h = pair-has x minus body h
 strays-has x plus minus (Some Minus) body h = pair-has x plus body h
-
--- what a body without its first section has, it has
-pub rest-has : (x : ℕ) (body : List ℕ) → has_section x (remove body 0) ≡ true → has_section x body ≡ true
-rest-has x [] h = h
-rest-has x (a ∷ rest) h = or_right (a == x) (has_section x rest) h
 
 pub rest-pair : (x z : ℕ) (body : List ℕ) → has_pair x z (remove body 0) ≡ true → has_pair x z body ≡ true
 rest-pair x z [] h = h

@@ -1,6 +1,6 @@
 -- The nine families of the invariant, V1 to V9: what states that keep trains apart have in common. Each is a test of a
 -- state of the plant that has the shape.
-use Rattle.std.specs.Prelude.{ℕ, ◌+◌, Bool, true, ◌==◌, ◌&&◌, ◌||◌, not, None, if◌then◌else◌, length, drop, nat_le, nat_lt}
+use Rattle.std.specs.Prelude.{ℕ, ◌+◌, Bool, true, ◌==◌, ◌&&◌, ◌||◌, not, if◌then◌else◌, length, drop, nat_le, nat_lt}
 use Rattle.std.specs.List.{list_all}
 use Rattle.ilk_base.specs.Each.{each_below}
 use Rattle.ilk_base.specs.Option.{is_some_and}

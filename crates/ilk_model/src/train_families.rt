@@ -54,7 +54,7 @@ fn is_led(plant: &Plant, s: &State, d: Dir, x: u32) -> bool
 }
 
 // The section of a train's head. None where its body is empty.
-#[tactic(auto, using(crate::proofs::LastItem::last_item))]
+#[tactic(auto, using(ilk_base::proofs::Lists::last_item))]
 fn head_of(train: &Train) -> Option<u32>
     ensures { result ≡ last_of train.now.body }
 {

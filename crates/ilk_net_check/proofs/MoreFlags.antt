@@ -7,7 +7,6 @@ use Rattle.std.proofs.lemmas.Bool.Decides.{Decides-eqb, nat_tests}
 use Rattle.std.proofs.lemmas.Nat.Bits.{bit_at-lt, bit_at_or, bit_at_set_other, bit_at_set_same}
 use Rattle.ilk_base.proofs.Truth.{or-true}
 use Rattle.ilk_net_check.specs.Numbers.{has_flag}
-use Rattle.ilk_net_check.specs.declared.bits.Flags.{Flags}
 
 -- one more bit
 pub one_more : (bits y x : ℕ) → y < 128 → (bit_at (bit_or bits (1 * 2 ^ y % 2 ^ 128)) x == 1) ≡ ((bit_at bits x == 1) || (y == x))
@@ -35,15 +34,6 @@ of_either bits others x =
     ap (λ b. b == 1) (bit_at_or bits others x) ∙ greater_is_one (bit_at bits x) (bit_at others x) (bit_at-lt bits x) (bit_at-lt others x)
 
 -- one more flag, among the low bits or among the high ones
-pub flag_below : (low high new y x : ℕ) → y < 128 → ((z : ℕ) → (bit_at new z == 1) ≡ ((bit_at low z == 1) || (y == z))) → has_flag (record { low = new; high = high }) x ≡ (has_flag (record { low = low; high = high }) x || (y == x))
-flag_below low high new y x below bit = by_test (nat_lt x 128) refl
-  where
-    by_test : (b : Bool) → nat_lt x 128 ≡ b → cond b (bit_at new x == 1) (bit_at high (x - 128) == 1) ≡ (cond b (bit_at low x == 1) (bit_at high (x - 128) == 1) || (y == x))
-    by_test true e = bit x
-    by_test false e =
-        let differs : (y == x) ≡ false = grind (arith, nat_tests) in
-        sym (or-false (bit_at high (x - 128) == 1)) ∙ ap (λ b. (bit_at high (x - 128) == 1) || b) (sym differs)
-
 pub flag_past : (low high new y x : ℕ) → 128 ≤ y → ((z : ℕ) → (bit_at new z == 1) ≡ ((bit_at high z == 1) || (y - 128 == z))) → has_flag (record { low = low; high = new }) x ≡ (has_flag (record { low = low; high = high }) x || (y == x))
 flag_past low high new y x past bit = by_test (nat_lt x 128) refl
   where
@@ -54,11 +44,3 @@ flag_past low high new y x past bit = by_test (nat_lt x 128) refl
     by_test false e =
         let same : (y - 128 == x - 128) ≡ (y == x) = grind (arith, nat_tests) in
         bit (x - 128) ∙ ap (λ b. (bit_at high (x - 128) == 1) || b) same
-
--- the flags of two
-pub flag_of_either : (a b both : Flags) (x : ℕ) → ((z : ℕ) → (bit_at both.low z == 1) ≡ ((bit_at a.low z == 1) || (bit_at b.low z == 1))) → ((z : ℕ) → (bit_at both.high z == 1) ≡ ((bit_at a.high z == 1) || (bit_at b.high z == 1))) → has_flag both x ≡ (has_flag a x || has_flag b x)
-flag_of_either a b both x low high = by_test (nat_lt x 128)
-  where
-    by_test : (t : Bool) → cond t (bit_at both.low x == 1) (bit_at both.high (x - 128) == 1) ≡ (cond t (bit_at a.low x == 1) (bit_at a.high (x - 128) == 1) || cond t (bit_at b.low x == 1) (bit_at b.high (x - 128) == 1))
-    by_test true = low x
-    by_test false = high (x - 128)

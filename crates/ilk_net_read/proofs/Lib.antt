@@ -1,4 +1,3 @@
 pub mod Values
 pub mod InOrder
-pub mod EachAs
 pub mod Limits

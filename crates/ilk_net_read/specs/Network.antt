@@ -32,9 +32,12 @@ section_of i d = do
   section ← or_fault (broken F3 (Section i)) (as_section d)
   checked section_has_names (broken F5 (Section i)) section
 
--- the network: the document, then the sections in order
-abbrev pub network_of : Data → Result NetDraft FormFault
-network_of d = do
-  document ← document_of d
+-- the network of a document: its sections in order
+abbrev pub network_in : Parts → Result NetDraft FormFault
+network_in document = do
   sections ← in_order section_of 0 (entries_of document.sections)
   Ok (record { sections = sections })
+
+-- the network: the document, then its sections
+abbrev pub network_of : Data → Result NetDraft FormFault
+network_of d = document_of d >>= network_in

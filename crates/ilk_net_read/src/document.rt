@@ -1,6 +1,6 @@
 //! The document: its version, and the arrays of its sections and its routes.
 
-ghost use Rattle.std.specs.Prelude.{◌≡◌, ◌&&◌, nat_le, option_map, true, IfOk};
+ghost use Rattle.std.specs.Prelude.{◌≡◌, ◌&&◌, option_map, true, IfOk};
 ghost use Rattle.serde_json.specs.View.{view};
 ghost use Rattle.ilk_plant.specs.Limits as limits;
 ghost use Rattle.ilk_net_read.specs.Document as parts;

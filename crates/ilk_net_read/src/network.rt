@@ -7,10 +7,11 @@ ghost use Rattle.ilk_plant.specs.Limits.{NetworkHasLimits, section_has_names};
 ghost use Rattle.ilk_net_read.specs.Fault.{Gives};
 ghost use Rattle.ilk_base.specs.Result.{in_order};
 ghost use Rattle.ilk_net_read.specs.Member.{entries_of};
-ghost use Rattle.ilk_net_read.specs.Network.{network_of, section_of};
+ghost use Rattle.ilk_net_read.specs.Network.{network_in, network_of, section_of};
+ghost use Rattle.ilk_net_read.specs.Seen.{HasAllowedCounts, seen};
 
 use crate::FormError;
-use crate::document::document_of;
+use crate::document::{Document, document_of};
 use crate::section::section_of;
 use ilk_plant::{MAX_SECTIONS, NetDraft, Row, SectionDraft};
 use serde_json::Value;
@@ -30,6 +31,18 @@ fn sections(alloc: Global, values: &[Value]) -> Result<Row<SectionDraft>, FormEr
     Ok(sections)
 }
 
+/// The network of a document, or the first rule of the form that is broken in its sections in order
+/// (F3, then F5, of each).
+pub fn network_in(alloc: Global, document: &Document<'_>) -> Result<NetDraft, FormError>
+    requires { HasAllowedCounts (seen document.now) }
+    ensures exact { Gives result (network_in (seen document.now)) }
+    // some sections, no more than are allowed, whose texts are names
+    ensures limits { IfOk result NetworkHasLimits }
+{
+    let sections = sections(alloc, document.sections)?;
+    Ok(NetDraft { sections })
+}
+
 /// The network of a configuration, or the first rule of the form that is broken in the document
 /// (F3, F4, F6) or else in its sections in order (F3, then F5, of each).
 pub fn read_network(alloc: Global, value: &Value) -> Result<NetDraft, FormError>
@@ -38,6 +51,5 @@ pub fn read_network(alloc: Global, value: &Value) -> Result<NetDraft, FormError>
     ensures limits { IfOk result NetworkHasLimits }
 {
     let document = document_of(value)?;
-    let sections = sections(alloc, document.sections)?;
-    Ok(NetDraft { sections })
+    network_in(alloc, &document)
 }

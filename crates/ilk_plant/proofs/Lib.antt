@@ -1,9 +1,11 @@
+pub mod Alike
 pub mod AllowedNames
 pub mod Boards
 pub mod Leads
 pub mod NamesDiffer
 pub mod Neighbours
 pub mod KnownNames
+pub mod InLists
 pub mod NumberedLists
 pub mod Once
 pub mod RoutesOf
@@ -16,3 +18,4 @@ pub mod Sides
 pub mod Sound
 pub mod Steps
 pub mod Walks
+pub mod WordsBack

@@ -23,6 +23,7 @@ use Rattle.ilk_plant.specs.declared.draft.KindDraft.TheVariants.{Linear as Linea
 use Rattle.ilk_plant.specs.declared.draft.NetDraft.{NetDraft}
 use Rattle.ilk_plant.specs.declared.draft.SectionDraft.{SectionDraft}
 use Rattle.ilk_plant.specs.declared.draft.TableDraft.{TableDraft}
+use Rattle.ilk_plant.proofs.Alike.{one_direction}
 use Rattle.ilk_base.proofs.Lists.{map-at}
 use Rattle.ilk_base.proofs.Options.{some-and}
 use Rattle.ilk_base.proofs.Tested.{list_any-at, list_any-from, list_any-none}
@@ -101,13 +102,6 @@ next-known net table rules x y d h =
     let facts = end-number net rules x found.0 y found.1 found.2 (eqb-true _ _ leads.1) in
     (facts.1, facts.2)
 
--- directions that are one
-pub same-dir : (d e : Dir) → same_direction d e ≡ true → d ≡ e
-same-dir Up Up h = refl
-same-dir Down Down h = refl
-same-dir Up Down h = cc
-same-dir Down Up h = cc
-
 -- no section is next to itself
 pub next-other : (net : NetDraft) (table : TableDraft) → KeepsNetworkRules net → (x : ℕ) (d : Dir) → has_section x (next_to (numbered net table) x d) ≡ false
 next-other net table rules x d =
@@ -136,7 +130,7 @@ next-back net table rules x y d h =
     let names : List Name = names_of_sections net.sections in
     let found : (k : ℕ) × (end : End) × (slice_get (ends_of net x) k ≡ Some end) × (end_leads_to names d y end ≡ true) = next-end net table x y d h in
     let leads = and_parts (same_direction found.1.side d) (number_of names found.1.name == y) found.3 in
-    let side : found.1.side ≡ d = same-dir found.1.side d leads.0 in
+    let side : found.1.side ≡ d = one_direction found.1.side d leads.0 in
     let named = back-end net rules x found.0 y found.1 found.2 (eqb-true _ _ leads.1) in
     let back : (k : ℕ) × (end : End) × (slice_get (ends_of net y) k ≡ Some end) × ((names_section net x end && same_direction end.side (opposite_direction found.1.side)) ≡ true) = list_any-at (λ other. names_section net x other && same_direction other.side (opposite_direction found.1.side)) (ends_of net y) named in
     let parts = and_parts (names_section net x back.1) (same_direction back.1.side (opposite_direction found.1.side)) back.3 in

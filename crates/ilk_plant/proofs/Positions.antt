@@ -1,9 +1,9 @@
 -- The first position at which a test passes, when one more item is looked at.
-use Rattle.std.proofs.Common.{◌≡◌, ℕ, ◌<◌, ◌≤◌, ◌+◌, Bool, true, false, cond, Option, Some, None, is_some, List, [], ◌∷◌, ◌++◌, length, take, slice_get, position, bytes_eq, refl, sym, ◌∙◌, ap, subst, arith, nat_lt, length-take}
+use Rattle.std.proofs.Common.{◌≡◌, ℕ, ◌<◌, ◌+◌, Bool, true, false, cond, Option, Some, None, is_some, List, [], ◌∷◌, ◌++◌, length, take, slice_get, position, bytes_eq, refl, sym, ◌∙◌, ap, subst, arith, nat_lt, length-take}
 use Rattle.std.specs.List.{list_any}
 use Rattle.std.proofs.lemmas.Slice.Eq.{bytes_eq-Decides}
 use Rattle.std.proofs.lemmas.List.{take_more}
-use Rattle.std.proofs.lemmas.Option.{get_or_from_slice_get, slice_get_past}
+use Rattle.std.proofs.lemmas.Option.{get_or_from_slice_get}
 use Rattle.ilk_plant.specs.Name.{Name}
 use Rattle.ilk_plant.specs.Plant.{first_named}
 use Rattle.ilk_plant.specs.Draft.{is_named_before}
@@ -83,7 +83,3 @@ pub named_before : (names : List Name) (i : ℕ) (name : Name) (first : Option �
 named_before names i name first at is =
     let P : Option Name → Type 0 = λ o. is_some_and o (λ n. list_any (bytes_eq n) (take i names)) ≡ is_named_before names i in
     ap (λ o. is_some_and o (λ k. nat_lt k i)) is ∙ position-below (bytes_eq name) names i ∙ subst P at refl
-
--- no name past the end stands earlier
-pub none_past : (names : List Name) (i : ℕ) → length names ≤ i → is_named_before names i ≡ false
-none_past names i past = rw (slice_get_past names i past) refl

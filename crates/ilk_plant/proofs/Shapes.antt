@@ -1,6 +1,6 @@
 -- The shape of states as a test, and as facts.
-use Rattle.std.proofs.Common.{◌≡◌, ℕ, zero, suc, ◌≤◌, true, Some, List, [], ◌∷◌, length, nat_le, slice_get, zip, refl, subst, arith}
-use Rattle.std.specs.List.{list_all}
+use Rattle.std.proofs.Common.{◌≡◌, ℕ, zero, suc, ◌≤◌, true, Some, None, List, [], ◌∷◌, length, nat_le, slice_get, zip, refl, subst, arith}
+use Rattle.std.specs.List.{last_or, list_all}
 use Rattle.std.proofs.lemmas.Bool.Decides.{nat_tests}
 use Rattle.std.proofs.lemmas.List.{length-replicate}
 use Rattle.ilk_plant.specs.Plant.{PlantLists, point_count}
@@ -12,8 +12,17 @@ use Rattle.ilk_plant.specs.declared.state.Hold.TheVariants.{Free}
 use Rattle.ilk_plant.specs.declared.state.RouteState.{RouteState}
 use Rattle.ilk_plant.specs.declared.state.State.{State}
 use Rattle.ilk_plant.specs.declared.table.Route.{Route}
-use Rattle.ilk_base.proofs.Lists.{copied}
+use Rattle.ilk_plant.specs.declared.state.Train.{Train}
+use Rattle.ilk_base.proofs.Lists.{copied, last-some}
 use Rattle.std.proofs.lemmas.Bool.{and_parts}
+
+-- a train has a last section
+pub body-last : (p : PlantLists) (train : Train) → is_body p train ≡ true → (x : ℕ) × (last_or None train.body ≡ Some x)
+body-last p train h = of_body train.body h
+  where
+    of_body : (body : List ℕ) → is_body p (record train { body = body }) ≡ true → (x : ℕ) × (last_or None body ≡ Some x)
+    of_body [] h = cc
+    of_body (x ∷ rest) h = last-some x rest
 
 -- what the test of a route's counts says of each of them
 pub fits_path-counts : (route : Route) (now : RouteState) → fits_path route now ≡ true → (now.seen ≤ length route.path) × (now.rel ≤ length route.path)

@@ -42,11 +42,5 @@ not-back p plant x y Up h = one-side p plant y x Down (back-opposite p plant x y
 not-back p plant x y Down h = one-side p plant y x Up (back-opposite p plant x y Down h)
 
 -- the name of section x stands for x, and so for boards and routes
-pub section-own : (p : PlantLists) → IsPlant p → (x : ℕ) (name : Name) → slice_get p.section_names x ≡ Some name → first_named p.section_names name ≡ Some x
-section-own p plant x name at = first_named-own p.section_names name x (all_differ-places p.section_names plant.section_names_differ) at
-
 pub board-own : (p : PlantLists) → IsPlant p → (m : ℕ) (name : Name) → slice_get p.board_names m ≡ Some name → first_named p.board_names name ≡ Some m
 board-own p plant m name at = first_named-own p.board_names name m (all_differ-places p.board_names plant.board_names_differ) at
-
-pub route-own : (p : PlantLists) → IsPlant p → (r : ℕ) (name : Name) → slice_get p.route_names r ≡ Some name → first_named p.route_names name ≡ Some r
-route-own p plant r name at = first_named-own p.route_names name r (all_differ-places p.route_names plant.route_names_differ) at

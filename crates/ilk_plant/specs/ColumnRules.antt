@@ -3,6 +3,7 @@
 use Rattle.std.specs.Prelude.{ℕ, Bool, true, false, not, Option, Some, None, List, [], ◌∷◌, ◌&&◌, ◌||◌, ◌==◌, ◌-◌, nat_lt, is_none, length, take, slice_get, flat_map}
 use Rattle.std.specs.List.{list_any, list_all}
 use Rattle.ilk_base.specs.Option.{is_some_and}
+use Rattle.ilk_base.specs.Numbers.{has_number}
 use Rattle.ilk_plant.specs.Broken.{broken_at, broken_at_pairs, places_of}
 use Rattle.ilk_plant.specs.Network.{has_section, last_of}
 use Rattle.ilk_plant.specs.Plant.{PlantLists, next_to, board_of, border, is_point_section}
@@ -83,7 +84,7 @@ overlap_leads_on p route =
 
 -- whether route i lists route j as a conflict
 abbrev pub lists : PlantLists → ℕ → ℕ → Bool
-lists p i j = is_some_and (slice_get p.routes i) (λ route. list_any (λ r. r == j) route.conflicts)
+lists p i j = is_some_and (slice_get p.routes i) (λ route. has_number j route.conflicts)
 
 -- C5 is broken: route i lists j, and j doesn't list i
 abbrev pub lists_alone : PlantLists → ℕ → ℕ → Bool
@@ -109,7 +110,7 @@ is_border_without_board p x = is_some_and (border p x) (λ inward. has_no_board 
 -- whether the source of route j is a protecting board of route i
 abbrev pub is_kept_closed_by : PlantLists → ℕ → ℕ → Bool
 is_kept_closed_by p i j =
-    is_some_and (slice_get p.routes i) (λ route. is_some_and (slice_get p.routes j) (λ other. list_any (λ m. m == other.source) route.protecting_boards))
+    is_some_and (slice_get p.routes i) (λ route. is_some_and (slice_get p.routes j) (λ other. has_number other.source route.protecting_boards))
 
 -- C8 is broken: the source of route j is a protecting board of route i, and i doesn't list j
 abbrev pub protects_unlisted : PlantLists → ℕ → ℕ → Bool

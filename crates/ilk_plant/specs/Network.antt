@@ -1,10 +1,11 @@
 -- Sections: what lies beside one, which boards stand on it, and which are points and borders.
-use Rattle.std.specs.Prelude.{ℕ, Bool, true, false, Option, Some, None, List, [], ◌∷◌, option_to_list, if◌then◌else◌, ◌==◌}
-use Rattle.std.specs.List.{last_or, list_any}
+use Rattle.std.specs.Prelude.{ℕ, Bool, true, false, Option, Some, None, List, [], ◌∷◌, option_to_list, if◌then◌else◌}
+use Rattle.std.specs.List.{last_or}
 use Rattle.ilk_plant.specs.declared.network.Dir.{Dir}
 use Rattle.ilk_plant.specs.declared.network.Dir.TheVariants.{Up, Down}
 use Rattle.ilk_plant.specs.declared.network.Section.{Section}
 use Rattle.ilk_plant.specs.declared.network.Section.TheVariants.{Linear, Point}
+use Rattle.ilk_base.specs.Numbers.{has_number}
 
 -- whether two directions are one
 abbrev pub same_direction : Dir → Dir → Bool
@@ -39,7 +40,7 @@ inward (Point stem plus minus faces) = None
 
 -- whether a list of sections has section x
 abbrev pub has_section : ℕ → List ℕ → Bool
-has_section x sections = list_any (λ y. y == x) sections
+has_section x sections = has_number x sections
 
 -- the last of some sections, where there are any
 abbrev pub last_of : List ℕ → Option ℕ

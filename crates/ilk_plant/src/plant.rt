@@ -1,6 +1,5 @@
-ghost use Rattle.std.specs.Prelude.{◌≡◌, ◌<◌, ◌≤◌, length, slice_get, Some, IfOk, IfSome};
+ghost use Rattle.std.specs.Prelude.{◌≡◌, ◌<◌, length, slice_get, Some, IfOk, IfSome};
 ghost use Rattle.ilk_plant.specs.Sound.{IsOfDrafts, NeverReturns};
-ghost use Rattle.ilk_plant.specs.Kept.{IsSound};
 ghost use Rattle.ilk_plant.specs.Plant.{IsPlant, IsRouteOf, board_of, border, first_named, next_to, point_count, point_number};
 
 use crate::{Board, Dir, Numbered, Route, Row, Section};

@@ -1,4 +1,4 @@
-ghost use Rattle.std.specs.Prelude.{◌≡◌, ◌↔◌, IsTrue, length, zip};
+ghost use Rattle.std.specs.Prelude.{◌≡◌, ◌↔◌, IsTrue, zip};
 ghost use Rattle.std.specs.List.{list_all};
 ghost use Rattle.ilk_plant.specs.Network.{has_section};
 ghost use Rattle.ilk_plant.specs.Plant.{next_to};

@@ -1,6 +1,6 @@
 ghost use Rattle.std.specs.Prelude.{◌≡◌, IfOk, replicate};
 ghost use Rattle.ilk_plant.specs.Shape.{HasShape};
-ghost use Rattle.ilk_plant.specs.Start.{start, free_route, plus_point};
+ghost use Rattle.ilk_plant.specs.Start.{start};
 
 use crate::{Aspect, Hold, Lie, Mode, Plant, PointState, Position, RouteState, Row, State};
 use std::alloc::{AllocError, Global};

@@ -5,7 +5,7 @@ use ilk_behave::behaviour;
 use ilk_ir::{System, Values};
 use ilk_model::{Event, start};
 use ilk_plant::{Plant, State};
-use std::alloc::{AllocError, Global};
+use std::alloc::Global;
 use std::test::Fail;
 
 /// A plant with what is compared at each of its states.

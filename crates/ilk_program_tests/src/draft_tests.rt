@@ -1,6 +1,6 @@
 //! The drafts of a configuration, or its first fault of form.
-use ilk_net_read::{Form, FormError, FormFault, Place};
-use ilk_table_read::read_drafts;
+use ilk_net_read::{Form, FormError, FormFault, Place, read_value};
+use ilk_table_read::{read_drafts, read_table};
 use std::test::*;
 
 const BARE: &str = r#"{"version":1,
@@ -43,9 +43,12 @@ fn drafts(rt: HostRuntime) -> Result<(), Fail> {
 
 #[test]
 fn protection(rt: HostRuntime) -> Result<(), Fail> {
-    let (_net, table) = read_drafts(rt.alloc(), PROTECTED.as_bytes())
+    let value = read_value(rt.alloc(), PROTECTED.as_bytes())
         .ok()
-        .ok_or("the form is right")?;
+        .ok_or("the text is JSON")?;
+    let table = read_table(rt.alloc(), &value)
+        .ok()
+        .ok_or("its table is right")?;
     assert_eq!(rt; table.routes.len(), 1);
     if let Some(route) = table.routes.as_slice().first() {
         assert_eq!(rt; route.protecting_points.len(), 1);

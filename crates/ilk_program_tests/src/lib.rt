@@ -3,7 +3,7 @@
 //!
 //! `words_tests` reads command lines; `form_tests` and `draft_tests` read configurations;
 //! `network_tests` and `table_tests` ask the rules of small drafts; `run_tests` has each call of sources
-//! and sinks fail in turn, command by command.
+//! and sinks fail in turn, command by command, by the `runs` of the program.
 #![tactic(auto)]
 
 #[cfg(test)]
@@ -16,6 +16,8 @@ mod network_tests;
 mod parts;
 #[cfg(test)]
 mod run_tests;
+#[cfg(test)]
+mod runs;
 #[cfg(test)]
 mod table_tests;
 #[cfg(test)]

@@ -19,10 +19,10 @@ use Rattle.ilk_plant.specs.declared.network.Dir.TheVariants.{Up, Down}
 use Rattle.ilk_plant.specs.declared.network.Section.{Section}
 use Rattle.ilk_plant.specs.declared.network.Section.TheVariants.{Linear, Point}
 use Rattle.ilk_plant.specs.declared.state.Lie.TheVariants.{Plus, Minus, Moving}
+use Rattle.ilk_plant.proofs.InLists.{section-from}
 use Rattle.ilk_layout.specs.Image.{image_of}
 use Rattle.ilk_layout.specs.Variables.{ranges_of_plant}
 use Rattle.ilk_layout.specs.declared.values.Occupancy.TheVariants.{Taken, Crash}
-use Rattle.ilk_layout.proofs.Bodies.{has-at}
 use Rattle.ilk_conditions.specs.Conditions.{lie_is}
 use Rattle.ilk_conditions.proofs.Valid.{lie_is-valid, occupancy_is-valid, train_at-valid, value-valid}
 use Rattle.ilk_props.specs.HazardForm.{crash_at, hazard_tree}
@@ -93,7 +93,7 @@ module _ (p : PlantLists) (plant : IsPlant p) where
   next-valid x d side =
       any_of-valid (ranges_of_plant p) (map (joined_by_train p x d side) (next_to p x side))
       ∙ list_all-map (tree_valid (ranges_of_plant p)) (joined_by_train p x d side) (next_to p x side)
-      ∙ all-pass (λ y. tree_valid (ranges_of_plant p) (joined_by_train p x d side y)) (next_to p x side) (λ i y at. joined-valid x d side y (plant.neighbours x y side (has-at (next_to p x side) i y at)))
+      ∙ all-pass (λ y. tree_valid (ranges_of_plant p) (joined_by_train p x d side y)) (next_to p x side) (λ i y at. joined-valid x d side y (plant.neighbours x y side (section-from (next_to p x side) i y at)))
 
   whole-valid : (x : ℕ) (d side : Dir) → x < length p.sections → tree_valid (ranges_of_plant p) (train_is_whole p x d side) ≡ true
   whole-valid x d side within = and_from _ _ (goes_on_at-valid x d side within) (and_from _ _ (next-valid x d side) refl)

@@ -1,5 +1,5 @@
 -- Lists of forms to which those of one more thing were added.
-use Rattle.std.proofs.Common.{◌≡◌, ℕ, zero, suc, ◌+◌, ◌≤◌, Option, Some, None, List, [], ◌∷◌, ◌++◌, drop, length, map, slice_get, refl, sym, ◌∙◌, ap, arith, append_assoc}
+use Rattle.std.proofs.Common.{◌≡◌, ℕ, zero, suc, ◌+◌, ◌≤◌, Some, List, [], ◌∷◌, ◌++◌, drop, length, map, slice_get, refl, sym, ◌∙◌, ap, arith, append_assoc}
 use Rattle.std.specs.List.{enumerate_from, range_with_len}
 use Rattle.std.specs.Option.{option_to_list}
 use Rattle.std.proofs.lemmas.List.{map-append}
@@ -7,12 +7,6 @@ use Rattle.ilk_base.proofs.Ranges.{pushed}
 use Rattle.ilk_ir.specs.Form.{tree_of}
 use Rattle.ilk_ir.specs.Tree.{Tree, is}
 use Rattle.ilk_ir.specs.declared.form.Form.{Form}
-use Rattle.ilk_plant.specs.Network.{beside}
-use Rattle.ilk_plant.specs.Plant.{PlantLists, next_to}
-use Rattle.ilk_plant.specs.declared.network.Dir.{Dir}
-use Rattle.ilk_plant.specs.declared.network.Dir.TheVariants.{Up, Down}
-use Rattle.ilk_plant.specs.declared.network.Section.{Section}
-use Rattle.ilk_plant.specs.declared.network.Section.TheVariants.{Linear, Point}
 
 -- the form of one more number
 pub form_made : (f : ℕ → Tree) (n : ℕ) (now next : List Form) (form : Form) → map tree_of now ≡ map f (range_with_len 0 n) → next ≡ now ++ form ∷ [] → tree_of form ≡ f n → map tree_of next ≡ map f (range_with_len 0 (n + 1))
@@ -34,31 +28,9 @@ next_made f xs i now next all sofar grown =
     ∙ ap (λ ts. now ++ ts) (ap (λ k. map f (option_to_list (slice_get xs i)) ++ map f (drop k xs)) one ∙ sym (map-append f (option_to_list (slice_get xs i)) (drop (suc i) xs)) ∙ ap (map f) (sym (rest_at xs i)))
     ∙ sofar
 
--- at most two sections lie on one side of a section
-few_beside : (section : Section) (d : Dir) → drop 2 (beside section d) ≡ []
-few_beside (Linear None up b c) Down = refl
-few_beside (Linear (Some y) up b c) Down = refl
-few_beside (Linear down None b c) Up = refl
-few_beside (Linear down (Some y) b c) Up = refl
-few_beside (Point stem plus minus Up) Up = refl
-few_beside (Point stem plus minus Up) Down = refl
-few_beside (Point stem plus minus Down) Up = refl
-few_beside (Point stem plus minus Down) Down = refl
-
-few_next : (p : PlantLists) (x : ℕ) (d : Dir) → drop 2 (next_to p x d) ≡ []
-few_next p x d = by_section (slice_get p.sections x) refl
-  where
-    by_section : (o : Option Section) → slice_get p.sections x ≡ o → drop 2 (next_to p x d) ≡ []
-    by_section None e = rw e refl
-    by_section (Some section) e = rw e (few_beside section d)
-
 append_none : (ts : List Tree) → ts ++ [] ≡ ts
 append_none [] = refl
 append_none (t ∷ ts) = ap (λ us. t ∷ us) (append_none ts)
-
-pub all_next : (f : ℕ → Tree) (p : PlantLists) (x : ℕ) (d : Dir) (now : List Tree) → now ++ map f (drop 2 (next_to p x d)) ≡ map f (next_to p x d) → now ≡ map f (next_to p x d)
-all_next f p x d now sofar =
-    sym (append_none now) ∙ sym (ap (λ ys. now ++ map f ys) (few_next p x d)) ∙ sofar
 
 -- three lists added one after another
 pub three_made : (start one two three a b c : List Tree) → one ≡ start ++ a → two ≡ one ++ b → three ≡ two ++ c → three ≡ start ++ (a ++ (b ++ c))

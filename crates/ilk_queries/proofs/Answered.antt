@@ -7,7 +7,7 @@ use Rattle.std.proofs.lemmas.List.Folds.{list_all-append}
 use Rattle.std.proofs.lemmas.Option.{same_Some}
 use Rattle.ilk_base.specs.Option.{is_some_and}
 use Rattle.ilk_base.proofs.Options.{bind_some, mapped-Some, some-and}
-use Rattle.ilk_base.proofs.Lists.{item_at}
+use Rattle.ilk_base.proofs.Lists.{item_at, take-next}
 use Rattle.ilk_base.proofs.Tested.{list_all-weaken}
 use Rattle.ilk_ir.specs.System.{SystemTree, fired_at}
 use Rattle.ilk_ir.specs.Tree.{all_of, negation, tree_holds, trees}
@@ -29,7 +29,7 @@ use Rattle.ilk_unroll.proofs.QueryLaw.{Wants, wanted-from, wants}
 use Rattle.ilk_queries.specs.Asked.{IsRunFor, leaves_at, meets_invariant}
 use Rattle.ilk_queries.specs.Lifting.{EachShaped, IsGoalOf, RulesStep, events_by, has_form, is_safe}
 use Rattle.ilk_queries.specs.Walk.{states_from}
-use Rattle.ilk_queries.proofs.Demands.{all-more, below-met, holds-met, up-to}
+use Rattle.ilk_queries.proofs.Demands.{all-more, below-met, holds-met}
 use Rattle.ilk_queries.proofs.Queries.{breach-met, hazard-met, shaped-at, step-met}
 use Rattle.ilk_queries.proofs.Walks.{none-is, run-states, states-begin, states-many, states-run, states-shaped, to-events, to-rules}
 use Rattle.ilk_model.specs.Meets.{keeps_all}
@@ -44,7 +44,7 @@ run-many system values (rule ∷ rules) lists e =
 
 -- the states up to and with a safe one
 safe-more : (p : PlantLists) (states : List State) (n : ℕ) (t : State) → slice_get states n ≡ Some t → list_all (is_safe p) (take (n + 1) states) ≡ (list_all (is_safe p) (take n states) && is_safe p t)
-safe-more p states n t at = ap (list_all (is_safe p)) (up-to states n t at) ∙ all-more (is_safe p) (take n states) t
+safe-more p states n t at = ap (list_all (is_safe p)) (take-next states n t at) ∙ all-more (is_safe p) (take n states) t
 
 module _ (p : PlantLists) (steps : RulesStep p) (g : GoalTree) (goal : IsGoalOf p g) where
   -- what is known of the states of some events
@@ -165,7 +165,7 @@ module _ (p : PlantLists) (steps : RulesStep p) (g : GoalTree) (goal : IsGoalOf 
       let rest = (and_parts (met_by w.run (holds_in 0 g.start)) (list_all (met_by w.run) (holds_below g.wellformed (n + 1) ++ broken ∷ [])) w.met).1 in
       let well = wellformed-first (n + 1) w.run (broken ∷ []) (omega arith) rest in
       let found = item_at w.run n (omega arith) in
-      let fewer = (and_parts (list_all (has_form g.wellformed) (take n w.run)) (has_form g.wellformed found.0) (sym (ap (list_all (has_form g.wellformed)) (up-to w.run n found.0 found.1) ∙ all-more (has_form g.wellformed) (take n w.run) found.0) ∙ well)).0 in
+      let fewer = (and_parts (list_all (has_form g.wellformed) (take n w.run)) (has_form g.wellformed found.0) (sym (ap (list_all (has_form g.wellformed)) (take-next w.run n found.0 found.1) ∙ all-more (has_form g.wellformed) (take n w.run) found.0) ∙ well)).0 in
       let l = led (Breach n) s rules shape w fewer in
       let many = l.many in
       let end = item_at l.states n (omega arith) in

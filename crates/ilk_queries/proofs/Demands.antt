@@ -1,23 +1,15 @@
 -- What a query demands of the value lists of a run, as tests of the lists before the last and of the last.
 use Rattle.std.proofs.Common.{◌≡◌, ℕ, zero, suc, ◌+◌, ◌≤◌, Bool, true, false, not, ◌&&◌, Some, List, [], ◌∷◌, ◌++◌, length, slice_get, take, refl, sym, ap, ◌∙◌, arith}
 use Rattle.std.specs.List.{flat_map, list_all, range_with_len}
-use Rattle.std.proofs.Math.Seq.{take-suc}
 use Rattle.std.proofs.lemmas.List.Folds.{list_all-append, list_all-map}
-use Rattle.std.proofs.lemmas.Option.{get_or_from_slice_get, slice_get_within}
 use Rattle.ilk_base.specs.Option.{is_some_and}
 use Rattle.ilk_base.proofs.Ranges.{range-more}
-use Rattle.ilk_base.proofs.Lists.{item_at}
+use Rattle.ilk_base.proofs.Lists.{item_at, take-next}
 use Rattle.ilk_ir.specs.Tree.{Tree, all_of, tree_holds, trees}
 use Rattle.ilk_ir.proofs.Trees.{each_holds-trees}
 use Rattle.ilk_unroll.specs.Goal.{fails_in, holds_below, holds_in}
 use Rattle.ilk_unroll.specs.Run.{met_by}
 use Rattle.ilk_queries.specs.Lifting.{has_form}
-
--- a list up to and with an item
-pub up-to : {X : Type 0} (xs : List X) (i : ℕ) (x : X) → slice_get xs i ≡ Some x → take (i + 1) xs ≡ take i xs ++ x ∷ []
-up-to xs i x at =
-    let same : i + 1 ≡ suc i = omega arith in
-    ap (λ n. take n xs) same ∙ take-suc xs i x (slice_get_within xs i x at) ∙ ap (λ y. take i xs ++ y ∷ []) (get_or_from_slice_get xs i x x at)
 
 -- a test of a list and one item more
 pub all-more : {X : Type 0} (test : X → Bool) (xs : List X) (x : X) → list_all test (xs ++ x ∷ []) ≡ (list_all test xs && test x)
@@ -46,7 +38,7 @@ below-met lists form n within = list_all-map (met_by lists) (λ j. holds_in j fo
         let left : list_all (λ j. met_by lists (holds_in j form)) (range_with_len 0 (n + 1)) ≡ (list_all (λ j. met_by lists (holds_in j form)) (range_with_len 0 n) && met_by lists (holds_in n form)) =
         ap (list_all (λ j. met_by lists (holds_in j form))) (range-more n) ∙ all-more (λ j. met_by lists (holds_in j form)) (range_with_len 0 n) n in
         let right : list_all (has_form form) (take (n + 1) lists) ≡ (list_all (has_form form) (take n lists) && has_form form found.0) =
-        ap (list_all (has_form form)) (up-to lists n found.0 found.1) ∙ all-more (has_form form) (take n lists) found.0 in
+        ap (list_all (has_form form)) (take-next lists n found.0 found.1) ∙ all-more (has_form form) (take n lists) found.0 in
         let rest = counted n (omega arith) in
         let here = holds-met lists n found.0 form found.1 in
         ap (λ k. list_all (λ j. met_by lists (holds_in j form)) (range_with_len 0 k)) same ∙ left

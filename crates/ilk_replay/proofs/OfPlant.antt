@@ -24,7 +24,7 @@ use Rattle.ilk_replay.specs.EventSubjects.{event_with}
 use Rattle.ilk_replay.specs.RunText.{run_text}
 use Rattle.ilk_replay.specs.StateLine.{board_told, lock_told, point_told, route_told, train_told}
 use Rattle.ilk_replay.specs.StateTold.{Beginning, point_sections, state_told}
-use Rattle.ilk_replay.specs.Told.{beginning_told, events_told, tale_of, told}
+use Rattle.ilk_replay.specs.Told.{beginning_told, events_told, tale_of, told, told_of}
 use Rattle.ilk_replay.specs.Writable.{HasNoBadLine, HasSubject, IsAbout, IsOfPlant, IsSomeText, IsTextOf}
 use Rattle.ilk_replay.specs.declared.event_line.Subject.{Subject}
 use Rattle.ilk_replay.specs.declared.event_line.Subject.TheVariants.{Route, Point, Section as AtSection}
@@ -33,7 +33,7 @@ use Rattle.ilk_replay.specs.declared.told.Tale.TheVariants.{Told as IsTold, Bad}
 use Rattle.ilk_replay.specs.declared.told.Told.{Told}
 use Rattle.ilk_replay.proofs.PlainNames.{plain_names}
 use Rattle.ilk_replay.proofs.Shape.{shaped}
-use Rattle.ilk_replay.proofs.StartedBack.{started, started_back}
+use Rattle.ilk_replay.proofs.StartedBack.{started_back}
 use Rattle.ilk_replay.proofs.WholeBack.{resumed, resumed_back}
 use Rattle.ilk_replay.proofs.Written.{event_with-about, of_point, of_route, of_section}
 use Rattle.ilk_replay.proofs.WrittenRun.{answered, made, text_written}
@@ -149,7 +149,7 @@ written-told p plant t is = by_start t.from_start refl
   where
     by_start : (b : Bool) → t.from_start ≡ b → tale_of p (run_text p t) ≡ IsTold t
     by_start true e =
-        let same : started p t.events ≡ t = λ i. record { first = sym (is.start e) i; from_start = sym e i; events = t.events } in
+        let same : told_of p t.events ≡ t = λ i. record { first = sym (is.start e) i; from_start = sym e i; events = t.events } in
         let P : Told → Type 0 = λ u. tale_of p (run_text p u) ≡ IsTold u in
         subst P same (started_back p plant (plain_names p plant) t.events is.events)
     by_start false e =

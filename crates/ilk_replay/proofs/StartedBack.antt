@@ -20,10 +20,9 @@ use Rattle.ilk_replay.specs.EventSubjects.{event_with, events_about, subject}
 use Rattle.ilk_replay.specs.declared.event_line.Subject.{Subject}
 use Rattle.ilk_replay.specs.declared.event_line.Subject.TheVariants.{Route, Point, Section}
 use Rattle.ilk_replay.specs.EventLine.{event_of}
-use Rattle.ilk_replay.specs.Told.{events_told, tale_of, told}
+use Rattle.ilk_replay.specs.Told.{events_told, tale_of, told, told_of}
 use Rattle.ilk_replay.specs.RunText.{event_line, name_of, run_text, subject_name}
 use Rattle.ilk_replay.specs.Writable.{IsAbout}
-use Rattle.ilk_replay.specs.declared.told.Told.{Told}
 use Rattle.ilk_replay.proofs.PlainNames.{HasPlainNames}
 use Rattle.ilk_replay.specs.declared.told.Tale.TheVariants.{Told as IsTold}
 use Rattle.ilk_replay.proofs.WrittenRun.{answered}
@@ -77,17 +76,13 @@ events_back p plant n events about =
     ap (λ (es : List Event). after_line (codes "end") (n + length es) (drop (length es) lines) >>= (λ more. at_the_end (n + length es + 1) more [] >>= (λ none. Ok es))) (leading_back (event_of p) (event_line p) events (codes "end") [] told refl)
     ∙ ap (λ (ls : List Bytes). after_line (codes "end") (n + length events) ls >>= (λ more. at_the_end (n + length events + 1) more [] >>= (λ none. Ok events))) (drop-mapped (event_line p) events (codes "end" ∷ []))
 
--- the run of these events from the start
-abbrev pub started : PlantLists → List Event → Told
-started p events = record { first = start p; from_start = true; events = events }
-
 -- the text of a run from the start tells that run
-pub started_back : (p : PlantLists) → IsPlant p → HasPlainNames p → (events : List Event) → All (IsAbout p) events → tale_of p (run_text p (started p events)) ≡ IsTold (started p events)
+pub started_back : (p : PlantLists) → IsPlant p → HasPlainNames p → (events : List Event) → All (IsAbout p) events → tale_of p (run_text p (told_of p events)) ≡ IsTold (told_of p events)
 started_back p plant plain events about =
     let lines : List Bytes = map (event_line p) events ++ codes "end" ∷ [] in
     let all : All (Lacks 10) (codes "run 1" ∷ codes "start" ∷ lines) =
     All-cons (Lacks 10) (codes "run 1") (codes "start" ∷ lines) refl (All-cons (Lacks 10) (codes "start") lines refl (event_lines-plain p plain events)) in
     let back = lines_back (codes "run 1" ∷ codes "start" ∷ lines) all in
-    ap (λ (ls : List Bytes). answered (told p ls (after_lines (run_text p (started p events))))) back.0
+    ap (λ (ls : List Bytes). answered (told p ls (after_lines (run_text p (told_of p events))))) back.0
     ∙ ap (λ (bs : Bytes). answered (told p (codes "run 1" ∷ codes "start" ∷ lines) bs)) back.1
     ∙ ap (λ (r : Result (List Event) ℕ). answered (r >>= (λ es. Ok (record { first = start p; from_start = true; events = es })))) (events_back p plant 3 events about)

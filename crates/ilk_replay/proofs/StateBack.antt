@@ -28,8 +28,9 @@ use Rattle.ilk_replay.proofs.PlainNames.{HasPlainNames}
 use Rattle.ilk_plant.proofs.Shapes.{fits_path-counts}
 use Rattle.ilk_plant.specs.Network.{has_section}
 use Rattle.ilk_plant.specs.Shape.{fits_path, is_body, leads_on}
+use Rattle.ilk_plant.proofs.WordsBack.{direction_back, position_back}
 use Rattle.ilk_replay.proofs.ReadBack.{named_back}
-use Rattle.ilk_replay.proofs.StateWords.{aspect_back, direction_back, direction_lacks, hold_back, lie_back, lie_lacks, mode_back, mode_lacks, position_back}
+use Rattle.ilk_replay.proofs.StateWords.{aspect_back, direction_lacks, hold_back, lie_back, lie_lacks, mode_back, mode_lacks}
 use Rattle.std.proofs.lemmas.Bool.{and_parts, ltb-true}
 
 said_back : (kind name text : Bytes) → said_of kind name (spaced kind (spaced name text)) ≡ Some text

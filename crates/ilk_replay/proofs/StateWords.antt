@@ -15,6 +15,7 @@ use Rattle.ilk_plant.specs.declared.state.Lie.{Lie}
 use Rattle.ilk_plant.specs.declared.state.Lie.TheVariants.{Plus as LiesPlus, Minus as LiesMinus, Moving}
 use Rattle.ilk_plant.specs.declared.state.Mode.{Mode}
 use Rattle.ilk_plant.specs.declared.state.Mode.TheVariants.{Free, Marked, Allocating, Locked, Occupied}
+use Rattle.ilk_plant.proofs.WordsBack.{direction_back, position_back}
 use Rattle.ilk_replay.proofs.WordTables.{value_of_word-word, word_lacks, words_lack}
 
 abbrev modes : List Mode
@@ -49,10 +50,6 @@ lie_lacks c x all = word_lacks c lie_word lies x (lie_back x) all
 
 abbrev positions : List Position
 positions = Plus ∷ Minus ∷ []
-
-pub position_back : (x : Position) → position_of_word (position_word x) ≡ Some x
-position_back Plus = refl
-position_back Minus = refl
 
 pub position_read : (word : Bytes) (x : Position) → position_of_word word ≡ Some x → word ≡ position_word x
 position_read word x e = value_of_word-word position_word positions word x e
@@ -89,10 +86,6 @@ hold_lacks c x all = word_lacks c hold_word holds x (hold_back x) all
 
 abbrev directions : List Dir
 directions = Up ∷ Down ∷ []
-
-pub direction_back : (x : Dir) → direction_of_word (direction_word x) ≡ Some x
-direction_back Up = refl
-direction_back Down = refl
 
 pub direction_read : (word : Bytes) (x : Dir) → direction_of_word word ≡ Some x → word ≡ direction_word x
 direction_read word x e = value_of_word-word direction_word directions word x e

@@ -45,3 +45,7 @@ tale_of p text = answer (told p (lines_of text) (after_lines text))
     answer : Result Told ℕ → Tale
     answer (Ok x) = IsTold x
     answer (Err n) = Bad n
+
+-- the run of these events from the start, as its text tells it
+abbrev pub told_of : PlantLists → List Event → Told
+told_of p events = record { first = start p; from_start = true; events = events }

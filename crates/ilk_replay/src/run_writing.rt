@@ -1,4 +1,4 @@
-ghost use Rattle.std.specs.Prelude.{◌≡◌, ◌++◌, ◌∷◌, [], All, codes, flat_map, string_bytes, IfOk, OnOk};
+ghost use Rattle.std.specs.Prelude.{◌≡◌, ◌++◌, ◌∷◌, [], All, flat_map, string_bytes, IfOk, OnOk};
 ghost use Rattle.ilk_lines.specs.Written.{text_of};
 ghost use Rattle.ilk_replay.specs.EventSubjects.{subject};
 ghost use Rattle.ilk_replay.specs.RunText.{beginning_lines, event_line, run_text, subject_name};

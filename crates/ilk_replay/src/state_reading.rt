@@ -1,4 +1,4 @@
-ghost use Rattle.std.specs.Prelude.{◌≡◌, IfOk, OnOk, filter, length};
+ghost use Rattle.std.specs.Prelude.{◌≡◌, IfOk, OnOk};
 ghost use Rattle.std.specs.List.{range_with_len};
 ghost use Rattle.ilk_lines.specs.Answers.{TellsPart, part_of};
 ghost use Rattle.ilk_lines.specs.Reading.{each_told, leading_part, numbers_of};

@@ -1,8 +1,8 @@
 -- What the boards show, and which of them are to stay closed for a route.
-use Rattle.std.specs.Prelude.{ℕ, Bool, true, false, ◌==◌, ◌&&◌, length, slice_get}
-use Rattle.std.specs.List.{list_any}
+use Rattle.std.specs.Prelude.{ℕ, Bool, true, false, ◌&&◌, length, slice_get}
 use Rattle.ilk_base.specs.Each.{some_below}
 use Rattle.ilk_base.specs.Option.{is_some_and}
+use Rattle.ilk_base.specs.Numbers.{has_number}
 use Rattle.ilk_plant.specs.Plant.{PlantLists}
 use Rattle.ilk_plant.specs.declared.state.Aspect.{Aspect}
 use Rattle.ilk_plant.specs.declared.state.Aspect.TheVariants.{Open, Closed}
@@ -22,7 +22,7 @@ has_aspect s m aspect = is_some_and (slice_get s.boards m) (λ now. same_aspect 
 
 -- whether route q has board m among its protecting boards
 abbrev pub protects_by : PlantLists → ℕ → ℕ → Bool
-protects_by p q m = is_some_and (slice_get p.routes q) (λ route. list_any (λ k. k == m) route.protecting_boards)
+protects_by p q m = is_some_and (slice_get p.routes q) (λ route. has_number m route.protecting_boards)
 
 -- whether some Locked route has board m among its protecting boards
 abbrev pub is_protecting : PlantLists → State → ℕ → Bool

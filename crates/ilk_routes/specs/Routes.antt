@@ -1,5 +1,5 @@
 -- The seven events of routes. Each is the state that follows, where the event is enabled.
-use Rattle.std.specs.Prelude.{ℕ, ◌+◌, Bool, Option, None, ◌==◌, ◌&&◌, ◌||◌, if◌then◌else◌, length, nat_le, slice_get, set, not}
+use Rattle.std.specs.Prelude.{ℕ, ◌+◌, Bool, Option, ◌==◌, ◌&&◌, ◌||◌, if◌then◌else◌, length, nat_le, slice_get, set, not}
 use Rattle.std.specs.List.{list_any, list_all}
 use Rattle.ilk_base.specs.Option.{◌>>=◌, only_if}
 use Rattle.ilk_plant.specs.Plant.{PlantLists}

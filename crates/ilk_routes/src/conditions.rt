@@ -13,6 +13,7 @@ ghost use Rattle.ilk_routes.specs.Lies.{is_moving, lie_in, lies_as_listed, lies_
 ghost use Rattle.ilk_routes.specs.Modes.{has_mode, is_claimed};
 ghost use Rattle.ilk_routes.specs.Routes.{can_claim, can_lock};
 
+use ilk_base::has_number;
 use ilk_plant::{
     Aspect, Lie, Listed, Mode, Plant, Position, Route, RouteState, Row, State, is_clear, lie_of,
 };
@@ -158,18 +159,11 @@ pub fn all_closed(s: &State, boards: &Row<u32>) -> bool
         .all(|m| has_aspect(s, *m, Aspect::Closed))
 }
 
-// Whether board `m` is one of the boards.
-fn has_board(boards: &Row<u32>, m: u32) -> bool
-    ensures { result ≡ list_any (λ k. k == m) boards.now }
-{
-    boards.as_slice().iter().any(|k| *k == m)
-}
-
 /// Whether route `q` has board `m` among its protecting boards.
 pub fn protects_by(plant: &Plant, q: u32, m: u32) -> bool
     ensures { result ≡ protects_by plant.now q m }
 {
-    q < plant.routes() && has_board(&plant.route(q).protecting_boards, m)
+    q < plant.routes() && has_number(plant.route(q).protecting_boards.as_slice(), m)
 }
 
 // Whether route `q` is Locked and has board `m` among its protecting boards.

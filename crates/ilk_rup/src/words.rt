@@ -1,12 +1,12 @@
 //! The words of a text, one after another.
 
-ghost use Rattle.std.specs.Prelude.{◌≡◌, ◌<◌, [], ◌∷◌, ◌++◌, ◌==◌, length, position, IfNone, IfSome};
+ghost use Rattle.std.specs.Prelude.{◌≡◌, ◌<◌, [], ◌∷◌, ◌++◌, length, position, IfNone, IfSome};
 ghost use Rattle.std.specs.List.{slice_split};
 ghost use Rattle.std.specs.Option.{option_map_or};
-ghost use Rattle.ilk_lines.specs.Lines.{parts_at};
 ghost use Rattle.ilk_rup.specs.RefutationText.{is_blank, line_words, text_words, words_in};
 ghost use Rattle.ilk_rup.specs.WordsLeft.{words_left};
 
+use ilk_lines::cut;
 use std::marker::Model;
 
 /// The words of a text that are still to be read.
@@ -78,7 +78,7 @@ fn next_line(text: &[u8]) -> (&[u8], Option<&[u8]>)
     ensures words { text_words text.now ≡ words_in result.0.now ++ option_map_or (λ rest. text_words rest.now) result.1 [] }
     ensures shorter { IfSome result.1 (λ rest. length rest.now < length text.now) }
 {
-    let (line, rest) = cut_line(text);
+    let (line, rest) = cut(text, b'\n');
     (without_comment(line), rest)
 }
 
@@ -90,25 +90,6 @@ fn without_comment(line: &[u8]) -> &[u8]
         [b'c', ..] => &[],
         _ => line,
     }
-}
-
-#[tactic(auto, using(crate::proofs::Cuts::cut_none, crate::proofs::Cuts::cut_some, std::proofs::lemmas::List::take_rest))]
-// What stands before the first line feed, and what stands after it, if there is one.
-fn cut_line(text: &[u8]) -> (&[u8], Option<&[u8]>)
-    ensures parts { parts_at 10 text.now ≡ result.0.now ∷ option_map_or (λ rest. parts_at 10 rest.now) result.1 [] }
-    ensures shorter { IfSome result.1 (λ rest. length rest.now < length text.now) }
-{
-    match place_of(text, b'\n') {
-        Some(i) => (&text[..i], Some(&text[i + 1..])),
-        None => (text, None),
-    }
-}
-
-// The place of the first byte `at`.
-fn place_of(text: &[u8], at: u8) -> Option<usize>
-    ensures { result ≡ position (λ b. b == at) text.now }
-{
-    text.iter().position(|b| *b == at)
 }
 
 // Whether a byte is a space, a tab or a carriage return.

@@ -1,5 +1,5 @@
 -- Closed levels and reasons, as the trail changes.
-use Rattle.std.proofs.Common.{◌≡◌, ◌&&◌, ◌+◌, ◌<◌, ◌≤◌, ℕ, Bool, true, false, not, zero, suc, inl, inr, ◌⊎◌, List, [], ◌∷◌, ◌++◌, length, take, drop, Option, Some, None, refl, sym, ap, ◌∙◌, subst, arith}
+use Rattle.std.proofs.Common.{◌≡◌, ◌&&◌, ◌+◌, ◌<◌, ◌≤◌, ℕ, Bool, true, false, not, suc, inl, inr, List, [], ◌∷◌, ◌++◌, length, take, drop, Option, Some, None, refl, sym, ap, ◌∙◌, subst, arith}
 use Rattle.std.specs.Prelude.{IsSomeAnd, nat_le, is_none}
 use Rattle.std.specs.List.{slice_get, filter}
 use Rattle.std.proofs.lemmas.Bool.{and_parts, and_from, cases_Bool}
@@ -8,7 +8,7 @@ use Rattle.std.proofs.lemmas.List.{take-append-drop, take-append-le, append-nil}
 use Rattle.std.proofs.lemmas.List.Elements.{filter-append}
 use Rattle.std.proofs.lemmas.List.Folds.{list_all-append}
 use Rattle.ilk_base.proofs.Lists.{at-past, take-at}
-use Rattle.ilk_base.proofs.Ranges.{below_or_past}
+use Rattle.ilk_base.proofs.Ranges.{below_or_past, below_or_at}
 use Rattle.ilk_cnf.specs.Literal.{Literal}
 use Rattle.ilk_log.specs.Propagation.{is_closed, is_falsified, unit_of}
 use Rattle.ilk_trail.specs.declared.entry.Entry.{Entry}
@@ -20,12 +20,6 @@ use Rattle.ilk_clauses.proofs.Forced.{reasons-front, reasons-push}
 use Rattle.ilk_watches.specs.Propagated.{IsPropagated}
 use Rattle.ilk_watches.proofs.Prefixes.{up_to-twice}
 use Rattle.ilk_solver.specs.Levels.{LevelsClosed}
-
-below_or_at : (k n : ℕ) → k < n + 1 → (k < n) ⊎ (k ≡ n)
-below_or_at zero zero h = inr refl
-below_or_at zero (suc n) h = inl (omega arith)
-below_or_at (suc k) zero h = absurd (omega (arith, h))
-below_or_at (suc k) (suc n) h = elim (below_or_at k n (omega (arith, h))) [ inl p ↦ inl (omega (arith, p)) | inr p ↦ inr (ap suc p) ]
 
 -- a decision after propagation closes the level before it
 pub closed-decided : (cs : List (List Literal)) (es : List Entry) (l : Literal) → climbs 0 es ≡ true → LevelsClosed cs es → is_closed cs (lits_of es) ≡ true → LevelsClosed cs (decided es l)

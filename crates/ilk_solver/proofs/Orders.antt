@@ -9,11 +9,11 @@ use Rattle.std.proofs.lemmas.List.{get_or-set_same, get_or-set_other}
 use Rattle.std.proofs.lemmas.List.Sums.{sum_by-set}
 use Rattle.ilk_cnf.specs.Literal.{Literal, plus}
 use Rattle.ilk_cnf.specs.Formula.{lit_in}
+use Rattle.ilk_cnf.proofs.Literals.{lit_in-parts}
 use Rattle.ilk_trail.specs.declared.entry.Entry.{Entry}
 use Rattle.ilk_trail.specs.Trail.{TrailList, entry_of, up_to}
 use Rattle.ilk_trail.specs.Laws.{IsTrail, climbs, is_level_next, is_set}
 use Rattle.ilk_trail.proofs.Levels.{next-level}
-use Rattle.ilk_trail.proofs.Literals.{lit_in-parts}
 use Rattle.ilk_learn.proofs.Latest.{entry-at}
 use Rattle.ilk_solver.specs.Assigned.{AllSet}
 use Rattle.ilk_solver.specs.Heaviest.{IsHeaviest}

@@ -12,11 +12,11 @@ use Rattle.ilk_base.specs.Option.{is_some_and}
 use Rattle.ilk_cnf.specs.Literal.{Literal, plus, vars_differ}
 use Rattle.ilk_cnf.specs.Formula.{Formula, IsFormula, clause_in, clauses_in, lit_in}
 use Rattle.ilk_cnf.specs.Truth.{is_true, some_true, satisfies, value}
+use Rattle.ilk_cnf.proofs.Literals.{lit_in-parts}
 use Rattle.ilk_log.specs.Propagation.{is_closed, is_false, is_falsified, unit_of}
 use Rattle.ilk_trail.specs.declared.entry.Entry.{Entry}
 use Rattle.ilk_trail.specs.Trail.{value_of_literal}
 use Rattle.ilk_trail.specs.Laws.{lits_of}
-use Rattle.ilk_trail.proofs.Literals.{lit_in-parts}
 use Rattle.ilk_clauses.proofs.Values.{value-none, value-tells}
 use Rattle.ilk_solver.specs.View.{ViewLists, IsView}
 use Rattle.ilk_solver.specs.Assigned.{assignment_of, AllSet}

@@ -6,11 +6,11 @@ use Rattle.std.proofs.lemmas.Bool.Decides.{eqb_tells}
 use Rattle.std.proofs.lemmas.List.{length-map}
 use Rattle.ilk_cnf.specs.Literal.{Literal, has_var, vars_differ}
 use Rattle.ilk_cnf.specs.Formula.{clause_in, lit_in}
+use Rattle.ilk_cnf.proofs.Literals.{lit_in-parts}
 use Rattle.ilk_trail.specs.declared.entry.Entry.{Entry}
 use Rattle.ilk_trail.specs.Trail.{level_of}
 use Rattle.ilk_trail.specs.Laws.{is_set, lits_of}
 use Rattle.ilk_trail.proofs.Levels.{level-small}
-use Rattle.ilk_trail.proofs.Literals.{lit_in-parts}
 use Rattle.ilk_solver.specs.Assigned.{AllSet, SomeUnset}
 use Rattle.ilk_solver.specs.View.{ViewLists, IsView}
 use Rattle.ilk_solver.specs.Search.{SearchLists, IsSearch}

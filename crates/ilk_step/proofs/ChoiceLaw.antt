@@ -173,9 +173,6 @@ chosen-only a first m r i h less is = by_case (eqb r (0 + i)) refl (sym (chosen-
 pub chosen-false : (a : List Bool) (first m r : ℕ) → Chooses a first m r → value a (first + r) ≡ false
 chosen-false a first m r h = chosen-at m a first r 0 r h.1 h.0 ∙ ap not (eq-eqb r (0 + r) (omega arith))
 
-pub chooses-one : (a : List Bool) (first m r s : ℕ) → Chooses a first m r → Chooses a first m s → r ≡ s
-chooses-one a first m r s h k = chosen-only a first m r s h k.0 (chosen-false a first m s k)
-
 pub chosen-here : (a : List Bool) (first m i : ℕ) → (r : ℕ) × Chooses a first m r → i < m → value a (first + i) ≡ false → Chooses a first m i
 chosen-here a first m i one less is = subst (λ (r : ℕ). Chooses a first m r) (chosen-only a first m one.0 i one.1 less is) one.1
 

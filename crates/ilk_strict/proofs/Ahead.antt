@@ -8,7 +8,6 @@ use Rattle.std.proofs.lemmas.Option.{same_Some}
 use Rattle.ilk_base.specs.Option.{◌>>=◌, is_some_and}
 use Rattle.ilk_base.proofs.Options.{bind_some, some-and}
 use Rattle.ilk_base.proofs.Tested.{list_any-at}
-use Rattle.ilk_base.proofs.Truth.{either}
 use Rattle.ilk_plant.specs.ColumnRules.{is_leg, is_listed_towards}
 use Rattle.ilk_plant.specs.Network.{beside, board_on, has_section, same_direction}
 use Rattle.ilk_plant.specs.NetworkRules.{opposite_direction}
@@ -25,15 +24,14 @@ use Rattle.ilk_plant.specs.declared.state.Lie.{Lie}
 use Rattle.ilk_plant.specs.declared.state.State.{State}
 use Rattle.ilk_plant.specs.declared.table.Listed.{Listed}
 use Rattle.ilk_plant.proofs.Sides.{back-opposite}
+use Rattle.ilk_plant.proofs.InLists.{only-one}
+use Rattle.ilk_plant.proofs.Alike.{one_direction}
 use Rattle.ilk_motion.specs.Ahead.{ahead, leads_to, leg_at}
 use Rattle.ilk_routes.specs.Lies.{lie_in, lies_as_listed, lies_at}
 use Rattle.ilk_model.specs.Hazard.{has_pair, strays}
-use Rattle.ilk_model.proofs.Alike.{one_direction, one_lie}
+use Rattle.ilk_model.proofs.Alike.{one_lie}
 
--- what stands in a list of one
-pub only-one : (x y : ℕ) → has_section x (y ∷ []) ≡ true → y ≡ x
-only-one x y h = elim (either (y == x) false h) [ inl e ↦ eqb-true y x e | inr e ↦ cc ]
-
+-- two of an option are one
 only-value : (o : Option ℕ) (a b : ℕ) → has_section a (option_to_list o) ≡ true → has_section b (option_to_list o) ≡ true → a ≡ b
 only-value None a b h g = cc
 only-value (Some y) a b h g = sym (only-one a y h) ∙ only-one b y g

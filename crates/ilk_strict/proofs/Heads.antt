@@ -23,6 +23,7 @@ use Rattle.ilk_plant.specs.declared.state.RouteState.{RouteState}
 use Rattle.ilk_plant.specs.declared.state.State.{State}
 use Rattle.ilk_plant.specs.declared.state.Train.{Train}
 use Rattle.ilk_plant.specs.declared.table.Route.{Route}
+use Rattle.ilk_plant.proofs.Alike.{one_direction}
 use Rattle.ilk_motion.specs.Ahead.{ahead, leg_at}
 use Rattle.ilk_motion.specs.Trains.{is_open, may_pass}
 use Rattle.ilk_motion.proofs.Shape.{ahead-next_to}
@@ -30,7 +31,6 @@ use Rattle.ilk_routes.specs.Lies.{lie_in}
 use Rattle.ilk_model.specs.Holding.{is_locked_or_occupied, is_plain}
 use Rattle.ilk_strict.specs.IsStrict.{IsFrom, IsStrict}
 use Rattle.ilk_strict.proofs.Ahead.{LeadsToLeg, LegsDiffer, ahead-cases, board-one, leg, leg-no_other, leg_at-lie_in, legs-differ, other_leg, stem-before, stem-no_leg, stem-no_other, stem-side}
-use Rattle.ilk_model.proofs.Alike.{one_direction}
 use Rattle.ilk_strict.proofs.HeldPoints.{IsSet, held-point, set-leg}
 use Rattle.ilk_strict.proofs.Reading.{RouteIn}
 use Rattle.ilk_strict.proofs.RouteFacts.{IsOpenFor, idle, locked-is, open-at, rel-led}

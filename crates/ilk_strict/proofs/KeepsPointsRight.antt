@@ -30,7 +30,7 @@ use Rattle.ilk_model.specs.Hazard.{has_pair, is_wrong, strays}
 use Rattle.ilk_model.specs.Holding.{is_plain}
 use Rattle.ilk_strict.specs.IsStrict.{IsFrom, IsStrict}
 use Rattle.ilk_strict.proofs.After.{wrong-reads}
-use Rattle.ilk_strict.proofs.Ahead.{leg, legs-differ, only-one, other_leg, stem-no_other, leg-no_other, strays-lie_in, leg_at-lie_in}
+use Rattle.ilk_strict.proofs.Ahead.{leg, legs-differ, other_leg, stem-no_other, leg-no_other, strays-lie_in, leg_at-lie_in}
 use Rattle.ilk_model.proofs.Alike.{own_lie}
 use Rattle.ilk_model.proofs.Straying.{rest-strays, strays-has}
 use Rattle.ilk_model.proofs.Frames.{IsAllocated, IsCancelled, IsEntered, IsFinished, IsHeaded, IsLeft, IsLocked, IsMarked, IsReleased, IsSensed, IsSettled, IsTailed, IsThrown}
@@ -38,8 +38,8 @@ use Rattle.ilk_strict.proofs.Heads.{GoesOn, lies-ahead}
 use Rattle.ilk_strict.proofs.HeldPoints.{IsSet, held-point}
 use Rattle.ilk_strict.proofs.KeepsV4.{headed-goes_on}
 use Rattle.ilk_strict.proofs.Points.{commanded-is, lie-alike, lie-is, lie-kept, lie-other}
-use Rattle.ilk_strict.proofs.Reading.{section-at}
 use Rattle.ilk_plant.proofs.PointNumbers.{numbered-section}
+use Rattle.ilk_plant.proofs.InLists.{section-at, only-one}
 use Rattle.ilk_strict.proofs.Table.{route-source}
 use Rattle.ilk_strict.proofs.TrainFacts.{IsKeptBy, Keeps, body-kept, wrong-at, wrong-from}
 use Rattle.ilk_strict.proofs.Trains.{enter-trains, head-trains, last-is, leave-trains, longer-has, tail-trains}

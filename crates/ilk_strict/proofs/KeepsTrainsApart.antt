@@ -6,16 +6,16 @@ use Rattle.ilk_plant.specs.Plant.{IsPlant, PlantLists}
 use Rattle.ilk_plant.specs.State.{is_occupied}
 use Rattle.ilk_plant.specs.declared.state.State.{State}
 use Rattle.ilk_plant.specs.declared.state.Train.{Train}
+use Rattle.ilk_plant.proofs.InLists.{only-one, rest-has}
 use Rattle.ilk_motion.specs.Body.{train_on, with_new_head}
 use Rattle.ilk_model.specs.Hazard.{is_two}
 use Rattle.ilk_strict.specs.IsStrict.{IsStrict}
 use Rattle.ilk_strict.proofs.After.{two-reads}
-use Rattle.ilk_strict.proofs.Ahead.{only-one}
 use Rattle.ilk_model.proofs.Frames.{IsAllocated, IsCancelled, IsEntered, IsFinished, IsHeaded, IsLeft, IsLocked, IsMarked, IsReleased, IsSensed, IsSettled, IsTailed, IsThrown}
 use Rattle.ilk_strict.proofs.KeepsV4.{headed-goes_on}
 use Rattle.ilk_strict.proofs.Reading.{occupied-from}
 use Rattle.ilk_strict.proofs.TrainFacts.{Keeps, two-at, two-from}
-use Rattle.ilk_strict.proofs.Trains.{enter-trains, head-trains, leave-trains, longer-has, removed-once, shorter-has, tail-trains}
+use Rattle.ilk_strict.proofs.Trains.{enter-trains, head-trains, leave-trains, longer-has, removed-once, tail-trains}
 
 -- no section has two trains
 abbrev pub AreApart : PlantLists → State → Type 0
@@ -100,7 +100,7 @@ module _ (p : PlantLists) (plant : IsPlant p) (strict : IsStrict p) (s t : State
     where
       was : (i : ℕ) (one : Train) (x : ℕ) → slice_get t.trains i ≡ Some one → has_section x one.body ≡ true → (old : Train) × (slice_get s.trains i ≡ Some old) × (has_section x old.body ≡ true)
       was i one x at has = elim (tail-trains p s t n it i one at) [
-        | inl moved ↦ (it.train, ap (slice_get s.trains) moved.0 ∙ it.at, shorter-has x it.train.body (subst (λ (train : Train). has_section x train.body ≡ true) moved.1 has))
+        | inl moved ↦ (it.train, ap (slice_get s.trains) moved.0 ∙ it.at, rest-has x it.train.body (subst (λ (train : Train). has_section x train.body ≡ true) moved.1 has))
         | inr other ↦ (one, other.1, has)
       ]
 

@@ -14,11 +14,12 @@ use Rattle.ilk_plant.specs.declared.state.Mode.TheVariants.{Free, Marked, Alloca
 use Rattle.ilk_plant.specs.declared.state.RouteState.{RouteState}
 use Rattle.ilk_plant.specs.declared.state.State.{State}
 use Rattle.ilk_plant.specs.declared.table.Route.{Route}
+use Rattle.ilk_plant.proofs.InLists.{section-at}
 use Rattle.ilk_model.specs.Families.{keeps_v2}
 use Rattle.ilk_model.specs.Holding.{holds_section, holds_sections}
 use Rattle.ilk_strict.proofs.After.{after-cases, v2-reads}
 use Rattle.ilk_model.proofs.Frames.{ChangesRoute, IsAllocated, IsCancelled, IsEntered, IsFinished, IsHeaded, IsLeft, IsLocked, IsMarked, IsReleased, IsSensed, IsSettled, IsTailed, IsThrown}
-use Rattle.ilk_strict.proofs.Reading.{RouteIn, has_lock-at, section-at}
+use Rattle.ilk_strict.proofs.Reading.{RouteIn, has_lock-at}
 use Rattle.ilk_strict.proofs.RouteFacts.{allocating-holds, alone, alone-from, held-not_free, holds-beside, holds-cases, holds-path, locked-holds}
 use Rattle.ilk_strict.proofs.Table.{beside-locked_for, path-locked_for}
 use Rattle.ilk_strict.proofs.TrainFacts.{Keeps}

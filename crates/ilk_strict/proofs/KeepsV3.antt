@@ -17,6 +17,7 @@ use Rattle.ilk_plant.specs.declared.state.Mode.TheVariants.{Free, Marked, Alloca
 use Rattle.ilk_plant.specs.declared.state.RouteState.{RouteState}
 use Rattle.ilk_plant.specs.declared.state.State.{State}
 use Rattle.ilk_plant.specs.declared.table.Route.{Route}
+use Rattle.ilk_plant.proofs.InLists.{section-at}
 use Rattle.ilk_routes.proofs.Shape.{beside-known}
 use Rattle.ilk_routes.specs.Claims.{sections_beside}
 use Rattle.ilk_routes.specs.Locks.{with_locks}
@@ -27,7 +28,7 @@ use Rattle.ilk_strict.proofs.After.{after-cases, before-change, given-lock, othe
 use Rattle.ilk_model.proofs.Alike.{one_mode}
 use Rattle.ilk_model.proofs.Frames.{ChangesRoute, IsAllocated, IsCancelled, IsEntered, IsFinished, IsHeaded, IsLeft, IsLocked, IsMarked, IsReleased, IsSensed, IsSettled, IsTailed, IsThrown}
 use Rattle.ilk_strict.proofs.KeepsV2.{cleared}
-use Rattle.ilk_strict.proofs.Reading.{RouteIn, section-at}
+use Rattle.ilk_strict.proofs.Reading.{RouteIn}
 use Rattle.ilk_strict.proofs.RouteFacts.{allocating-holds, alone, held-not_free, holds-beside, holds-path, idle, lock-beside, lock-path, locked-holds, locks-from, rel-seen}
 use Rattle.ilk_strict.proofs.Table.{beside-locked_for, locked_for-cases, path-apart, path-locked_for, path-once, path-section}
 use Rattle.ilk_strict.proofs.TrainFacts.{Keeps}

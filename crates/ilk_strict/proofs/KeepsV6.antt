@@ -23,6 +23,7 @@ use Rattle.ilk_plant.specs.declared.table.Listed.{Listed}
 use Rattle.ilk_plant.specs.declared.table.Route.{Route}
 use Rattle.ilk_plant.proofs.Once.{none_twice-places}
 use Rattle.ilk_plant.proofs.PointNumbers.{point_number-below}
+use Rattle.ilk_plant.proofs.InLists.{section-at}
 use Rattle.ilk_routes.specs.Claims.{wanted_points}
 use Rattle.ilk_routes.specs.Lies.{is_moving, lie_in, lies_as_listed, lies_at, lists_point}
 use Rattle.ilk_model.specs.Commanded.{commanded_position, is_commanded_as_listed}
@@ -32,9 +33,10 @@ use Rattle.ilk_strict.proofs.After.{after-cases, before-change, same-here, same-
 use Rattle.ilk_strict.proofs.Ahead.{lies-listed}
 use Rattle.ilk_model.proofs.Alike.{own_lie}
 use Rattle.ilk_model.proofs.Frames.{ChangesRoute, IsAllocated, IsCancelled, IsEntered, IsFinished, IsHeaded, IsLeft, IsLocked, IsMarked, IsReleased, IsSensed, IsSettled, IsTailed, IsThrown}
+use Rattle.ilk_model.proofs.Kept.{kept-on_path}
 use Rattle.ilk_strict.proofs.KeepsV2.{cleared}
 use Rattle.ilk_strict.proofs.Points.{commanded-alike, commanded-at_listed, commanded-from, commanded-is, commanded-kept, commanded-new, commanded-same, lie-alike, lie-is, lie-kept, lie-other, lies-from, lists-named, lists-own}
-use Rattle.ilk_strict.proofs.Reading.{RouteIn, kept-at, kept-from, section-at, section-from}
+use Rattle.ilk_strict.proofs.Reading.{RouteIn, kept-at, kept-from}
 use Rattle.ilk_strict.proofs.RouteFacts.{allocating-holds, commanded-at, held-not_free, holds-path, idle, lies-at, locked-holds, points-from}
 use Rattle.ilk_strict.proofs.Table.{listed-mapped, listed-none, listed-passed, listed-position, wanted-locked}
 use Rattle.ilk_strict.proofs.TrainFacts.{Keeps}
@@ -43,10 +45,6 @@ use Rattle.ilk_strict.proofs.TrainFacts.{Keeps}
 pub record PointFits (p : PlantLists) (s : State) (route : Route) (now : RouteState) (listed : Listed) : Type 0 where
   pub commanded : now.mode ≡ Allocating → has_section listed.point route.path ≡ true → is_commanded_as_listed p s listed ≡ true
   pub lies : is_locked_or_occupied now ≡ true → is_kept_on_path route now listed.point ≡ true → (is_commanded_as_listed p s listed ≡ true) × (lies_as_listed p s listed ≡ true)
-
--- a kept section is on the path
-kept-on_path : (route : Route) (now : RouteState) (x : ℕ) → is_kept_on_path route now x ≡ true → has_section x route.path ≡ true
-kept-on_path route now x kept = let place = kept-at route now x kept in section-from route.path place.0 x place.2
 
 module _ (p : PlantLists) (plant : IsPlant p) (s t : State) (keeps : Keeps p s) (shape : HasShape p t) (n : ℕ) where
   -- a point of another route fits as before, where it is commanded and lies as before

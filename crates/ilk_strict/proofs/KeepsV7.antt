@@ -22,6 +22,7 @@ use Rattle.ilk_plant.specs.declared.state.RouteState.{RouteState}
 use Rattle.ilk_plant.specs.declared.state.State.{State}
 use Rattle.ilk_plant.specs.declared.state.Train.{Train}
 use Rattle.ilk_plant.specs.declared.table.Route.{Route}
+use Rattle.ilk_plant.proofs.InLists.{section-from}
 use Rattle.ilk_routes.specs.Modes.{same_mode}
 use Rattle.ilk_model.specs.Families.{keeps_v7}
 use Rattle.ilk_model.specs.Holding.{holds_section, is_locked_or_occupied, is_plain, runs_in}
@@ -33,7 +34,7 @@ use Rattle.ilk_strict.proofs.Boards.{head-closed, head-shut, other-board, sense-
 use Rattle.ilk_model.proofs.Frames.{ChangesRoute, IsAllocated, IsCancelled, IsEntered, IsFinished, IsHeaded, IsLeft, IsLocked, IsMarked, IsReleased, IsSensed, IsSettled, IsTailed, IsThrown}
 use Rattle.ilk_strict.proofs.Heads.{GoesOn}
 use Rattle.ilk_strict.proofs.KeepsV4.{headed-goes_on}
-use Rattle.ilk_strict.proofs.Reading.{RouteIn, has_lock-at, occupied-from, section-from}
+use Rattle.ilk_strict.proofs.Reading.{RouteIn, has_lock-at, occupied-from}
 use Rattle.ilk_strict.proofs.RouteFacts.{allocating-holds, alone, held-not_free, holds-path, idle, locked-holds, locked-is, rel-led}
 use Rattle.ilk_strict.proofs.Table.{path-once, path-section, route-source}
 use Rattle.ilk_strict.proofs.TrainFacts.{IsLedBy, Keeps, head-led, heads-from, led-locked_or_occupied, runs-from, runs-source, two-at}

@@ -14,17 +14,17 @@ use Rattle.ilk_plant.specs.declared.state.RouteState.{RouteState}
 use Rattle.ilk_plant.specs.declared.state.State.{State}
 use Rattle.ilk_plant.specs.declared.state.Train.{Train}
 use Rattle.ilk_plant.specs.declared.table.Route.{Route}
+use Rattle.ilk_plant.proofs.InLists.{section-from, only-one}
 use Rattle.ilk_routes.specs.Modes.{same_mode}
 use Rattle.ilk_model.specs.Families.{keeps_v8}
 use Rattle.ilk_model.specs.Holding.{is_locked_or_occupied, is_plain, runs_in}
 use Rattle.ilk_strict.specs.IsStrict.{IsStrict}
 use Rattle.ilk_strict.proofs.After.{after-change, before-change, one-state, other-stays, route-stays, v8-reads}
-use Rattle.ilk_strict.proofs.Ahead.{only-one}
 use Rattle.ilk_model.proofs.Alike.{one_mode}
 use Rattle.ilk_model.proofs.Frames.{ChangesRoute, IsAllocated, IsCancelled, IsEntered, IsFinished, IsHeaded, IsLeft, IsLocked, IsMarked, IsReleased, IsSensed, IsSettled, IsTailed, IsThrown}
 use Rattle.ilk_strict.proofs.KeepsV4.{headed-goes_on}
 use Rattle.ilk_strict.proofs.KeepsV7.{board-not_plain}
-use Rattle.ilk_strict.proofs.Reading.{occupied-from, section-from}
+use Rattle.ilk_strict.proofs.Reading.{occupied-from}
 use Rattle.ilk_strict.proofs.Table.{route-source}
 use Rattle.ilk_strict.proofs.TrainFacts.{IsKeptBy, Keeps, bodies-from, body-kept, runs-from, runs-source}
 use Rattle.ilk_strict.proofs.Trains.{enter-trains, head-trains, leave-trains, shorter-at, tail-trains}

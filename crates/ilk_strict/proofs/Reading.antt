@@ -1,16 +1,17 @@
 -- What tests of a state say, read place by place: of locks, boards and trains, of each number below a bound, of each
 -- route, of each place of a path.
-use Rattle.std.proofs.Common.{◌≡◌, ℕ, zero, suc, ◌+◌, ◌<◌, ◌≤◌, Bool, true, ◌==◌, ◌&&◌, Some, List, [], ◌∷◌, length, nat_le, slice_get, refl, sym, ap, ◌∙◌, arith}
+use Rattle.std.proofs.Common.{◌≡◌, ℕ, ◌+◌, ◌<◌, ◌≤◌, Bool, true, ◌==◌, ◌&&◌, Some, length, nat_le, slice_get, refl, sym, ap, ◌∙◌, arith}
 use Rattle.std.specs.List.{enumerate_from, range_with_len}
 use Rattle.std.proofs.lemmas.Bool.{and_from, and_parts, eqb-true, eq-eqb}
 use Rattle.std.proofs.lemmas.Bool.Decides.{nat_tests}
-use Rattle.std.proofs.lemmas.Option.{same_Some, slice_get_within}
+use Rattle.std.proofs.lemmas.Option.{slice_get_within}
 use Rattle.ilk_base.specs.Each.{each_below, some_below}
 use Rattle.ilk_base.specs.Option.{is_some_and}
 use Rattle.ilk_base.proofs.Lists.{item_at}
 use Rattle.ilk_base.proofs.Options.{some-and}
 use Rattle.ilk_base.proofs.Ranges.{range-at, range_within}
 use Rattle.ilk_base.proofs.Tested.{all-pass, list_all-slice_get, list_any-at, list_any-from}
+use Rattle.ilk_base.proofs.Numbered.{enumerated, enumerated-at}
 use Rattle.ilk_plant.specs.Network.{has_section}
 use Rattle.ilk_plant.specs.Plant.{PlantLists}
 use Rattle.ilk_plant.specs.State.{has_lock, is_occupied, same_hold}
@@ -41,15 +42,6 @@ has_aspect-at s m aspect h =
 
 pub has_aspect-from : (s : State) (m : ℕ) (aspect : Aspect) → slice_get s.boards m ≡ Some aspect → has_aspect s m aspect ≡ true
 has_aspect-from s m aspect at = rw at (own_aspect aspect)
-
--- a section in a list
-pub section-at : (x : ℕ) (xs : List ℕ) → has_section x xs ≡ true → (j : ℕ) × (slice_get xs j ≡ Some x)
-section-at x xs h =
-    let found : (j : ℕ) × (y : ℕ) × (slice_get xs j ≡ Some y) × ((y == x) ≡ true) = list_any-at (λ y. y == x) xs h in
-    (found.0, found.2 ∙ ap Some (eqb-true found.1 x found.3))
-
-pub section-from : (xs : List ℕ) (j x : ℕ) → slice_get xs j ≡ Some x → has_section x xs ≡ true
-section-from xs j x at = list_any-from (λ y. y == x) xs j x at (eq-eqb x x refl)
 
 -- a section that a train has
 pub occupied-at : (s : State) (x : ℕ) → is_occupied s x ≡ true → (i : ℕ) × (train : Train) × (slice_get s.trains i ≡ Some train) × (has_section x train.body ≡ true)
@@ -114,50 +106,29 @@ pub some_route-from : (p : PlantLists) (s : State) (test : Route → RouteState 
 some_route-from p s test r route now it h =
     some_below-from (length p.routes) (λ r. route_passes p s r test) r (slice_get_within p.routes r route it.known) (passes-from p s r test route now it h)
 
--- the places of a list, with their items
-places-at : (k : ℕ) (xs : List ℕ) (i : ℕ) (place : ℕ × ℕ) → slice_get (enumerate_from k xs) i ≡ Some place → (place.0 ≡ k + i) × (slice_get xs i ≡ Some place.1)
-places-at k [] i place at = cc
-places-at k (x ∷ xs) zero place at =
-    let same : ◌≡◌ {A = ℕ × ℕ} (k, x) place = same_Some (k, x) place at in
-    let number : k ≡ place.0 = ap (λ (v : ℕ × ℕ). v.0) same in
-    (omega (arith, number), ap (λ (v : ℕ × ℕ). Some v.1) same)
-places-at k (x ∷ xs) (suc i) place at =
-    let later = places-at (k + 1) xs i place at in
-    let number = later.0 in
-    (omega (arith, number), later.1)
-
-places-from : (k : ℕ) (xs : List ℕ) (i x : ℕ) → slice_get xs i ≡ Some x → slice_get (enumerate_from k xs) i ≡ Some (k + i, x)
-places-from k [] i x at = cc
-places-from k (y ∷ xs) zero x at =
-    let number : k ≡ k + 0 = omega arith in
-    ap (λ (n : ℕ). Some (n, y)) number ∙ ap (λ (v : ℕ). Some (k + 0, v)) (same_Some y x at)
-places-from k (y ∷ xs) (suc i) x at =
-    let number : (k + 1) + i ≡ k + suc i = omega arith in
-    places-from (k + 1) xs i x at ∙ ap (λ (n : ℕ). Some (n, x)) number
-
 pub some_place-at : (route : Route) (test : ℕ → ℕ → Bool) → some_place route test ≡ true → (i : ℕ) × (x : ℕ) × (slice_get route.path i ≡ Some x) × (test i x ≡ true)
 some_place-at route test h =
     let found : (k : ℕ) × (place : ℕ × ℕ) × (slice_get (enumerate_from 0 route.path) k ≡ Some place) × (test place.0 place.1 ≡ true) = list_any-at (λ (place : ℕ × ℕ). test place.0 place.1) (enumerate_from 0 route.path) h in
-    let place = places-at 0 route.path found.0 found.1 found.2 in
+    let place = enumerated 0 route.path found.0 found.1 found.2 in
     let number : found.0 ≡ found.1.0 = omega (arith, place.0) in
     (found.1.0, found.1.1, ap (slice_get route.path) (sym number) ∙ place.1, found.3)
 
 pub some_place-from : (route : Route) (test : ℕ → ℕ → Bool) (i x : ℕ) → slice_get route.path i ≡ Some x → test i x ≡ true → some_place route test ≡ true
 some_place-from route test i x at h =
     let number : 0 + i ≡ i = omega arith in
-    let there : slice_get (enumerate_from 0 route.path) i ≡ Some (i, x) = places-from 0 route.path i x at ∙ ap (λ (n : ℕ). Some (n, x)) number in
+    let there : slice_get (enumerate_from 0 route.path) i ≡ Some (i, x) = enumerated-at 0 route.path i x at ∙ ap (λ (n : ℕ). Some (n, x)) number in
     list_any-from (λ (place : ℕ × ℕ). test place.0 place.1) (enumerate_from 0 route.path) i (i, x) there h
 
 pub each_place-at : (route : Route) (test : ℕ → ℕ → Bool) → each_place route test ≡ true → (i x : ℕ) → slice_get route.path i ≡ Some x → test i x ≡ true
 each_place-at route test h i x at =
     let number : 0 + i ≡ i = omega arith in
-    let there : slice_get (enumerate_from 0 route.path) i ≡ Some (i, x) = places-from 0 route.path i x at ∙ ap (λ (n : ℕ). Some (n, x)) number in
+    let there : slice_get (enumerate_from 0 route.path) i ≡ Some (i, x) = enumerated-at 0 route.path i x at ∙ ap (λ (n : ℕ). Some (n, x)) number in
     list_all-slice_get (λ (place : ℕ × ℕ). test place.0 place.1) (enumerate_from 0 route.path) i (i, x) h there
 
 pub each_place-from : (route : Route) (test : ℕ → ℕ → Bool) → ((i x : ℕ) → slice_get route.path i ≡ Some x → test i x ≡ true) → each_place route test ≡ true
 each_place-from route test each =
     all-pass (λ (place : ℕ × ℕ). test place.0 place.1) (enumerate_from 0 route.path) (λ k place at.
-    let it = places-at 0 route.path k place at in
+    let it = enumerated 0 route.path k place at in
     let number : k ≡ place.0 = omega (arith, it.0) in
     each place.0 place.1 (ap (slice_get route.path) (sym number) ∙ it.1))
 

@@ -8,7 +8,7 @@ use Rattle.std.proofs.lemmas.Bool.Decides.{nat_tests}
 use Rattle.std.proofs.lemmas.Option.{same_Some, slice_get_within}
 use Rattle.ilk_base.specs.Each.{each_below}
 use Rattle.ilk_base.proofs.Tested.{all-pass, list_all-slice_get}
-use Rattle.ilk_base.proofs.Truth.{either, fails}
+use Rattle.ilk_base.proofs.Truth.{either, fails, if-passes, passes-if}
 use Rattle.ilk_plant.specs.Network.{has_section}
 use Rattle.ilk_plant.specs.Plant.{PlantLists}
 use Rattle.ilk_plant.specs.State.{has_lock, is_occupied}
@@ -19,6 +19,7 @@ use Rattle.ilk_plant.specs.declared.state.RouteState.{RouteState}
 use Rattle.ilk_plant.specs.declared.state.State.{State}
 use Rattle.ilk_plant.specs.declared.table.Listed.{Listed}
 use Rattle.ilk_plant.specs.declared.table.Route.{Route}
+use Rattle.ilk_plant.proofs.InLists.{section-at, section-from}
 use Rattle.ilk_routes.specs.Boards.{has_aspect}
 use Rattle.ilk_routes.specs.Claims.{sections_beside}
 use Rattle.ilk_routes.specs.Lies.{lies_as_listed}
@@ -27,15 +28,7 @@ use Rattle.ilk_model.specs.Commanded.{is_commanded_as_listed}
 use Rattle.ilk_model.specs.Families.{has_its_locks, is_commanded_for, keeps_v1, keeps_v2, keeps_v3, keeps_v4, keeps_v5, keeps_v6, keeps_v9, lies_for, lock_on_path}
 use Rattle.ilk_model.specs.Holding.{each_place, holds_section, holds_sections, is_kept_on_path, is_locked_or_occupied, is_vacant, route_holds}
 use Rattle.ilk_model.proofs.Alike.{one_mode}
-use Rattle.ilk_strict.proofs.Reading.{RouteIn, each_below-at, each_below-from, each_place-at, each_place-from, each_route-at, each_route-from, has_aspect-at, has_aspect-from, has_lock-at, has_lock-from, kept-at, kept-from, passes-at, passes-from, section-at, section-from, some_route-at, some_route-from}
-
--- a test that is asked only where another passes
-pub asked : (a b : Bool) → (if a then b else true) ≡ true → a ≡ true → b ≡ true
-asked a b h e = rw e at h
-
-pub unless : (a b : Bool) → (a ≡ true → b ≡ true) → (if a then b else true) ≡ true
-unless true b f = f refl
-unless false b f = refl
+use Rattle.ilk_strict.proofs.Reading.{RouteIn, each_below-at, each_below-from, each_place-at, each_place-from, each_route-at, each_route-from, has_aspect-at, has_aspect-from, has_lock-at, has_lock-from, kept-at, kept-from, passes-at, passes-from, some_route-at, some_route-from}
 
 -- sections that are all vacant
 pub all_vacant-at : (s : State) (xs : List ℕ) → list_all (is_vacant s) xs ≡ true → (i x : ℕ) → slice_get xs i ≡ Some x → is_occupied s x ≡ false
@@ -45,9 +38,6 @@ pub all_vacant-from : (s : State) (xs : List ℕ) → ((i x : ℕ) → slice_get
 all_vacant-from s xs each = all-pass (is_vacant s) xs (λ i x at. rw (each i x at) refl)
 
 -- modes
-pub mode-differs : (now : RouteState) → now.mode ≡ Allocating → (same_mode now.mode Occupied ≡ false) × (same_mode now.mode Locked ≡ false)
-mode-differs now e = (rw e refl, rw e refl)
-
 pub locked-or_occupied : (now : RouteState) → is_locked_or_occupied now ≡ true → (now.mode ≡ Locked) ⊎ (now.mode ≡ Occupied)
 locked-or_occupied now h =
     elim (either (same_mode now.mode Locked) (same_mode now.mode Occupied) h) [
@@ -169,7 +159,7 @@ module _ (p : PlantLists) (s : State) where
   -- V3
   pub lock-path : keeps_v3 p s ≡ true → (r : ℕ) (route : Route) (now : RouteState) → RouteIn p s r route now → holds_sections now ≡ true → (i x : ℕ) → now.rel ≤ i → slice_get route.path i ≡ Some x → slice_get s.locks x ≡ Some (lock_on_path now i)
   lock-path kept r route now it holds i x least at =
-      let locks : has_its_locks s route now ≡ true = asked (holds_sections now) (has_its_locks s route now) (each_route-at p s (λ route now. if holds_sections now then has_its_locks s route now else true) kept r route now it) holds in
+      let locks : has_its_locks s route now ≡ true = if-passes (holds_sections now) (has_its_locks s route now) (each_route-at p s (λ route now. if holds_sections now then has_its_locks s route now else true) kept r route now it) holds in
       let places = (and_parts (each_place route (λ i x. not (nat_le now.rel i) || has_lock s x (lock_on_path now i))) (list_all (λ x. has_lock s x LockedLock) (sections_beside route)) locks).0 in
       let test : nat_le now.rel i ≡ true = grind (arith, nat_tests) in
       has_lock-at s x (lock_on_path now i) (counted (nat_le now.rel i) (has_lock s x (lock_on_path now i)) test (each_place-at route (λ i x. not (nat_le now.rel i) || has_lock s x (lock_on_path now i)) places i x at))
@@ -179,7 +169,7 @@ module _ (p : PlantLists) (s : State) where
 
   pub lock-beside : keeps_v3 p s ≡ true → (r : ℕ) (route : Route) (now : RouteState) → RouteIn p s r route now → holds_sections now ≡ true → (x : ℕ) → has_section x (sections_beside route) ≡ true → slice_get s.locks x ≡ Some LockedLock
   lock-beside kept r route now it holds x beside =
-      let locks : has_its_locks s route now ≡ true = asked (holds_sections now) (has_its_locks s route now) (each_route-at p s (λ route now. if holds_sections now then has_its_locks s route now else true) kept r route now it) holds in
+      let locks : has_its_locks s route now ≡ true = if-passes (holds_sections now) (has_its_locks s route now) (each_route-at p s (λ route now. if holds_sections now then has_its_locks s route now else true) kept r route now it) holds in
       let others = (and_parts (each_place route (λ i x. not (nat_le now.rel i) || has_lock s x (lock_on_path now i))) (list_all (λ x. has_lock s x LockedLock) (sections_beside route)) locks).1 in
       let found = section-at x (sections_beside route) beside in
       has_lock-at s x LockedLock (list_all-slice_get (λ x. has_lock s x LockedLock) (sections_beside route) found.0 x others found.1)
@@ -187,7 +177,7 @@ module _ (p : PlantLists) (s : State) where
   pub locks-from : length s.routes ≡ length p.routes → ((r : ℕ) (route : Route) (now : RouteState) → RouteIn p s r route now → holds_sections now ≡ true → ((i x : ℕ) → now.rel ≤ i → slice_get route.path i ≡ Some x → slice_get s.locks x ≡ Some (lock_on_path now i)) × ((x : ℕ) → has_section x (sections_beside route) ≡ true → slice_get s.locks x ≡ Some LockedLock)) → keeps_v3 p s ≡ true
   locks-from count each =
       each_route-from p s (λ route now. if holds_sections now then has_its_locks s route now else true) count (λ r route now it.
-      unless (holds_sections now) (has_its_locks s route now) (λ holds.
+      passes-if (holds_sections now) (has_its_locks s route now) (λ holds.
       let both = each r route now it holds in
       and_from (each_place route (λ i x. not (nat_le now.rel i) || has_lock s x (lock_on_path now i))) (list_all (λ x. has_lock s x LockedLock) (sections_beside route))
       (each_place-from route (λ i x. not (nat_le now.rel i) || has_lock s x (lock_on_path now i)) (λ i x at. at_place now.rel i (has_lock s x (lock_on_path now i)) (λ least. has_lock-from s x (lock_on_path now i) (both.0 i x least at))))
@@ -215,12 +205,12 @@ module _ (p : PlantLists) (s : State) where
   -- V4
   pub vacant-path : keeps_v4 p s ≡ true → (r : ℕ) (route : Route) (now : RouteState) → RouteIn p s r route now → now.mode ≡ Allocating → (i x : ℕ) → slice_get route.path i ≡ Some x → is_occupied s x ≡ false
   vacant-path kept r route now it mode i x at =
-      all_vacant-at s route.path (asked (same_mode now.mode Allocating) (list_all (is_vacant s) route.path) (each_route-at p s (λ route now. if same_mode now.mode Allocating then list_all (is_vacant s) route.path else true) kept r route now it) (rw mode refl)) i x at
+      all_vacant-at s route.path (if-passes (same_mode now.mode Allocating) (list_all (is_vacant s) route.path) (each_route-at p s (λ route now. if same_mode now.mode Allocating then list_all (is_vacant s) route.path else true) kept r route now it) (rw mode refl)) i x at
 
   pub vacant-from : length s.routes ≡ length p.routes → ((r : ℕ) (route : Route) (now : RouteState) → RouteIn p s r route now → now.mode ≡ Allocating → (i x : ℕ) → slice_get route.path i ≡ Some x → is_occupied s x ≡ false) → keeps_v4 p s ≡ true
   vacant-from count each =
       each_route-from p s (λ route now. if same_mode now.mode Allocating then list_all (is_vacant s) route.path else true) count (λ r route now it.
-      unless (same_mode now.mode Allocating) (list_all (is_vacant s) route.path) (λ mode. all_vacant-from s route.path (each r route now it (one_mode now.mode Allocating mode))))
+      passes-if (same_mode now.mode Allocating) (list_all (is_vacant s) route.path) (λ mode. all_vacant-from s route.path (each r route now it (one_mode now.mode Allocating mode))))
 
 -- V5: the route for which a board is open
 pub record IsOpenFor (p : PlantLists) (s : State) (m : ℕ) : Type 0 where
@@ -238,7 +228,7 @@ module _ (p : PlantLists) (s : State) where
 
   pub open-at : keeps_v5 p s ≡ true → (m : ℕ) → m < length p.boards → slice_get s.boards m ≡ Some Open → IsOpenFor p s m
   open-at kept m within shown =
-      let found = some_route-at p s (opens m) (asked (has_aspect s m Open) _ (each_below-at (length p.boards) _ kept m within) (has_aspect-from s m Open shown)) in
+      let found = some_route-at p s (opens m) (if-passes (has_aspect s m Open) _ (each_below-at (length p.boards) _ kept m within) (has_aspect-from s m Open shown)) in
       let parts = and_parts ((found.1.source == m) && same_mode found.2.mode Locked) (list_all (is_vacant s) found.1.path) found.4 in
       let both = and_parts (found.1.source == m) (same_mode found.2.mode Locked) parts.0 in
       record {
@@ -253,7 +243,7 @@ module _ (p : PlantLists) (s : State) where
 
   pub open-from : ((m : ℕ) → m < length p.boards → slice_get s.boards m ≡ Some Open → IsOpenFor p s m) → keeps_v5 p s ≡ true
   open-from each =
-      each_below-from (length p.boards) _ (λ m within. unless (has_aspect s m Open) _ (λ shown.
+      each_below-from (length p.boards) _ (λ m within. passes-if (has_aspect s m Open) _ (λ shown.
       let one = each m within (has_aspect-at s m Open shown) in
       let mode : same_mode one.now.mode Locked ≡ true = rw one.mode refl in
       some_route-from p s (opens m) one.r one.route one.now one.it (and_from ((one.route.source == m) && same_mode one.now.mode Locked) (list_all (is_vacant s) one.route.path) (and_from (one.route.source == m) (same_mode one.now.mode Locked) (eq-eqb one.route.source m one.source) mode) (all_vacant-from s one.route.path one.vacant))))
@@ -265,12 +255,12 @@ module _ (p : PlantLists) (s : State) where
   pub commanded-at : keeps_v6 p s ≡ true → (r : ℕ) (route : Route) (now : RouteState) → RouteIn p s r route now → (k : ℕ) (listed : Listed) → slice_get route.points k ≡ Some listed → now.mode ≡ Allocating → has_section listed.point route.path ≡ true → is_commanded_as_listed p s listed ≡ true
   commanded-at kept r route now it k listed at mode on =
       let both = and_parts (is_commanded_for p s route now listed) (lies_for p s route now listed) (list_all-slice_get (λ listed. is_commanded_for p s route now listed && lies_for p s route now listed) route.points k listed (each_route-at p s points_fit kept r route now it) at) in
-      asked (same_mode now.mode Allocating && has_section listed.point route.path) (is_commanded_as_listed p s listed) both.0 (and_from (same_mode now.mode Allocating) (has_section listed.point route.path) (rw mode refl) on)
+      if-passes (same_mode now.mode Allocating && has_section listed.point route.path) (is_commanded_as_listed p s listed) both.0 (and_from (same_mode now.mode Allocating) (has_section listed.point route.path) (rw mode refl) on)
 
   pub lies-at : keeps_v6 p s ≡ true → (r : ℕ) (route : Route) (now : RouteState) → RouteIn p s r route now → (k : ℕ) (listed : Listed) → slice_get route.points k ≡ Some listed → is_locked_or_occupied now ≡ true → is_kept_on_path route now listed.point ≡ true → (is_commanded_as_listed p s listed ≡ true) × (lies_as_listed p s listed ≡ true)
   lies-at kept r route now it k listed at mode on =
       let both = and_parts (is_commanded_for p s route now listed) (lies_for p s route now listed) (list_all-slice_get (λ listed. is_commanded_for p s route now listed && lies_for p s route now listed) route.points k listed (each_route-at p s points_fit kept r route now it) at) in
-      and_parts (is_commanded_as_listed p s listed) (lies_as_listed p s listed) (asked (is_locked_or_occupied now && is_kept_on_path route now listed.point) (is_commanded_as_listed p s listed && lies_as_listed p s listed) both.1 (and_from (is_locked_or_occupied now) (is_kept_on_path route now listed.point) mode on))
+      and_parts (is_commanded_as_listed p s listed) (lies_as_listed p s listed) (if-passes (is_locked_or_occupied now && is_kept_on_path route now listed.point) (is_commanded_as_listed p s listed && lies_as_listed p s listed) both.1 (and_from (is_locked_or_occupied now) (is_kept_on_path route now listed.point) mode on))
 
   pub points-from : length s.routes ≡ length p.routes → ((r : ℕ) (route : Route) (now : RouteState) → RouteIn p s r route now → (k : ℕ) (listed : Listed) → slice_get route.points k ≡ Some listed → (now.mode ≡ Allocating → has_section listed.point route.path ≡ true → is_commanded_as_listed p s listed ≡ true) × (is_locked_or_occupied now ≡ true → is_kept_on_path route now listed.point ≡ true → (is_commanded_as_listed p s listed ≡ true) × (lies_as_listed p s listed ≡ true))) → keeps_v6 p s ≡ true
   points-from count each =
@@ -278,10 +268,10 @@ module _ (p : PlantLists) (s : State) where
       all-pass (λ listed. is_commanded_for p s route now listed && lies_for p s route now listed) route.points (λ k listed at.
       let both = each r route now it k listed at in
       and_from (is_commanded_for p s route now listed) (lies_for p s route now listed)
-      (unless (same_mode now.mode Allocating && has_section listed.point route.path) (is_commanded_as_listed p s listed) (λ h.
+      (passes-if (same_mode now.mode Allocating && has_section listed.point route.path) (is_commanded_as_listed p s listed) (λ h.
       let parts = and_parts (same_mode now.mode Allocating) (has_section listed.point route.path) h in
       both.0 (one_mode now.mode Allocating parts.0) parts.1))
-      (unless (is_locked_or_occupied now && is_kept_on_path route now listed.point) (is_commanded_as_listed p s listed && lies_as_listed p s listed) (λ h.
+      (passes-if (is_locked_or_occupied now && is_kept_on_path route now listed.point) (is_commanded_as_listed p s listed && lies_as_listed p s listed) (λ h.
       let parts = and_parts (is_locked_or_occupied now) (is_kept_on_path route now listed.point) h in
       let lies = both.1 parts.0 parts.1 in
       and_from (is_commanded_as_listed p s listed) (lies_as_listed p s listed) lies.0 lies.1))))
@@ -292,10 +282,10 @@ module _ (p : PlantLists) (s : State) where
 
   pub protected-at : keeps_v9 p s ≡ true → (r : ℕ) (route : Route) (now : RouteState) → RouteIn p s r route now → now.mode ≡ Locked → (k m : ℕ) → slice_get route.protecting_boards k ≡ Some m → slice_get s.boards m ≡ Some Closed
   protected-at kept r route now it mode k m at =
-      has_aspect-at s m Closed (list_all-slice_get (λ m. has_aspect s m Closed) route.protecting_boards k m (asked (same_mode now.mode Locked) (list_all (λ m. has_aspect s m Closed) route.protecting_boards) (each_route-at p s is_protected kept r route now it) (rw mode refl)) at)
+      has_aspect-at s m Closed (list_all-slice_get (λ m. has_aspect s m Closed) route.protecting_boards k m (if-passes (same_mode now.mode Locked) (list_all (λ m. has_aspect s m Closed) route.protecting_boards) (each_route-at p s is_protected kept r route now it) (rw mode refl)) at)
 
   pub protected-from : length s.routes ≡ length p.routes → ((r : ℕ) (route : Route) (now : RouteState) → RouteIn p s r route now → now.mode ≡ Locked → (k m : ℕ) → slice_get route.protecting_boards k ≡ Some m → slice_get s.boards m ≡ Some Closed) → keeps_v9 p s ≡ true
   protected-from count each =
       each_route-from p s is_protected count (λ r route now it.
-      unless (same_mode now.mode Locked) (list_all (λ m. has_aspect s m Closed) route.protecting_boards) (λ mode.
+      passes-if (same_mode now.mode Locked) (list_all (λ m. has_aspect s m Closed) route.protecting_boards) (λ mode.
       all-pass (λ m. has_aspect s m Closed) route.protecting_boards (λ k m at. has_aspect-from s m Closed (each r route now it (one_mode now.mode Locked mode) k m at))))

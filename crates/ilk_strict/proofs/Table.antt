@@ -18,9 +18,9 @@ use Rattle.ilk_plant.specs.declared.table.Listed.{Listed}
 use Rattle.ilk_plant.specs.declared.table.Route.{Route}
 use Rattle.ilk_plant.proofs.Once.{none_twice-places}
 use Rattle.ilk_plant.proofs.Sides.{once-apart}
+use Rattle.ilk_plant.proofs.InLists.{section-at, section-from}
 use Rattle.ilk_routes.specs.Claims.{sections_beside, wanted_points}
 use Rattle.ilk_routes.specs.Lies.{listed_position, lists_point}
-use Rattle.ilk_strict.proofs.Reading.{section-at, section-from}
 
 -- the points of some entries
 pub listed-mapped : (entries : List Listed) (j : ℕ) (one : Listed) → slice_get entries j ≡ Some one → slice_get (map (λ (it : Listed). it.point) entries) j ≡ Some one.point

@@ -1,16 +1,16 @@
 -- What the families that speak of trains, and the absence of hazards, say of each train, and what has to be shown of each
 -- train for a state to keep them: V7, V8, two trains in one section, a train on a wrong point.
-use Rattle.std.proofs.Common.{◌≡◌, ℕ, zero, suc, ◌+◌, ◌-◌, ◌<◌, ◌≤◌, Bool, true, false, ◌==◌, ◌&&◌, ◌||◌, Option, Some, None, option_map, List, [], ◌∷◌, inl, inr, ◌⊎◌, count_by, drop, find, length, nat_le, nat_lt, slice_get, refl, sym, ap, ◌∙◌, arith}
+use Rattle.std.proofs.Common.{◌≡◌, ℕ, ◌+◌, ◌-◌, ◌<◌, ◌≤◌, Bool, true, false, ◌==◌, ◌&&◌, ◌||◌, Option, Some, None, option_map, List, inl, inr, ◌⊎◌, count_by, drop, find, length, nat_le, nat_lt, slice_get, refl, sym, ap, ◌∙◌, arith}
 use Rattle.std.specs.Prelude.{if◌then◌else◌}
 use Rattle.std.specs.List.{last_or, list_all, list_any, range_with_len}
-use Rattle.std.proofs.lemmas.Bool.{and_from, and_parts, both_ways, cases_Bool, eqb-true, eq-eqb, or_from, or_parts}
+use Rattle.std.proofs.lemmas.Bool.{and_from, and_parts, eqb-true, eq-eqb, or_from, or_parts}
 use Rattle.std.proofs.lemmas.Bool.Decides.{nat_tests}
-use Rattle.std.proofs.lemmas.Option.{none-some, same_Some}
 use Rattle.ilk_base.specs.Option.{is_some_and}
-use Rattle.ilk_base.proofs.Lists.{get-dropped, last-some}
+use Rattle.ilk_base.proofs.Lists.{get-dropped}
 use Rattle.ilk_base.proofs.Ranges.{range-at, range_within}
-use Rattle.ilk_base.proofs.Tested.{all-pass, count-one, few-from_places, find-at, list_all-slice_get, list_any-none, none-pass}
-use Rattle.ilk_base.proofs.Truth.{either}
+use Rattle.ilk_base.proofs.Tested.{all-pass, count-one, few-from_places, list_all-slice_get, list_any-none, none-pass, find-none-at, find-none-from}
+use Rattle.ilk_base.proofs.Truth.{either, if-passes, passes-if}
+use Rattle.ilk_base.proofs.Options.{mapped-None}
 use Rattle.ilk_plant.specs.Network.{has_section}
 use Rattle.ilk_plant.specs.Plant.{PlantLists}
 use Rattle.ilk_plant.specs.Shape.{HasShape, is_body}
@@ -25,23 +25,17 @@ use Rattle.ilk_plant.specs.declared.state.RouteState.{RouteState}
 use Rattle.ilk_plant.specs.declared.state.State.{State}
 use Rattle.ilk_plant.specs.declared.state.Train.{Train}
 use Rattle.ilk_plant.specs.declared.table.Route.{Route}
+use Rattle.ilk_plant.proofs.Alike.{one_direction, own_direction}
+use Rattle.ilk_plant.proofs.Shapes.{body-last}
 use Rattle.ilk_routes.specs.Boards.{has_aspect}
 use Rattle.ilk_routes.specs.Modes.{same_mode}
 use Rattle.ilk_model.specs.Families.{is_kept_for, is_led, keeps_v1, keeps_v2, keeps_v3, keeps_v4, keeps_v5, keeps_v6, keeps_v7, keeps_v8, keeps_v9}
 use Rattle.ilk_model.specs.Hazard.{is_hazardous, is_two, is_wrong, strays}
 use Rattle.ilk_model.specs.Holding.{is_kept_on_path, is_locked_or_occupied, is_plain, is_vacant, runs_in, some_place}
 use Rattle.ilk_model.specs.Meets.{Meets}
-use Rattle.ilk_model.proofs.Alike.{one_direction, one_mode, own_direction}
+use Rattle.ilk_model.proofs.Alike.{one_mode}
 use Rattle.ilk_strict.proofs.Reading.{RouteIn, has_aspect-at, has_aspect-from, kept-at, kept-from, some_place-at, some_place-from, some_route-at, some_route-from}
-use Rattle.ilk_strict.proofs.RouteFacts.{all_vacant-at, all_vacant-from, asked, locked-is, occupied-is, unless}
-
--- a train has a last section
-pub last-of : (p : PlantLists) (train : Train) → is_body p train ≡ true → (x : ℕ) × (last_or None train.body ≡ Some x)
-last-of p train h = of_body train.body h
-  where
-    of_body : (body : List ℕ) → is_body p (record train { body = body }) ≡ true → (x : ℕ) × (last_or None body ≡ Some x)
-    of_body [] h = cc
-    of_body (x ∷ rest) h = last-some x rest
+use Rattle.ilk_strict.proofs.RouteFacts.{all_vacant-at, all_vacant-from, locked-is, occupied-is}
 
 -- the direction of a route is that of its source
 pub runs-source : (p : PlantLists) (d : Dir) (route : Route) (source : Board) → runs_in p d route ≡ true → slice_get p.boards route.source ≡ Some source → source.dir ≡ d
@@ -144,13 +138,13 @@ module _ (p : PlantLists) (s : State) where
   pub head-led : keeps_v7 p s ≡ true → (i : ℕ) (train : Train) (x : ℕ) → slice_get s.trains i ≡ Some train → last_or None train.body ≡ Some x → is_plain p train.dir x ≡ true → IsLedBy p s train.dir x
   head-led kept i train x at last plain =
       let here : (if is_plain p train.dir x then is_led p s train.dir x else true) ≡ true = rw last at (list_all-slice_get (λ train. is_some_and (last_or None train.body) (λ x. if is_plain p train.dir x then is_led p s train.dir x else true)) s.trains i train kept at) in
-      led-at train.dir x (asked (is_plain p train.dir x) (is_led p s train.dir x) here plain)
+      led-at train.dir x (if-passes (is_plain p train.dir x) (is_led p s train.dir x) here plain)
 
   pub heads-from : HasShape p s → ((i : ℕ) (train : Train) (x : ℕ) → slice_get s.trains i ≡ Some train → last_or None train.body ≡ Some x → is_plain p train.dir x ≡ true → IsLedBy p s train.dir x) → keeps_v7 p s ≡ true
   heads-from shape each =
       all-pass (λ train. is_some_and (last_or None train.body) (λ x. if is_plain p train.dir x then is_led p s train.dir x else true)) s.trains (λ i train at.
-      let last = last-of p train (list_all-slice_get (is_body p) s.trains i train shape.bodies at) in
-      rw last.1 (unless (is_plain p train.dir last.0) (is_led p s train.dir last.0) (λ plain. led-from train.dir last.0 (each i train last.0 at last.1 plain))))
+      let last = body-last p train (list_all-slice_get (is_body p) s.trains i train shape.bodies at) in
+      rw last.1 (passes-if (is_plain p train.dir last.0) (is_led p s train.dir last.0) (λ plain. led-from train.dir last.0 (each i train last.0 at last.1 plain))))
 
   -- V8
   abbrev keeps_for : Dir → ℕ → Route → RouteState → Bool
@@ -184,13 +178,13 @@ module _ (p : PlantLists) (s : State) where
   pub body-kept : keeps_v8 p s ≡ true → (i : ℕ) (train : Train) → slice_get s.trains i ≡ Some train → (k x : ℕ) → slice_get train.body k ≡ Some x → is_plain p train.dir x ≡ true → IsKeptBy p s train.dir x
   body-kept kept i train at k x place plain =
       let body = list_all-slice_get (λ train. list_all (is_kept_if_plain train.dir) train.body) s.trains i train kept at in
-      kept_for-at train.dir x (asked (is_plain p train.dir x) (is_kept_for p s train.dir x) (list_all-slice_get (is_kept_if_plain train.dir) train.body k x body place) plain)
+      kept_for-at train.dir x (if-passes (is_plain p train.dir x) (is_kept_for p s train.dir x) (list_all-slice_get (is_kept_if_plain train.dir) train.body k x body place) plain)
 
   pub bodies-from : ((i : ℕ) (train : Train) → slice_get s.trains i ≡ Some train → (k x : ℕ) → slice_get train.body k ≡ Some x → is_plain p train.dir x ≡ true → IsKeptBy p s train.dir x) → keeps_v8 p s ≡ true
   bodies-from each =
       all-pass (λ train. list_all (is_kept_if_plain train.dir) train.body) s.trains (λ i train at.
       all-pass (is_kept_if_plain train.dir) train.body (λ k x place.
-      unless (is_plain p train.dir x) (is_kept_for p s train.dir x) (λ plain. kept_for-from train.dir x (each i train at k x place plain))))
+      passes-if (is_plain p train.dir x) (is_kept_for p s train.dir x) (λ plain. kept_for-from train.dir x (each i train at k x place plain))))
 
   -- two trains in one section
   pub two-at : (x : ℕ) → is_two s x ≡ false → (i j : ℕ) (one other : Train) → slice_get s.trains i ≡ Some one → slice_get s.trains j ≡ Some other → has_section x one.body ≡ true → has_section x other.body ≡ true → i ≡ j
@@ -221,30 +215,6 @@ module _ (p : PlantLists) (s : State) where
       by_section (Some (Point stem plus minus faces)) e =
           rw e (none-pass (λ train. strays x plus minus (lie_of p s x) train.body) s.trains (each stem plus minus faces e))
 
--- where nothing is found, nothing passes; and where nothing passes, nothing is found
-find-none-at : {X : Type 0} (p : X → Bool) (xs : List X) (i : ℕ) (x : X) → find p xs ≡ None → slice_get xs i ≡ Some x → p x ≡ false
-find-none-at p [] i x e at = cc
-find-none-at {X} p (z ∷ xs) i x e at = elim (cases_Bool (p z)) [
-  | inl here ↦ (let some : Some z ≡ None = rw here at e in absurd (none-some z (sym some)))
-  | inr away ↦ (let rest : find p xs ≡ None = rw away at e in by_place i at rest away (find-none-at p xs))
-]
-  where
-    by_place : (j : ℕ) → slice_get (z ∷ xs) j ≡ Some x → find p xs ≡ None → p z ≡ false → ((k : ℕ) (v : X) → find p xs ≡ None → slice_get xs k ≡ Some v → p v ≡ false) → p x ≡ false
-    by_place zero here rest away ih = ap p (sym (same_Some z x here)) ∙ away
-    by_place (suc j) here rest away ih = ih j x rest here
-
-find-none-from : {X : Type 0} (p : X → Bool) (xs : List X) → ((i : ℕ) (x : X) → slice_get xs i ≡ Some x → p x ≡ false) → find p xs ≡ None
-find-none-from {X} p xs each = by_found (find p xs) refl
-  where
-    by_found : (o : Option X) → find p xs ≡ o → find p xs ≡ None
-    by_found None e = e
-    by_found (Some x) e =
-        let found = find-at p xs x e in absurd (both_ways (p x) (each found.0 x found.1) found.2)
-
-unmapped : {Y : Type 0} (f : ℕ → Y) (o : Option ℕ) → option_map f o ≡ None → o ≡ None
-unmapped f None e = refl
-unmapped f (Some v) e = cc
-
 -- what a state has that meets the invariant, part by part
 pub record Keeps (p : PlantLists) (s : State) : Type 0 where
   pub shape : HasShape p s
@@ -262,7 +232,7 @@ pub record Keeps (p : PlantLists) (s : State) : Type 0 where
 
 pub keeps-of : (p : PlantLists) (s : State) → Meets p s → Keeps p s
 keeps-of p s meets =
-    let none = unmapped _ (find (is_hazardous p s) (range_with_len 0 (length p.sections))) meets.no_hazard in
+    let none = mapped-None _ (find (is_hazardous p s) (range_with_len 0 (length p.sections))) meets.no_hazard in
     let calm : (x : ℕ) → x < length p.sections → is_hazardous p s x ≡ false = λ x within. find-none-at (is_hazardous p s) (range_with_len 0 (length p.sections)) x x none (range-at (length p.sections) x within) in
     let one = and_parts (keeps_v1 p s) _ meets.families_kept in
     let two = and_parts (keeps_v2 p s) _ one.1 in

@@ -8,11 +8,11 @@ use Rattle.ilk_plant.specs.Plant.{PlantLists}
 use Rattle.ilk_plant.specs.State.{is_occupied}
 use Rattle.ilk_plant.specs.declared.state.State.{State}
 use Rattle.ilk_plant.specs.declared.state.Train.{Train}
+use Rattle.ilk_plant.proofs.InLists.{section-at, section-from, only-one, rest-has}
 use Rattle.ilk_motion.specs.Body.{is_first_of_several, is_last, train_on, with_new_head, without_tail}
 use Rattle.ilk_strict.proofs.After.{set-cases}
-use Rattle.ilk_strict.proofs.Ahead.{only-one}
 use Rattle.ilk_model.proofs.Frames.{IsEntered, IsHeaded, IsLeft, IsTailed}
-use Rattle.ilk_strict.proofs.Reading.{occupied-at, occupied-from, section-at, section-from}
+use Rattle.ilk_strict.proofs.Reading.{occupied-at, occupied-from}
 
 -- the head of a train is its last section
 pub last-is : (x : ℕ) (xs : List ℕ) → is_last x xs ≡ true → (o : Option ℕ) → last_or o xs ≡ Some x
@@ -86,10 +86,6 @@ longer-has z y body h =
       | inr new ↦ inr (sym new.1)
     ]
 
-pub shorter-has : (z : ℕ) (body : List ℕ) → has_section z (remove body 0) ≡ true → has_section z body ≡ true
-shorter-has z body h =
-    let found = section-at z (remove body 0) h in section-from body (suc found.0) z (shorter-at body found.0 z found.1)
-
 -- a section that was vacant is so, where no train has come to it
 vacant-if : (s t : State) (z : ℕ) → is_occupied s z ≡ false → ((i : ℕ) (train : Train) → slice_get t.trains i ≡ Some train → has_section z train.body ≡ true → is_occupied s z ≡ true) → is_occupied t z ≡ false
 vacant-if s t z vacant each =
@@ -112,7 +108,7 @@ head-vacant p s t x it z vacant apart = vacant-if s t z vacant (λ i train at ha
 
 pub tail-vacant : (p : PlantLists) (s t : State) (x : ℕ) → IsTailed p s t x → (z : ℕ) → is_occupied s z ≡ false → is_occupied t z ≡ false
 tail-vacant p s t x it z vacant = vacant-if s t z vacant (λ i train at has. elim (tail-trains p s t x it i train at) [
-  | inl moved ↦ occupied-from s it.i it.train z it.at (shorter-has z it.train.body (subst (λ (one : Train). has_section z one.body ≡ true) moved.1 has))
+  | inl moved ↦ occupied-from s it.i it.train z it.at (rest-has z it.train.body (subst (λ (one : Train). has_section z one.body ≡ true) moved.1 has))
   | inr other ↦ occupied-from s i train z other.1 has
 ])
 

@@ -1,14 +1,13 @@
 -- Flags of numbers: one more flag, the flags of a list, and rows of flags.
-use Rattle.std.proofs.Common.{◌≡◌, ◌≢◌, ℕ, ◌+◌, ◌<◌, ◌≤◌, Bool, true, false, ◌==◌, ◌||◌, Some, List, [], ◌∷◌, ◌++◌, get_or, length, map, option_map, set, slice_get, take, refl, sym, ◌∙◌, ap, arith, subst}
+use Rattle.std.proofs.Common.{◌≡◌, ℕ, ◌+◌, ◌<◌, ◌≤◌, Bool, false, ◌==◌, ◌||◌, Some, List, [], ◌∷◌, ◌++◌, get_or, length, map, option_map, slice_get, take, refl, sym, ◌∙◌, ap, arith}
 use Rattle.std.specs.List.{range_with_len}
 use Rattle.std.proofs.Math.Bool.{or-false, or_assoc}
-use Rattle.std.proofs.lemmas.Bool.Decides.{Decides-eqb, nat_tests}
-use Rattle.std.proofs.lemmas.List.{get_or-map, get_or-set_other, get_or-set_same, length-map, take_more}
+use Rattle.std.proofs.lemmas.Bool.Decides.{nat_tests}
+use Rattle.std.proofs.lemmas.List.{get_or-map, length-map, take_more}
 use Rattle.std.proofs.lemmas.List.Folds.{list_any-append}
 use Rattle.std.proofs.lemmas.List.FromFn.{fill_by_all, get_or-map-range_with_len}
 use Rattle.std.proofs.lemmas.Option.{slice_get-map}
 use Rattle.ilk_base.proofs.Ranges.{range-at}
-use Rattle.ilk_base.proofs.Truth.{or-true}
 use Rattle.ilk_base.specs.Option.{is_some_and}
 use Rattle.ilk_plant.specs.ColumnRules.{lists}
 use Rattle.ilk_plant.specs.Network.{has_section}
@@ -17,19 +16,6 @@ use Rattle.ilk_plant.specs.TableRules.{protecting_points_of, sections_locked_for
 use Rattle.ilk_plant.specs.declared.table.Listed.{Listed}
 use Rattle.ilk_plant.specs.declared.table.Route.{Route}
 use Rattle.ilk_table_check.specs.Columns.{all_conflict_flags, conflict_flags, lists_by_flags, locked_flags}
-
--- one flag is set
-pub flag_set : (flags : List Bool) (x y : ℕ) → y < length flags → get_or (set flags x true) y false ≡ (get_or flags y false || (x == y))
-flag_set flags x y below = by_test (x == y) refl
-  where
-    by_test : (b : Bool) → (x == y) ≡ b → get_or (set flags x true) y false ≡ (get_or flags y false || b)
-    by_test true e =
-        let same : x ≡ y = (Decides-eqb x y).0 e in
-        let P : ℕ → Type 0 = λ z. get_or (set flags z true) y false ≡ true in
-        subst P (sym same) (get_or-set_same flags y true false below) ∙ sym (or-true (get_or flags y false))
-    by_test false e =
-        let other : y ≢ x = λ equal. (let wrong : (x == y) ≡ true = (Decides-eqb x y).1 (sym equal) in absurd (cc)) in
-        get_or-set_other flags x y true false other ∙ sym (or-false (get_or flags y false))
 
 -- no flag to set there
 pub flag_past : (flags : List Bool) (x y : ℕ) → length flags ≤ x → y < length flags → get_or flags y false ≡ (get_or flags y false || (x == y))

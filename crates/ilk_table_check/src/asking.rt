@@ -1,7 +1,8 @@
-ghost use Rattle.std.specs.Prelude.{ℕ, ◌≡◌, ◌==◌, ◌&&◌, ◌||◌, ◌+◌, ◌<◌, drop, false, length, nat_lt, not, take};
+ghost use Rattle.std.specs.Prelude.{ℕ, ◌≡◌, ◌&&◌, ◌||◌, ◌+◌, ◌<◌, drop, false, length, nat_lt, not, take};
 ghost use Rattle.std.specs.List.{list_any};
 ghost use Rattle.ilk_plant.specs.ColumnRules.{breaks_columns_at_pair};
 ghost use Rattle.ilk_table_check.specs.Columns.{all_conflict_flags, any_later_unlisted, any_other_unlisted, lists_by_flags};
+ghost use Rattle.ilk_base.specs.Numbers.{has_number};
 
 use crate::conflicts::lists_by_flags;
 use crate::flags::Flags;
@@ -63,7 +64,7 @@ fn any_other_unlisted(listed: &Row<Flags>, i: u32) -> bool
 // Whether route `i` may have a protecting board that is the source of a route that it doesn't list: its
 // own source is one, or it has protecting boards and doesn't list another route.
 fn may_protect_unlisted(listed: &Row<Flags>, route: &Route, i: u32) -> bool
-    ensures { result ≡ (list_any (λ n. n == route.now.source) route.now.protecting_boards
+    ensures { result ≡ (has_number route.now.source route.now.protecting_boards
         || (nat_lt 0 (length route.now.protecting_boards) && any_other_unlisted listed.now i)) }
 {
     keeps_closed(route, route.source)

@@ -2,6 +2,7 @@ ghost use Rattle.std.specs.Prelude.{ℕ, ◌≡◌, ◌==◌, ◌&&◌, ◌||◌
 ghost use Rattle.std.specs.List.{list_all};
 ghost use Rattle.ilk_plant.specs.Network.{has_section};
 ghost use Rattle.ilk_plant.specs.Once.{none_twice};
+ghost use Rattle.ilk_base.specs.Numbers.{has_number};
 
 use ilk_plant::Listed;
 use std::alloc::{AllocError, Global};
@@ -35,7 +36,7 @@ impl Flags {
     /// So many flags: whether a number is among these.
     pub fn of(alloc: Global, count: u32, numbers: &[u32]) -> Result<Flags, AllocError>
         ensures count { IfOk result (λ flags. length flags ≡ count) }
-        ensures flags { IfOk result (λ flags. (y : ℕ) → y < count → slice_index_or flags y false ≡ has_section y numbers.now) }
+        ensures flags { IfOk result (λ flags. (y : ℕ) → y < count → slice_index_or flags y false ≡ has_number y numbers.now) }
     {
         let mut flags = Flags::new(alloc, count)?;
         flags.set_all(numbers);
@@ -74,7 +75,7 @@ impl Flags {
     pub fn set_all(&mut self, numbers: &[u32])
         ensures count { length self.new ≡ length self.old }
         ensures flags { (y : ℕ) → y < length self.old →
-            slice_index_or self.new y false ≡ (slice_index_or self.old y false || has_section y numbers.now) }
+            slice_index_or self.new y false ≡ (slice_index_or self.old y false || has_number y numbers.now) }
     {
         for x in numbers {
             self.set(*x);

@@ -1,12 +1,14 @@
-ghost use Rattle.std.specs.Prelude.{◌≡◌, ◌==◌, ◌||◌, ◌<◌, IfOk, false, length, map, slice_index_or};
+ghost use Rattle.std.specs.Prelude.{◌≡◌, ◌||◌, ◌<◌, IfOk, false, length, map, slice_index_or};
 ghost use Rattle.std.specs.List.{list_any};
 ghost use Rattle.ilk_plant.specs.TableRules.{protecting_points_of};
 ghost use Rattle.ilk_plant.specs.ColumnRules.{breaks_columns_at_pair, is_kept_closed_by, share_section};
 ghost use Rattle.ilk_plant.specs.declared.broken.Rule.TheVariants.{C6};
 ghost use Rattle.ilk_table_check.specs.Columns.{all_conflict_flags, locked_flags};
+ghost use Rattle.ilk_base.specs.Numbers.{has_number};
 
 use crate::conflicts::lists;
 use crate::flags::Flags;
+use ilk_base::has_number;
 use ilk_plant::{Listed, Plant, Route, Row, Rule};
 use std::alloc::{AllocError, Global};
 
@@ -64,9 +66,9 @@ fn share_section(plant: &Plant, locked: &Flags, i: u32, j: u32) -> bool
 
 /// Whether a route has board `m` among its protecting boards.
 pub fn keeps_closed(route: &Route, m: u32) -> bool
-    ensures { result ≡ list_any (λ n. n == m) route.now.protecting_boards }
+    ensures { result ≡ has_number m route.now.protecting_boards }
 {
-    route.protecting_boards.as_slice().iter().any(|n| *n == m)
+    has_number(route.protecting_boards.as_slice(), m)
 }
 
 // Whether the source of route `j` is a protecting board of route `i`.

@@ -1,14 +1,16 @@
 ghost use Rattle.std.specs.Prelude.{◌≡◌, ◌==◌, ◌&&◌, ◌<◌, ◌++◌, IfOk, OnOk, map, not};
-ghost use Rattle.std.specs.List.{list_all, list_any};
+ghost use Rattle.std.specs.List.{list_all};
 ghost use Rattle.ilk_plant.specs.Broken.{broken_at, places_of};
 ghost use Rattle.ilk_plant.specs.Network.{has_section};
 ghost use Rattle.ilk_plant.specs.Limits.{HasLimits};
 ghost use Rattle.ilk_plant.specs.Plant.{is_point_section};
 ghost use Rattle.ilk_plant.specs.TableRules.{breaks_table, count_in_plant, has_conflicts_once, has_destination_or_none, has_points_once, has_protecting_boards_once, has_protecting_points_once, has_sections_once, is_board, is_other_route, is_section, points_of, protecting_points_of, routes_broken, sections_of, table_rules_broken};
 ghost use Rattle.ilk_plant.specs.Once.{none_twice};
+ghost use Rattle.ilk_base.specs.Numbers.{has_number};
 
 use crate::flags::none_twice_below;
 use crate::listed::is_listed;
+use ilk_base::has_number;
 use ilk_plant::{
     Broken, Listed, NetDraft, Numbered, Places, Route, Row, Rule, TableDraft, push_if,
 };
@@ -26,19 +28,12 @@ const TABLE_RULES: [Rule; 8] = [
     Rule::R8,
 ];
 
-// Whether the numbers have this one.
-fn is_among(x: u32, numbers: &[u32]) -> bool
-    ensures { result ≡ list_any (λ y. y == x) numbers.now }
-{
-    numbers.iter().any(|y| *y == x)
-}
-
 // Whether no number stands twice.
 fn none_twice(numbers: &[u32]) -> bool
     ensures { result ≡ none_twice numbers.now }
 {
     for (i, x) in numbers.iter().enumerate() {
-        if is_among(*x, &numbers[i + 1..]) {
+        if has_number(&numbers[i + 1..], *x) {
             return false;
         }
     }
@@ -47,9 +42,9 @@ fn none_twice(numbers: &[u32]) -> bool
 
 // Whether one of two lists has this number.
 fn is_among_both(x: u32, first: &[u32], second: &[u32]) -> bool
-    ensures { result ≡ list_any (λ y. y == x) (first.now ++ second.now) }
+    ensures { result ≡ has_number x (first.now ++ second.now) }
 {
-    is_among(x, first) || is_among(x, second)
+    has_number(first, x) || has_number(second, x)
 }
 
 // Whether no number stands twice in two lists together.

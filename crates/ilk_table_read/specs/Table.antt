@@ -11,8 +11,9 @@ use Rattle.ilk_net_read.specs.declared.fault.FormFault.{FormFault}
 use Rattle.ilk_net_read.specs.declared.fault.Place.TheVariants.{Route}
 use Rattle.ilk_net_read.specs.Fault.{broken, checked, or_fault}
 use Rattle.ilk_net_read.specs.Member.{entries_of}
-use Rattle.ilk_net_read.specs.Network.{document_of, network_of, value_of}
+use Rattle.ilk_net_read.specs.Network.{document_of, value_of, network_of}
 use Rattle.ilk_net_read.specs.declared.version.Version.{Version}
+use Rattle.ilk_net_read.specs.Document.{Parts}
 use Rattle.ilk_table_read.specs.Route.{as_route}
 
 -- route i: F3 where the value isn't one of this version, then F5, its names, then F6, its lists
@@ -22,12 +23,15 @@ route_of version i d = do
   route ← checked route_has_names (broken F5 (Route i)) found
   checked route_has_limits (broken F6 (Route i)) route
 
--- the table: the document, then the routes of its version in order
-abbrev pub table_of : Data → Result TableDraft FormFault
-table_of d = do
-  document ← document_of d
+-- the table of a document: the routes of its version in order
+abbrev pub table_in : Parts → Result TableDraft FormFault
+table_in document = do
   routes ← in_order (route_of document.version) 0 (entries_of document.routes)
   Ok (record { routes = routes })
+
+-- the table: the document, then its routes
+abbrev pub table_of : Data → Result TableDraft FormFault
+table_of d = document_of d >>= table_in
 
 -- the two drafts of a configuration of these bytes, or the one fault: the first rule that is broken of
 -- its text, of the document, of the sections in order and then of the routes in order

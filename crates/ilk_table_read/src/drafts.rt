@@ -5,8 +5,8 @@ ghost use Rattle.ilk_net_read.specs.Fault.{Gives};
 ghost use Rattle.ilk_plant.specs.Limits.{HasLimits};
 ghost use Rattle.ilk_table_read.specs.Table.{drafts_of};
 
-use crate::table::read_table;
-use ilk_net_read::{FormError, read_network, read_value};
+use crate::table::table_in;
+use ilk_net_read::{FormError, document_of, network_in, read_value};
 use ilk_plant::{NetDraft, TableDraft};
 use std::alloc::Global;
 
@@ -18,7 +18,8 @@ pub fn read_drafts(alloc: Global, bytes: &[u8]) -> Result<(NetDraft, TableDraft)
     ensures limits { IfOk result (λ drafts. HasLimits drafts.0 drafts.1) }
 {
     let value = read_value(alloc, bytes)?;
-    let net = read_network(alloc, &value)?;
-    let table = read_table(alloc, &value)?;
+    let document = document_of(&value)?;
+    let net = network_in(alloc, &document)?;
+    let table = table_in(alloc, &document)?;
     Ok((net, table))
 }

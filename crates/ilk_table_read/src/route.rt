@@ -1,6 +1,6 @@
 //! The routes.
 
-ghost use Rattle.std.specs.Prelude.{◌≡◌, ◌&&◌, codes, nat_le, true, IfOk};
+ghost use Rattle.std.specs.Prelude.{◌≡◌, ◌&&◌, codes, true, IfOk};
 ghost use Rattle.std.specs.List.{list_all};
 ghost use Rattle.serde_json.specs.View.{view};
 ghost use Rattle.ilk_plant.specs.Limits.{route_has_limits, route_has_names};

@@ -7,10 +7,11 @@ ghost use Rattle.ilk_plant.specs.Limits.{TableHasLimits, route_has_limits, route
 ghost use Rattle.ilk_net_read.specs.Fault.{Gives};
 ghost use Rattle.ilk_base.specs.Result.{in_order};
 ghost use Rattle.ilk_net_read.specs.Member.{entries_of};
-ghost use Rattle.ilk_table_read.specs.Table.{table_of, route_of};
+ghost use Rattle.ilk_net_read.specs.Seen.{HasAllowedCounts, seen};
+ghost use Rattle.ilk_table_read.specs.Table.{route_of, table_in, table_of};
 
 use crate::route::route_of;
-use ilk_net_read::{FormError, Version, document_of};
+use ilk_net_read::{Document, FormError, Version, document_of};
 use ilk_plant::{MAX_ROUTES, RouteDraft, Row, TableDraft};
 use serde_json::Value;
 use std::alloc::Global;
@@ -30,6 +31,18 @@ fn routes(alloc: Global, version: Version, values: &[Value]) -> Result<Row<Route
     Ok(routes)
 }
 
+/// The table of routes of a document, or the first rule of the form that is broken in its routes in
+/// order (F3, then F5, then F6, of each).
+pub(crate) fn table_in(alloc: Global, document: &Document<'_>) -> Result<TableDraft, FormError>
+    requires { HasAllowedCounts (seen document.now) }
+    ensures exact { Gives result (table_in (seen document.now)) }
+    // no more routes than are allowed, each with lists within their limits, whose texts are names
+    ensures limits { IfOk result TableHasLimits }
+{
+    let routes = routes(alloc, document.version, document.routes)?;
+    Ok(TableDraft { routes })
+}
+
 /// The table of routes of a configuration, or the first rule of the form that is broken in the
 /// document (F3, F4, F6) or else in its routes in order (F3, then F5, then F6, of each).
 pub fn read_table(alloc: Global, value: &Value) -> Result<TableDraft, FormError>
@@ -38,6 +51,5 @@ pub fn read_table(alloc: Global, value: &Value) -> Result<TableDraft, FormError>
     ensures limits { IfOk result TableHasLimits }
 {
     let document = document_of(value)?;
-    let routes = routes(alloc, document.version, document.routes)?;
-    Ok(TableDraft { routes })
+    table_in(alloc, &document)
 }

@@ -8,6 +8,7 @@ use Rattle.std.proofs.lemmas.List.{length-map}
 use Rattle.std.proofs.lemmas.List.Folds.{list_all-map}
 use Rattle.std.proofs.lemmas.List.FromFn.{length-enumerate_from}
 use Rattle.std.proofs.lemmas.Option.{get_or_from_slice_get, slice_get_within}
+use Rattle.std.proofs.lemmas.Bool.{le-leb}
 use Rattle.ilk_base.proofs.Lists.{item_at}
 use Rattle.ilk_base.proofs.ListTests.{all-at, made-at}
 use Rattle.ilk_base.proofs.Options.{bind_some}
@@ -47,9 +48,6 @@ use Rattle.ilk_tablegen.specs.Table.{name_of, named_point, named_route, network_
 use Rattle.ilk_tablegen.specs.Ways.{all_ways, first_without_end}
 use Rattle.ilk_tablegen.specs.declared.walks.Walks.TheVariants.{Routes, TooLong, TooMany}
 use Rattle.ilk_tablegen.specs.declared.ways.Way.{Way}
-
-tests-within : (x n : ℕ) → x ≤ n → nat_le x n ≡ true
-tests-within x n h = grind (arith, nat_tests)
 
 -- the route of a way speaks of what there is
 module _ (p : PlantLists) (plant : IsPlant p) (n : ℕ) (way : Way) (of : IsWayOf p way) where
@@ -112,7 +110,7 @@ module _ (p : PlantLists) (plant : IsPlant p) (n : ℕ) (way : Way) (of : IsWayO
           let walk = of.walk in
           let some = way-begins p way.from.dir way.from.section way.path walk.leads in
           let short = walk.short in
-          both_true (tests-within 1 (length (map (name_of p.section_names) way.path)) (omega (arith, count, some))) (tests-within (length (map (name_of p.section_names) way.path)) 32 (omega (arith, count, short)))
+          both_true (le-leb 1 (length (map (name_of p.section_names) way.path)) (omega (arith, count, some))) (le-leb (length (map (name_of p.section_names) way.path)) 32 (omega (arith, count, short)))
 
       points : nat_le (length (map (named_point p) (points_along p way.from.section way.path))) 40 ≡ true
       points =
@@ -120,13 +118,13 @@ module _ (p : PlantLists) (plant : IsPlant p) (n : ℕ) (way : Way) (of : IsWayO
           let fewer = listed-few p way.from.section way.path in
           let walk = of.walk in
           let short = walk.short in
-          tests-within (length (map (named_point p) (points_along p way.from.section way.path))) 40 (omega (arith, count, fewer, short))
+          le-leb (length (map (named_point p) (points_along p way.from.section way.path))) 40 (omega (arith, count, fewer, short))
 
       conflicts : nat_le (length (map route_name (route_of_way p (all_paths p) n way).conflicts)) 256 ≡ true
       conflicts =
           let count = length-map (route_of_way p (all_paths p) n way).conflicts route_name in
           let fewer = conflicts-few (all_paths p) n way.path in
-          tests-within (length (map route_name (route_of_way p (all_paths p) n way).conflicts)) 256 (omega (arith, count, fewer, few))
+          le-leb (length (map route_name (route_of_way p (all_paths p) n way).conflicts)) 256 (omega (arith, count, fewer, few))
 
   pub names-way : length (all_paths p) ≤ MAX_ROUTES → n < length (all_paths p) → route_has_names draft ≡ true
   names-way few less =

@@ -9,7 +9,6 @@ pub mod FoundSound
 mod Grown
 mod IsWay
 mod KeepsRules
-mod LastItem
 mod NetworkBack
 mod NumberedBack
 mod PathPoints

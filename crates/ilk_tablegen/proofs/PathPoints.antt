@@ -52,11 +52,6 @@ no-point p before x after h =
 abbrev numbers : List Listed → List ℕ
 numbers points = map (λ listed. listed.point) points
 
--- the numbers of what is listed of one section: none, or its own
-listed-one : (x : ℕ) (o : Option Position) → (numbers (option_to_list (option_map (λ at. record { point = x; at = at }) o)) ≡ []) ⊎ (numbers (option_to_list (option_map (λ at. record { point = x; at = at }) o)) ≡ x ∷ [])
-listed-one x None = inl refl
-listed-one x (Some at) = inr refl
-
 -- what stands on no path isn't listed of it
 pub not-listed : (p : PlantLists) (z before : ℕ) (path : List ℕ) → has_section z path ≡ false → has_section z (numbers (points_along p before path)) ≡ false
 not-listed p z before [] h = refl

@@ -1,9 +1,8 @@
 -- The rules of the table and of the columns that ask one route: the route of a way keeps each.
-use Rattle.std.proofs.Common.{◌≡◌, ℕ, ◌<◌, true, not, ◌&&◌, Option, Some, None, All, List, [], ◌∷◌, ◌++◌, append-nil, length, nat_lt, refl, ◌∙◌, ap, arith}
+use Rattle.std.proofs.Common.{◌≡◌, ℕ, ◌<◌, true, not, ◌&&◌, Option, Some, None, All, List, [], ◌∷◌, ◌++◌, append-nil, length, refl, ◌∙◌, ap}
 use Rattle.std.specs.List.{list_all}
 use Rattle.std.specs.Cmp.Derive.{both_true}
-use Rattle.std.proofs.lemmas.Bool.{and_parts}
-use Rattle.std.proofs.lemmas.Bool.Decides.{nat_tests}
+use Rattle.std.proofs.lemmas.Bool.{and_parts, lt-ltb}
 use Rattle.std.proofs.lemmas.Option.{slice_get_within}
 use Rattle.ilk_base.proofs.ListTests.{all-at}
 use Rattle.ilk_base.proofs.Options.{bind_some}
@@ -37,9 +36,6 @@ with_routes p routes names = record {
   route_names = names;
 }
 
-tests-below : (x n : ℕ) → x < n → nat_lt x n ≡ true
-tests-below x n h = grind (arith, nat_tests)
-
 module _ (p : PlantLists) (plant : IsPlant p) (walks : NeverReturns p) (routes : List Route) (names : List (List ℕ)) (paths : List (List ℕ)) (n : ℕ) (way : Way) (of : IsWayOf p way) where
   abbrev q : PlantLists
   q = with_routes p routes names
@@ -54,13 +50,13 @@ module _ (p : PlantLists) (plant : IsPlant p) (walks : NeverReturns p) (routes :
   within = way-within p plant way.from.dir way.from.section way.path leads
 
   pub keeps-source : has_source q made ≡ true
-  keeps-source = tests-below way.source (length p.boards) (slice_get_within p.boards way.source way.from of.board)
+  keeps-source = lt-ltb way.source (length p.boards) (slice_get_within p.boards way.source way.from of.board)
 
   pub keeps-sections : has_sections_once q made ≡ true
   keeps-sections =
       let once : none_twice (way.from.section ∷ way.path) ≡ true = walks way.from.dir way.from.section way.path (way-leads p way.from.dir way.from.section way.path leads) in
       ap (λ l. list_all (is_section q) l && none_twice l) (append-nil way.path)
-      ∙ both_true (all-pass (is_section q) way.path (λ i x at. tests-below x (length p.sections) (all-at (λ y. y < length p.sections) way.path i x within at))) (and_parts (not (has_section way.from.section way.path)) (none_twice way.path) once).1
+      ∙ both_true (all-pass (is_section q) way.path (λ i x at. lt-ltb x (length p.sections) (all-at (λ y. y < length p.sections) way.path i x within at))) (and_parts (not (has_section way.from.section way.path)) (none_twice way.path) once).1
 
   pub keeps-points : has_points_once q made ≡ true
   keeps-points =
@@ -75,7 +71,7 @@ module _ (p : PlantLists) (plant : IsPlant p) (walks : NeverReturns p) (routes :
       by_board None is = refl
       by_board (Some m) is =
           let found : (x : ℕ) × (last_of way.path ≡ Some x) × (board_of p x way.from.dir ≡ Some m) = bind_some (last_of way.path) (λ x. board_of p x way.from.dir) m is in
-          tests-below m (length p.boards) (plant.boards_known found.0 m way.from.dir found.2)
+          lt-ltb m (length p.boards) (plant.boards_known found.0 m way.from.dir found.2)
 
   pub keeps-conflicts : length routes ≡ length paths → has_conflicts_once q n made ≡ true
   keeps-conflicts count =

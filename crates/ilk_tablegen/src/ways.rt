@@ -17,7 +17,7 @@ pub struct Way {
 }
 
 /// The last section of a way. None where it has come to none yet.
-#[tactic(auto, using(crate::proofs::LastItem::last_item))]
+#[tactic(auto, using(ilk_base::proofs::Lists::last_item))]
 pub fn last_section(way: &Way) -> Option<u32>
     ensures { result ≡ last_of way.now.path }
 {

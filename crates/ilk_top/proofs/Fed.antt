@@ -1,17 +1,13 @@
 -- What a reader was fed of a source, by calls that follow one another.
-use Rattle.std.proofs.Common.{◌≡◌, ℕ, ◌+◌, ◌<◌, ◌≤◌, IfErr, IfOk, Option, Result, Ok, Err, List, [], ◌++◌, length, append-nil, append_assoc, refl, ap, subst, sym, length-append, arith}
+use Rattle.std.proofs.Common.{◌≡◌, ℕ, ◌+◌, ◌≤◌, IfErr, IfOk, Option, Result, Ok, Err, List, ◌++◌, length, append_assoc, ap, subst, sym, length-append, arith}
 use Rattle.ilk_answers.specs.Reader.{HasRead, WasFed}
 use Rattle.ilk_answers.specs.declared.reader.Reader.{Reader}
-use Rattle.ilk_io.proofs.Taken.{Takes-none, Takes-then, Takes-whole, Takes-longer}
+use Rattle.ilk_io.proofs.Taken.{Takes-then}
 use Rattle.ilk_io.specs.ReadError.{HasCause}
 use Rattle.ilk_io.specs.declared.reading.ReadError.{ReadError}
 use Rattle.ilk_io.specs.declared.reading.ReadError.TheVariants.{TooLong}
-use Rattle.ilk_io.specs.Source.{IsAtEnd, IsLonger, Takes, TakesAtMost}
+use Rattle.ilk_io.specs.Source.{IsLonger, Takes, TakesAtMost}
 use Rattle.ilk_top.specs.Feeding.{WasFedWhole}
-
--- a reader that was fed nothing was fed no bytes
-WasFed-none : (reader : Reader) → WasFed reader reader []
-WasFed-none reader command p read h = subst (HasRead command p reader) (sym (append-nil read)) h
 
 -- what was fed in two pieces was fed
 WasFed-then : (first second third : Reader) (front back : List ℕ) → WasFed first second front → WasFed second third back → WasFed first third (front ++ back)
@@ -25,10 +21,6 @@ pub record Fed (old new : Option (List ℕ)) (before reader : Reader) (count : �
   pub fed : WasFed before reader done
   pub counted : length done ≡ count
 
--- nothing was taken yet
-pub Fed-none : (old : Option (List ℕ)) (reader : Reader) → Fed old old reader reader 0
-Fed-none old reader = record { done = []; takes = Takes-none old old refl; fed = WasFed-none reader; counted = refl }
-
 -- the next piece was taken too, and fed to the reader
 pub Fed-more : (old new after : Option (List ℕ)) (before reader more : Reader) (count : ℕ) (piece given : List ℕ) (n : ℕ) → Fed old new before reader count → Takes new after piece → length piece ≡ n → given ≡ piece → WasFed reader more given → Fed old after before more (count + n)
 Fed-more old new after before reader more count piece given n so_far takes same whole fed = record {
@@ -37,23 +29,6 @@ Fed-more old new after before reader more count piece given n so_far takes same 
   fed = subst (WasFed before more) (ap (λ last. so_far.done ++ last) whole) (WasFed-then before reader more so_far.done given so_far.fed fed);
   counted = omega (arith, length-append so_far.done piece, so_far.counted, same);
 }
-
--- what was taken up to the end is all that was left
-pub Fed-whole : (old new : Option (List ℕ)) (before reader : Reader) (count limit : ℕ) → Fed old new before reader count → IsAtEnd new → count ≤ limit → WasFedWhole old limit before reader
-Fed-whole old new before reader count limit fed end within = record {
-  bytes = fed.done;
-  fed = fed.fed;
-  whole = Takes-whole old new fed.done fed.takes end;
-  within = omega (arith, fed.counted, within);
-}
-
--- what was taken was there
-pub Fed-longer : (old new : Option (List ℕ)) (before reader : Reader) (count limit : ℕ) → Fed old new before reader count → limit < count → IsLonger old limit
-Fed-longer old new before reader count limit fed more =
-    Takes-longer old new fed.done limit fed.takes (omega (arith, fed.counted, more))
-
-pub Fed-taken : (old new : Option (List ℕ)) (before reader : Reader) (count n : ℕ) → Fed old new before reader count → count ≤ n → TakesAtMost n old new
-Fed-taken old new before reader count n fed within = (fed.done, omega (arith, fed.counted, within), fed.takes)
 
 -- with a further piece, that the reader may have had no memory for
 pub Fed-then : (old new after : Option (List ℕ)) (before reader : Reader) (count : ℕ) (piece : List ℕ) (n : ℕ) → Fed old new before reader count → Takes new after piece → count + length piece ≤ n → TakesAtMost n old after

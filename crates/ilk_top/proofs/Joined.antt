@@ -1,7 +1,7 @@
 -- What the stages did to their sources, joined.
 use Rattle.std.proofs.Common.{◌≡◌, ℕ, Bool, true, false, Option, Some, None, IfOk, IfSome, Result, Ok, Err, List, [], inl, inr, refl, ap, subst, sym, is_ok, option_map, arith, ◌∙◌}
 use Rattle.std.specs.Prelude.{◌≢◌}
-use Rattle.ilk_answers.specs.Answer.{AnswersAlone, AnswersConf, AnswersFound, IsAnswerTo, comes_to_extra, conf_limit, found_by, plant_of}
+use Rattle.ilk_answers.specs.Answer.{AnswersConf, AnswersFound, IsAnswerTo, comes_to_extra, conf_limit, found_by, plant_of}
 use Rattle.ilk_answers.specs.Besides.{AnswersSome}
 use Rattle.ilk_answers.specs.declared.refusals.Refusals.{Refusals}
 use Rattle.ilk_answers.specs.declared.reply.Reply.{Reply}
@@ -43,11 +43,6 @@ read-needed left needed (Some limit) came old new h r = record {
   end = λ e. elim (r.end e) [ inl same ↦ absurd (same.0 refl) | inr ended ↦ inr ended ];
 }
 
--- a count that is told by one fault is told by another that comes exactly there
-pub rises-as : (fault told : Type 0) (old new : ℕ) → (told → fault) → RisesOnlyAt told old new → RisesOnlyAt fault old new
-rises-as fault told old new from r =
-    record { counted = r.counted; unraised = λ untold. r.unraised (λ it. untold (from it)) }
-
 -- a count that stands still
 pub rises-not : (fault : Type 0) (n : ℕ) → RisesOnlyAt fault n n
 rises-not fault n = record { counted = omega arith; unraised = λ untold. refl }
@@ -86,12 +81,6 @@ answer-told command stages (Some c) extra found (Ok made) s k some =
     let Found : Result PlantLists Refusals → Type 0 = λ f. AnswersFound command f extra made in
     subst Told (sym s) (subst Found k (some-answer command found extra made some))
 
--- what a command answers that reads no configuration is the answer
-pub alone-told : {E : Type 0} (command : Command) (left extra : Option (List ℕ)) (made : Result Reply E) → (plan_of command).stages ≡ None → IfOk made (AnswersAlone command) → IfOk made (IsAnswerTo (Some command) left extra)
-alone-told command left extra (Err e) s told = tt
-alone-told command left extra (Ok made) s told =
-    let Told : Option Stages → Type 0 = λ o. AnswersConf o command left extra made in subst Told (sym s) told
-
 -- ---- both sources
 
 module _ {C D : Type 0} (conf_left : C → Option (List ℕ)) (conf_faults : C → ℕ) (extra_left : D → Option (List ℕ)) (extra_faults : D → ℕ) (plan : Plan) (stages : Stages) (conf_old conf_new : C) (planned : plan.stages ≡ Some stages) where
@@ -100,16 +89,6 @@ module _ {C D : Type 0} (conf_left : C → Option (List ℕ)) (conf_faults : C �
   conf-read came r =
       let Read : Option Stages → Type 0 = λ s. ReadByPlan conf_left (Some true) (option_map (λ x. MAX_CONFIGURATION) s) came conf_old conf_new in
       subst Read (sym planned) r
-
-  -- the configuration didn't come to an end, and the second source wasn't touched
-  pub conf-alone : (fault told : Type 0) (extra : D) → (fault → told) → (told → fault) → SourceHandled conf_left conf_faults (Some true) (Some MAX_CONFIGURATION) told false conf_old conf_new → SourcesHandled conf_left conf_faults extra_left extra_faults plan fault false conf_old conf_new extra extra
-  conf-alone fault told extra to from h = record {
-    read_fault = λ f. inl (h.failed (to f), refl);
-    conf_rises = rises-as fault told _ _ from h.rises;
-    extra_rises = rises-not fault (extra_faults extra);
-    conf_read = conf-read false h.read;
-    extra_read = untouched extra_left _ _ false extra (λ e. absurd (cc));
-  }
 
   -- it did, and the second source was handled, or wasn't needed
   pub conf-first : (fault told : Type 0) (came : Bool) (extra_old extra_new : D) → ¬ told → SourceHandled conf_left conf_faults (Some true) (Some MAX_CONFIGURATION) told true conf_old conf_new → ReadByPlan extra_left (comes_to_extra plan (conf_left conf_old)) plan.extra came extra_old extra_new → (fault → RoseByOne (extra_faults extra_old) (extra_faults extra_new)) → RisesOnlyAt fault (extra_faults extra_old) (extra_faults extra_new) → SourcesHandled conf_left conf_faults extra_left extra_faults plan fault came conf_old conf_new extra_old extra_new
@@ -120,29 +99,3 @@ module _ {C D : Type 0} (conf_left : C → Option (List ℕ)) (conf_faults : C �
     conf_read = conf-read came (read-came conf_left (Some true) (Some MAX_CONFIGURATION) true came conf_old conf_new (λ c. refl) h.read);
     extra_read = read;
   }
-
--- a plan that reads no configuration has no source touched
-pub sources-alone : {C D : Type 0} (conf_left : C → Option (List ℕ)) (conf_faults : C → ℕ) (extra_left : D → Option (List ℕ)) (extra_faults : D → ℕ) (plan : Plan) (conf : C) (extra : D) (fault : Type 0) (came : Bool) → plan.stages ≡ None → ¬ fault → SourcesHandled conf_left conf_faults extra_left extra_faults plan fault came conf conf extra extra
-sources-alone conf_left conf_faults extra_left extra_faults plan conf extra fault came none never = record {
-  read_fault = λ f. absurd (never f);
-  conf_rises = rises-not fault (conf_faults conf);
-  extra_rises = rises-not fault (extra_faults extra);
-  conf_read = unread;
-  extra_read = untouched extra_left _ _ came extra (λ c. spare);
-}
-  where
-    unread : ReadByPlan conf_left (Some true) (conf_limit plan) came conf conf
-    unread = rw none refl
-
-    spare : comes_to_extra plan (conf_left conf) ≢ Some true
-    spare = rw none (λ e. absurd (cc))
-
--- what holds of the sources with one word for the fault, and for how far the call came, holds with another that says the same
-pub sources-as : {C D : Type 0} (conf_left : C → Option (List ℕ)) (conf_faults : C → ℕ) (extra_left : D → Option (List ℕ)) (extra_faults : D → ℕ) (plan : Plan) (fault told : Type 0) (came c : Bool) (conf_old conf_new : C) (extra_old extra_new : D) → (fault → told) → (told → fault) → c ≡ came → SourcesHandled conf_left conf_faults extra_left extra_faults plan told c conf_old conf_new extra_old extra_new → SourcesHandled conf_left conf_faults extra_left extra_faults plan fault came conf_old conf_new extra_old extra_new
-sources-as conf_left conf_faults extra_left extra_faults plan fault told came c conf_old conf_new extra_old extra_new to from same h = record {
-  read_fault = λ f. h.read_fault (to f);
-  conf_rises = rises-as fault told _ _ from h.conf_rises;
-  extra_rises = rises-as fault told _ _ from h.extra_rises;
-  conf_read = read-came conf_left _ _ c came conf_old conf_new (λ e. same ∙ e) h.conf_read;
-  extra_read = read-came extra_left _ _ c came extra_old extra_new (λ e. same ∙ e) h.extra_read;
-}

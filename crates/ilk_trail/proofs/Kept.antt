@@ -9,14 +9,14 @@ use Rattle.std.proofs.lemmas.List.{length-map, get_or-set_same, get_or-set_other
 use Rattle.std.proofs.Math.ListN.{length-set}
 use Rattle.ilk_cnf.specs.Literal.{Literal}
 use Rattle.ilk_cnf.specs.Formula.{lit_in}
-use Rattle.ilk_cnf.proofs.Literals.{vars_differ-push}
+use Rattle.ilk_cnf.proofs.Literals.{vars_differ-push, lit_in-parts}
 use Rattle.ilk_trail.specs.declared.entry.Entry.{Entry}
 use Rattle.ilk_trail.specs.Trail.{TrailList, entry_of, last_level, level_of}
 use Rattle.ilk_trail.specs.Laws.{IsTrail, is_level_next, is_set, lits_of}
 use Rattle.ilk_trail.specs.Stored.{Stored}
 use Rattle.ilk_base.proofs.Lists.{slice_get-push_cases, at-before}
 use Rattle.ilk_trail.proofs.Entries.{lits_of-push, entry_of-unset, entry_of-other, entry_of-new, found, set-at}
-use Rattle.ilk_trail.proofs.Literals.{lit_in-parts, vars_differ-front, clause_in-push, clause_in-front, count_of_vars}
+use Rattle.ilk_trail.proofs.Literals.{vars_differ-front, clause_in-push, clause_in-front, count_of_vars}
 use Rattle.ilk_trail.proofs.Values.{set_both, length-set_both, set_both-same, set_both-other}
 use Rattle.ilk_trail.proofs.Levels.{climbs-push, climbs-front, level-small}
 

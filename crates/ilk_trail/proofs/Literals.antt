@@ -3,14 +3,12 @@ use Rattle.std.proofs.Common.{◌≡◌, ℕ, ◌+◌, ◌<◌, ◌≤◌, inl, 
 use Rattle.std.specs.List.{list_any, IsDistinct, AllByRecursion}
 use Rattle.std.proofs.lemmas.List.{length-map}
 use Rattle.std.proofs.lemmas.List.Folds.{list_any-append}
-use Rattle.std.proofs.lemmas.Bool.{and_parts, and_from, or_cases, or_parts, or_from, ltb-true, leb-true, eqb-true, eqb-false, ne_eqb, not-true, not_from_false}
+use Rattle.std.proofs.lemmas.Bool.{and_parts, and_from, or_cases, or_parts, or_from, eqb-true, eqb-false, ne_eqb, not-true, not_from_false}
 use Rattle.std.proofs.lemmas.Map.Keys.{IsDistinct-cons}
 use Rattle.std.proofs.lemmas.Map.Steps.{length-le_from_distinct_below}
 use Rattle.ilk_cnf.specs.Literal.{Literal, has_var, vars_differ}
 use Rattle.ilk_cnf.specs.Formula.{lit_in, clause_in}
-
-pub lit_in-parts : (n : ℕ) (l : Literal) → lit_in n l ≡ true → (0 < l.var) × (l.var ≤ n)
-lit_in-parts n l h = (let p = and_parts _ _ h in (ltb-true 0 l.var p.0, leb-true l.var n p.1))
+use Rattle.ilk_cnf.proofs.Literals.{lit_in-parts}
 
 -- the literals without the last
 pub vars_differ-front : (ls : List Literal) (l : Literal) → vars_differ (ls ++ l ∷ []) ≡ true → (vars_differ ls ≡ true) × (has_var l.var ls ≡ false)

@@ -2,7 +2,7 @@ ghost use Rattle.std.specs.Prelude.{◌≡◌, ◌+◌, ◌*◌, ◌<◌, ◌≤
 ghost use Rattle.std.specs.List.{list_all};
 ghost use Rattle.ilk_cnf.specs.Formula.{grown, with_vars};
 ghost use Rattle.ilk_cnf.specs.Part.{with_part, as_clauses, and_then};
-ghost use Rattle.ilk_ir.specs.System.{rule_tree, rule_valid, system_tree, system_valid};
+ghost use Rattle.ilk_ir.specs.System.{rule_tree, system_tree, system_valid};
 ghost use Rattle.ilk_copy.specs.Copy.{total_bits, copy_width};
 ghost use Rattle.ilk_unroll.specs.Query.{copies_part, steps_part};
 ghost use Rattle.ilk_unroll.specs.Tables.{tables_in, HaveRanges, step_choices, choices_numbered};

@@ -14,6 +14,7 @@ mod lengths;
 mod limits;
 mod line;
 mod number;
+mod options;
 mod plan;
 mod read;
 

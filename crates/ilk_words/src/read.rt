@@ -1,29 +1,22 @@
 //! What a line means: `chosen` finds the command by its name, and each command has a function that
-//! takes what the line has of its options.
-ghost use Rattle.std.specs.Prelude.{◌≡◌, ◌||◌, IfOk, IfSome, IsTrue, is_none, map, string_bytes};
+//! takes what the line has of its options (`options`).
+ghost use Rattle.std.specs.Prelude.{◌≡◌, IfOk, IfSome, IsTrue, map, string_bytes};
 ghost use Rattle.clap.specs.Words.{first_value, found_of};
-ghost use Rattle.std.specs.List.{list_all, list_any};
-ghost use Rattle.std.specs.Str.{bytes_eq};
-ghost use Rattle.ilk_words.specs.Commands.{audit_command, check_command, columns_of, demo_command, drive_command};
-ghost use Rattle.ilk_words.specs.Commands.{export_command, make_command, query_of, replay_command, rup_command};
+ghost use Rattle.ilk_words.specs.Commands.{audit_command, check_command, demo_command, drive_command};
+ghost use Rattle.ilk_words.specs.Commands.{export_command, make_command, replay_command, rup_command};
 ghost use Rattle.ilk_words.specs.Commands.{table_command, verify_command};
 ghost use Rattle.ilk_words.specs.Limits.{has_option_limits};
-ghost use Rattle.ilk_words.specs.Options.{conflicts_option, depth_option, number_of_option};
-ghost use Rattle.ilk_words.specs.Options.{number_option, stations_option};
-ghost use Rattle.ilk_words.specs.Words.{command_of, command_on, has_only, on_line};
+ghost use Rattle.ilk_words.specs.Words.{command_of, command_on, on_line};
 
+use crate::Command;
 use crate::line::{
-    AUDIT, CERT, CHECK, COLUMNS, CONFLICTS, DEMO, DEPTH, DRIVE, EXPORT, MAKE, NUMBER, OPTIONS,
-    QUERY, REPLAY, RUN, RUP, STATIONS, TABLE, VERIFY, line_command,
+    AUDIT, CERT, CHECK, COLUMNS, CONFLICTS, DEMO, DEPTH, DRIVE, EXPORT, MAKE, NUMBER, QUERY,
+    REPLAY, RUN, RUP, STATIONS, TABLE, VERIFY, line_command,
 };
-use crate::number::number_between;
-use crate::{
-    Columns, Command, DEFAULT_DEPTH, DEFAULT_SEARCH_CONFLICTS, MAX_DEPTH, MAX_NUMBER,
-    MAX_SEARCH_CONFLICTS, MAX_STATIONS, QueryKind,
-};
+use crate::options::{columns, conflicts, depth, has_only, number, query, stations};
 use clap::ArgMatches;
 use clap::error::ErrorKind;
-use ilk_base::{Text, Worded};
+use ilk_base::Text;
 use std::alloc::{AllocError, Global};
 
 /// What the words of the command line ask for, the program's name first. `None` where `clap`
@@ -229,85 +222,4 @@ fn drive(alloc: Global, matches: &ArgMatches<'_>) -> Result<Option<Command>, All
     };
     let run = Text::of(String::from_str(alloc, run)?);
     Ok(Some(Command::Drive { columns, run }))
-}
-
-// Whether no option is on the line but these.
-fn has_only(matches: &ArgMatches<'_>, own: &[&str]) -> bool
-    ensures { result ≡ has_only (first_value (found_of matches.now)) (λ name. list_any (λ o. bytes_eq name o.now) own.now) }
-{
-    each_allowed(matches, OPTIONS.as_slice(), own)
-}
-
-// Whether each of these options isn't on the line, or is one of a command's own.
-fn each_allowed(matches: &ArgMatches<'_>, options: &[&str], own: &[&str]) -> bool
-    ensures { result ≡ list_all (λ name. is_none (first_value (found_of matches.now) name.now) || list_any (λ o. bytes_eq name.now o.now) own.now) options.now }
-{
-    options
-        .iter()
-        .all(|option| is_allowed(matches, own, option))
-}
-
-// Whether an option isn't on the line, or is one of these.
-fn is_allowed(matches: &ArgMatches<'_>, own: &[&str], option: &str) -> bool
-    ensures { result ≡ (is_none (first_value (found_of matches.now) option.now) || list_any (λ o. bytes_eq option.now o.now) own.now) }
-{
-    matches.get_str(option).is_none() || is_among(own, option)
-}
-
-// Whether an option is one of these.
-fn is_among(own: &[&str], option: &str) -> bool
-    ensures { result ≡ list_any (λ o. bytes_eq option.now o.now) own.now }
-{
-    own.iter().any(|name| option == *name)
-}
-
-// How strict the checks are to be: strict, where the line doesn't say.
-fn columns(matches: &ArgMatches<'_>) -> Option<Columns>
-    ensures { result ≡ columns_of (first_value (found_of matches.now)) }
-{
-    let word = matches.get_str(COLUMNS).unwrap_or(Columns::Strict.word());
-    Columns::of_word(word.as_bytes())
-}
-
-// The most events of the runs that are asked for: the default, where the line doesn't say.
-fn depth(matches: &ArgMatches<'_>) -> Option<u32>
-    ensures { result ≡ number_of_option (first_value (found_of matches.now)) depth_option }
-{
-    match matches.get_str(DEPTH) {
-        Some(value) => Some(number_between(value, 1, MAX_DEPTH)? as u32),
-        None => Some(DEFAULT_DEPTH as u32),
-    }
-}
-
-// The most conflicts of the searches: the default, where the line doesn't say.
-fn conflicts(matches: &ArgMatches<'_>) -> Option<u64>
-    ensures { result ≡ number_of_option (first_value (found_of matches.now)) conflicts_option }
-{
-    match matches.get_str(CONFLICTS) {
-        Some(value) => number_between(value, 0, MAX_SEARCH_CONFLICTS),
-        None => Some(DEFAULT_SEARCH_CONFLICTS),
-    }
-}
-
-// How many stations are made. None where the line doesn't say.
-fn stations(matches: &ArgMatches<'_>) -> Option<u32>
-    ensures { result ≡ number_of_option (first_value (found_of matches.now)) stations_option }
-{
-    let stations = number_between(matches.get_str(STATIONS)?, 1, MAX_STATIONS)?;
-    Some(stations as u32)
-}
-
-// The kind of the query. None where the line doesn't say.
-fn query(matches: &ArgMatches<'_>) -> Option<QueryKind>
-    ensures { result ≡ query_of (first_value (found_of matches.now)) }
-{
-    QueryKind::of_word(matches.get_str(QUERY)?.as_bytes())
-}
-
-// The number of the query. None where the line doesn't say.
-fn number(matches: &ArgMatches<'_>) -> Option<u32>
-    ensures { result ≡ number_of_option (first_value (found_of matches.now)) number_option }
-{
-    let number = number_between(matches.get_str(NUMBER)?, 0, MAX_NUMBER)?;
-    Some(number as u32)
 }

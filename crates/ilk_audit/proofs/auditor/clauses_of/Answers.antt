@@ -2,7 +2,7 @@ use Rattle.std.proofs.Common.{◌≡◌, ◌+◌, ◌-◌, ◌∷◌, [], List, 
 use Rattle.std.specs.Prelude.{slice_get}
 use Rattle.ilk_cnf.specs.Formula.{Formula, grown}
 use Rattle.ilk_cnf.specs.Literal.{Literal}
-use Rattle.ilk_audit.proofs.Lists.{take-next}
+use Rattle.ilk_base.proofs.Lists.{take-next}
 use Rattle.ilk_audit.proofs.auditor.clauses_of.Goals as goal
 
 pub loop-number-preserved : goal.loop-number-preserved

@@ -1,6 +1,6 @@
 use Rattle.std.proofs.Common.{◌≡◌, true, false, Some, ◌+◌, drop, slice_get, is_some, ap, sym, ◌∙◌}
 use Rattle.ilk_base.proofs.Lists.{drop_from}
-use Rattle.ilk_plant.specs.Network.{has_section}
+use Rattle.ilk_base.specs.Numbers.{has_number}
 use Rattle.ilk_plant.specs.declared.state.State.{State}
 use Rattle.ilk_model.specs.Event.{next}
 use Rattle.ilk_drive.specs.Progress.{moment_of}
@@ -21,5 +21,5 @@ pub returns-clause-covers : goal.returns-clause-covers
 returns-clause-covers c =
     let enabled : is_some (next c.args.plant.now c.args.now.now.state c.in-Some.command.now) ≡ true = sym c.in_ok-apply.ensures.answer ∙ c.if-not-branch.false in
     covers-on c.args.plant.now c.is_sound.ensures c.args.now.now.state c.apply.new.s c.requires.shape c.in-Some.command.now (done-is _ c.args.now.now.state c.apply.new.s enabled c.in_ok-apply.ensures.next)
-    (λ j. has_section j c.args.now.now.candidates) c.requires.covers c.in_ok-places.places c.push_all.new.candidates c.in_ok-places.ensures
+    (λ j. has_number j c.args.now.now.candidates) c.requires.covers c.in_ok-places.places c.push_all.new.candidates c.in_ok-places.ensures
     c.in_ok-push_all.ensures.kept c.in_ok-push_all.ensures.added

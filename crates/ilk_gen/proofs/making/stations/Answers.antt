@@ -1,4 +1,4 @@
-use Rattle.std.proofs.Common.{◌≡◌, true, ap, ap₂, sym, subst₂, ◌∙◌}
+use Rattle.std.proofs.Common.{ap, ap₂, sym, subst₂, ◌∙◌}
 use Rattle.std.proofs.lemmas.Result.{IfOk-weaker}
 use Rattle.ilk_plant.specs.Limits.{HasLimits}
 use Rattle.ilk_net_read.specs.declared.version.Version.TheVariants.{First}

@@ -3,10 +3,10 @@ use Rattle.std.specs.List.{slice_get}
 use Rattle.ilk_base.proofs.Options.{mapped-Some}
 use Rattle.ilk_cnf.specs.Literal.{Literal}
 use Rattle.ilk_cnf.specs.Formula.{lit_in}
+use Rattle.ilk_cnf.proofs.Literals.{lit_in-parts}
 use Rattle.ilk_trail.specs.declared.entry.Entry.{Entry}
 use Rattle.ilk_trail.specs.Laws.{is_set}
 use Rattle.ilk_trail.proofs.Entries.{set-at, entry-within}
-use Rattle.ilk_trail.proofs.Literals.{lit_in-parts}
 use Rattle.ilk_solver.specs.Tree.{leaves_of}
 use Rattle.ilk_solver.proofs.Orders.{low-above, put-done, put-one}
 use Rattle.ilk_solver.proofs.order.put_above.Goals as goal

@@ -5,7 +5,7 @@ use Rattle.ilk_base.proofs.Lists.{drop_at}
 use Rattle.ilk_base.proofs.Tested.{list_all-slice_get}
 use Rattle.ilk_cnf.specs.Literal.{Literal, has_var, vars_differ}
 use Rattle.ilk_cnf.specs.Formula.{lit_in}
-use Rattle.ilk_trail.proofs.Literals.{lit_in-parts}
+use Rattle.ilk_cnf.proofs.Literals.{lit_in-parts}
 use Rattle.ilk_solver.proofs.Trees.{keeps-on}
 use Rattle.ilk_solver.proofs.Weights.{counted-step, differ-drop}
 use Rattle.ilk_solver.proofs.view.count_in.Goals as goal

@@ -5,12 +5,12 @@ use Rattle.ilk_arena.specs.Arena.{ArenaLists}
 use Rattle.ilk_base.proofs.Options.{mapped-Some}
 use Rattle.ilk_cnf.specs.Literal.{Literal, has_lit}
 use Rattle.ilk_cnf.specs.Formula.{clause_in, lit_in}
+use Rattle.ilk_cnf.proofs.Literals.{lit_in-parts}
 use Rattle.ilk_clauses.specs.Chained.{IsClauses}
 use Rattle.ilk_clauses.specs.Reasons.{is_conflict}
 use Rattle.ilk_trail.specs.declared.entry.Entry.{Entry}
 use Rattle.ilk_trail.specs.Laws.{lits_of}
 use Rattle.ilk_trail.proofs.Entries.{entry-within}
-use Rattle.ilk_trail.proofs.Literals.{lit_in-parts}
 use Rattle.ilk_rup.specs.LitSet.{LitSetList}
 use Rattle.ilk_rup.specs.Needs.{AreHints, Explains}
 use Rattle.ilk_rup.specs.Standing.{Held, IsClauseOf, IsStepAdded}

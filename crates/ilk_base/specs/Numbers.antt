@@ -1,0 +1,7 @@
+-- Lists of numbers, each of which names something.
+use Rattle.std.specs.Prelude.{ℕ, Bool, ◌==◌, List}
+use Rattle.std.specs.List.{list_any}
+
+-- whether a list of numbers has number n
+abbrev pub has_number : ℕ → List ℕ → Bool
+has_number n numbers = list_any (λ m. m == n) numbers

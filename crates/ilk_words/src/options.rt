@@ -1,0 +1,99 @@
+//! What a line has of each option, and whether it has others than a command's own.
+ghost use Rattle.std.specs.Prelude.{◌≡◌, ◌||◌, is_none};
+ghost use Rattle.clap.specs.Words.{first_value, found_of};
+ghost use Rattle.std.specs.List.{list_all, list_any};
+ghost use Rattle.std.specs.Str.{bytes_eq};
+ghost use Rattle.ilk_words.specs.Commands.{columns_of, query_of};
+ghost use Rattle.ilk_words.specs.Options.{conflicts_option, depth_option, number_of_option};
+ghost use Rattle.ilk_words.specs.Options.{number_option, stations_option};
+ghost use Rattle.ilk_words.specs.Words.{has_only};
+
+use crate::line::{COLUMNS, CONFLICTS, DEPTH, NUMBER, OPTIONS, QUERY, STATIONS};
+use crate::number::number_between;
+use crate::{
+    Columns, DEFAULT_DEPTH, DEFAULT_SEARCH_CONFLICTS, MAX_DEPTH, MAX_NUMBER, MAX_SEARCH_CONFLICTS,
+    MAX_STATIONS, QueryKind,
+};
+use clap::ArgMatches;
+use ilk_base::Worded;
+
+/// Whether no option is on the line but these.
+pub(crate) fn has_only(matches: &ArgMatches<'_>, own: &[&str]) -> bool
+    ensures { result ≡ has_only (first_value (found_of matches.now)) (λ name. list_any (λ o. bytes_eq name o.now) own.now) }
+{
+    each_allowed(matches, OPTIONS.as_slice(), own)
+}
+
+// Whether each of these options isn't on the line, or is one of a command's own.
+fn each_allowed(matches: &ArgMatches<'_>, options: &[&str], own: &[&str]) -> bool
+    ensures { result ≡ list_all (λ name. is_none (first_value (found_of matches.now) name.now) || list_any (λ o. bytes_eq name.now o.now) own.now) options.now }
+{
+    options
+        .iter()
+        .all(|option| is_allowed(matches, own, option))
+}
+
+// Whether an option isn't on the line, or is one of these.
+fn is_allowed(matches: &ArgMatches<'_>, own: &[&str], option: &str) -> bool
+    ensures { result ≡ (is_none (first_value (found_of matches.now) option.now) || list_any (λ o. bytes_eq option.now o.now) own.now) }
+{
+    matches.get_str(option).is_none() || is_among(own, option)
+}
+
+// Whether an option is one of these.
+fn is_among(own: &[&str], option: &str) -> bool
+    ensures { result ≡ list_any (λ o. bytes_eq option.now o.now) own.now }
+{
+    own.iter().any(|name| option == *name)
+}
+
+/// How strict the checks are to be: strict, where the line doesn't say.
+pub(crate) fn columns(matches: &ArgMatches<'_>) -> Option<Columns>
+    ensures { result ≡ columns_of (first_value (found_of matches.now)) }
+{
+    let word = matches.get_str(COLUMNS).unwrap_or(Columns::Strict.word());
+    Columns::of_word(word.as_bytes())
+}
+
+/// The most events of the runs that are asked for: the default, where the line doesn't say.
+pub(crate) fn depth(matches: &ArgMatches<'_>) -> Option<u32>
+    ensures { result ≡ number_of_option (first_value (found_of matches.now)) depth_option }
+{
+    match matches.get_str(DEPTH) {
+        Some(value) => Some(number_between(value, 1, MAX_DEPTH)? as u32),
+        None => Some(DEFAULT_DEPTH as u32),
+    }
+}
+
+/// The most conflicts of the searches: the default, where the line doesn't say.
+pub(crate) fn conflicts(matches: &ArgMatches<'_>) -> Option<u64>
+    ensures { result ≡ number_of_option (first_value (found_of matches.now)) conflicts_option }
+{
+    match matches.get_str(CONFLICTS) {
+        Some(value) => number_between(value, 0, MAX_SEARCH_CONFLICTS),
+        None => Some(DEFAULT_SEARCH_CONFLICTS),
+    }
+}
+
+/// How many stations are made. None where the line doesn't say.
+pub(crate) fn stations(matches: &ArgMatches<'_>) -> Option<u32>
+    ensures { result ≡ number_of_option (first_value (found_of matches.now)) stations_option }
+{
+    let stations = number_between(matches.get_str(STATIONS)?, 1, MAX_STATIONS)?;
+    Some(stations as u32)
+}
+
+/// The kind of the query. None where the line doesn't say.
+pub(crate) fn query(matches: &ArgMatches<'_>) -> Option<QueryKind>
+    ensures { result ≡ query_of (first_value (found_of matches.now)) }
+{
+    QueryKind::of_word(matches.get_str(QUERY)?.as_bytes())
+}
+
+/// The number of the query. None where the line doesn't say.
+pub(crate) fn number(matches: &ArgMatches<'_>) -> Option<u32>
+    ensures { result ≡ number_of_option (first_value (found_of matches.now)) number_option }
+{
+    let number = number_between(matches.get_str(NUMBER)?, 0, MAX_NUMBER)?;
+    Some(number as u32)
+}
