@@ -1,5 +1,5 @@
 -- A text has no more words than bytes.
-use Rattle.std.proofs.Common.{◌≡◌, ◌≤◌, ◌+◌, ◌++◌, ◌∷◌, [], ℕ, suc, inl, inr, Bool, true, false, not, cond, List, length, refl, sym, ap, ◌∙◌, arith, length-append}
+use Rattle.std.proofs.Common.{◌≡◌, ◌≤◌, ◌+◌, ◌++◌, ◌∷◌, [], ℕ, suc, inl, inr, Bool, true, false, not, cond, List, length, refl, arith, length-append}
 use Rattle.std.specs.Prelude.{flat_map, ◌==◌}
 use Rattle.std.specs.List.{filter, onto_first, slice_split}
 use Rattle.std.proofs.lemmas.Bool.{cases_Bool}

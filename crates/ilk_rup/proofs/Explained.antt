@@ -1,12 +1,9 @@
 -- The hints of a walk derive a clause of the literals of the set.
-use Rattle.std.proofs.Common.{◌≡◌, ◌<◌, ◌≤◌, ◌+◌, ◌++◌, ◌∷◌, [], ℕ, suc, inl, inr, true, false, List, Some, length, take, refl, sym, ap, ◌∙◌, arith, add-one, get_or, subst}
+use Rattle.std.proofs.Common.{◌≡◌, ◌+◌, ◌++◌, ◌∷◌, [], ℕ, suc, inl, inr, true, false, List, Some, take, sym, ap, ◌∙◌, arith, add-one, get_or, subst}
 use Rattle.std.specs.Prelude.{slice_get}
 use Rattle.std.proofs.lemmas.Bool.{true≢false}
-use Rattle.std.proofs.lemmas.Option.{slice_get_within}
-use Rattle.std.proofs.Math.ListN.{length-take}
-use Rattle.ilk_base.proofs.Lists.{take-at}
+use Rattle.ilk_base.proofs.Lists.{take-at, taken-before}
 use Rattle.ilk_base.proofs.Ranges.{below_or_past}
-use Rattle.ilk_base.proofs.Tested.{list_all-slice_get}
 use Rattle.ilk_cnf.specs.Literal.{Literal, opposite, has_lit, vars_differ}
 use Rattle.ilk_cnf.specs.Formula.{Formula, IsFormula}
 use Rattle.ilk_clauses.specs.Reasons.{clause_at}
@@ -18,24 +15,19 @@ use Rattle.ilk_watches.proofs.Entries.{entry-of-lit}
 use Rattle.ilk_learn.proofs.Members.{same-var}
 use Rattle.ilk_rup.specs.Needs.{AreHints, Explains, IsKnown, IsNeeded, Shows, unit_hints}
 use Rattle.ilk_rup.proofs.Explaining.{not-in, shows-start, shows-end}
-use Rattle.ilk_rup.proofs.Passing.{at-taken, lits-taken, once-taken}
+use Rattle.ilk_rup.proofs.Passing.{lits-taken, once-taken}
 
 pub shown-first : (f : Formula) (es : List Entry) (set needed : List Literal) (c from top known : ℕ) → IsFormula f → vars_differ (lits_of es) ≡ true → Explains f.clauses es set c from top known → IsNeeded set (clause_at f.clauses c) [] needed → Shows f.clauses (lits_of (take top es)) (lits_of (take top es)) set needed ((c + 1) ∷ [])
 shown-first f es set needed c from top known k once x n =
     let P : ℕ → Type 0 = λ h. Shows f.clauses (lits_of (take top es)) (lits_of (take top es)) set needed (h ∷ []) in
     subst P (sym (add-one c)) (shows-start f.clauses (lits_of (take top es)) set (clause_at f.clauses c) needed c (clause-there f.clauses c x.clause) (once-taken es top once) x.denied n)
 
-all-lits : (es : List Entry) (top : ℕ) (m : Literal) → has_lit m (lits_of (take top es)) ≡ true → has_lit m (lits_of es) ≡ true
-all-lits es top m h =
-    let y = entry-of-lit (take top es) m h in
-    ap (λ (l : Literal). has_lit l (lits_of es)) (sym y.is) ∙ entry-lit es y.index y.entry (at-taken es top y.index y.entry y.stands)
-
 pub explained : (cs : List (List Literal)) (es : List Entry) (set needed : List Literal) (units hints : List ℕ) (c from top known n : ℕ) → Explains cs es set c from top known → IsKnown units cs es n known → vars_differ (lits_of es) ≡ true → vars_differ needed ≡ true → Shows cs (lits_of (take top es)) (lits_of (take from es)) set needed hints → AreHints cs set (unit_hints units needed ++ hints)
 explained cs es set needed units hints c from top known n x k once apart s = λ d differ fewer more.
     shows-end cs (lits_of (take top es)) (lits_of (take from es)) set needed units hints d s apart (λ l u h e. named l u h e) (λ l h b. unit l h b) fewer more
   where
     inside : (l : Literal) → has_lit l needed ≡ true → has_lit l (lits_of es) ≡ true
-    inside l h = all-lits es top l (s.within l h)
+    inside l h = (let y = entry-of-lit (take top es) l (s.within l h) in ap (λ (m : Literal). has_lit m (lits_of es)) (sym y.is) ∙ entry-lit es y.index y.entry (taken-before top es y.index y.entry y.stands).1)
 
     named : (l : Literal) (u : ℕ) → has_lit l needed ≡ true → get_or units l.var 0 ≡ suc u → (slice_get cs u ≡ Some (l ∷ [])) × (has_lit l set ≡ false) × (has_lit l (lits_of (take from es)) ≡ true)
     named l u h e =
@@ -51,12 +43,10 @@ explained cs es set needed units hints c from top known n x k once apart s = λ 
         )
 
     unit : (l : Literal) → has_lit l needed ≡ true → has_lit l (lits_of (take from es)) ≡ true → (u : ℕ) × (get_or units l.var 0 ≡ suc u)
-    unit l h b =
-        let y = entry-of-lit (take from es) l b in
-        let at = at-taken es from y.index y.entry y.stands in
-        let w = slice_get_within (take from es) y.index y.entry y.stands in
-        let few = length-take from es in
+    unit l h c =
+        let y = entry-of-lit (take from es) l c in
+        let b = taken-before from es y.index y.entry y.stands in
         elim (below_or_past y.index known) [
-          | inl q ↦ (let t = k.told y.index y.entry q at in (t.0, ap (λ (z : Literal). get_or units z.var 0) (sym y.is) ∙ t.1))
-          | inr q ↦ absurd (true≢false (sym (ap (λ (z : Literal). has_lit (opposite z) set) (sym y.is) ∙ x.assumed y.index y.entry q (omega (arith, w, few)) at) ∙ s.apart l h))
+          | inl q ↦ (let t = k.told y.index y.entry q b.1 in (t.0, ap (λ (z : Literal). get_or units z.var 0) (sym y.is) ∙ t.1))
+          | inr q ↦ absurd (true≢false (sym (ap (λ (z : Literal). has_lit (opposite z) set) (sym y.is) ∙ x.assumed y.index y.entry q b.0 b.1) ∙ s.apart l h))
         ]

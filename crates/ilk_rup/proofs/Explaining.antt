@@ -1,21 +1,19 @@
 -- The hints that a walk over the entries finds, from the latest entry on.
-use Rattle.std.proofs.Common.{◌≡◌, ◌<◌, ◌≤◌, ◌+◌, ℕ, zero, suc, inl, inr, ◌⊎◌, true, false, not, ◌&&◌, eqb, cond, List, [], ◌∷◌, ◌++◌, refl, sym, ap, ◌∙◌, subst, Option, Some, None, length, take, arith, get_or, map, Bool}
-use Rattle.std.specs.List.{filter}
-use Rattle.std.specs.Prelude.{slice_get, ◌==◌}
-use Rattle.std.proofs.lemmas.Bool.{and_parts, and_from, or_cases, or_left, or_right, cases_Bool, not-true, not_from_false, true≢false, eqb-true, or_from}
+use Rattle.std.proofs.Common.{◌≡◌, ℕ, zero, suc, inl, inr, ◌⊎◌, true, false, not, eqb, List, [], ◌∷◌, ◌++◌, refl, sym, ap, ◌∙◌, subst, Some, arith, get_or}
+use Rattle.std.specs.Prelude.{slice_get}
+use Rattle.std.proofs.lemmas.Bool.{and_parts, or_cases, or_left, or_right, cases_Bool, not-true, not_from_false, true≢false, eqb-true, or_from}
 use Rattle.std.proofs.lemmas.Bool.Decides.{nat_tests}
-use Rattle.ilk_base.specs.Option.{◌>>=◌}
 use Rattle.ilk_cnf.specs.Literal.{Literal, opposite, same_lit, has_lit, has_var, vars_differ}
 use Rattle.ilk_cnf.proofs.Gates.{opposite-opposite}
 use Rattle.ilk_cnf.proofs.SameLiterals.{same-lit, lit-is, has-var}
-use Rattle.ilk_log.specs.Propagation.{is_falsified, unit_of, after_hint, after_hints}
+use Rattle.ilk_log.specs.Propagation.{is_falsified, unit_of}
 use Rattle.ilk_log.specs.Derived.{ends_false, opposites}
 use Rattle.ilk_log.specs.Fresh.{others}
-use Rattle.ilk_log.proofs.Closed.{Within}
 use Rattle.ilk_learn.proofs.Derived.{false-from, false-at, unit-one, has-opposite, opposite-of}
 use Rattle.ilk_learn.proofs.Members.{kept-at, no-var, same-var, var-of}
 use Rattle.ilk_rup.specs.Needs.{IsNeeded, Shows, unit_hints}
-use Rattle.ilk_rup.proofs.Backing.{ends-after, ends-first}
+use Rattle.ilk_rup.proofs.Alike.{ends-first}
+use Rattle.ilk_rup.proofs.Signs.{var-either}
 
 -- a literal that a clause needs stands in the set with its variable
 needed-is : (all new : List Literal) (m : Literal) → vars_differ all ≡ true → ((x : Literal) → has_lit x new ≡ true → has_lit x all ≡ true) → has_lit (opposite m) all ≡ true → has_var m.var new ≡ true → has_lit (opposite m) new ≡ true
@@ -110,59 +108,8 @@ shows-step cs all before more set needed next d l r hints n u at differ own fals
       | inr v ↦ (let q = behind m h e in c (opposite m) (needed-is all next m once within (inside (opposite m) q) v) q)
     ]
 
--- what the hints of known literals do
-pub record Taken (cs : List (List Literal)) (now ls : List Literal) (units hints : List ℕ) : Type 0 where
-  pub next : List Literal
-  pub taken : after_hints cs now hints ≡ Some next
-  pub kept : (m : Literal) → has_lit m now ≡ true → has_lit m next ≡ true
-  pub set : (x : Literal) (k : ℕ) → has_lit x ls ≡ true → get_or units x.var 0 ≡ suc k → has_lit x next ≡ true
-  pub only : (m : Literal) → has_lit m next ≡ true → (has_lit m now ≡ true) ⊎ ((has_lit m ls ≡ true) × (k : ℕ) × (get_or units m.var 0 ≡ suc k))
-
 later : (ls : List Literal) (l x : Literal) → has_lit x ls ≡ true → has_lit x (l ∷ ls) ≡ true
 later ls l x h = or_right (same_lit x l) (has_lit x ls) h
-
-units-skip : (cs : List (List Literal)) (units : List ℕ) (now ls : List Literal) (l : Literal) → get_or units l.var 0 ≡ 0 → Taken cs now ls units (unit_hints units ls) → Taken cs now (l ∷ ls) units (unit_hints units (l ∷ ls))
-units-skip cs units now ls l e rest =
-    let P : List ℕ → Type 0 = λ hs. Taken cs now (l ∷ ls) units hs in
-    let same : unit_hints units ls ≡ unit_hints units (l ∷ ls) = rw e refl in
-    subst P same (record {
-      next = rest.next;
-      taken = rest.taken;
-      kept = rest.kept;
-      set = λ x k h q. elim (or_cases (same_lit x l) (has_lit x ls) h) [
-        | inl t ↦ absurd (let z : zero ≡ suc k = sym e ∙ ap (λ (y : Literal). get_or units y.var 0) (sym (lit-is x l t)) ∙ q in cc)
-        | inr t ↦ rest.set x k t q
-      ];
-      only = λ m h. elim (rest.only m h) [ inl t ↦ inl t | inr t ↦ inr (later ls l m t.0, t.1, t.2) ];
-    })
-
-units-take : (cs : List (List Literal)) (units : List ℕ) (now ls : List Literal) (l : Literal) (u : ℕ) → get_or units l.var 0 ≡ suc u → slice_get cs u ≡ Some (l ∷ []) → has_var l.var now ≡ false → Taken cs (l ∷ now) ls units (unit_hints units ls) → Taken cs now (l ∷ ls) units (unit_hints units (l ∷ ls))
-units-take cs units now ls l u e at free rest =
-    let unset : (m : Literal) → m.var ≡ l.var → has_lit m now ≡ false = λ m q. not-in m now (λ h. no-var now m (ap (λ (v : ℕ). has_var v now) q ∙ free) h) in
-    let one : unit_of now (l ∷ []) ≡ Some l = unit-one now (l ∷ []) l refl (or_left (same_lit l l) false (same-lit l)) (unset l refl) (unset (opposite l) refl) (λ m h n. absurd (elim (or_cases (same_lit m l) false h) [
-      | inl t ↦ true≢false (sym (ap (λ (y : Literal). same_lit l y) (lit-is m l t) ∙ same-lit l) ∙ n)
-      | inr t ↦ true≢false (sym t)
-    ])) in
-    let first : after_hint cs now (suc u) ≡ Some (l ∷ now) = rw at (rw one refl) in
-    let P : List ℕ → Type 0 = λ hs. Taken cs now (l ∷ ls) units hs in
-    let z : eqb (suc u) 0 ≡ false = grind (arith, nat_tests) in
-    let same : suc u ∷ unit_hints units ls ≡ unit_hints units (l ∷ ls) = rw e (rw z refl) in
-    subst P same (record {
-      next = rest.next;
-      taken = ap (λ (o : Option (List Literal)). o >>= (λ (z : List Literal). after_hints cs z (unit_hints units ls))) first ∙ rest.taken;
-      kept = λ m h. rest.kept m (or_right (same_lit m l) (has_lit m now) h);
-      set = λ x k h q. elim (or_cases (same_lit x l) (has_lit x ls) h) [
-        | inl t ↦ rest.kept x (or_left (same_lit x l) (has_lit x now) t)
-        | inr t ↦ rest.set x k t q
-      ];
-      only = λ m h. elim (rest.only m h) [
-        | inl t ↦ elim (or_cases (same_lit m l) (has_lit m now) t) [
-          | inl y ↦ inr (or_left (same_lit m l) (has_lit m ls) y, u, ap (λ (z : Literal). get_or units z.var 0) (lit-is m l y) ∙ e)
-          | inr y ↦ inl y
-        ]
-        | inr t ↦ inr (later ls l m t.0, t.1, t.2)
-      ];
-    })
 
 var-apart : (ls : List Literal) (l x : Literal) → has_var l.var ls ≡ false → has_lit x ls ≡ true → eqb l.var x.var ≡ false
 var-apart ls l x n h = elim (cases_Bool (eqb l.var x.var)) [
@@ -174,25 +121,56 @@ by-unit : {P : Type 0} (u : ℕ) → (u ≡ 0 → P) → ((k : ℕ) → u ≡ su
 by-unit zero f g = f refl
 by-unit (suc k) f g = g k refl
 
-pub take-units : (cs : List (List Literal)) (units : List ℕ) (now ls : List Literal) → vars_differ ls ≡ true → ((x : Literal) (k : ℕ) → has_lit x ls ≡ true → get_or units x.var 0 ≡ suc k → (slice_get cs k ≡ Some (x ∷ [])) × (has_var x.var now ≡ false)) → Taken cs now ls units (unit_hints units ls)
-take-units cs units now [] d f = record {
-  next = now;
-  taken = refl;
-  kept = λ m h. h;
-  set = λ x k h e. absurd (true≢false (sym h));
-  only = λ m h. inl h;
-}
-take-units cs units now (l ∷ ls) d f =
+-- what stands there after the hints of known literals
+pub record Taken (now ls : List Literal) (units : List ℕ) (next : List Literal) : Type 0 where
+  pub kept : (m : Literal) → has_lit m now ≡ true → has_lit m next ≡ true
+  pub set : (x : Literal) (k : ℕ) → has_lit x ls ≡ true → get_or units x.var 0 ≡ suc k → has_lit x next ≡ true
+  pub only : (m : Literal) → has_lit m next ≡ true → (has_lit m now ≡ true) ⊎ ((has_lit m ls ≡ true) × (k : ℕ) × (get_or units m.var 0 ≡ suc k))
+
+-- the hints of known literals, and then hints that end at a false clause from whatever then stands there
+pub take-units : (cs : List (List Literal)) (units hints : List ℕ) (now ls : List Literal) → vars_differ ls ≡ true → ((x : Literal) (k : ℕ) → has_lit x ls ≡ true → get_or units x.var 0 ≡ suc k → (slice_get cs k ≡ Some (x ∷ [])) × (has_var x.var now ≡ false)) → ((next : List Literal) → Taken now ls units next → ends_false cs next hints ≡ true) → ends_false cs now (unit_hints units ls ++ hints) ≡ true
+take-units cs units hints now [] d f e = e now (record { kept = λ m h. h; set = λ x k h q. absurd (true≢false (sym h)); only = λ m h. inl h })
+take-units cs units hints now (l ∷ ls) d f e =
     let p = and_parts (not (has_var l.var ls)) (vars_differ ls) d in
     let none = not-true (has_var l.var ls) p.0 in
-    by-unit (get_or units l.var 0) (λ e. units-skip cs units now ls l e (take-units cs units now ls p.1 (λ x k h q. f x k (later ls l x h) q))) (λ u e. (let here = f l u (or_left (same_lit l l) (has_lit l ls) (same-lit l)) e in
-    units-take cs units now ls l u e here.0 here.1 (take-units cs units (l ∷ now) ls p.1 (λ x k h q. (let g = f x k (later ls l x h) q in (g.0, or_from (eqb l.var x.var) (has_var x.var now) (var-apart ls l x none h) g.1))))))
+    let P : List ℕ → Type 0 = λ hs. ends_false cs now (hs ++ hints) ≡ true in
+    by-unit (get_or units l.var 0) (λ z. (let same : unit_hints units ls ≡ unit_hints units (l ∷ ls) = rw z refl in
+    subst P same (take-units cs units hints now ls p.1 (λ x k h q. f x k (later ls l x h) q) (λ next t. e next (record {
+      kept = t.kept;
+      set = λ x k h q. elim (or_cases (same_lit x l) (has_lit x ls) h) [
+        | inl y ↦ absurd (let w : zero ≡ suc k = sym z ∙ ap (λ (v : Literal). get_or units v.var 0) (sym (lit-is x l y)) ∙ q in cc)
+        | inr y ↦ t.set x k y q
+      ];
+      only = λ m h. elim (t.only m h) [ inl y ↦ inl y | inr y ↦ inr (later ls l m y.0, y.1, y.2) ];
+    }))))) (λ u z. (let here = f l u (or_left (same_lit l l) (has_lit l ls) (same-lit l)) z in
+    let unset : (m : Literal) → m.var ≡ l.var → has_lit m now ≡ false = λ m q. not-in m now (λ h. no-var now m (ap (λ (v : ℕ). has_var v now) q ∙ here.1) h) in
+    let one : unit_of now (l ∷ []) ≡ Some l = unit-one now (l ∷ []) l refl (or_left (same_lit l l) false (same-lit l)) (unset l refl) (unset (opposite l) refl) (λ m h n. absurd (elim (or_cases (same_lit m l) false h) [
+      | inl t ↦ true≢false (sym (ap (λ (y : Literal). same_lit l y) (lit-is m l t) ∙ same-lit l) ∙ n)
+      | inr t ↦ true≢false (sym t)
+    ])) in
+    let w : eqb (suc u) 0 ≡ false = grind (arith, nat_tests) in
+    let same : suc u ∷ unit_hints units ls ≡ unit_hints units (l ∷ ls) = rw z (rw w refl) in
+    let at = here.0 in
+    subst P same (ends-first cs now (l ∷ now) (suc u) (unit_hints units ls ++ hints) (rw at (rw one refl)) (take-units cs units hints (l ∷ now) ls p.1 (λ x k h q. (let g = f x k (later ls l x h) q in
+    (g.0, or_from (eqb l.var x.var) (has_var x.var now) (var-apart ls l x none h) g.1))) (λ next t. e next (record {
+      kept = λ m h. t.kept m (or_right (same_lit m l) (has_lit m now) h);
+      set = λ x k h q. elim (or_cases (same_lit x l) (has_lit x ls) h) [
+        | inl y ↦ t.kept x (or_left (same_lit x l) (has_lit x now) y)
+        | inr y ↦ t.set x k y q
+      ];
+      only = λ m h. elim (t.only m h) [
+        | inl y ↦ elim (or_cases (same_lit m l) (has_lit m now) y) [
+          | inl v ↦ inr (or_left (same_lit m l) (has_lit m ls) v, u, ap (λ (x : Literal). get_or units x.var 0) (lit-is m l v) ∙ z)
+          | inr v ↦ inl v
+        ]
+        | inr y ↦ inr (later ls l m y.0, y.1, y.2)
+      ];
+    }))))))
 
 -- the hints of the known literals, and then those of the walk
 pub shows-end : (cs : List (List Literal)) (all before set needed : List Literal) (units hints : List ℕ) (c : List Literal) → Shows cs all before set needed hints → vars_differ needed ≡ true → ((x : Literal) (k : ℕ) → has_lit x needed ≡ true → get_or units x.var 0 ≡ suc k → (slice_get cs k ≡ Some (x ∷ [])) × (has_lit x set ≡ false) × (has_lit x before ≡ true)) → ((x : Literal) → has_lit x needed ≡ true → has_lit x before ≡ true → (k : ℕ) × (get_or units x.var 0 ≡ suc k)) → ((m : Literal) → has_lit m c ≡ true → has_lit m set ≡ true) → ((m : Literal) → has_lit m set ≡ true → has_lit m c ≡ true) → ends_false cs (opposites c) (unit_hints units needed ++ hints) ≡ true
 shows-end cs all before set needed units hints c s d f g fewer more =
-    let t = take-units cs units (opposites c) needed d (λ x k h e. (let q = f x k h e in (q.0, free x h q.1))) in
-    ends-after cs (opposites c) t.next (unit_hints units needed) hints t.taken (s.ends t.next (λ m h. elim (t.only m h) [
+    take-units cs units hints (opposites c) needed d (λ x k h e. (let q = f x k h e in (q.0, free x h q.1))) (λ next t. s.ends next (λ m h. elim (t.only m h) [
       | inl y ↦ (let o = opposite-of c m y in inr (ap (λ (z : Literal). has_lit z set) (ap opposite o.2 ∙ opposite-opposite o.0) ∙ fewer o.0 o.1))
       | inr y ↦ inl (f m y.1 y.0 y.2).2
     ]) (λ m h. t.kept (opposite m) (has-opposite c m (more m h))) (λ x h k. (let u = g x h k in t.set x u.0 h u.1)))
@@ -202,15 +180,6 @@ shows-end cs all before set needed units hints c s d f g fewer more =
       | inl t ↦ absurd (let y = var-of (opposites c) x.var t in
           let o = opposite-of c y.0 y.2 in
           let v : o.0.var ≡ x.var = ap (λ (z : Literal). z.var) (sym o.2) ∙ y.1 in
-          sign o.0 x v (fewer o.0 o.1) (s.apart x h) n)
+          elim (var-either o.0 x set v (fewer o.0 o.1)) [ inl y ↦ true≢false (sym y ∙ n) | inr y ↦ true≢false (sym y ∙ s.apart x h) ])
       | inr t ↦ t
     ]
-      where
-        sign : (a b : Literal) → a.var ≡ b.var → has_lit a set ≡ true → has_lit (opposite b) set ≡ false → has_lit b set ≡ false → ⊥
-        sign a b v t p q = go a.var b.var a.positive b.positive v t p q
-          where
-            go : (v w : ℕ) (i j : Bool) → v ≡ w → has_lit (record { var = v; positive = i }) set ≡ true → has_lit (record { var = w; positive = not j }) set ≡ false → has_lit (record { var = w; positive = j }) set ≡ false → ⊥
-            go v w true true e t p q = true≢false (sym t ∙ ap (λ (z : ℕ). has_lit (record { var = z; positive = true }) set) e ∙ q)
-            go v w false false e t p q = true≢false (sym t ∙ ap (λ (z : ℕ). has_lit (record { var = z; positive = false }) set) e ∙ q)
-            go v w true false e t p q = true≢false (sym t ∙ ap (λ (z : ℕ). has_lit (record { var = z; positive = true }) set) e ∙ p)
-            go v w false true e t p q = true≢false (sym t ∙ ap (λ (z : ℕ). has_lit (record { var = z; positive = false }) set) e ∙ p)

@@ -1,13 +1,12 @@
 -- How the items of a text are read, word by word.
-use Rattle.std.proofs.Common.{◌≡◌, ◌<◌, ◌≤◌, ◌+◌, ◌++◌, ◌∷◌, [], ◌⊎◌, ◌||◌, ◌&&◌, eqb, ℕ, suc, inl, inr, Bool, true, false, not, List, Option, Some, None, length, refl, sym, ap, ◌∙◌, subst, arith, append_assoc, option_map}
+use Rattle.std.proofs.Common.{◌≡◌, ◌++◌, ◌∷◌, [], ◌⊎◌, ◌||◌, ◌&&◌, eqb, ℕ, inl, inr, Bool, true, false, not, List, Option, Some, None, refl, sym, ap, ◌∙◌, subst, arith, append_assoc, option_map}
 use Rattle.std.specs.Prelude.{bytes_eq, codes, nat_le, nat_lt}
 use Rattle.std.specs.Str.Parse.{digits_value}
 use Rattle.std.proofs.lemmas.Slice.Eq.{bytes_eq-Decides}
 use Rattle.ilk_base.proofs.Options.{bind_some, mapped-Some}
 use Rattle.ilk_lines.specs.Decimal.{decimal_up_to, is_decimal}
-use Rattle.ilk_rup.specs.Standing.{IsClauseOf}
-use Rattle.std.specs.List.{list_any}
-use Rattle.std.proofs.lemmas.Bool.{and_from, and_parts, cases_Bool, not-true, not_from_false, or_cases, or_left, or_parts, or_right, true≢false}
+use Rattle.ilk_rup.specs.Needs.{IsClauseOf}
+use Rattle.std.proofs.lemmas.Bool.{and_from, and_parts, cases_Bool, not_from_false, or_cases, or_left, or_parts, or_right, true≢false}
 use Rattle.std.proofs.lemmas.List.{append-nil}
 use Rattle.std.proofs.lemmas.List.Folds.{list_any-append}
 use Rattle.std.proofs.lemmas.Option.{same_Some}
@@ -15,7 +14,7 @@ use Rattle.ilk_base.specs.Option.{◌>>=◌, only_if}
 use Rattle.ilk_cnf.specs.Literal.{Literal, opposite, same_lit, has_lit, has_var, vars_differ}
 use Rattle.ilk_cnf.specs.Formula.{as_clause, clause_in, distinct, is_tautology, lit_in}
 use Rattle.ilk_cnf.proofs.Gates.{opposite-opposite}
-use Rattle.ilk_cnf.proofs.SameLiterals.{same-lit, lit-is, has-var}
+use Rattle.ilk_cnf.proofs.SameLiterals.{same-lit, lit-is}
 use Rattle.ilk_lines.specs.Lines.{Bytes}
 use Rattle.ilk_learn.proofs.Members.{each-within, var-of}
 use Rattle.ilk_rup.specs.RefutationText.{added_by, in_first, is_end, items_of, literal_of, literals_of, var_of}

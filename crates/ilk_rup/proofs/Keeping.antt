@@ -1,14 +1,14 @@
 -- What is known, as a clause of one literal is added.
-use Rattle.std.proofs.Common.{◌≡◌, ◌<◌, ◌+◌, ◌&&◌, ◌++◌, ◌∷◌, [], ◌⊎◌, ℕ, suc, inl, inr, true, false, eqb, List, Some, length, take, set, get_or, refl, sym, ap, ◌∙◌, subst, arith, add-one, length-append}
+use Rattle.std.proofs.Common.{◌≡◌, ◌<◌, ◌+◌, ◌&&◌, ◌++◌, ◌∷◌, [], ℕ, suc, inl, inr, true, false, eqb, List, Some, length, take, set, get_or, sym, ap, ◌∙◌, subst, arith, add-one, length-append}
 use Rattle.std.specs.Prelude.{Option, None, IsSomeAnd, slice_get, not, nat_lt}
 use Rattle.std.specs.List.{list_all}
 use Rattle.std.proofs.lemmas.Bool.{and_from, and_parts, cases_Bool, eqb-true, eqb-false, true≢false, or_left, or_cases, ltb-true, le-leb}
 use Rattle.std.proofs.lemmas.List.{get_or-set_same, get_or-set_other}
-use Rattle.std.proofs.Math.ListN.{get_or-append, length-set, length-take}
+use Rattle.std.proofs.Math.ListN.{get_or-append, length-set}
 use Rattle.std.proofs.lemmas.Option.{same_Some, slice_get_within}
-use Rattle.ilk_base.proofs.Lists.{at-before, slice_get-push_cases}
+use Rattle.ilk_base.proofs.Lists.{at-before, taken-before}
 use Rattle.ilk_base.proofs.Ranges.{below_or_past}
-use Rattle.ilk_base.proofs.Tested.{list_all-more}
+use Rattle.ilk_base.proofs.Tested.{list_all-more, list_all-slice_get}
 use Rattle.ilk_cnf.specs.Literal.{Literal, opposite, same_lit, has_lit, has_var, vars_differ}
 use Rattle.ilk_cnf.specs.Formula.{Formula, clause_in}
 use Rattle.ilk_cnf.proofs.SameLiterals.{same-lit, lit-is}
@@ -26,17 +26,12 @@ use Rattle.ilk_learn.proofs.Members.{kept-at, no-var}
 use Rattle.ilk_learn.proofs.Walk.{stands}
 use Rattle.std.proofs.Common.{append_assoc}
 use Rattle.std.proofs.lemmas.Bool.{not_from_false}
-use Rattle.ilk_rup.specs.Backed.{Alone, Backed, Same}
-use Rattle.ilk_rup.specs.Needs.{AreHints, Explains, IsForced, IsKnown}
-use Rattle.ilk_rup.specs.Standing.{IsClauseOf, IsLogged}
-use Rattle.ilk_rup.proofs.Backing.{backed-alone}
+use Rattle.ilk_rup.specs.Alike.{Alike}
+use Rattle.ilk_rup.specs.Needs.{AreHints, Explains, IsClauseOf, IsForced, IsKnown}
+use Rattle.ilk_rup.specs.Standing.{IsLogged}
+use Rattle.ilk_rup.proofs.Alike.{alike-forced, last-at}
 use Rattle.ilk_rup.proofs.Explaining.{not-in}
-use Rattle.ilk_rup.proofs.Passing.{at-taken, next-at, reason-in}
-
--- one clause more at the end
-pub last-at : {X : Type 0} (xs : List X) (x : X) → slice_get (xs ++ x ∷ []) (length xs) ≡ Some x
-last-at [] x = refl
-last-at (y ∷ xs) x = last-at xs x
+use Rattle.ilk_rup.proofs.Passing.{next-at, reason-in}
 
 pub reason-more : (cs more : List (List Literal)) (set : List Literal) (l : Literal) (r : ℕ) → is_reason cs set l r ≡ true → is_reason (cs ++ more) set l r ≡ true
 reason-more cs more set l r h =
@@ -77,35 +72,16 @@ known-more units cs es n k count e h at once room size = record {
   ];
 }
 
-pub same-more : (ds : List (List Literal)) (d s : List Literal) → Same ds s ⊎ Alone ds s → Same (ds ++ d ∷ []) s ⊎ Alone (ds ++ d ∷ []) s
-same-more ds d s (inl k) = inl (record {
-  index = k.index;
-  clause = k.clause;
-  stands = at-before ds (d ∷ []) k.index k.clause k.stands;
-  differ = k.differ;
-  fewer = k.fewer;
-  more = k.more;
-})
-same-more ds d s (inr k) = inr (record { lit = k.lit; has = k.has; index = k.index; stands = at-before ds (d ∷ []) k.index (k.lit ∷ []) k.stands })
-
-pub backed-more : (given ds : List (List Literal)) (d : List Literal) → ((i : ℕ) (c : List Literal) → slice_get ds i ≡ Some c → Backed given c) → Backed given d → (i : ℕ) (c : List Literal) → slice_get (ds ++ d ∷ []) i ≡ Some c → Backed given c
-backed-more given ds d h k i c at = elim (slice_get-push_cases ds d c i at) [
-  | inl s ↦ h i c s
-  | inr s ↦ (let P : List Literal → Type 0 = λ x. Backed given x in subst P s.1 k)
-]
-
--- the literal of an entry stands alone behind the clauses given
-pub entry-backed : (given cs : List (List Literal)) (es : List Entry) (units : List ℕ) (n k r : ℕ) (e : Entry) → ((i : ℕ) (c : List Literal) → slice_get cs i ≡ Some c → Backed given c) → IsKnown units cs es n k → slice_get es k ≡ Some e → is_reason cs (lits_of (take k es)) e.lit r ≡ true → Backed given (e.lit ∷ [])
-entry-backed given cs es units n k r e h known at reason =
+-- the literal alone of an entry adds nothing
+pub entry-alike : (cs : List (List Literal)) (es : List Entry) (units : List ℕ) (n k r : ℕ) (e : Entry) → list_all vars_differ cs ≡ true → IsKnown units cs es n k → slice_get es k ≡ Some e → is_reason cs (lits_of (take k es)) e.lit r ≡ true → Alike (cs ++ (e.lit ∷ []) ∷ []) cs
+entry-alike cs es units n k r e differ known at reason =
     let d = clause_at cs r in
     let p = and_parts (has_lit e.lit d) (is_falsified (lits_of (take k es)) (others e.lit d)) reason in
-    backed-alone given d e.lit (h r d (stands cs r e.lit p.0)) p.0 (λ m x q. (let o = false-at (lits_of (take k es)) (others e.lit d) m p.1 (kept-at (λ (y : Literal). not (same_lit e.lit y)) d m x (not_from_false (same_lit e.lit m) q)) in
-    let y = entry-of-lit (take k es) (opposite m) o in
-    let w = slice_get_within (take k es) y.index y.entry y.stands in
-    let few = length-take k es in
-    let t = known.told y.index y.entry (omega (arith, w, few)) (at-taken es k y.index y.entry y.stands) in
-    let P : Literal → Type 0 = λ z. Backed given (z ∷ []) in
-    subst P y.is (h t.0 (y.entry.lit ∷ []) t.2)))
+    let there = stands cs r e.lit p.0 in
+    alike-forced cs r d e.lit there (list_all-slice_get vars_differ cs r d differ there) p.0 (λ m x. (let y = entry-of-lit (take k es) (opposite m) (false-at (lits_of (take k es)) (others e.lit d) m p.1 x) in
+    let b = taken-before k es y.index y.entry y.stands in
+    let t = known.told y.index y.entry b.0 b.1 in
+    (t.0, t.2 ∙ ap (λ (z : Literal). Some (z ∷ [])) y.is)))
 
 pub name-explains : (cs : List (List Literal)) (es : List Entry) (k r : ℕ) (e : Entry) → slice_get es k ≡ Some e → vars_differ (lits_of es) ≡ true → r < length cs → is_reason cs (lits_of (take k es)) e.lit r ≡ true → Explains cs es (e.lit ∷ []) r k k k
 name-explains cs es k r e at once b reason =

@@ -1,6 +1,5 @@
 mod Cuts
-pub mod Backing
-pub mod Closing
+pub mod Alike
 pub mod Explaining
 pub mod Needing
 pub mod Sets

@@ -1,15 +1,11 @@
 -- An entry is passed on the walk back.
-use Rattle.std.proofs.Common.{◌≡◌, ◌<◌, ◌≤◌, ◌+◌, ◌&&◌, ◌++◌, ◌∷◌, [], ℕ, zero, suc, true, false, inl, inr, Bool, List, Option, Some, None, length, take, reverse, refl, sym, ap, ◌∙◌, subst, arith, add-one, option_map, get_or, drop}
+use Rattle.std.proofs.Common.{◌≡◌, ◌<◌, ◌≤◌, ◌+◌, ◌++◌, ◌∷◌, [], ℕ, zero, suc, true, false, inl, inr, List, Option, Some, None, length, take, reverse, refl, sym, ap, ◌∙◌, subst, arith, add-one, option_map, get_or}
 use Rattle.std.specs.Prelude.{IsSomeAnd, nat_eq, slice_get, not}
 use Rattle.std.specs.Option.{IsSome}
-use Rattle.std.specs.List.{filter}
 use Rattle.std.proofs.lemmas.Bool.{and_from, and_parts, cases_Bool, not-true, not_from_false, true≢false}
-use Rattle.std.proofs.lemmas.List.{reverse-append, take-append-drop}
-use Rattle.std.proofs.Math.ListN.{length-take}
-use Rattle.std.proofs.lemmas.List.Elements.{filter-append}
+use Rattle.std.proofs.lemmas.List.{reverse-append}
 use Rattle.std.proofs.lemmas.Option.{same_Some, slice_get_within}
-use Rattle.ilk_base.proofs.Ranges.{below_or_past}
-use Rattle.ilk_base.proofs.Lists.{at-before}
+use Rattle.ilk_base.proofs.Lists.{take-at, taken-before}
 use Rattle.ilk_base.proofs.Tested.{list_all-slice_get}
 use Rattle.ilk_cnf.specs.Literal.{Literal, has_lit, has_var, vars_differ}
 use Rattle.ilk_cnf.specs.Formula.{Formula, IsFormula}
@@ -19,17 +15,14 @@ use Rattle.ilk_log.specs.Propagation.{is_falsified}
 use Rattle.ilk_trail.specs.declared.entry.Entry.{Entry}
 use Rattle.ilk_trail.specs.Trail.{entry_of}
 use Rattle.ilk_trail.specs.Laws.{lits_of}
-use Rattle.ilk_trail.proofs.Entries.{lits_of-push, set-at}
-use Rattle.ilk_watches.proofs.Entries.{entry-of-lit, one-entry, lit-kept}
+use Rattle.ilk_trail.proofs.Entries.{entry-lit, lits_of-push, set-at}
+use Rattle.ilk_watches.proofs.Entries.{entry-of-lit, one-entry}
 use Rattle.ilk_learn.proofs.Latest.{entry-at, take-one-more}
 use Rattle.ilk_learn.proofs.Members.{var-of}
 use Rattle.ilk_learn.proofs.Walk.{stands}
-use Rattle.ilk_rup.specs.Needs.{CanWalk, IsForced, IsNeeded, IsPassed, IsReasonAt, Shows, unit_hints}
+use Rattle.ilk_rup.specs.Needs.{IsNeeded, IsPassed, Shows, unit_hints}
 use Rattle.ilk_rup.proofs.Explaining.{Next, shows-skip, shows-step}
 use Rattle.ilk_rup.proofs.Needing.{pushed-lit, push-old, push-new}
-
-pub at-taken : (es : List Entry) (n j : ℕ) (e : Entry) → slice_get (take n es) j ≡ Some e → slice_get es j ≡ Some e
-at-taken es n j e h = (let P : List Entry → Type 0 = λ xs. slice_get xs j ≡ Some e in subst P (take-append-drop n es) (at-before (take n es) (drop n es) j e h))
 
 -- the entries before one, and with it
 pub next-at : (es : List Entry) (i : ℕ) (e : Entry) → slice_get es i ≡ Some e → vars_differ (lits_of es) ≡ true → Next (lits_of (take i es)) (lits_of (take (i + 1) es)) e.lit
@@ -43,10 +36,9 @@ next-at es i e at once =
       unset = elim (cases_Bool (has_var e.lit.var (lits_of (take i es)))) [
         | inl t ↦ absurd (let x = var-of (lits_of (take i es)) e.lit.var t in
             let y = entry-of-lit (take i es) x.0 x.2 in
-            let w = slice_get_within (take i es) y.index y.entry y.stands in
-            let j = one-entry es y.index i y.entry e once (at-taken es i y.index y.entry y.stands) at (ap (λ (l : Literal). l.var) y.is ∙ x.1) in
-            let few = length-take i es in
-            omega (arith, w, j, few))
+            let b = taken-before i es y.index y.entry y.stands in
+            let j = one-entry es y.index i y.entry e once b.1 at (ap (λ (l : Literal). l.var) y.is ∙ x.1) in
+            omega (arith, b.0, j))
         | inr t ↦ t
       ];
     })
@@ -72,13 +64,10 @@ reason-in cs set l r h =
 
 -- the literals of the first entries are among those of more
 pub lits-taken : (es : List Entry) (i top : ℕ) (m : Literal) → i ≤ top → has_lit m (lits_of (take i es)) ≡ true → has_lit m (lits_of (take top es)) ≡ true
-lits-taken es i top m le h = lit-kept (take i es) (take top es) m (same i top es le) h
-  where
-    same : (i top : ℕ) (es : List Entry) → i ≤ top → take (length (take i es)) (take top es) ≡ take i es
-    same zero top es le = refl
-    same (suc i) zero es le = absurd (omega (arith, le))
-    same (suc i) (suc top) [] le = refl
-    same (suc i) (suc top) (e ∷ es) le = ap (λ (xs : List Entry). e ∷ xs) (same i top es (omega (arith, le)))
+lits-taken es i top m le h =
+    let y = entry-of-lit (take i es) m h in
+    let b = taken-before i es y.index y.entry y.stands in
+    ap (λ (l : Literal). has_lit l (lits_of (take top es))) (sym y.is) ∙ entry-lit (take top es) y.index y.entry (take-at es y.index top y.entry (omega (arith, b.0, le)) b.1)
 
 pub once-taken : (es : List Entry) (top : ℕ) → vars_differ (lits_of es) ≡ true → vars_differ (lits_of (take top es)) ≡ true
 once-taken es zero d = refl
@@ -91,7 +80,7 @@ once-taken (e ∷ es) (suc top) d =
     away v es top h = not_from_false (has_var v (lits_of (take top es))) (elim (cases_Bool (has_var v (lits_of (take top es)))) [
       | inl t ↦ absurd (let x = var-of (lits_of (take top es)) v t in
           let y = entry-of-lit (take top es) x.0 x.2 in
-          true≢false (sym (ap (λ (w : ℕ). has_var w (lits_of es)) (sym (ap (λ (l : Literal). l.var) y.is ∙ x.1)) ∙ set-at es y.index y.entry (at-taken es top y.index y.entry y.stands)) ∙ not-true (has_var v (lits_of es)) h))
+          true≢false (sym (ap (λ (w : ℕ). has_var w (lits_of es)) (sym (ap (λ (l : Literal). l.var) y.is ∙ x.1)) ∙ set-at es y.index y.entry (taken-before top es y.index y.entry y.stands).1) ∙ not-true (has_var v (lits_of es)) h))
       | inr t ↦ t
     ])
 

@@ -1,9 +1,8 @@
 -- Which texts refute a formula, and which item of a text that doesn't is the first bad one.
-use Rattle.std.specs.Prelude.{ℕ, zero, suc, ◌≡◌, ◌++◌, List, [], ◌∷◌, Option, Some, IsTrue, unwrap_or}
+use Rattle.std.specs.Prelude.{ℕ, zero, suc, ◌≡◌, ◌++◌, List, [], ◌∷◌, Some, IsTrue, unwrap_or}
 use Rattle.ilk_cnf.specs.Literal.{Literal}
 use Rattle.ilk_cnf.specs.Formula.{Formula}
 use Rattle.ilk_lines.specs.Lines.{Bytes}
-use Rattle.ilk_log.specs.declared.step.Step.{Step}
 use Rattle.ilk_log.specs.Derived.{is_derived, is_refutation}
 use Rattle.ilk_rup.specs.RefutationText.{added_by, items_of, text_words}
 use Rattle.ilk_rup.specs.declared.rup.Rup.{Rup}

@@ -1,10 +1,10 @@
 -- Only private contracts and proofs need this file: how the items of a text are read, word by word.
 use Rattle.std.specs.Prelude.{ℕ, ◌<◌, ◌≡◌, Bool, true, false, List, [], ◌∷◌, ◌++◌, Option, Some, None, length}
-use Rattle.ilk_cnf.specs.Literal.{Literal, opposite, has_lit, has_var}
+use Rattle.ilk_cnf.specs.Literal.{Literal, opposite, has_lit}
 use Rattle.ilk_cnf.specs.Formula.{is_tautology}
 use Rattle.ilk_lines.specs.Lines.{Bytes}
 use Rattle.ilk_rup.specs.RefutationText.{added_by, items_of, literals_of}
-use Rattle.ilk_rup.specs.Standing.{IsClauseOf}
+use Rattle.ilk_rup.specs.Needs.{IsClauseOf}
 use Rattle.ilk_rup.specs.declared.item.Item.{Item}
 use Rattle.ilk_rup.specs.declared.item.Item.TheVariants.{End, Malformed, Idle, Adds}
 

@@ -3,8 +3,9 @@ pub mod Accepted
 pub mod WordsLeft
 pub mod LitSet
 pub mod Needs
-pub mod Backed
-pub mod Standing
-pub mod Taken
+pub mod Alike
+pub mod Explained
 pub mod Items
+pub mod Standing
+pub mod Checker
 pub mod Stepped

@@ -1,5 +1,5 @@
 -- A set of literals as a list, and what proofs need of how it is held.
-use Rattle.std.specs.Prelude.{ℕ, ◌≡◌, List, Option, Some, None, slice_get}
+use Rattle.std.specs.Prelude.{ℕ, ◌≡◌, List, Some, None, slice_get}
 use Rattle.ilk_cnf.specs.Literal.{Literal}
 use Rattle.ilk_trail.specs.declared.entry.Entry.{Entry}
 

@@ -1,6 +1,7 @@
 -- Only private contracts and proofs need this file: what a conflict needs, and what is known at level 0.
-use Rattle.std.specs.Prelude.{ℕ, suc, ◌+◌, ◌<◌, ◌≤◌, ◌≡◌, ◌==◌, ◌⊎◌, false, true, not, List, [], ◌∷◌, ◌++◌, Option, Some, IsSomeAnd, IsTrue, length, map, reverse, slice_get, slice_index_or, take}
+use Rattle.std.specs.Prelude.{ℕ, suc, ◌+◌, ◌<◌, ◌≤◌, ◌≡◌, ◌==◌, ◌⊎◌, false, true, not, List, [], ◌∷◌, ◌++◌, Some, IsSomeAnd, IsTrue, length, map, slice_get, slice_index_or, take}
 use Rattle.std.specs.List.{filter}
+use Rattle.ilk_cnf.specs.Formula.{clause_in}
 use Rattle.ilk_cnf.specs.Literal.{Literal, opposite, has_lit, has_var, vars_differ}
 use Rattle.ilk_clauses.specs.Reasons.{clause_at, is_reason}
 use Rattle.ilk_log.specs.Derived.{ends_false, opposites}
@@ -65,6 +66,13 @@ pub record Explains (cs : List (List Literal)) (es : List Entry) (set : List Lit
   pub walk : CanWalk cs es set from top
   pub assumed : (i : ℕ) (e : Entry) → known ≤ i → i < from → slice_get es i ≡ Some e → has_lit (opposite e.lit) set ≡ true
   pub untrue : (m : Literal) → has_lit m set ≡ true → has_lit m (lits_of (take known es)) ≡ false
+
+-- a clause of these literals over different variables of 1 to n
+pub record IsClauseOf (n : ℕ) (set c : List Literal) : Type 0 where
+  pub within : clause_in n c ≡ true
+  pub differ : vars_differ c ≡ true
+  pub fewer : (m : Literal) → has_lit m c ≡ true → has_lit m set ≡ true
+  pub more : (m : Literal) → has_lit m set ≡ true → has_lit m c ≡ true
 
 -- the hints derive any clause of these literals
 abbrev pub AreHints : List (List Literal) → List Literal → List ℕ → Type 0

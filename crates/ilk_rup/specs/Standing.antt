@@ -1,29 +1,22 @@
 -- Only private contracts and proofs need this file: what is kept while the items of a text are taken.
-use Rattle.std.specs.Prelude.{ℕ, ◌≡◌, ◌⊎◌, true, false, not, List, [], ◌∷◌, ◌++◌, Some, length, slice_get}
+use Rattle.std.specs.Prelude.{ℕ, ◌≡◌, Bool, true, false, not, List, [], ◌∷◌, ◌++◌, length}
 use Rattle.std.specs.List.{list_all}
-use Rattle.ilk_cnf.specs.Literal.{Literal, has_lit, vars_differ}
-use Rattle.ilk_cnf.specs.Formula.{Formula, clause_in}
+use Rattle.ilk_arena.specs.Arena.{ArenaLists}
 use Rattle.ilk_clauses.specs.Chained.{IsClauseAdded}
+use Rattle.ilk_clauses.specs.Reasons.{is_conflict}
+use Rattle.ilk_cnf.specs.Formula.{Formula}
+use Rattle.ilk_cnf.specs.Literal.{Literal, has_lit}
 use Rattle.ilk_log.specs.declared.step.Step.{Step}
 use Rattle.ilk_log.specs.Derived.{is_derived_log, is_empty, is_refutation, step_clauses}
 use Rattle.ilk_log.specs.Propagation.{is_closed}
-use Rattle.ilk_arena.specs.Arena.{ArenaLists}
-use Rattle.ilk_trail.specs.Trail.{TrailList, level_of}
 use Rattle.ilk_trail.specs.Laws.{is_set, lits_of}
+use Rattle.ilk_trail.specs.Trail.{TrailList, level_of}
 use Rattle.ilk_watches.specs.Watched.{IsQueue}
 use Rattle.ilk_watches.specs.declared.queue.Queue.{Queue}
 use Rattle.ilk_rup.specs.Accepted.{Follows}
-use Rattle.ilk_rup.specs.Backed.{Backed, Same, Alone}
-use Rattle.ilk_trail.specs.declared.entry.Entry.{Entry}
-use Rattle.ilk_rup.specs.Needs.{AreHints, IsForced, IsKnown, unset_first}
+use Rattle.ilk_rup.specs.Alike.{Alike}
+use Rattle.ilk_rup.specs.Needs.{AreHints, IsClauseOf, IsForced, IsKnown, unset_first}
 use Rattle.ilk_rup.specs.declared.base.Base.{Base}
-
--- a clause of these literals over different variables of 1 to n
-pub record IsClauseOf (n : ℕ) (set c : List Literal) : Type 0 where
-  pub within : clause_in n c ≡ true
-  pub differ : vars_differ c ≡ true
-  pub fewer : (m : Literal) → has_lit m c ≡ true → has_lit m set ≡ true
-  pub more : (m : Literal) → has_lit m set ≡ true → has_lit m c ≡ true
 
 -- the clauses are those of the formula and of the steps, each step follows, and none is empty
 pub record IsLogged (f : Formula) (clauses : List (List Literal)) (log : List Step) : Type 0 where
@@ -31,9 +24,8 @@ pub record IsLogged (f : Formula) (clauses : List (List Literal)) (log : List St
   pub derived : is_derived_log f log ≡ true
   pub unended : list_all (λ (s : Step). not (is_empty s.clause)) log ≡ true
 
--- what is known where the clauses so far are those given: each clause that is kept stands behind them,
--- and each of them is kept, or has a literal that stands alone in one that is kept
-pub record Held (f : Formula) (given : List (List Literal)) (clauses : ArenaLists) (trail : TrailList) (queue : Queue) (units : List ℕ) (named : ℕ) (log : List Step) : Type 0 where
+-- what is so of the clauses, of what they set at level 0, and of the steps
+pub record Held (f : Formula) (clauses : ArenaLists) (trail : TrailList) (queue : Queue) (units : List ℕ) (named : ℕ) (log : List Step) : Type 0 where
   pub vars : clauses.vars ≡ f.vars
   pub trail_vars : trail.vars ≡ f.vars
   pub level : level_of trail.entries ≡ 0
@@ -41,42 +33,72 @@ pub record Held (f : Formula) (given : List (List Literal)) (clauses : ArenaList
   pub forced : (i : ℕ) → IsForced clauses.clauses trail.entries i
   pub known : IsKnown units clauses.clauses trail.entries f.vars named
   pub logged : IsLogged f clauses.clauses log
-  pub backed : (i : ℕ) (d : List Literal) → slice_get clauses.clauses i ≡ Some d → Backed given d
-  pub same : (j : ℕ) (s : List Literal) → slice_get given j ≡ Some s → Same clauses.clauses s ⊎ Alone clauses.clauses s
 
-abbrev pub Loose : Formula → List (List Literal) → Base → Type 0
-Loose f given k = Held f given k.clauses k.trail k.queue k.units.items k.named k.log
+-- before propagation has come to its end
+pub record Loose (k : Base) : Type 0 where
+  pub held : Held k.formula.now k.clauses k.trail k.queue k.explainer.units.items k.explainer.named k.log
+  pub needed_vars : k.explainer.needed.vars ≡ k.formula.now.vars
+  pub set_vars : k.set.vars ≡ k.formula.now.vars
 
--- the same, where propagation is at its end
-pub record Settled (f : Formula) (given : List (List Literal)) (k : Base) : Type 0 where
-  pub loose : Loose f given k
+-- and where it has
+pub record Settled (k : Base) : Type 0 where
+  pub loose : Loose k
   pub closed : is_closed k.clauses.clauses (lits_of k.trail.entries) ≡ true
   pub head : k.queue.head ≡ length k.trail.entries
   pub settled : k.queue.settled ≡ length k.clauses.clauses
-  pub named : k.named ≡ length k.trail.entries
+  pub named : k.explainer.named ≡ length k.trail.entries
 
--- the log refutes the formula, and so the empty clause follows from the clauses given
-pub record Refutes (f : Formula) (given : List (List Literal)) (k : Base) : Type 0 where
-  pub log : is_refutation f k.log ≡ true
-  pub follows : Follows f.vars given []
+-- the log refutes the formula, and the empty clause follows
+pub record Refutes (k : Base) : Type 0 where
+  pub log : is_refutation k.formula.now k.log ≡ true
+  pub follows : Follows k.formula.now.vars k.clauses.clauses []
+
+-- what is so between two items
+pub record Stands (k : Base) : Type 0 where
+  pub set_vars : k.set.vars ≡ k.formula.now.vars
+  pub going : k.refuted ≡ false → Settled k
+  pub ended : k.refuted ≡ true → Refutes k
+
+-- the same follows from the clauses after a call as from those before it
+pub record IsAlike (old new : Base) : Type 0 where
+  pub formula : new.formula ≡ old.formula
+  pub alike : Alike old.clauses.clauses new.clauses.clauses
+
+-- and the same is set, and each clause is false that was
+pub record IsNamed (old new : Base) : Type 0 where
+  pub same : IsAlike old new
+  pub refuted : new.refuted ≡ old.refuted
+  pub trail : new.trail ≡ old.trail
+  pub conflicts : (c : ℕ) → is_conflict old.clauses.clauses (lits_of old.trail.entries) c ≡ true → is_conflict new.clauses.clauses (lits_of new.trail.entries) c ≡ true
 
 -- a clause more, with the step that shows it
 pub record IsStepAdded (old : Base) (s : Step) (new : Base) : Type 0 where
   pub clauses : IsClauseAdded old.clauses s.clause new.clauses
   pub log : new.log ≡ old.log ++ s ∷ []
-  pub trail : new.trail ≡ old.trail
-  pub queue : new.queue ≡ old.queue
-  pub units : new.units ≡ old.units
-  pub named : new.named ≡ old.named
+  pub rest : new ≡ record old { clauses = new.clauses; log = new.log }
 
--- no hints derive a clause of these literals from the clauses given
-abbrev pub NoneFollows : ℕ → List (List Literal) → List Literal → Type 0
-NoneFollows n given set = (c : List Literal) → IsClauseOf n set c → Follows n given c → ⊥
+-- no hints derive a clause of the literals at hand
+abbrev pub NoneFollows : Base → Type 0
+NoneFollows k = (c : List Literal) → IsClauseOf k.formula.now.vars k.set.lits c → Follows k.formula.now.vars k.clauses.clauses c → ⊥
 
--- the clause of a set of literals, those that are unset first, with hints that derive it; one is unset
-pub record IsDerivedStep (clauses : List (List Literal)) (es : List Entry) (set : List Literal) (s : Step) : Type 0 where
-  pub clause : s.clause ≡ unset_first es set
-  pub hints : AreHints clauses set s.hints
+-- the clause of the literals at hand, those that are unset first, with hints that derive it; none of them
+-- is true, and one is unset
+pub record IsDerivedStep (k : Base) (s : Step) : Type 0 where
+  pub loose : Loose k
+  pub clause : s.clause ≡ unset_first k.trail.entries k.set.lits
+  pub hints : AreHints k.clauses.clauses k.set.lits s.hints
+  pub untrue : (m : Literal) → has_lit m k.set.lits ≡ true → has_lit m (lits_of k.trail.entries) ≡ false
   pub unset : Literal
-  pub has : has_lit unset set ≡ true
-  pub open_ : is_set es unset.var ≡ false
+  pub has : has_lit unset k.set.lits ≡ true
+  pub open_ : is_set k.trail.entries unset.var ≡ false
+
+-- the clause of the literals at hand follows and was taken, or none of them follows
+pub record HasTaken (old new : Base) : Type 0 where
+  pub stands : Stands new
+  pub formula : new.formula ≡ old.formula
+  pub follows : (c : List Literal) → IsClauseOf old.formula.now.vars old.set.lits c → Follows old.formula.now.vars old.clauses.clauses c
+  pub alike : (c : List Literal) → IsClauseOf old.formula.now.vars old.set.lits c → Alike (old.clauses.clauses ++ c ∷ []) new.clauses.clauses
+
+abbrev pub IsTaken : Base → Bool → Base → Type 0
+IsTaken old true new = HasTaken old new
+IsTaken old false new = NoneFollows old

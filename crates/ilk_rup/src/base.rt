@@ -1,16 +1,14 @@
-//! What is known between two items: the clauses so far, what they set at level 0, and the steps that
-//! show it.
+//! The clauses so far, what they set at level 0, and the steps that show them.
 
-ghost use Rattle.std.specs.Prelude.{◌≡◌, ◌<◌, ◌≤◌, ◌+◌, ◌∷◌, [], ℕ, true, false, List, length, replicate, ◌^◌, IfOk, IfNone, IfSome, OnOk, IsTrue};
-ghost use Rattle.ilk_cnf.specs.Formula.{Formula, clause_in};
+ghost use Rattle.std.specs.Prelude.{◌≡◌, ◌<◌, ◌≤◌, ◌+◌, ◌∷◌, [], ℕ, true, false, length, IfOk, IfNone, IfSome, OnOk, IsTrue};
+ghost use Rattle.ilk_cnf.specs.Formula.{clause_in};
 ghost use Rattle.ilk_cnf.specs.Literal.{Literal, has_lit, vars_differ};
 ghost use Rattle.ilk_clauses.specs.Reasons.{is_conflict};
-ghost use Rattle.ilk_log.specs.Propagation.{is_closed};
 ghost use Rattle.ilk_trail.specs.Laws.{lits_of};
-ghost use Rattle.ilk_rup.specs.Standing.{IsDerivedStep, IsStepAdded, Loose, NoneFollows, Refutes, Settled};
+ghost use Rattle.ilk_rup.specs.Standing.{IsAlike, IsDerivedStep, IsNamed, IsStepAdded, IsTaken, Loose, NoneFollows, Settled, Stands};
 
 use crate::assume::{assume, is_true, unset_first};
-use crate::explain::{Scratch, explain, reason_of};
+use crate::explain::{Conflict, Explainer, reason_of};
 use crate::set::LitSet;
 use ilk_clauses::Clauses;
 use ilk_cnf::{Cnf, Lit, Lits};
@@ -19,17 +17,19 @@ use ilk_trail::Trail;
 use ilk_watches::Queue;
 use std::alloc::{AllocError, Global};
 
-/// What is known between two items.
+/// The clauses of a formula and those that follow so far, what they set, and the steps that show them.
 #[derive(Drop)]
-pub struct Base {
+pub struct Base<'a> {
+    pub formula: &'a Cnf,
     pub clauses: Clauses,
     pub trail: Trail,
     pub queue: Queue,
-    // by variable: the hint that names the clause of its literal alone, 0 where there is none
-    pub units: Vec<u64>,
-    // how many of the entries have such a clause
-    pub named: u64,
+    pub explainer: Explainer,
+    // the literals of the clause at hand
+    pub set: LitSet,
     pub log: Log,
+    // the log ends with the empty clause
+    pub refuted: bool,
 }
 
 // The clause of one literal.
@@ -41,9 +41,36 @@ fn alone(alloc: Global, l: Lit) -> Result<Lits, AllocError>
     Ok(clause)
 }
 
-impl Base {
-    /// Adds a clause, and the step that shows it.
-    pub fn add(&mut self, clause: Lits, hints: Hints) -> Result<(), AllocError>
+impl<'a> Base<'a> {
+    /// The clauses of a formula, before anything is set.
+    pub fn new(alloc: Global, cnf: &'a Cnf) -> Result<Base<'a>, AllocError>
+        ensures loose { IfOk result (λ k. Loose k) }
+        ensures formula { IfOk result (λ k. k.formula.now ≡ cnf.now) }
+        ensures clauses { IfOk result (λ k. k.clauses.clauses ≡ cnf.now.clauses) }
+        ensures going { IfOk result (λ k. k.refuted ≡ false) }
+    {
+        let vars = cnf.vars();
+        let _ = cnf.clauses();
+        let clauses = Clauses::of(alloc, cnf)?;
+        let trail = Trail::new(alloc, vars)?;
+        let queue = Queue::new();
+        let explainer = Explainer::new(alloc, vars)?;
+        let set = LitSet::new(alloc, vars)?;
+        let log = Log::new(alloc);
+        Ok(Base {
+            formula: cnf,
+            clauses,
+            trail,
+            queue,
+            explainer,
+            set,
+            log,
+            refuted: false,
+        })
+    }
+
+    // Adds a clause, and the step that shows it.
+    fn add(&mut self, clause: Lits, hints: Hints) -> Result<(), AllocError>
         requires within { IsTrue (clause_in self.old.clauses.vars clause) }
         requires differ { IsTrue (vars_differ clause) }
         ensures { OnOk result (IsStepAdded self.old (record { clause = clause; hints = hints }) self.new) }
@@ -53,195 +80,127 @@ impl Base {
         self.log.push(Step { clause, hints })
     }
 
-    /// Gives the literal of the first entry that has none a clause of its own. The set has no literals,
-    /// and so it is again.
-    pub fn name(
-        &mut self,
-        alloc: Global,
-        scratch: &mut Scratch,
-        set: &mut LitSet,
-    ) -> Result<(), AllocError>
-        requires held { (f : Formula) × (given : List (List Literal)) × Loose f given self.old }
-        requires below { self.old.named < length self.old.trail.entries }
-        requires set { set.old ≡ record { vars = self.old.clauses.vars; lits = [] } }
-        requires vars { scratch.old.needed.vars ≡ self.old.clauses.vars }
-        ensures loose { OnOk result ((f : Formula) (given : List (List Literal)) → Loose f given self.old → Loose f given self.new) }
-        ensures trail { OnOk result (self.new.trail ≡ self.old.trail) }
-        ensures queue { OnOk result (self.new.queue ≡ self.old.queue) }
-        ensures named { OnOk result (self.new.named ≡ self.old.named + 1) }
-        ensures clauses { OnOk result ((c : ℕ) → IsTrue (is_conflict self.old.clauses.clauses (lits_of self.old.trail.entries) c) → IsTrue (is_conflict self.new.clauses.clauses (lits_of self.old.trail.entries) c)) }
-        ensures set { OnOk result (set.new ≡ set.old) }
-        ensures vars { OnOk result (scratch.new.needed.vars ≡ scratch.old.needed.vars) }
+    // Gives the literal of the first entry that has none a clause of its own.
+    fn name(&mut self, alloc: Global) -> Result<(), AllocError>
+        requires loose { Loose self.old }
+        requires below { self.old.explainer.named < length self.old.trail.entries }
+        ensures loose { OnOk result (Loose self.new) }
+        ensures same { OnOk result (IsNamed self.old self.new) }
+        ensures named { OnOk result (self.new.explainer.named ≡ self.old.explainer.named + 1) }
     {
         let _ = self.clauses.count();
         let _ = self.trail.count();
-        let l = self.trail.at(self.named);
-        let reason = reason_of(&self.clauses, &self.trail, self.named);
-        set.put(l);
-        let hints = explain(
-            alloc,
-            scratch,
-            &self.clauses,
-            &self.trail,
-            set,
-            self.units.as_slice(),
-            reason,
-            self.named,
-            self.named,
-            self.named,
-        )?;
-        set.clear();
+        let named = self.explainer.named;
+        let l = self.trail.at(named);
+        let reason = reason_of(&self.clauses, &self.trail, named);
+        let at = Conflict {
+            clause: reason,
+            from: named,
+            top: named,
+        };
+        self.set.clear();
+        self.set.put(l);
+        let hints = self
+            .explainer
+            .explain(alloc, &self.clauses, &self.trail, &self.set, at)?;
         self.add(alone(alloc, l)?, hints)?;
-        self.units[l.var() as usize] = self.clauses.count();
-        self.named += 1;
+        self.explainer.units[l.var() as usize] = self.clauses.count();
+        self.explainer.named += 1;
         Ok(())
     }
 
-    /// Gives the literal of each entry a clause of its own. The set has no literals, and so it is again.
-    pub fn name_all(
-        &mut self,
-        alloc: Global,
-        scratch: &mut Scratch,
-        set: &mut LitSet,
-    ) -> Result<(), AllocError>
-        requires held { (f : Formula) × (given : List (List Literal)) × Loose f given self.old }
-        requires set { set.old ≡ record { vars = self.old.clauses.vars; lits = [] } }
-        requires vars { scratch.old.needed.vars ≡ self.old.clauses.vars }
-        ensures loose { OnOk result ((f : Formula) (given : List (List Literal)) → Loose f given self.old → Loose f given self.new) }
-        ensures trail { OnOk result (self.new.trail ≡ self.old.trail) }
-        ensures named { OnOk result (self.new.named ≡ length self.old.trail.entries) }
-        ensures clauses { OnOk result ((c : ℕ) → IsTrue (is_conflict self.old.clauses.clauses (lits_of self.old.trail.entries) c) → IsTrue (is_conflict self.new.clauses.clauses (lits_of self.old.trail.entries) c)) }
-        ensures vars { OnOk result (self.new.clauses.vars ≡ self.old.clauses.vars) }
-        ensures set { OnOk result (set.new ≡ set.old) }
-        ensures needed { OnOk result (scratch.new.needed.vars ≡ scratch.old.needed.vars) }
+    // Gives the literal of each entry a clause of its own.
+    fn name_all(&mut self, alloc: Global) -> Result<(), AllocError>
+        requires { Loose self.old }
+        ensures loose { OnOk result (Loose self.new) }
+        ensures same { OnOk result (IsNamed self.old self.new) }
+        ensures named { OnOk result (self.new.explainer.named ≡ length self.new.trail.entries) }
     {
-        'names: while self.named < self.trail.count() {
-            self.name(alloc, scratch, set)?;
+        'names: while self.explainer.named < self.trail.count() {
+            self.name(alloc)?;
         }
         Ok(())
     }
 
-    /// Sets what the clauses force at level 0 until nothing is left to set, or answers a clause that is
-    /// false. The literal of each entry has a clause of its own then.
-    pub fn settle(
-        &mut self,
-        alloc: Global,
-        scratch: &mut Scratch,
-        set: &mut LitSet,
-    ) -> Result<Option<u64>, AllocError>
-        requires held { (f : Formula) × (given : List (List Literal)) × Loose f given self.old }
-        requires set { set.old ≡ record { vars = self.old.clauses.vars; lits = [] } }
-        requires vars { scratch.old.needed.vars ≡ self.old.clauses.vars }
-        ensures settled { IfOk result (λ conflict. IfNone conflict ((f : Formula) (given : List (List Literal)) → Loose f given self.old → Settled f given self.new)) }
-        ensures loose { IfOk result (λ conflict. IfSome conflict (λ c. (f : Formula) (given : List (List Literal)) → Loose f given self.old → Loose f given self.new)) }
-        ensures conflict { IfOk result (λ conflict. IfSome conflict (λ c. IsTrue (is_conflict self.new.clauses.clauses (lits_of self.new.trail.entries) c))) }
-        ensures named { IfOk result (λ conflict. IfSome conflict (λ c. self.new.named ≡ length self.new.trail.entries)) }
-        ensures vars { OnOk result (self.new.clauses.vars ≡ self.old.clauses.vars) }
-        ensures set { OnOk result (set.new ≡ set.old) }
-        ensures needed { OnOk result (scratch.new.needed.vars ≡ scratch.old.needed.vars) }
+    /// Sets what the clauses force at level 0 until nothing is left to set, or the empty clause is
+    /// derived. The literal of each entry has a clause of its own then.
+    pub fn settle(&mut self, alloc: Global) -> Result<(), AllocError>
+        requires loose { Loose self.old }
+        requires going { self.old.refuted ≡ false }
+        ensures stands { OnOk result (Stands self.new) }
+        ensures same { OnOk result (IsAlike self.old self.new) }
     {
         'rounds: loop {
-            match self.propagate() {
+            match self.queue.propagate(&mut self.clauses, &mut self.trail) {
                 None => {
-                    if self.named == self.trail.count() {
-                        return Ok(None);
+                    if self.explainer.named == self.trail.count() {
+                        return Ok(());
                     }
-                    self.name_all(alloc, scratch, set)?;
+                    self.name_all(alloc)?;
                 }
                 Some(conflict) => {
-                    self.name_all(alloc, scratch, set)?;
-                    return Ok(Some(conflict));
+                    self.name_all(alloc)?;
+                    self.refute(alloc, conflict)?;
+                    return Ok(());
                 }
             }
         }
     }
 
-    // Sets what the clauses force, or answers a clause that is false.
-    fn propagate(&mut self) -> Option<u64>
-        requires held { (f : Formula) × (given : List (List Literal)) × Loose f given self.old }
-        ensures loose { (f : Formula) (given : List (List Literal)) → Loose f given self.old → Loose f given self.new }
-        ensures conflict { IfSome result (λ c. IsTrue (is_conflict self.new.clauses.clauses (lits_of self.new.trail.entries) c)) }
-        ensures closed { IfNone result (IsTrue (is_closed self.new.clauses.clauses (lits_of self.new.trail.entries))) }
-        ensures ended { IfNone result ((self.new.queue.head ≡ length self.new.trail.entries) × (self.new.queue.settled ≡ length self.new.clauses.clauses)) }
-        ensures vars { self.new.clauses.vars ≡ self.old.clauses.vars }
-        ensures named { self.new.named ≡ self.old.named }
-    {
-        self.queue.propagate(&mut self.clauses, &mut self.trail)
-    }
-
-    /// Adds the empty clause, where clause `conflict` is false at level 0, and the literal of each entry
-    /// has a clause of its own. The set has no literals.
-    pub fn refute(
-        &mut self,
-        alloc: Global,
-        scratch: &mut Scratch,
-        set: &LitSet,
-        conflict: u64,
-    ) -> Result<(), AllocError>
-        requires held { (f : Formula) × (given : List (List Literal)) × Loose f given self.old }
-        requires named { self.old.named ≡ length self.old.trail.entries }
+    // Derives the empty clause, where clause `conflict` is false at level 0, and the literal of each entry
+    // has a clause of its own.
+    fn refute(&mut self, alloc: Global, conflict: u64) -> Result<(), AllocError>
+        requires loose { Loose self.old }
+        requires named { self.old.explainer.named ≡ length self.old.trail.entries }
         requires conflict { IsTrue (is_conflict self.old.clauses.clauses (lits_of self.old.trail.entries) conflict) }
-        requires set { set.now ≡ record { vars = self.old.clauses.vars; lits = [] } }
-        requires vars { scratch.old.needed.vars ≡ self.old.clauses.vars }
-        ensures refutes { OnOk result ((f : Formula) (given : List (List Literal)) → Loose f given self.old → Refutes f given self.new) }
-        ensures needed { OnOk result (scratch.new.needed.vars ≡ scratch.old.needed.vars) }
+        ensures stands { OnOk result (Stands self.new) }
+        ensures same { OnOk result (IsAlike self.old self.new) }
     {
         let _ = self.clauses.count();
         let _ = self.trail.count();
-        let hints = explain(
-            alloc,
-            scratch,
-            &self.clauses,
-            &self.trail,
-            set,
-            self.units.as_slice(),
-            conflict,
-            self.named,
-            self.named,
-            self.named,
-        )?;
-        self.add(Lits::new(alloc), hints)?;
+        let at = Conflict {
+            clause: conflict,
+            from: self.explainer.named,
+            top: self.explainer.named,
+        };
+        self.set.clear();
+        let hints = self
+            .explainer
+            .explain(alloc, &self.clauses, &self.trail, &self.set, at)?;
+        let clause = Lits::new(alloc);
+        self.log.push(Step { clause, hints })?;
+        self.refuted = true;
         Ok(())
     }
 
-    // Whether some literal of a set is true at level 0.
-    pub fn knows(&self, set: &LitSet) -> bool
-        requires { set.now.vars ≡ self.now.trail.vars }
-        ensures yes { result ≡ true → (l : Literal) × IsTrue (has_lit l set.now.lits) × IsTrue (has_lit l (lits_of self.now.trail.entries)) }
-        ensures no { result ≡ false → (l : Literal) → has_lit l set.now.lits ≡ true → has_lit l (lits_of self.now.trail.entries) ≡ false }
+    // Whether some literal at hand is true at level 0.
+    fn knows(&self) -> bool
+        requires { self.now.set.vars ≡ self.now.trail.vars }
+        ensures yes { result ≡ true → (l : Literal) × IsTrue (has_lit l self.now.set.lits) × IsTrue (has_lit l (lits_of self.now.trail.entries)) }
+        ensures no { result ≡ false → (l : Literal) → has_lit l self.now.set.lits ≡ true → has_lit l (lits_of self.now.trail.entries) ≡ false }
     {
-        for i in 0..set.len() {
-            if is_true(&self.trail, set.at(i)) {
+        for i in 0..self.set.len() {
+            if is_true(&self.trail, self.set.at(i)) {
                 return true;
             }
         }
         false
     }
 
-    /// The clause of a set of literals, none of which is true at level 0, with hints that derive it. None
-    /// exactly where no hints do; the trail is then of no more use.
-    pub fn derive(
-        &mut self,
-        alloc: Global,
-        scratch: &mut Scratch,
-        set: &LitSet,
-    ) -> Result<Option<Step>, AllocError>
-        requires held { (f : Formula) × (given : List (List Literal)) × Settled f given self.old }
-        requires set { set.now.vars ≡ self.old.clauses.vars }
-        requires untrue { (l : Literal) → has_lit l set.now.lits ≡ true → has_lit l (lits_of self.old.trail.entries) ≡ false }
-        requires vars { scratch.old.needed.vars ≡ self.old.clauses.vars }
-        ensures none { IfOk result (λ step. IfNone step ((f : Formula) (given : List (List Literal)) → Settled f given self.old → NoneFollows f.vars given set.now.lits)) }
-        ensures derived { IfOk result (λ step. IfSome step (λ s. IsDerivedStep self.old.clauses.clauses self.old.trail.entries set.now.lits s)) }
-        ensures loose { IfOk result (λ step. IfSome step (λ s. (f : Formula) (given : List (List Literal)) → Settled f given self.old → Loose f given self.new)) }
-        ensures trail { IfOk result (λ step. IfSome step (λ s. self.new.trail ≡ self.old.trail)) }
+    // The clause of the literals at hand, none of which is true at level 0, with hints that derive it.
+    // None exactly where no hints do; the trail is then of no more use.
+    fn derive(&mut self, alloc: Global) -> Result<Option<Step>, AllocError>
+        requires settled { Settled self.old }
+        requires untrue { (l : Literal) → has_lit l self.old.set.lits ≡ true → has_lit l (lits_of self.old.trail.entries) ≡ false }
+        ensures none { IfOk result (λ step. IfNone step (NoneFollows self.old)) }
+        ensures derived { IfOk result (λ step. IfSome step (λ s. IsDerivedStep self.new s)) }
         ensures clauses { self.new.clauses.clauses ≡ self.old.clauses.clauses }
-        ensures vars { self.new.clauses.vars ≡ self.old.clauses.vars }
-        ensures needed { OnOk result (scratch.new.needed.vars ≡ scratch.old.needed.vars) }
+        ensures rest { self.new ≡ record self.old { clauses = self.new.clauses; trail = self.new.trail; queue = self.new.queue; explainer = self.new.explainer } }
     {
-        let _ = set.len();
+        let _ = self.set.len();
         let _ = self.clauses.count();
         let known = self.trail.count();
-        assume(&mut self.trail, set);
+        assume(&mut self.trail, &self.set);
         let from = self.trail.count();
         if from == known {
             return Ok(None);
@@ -252,45 +211,42 @@ impl Base {
         };
         let _ = self.clauses.count();
         let top = self.trail.count();
-        let hints = explain(
-            alloc,
-            scratch,
-            &self.clauses,
-            &self.trail,
-            set,
-            self.units.as_slice(),
-            conflict,
+        let at = Conflict {
+            clause: conflict,
             from,
             top,
-            known,
-        )?;
+        };
+        let hints = self
+            .explainer
+            .explain(alloc, &self.clauses, &self.trail, &self.set, at)?;
         self.trail.back_to(0);
         self.queue.back_to(&self.trail);
-        let clause = unset_first(alloc, &self.trail, set)?;
+        let clause = unset_first(alloc, &self.trail, &self.set)?;
         Ok(Some(Step { clause, hints }))
     }
-}
 
-// A zero for each variable, and one more.
-fn zeros(alloc: Global, vars: u64) -> Result<Vec<u64>, AllocError>
-    requires { vars ≤ 2 ^ 62 }
-    ensures { IfOk result (λ zeros. zeros.items ≡ replicate (vars + 1) 0) }
-{
-    Ok(vec![in alloc; 0; vars as usize + 1]?)
-}
-
-/// The clauses of a formula, before anything is set.
-pub fn started(alloc: Global, cnf: &Cnf) -> Result<Base, AllocError>
-    ensures { IfOk result (λ base. Loose cnf.now cnf.now.clauses base) }
-{
-    let vars = cnf.vars();
-    let _ = cnf.clauses();
-    Ok(Base {
-        clauses: Clauses::of(alloc, cnf)?,
-        trail: Trail::new(alloc, vars)?,
-        queue: Queue::new(),
-        units: zeros(alloc, vars)?,
-        named: 0,
-        log: Log::new(alloc),
-    })
+    /// Takes the clause of the literals at hand. Answers whether some list of hints derives it from the
+    /// clauses so far; where none does, nothing more is known.
+    pub fn take(&mut self, alloc: Global) -> Result<bool, AllocError>
+        requires { Stands self.old }
+        ensures { IfOk result (λ right. IsTaken self.old right self.new) }
+    {
+        if self.refuted {
+            return Ok(true);
+        }
+        if self.knows() {
+            return Ok(true);
+        }
+        let step = match self.derive(alloc)? {
+            None => return Ok(false),
+            Some(step) => step,
+        };
+        let _set = self.set.len();
+        let _trail = self.trail.count();
+        let _before = self.clauses.count();
+        self.add(step.clause, step.hints)?;
+        let _after = self.clauses.count();
+        self.settle(alloc)?;
+        Ok(true)
+    }
 }

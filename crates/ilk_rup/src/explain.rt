@@ -1,11 +1,12 @@
 //! The hints of a conflict: only those that it needs, found on a walk back over the trail.
 
-ghost use Rattle.std.specs.Prelude.{◌≡◌, ◌<◌, ◌≤◌, ◌+◌, ◌++◌, ◌∷◌, [], ◌==◌, not, length, reverse, slice_index, take, IfOk, OnOk, IsTrue};
+ghost use Rattle.std.specs.Prelude.{◌≡◌, ◌<◌, ◌≤◌, ◌+◌, ◌^◌, ◌++◌, ◌∷◌, [], ◌==◌, not, length, replicate, reverse, slice_index, take, IfOk, OnOk, IsTrue};
 ghost use Rattle.ilk_cnf.specs.Formula.{lit_in};
 ghost use Rattle.ilk_clauses.specs.Reasons.{clause_at};
 ghost use Rattle.std.specs.List.{filter};
 ghost use Rattle.ilk_trail.specs.Laws.{lits_of};
-ghost use Rattle.ilk_rup.specs.Needs.{AreHints, CanWalk, Explains, IsKnown, IsForced, IsNeeded, IsPassed, IsReasonAt, NeedsOne, Shows, unit_hints};
+ghost use Rattle.ilk_rup.specs.Explained.{CanExplain, IsNew};
+ghost use Rattle.ilk_rup.specs.Needs.{AreHints, CanWalk, IsForced, IsNeeded, IsPassed, IsReasonAt, NeedsOne, Shows, unit_hints};
 
 use crate::set::LitSet;
 use ilk_clauses::Clauses;
@@ -180,52 +181,86 @@ fn push_turned(hints: &mut Hints, numbers: &[u64]) -> Result<(), AllocError>
     Ok(())
 }
 
-/// The hints that derive a clause of these literals, where clause `conflict` is false by the set and
-/// the entries before `top`: see `Explains`.
-pub fn explain(
-    alloc: Global,
-    scratch: &mut Scratch,
-    clauses: &Clauses,
-    trail: &Trail,
-    set: &LitSet,
-    units: &[u64],
-    conflict: u64,
-    from: u64,
-    top: u64,
-    known: u64,
-) -> Result<Hints, AllocError>
-    requires vars { scratch.old.needed.vars ≡ clauses.now.vars }
-    requires set { set.now.vars ≡ clauses.now.vars }
-    requires trail { trail.now.vars ≡ clauses.now.vars }
-    requires units { IsKnown units.now clauses.now.clauses trail.now.entries clauses.now.vars known }
-    requires explains { Explains clauses.now.clauses trail.now.entries set.now.lits conflict from top known }
-    ensures hints { IfOk result (λ hints. AreHints clauses.now.clauses set.now.lits hints) }
-    ensures vars { scratch.new.needed.vars ≡ scratch.old.needed.vars }
+// A zero for each variable, and one more.
+fn zeros(alloc: Global, vars: u64) -> Result<Vec<u64>, AllocError>
+    requires { vars ≤ 2 ^ 62 }
+    ensures { IfOk result (λ zeros. zeros.items ≡ replicate (vars + 1) 0) }
 {
-    let _ = clauses.count();
-    let _ = trail.count();
-    scratch.needed.clear();
-    scratch.reasons.clear();
-    scratch.reasons.push(conflict + 1)?;
-    need(&mut scratch.needed, clauses, set, conflict);
-    walk(
-        &mut scratch.reasons,
-        &mut scratch.needed,
-        clauses,
-        set,
-        trail,
-        from,
-        top,
-    )?;
-    let hints = gather(alloc, &scratch.needed, units, scratch.reasons.as_slice())?;
-    let _ = scratch.needed.len();
-    Ok(hints)
+    Ok(vec![in alloc; 0; vars as usize + 1]?)
 }
 
-/// What is used anew for each conflict: the needed literals, and the hints of reasons, the last of them
-/// first.
+/// A clause that is false, and which of the entries stand between it and what is known or assumed:
+/// those from `from` on and before `top`.
+#[derive(Clone, Copy)]
+pub struct Conflict {
+    pub clause: u64,
+    pub from: u64,
+    pub top: u64,
+}
+
+/// What finds the hints of a conflict.
 #[derive(Drop)]
-pub struct Scratch {
+pub struct Explainer {
+    // by variable: the hint that names the clause of its literal alone, 0 where there is none
+    pub units: Vec<u64>,
+    // how many of the entries have such a clause
+    pub named: u64,
+    // used anew for each conflict: the needed literals, and the hints of reasons, the last of them first
     pub needed: LitSet,
     pub reasons: Vec<u64>,
+}
+
+impl Explainer {
+    /// None of the variables 1 to `vars` has a clause of its literal alone.
+    pub fn new(alloc: Global, vars: u64) -> Result<Explainer, AllocError>
+        requires { vars ≤ 2 ^ 62 }
+        ensures { IfOk result (λ x. IsNew x vars) }
+    {
+        Ok(Explainer {
+            units: zeros(alloc, vars)?,
+            named: 0,
+            needed: LitSet::new(alloc, vars)?,
+            reasons: Vec::new(alloc),
+        })
+    }
+
+    /// The hints that derive a clause of these literals, where clause `at.clause` is false by the set
+    /// and the entries before `at.top`: see `Explains`.
+    pub fn explain(
+        &mut self,
+        alloc: Global,
+        clauses: &Clauses,
+        trail: &Trail,
+        set: &LitSet,
+        at: Conflict,
+    ) -> Result<Hints, AllocError>
+        requires { CanExplain self.old clauses.now trail.now set.now at }
+        ensures hints { IfOk result (λ hints. AreHints clauses.now.clauses set.now.lits hints) }
+        ensures vars { self.new.needed.vars ≡ self.old.needed.vars }
+        ensures rest { self.new ≡ record self.old { needed = self.new.needed; reasons = self.new.reasons } }
+    {
+        let _ = clauses.count();
+        let _ = trail.count();
+        self.needed.clear();
+        self.reasons.clear();
+        self.reasons.push(at.clause + 1)?;
+        need(&mut self.needed, clauses, set, at.clause);
+        walk(
+            &mut self.reasons,
+            &mut self.needed,
+            clauses,
+            set,
+            trail,
+            at.from,
+            at.top,
+        )?;
+        let hints = gather(
+            alloc,
+            &self.needed,
+            self.units.as_slice(),
+            self.reasons.as_slice(),
+        )?;
+        let _ = self.needed.len();
+        Ok(hints)
+    }
 }

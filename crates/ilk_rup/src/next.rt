@@ -1,7 +1,13 @@
-/// What came of an item: it is right, it is bad, or there is none.
-#[derive(Clone, Copy)]
-pub enum Next {
-    Right,
+use crate::checker::Checker;
+use ilk_log::Log;
+
+/// What came of an item.
+#[derive(Drop)]
+pub enum Next<'a> {
+    /// It is right.
+    Right(Checker<'a>),
+    /// It is bad, or none is left and the empty clause doesn't follow.
     Bad,
-    End,
+    /// None is left, and the log refutes the formula.
+    Refuted(Log),
 }

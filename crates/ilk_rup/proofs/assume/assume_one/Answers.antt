@@ -1,5 +1,4 @@
-use Rattle.std.proofs.Common.{◌≡◌, ◌+◌, ℕ, None, Some, ap, sym, ◌∙◌, refl, arith}
-use Rattle.ilk_cnf.specs.Literal.{opposite}
+use Rattle.std.proofs.Common.{◌+◌, None, Some, ap, arith}
 use Rattle.ilk_trail.specs.Trail.{TrailList, level_of}
 use Rattle.ilk_rup.specs.Needs.{new_one}
 use Rattle.ilk_rup.proofs.assume.assume_one.Goals as goal

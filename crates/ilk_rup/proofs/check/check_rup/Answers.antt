@@ -1,58 +1,45 @@
-use Rattle.std.proofs.Common.{◌≡◌, ◌≤◌, ◌<◌, ◌+◌, ◌++◌, ◌∷◌, [], ℕ, List, refl, sym, ap, ◌∙◌, subst, arith, length}
-use Rattle.ilk_cnf.specs.Literal.{Literal}
-use Rattle.ilk_lines.specs.Lines.{Bytes}
-use Rattle.ilk_rup.specs.LitSet.{LitSetList}
-use Rattle.ilk_rup.specs.RefutationText.{text_words}
-use Rattle.ilk_rup.specs.Stepped.{Progress}
+use Rattle.std.proofs.Common.{◌≡◌, true, ap, subst, arith, length}
+use Rattle.ilk_log.specs.Derived.{is_refutation}
+use Rattle.ilk_cnf.specs.Formula.{Formula}
+use Rattle.ilk_rup.specs.Stepped.{IsStepped}
+use Rattle.ilk_rup.specs.declared.next.Next.{Next}
 use Rattle.ilk_rup.proofs.Bounds.{words-few}
-use Rattle.ilk_rup.proofs.Judging.{ended-judged, progress-start, stepped-bad, stepped-end, stepped-right}
+use Rattle.ilk_rup.proofs.Judging.{going-bad, going-end, going-start, going-step}
 use Rattle.ilk_rup.proofs.check.check_rup.Goals as goal
 
 pub items-init : goal.items-init
 items-init c =
-    let f = c.args.cnf.now in
-    let text = c.args.text.now in
-    let is = c.of-words.ensures in
-    let P : List Bytes → Type 0 = λ ws. Progress f text f.clauses ws 1 in
-    let long = ap length is in
-    record {
-      set = ap (λ (s : LitSetList). s.vars) c.in_ok-checker.ensures.set ∙ ap (λ (s : LitSetList). s.vars) c.in_ok-set.ensures ∙ c.vars-vars.ensures.count;
-      numbered = omega (arith, long);
-      going = (f.clauses, c.in_ok-checker.ensures.stands, subst P (sym is) (progress-start f text));
-    }
-
-pub step-requires-clause-held : goal.step-requires-clause-held
-step-requires-clause-held c = (let g = c.items.invariant.going in (c.args.cnf.now, g.0, g.1, c.vars-vars.ensures.count))
+    let words = c.of-words.ensures in
+    let long = ap length words in
+    record { numbered = omega (arith, long); going = going-start c.args.cnf.now c.args.text.now c.in_ok-checker.checker c.of-words.result c.in_ok-checker.ensures.formula c.in_ok-checker.ensures.alike words }
 
 pub returns-in-Bad : goal.returns-in-Bad
-returns-in-Bad c = (let g = c.items.invariant.going in stepped-bad c.args.cnf.now g.0 c.items.words c.step.new.words c.step.new.checker c.in_ok-step.field-0 (c.in_ok-step.ensures.stepped c.args.cnf.now g.0 g.1 c.vars-vars.ensures.count) c.in-Bad.is c.args.text.now c.items.item g.2)
+returns-in-Bad c =
+    let N : Next → Type 0 = λ x. IsStepped c.items.checker c.items.words c.step.new.words x in
+    going-bad c.args.cnf.now c.args.text.now c.items.checker c.items.words c.items.item c.items.invariant.going (subst N c.in-Bad.is c.in_ok-log.ensures)
 
-pub returns-in-End : goal.returns-in-End
-returns-in-End c =
+pub returns-in-Refuted : goal.returns-in-Refuted
+returns-in-Refuted c =
     let g = c.items.invariant.going in
-    let r = stepped-end c.args.cnf.now g.0 c.items.words c.step.new.words c.step.new.checker c.in_ok-step.field-0 (c.in_ok-step.ensures.stepped c.args.cnf.now g.0 g.1 c.vars-vars.ensures.count) c.in-End.is in
-    ended-judged c.args.cnf.now c.args.text.now g.0 c.items.words c.items.item c.ended.result g.2 r.0 (c.ended.ensures c.args.cnf.now g.0 r.1)
+    let N : Next → Type 0 = λ x. IsStepped c.items.checker c.items.words c.step.new.words x in
+    let F : Formula → Type 0 = λ f. is_refutation f c.in-Refuted.log ≡ true in
+    let r = subst N c.in-Refuted.is c.in_ok-log.ensures in
+    (going-end c.args.cnf.now c.args.text.now c.items.checker c.items.words c.items.item g r.0 r.1, subst F g.formula r.2)
 
 pub overflow_add-item : goal.overflow_add-item
 overflow_add-item c =
-    let v = c.items.invariant in
-    let g = v.going in
-    let r = stepped-right c.args.cnf.now g.0 c.items.words c.step.new.words c.step.new.checker c.in_ok-step.field-0 (c.in_ok-step.ensures.stepped c.args.cnf.now g.0 g.1 c.vars-vars.ensures.count) c.in-Right.is in
+    let N : Next → Type 0 = λ x. IsStepped c.items.checker c.items.words c.step.new.words x in
     let few = words-few c.args.text.now in
-    omega (arith, v.numbered, r.3, few, c.type_inv.text)
+    omega (arith, c.items.invariant.numbered, (subst N c.in-Right.is c.in_ok-log.ensures).shorter, few, c.type_inv.text)
 
 pub items-preserved : goal.items-preserved
 items-preserved c =
-    let v = c.items.invariant in
-    let g = v.going in
-    let r = stepped-right c.args.cnf.now g.0 c.items.words c.step.new.words c.step.new.checker c.in_ok-step.field-0 (c.in_ok-step.ensures.stepped c.args.cnf.now g.0 g.1 c.vars-vars.ensures.count) c.in-Right.is in
+    let N : Next → Type 0 = λ x. IsStepped c.items.checker c.items.words c.step.new.words x in
+    let r = subst N c.in-Right.is c.in_ok-log.ensures in
     record {
-      set = c.in_ok-step.ensures.set ∙ c.vars-vars.ensures.count;
-      numbered = omega (arith, v.numbered, r.3);
-      going = (r.0, r.1, r.2 c.args.text.now c.items.item g.2);
+      numbered = omega (arith, c.items.invariant.numbered, r.shorter);
+      going = going-step c.args.cnf.now c.args.text.now c.items.checker c.in-Right.taken c.items.words c.step.new.words c.items.item c.items.invariant.going r;
     }
 
 pub items-smaller : goal.items-smaller
-items-smaller c =
-    let g = c.items.invariant.going in
-    (stepped-right c.args.cnf.now g.0 c.items.words c.step.new.words c.step.new.checker c.in_ok-step.field-0 (c.in_ok-step.ensures.stepped c.args.cnf.now g.0 g.1 c.vars-vars.ensures.count) c.in-Right.is).3
+items-smaller c = (let N : Next → Type 0 = λ x. IsStepped c.items.checker c.items.words c.step.new.words x in (subst N c.in-Right.is c.in_ok-log.ensures).shorter)

@@ -1,4 +1,4 @@
-use Rattle.std.proofs.Common.{◌≡◌, ◌<◌, ◌+◌, ◌++◌, ◌∷◌, [], ◌∙◌, ap, sym, subst, List, ℕ, arith, reverse}
+use Rattle.std.proofs.Common.{◌∙◌, ap, sym, subst, List, ℕ, arith, reverse}
 use Rattle.std.specs.List.{slice_get}
 use Rattle.ilk_base.proofs.Options.{mapped-Some}
 use Rattle.ilk_cnf.specs.Literal.{Literal, has_lit}

@@ -1,4 +1,4 @@
-use Rattle.std.proofs.Common.{◌≡◌, ◌≤◌, arith}
+use Rattle.std.proofs.Common.{arith}
 use Rattle.ilk_rup.proofs.explain.walk.Goals as goal
 
 pub pass-requires-clause-walk : goal.pass-requires-clause-walk

@@ -1,4 +1,4 @@
-use Rattle.std.proofs.Common.{◌≡◌, refl, sym, ap, ◌∙◌}
+use Rattle.std.proofs.Common.{refl, sym, ap, ◌∙◌}
 use Rattle.ilk_cnf.specs.Literal.{opposite}
 use Rattle.ilk_learn.proofs.Members.{no-var}
 use Rattle.ilk_rup.specs.LitSet.{LitSetList}

@@ -1,4 +1,4 @@
-use Rattle.std.proofs.Common.{◌≡◌, ◌∷◌, [], List, sym, ap, ◌∙◌, subst}
+use Rattle.std.proofs.Common.{◌∷◌, [], List, sym, ◌∙◌, subst}
 use Rattle.ilk_lines.specs.Lines.{Bytes}
 use Rattle.ilk_rup.specs.declared.item.Item.{Item}
 use Rattle.ilk_rup.specs.declared.item.Item.TheVariants.{Malformed}

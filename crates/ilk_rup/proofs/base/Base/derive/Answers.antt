@@ -1,128 +1,91 @@
-use Rattle.std.proofs.Common.{◌≡◌, ◌<◌, ◌+◌, [], ◌∙◌, ℕ, List, true, ap, sym, subst, arith, length, min, take}
+use Rattle.std.proofs.Common.{◌≡◌, ◌<◌, ◌∙◌, ℕ, List, true, ap, sym, subst, arith, length, min}
 use Rattle.std.proofs.Math.Seq.{take-length}
-use Rattle.ilk_cnf.specs.Literal.{Literal}
+use Rattle.ilk_cnf.specs.Literal.{Literal, has_lit}
 use Rattle.ilk_log.specs.Propagation.{is_closed}
 use Rattle.ilk_trail.specs.declared.entry.Entry.{Entry}
 use Rattle.ilk_trail.specs.Trail.{TrailList, up_to}
-use Rattle.ilk_trail.specs.Laws.{lits_of}
+use Rattle.ilk_trail.specs.Laws.{is_set, lits_of}
 use Rattle.ilk_watches.specs.declared.queue.Queue.{Queue}
 use Rattle.ilk_watches.specs.Propagated.{IsPropagated}
 use Rattle.ilk_watches.specs.Watched.{IsQueue}
 use Rattle.ilk_watches.proofs.Back.{queue-back}
 use Rattle.ilk_watches.proofs.Entries.{length-kept}
 use Rattle.ilk_watches.proofs.Propagations.{propagated-start}
-use Rattle.ilk_rup.specs.Needs.{AreHints, Explains, IsKnown, unset_first}
-use Rattle.ilk_rup.proofs.Deriving.{above-level, assumed-none, back-level, derive-explains, if-none, kept-join, queue-assumed, same-length, some-unset, trail-is}
+use Rattle.ilk_rup.specs.Needs.{Explains, IsKnown}
+use Rattle.ilk_rup.specs.Standing.{Held}
+use Rattle.ilk_rup.specs.declared.explain.Explainer.{Explainer}
+use Rattle.ilk_rup.proofs.Deriving.{assumed-none, back-known, derive-explains, if-none, kept-join, queue-assumed, same-length, some-unset, trail-is}
 use Rattle.ilk_rup.proofs.Holds.{held-propagated, known-propagated}
 use Rattle.ilk_rup.proofs.base.Base.derive.Goals as goal
 
 pub returns-then-from-known-clause-none : goal.returns-then-from-known-clause-none
-returns-then-from-known-clause-none c = λ f given s.
+returns-then-from-known-clause-none c =
     let k = c.args.self.now in
     let es = k.trail.entries in
     let fs = c.assume.new.trail.entries in
     let p = c.assume.ensures.assumed in
     let same : fs ≡ es = same-length es fs p.kept (omega (arith, c.count-known.ensures.count, c.count-from.ensures.count, c.if-from-known.true)) in
     let once = c.count-from.ensures.is_trail.once in
-    assumed-none f.vars k.clauses.clauses given es fs fs c.args.set.now.lits (ap (λ (xs : List Entry). is_closed k.clauses.clauses (lits_of xs)) same ∙ s.closed) c.len.ensures.differ once once (take-length fs) c.requires.untrue p s.loose.same
+    assumed-none k.formula.now.vars k.clauses.clauses es fs fs k.set.lits (ap (λ (xs : List Entry). is_closed k.clauses.clauses (lits_of xs)) same ∙ c.requires.settled.closed) c.len.ensures.differ once (take-length fs) c.requires.untrue p
 
 pub propagate-requires-clause-queue : goal.propagate-requires-clause-queue
 propagate-requires-clause-queue c =
     let k = c.args.self.now in
-    let s = c.requires.held.2 in
-    queue-assumed k.clauses k.trail.entries c.assume.new.trail.entries k.queue.head k.queue.settled c.args.set.now.lits s.loose.queued c.count.ensures.clauses s.settled s.head c.assume.ensures.assumed
+    let s = c.requires.settled in
+    queue-assumed k.clauses k.trail.entries c.assume.new.trail.entries k.queue.head k.queue.settled k.set.lits s.loose.held.queued c.count.ensures.clauses s.settled s.head c.assume.ensures.assumed
 
 pub returns-in_default-clause-none : goal.returns-in_default-clause-none
-returns-in_default-clause-none c = λ f given s.
+returns-in_default-clause-none c =
     let k = c.args.self.now in
     let fs = c.assume.new.trail.entries in
     let gs = c.propagate.new.trail.entries in
     let closed : is_closed k.clauses.clauses (lits_of gs) ≡ true = if-none c.propagate.result c.propagate.ensures.closed c.in_default.not-Some in
-    assumed-none f.vars k.clauses.clauses given k.trail.entries fs gs c.args.set.now.lits closed c.len.ensures.differ c.count-from.ensures.is_trail.once c.count-in_default.ensures.is_trail.once c.propagate.ensures.propagated.kept c.requires.untrue c.assume.ensures.assumed s.loose.same
+    assumed-none k.formula.now.vars k.clauses.clauses k.trail.entries fs gs k.set.lits closed c.len.ensures.differ c.count-from.ensures.is_trail.once c.propagate.ensures.propagated.kept c.requires.untrue c.assume.ensures.assumed
 
-pub explain-requires-clause-units : goal.explain-requires-clause-units
-explain-requires-clause-units c =
+pub explain-requires : goal.explain-requires
+explain-requires c =
     let k = c.args.self.now in
-    let b = c.propagate.new.clauses in
-    let es = k.trail.entries in
-    let gs = c.propagate.new.trail.entries in
-    let h = c.requires.held in
-    let s = h.2 in
-    let same = c.propagate.ensures.clauses in
-    let f = h.0 in
-    let base = known-propagated k.units.items k.clauses.clauses es gs f.vars k.named (kept-join es c.assume.new.trail.entries gs c.assume.ensures.assumed.kept c.propagate.ensures.propagated.kept) s.loose.known in
-    let C : List (List Literal) → Type 0 = λ cs. IsKnown k.units.items cs gs f.vars k.named in
-    let N : ℕ → Type 0 = λ n. IsKnown k.units.items b.clauses gs n k.named in
-    let K : ℕ → Type 0 = λ n. IsKnown k.units.items b.clauses gs b.vars n in
-    let U : List ℕ → Type 0 = λ us. IsKnown us b.clauses gs b.vars c.count-known.result in
-    subst U (sym c.as_slice.ensures.value) (subst K (s.named ∙ sym c.count-known.ensures.count) (subst N (sym (same.vars ∙ s.loose.vars)) (subst C (sym same.clauses) base)))
-
-pub explain-requires-clause-explains : goal.explain-requires-clause-explains
-explain-requires-clause-explains c =
-    let k = c.args.self.now in
+    let y = k.explainer in
     let b = c.propagate.new.clauses in
     let es = k.trail.entries in
     let fs = c.assume.new.trail.entries in
     let gs = c.propagate.new.trail.entries in
-    let set = c.args.set.now.lits in
+    let set = k.set.lits in
     let i = c.in-Some.conflict in
-    let base = derive-explains k.clauses.clauses es fs gs set i c.in-Some.ensures.conflict c.count-top.ensures.is_trail.once c.requires.untrue c.assume.ensures.assumed c.propagate.ensures.propagated in
+    let s = c.requires.settled in
+    let h = s.loose.held in
+    let p = c.assume.ensures.assumed in
+    let q = c.propagate.ensures.propagated in
+    let same = c.propagate.ensures.clauses in
+    let n = sym (same.vars ∙ h.vars) in
+    let known = known-propagated y.units.items k.clauses.clauses es gs k.formula.now.vars y.named (kept-join es fs gs p.kept q.kept) h.known in
+    let base = derive-explains k.clauses.clauses es fs gs set i c.in-Some.ensures.conflict c.count-top.ensures.is_trail.once c.requires.untrue p q in
+    let U : List (List Literal) → Type 0 = λ cs. IsKnown y.units.items cs gs k.formula.now.vars y.named in
+    let N : ℕ → Type 0 = λ v. IsKnown y.units.items b.clauses gs v y.named in
     let C : List (List Literal) → Type 0 = λ cs. Explains cs gs set i (length fs) (length gs) (length es) in
-    let F : ℕ → Type 0 = λ n. Explains b.clauses gs set i n (length gs) (length es) in
-    let T : ℕ → Type 0 = λ n. Explains b.clauses gs set i c.count-from.result n (length es) in
-    let K : ℕ → Type 0 = λ n. Explains b.clauses gs set i c.count-from.result c.count-top.result n in
-    subst K (sym c.count-known.ensures.count) (subst T (sym c.count-top.ensures.count) (subst F (sym c.count-from.ensures.count) (subst C (sym c.propagate.ensures.clauses.clauses) base)))
+    let F : ℕ → Type 0 = λ v. Explains b.clauses gs set i v (length gs) (length es) in
+    let T : ℕ → Type 0 = λ v. Explains b.clauses gs set i c.count-from.result v (length es) in
+    let K : ℕ → Type 0 = λ v. Explains b.clauses gs set i c.count-from.result c.count-top.result v in
+    record {
+      vars = s.loose.needed_vars ∙ n;
+      set_vars = s.loose.set_vars ∙ n;
+      trail_vars = ap (λ (t : TrailList). t.vars) c.propagate.ensures.trail ∙ ap (λ (t : TrailList). t.vars) c.assume.ensures.trail ∙ h.trail_vars ∙ n;
+      units = subst N n (subst U (sym same.clauses) known);
+      explains = subst K (sym s.named) (subst T (sym c.count-top.ensures.count) (subst F (sym c.count-from.ensures.count) (subst C (sym same.clauses) base)));
+    }
 
 pub returns-clause-derived : goal.returns-clause-derived
 returns-clause-derived c =
     let k = c.args.self.now in
-    let es = k.trail.entries in
-    let fs = c.assume.new.trail.entries in
-    let gs = c.propagate.new.trail.entries in
-    let set = c.args.set.now.lits in
-    let p = c.assume.ensures.assumed in
-    let q = c.propagate.ensures.propagated in
-    let longer = length-kept es fs p.kept in
-    let more : length es < length fs = omega (arith, longer, c.count-known.ensures.count, c.count-from.ensures.count, c.if-from-known.false) in
-    let back : up_to 0 gs ≡ es = back-level es gs (kept-join es fs gs p.kept q.kept) c.count-known.ensures.is_trail.climbing c.requires.held.2.loose.level (above-level k.clauses.clauses es fs gs set more p q) in
-    let H : List (List Literal) → Type 0 = λ cs. AreHints cs set c.in_ok-hints.hints in
-    let u = some-unset set es fs more c.count-from.ensures.is_trail.once p in
-    record {
-      clause = c.in_ok-clause.ensures ∙ ap (λ (xs : List Entry). unset_first xs set) (ap (λ (t : TrailList). t.entries) c.back_to.ensures.entries ∙ back);
-      hints = subst H c.propagate.ensures.clauses.clauses c.in_ok-hints.ensures.hints;
-      unset = u.0;
-      has = u.1;
-      open_ = u.2;
-    }
-
-pub returns-clause-trail : goal.returns-clause-trail
-returns-clause-trail c =
-    let k = c.args.self.now in
-    let es = k.trail.entries in
-    let fs = c.assume.new.trail.entries in
-    let gs = c.propagate.new.trail.entries in
-    let set = c.args.set.now.lits in
-    let p = c.assume.ensures.assumed in
-    let q = c.propagate.ensures.propagated in
-    let longer = length-kept es fs p.kept in
-    let more : length es < length fs = omega (arith, longer, c.count-known.ensures.count, c.count-from.ensures.count, c.if-from-known.false) in
-    let back : up_to 0 gs ≡ es = back-level es gs (kept-join es fs gs p.kept q.kept) c.count-known.ensures.is_trail.climbing c.requires.held.2.loose.level (above-level k.clauses.clauses es fs gs set more p q) in
-    let vars = ap (λ (t : TrailList). t.vars) c.propagate.ensures.trail ∙ ap (λ (t : TrailList). t.vars) c.assume.ensures.trail in
-    c.back_to.ensures.entries ∙ trail-is k.trail c.propagate.new.trail.vars (up_to 0 gs) vars back
-
-pub returns-clause-loose : goal.returns-clause-loose
-returns-clause-loose c = λ f given s.
-    let k = c.args.self.now in
     let b = c.propagate.new.clauses in
     let es = k.trail.entries in
     let fs = c.assume.new.trail.entries in
     let gs = c.propagate.new.trail.entries in
-    let set = c.args.set.now.lits in
+    let s = c.requires.settled in
     let p = c.assume.ensures.assumed in
-    let q = c.propagate.ensures.propagated in
     let longer = length-kept es fs p.kept in
     let more : length es < length fs = omega (arith, longer, c.count-known.ensures.count, c.count-from.ensures.count, c.if-from-known.false) in
-    let back : up_to 0 gs ≡ es = back-level es gs (kept-join es fs gs p.kept q.kept) c.count-known.ensures.is_trail.climbing c.requires.held.2.loose.level (above-level k.clauses.clauses es fs gs set more p q) in
+    let back = back-known k.clauses.clauses es fs gs k.set.lits c.count-known.ensures.is_trail.climbing s.loose.held.level more p c.propagate.ensures.propagated in
     let vars = ap (λ (t : TrailList). t.vars) c.propagate.ensures.trail ∙ ap (λ (t : TrailList). t.vars) c.assume.ensures.trail in
     let now = c.back_to.new.self in
     let whole : now ≡ k.trail = c.back_to.ensures.entries ∙ trail-is k.trail c.propagate.new.trail.vars (up_to 0 gs) vars back in
@@ -134,4 +97,22 @@ returns-clause-loose c = λ f given s.
     let E : List Entry → Type 0 = λ xs. IsQueue b xs (min r.head (length xs)) r.settled in
     let Q : Queue → Type 0 = λ x. IsQueue b now.entries x.head x.settled in
     let I : List Entry → Type 0 = λ xs. IsPropagated k.clauses.clauses es xs in
-    held-propagated f given k.clauses b k.trail now k.queue c.back_to-2.new.self k.units.items k.named k.log s.loose same (whole ∙ sym (ap (λ (xs : List Entry). let t : TrailList = record { vars = k.trail.vars; entries = xs } in t) (entries ∙ back))) (subst I (sym (entries ∙ back)) (propagated-start k.clauses.clauses es)) (subst Q (sym c.back_to-2.ensures) (subst E (sym entries) queue))
+    let X : Explainer → Type 0 = λ x. Held k.formula.now b now c.back_to-2.new.self x.units.items x.named k.log in
+    let at = entries ∙ back in
+    let is = whole ∙ sym (ap (λ (xs : List Entry). let t : TrailList = record { vars = k.trail.vars; entries = xs } in t) at) in
+    let queued = subst Q (sym c.back_to-2.ensures) (subst E (sym entries) queue) in
+    let y = k.explainer in
+    let u = some-unset k.set.lits es fs more c.count-from.ensures.is_trail.once p in
+    record {
+      loose = record {
+        held = subst X (sym c.in_ok-hints.ensures.rest) (held-propagated k.formula.now k.clauses b k.trail now k.queue c.back_to-2.new.self y.units.items y.named k.log s.loose.held same is (subst I (sym at) (propagated-start k.clauses.clauses es)) queued);
+        needed_vars = c.in_ok-hints.ensures.vars ∙ s.loose.needed_vars;
+        set_vars = s.loose.set_vars;
+      };
+      clause = c.in_ok-clause.ensures;
+      hints = c.in_ok-hints.ensures.hints;
+      untrue = λ m h. ap (λ (xs : List Entry). has_lit m (lits_of xs)) at ∙ c.requires.untrue m h;
+      unset = u.0;
+      has = u.1;
+      open_ = ap (λ (xs : List Entry). is_set xs u.0.var) at ∙ u.2;
+    }

@@ -1,16 +1,9 @@
-use Rattle.std.proofs.Common.{◌≡◌, ◌+◌, ◌-◌, List}
-use Rattle.ilk_cnf.specs.Literal.{Literal}
-use Rattle.ilk_cnf.specs.Formula.{Formula}
-use Rattle.ilk_rup.specs.Standing.{Loose}
+use Rattle.std.proofs.Common.{◌≡◌, ◌+◌, ◌-◌, false}
+use Rattle.ilk_rup.specs.Standing.{IsAlike, Loose}
 use Rattle.ilk_rup.proofs.base.Base.settle.Given as goal
 
 abbrev pub invariant-rounds : goal.invariant-rounds
-invariant-rounds l = record {
-  loose : (f : Formula) (given : List (List Literal)) → Loose f given l.initial.self → Loose f given l.self;
-  vars : l.self.clauses.vars ≡ l.initial.self.clauses.vars;
-  set : l.set ≡ l.initial.set;
-  needed : l.scratch.needed.vars ≡ l.initial.scratch.needed.vars;
-}
+invariant-rounds l = record { loose : Loose l.self; same : IsAlike l.initial.self l.self; going : l.self.refuted ≡ false }
 
 abbrev pub decreases-rounds : goal.decreases-rounds
-decreases-rounds l = l.self.clauses.vars + 2 - l.self.named
+decreases-rounds l = l.self.formula.now.vars + 2 - l.self.explainer.named

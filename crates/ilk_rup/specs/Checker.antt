@@ -1,0 +1,13 @@
+-- What a checker has of a formula.
+use Rattle.std.specs.Prelude.{List}
+use Rattle.ilk_cnf.specs.Formula.{Formula}
+use Rattle.ilk_cnf.specs.Literal.{Literal}
+use Rattle.ilk_rup.specs.declared.base.Base.{Base}
+
+-- the formula, and the clauses that are kept: its own, and those that followed so far
+pub record CheckerLists : Type 0 where
+  pub formula : Formula
+  pub clauses : List (List Literal)
+
+abbrev pub checker_of : Base → CheckerLists
+checker_of k = record { formula = k.formula.now; clauses = k.clauses.clauses }
