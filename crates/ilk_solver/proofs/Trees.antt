@@ -158,7 +158,7 @@ reweighed ws t v x h p e =
     }
 
 -- a tree of no variable
-pub empty-tree : (n : ℕ) (ws t : List ℕ) → n ≡ length ws → n ≤ 2 ^ 62 → length t ≡ 2 * length ws + 2 → ((k : ℕ) → get_or t k 0 ≡ 0) → IsTree ws t
+pub empty-tree : (n : ℕ) (ws t : List ℕ) → n ≡ length ws → n ≤ 2 ^ 31 → length t ≡ 2 * length ws + 2 → ((k : ℕ) → get_or t k 0 ≡ 0) → IsTree ws t
 empty-tree n ws t e b s z = record {
   numbered = omega (arith, e, b);
   size = s;
@@ -181,7 +181,7 @@ keeps-on ws t ws2 t2 ws3 t3 h k = record {
 }
 
 -- a variable that stands at no leaf is counted
-pub keeps-out : (ws t : List ℕ) (v x : ℕ) → 0 < v → v ≤ 2 ^ 62 → get_or (leaves_of ws t) v 0 ≡ 0 → KeepsVariables ws t (set ws (v - 1) x) t
+pub keeps-out : (ws t : List ℕ) (v x : ℕ) → 0 < v → v ≤ 2 ^ 31 → get_or (leaves_of ws t) v 0 ≡ 0 → KeepsVariables ws t (set ws (v - 1) x) t
 keeps-out ws t v x p b e =
     let n = length-set ws (v - 1) x in
     record {

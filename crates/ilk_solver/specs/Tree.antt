@@ -23,7 +23,7 @@ StandsIn weights tree v = slice_index (leaves_of weights tree) v ≡ word_of wei
 
 -- a tree in which all nodes but j are right
 pub record IsTreeBut (weights tree : List ℕ) (j : ℕ) : Type 0 where
-  pub numbered : length weights ≤ 2 ^ 62
+  pub numbered : length weights ≤ 2 ^ 31
   pub size : length tree ≡ 2 * length weights + 2
   pub leaf : (v : ℕ) → v ≤ length weights → (slice_index (leaves_of weights tree) v ≡ 0) ⊎ ((0 < v) × StandsIn weights tree v)
   pub won : (k : ℕ) → 0 < k → k ≤ length weights → k ≢ j → IsWon tree k

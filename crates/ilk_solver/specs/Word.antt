@@ -5,11 +5,11 @@ use Rattle.std.specs.Prelude.{ℕ, ◌≡◌, ◌==◌, ◌⊎◌, ◌≤◌, �
 
 -- the word of variable v: entry v - 1 is its weight
 abbrev pub word_of : List ℕ → ℕ → ℕ
-word_of weights v = slice_index weights (v - 1) * 2 ^ 64 + (2 ^ 64 - 1 - v)
+word_of weights v = slice_index weights (v - 1) * 2 ^ 32 + (2 ^ 32 - 1 - v)
 
 -- the variable whose word it is, 0 where it is none's
 abbrev pub variable_of : ℕ → ℕ
-variable_of word = if word == 0 then 0 else (2 ^ 64 - 1 - word % 2 ^ 64)
+variable_of word = if word == 0 then 0 else (2 ^ 32 - 1 - word % 2 ^ 32)
 
 -- x is the greater of a and b
 abbrev pub IsGreater : ℕ → ℕ → ℕ → Type 0

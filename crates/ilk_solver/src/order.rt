@@ -3,22 +3,21 @@ ghost use Rattle.ilk_trail.specs.Laws.{is_set};
 ghost use Rattle.ilk_solver.specs.Order.{HasAbove, IsSettled, KeepsUnset};
 ghost use Rattle.ilk_solver.specs.Tree.{IsTree, KeepsLeaves, StandsIn};
 
-use crate::tree::write_leaf;
-use crate::word::{variable, word};
+use crate::tree::{put, write_leaf};
+use crate::word::variable;
 use ilk_cnf::Lit;
 use ilk_trail::Trail;
 use std::alloc::{AllocError, Global};
 
 // A tree with each variable.
-pub fn filled(alloc: Global, weights: &[u64]) -> Result<Vec<u128>, AllocError>
-    requires { length weights.now ≤ 2 ^ 62 }
+pub fn filled(alloc: Global, weights: &[u32]) -> Result<Vec<u64>, AllocError>
+    requires { length weights.now ≤ 2 ^ 31 }
     ensures tree { IfOk result (λ tree. IsTree weights.now tree.items) }
     ensures each { IfOk result (λ tree. (v : ℕ) → 0 < v → v ≤ length weights.now → StandsIn weights.now tree.items v) }
 {
     let mut tree = vec![in alloc; 0; 2 * weights.len() + 2]?;
     for v in 0..weights.len() as u64 {
-        let entry = word(weights, v + 1);
-        write_leaf(weights, tree.as_mut_slice(), v + 1, entry);
+        put(weights, tree.as_mut_slice(), v + 1);
     }
     Ok(tree)
 }
@@ -35,7 +34,7 @@ fn is_past(trail: &Trail, v: u64) -> bool
 }
 
 // Takes set variables off the top.
-pub fn settle(trail: &Trail, weights: &[u64], tree: &mut [u128])
+pub fn settle(trail: &Trail, weights: &[u32], tree: &mut [u64])
     requires vars { trail.now.vars ≡ length weights.now }
     requires tree { IsTree weights.now tree.old }
     ensures tree { IsTree weights.now tree.new }
@@ -49,7 +48,7 @@ pub fn settle(trail: &Trail, weights: &[u64], tree: &mut [u128])
 }
 
 // Puts the variables of the entries above `level` in.
-pub fn put_above(trail: &Trail, weights: &[u64], tree: &mut [u128], level: u64)
+pub fn put_above(trail: &Trail, weights: &[u32], tree: &mut [u64], level: u64)
     requires vars { trail.now.vars ≡ length weights.now }
     requires tree { IsTree weights.now tree.old }
     ensures tree { IsTree weights.now tree.new }
@@ -62,9 +61,7 @@ pub fn put_above(trail: &Trail, weights: &[u64], tree: &mut [u128], level: u64)
         if trail.level_of(lit) <= level {
             return;
         }
-        let v = lit.var();
-        let entry = word(weights, v);
-        write_leaf(weights, tree, v, entry);
+        put(weights, tree, lit.var());
         i -= 1;
     }
 }

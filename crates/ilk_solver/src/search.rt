@@ -17,6 +17,7 @@ ghost use Rattle.ilk_solver.specs.Answered.{IsSolution};
 
 use crate::assigned::assignment;
 use crate::view::View;
+use crate::word::WEIGHT_LIMIT;
 use ilk_clauses::Clauses;
 use ilk_cnf::{Assignment, Cnf, Lit};
 use ilk_learn::{Learned, learn, refute};
@@ -113,7 +114,7 @@ impl Search {
     }
 
     // Adds a step, whose clause is neither false nor a unit at any level below the current one, and may
-    // force its first literal alone.
+    // force its first literal alone. There is no memory for 2^32 clauses: a weight has no room for them.
     pub fn add(self, step: Step) -> Result<Search, AllocError>
         requires within { IsTrue (clause_in self.formula.vars step.clause) }
         requires differ { IsTrue (vars_differ step.clause) }
@@ -131,7 +132,9 @@ impl Search {
         let _ = view.vars();
         let _ = clauses.arena();
         clauses.add(step.clause.as_slice())?;
-        let _ = clauses.count();
+        if clauses.count() >= WEIGHT_LIMIT {
+            return Err(AllocError);
+        }
         view.count(step.clause.as_slice());
         log.push(step)?;
         Ok(Search {

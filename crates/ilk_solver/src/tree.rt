@@ -1,11 +1,11 @@
 ghost use Rattle.std.specs.Prelude.{◌≡◌, ◌⊎◌, ◌≤◌, ◌<◌, ◌+◌, ◌-◌, ◌^◌, length, slice_index, slice_set};
 ghost use Rattle.ilk_solver.specs.Word.{word_of};
-ghost use Rattle.ilk_solver.specs.Tree.{IsTree, IsTreeBut, KeepsVariables, leaves_of};
+ghost use Rattle.ilk_solver.specs.Tree.{IsTree, IsTreeBut, KeepsLeaves, KeepsVariables, StandsIn, leaves_of};
 
 use crate::word::{greater, word};
 
 // Decides node `at` again, and then those above it as far as the winner is another one.
-fn replay(weights: &[u64], tree: &mut [u128], from: u64)
+fn replay(weights: &[u32], tree: &mut [u64], from: u64)
     requires from { from ≤ length weights.now }
     requires tree { IsTreeBut weights.now tree.old from }
     ensures tree { IsTree weights.now tree.new }
@@ -23,7 +23,7 @@ fn replay(weights: &[u64], tree: &mut [u128], from: u64)
 }
 
 // Writes `entry`, which is the word of `v` or 0, to the leaf of variable `v`.
-pub fn write_leaf(weights: &[u64], tree: &mut [u128], v: u64, entry: u128)
+pub fn write_leaf(weights: &[u32], tree: &mut [u64], v: u64, entry: u64)
     requires from_1 { 0 < v }
     requires within { v ≤ length weights.now }
     requires entry { (entry ≡ 0) ⊎ (entry ≡ word_of weights.now v) }
@@ -39,11 +39,28 @@ pub fn write_leaf(weights: &[u64], tree: &mut [u128], v: u64, entry: u128)
     replay(weights, tree, leaf as u64 / 2);
 }
 
+// Puts variable `v` in, where it isn't.
+pub fn put(weights: &[u32], tree: &mut [u64], v: u64)
+    requires from_1 { 0 < v }
+    requires within { v ≤ length weights.now }
+    requires tree { IsTree weights.now tree.old }
+    ensures tree { IsTree weights.now tree.new }
+    ensures kept { KeepsLeaves weights.now tree.old tree.new }
+    ensures stands { StandsIn weights.now tree.new v }
+{
+    let leaf = weights.len() + 1 + v as usize;
+    if tree[leaf] != 0 {
+        return;
+    }
+    let entry = word(weights, v);
+    write_leaf(weights, tree, v, entry);
+}
+
 // Counts variable `v` once more, and lets it rise.
-pub fn count_one(weights: &mut [u64], tree: &mut [u128], v: u64)
+pub fn count_one(weights: &mut [u32], tree: &mut [u64], v: u64)
     requires from_1 { 0 < v }
     requires within { v ≤ length weights.old }
-    requires room { slice_index weights.old (v - 1) + 1 < 2 ^ 64 }
+    requires room { slice_index weights.old (v - 1) + 1 < 2 ^ 32 }
     requires tree { IsTree weights.old tree.old }
     ensures tree { IsTree weights.new tree.new }
     ensures leaves { KeepsVariables weights.old tree.old weights.new tree.new }

@@ -15,7 +15,7 @@ ghost use Rattle.ilk_solver.specs.View.{IsView, weight_of, with_entries};
 
 use crate::order::{filled, put_above, settle};
 use crate::tree::count_one;
-use crate::word::variable;
+use crate::word::{MOST_VARIABLES, variable};
 use ilk_clauses::Clauses;
 use ilk_cnf::Lit;
 use ilk_trail::Trail;
@@ -28,9 +28,9 @@ use std::marker::Model;
 #[derive(Drop)]
 pub struct View {
     trail: Trail,
-    weights: Vec<u64>,
+    weights: Vec<u32>,
     // the tree of winners among the unset variables, each in one word with its weight
-    tree: Vec<u128>,
+    tree: Vec<u64>,
 }
 
 impl Model for View {
@@ -45,11 +45,15 @@ impl Model for View {
 }
 
 impl View {
-    // No entries, and no weights, over the variables 1 to `vars`.
+    // No entries, and no weights, over the variables 1 to `vars`. There is no memory for more than 2^31 of
+    // them: half a word has no room for their numbers.
     pub(crate) fn new(alloc: Global, vars: u64) -> Result<View, AllocError>
         requires { vars ≤ 2 ^ 62 }
         ensures { IfOk result (λ view. view ≡ record { trail = record { vars = vars; entries = [] }; weights = replicate vars 0 }) }
     {
+        if vars > MOST_VARIABLES {
+            return Err(AllocError);
+        }
         let trail = Trail::new(alloc, vars)?;
         let _ = trail.level();
         let weights = vec![in alloc; 0; vars as usize]?;
@@ -87,7 +91,7 @@ impl View {
         ensures { result ≡ weight_of self.now v }
     {
         let _ = self.vars();
-        self.weights[v as usize - 1]
+        self.weights[v as usize - 1] as u64
     }
 
     /// The unset variable of the greatest weight, the least one at a tie; `None` where every variable
@@ -170,7 +174,7 @@ impl View {
     pub(crate) fn count(&mut self, clause: &[Lit])
         requires within { IsTrue (clause_in self.old.trail.vars clause.now) }
         requires differ { IsTrue (vars_differ clause.now) }
-        requires room { (i : ℕ) → slice_index self.old.weights i + 1 < 2 ^ 64 }
+        requires room { (i : ℕ) → slice_index self.old.weights i + 1 < 2 ^ 32 }
         ensures trail { self.new.trail ≡ self.old.trail }
         ensures weights { (v : ℕ) → 0 < v → weight_of self.new v ≡ weight_of self.old v + (if has_var v clause.now then 1 else 0) }
     {
@@ -181,10 +185,10 @@ impl View {
 
 // Counts a clause: entry v - 1, that of variable v, is 1 more for each of its variables. The tree keeps
 // its variables.
-fn count_in(weights: &mut [u64], tree: &mut [u128], clause: &[Lit])
+fn count_in(weights: &mut [u32], tree: &mut [u64], clause: &[Lit])
     requires within { IsTrue (clause_in (length weights.old) clause.now) }
     requires differ { IsTrue (vars_differ clause.now) }
-    requires room { (i : ℕ) → slice_index weights.old i + 1 < 2 ^ 64 }
+    requires room { (i : ℕ) → slice_index weights.old i + 1 < 2 ^ 32 }
     requires tree { IsTree weights.old tree.old }
     ensures weights { (v : ℕ) → 0 < v → slice_index weights.new (v - 1) ≡ slice_index weights.old (v - 1) + (if has_var v clause.now then 1 else 0) }
     ensures tree { IsTree weights.new tree.new }

@@ -2,7 +2,6 @@ use Rattle.std.proofs.Common.{◌≡◌, ◌≤◌, ◌<◌, ◌+◌, ◌++◌, 
 use Rattle.std.proofs.lemmas.Bool.{cases_eq}
 use Rattle.ilk_base.proofs.Lists.{all-written}
 use Rattle.ilk_solver.specs.Tree.{IsTree, StandsIn}
-use Rattle.ilk_solver.proofs.Orders.{put-one}
 use Rattle.ilk_solver.proofs.order.filled.Goals as goal
 
 pub loop-v-preserved : goal.loop-v-preserved
@@ -10,18 +9,17 @@ loop-v-preserved c =
     let weights = c.args.weights.now in
     let old = c.loop-v.tree in
     let v = c.loop-v.v in
-    let new = c.write_leaf.new.tree in
-    let n : length new ≡ old.len = omega (arith, c.write_leaf.auto.tree, c.as_mut_slice.ensures.len) in
+    let new = c.put.new.tree in
+    let n : length new ≡ old.len = omega (arith, c.put.auto.tree, c.as_mut_slice.ensures.len) in
     let one : take old.len (new ++ drop (length new) old.items) ≡ new = all-written old.len new old.items n in
-    let leaves = rw (c.as_mut_slice.ensures.value, c.word-entry.ensures) at c.write_leaf.ensures.leaves in
-    let put = put-one weights old.items new (v + 1) c.loop-v.invariant.tree (omega (arith, c.loop-v-test.true)) leaves in
+    let kept = rw c.as_mut_slice.ensures.value at c.put.ensures.kept in
     let T : List ℕ → Type 0 = λ t. IsTree weights t in
     let E : List ℕ → Type 0 = λ t. (u : ℕ) → 0 < u → u ≤ v + 1 → StandsIn weights t u in
     let S : ℕ → Type 0 = λ u. StandsIn weights new u in
     record {
-      tree = subst T (sym one) c.write_leaf.ensures.tree;
+      tree = subst T (sym one) c.put.ensures.tree;
       each = subst E (sym one) (λ u p q. elim (cases_eq u (v + 1)) [
-        | inl d ↦ subst S (sym d) put.1
-        | inr d ↦ put.0 u (c.loop-v.invariant.each u p (omega (arith, q, d)))
+        | inl d ↦ subst S (sym d) c.put.ensures.stands
+        | inr d ↦ kept u (c.loop-v.invariant.each u p (omega (arith, q, d)))
       ]);
     }

@@ -1,4 +1,4 @@
-use Rattle.std.proofs.Common.{◌-◌, set, ap, sym, ◌∙◌, arith}
+use Rattle.std.proofs.Common.{◌-◌, ap, sym, ◌∙◌, arith}
 use Rattle.std.specs.List.{slice_get}
 use Rattle.ilk_base.proofs.Options.{mapped-Some}
 use Rattle.ilk_cnf.specs.Literal.{Literal}
@@ -7,8 +7,7 @@ use Rattle.ilk_cnf.proofs.Literals.{lit_in-parts}
 use Rattle.ilk_trail.specs.declared.entry.Entry.{Entry}
 use Rattle.ilk_trail.specs.Laws.{is_set}
 use Rattle.ilk_trail.proofs.Entries.{set-at, entry-within}
-use Rattle.ilk_solver.specs.Tree.{leaves_of}
-use Rattle.ilk_solver.proofs.Orders.{low-above, put-done, put-one}
+use Rattle.ilk_solver.proofs.Orders.{low-above, put-done}
 use Rattle.ilk_solver.proofs.order.put_above.Goals as goal
 
 pub level_of-requires-clause-within : goal.level_of-requires-clause-within
@@ -29,44 +28,28 @@ returns-then-level_of-level-clause-above c =
     let x = mapped-Some (λ (e : Entry). e.lit) (slice_get t.entries (c.entries.i - 1)) c.at-lit.result c.at-lit.ensures in
     low-above t c.args.weights.now c.entries.tree c.entries.i c.args.level x.0 c.at-lit.result c.level_of.result c.count-i.ensures.is_trail x.1 x.2 c.level_of.ensures c.if-level_of-level.true (λ j e h. c.entries.invariant.done j e (omega (arith, h)))
 
-pub word-entry-requires-clause-from_1 : goal.word-entry-requires-clause-from_1
-word-entry-requires-clause-from_1 c =
+pub put-requires-clause-from_1 : goal.put-requires-clause-from_1
+put-requires-clause-from_1 c =
     let t = c.args.trail.now in
     let x = mapped-Some (λ (e : Entry). e.lit) (slice_get t.entries (c.entries.i - 1)) c.at-lit.result c.at-lit.ensures in
     let w = lit_in-parts t.vars c.at-lit.result (ap (lit_in t.vars) (sym x.2) ∙ entry-within t (c.entries.i - 1) x.0 c.count-i.ensures.is_trail x.1) in
-    omega (arith, w.0, c.var-v.ensures)
+    omega (arith, w.0, c.var.ensures)
 
-pub word-entry-requires-clause-within : goal.word-entry-requires-clause-within
-word-entry-requires-clause-within c =
+pub put-requires-clause-within : goal.put-requires-clause-within
+put-requires-clause-within c =
     let t = c.args.trail.now in
     let x = mapped-Some (λ (e : Entry). e.lit) (slice_get t.entries (c.entries.i - 1)) c.at-lit.result c.at-lit.ensures in
     let w = lit_in-parts t.vars c.at-lit.result (ap (lit_in t.vars) (sym x.2) ∙ entry-within t (c.entries.i - 1) x.0 c.count-i.ensures.is_trail x.1) in
-    omega (arith, w.1, c.var-v.ensures, c.requires.vars)
-
-pub write_leaf-requires-clause-from_1 : goal.write_leaf-requires-clause-from_1
-write_leaf-requires-clause-from_1 c =
-    let t = c.args.trail.now in
-    let x = mapped-Some (λ (e : Entry). e.lit) (slice_get t.entries (c.entries.i - 1)) c.at-lit.result c.at-lit.ensures in
-    let w = lit_in-parts t.vars c.at-lit.result (ap (lit_in t.vars) (sym x.2) ∙ entry-within t (c.entries.i - 1) x.0 c.count-i.ensures.is_trail x.1) in
-    omega (arith, w.0, c.var-v.ensures)
-
-pub write_leaf-requires-clause-within : goal.write_leaf-requires-clause-within
-write_leaf-requires-clause-within c =
-    let t = c.args.trail.now in
-    let x = mapped-Some (λ (e : Entry). e.lit) (slice_get t.entries (c.entries.i - 1)) c.at-lit.result c.at-lit.ensures in
-    let w = lit_in-parts t.vars c.at-lit.result (ap (lit_in t.vars) (sym x.2) ∙ entry-within t (c.entries.i - 1) x.0 c.count-i.ensures.is_trail x.1) in
-    omega (arith, w.1, c.var-v.ensures, c.requires.vars)
+    omega (arith, w.1, c.var.ensures, c.requires.vars)
 
 pub entries-preserved : goal.entries-preserved
 entries-preserved c =
     let t = c.args.trail.now in
     let x = mapped-Some (λ (e : Entry). e.lit) (slice_get t.entries (c.entries.i - 1)) c.at-lit.result c.at-lit.ensures in
-    let w = lit_in-parts t.vars c.at-lit.result (ap (lit_in t.vars) (sym x.2) ∙ entry-within t (c.entries.i - 1) x.0 c.count-i.ensures.is_trail x.1) in
-    let leaves = c.write_leaf.ensures.leaves ∙ ap (set (leaves_of c.args.weights.now c.entries.tree) c.var-v.result) c.word-entry.ensures in
-    let k = put-one c.args.weights.now c.entries.tree c.write_leaf.new.tree c.var-v.result c.entries.invariant.tree (omega (arith, w.1, c.var-v.ensures, c.requires.vars)) leaves in
+    let kept = c.put.ensures.kept in
     record {
       within = omega (arith, c.entries.invariant.within);
-      tree = c.write_leaf.ensures.tree;
-      kept = λ v s. k.0 v (c.entries.invariant.kept v s);
-      done = λ j e h at. put-done t c.args.weights.now c.write_leaf.new.tree c.entries.i x.0 c.at-lit.result c.var-v.result x.1 x.2 c.var-v.ensures k.1 (λ j2 e2 h2 at2. k.0 e2.lit.var (c.entries.invariant.done j2 e2 h2 at2)) j e h at;
+      tree = c.put.ensures.tree;
+      kept = λ v s. kept v (c.entries.invariant.kept v s);
+      done = λ j e h at. put-done t c.args.weights.now c.put.new.tree c.entries.i x.0 c.at-lit.result c.var.result x.1 x.2 c.var.ensures c.put.ensures.stands (λ j2 e2 h2 at2. kept e2.lit.var (c.entries.invariant.done j2 e2 h2 at2)) j e h at;
     }

@@ -20,8 +20,8 @@ count-requires-2-clause-room c =
     let clause = c.as_slice.result.now in
     let made = ap (λ (f : ArenaLists). length f.clauses) c.in_ok-add.ensures.ok.is in
     let size = length-append s.clauses.clauses (clause ∷ []) in
-    let few : length s.clauses.clauses + 1 < 2 ^ 64 = omega (arith, c.count.ensures.count, made, size, c.count.type_inv) in
-    weight-fits (formula_of s.clauses) s.given s.log s.view (2 ^ 64) c.self.invariant.search c.vars.ensures.view.weighed few
+    let few : length s.clauses.clauses + 1 < 2 ^ 32 = omega (arith, c.count.ensures.count, made, size, c.if-count-ge-WEIGHT_LIMIT.false) in
+    weight-fits (formula_of s.clauses) s.given s.log s.view (2 ^ 32) c.self.invariant.search c.vars.ensures.view.weighed few
 
 pub invariant_of-result : goal.invariant_of-result
 invariant_of-result c =
