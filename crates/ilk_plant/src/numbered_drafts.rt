@@ -1,5 +1,5 @@
-ghost use Rattle.std.specs.Prelude.{◌≡◌, ◌≤◌, ◌<◌, IfOk, Some, length, slice_get};
-ghost use Rattle.ilk_plant.specs.Draft.{is_named_before, numbered};
+ghost use Rattle.std.specs.Prelude.{◌≡◌, ◌≤◌, ◌<◌, IfOk, Some, length, map, slice_get};
+ghost use Rattle.ilk_plant.specs.Draft.{is_named_before, names_of_routes, numbered, numbered_route, numbered_section};
 ghost use Rattle.ilk_plant.specs.TableRules.{count_in_plant, is_board, is_other_route, is_section};
 ghost use Rattle.ilk_plant.specs.Plant.{is_point_section};
 ghost use Rattle.ilk_plant.specs.Kept.{point_numbers};
@@ -43,6 +43,53 @@ impl Model for Numbered {
     ghost invariant = { λ p. (length p.sections ≤ MAX_SECTIONS) × (length p.boards ≤ MAX_BOARDS) × (length p.routes ≤ MAX_ROUTES) × (length p.route_names ≡ length p.routes) };
 }
 
+// What is made of a table, and of a network whose names are made already: the names of the routes, and
+// sections and routes with numbers for names.
+#[derive(Drop)]
+struct Lists {
+    route_names: Names,
+    sections: Row<Section>,
+    routes: Row<Route>,
+}
+
+fn numbered_lists(
+    alloc: Global,
+    names: &NetNames,
+    net: &NetDraft,
+    table: &TableDraft,
+) -> Result<Lists, AllocError>
+    requires { length table.now.routes ≤ MAX_ROUTES }
+    ensures names { IfOk result (λ l. l.route_names ≡ names_of_routes table.now.routes) }
+    ensures sections { IfOk result
+        (λ l. l.sections ≡
+        map (λ s. numbered_section names.now.section_names names.now.board_names s.kind)
+        net.now.sections) }
+    ensures routes { IfOk result
+        (λ l. l.routes ≡
+        map (numbered_route names.now.section_names names.now.board_names l.route_names)
+        table.now.routes) }
+{
+    let NetNames {
+        section_names,
+        board_names,
+        ..
+    } = names;
+    let route_names = route_names(alloc, &table.routes)?;
+    let sections = numbered_sections(alloc, section_names, board_names, &net.sections)?;
+    let routes = numbered_routes(
+        alloc,
+        section_names,
+        board_names,
+        &route_names,
+        &table.routes,
+    )?;
+    Ok(Lists {
+        route_names,
+        sections,
+        routes,
+    })
+}
+
 impl Numbered {
     /// The numbered network and table. The only refusal is want of memory.
     pub fn of(alloc: Global, net: &NetDraft, table: &TableDraft) -> Result<Numbered, AllocError>
@@ -67,20 +114,16 @@ impl Numbered {
         requires named { IsNamedAs names net.now }
         ensures { IfOk result (λ made. made ≡ numbered net.now table.now) }
     {
+        let Lists {
+            route_names,
+            sections,
+            routes,
+        } = numbered_lists(alloc, &names, net, table)?;
         let NetNames {
             section_names,
             board_names,
             boards,
         } = names;
-        let route_names = route_names(alloc, &table.routes)?;
-        let sections = numbered_sections(alloc, &section_names, &board_names, &net.sections)?;
-        let routes = numbered_routes(
-            alloc,
-            &section_names,
-            &board_names,
-            &route_names,
-            &table.routes,
-        )?;
         Ok(Numbered {
             sections,
             boards,
