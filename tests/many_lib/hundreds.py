@@ -6,8 +6,8 @@ of the processors, tell more than the clock.
 
 The configurations are the same at each run: the examples, a station of tests/plants, made stations, lines of
 the trials of the page, plain and with protection that is put by chance; and of each one with a single
-fault. Of each is asked what breaks the rules, the verdict under free columns, with few conflicts allowed, and
-the audit of its certificate.
+fault. Of each is asked what breaks the rules, the verdict under free columns, with an eighth of the conflicts
+that are usual, and the audit of its certificate. It takes some twenty minutes.
 """
 
 import concurrent.futures
@@ -29,7 +29,7 @@ from chance_faults import FAULTS, with_fault, with_protection  # noqa: E402
 from conf import stations_text  # noqa: E402
 from lines import NETWORKS, with_routes  # noqa: E402
 
-OF_VERIFY = ("--columns", "free", "--conflicts", "2000")
+OF_VERIFY = ("--columns", "free", "--conflicts", "12000")
 WANTED = ("check", " ".join(("verify", *OF_VERIFY)), "audit")
 CORES = 4
 MOST_STATIONS = 12
