@@ -3,7 +3,7 @@
 import re
 from dataclasses import dataclass, field
 
-HEAD = re.compile(r"(machine|day|program|solvers|load): (.+)")
+HEAD = re.compile(r"(machine|day|program|solvers|conflicts|load): (.+)")
 PLANT = re.compile(r"(.+), (\d+) sections, (\d+) points, (\d+) routes: (.+); (\d+\.\d+) s user, \d+\.\d+ s, "
                    r"(\d+) MiB")
 CERTIFICATE = re.compile(r"    certificate of (\d+) bytes, (\d+) conflicts")

@@ -72,7 +72,9 @@ def origin(measured):
     program = (f"The program was the proved one, `{PROVED}` ({rest})." if measured.is_proved else
                f"**The program wasn't proved**: it was made of this repository's sources as they were then, "
                f"without their proofs ({name}, {rest}).")
-    loads = " and ".join(measured.loads)
+    loads, budget = " and ".join(measured.loads), measured.head.get("conflicts")
+    if budget:
+        program += f" `verify` was called with `--conflicts {budget}`."
     return (f"Measured on {measured.head['day']}: {measured.head['machine']}. {program} Other solvers: "
             f"{measured.head['solvers']} of a processor. Processes at work in the minute before the beginning, "
             f"and before the end: {loads}. Where they are more than there are processors, the seconds are longer "
