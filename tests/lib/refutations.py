@@ -32,9 +32,14 @@ def text_of(items):
     return b"".join(b" ".join(item) + b"\n" for item in items)
 
 
+def only_additions(lines):
+    """The lines of a solver's text without those that only delete: they add nothing, and may be half of it."""
+    return (line for line in lines if not line.startswith(b"d"))
+
+
 def additions_of(text):
-    """A solver's text without the lines that only delete: they add nothing, and may be half of it."""
-    return b"".join(line for line in io.BytesIO(text) if not line.startswith(b"d"))
+    """A whole text without the lines that only delete."""
+    return b"".join(only_additions(io.BytesIO(text)))
 
 
 def steps_text(steps):

@@ -68,7 +68,7 @@ class Measured:
         for number, line in enumerate(text.splitlines(), 1):
             if not self.takes(line):
                 raise NotMeasured(f"line {number} is none of tools/benchmark: {line}")
-        for name in ("machine", "day", "program", "solvers"):
+        for name in ("machine", "day", "program", "solvers", "load"):
             if name not in self.head:
                 raise NotMeasured(f"there is no line of the {name}")
         if not self.plants:

@@ -1,4 +1,4 @@
-"""The part of docs/SPEED.md that is made of a measurement."""
+"""The parts of docs/SPEED.md and of README.md that are made of a measurement."""
 
 import re
 
@@ -8,6 +8,7 @@ BEGIN, END = "<!-- measured: begins -->\n", "<!-- measured: ends -->\n"
 SOLVERS = ("cadical", "minisat", "picosat")
 MADE = re.compile(r"stations ([0-9]+)")
 PICTURE = "pictures/speed.svg"
+FEW = ("stations 8", "line bs", "line 11L", "line bsbsb")    # the plants of the short form
 
 
 class NoPlace(Exception):
@@ -72,13 +73,13 @@ def origin(measured):
     program = (f"The program was the proved one, `{PROVED}` ({rest})." if measured.is_proved else
                f"**The program wasn't proved**: it was made of this repository's sources as they were then, "
                f"without their proofs ({name}, {rest}).")
-    loads, budget = " and ".join(measured.loads), measured.head.get("conflicts")
+    loads, budget = sorted(measured.loads, key=float), measured.head.get("conflicts")
     if budget:
         program += f" `verify` was called with `--conflicts {budget}`."
     return (f"Measured on {measured.head['day']}: {measured.head['machine']}. {program} Other solvers: "
-            f"{measured.head['solvers']} of a processor. Processes at work in the minute before the beginning, "
-            f"and before the end: {loads}. Where they are more than there are processors, the seconds are longer "
-            "than they would be alone.\n")
+            f"{measured.head['solvers']} of a processor. Processes at work, each time in the minute before: "
+            f"{' to '.join(dict.fromkeys((loads[0], loads[-1])))}. Where they are more than there are processors, "
+            "the seconds are longer than they would be alone.\n")
 
 
 def part(measured):
@@ -87,10 +88,21 @@ def part(measured):
             f"![Seconds over the number of sections]({PICTURE})\n\n{checks(measured.plants)}\n")
 
 
-def renewed(document, measured):
+def short(measured):
+    """The short form, without its marks: a few of the plants, and only what is found and checked."""
+    head = ["line", "sections, points, routes", "answer", "`verify`, s", "MiB", "`audit`, s", "cadical, s", "minisat, s"]
+    rows = [[shown(plant.name), f"{plant.sections}, {plant.points}, {plant.routes}", plant.answer,
+             seconds(Time(plant.seconds)), str(plant.memory), check(plant.audit)[0],
+             *(seconds(plant.solvers.get(name)) for name in SOLVERS[:2])]
+            for plant in measured.plants if plant.name in FEW]
+    whose = "of the proved program" if measured.is_proved else "of a program that **wasn't proved**"
+    return f"\nSeconds of a processor {whose}, on {measured.head['machine']}:\n\n{table(head, rows)}\n"
+
+
+def renewed(document, measured, made=part):
     """A document with the part made anew."""
     before, begin, rest = document.partition(BEGIN)
     _, end, behind = rest.partition(END)
     if not begin or not end:
         raise NoPlace("the document lacks the marks of what is measured")
-    return before + begin + part(measured) + end + behind
+    return before + begin + made(measured) + end + behind
