@@ -77,7 +77,7 @@ def origin(measured):
     if budget:
         program += f" `verify` was called with `--conflicts {budget}`."
     return (f"Measured on {measured.head['day']}: {measured.head['machine']}. {program} Other solvers: "
-            f"{measured.head['solvers']} of a processor. Processes at work, each time in the minute before: "
+            f"{measured.head['solvers']} of a processor. Processes at work in the minute before a beginning or an end: "
             f"{' to '.join(dict.fromkeys((loads[0], loads[-1])))}. Where they are more than there are processors, "
             "the seconds are longer than they would be alone.\n")
 
@@ -88,13 +88,14 @@ def part(measured):
             f"![Seconds over the number of sections]({PICTURE})\n\n{checks(measured.plants)}\n")
 
 
-def short(measured):
-    """The short form, without its marks: a few of the plants, and only what is found and checked."""
-    head = ["line", "sections, points, routes", "answer", "`verify`, s", "MiB", "`audit`, s", "cadical, s", "minisat, s"]
+def short(measured, few=FEW):
+    """The short form, without its marks: a few of the plants, and of the checks that of the certificate alone."""
+    head = ["line", "sections, points, routes", "answer", "`verify`, s", "MiB", "`audit`, s",
+            *(f"{name}, s" for name in SOLVERS[:2])]
     rows = [[shown(plant.name), f"{plant.sections}, {plant.points}, {plant.routes}", plant.answer,
              seconds(Time(plant.seconds)), str(plant.memory), check(plant.audit)[0],
              *(seconds(plant.solvers.get(name)) for name in SOLVERS[:2])]
-            for plant in measured.plants if plant.name in FEW]
+            for plant in measured.plants if plant.name in few]
     whose = "of the proved program" if measured.is_proved else "of a program that **wasn't proved**"
     return f"\nSeconds of a processor {whose}, on {measured.head['machine']}:\n\n{table(head, rows)}\n"
 
