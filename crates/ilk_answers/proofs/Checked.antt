@@ -32,13 +32,22 @@ not-refused None asked kept is = (refl, cc)
 not-refused (Some refusals) asked kept is = absurd (cc)
 
 -- what is let through was asked, and nothing was found broken
-pub let-through : {A E : Type 0} (found : Result (List Broken) E) (broken : List Broken) (asked kept : A) (answer : Result (Result A Refusals) E) → IfOk found (λ b. b ≡ broken) → IfOk found (λ b. answer ≡ Ok (or_refused (refusals_of b) asked)) → IfErr found (λ e. answer ≡ Err e) → answer ≡ Ok (Ok kept) → (refusals_of broken ≡ None) × (kept ≡ asked)
+pub let-through :
+    {A E : Type 0} (found : Result (List Broken) E) (broken : List Broken) (asked kept : A)
+    (answer : Result (Result A Refusals) E) →
+    IfOk found (λ b. b ≡ broken) → IfOk found (λ b. answer ≡ Ok (or_refused (refusals_of b) asked)) →
+    IfErr found (λ e. answer ≡ Err e) → answer ≡ Ok (Ok kept) → (refusals_of broken ≡ None) × (kept ≡ asked)
 let-through (Err e) broken asked kept answer same answered wanting is = absurd (cc)
 let-through (Ok b) broken asked kept answer same answered wanting is =
     let left : or_refused (refusals_of broken) asked ≡ Ok kept = cc in not-refused (refusals_of broken) asked kept left
 
 -- where the table is not refused, what is asked of the columns of its plant is all that is left to ask
-pub columns-alone : {E : Type 0} (columns : Columns) (found known : List Broken) (made plant : PlantLists) (asked : Result (Result PlantLists Refusals) E) → found ≡ known → refusals_of found ≡ None → made ≡ plant → IfOk asked (λ a. a ≡ or_refused (refusals_of (columns_broken columns made)) made) → IfOk asked (λ a. a ≡ or_refused (refusals_of (or_later known (columns_broken columns plant))) plant)
+pub columns-alone :
+    {E : Type 0} (columns : Columns) (found known : List Broken) (made plant : PlantLists)
+    (asked : Result (Result PlantLists Refusals) E) → found ≡ known →
+    refusals_of found ≡ None → made ≡ plant →
+    IfOk asked (λ a. a ≡ or_refused (refusals_of (columns_broken columns made)) made) →
+    IfOk asked (λ a. a ≡ or_refused (refusals_of (or_later known (columns_broken columns plant))) plant)
 columns-alone columns found known made plant (Err e) same none is h = tt
 columns-alone columns found known made plant (Ok a) same none is h =
     let Asked : PlantLists → Type 0 = λ p. a ≡ or_refused (refusals_of (columns_broken columns p)) p in

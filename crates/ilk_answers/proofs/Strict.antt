@@ -60,7 +60,9 @@ clean-columns conf p clean = of_length (nat_lt MAX_CONFIGURATION (length conf)) 
     of_length false e = of_drafts (drafts_of conf) e
 
 -- check is good only where there is a plant
-check-safe : (conf : List ℕ) (found : Result PlantLists Refusals) (extra : Option (List ℕ)) (made : Reply) → found ≡ plant_of (All Strict) conf → IfOk found IsSound → AnswersFound (Check Strict) found extra made → made.status ≡ Good → IsCleanAndSafe conf
+check-safe : (conf : List ℕ) (found : Result PlantLists Refusals) (extra : Option (List ℕ)) (made : Reply) →
+    found ≡ plant_of (All Strict) conf → IfOk found IsSound → AnswersFound (Check Strict) found extra made →
+    made.status ≡ Good → IsCleanAndSafe conf
 check-safe conf (Err refusals) extra made known sound told good =
     let refused : IsRefused ≡ Good = ap (λ (r : Reply). r.status) (sym told) ∙ good in absurd (cc)
 check-safe conf (Ok p) extra made known sound told good = record {
@@ -90,7 +92,12 @@ some-depth : (depth conflicts : ℕ) (cert : List ℕ) → has_option_limits (Ve
 some-depth depth conflicts cert limits = leb-true 1 depth (first-true (nat_le 1 depth) (nat_le depth MAX_DEPTH) (nat_le conflicts MAX_SEARCH_CONFLICTS) limits)
 
 -- verify tells the verdict
-verify-safe : (found : Result PlantLists Refusals) (conf : List ℕ) (depth conflicts : ℕ) (cert : List ℕ) (extra : Option (List ℕ)) (made : Reply) (p : PlantLists) → found ≡ Ok p → IfOk found IsSound → has_option_limits (Verify Strict depth conflicts cert) ≡ true → AnswersFound (Verify Strict depth conflicts cert) found extra made → IsCleanFor conf p → SaysSafeAtOneOrSpent p depth conflicts made
+verify-safe :
+    (found : Result PlantLists Refusals) (conf : List ℕ) (depth conflicts : ℕ) (cert : List ℕ)
+    (extra : Option (List ℕ)) (made : Reply) (p : PlantLists) → found ≡ Ok p →
+    IfOk found IsSound → has_option_limits (Verify Strict depth conflicts cert) ≡ true →
+    AnswersFound (Verify Strict depth conflicts cert) found extra made → IsCleanFor conf p →
+    SaysSafeAtOneOrSpent p depth conflicts made
 verify-safe (Err refusals) conf depth conflicts cert extra made p is sound limits told clean = absurd (cc)
 verify-safe (Ok q) conf depth conflicts cert extra made p is sound limits told clean =
     let same : q ≡ p = cc in
@@ -110,7 +117,9 @@ sound-at (Err refusals) sound p is = absurd (cc)
 sound-at (Ok q) sound p is = let same : q ≡ p = cc in subst IsSound same sound
 
 -- what answers what came of a configuration has what strict columns give besides
-module _ (command : Command) (stages : Stages) (planned : (plan_of command).stages ≡ Some stages) (found : Result PlantLists Refusals) (sound : IfOk found IsSound) (extra : Option (List ℕ)) (made : Reply) (some : AnswersSome command found extra made) where
+module _ (command : Command) (stages : Stages) (planned : (plan_of command).stages ≡ Some stages)
+    (found : Result PlantLists Refusals) (sound : IfOk found IsSound) (extra : Option (List ℕ)) (made : Reply)
+    (some : AnswersSome command found extra made) where
   -- which stages were asked
   asked-by : (c : List ℕ) (asked : Command) (s : Stages) → command ≡ asked → (plan_of asked).stages ≡ Some s → found ≡ plant_of stages c → found ≡ plant_of s c
   asked-by c asked s is by known =
@@ -125,7 +134,10 @@ module _ (command : Command) (stages : Stages) (planned : (plan_of command).stag
   check-right (Some c) known is good =
       check-safe c found (Some some.text) made (asked-by c (Check Strict) (All Strict) is refl known) sound (told-as (Check Strict) is) good
 
-  verify-right : (conf : Option (List ℕ)) → has_option_limits command ≡ true → IfSome conf (λ c. found ≡ plant_of stages c) → (depth conflicts : ℕ) (cert : List ℕ) → command ≡ Verify Strict depth conflicts cert → (bytes : List ℕ) (p : PlantLists) → conf ≡ Some bytes → IsCleanFor bytes p → SaysSafeAtOneOrSpent p depth conflicts made
+  verify-right : (conf : Option (List ℕ)) → has_option_limits command ≡ true →
+      IfSome conf (λ c. found ≡ plant_of stages c) → (depth conflicts : ℕ) (cert : List ℕ) →
+      command ≡ Verify Strict depth conflicts cert → (bytes : List ℕ) (p : PlantLists) → conf ≡ Some bytes →
+      IsCleanFor bytes p → SaysSafeAtOneOrSpent p depth conflicts made
   verify-right None limits known depth conflicts cert is bytes p at clean = absurd (cc)
   verify-right (Some c) limits known depth conflicts cert is bytes p at clean =
       let here : found ≡ Ok p = asked-by c (Verify Strict depth conflicts cert) (All Strict) is refl known ∙ ap (plant_of (All Strict)) (same_Some c bytes at) ∙ clean in
@@ -148,7 +160,12 @@ module _ (command : Command) (stages : Stages) (planned : (plan_of command).stag
         safe = drive-safe c found run some.text made here sound told;
       }
 
-pub strictly-right : {E : Type 0} (command : Command) (stages : Stages) (conf extra : Option (List ℕ)) (found : Result PlantLists Refusals) (made : Result Reply E) → (plan_of command).stages ≡ Some stages → has_option_limits command ≡ true → IfSome conf (λ c. found ≡ plant_of stages c) → IfOk found IsSound → IfOk made (AnswersSome command found extra) → IfOk made (IsStrictlyRight (Some command) conf extra)
+pub strictly-right :
+    {E : Type 0} (command : Command) (stages : Stages) (conf extra : Option (List ℕ))
+    (found : Result PlantLists Refusals) (made : Result Reply E) →
+    (plan_of command).stages ≡ Some stages → has_option_limits command ≡ true →
+    IfSome conf (λ c. found ≡ plant_of stages c) → IfOk found IsSound →
+    IfOk made (AnswersSome command found extra) → IfOk made (IsStrictlyRight (Some command) conf extra)
 strictly-right command stages conf extra found (Err e) planned limits known sound some = tt
 strictly-right command stages conf extra found (Ok made) planned limits known sound some = record {
   check = λ asked good. check-right command stages planned found sound extra made some conf known (same_Some command (Check Strict) asked) good;

@@ -45,7 +45,9 @@ good-routes p made TooMany is same good =
     let refused : IsRefused ≡ Good = ap (λ (r : Reply). r.status) (sym same) ∙ good in absurd (cc)
 
 -- a network that breaks no rule, whose plant is sound
-network-table : (columns : Columns) (net : NetDraft) (made : Reply) → network_rules_broken net ≡ [] → borders_broken columns (numbered net no_routes) ≡ [] → IsSound (numbered net no_routes) → TellsTable (numbered net no_routes) made → made.status ≡ Good → HasTable columns net made
+network-table : (columns : Columns) (net : NetDraft) (made : Reply) → network_rules_broken net ≡ [] →
+    borders_broken columns (numbered net no_routes) ≡ [] → IsSound (numbered net no_routes) →
+    TellsTable (numbered net no_routes) made → made.status ≡ Good → HasTable columns net made
 network-table columns net made kept borders sound told good =
     let bare : PlantLists = numbered net no_routes in
     let back : network_draft bare ≡ net = drafted-back net no_routes kept in
@@ -68,7 +70,11 @@ network-table columns net made kept borders sound told good =
     }
 
 -- what a good reply to a configuration has whose network alone was asked
-pub table-right : (columns : Columns) (conf : List ℕ) (found : Result PlantLists Refusals) (extra : Option (List ℕ)) (made : Reply) → found ≡ plant_of (Network columns) conf → (sound : (p : PlantLists) → found ≡ Ok p → IsSound p) → AnswersFound (Table columns) found extra made → made.status ≡ Good → HasTableOf columns conf made
+pub table-right :
+    (columns : Columns) (conf : List ℕ) (found : Result PlantLists Refusals) (extra : Option (List ℕ))
+    (made : Reply) →
+    found ≡ plant_of (Network columns) conf → (sound : (p : PlantLists) → found ≡ Ok p → IsSound p) →
+    AnswersFound (Table columns) found extra made → made.status ≡ Good → HasTableOf columns conf made
 table-right columns conf (Err refusals) extra made known sound told good =
     let refused : IsRefused ≡ Good = ap (λ (r : Reply). r.status) (sym told) ∙ good in absurd (cc)
 table-right columns conf (Ok p) extra made known sound told good = of_length (nat_lt MAX_CONFIGURATION (length conf)) (sym known)

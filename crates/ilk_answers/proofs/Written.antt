@@ -50,7 +50,14 @@ verdict-written p depth (NotInductive first events) (inr spent) = absurd (cc)
 verdict-written p depth Spent right = tt
 
 -- a reply with the status, the line, the run and the certificate of a verdict tells it
-pub verdict-told : {E : Type 0} (p : PlantLists) (depth conflicts : ℕ) (verdict : Verdict) (text wanted : List ℕ) (made : Result Reply E) → IsRightFor p depth verdict ⊎ (verdict ≡ Spent) → LastsFor p verdict → IsCertificateOf p depth conflicts verdict wanted → text ≡ wanted → IfOk made (λ r. r.status ≡ verdict_status verdict) → IfOk made (λ r. r.report ≡ verdict_line p conflicts verdict ++ verdict_run p verdict) → IfOk made (λ r. r.certificate ≡ text) → IfOk made (TellsVerdict p depth conflicts)
+pub verdict-told :
+    {E : Type 0} (p : PlantLists) (depth conflicts : ℕ) (verdict : Verdict) (text wanted : List ℕ)
+    (made : Result Reply E) →
+    IsRightFor p depth verdict ⊎ (verdict ≡ Spent) → LastsFor p verdict →
+    IsCertificateOf p depth conflicts verdict wanted → text ≡ wanted →
+    IfOk made (λ r. r.status ≡ verdict_status verdict) →
+    IfOk made (λ r. r.report ≡ verdict_line p conflicts verdict ++ verdict_run p verdict) →
+    IfOk made (λ r. r.certificate ≡ text) → IfOk made (TellsVerdict p depth conflicts)
 verdict-told p depth conflicts verdict text wanted (Err e) right lasts certified same status report certificate = tt
 verdict-told p depth conflicts verdict text wanted (Ok r) right lasts certified same status report certificate = record {
   verdict = verdict;
@@ -62,7 +69,12 @@ verdict-told p depth conflicts verdict text wanted (Ok r) right lasts certified 
 }
 
 -- a reply with the status, the line and the certificate of the verdict on a made plant tells that verdict
-pub demo-told : (n depth conflicts : ℕ) (p : PlantLists) (verdict : Verdict) (text wanted : List ℕ) (made : Reply) → p ≡ stations_plant n → IsPlant p → column_rules_broken (stations_plant n) ≡ [] → 0 < depth → IsRightFor p depth verdict ⊎ (verdict ≡ Spent) → LastsFor p verdict → IsCertificateOf p depth conflicts verdict wanted → text ≡ wanted → made.status ≡ verdict_status verdict → made.certificate ≡ text → made.report ≡ demo_line n conflicts verdict → TellsDemo n depth conflicts made
+pub demo-told :
+    (n depth conflicts : ℕ) (p : PlantLists) (verdict : Verdict) (text wanted : List ℕ) (made : Reply) →
+    p ≡ stations_plant n → IsPlant p → column_rules_broken (stations_plant n) ≡ [] → 0 < depth →
+    IsRightFor p depth verdict ⊎ (verdict ≡ Spent) → LastsFor p verdict →
+    IsCertificateOf p depth conflicts verdict wanted → text ≡ wanted → made.status ≡ verdict_status verdict →
+    made.certificate ≡ text → made.report ≡ demo_line n conflicts verdict → TellsDemo n depth conflicts made
 demo-told n depth conflicts p verdict text wanted made is plant kept some right lasts certified same status certificate report = record {
   verdict = verdict;
   safe = clean-verdict p depth verdict plant (ap column_rules_broken is ∙ kept) some right;

@@ -74,7 +74,9 @@ pub fn answer(
     requires options { IsTrue (has_option_limits command.now) }
     requires over { is_some (plan_of command.now).stages ≡ true }
     requires read { (bytes : List ℕ) × HasRead command.now plant.now reader bytes }
-    ensures reply { IfOk result (λ made. (bytes : List ℕ) → HasRead command.now plant.now reader.entry bytes → length bytes < 2 ^ 40 → Answers command.now plant.now bytes made) }
+    ensures reply { IfOk result
+        (λ made. (bytes : List ℕ) → HasRead command.now plant.now reader.entry bytes →
+        length bytes < 2 ^ 40 → Answers command.now plant.now bytes made) }
     ensures planned { IfOk result (IsPlanned (plan_of command.now)) }
 {
     match reader {

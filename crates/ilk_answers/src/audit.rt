@@ -13,8 +13,11 @@ use std::alloc::{AllocError, Global};
 
 /// The reply to the bytes that an audit over the plant took, which are shorter than 2^40.
 pub fn audit_reply(alloc: Global, plant: &Plant, audit: CertAudit<'_>) -> Result<Reply, AllocError>
-    ensures reply { IfOk result (λ made. audit.entry.plant.now ≡ plant.now → (bytes : List ℕ) → HasFed audit.entry bytes → length bytes < 2 ^ 40 → TellsAudit plant.now bytes made) }
-    ensures planned { IfOk result (λ made. IsTrue (is_reply made.status) × (made.certificate ≡ [])) }
+    ensures reply { IfOk result
+        (λ made. audit.entry.plant.now ≡ plant.now → (bytes : List ℕ) →
+        HasFed audit.entry bytes → length bytes < 2 ^ 40 → TellsAudit plant.now bytes made) }
+    ensures planned { IfOk result
+        (λ made. IsTrue (is_reply made.status) × (made.certificate ≡ [])) }
 {
     certificates_are_right(plant);
     numbers_fit();

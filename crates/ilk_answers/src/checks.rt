@@ -46,7 +46,8 @@ fn check_plant(
     columns: Columns,
     plant: Plant,
 ) -> Result<Result<Plant, Refusals>, AllocError>
-    ensures { IfOk result (λ found. found ≡ or_refused (refusals_of (columns_broken columns plant)) plant) }
+    ensures { IfOk result
+        (λ found. found ≡ or_refused (refusals_of (columns_broken columns plant)) plant) }
 {
     let found = broken_columns(alloc, columns, &plant);
     unless_broken(found, plant)
@@ -65,7 +66,9 @@ fn check_routes(
     requires named { IsNamedAs names net.now }
     requires network { network_rules_broken net.now ≡ [] }
     ensures { IfOk result (λ found. found ≡ or_refused
-        (refusals_of (or_later (table_rules_broken net.now table.now) (columns_broken columns (numbered net.now table.now))))
+        (refusals_of
+        (or_later (table_rules_broken net.now table.now)
+        (columns_broken columns (numbered net.now table.now))))
         (numbered net.now table.now)) }
 {
     let drafts = Numbered::of_named(alloc, names, net, table)?;
@@ -85,7 +88,10 @@ fn check_all(
     table: &TableDraft,
 ) -> Result<Result<Plant, Refusals>, AllocError>
     requires { HasLimits net.now table.now }
-    ensures { IfOk result (λ found. found ≡ or_refused (refusals_of (rules_broken (Stages.All columns) net.now table.now)) (numbered net.now table.now)) }
+    ensures { IfOk result
+        (λ found. found
+        ≡ or_refused (refusals_of (rules_broken (Stages.All columns) net.now table.now))
+        (numbered net.now table.now)) }
 {
     let names = NetNames::of(alloc, net)?;
     let found = check_named_network(alloc, net, &names);
@@ -111,7 +117,8 @@ fn check_plant_borders(
     columns: Columns,
     plant: Plant,
 ) -> Result<Result<Plant, Refusals>, AllocError>
-    ensures { IfOk result (λ found. found ≡ or_refused (refusals_of (borders_broken columns plant)) plant) }
+    ensures { IfOk result
+        (λ found. found ≡ or_refused (refusals_of (borders_broken columns plant)) plant) }
 {
     let found = broken_borders(alloc, columns, &plant);
     unless_broken(found, plant)
@@ -127,7 +134,10 @@ fn check_bare(
     requires limits { NetworkHasLimits net.now }
     requires named { IsNamedAs names net.now }
     requires network { network_rules_broken net.now ≡ [] }
-    ensures { IfOk result (λ found. found ≡ or_refused (refusals_of (borders_broken columns (numbered net.now no_routes))) (numbered net.now no_routes)) }
+    ensures { IfOk result
+        (λ found. found
+        ≡ or_refused (refusals_of (borders_broken columns (numbered net.now no_routes)))
+        (numbered net.now no_routes)) }
 {
     bare_network_is_sound();
     let table = TableDraft {
@@ -145,7 +155,9 @@ fn check_network(
 ) -> Result<Result<Plant, Refusals>, AllocError>
     requires { NetworkHasLimits net.now }
     ensures { IfOk result (λ found. found ≡ or_refused
-        (refusals_of (or_later (network_rules_broken net.now) (borders_broken columns (numbered net.now no_routes))))
+        (refusals_of
+        (or_later (network_rules_broken net.now)
+        (borders_broken columns (numbered net.now no_routes))))
         (numbered net.now no_routes)) }
 {
     let names = NetNames::of(alloc, net)?;
@@ -166,7 +178,10 @@ pub fn check_drafts(
     table: &TableDraft,
 ) -> Result<Result<Plant, Refusals>, AllocError>
     requires { HasLimits net.now table.now }
-    ensures { IfOk result (λ found. found ≡ or_refused (refusals_of (rules_broken stages net.now table.now)) (numbered net.now (asked_table stages table.now))) }
+    ensures { IfOk result
+        (λ found. found
+        ≡ or_refused (refusals_of (rules_broken stages net.now table.now))
+        (numbered net.now (asked_table stages table.now))) }
 {
     match stages {
         Stages::All(columns) => check_all(alloc, columns, net, table),

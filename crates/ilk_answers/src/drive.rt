@@ -26,7 +26,8 @@ fn rest_status(rest: Rest) -> Status
 fn driven_reply(alloc: Global, plant: &Plant, driven: Driven) -> Result<Reply, AllocError>
     requires { (scene : List Event) × IsDriveOf plant.now scene driven }
     ensures reply { IfOk result (λ made. made ≡ driven_reply plant.now driven) }
-    ensures planned { IfOk result (λ made. IsTrue (is_reply made.status) × (made.certificate ≡ [])) }
+    ensures planned { IfOk result
+        (λ made. IsTrue (is_reply made.status) × (made.certificate ≡ [])) }
 {
     drives_are_read_again(plant);
     let Driven { rest, events } = driven;
@@ -39,7 +40,8 @@ fn driven_reply(alloc: Global, plant: &Plant, driven: Driven) -> Result<Reply, A
 /// The reply to the text of a scenario. The only error is want of memory.
 pub fn drive_reply(alloc: Global, plant: &Plant, text: &[u8]) -> Result<Reply, AllocError>
     ensures reply { IfOk result (TellsDrive plant.now text.now) }
-    ensures planned { IfOk result (λ made. IsTrue (is_reply made.status) × (made.certificate ≡ [])) }
+    ensures planned { IfOk result
+        (λ made. IsTrue (is_reply made.status) × (made.certificate ≡ [])) }
 {
     match read_scene(alloc, plant, text)? {
         Scene::Bad { line } => {

@@ -17,7 +17,8 @@ pub fn make_reply(alloc: Global, n: u32) -> Result<Reply, AllocError>
     requires some { 1 ≤ n }
     requires few { n ≤ MAX_STATIONS }
     ensures reply { IfOk result (λ made. made ≡ make_reply n) }
-    ensures planned { IfOk result (λ made. IsTrue (is_reply made.status) × (made.certificate ≡ [])) }
+    ensures planned { IfOk result
+        (λ made. IsTrue (is_reply made.status) × (made.certificate ≡ [])) }
 {
     let mut text = stations(alloc, n)?;
     text.push(b'\n')?;

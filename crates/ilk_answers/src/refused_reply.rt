@@ -13,7 +13,9 @@ use std::alloc::{AllocError, Global};
 
 // A line for each of the refusals.
 fn refusal_lines(alloc: Global, refusals: &Refusals) -> Result<String, AllocError>
-    ensures { IfOk result (λ lines. string_bytes lines ≡ refusal_line refusals.now.first ++ broken_lines refusals.now.rest) }
+    ensures { IfOk result
+        (λ lines. string_bytes lines
+        ≡ refusal_line refusals.now.first ++ broken_lines refusals.now.rest) }
 {
     let mut lines = refusal_line(alloc, refusals.first)?;
     for broken in refusals.rest.as_slice() {

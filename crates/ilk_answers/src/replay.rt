@@ -12,7 +12,8 @@ use std::alloc::{AllocError, Global};
 // The reply to what a replay shows.
 fn seen_reply(alloc: Global, plant: &Plant, seen: Seen) -> Result<Reply, AllocError>
     ensures reply { IfOk result (λ made. made ≡ seen_reply plant.now seen) }
-    ensures planned { IfOk result (λ made. IsTrue (is_reply made.status) × (made.certificate ≡ [])) }
+    ensures planned { IfOk result
+        (λ made. IsTrue (is_reply made.status) × (made.certificate ≡ [])) }
 {
     match seen {
         Seen::NotARun { at } => {
@@ -33,7 +34,8 @@ fn seen_reply(alloc: Global, plant: &Plant, seen: Seen) -> Result<Reply, AllocEr
 /// The reply to a run text.
 pub fn run_reply(alloc: Global, plant: &Plant, text: &[u8]) -> Result<Reply, AllocError>
     ensures reply { IfOk result (λ made. made ≡ tale_reply plant.now (tale_of plant.now text.now)) }
-    ensures planned { IfOk result (λ made. IsTrue (is_reply made.status) × (made.certificate ≡ [])) }
+    ensures planned { IfOk result
+        (λ made. IsTrue (is_reply made.status) × (made.certificate ≡ [])) }
 {
     match read_run(alloc, plant, text)? {
         Tale::Bad { line } => {

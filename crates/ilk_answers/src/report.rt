@@ -67,7 +67,8 @@ pub fn verdict_line(
     conflicts: u64,
     verdict: &Verdict,
 ) -> Result<String, AllocError>
-    ensures { IfOk result (λ line. string_bytes line ≡ verdict_line plant.now conflicts verdict.now) }
+    ensures { IfOk result
+        (λ line. string_bytes line ≡ verdict_line plant.now conflicts verdict.now) }
 {
     match verdict {
         Verdict::Safe { k } => format!(in alloc; "safe k={k}\n"),

@@ -46,7 +46,8 @@ pub fn rup_reply(
 ) -> Result<Reply, AllocError>
     requires { IsTrue (wanted_valid (wanted_query kind number)) }
     ensures reply { IfOk result (TellsRefutation plant.now kind number text.now) }
-    ensures planned { IfOk result (λ made. IsTrue (is_reply made.status) × (made.certificate ≡ [])) }
+    ensures planned { IfOk result
+        (λ made. IsTrue (is_reply made.status) × (made.certificate ≡ [])) }
 {
     match first_bad_item(alloc, plant, kind, number, text)? {
         None => {

@@ -36,7 +36,8 @@ fn endless_line(alloc: Global, board: u32) -> Result<String, AllocError>
 /// no such table. The only error is want of memory.
 pub fn table_reply(alloc: Global, plant: &Plant) -> Result<Reply, AllocError>
     ensures reply { IfOk result (TellsTable plant.now) }
-    ensures planned { IfOk result (λ made. IsTrue (is_reply made.status) × (made.certificate ≡ [])) }
+    ensures planned { IfOk result
+        (λ made. IsTrue (is_reply made.status) × (made.certificate ≡ [])) }
 {
     match routes_of(alloc, plant)? {
         Walks::Routes(table) => {

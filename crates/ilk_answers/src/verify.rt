@@ -53,7 +53,9 @@ fn verdict_reply(
 ) -> Result<Reply, AllocError>
     requires { HasRuns plant.now verdict }
     ensures status { IfOk result (λ made. made.status ≡ verdict_status verdict) }
-    ensures report { IfOk result (λ made. made.report ≡ verdict_line plant.now conflicts verdict ++ verdict_run plant.now verdict) }
+    ensures report { IfOk result
+        (λ made. made.report
+        ≡ verdict_line plant.now conflicts verdict ++ verdict_run plant.now verdict) }
     ensures certificate { IfOk result (λ made. made.certificate ≡ certificate) }
 {
     let status = verdict_status(&verdict);

@@ -35,7 +35,9 @@ places-within n p (l ∷ ls) h s =
     ]
 
 -- the words beside the chains
-laid-push : (ws hs refs ls : List ℕ) (a x b y k : ℕ) (clause : List Literal) → Linked ws hs refs → Laid ws refs → k ≡ length refs + 1 → ls ≡ map place clause → vars_differ clause ≡ true → Laid (ws ++ block (length ls) a x b y k ls) (refs ++ (length ws ∷ []))
+laid-push : (ws hs refs ls : List ℕ) (a x b y k : ℕ) (clause : List Literal) → Linked ws hs refs →
+    Laid ws refs → k ≡ length refs + 1 → ls ≡ map place clause → vars_differ clause ≡ true →
+    Laid (ws ++ block (length ls) a x b y k ls) (refs ++ (length ws ∷ []))
 laid-push ws hs refs ls a x b y k clause li la ke le vd =
     let c = length ws in
     let blk = block (length ls) a x b y k ls in
@@ -63,7 +65,15 @@ pub record Grown (vars spare count : ℕ) (us ks : List ℕ) (a : ArenaLists) (l
   pub holds : HoldsArena us ks vars (count + 1)
   pub lists : lists_of vars spare us ks (references_in us) ≡ added a ls c spare
 
-grown-by : (vars spare old count : ℕ) (ws hs ks : List ℕ) (x : ArenaLists) (ls : List Literal) (a al b bl : ℕ) (cs : ℕ → List ℕ) → HoldsArena ws hs vars count → lists_of vars old ws hs (references_in ws) ≡ x → vars_differ ls ≡ true → Joins ws hs (references_in ws) (map place ls) ks a al b bl (count + 1) cs → Gives (watched (length ws) ls (lists_of vars old ws hs (references_in ws)).chains) (length hs) cs → length ws + length ls + 7 ≤ WORD_LIMIT → Grown vars spare count (ws ++ block (length (map place ls)) a al b bl (count + 1) (map place ls)) ks x ls (length ws)
+grown-by :
+    (vars spare old count : ℕ) (ws hs ks : List ℕ) (x : ArenaLists) (ls : List Literal) (a al b bl : ℕ)
+    (cs : ℕ → List ℕ) →
+    HoldsArena ws hs vars count → lists_of vars old ws hs (references_in ws) ≡ x → vars_differ ls ≡ true →
+    Joins ws hs (references_in ws) (map place ls) ks a al b bl (count + 1) cs →
+    Gives (watched (length ws) ls (lists_of vars old ws hs (references_in ws)).chains) (length hs) cs →
+    length ws + length ls + 7 ≤ WORD_LIMIT →
+    Grown vars spare count (ws ++ block (length (map place ls)) a al b bl (count + 1) (map place ls)) ks x ls
+    (length ws)
 unfolding lists_of
 grown-by vars spare old count ws hs ks x ls a al b bl cs h e vd j g fits =
     let refs = references_in ws in
@@ -83,8 +93,18 @@ grown-by vars spare old count ws hs ks x ls a al b bl cs h e vd j g fits =
     let new1 : Gives (lists_of vars spare us ks all).chains (length hs) (chain_at us ks) = record { size = new0.size ∙ j.heads; item = λ q l. new0.item q (omega (arith, j.heads)) } in
     let new2 = gives-as (lists_of vars spare us ks all).chains (length hs) (chain_at us ks) cs new1 r.1 in
     let chains : (lists_of vars spare us ks all).chains ≡ watched c ls (lists_of vars old ws hs refs).chains = gives-one (lists_of vars spare us ks all).chains (watched c ls (lists_of vars old ws hs refs).chains) (length hs) cs new2 g in
-    let clauses : map (literals_at us) all ≡ map (literals_at ws) refs ++ (ls ∷ []) = map-append (literals_at us) refs (c ∷ []) ∙ ap (λ (cl : List (List Literal)). cl ++ (literals_at us c ∷ [])) (map-same (literals_at us) (literals_at ws) refs (λ d s. ap (λ (qs : List ℕ). map lit_at qs) (ap1.kept_places d s))) ∙ ap (λ (l : List Literal). map (literals_at ws) refs ++ (l ∷ [])) (ap (λ (qs : List ℕ). map lit_at qs) (places-new ws ps a al b bl (count + 1)) ∙ round ls) in
-    let cursors : map (cursor_at us) all ≡ map (cursor_at ws) refs ++ (0 ∷ []) = map-append (cursor_at us) refs (c ∷ []) ∙ ap (λ (cu : List ℕ). cu ++ (cursor_at us c ∷ [])) (map-same (cursor_at us) (cursor_at ws) refs (λ d s. ap1.kept d 6 s (omega arith))) ∙ ap (λ (v : ℕ). map (cursor_at ws) refs ++ (v ∷ [])) ap1.new_cursor in
+    let clauses : map (literals_at us) all ≡ map (literals_at ws) refs ++ (ls ∷ []) =
+    map-append (literals_at us) refs (c ∷ [])
+    ∙ ap (λ (cl : List (List Literal)). cl ++ (literals_at us c ∷ []))
+    (map-same (literals_at us) (literals_at ws) refs
+    (λ d s. ap (λ (qs : List ℕ). map lit_at qs) (ap1.kept_places d s)))
+    ∙ ap (λ (l : List Literal). map (literals_at ws) refs ++ (l ∷ []))
+    (ap (λ (qs : List ℕ). map lit_at qs) (places-new ws ps a al b bl (count + 1)) ∙ round ls) in
+    let cursors : map (cursor_at us) all ≡ map (cursor_at ws) refs ++ (0 ∷ []) =
+    map-append (cursor_at us) refs (c ∷ [])
+    ∙ ap (λ (cu : List ℕ). cu ++ (cursor_at us c ∷ []))
+    (map-same (cursor_at us) (cursor_at ws) refs (λ d s. ap1.kept d 6 s (omega arith)))
+    ∙ ap (λ (v : ℕ). map (cursor_at ws) refs ++ (v ∷ [])) ap1.new_cursor in
     let L = lists_of vars old ws hs refs in
     record {
       holds = record {
@@ -122,7 +142,12 @@ words_long ws hs ls l m k = ws ++ block (length (map place ls)) (place l) (get_o
 abbrev pub heads_long : List ℕ → List ℕ → Literal → Literal → List ℕ
 heads_long ws hs l m = set (set hs (place l) (length ws)) (place m) (length ws)
 
-pub long-law : (vars spare old count : ℕ) (ws hs : List ℕ) (x : ArenaLists) (ls : List Literal) (l m : Literal) → HoldsArena ws hs vars count → lists_of vars old ws hs (references_in ws) ≡ x → clause_in vars ls ≡ true → vars_differ ls ≡ true → slice_get ls 0 ≡ Some l → slice_get ls 1 ≡ Some m → length ws + length ls + 7 ≤ WORD_LIMIT → Grown vars spare count (words_long ws hs ls l m (count + 1)) (heads_long ws hs l m) x ls (length ws)
+pub long-law :
+    (vars spare old count : ℕ) (ws hs : List ℕ) (x : ArenaLists) (ls : List Literal) (l m : Literal) →
+    HoldsArena ws hs vars count → lists_of vars old ws hs (references_in ws) ≡ x → clause_in vars ls ≡ true →
+    vars_differ ls ≡ true → slice_get ls 0 ≡ Some l → slice_get ls 1 ≡ Some m →
+    length ws + length ls + 7 ≤ WORD_LIMIT →
+    Grown vars spare count (words_long ws hs ls l m (count + 1)) (heads_long ws hs l m) x ls (length ws)
 long-law vars spare old count ws hs x ls l m h e ci vd a b fits =
     let refs = references_in ws in
     let ps = map place ls in
@@ -151,7 +176,10 @@ long-law vars spare old count ws hs x ls l m h e ci vd a b fits =
 abbrev pub words_short : List ℕ → List Literal → ℕ → List ℕ
 words_short ws ls k = ws ++ block (length (map place ls)) 0 0 1 0 k (map place ls)
 
-pub short-law : (vars spare old count : ℕ) (ws hs : List ℕ) (x : ArenaLists) (ls : List Literal) → HoldsArena ws hs vars count → lists_of vars old ws hs (references_in ws) ≡ x → clause_in vars ls ≡ true → vars_differ ls ≡ true → length ls < 2 → length ws + length ls + 7 ≤ WORD_LIMIT → Grown vars spare count (words_short ws ls (count + 1)) hs x ls (length ws)
+pub short-law : (vars spare old count : ℕ) (ws hs : List ℕ) (x : ArenaLists) (ls : List Literal) →
+    HoldsArena ws hs vars count → lists_of vars old ws hs (references_in ws) ≡ x → clause_in vars ls ≡ true →
+    vars_differ ls ≡ true → length ls < 2 → length ws + length ls + 7 ≤ WORD_LIMIT →
+    Grown vars spare count (words_short ws ls (count + 1)) hs x ls (length ws)
 short-law vars spare old count ws hs x ls h e ci vd n fits =
     let refs = references_in ws in
     let ps = map place ls in

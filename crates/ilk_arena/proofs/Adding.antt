@@ -38,7 +38,9 @@ grown ws xs hs R S cs hd f k = record {
 }
 
 -- c, whose link leads to the old head, becomes the head
-pub push-head : (ws hs : List ℕ) (R : ℕ → Type 0) (cs : ℕ → List ℕ) (t c : ℕ) → t < length hs → R c → 0 < c → Watches ws c t → next_reference ws t c ≡ get_or hs t 0 → Each (λ d. d ≢ c) (cs t) → Chains ws hs R cs → Chains ws (set hs t c) R (upd cs t (c ∷ cs t))
+pub push-head : (ws hs : List ℕ) (R : ℕ → Type 0) (cs : ℕ → List ℕ) (t c : ℕ) → t < length hs → R c → 0 < c →
+    Watches ws c t → next_reference ws t c ≡ get_or hs t 0 → Each (λ d. d ≢ c) (cs t) → Chains ws hs R cs →
+    Chains ws (set hs t c) R (upd cs t (c ∷ cs t))
 push-head ws hs R cs t c h rc pos w e gone k =
     let n : length (set hs t c) ≡ length hs = simp length-set in
     let at : get_or (set hs t c) t 0 ≡ c = get_or-set_same hs t c 0 h in
@@ -168,7 +170,10 @@ pub record Joins (ws hs refs ps ks : List ℕ) (a x b y k : ℕ) (cs : ℕ → L
   pub kept : (l d : ℕ) → Stands (chain_at ws hs l) d → Stands (cs l) d
   pub joined : (l : ℕ) → 2 ≤ l → (l ≡ a) ⊎ (l ≡ b) → Stands (cs l) (length ws)
 
-pub linked-push : (ws hs refs ps ks : List ℕ) (a x b y k : ℕ) (cs : ℕ → List ℕ) → Linked ws hs refs → Joins ws hs refs ps ks a x b y k cs → Linked (ws ++ block (length ps) a x b y k ps) ks (refs ++ (length ws ∷ [])) × ((l : ℕ) → l < length hs → chain_at (ws ++ block (length ps) a x b y k ps) ks l ≡ cs l)
+pub linked-push : (ws hs refs ps ks : List ℕ) (a x b y k : ℕ) (cs : ℕ → List ℕ) → Linked ws hs refs →
+    Joins ws hs refs ps ks a x b y k cs →
+    Linked (ws ++ block (length ps) a x b y k ps) ks (refs ++ (length ws ∷ [])) ×
+    ((l : ℕ) → l < length hs → chain_at (ws ++ block (length ps) a x b y k ps) ks l ≡ cs l)
 linked-push ws hs refs ps ks a x b y k cs li j =
     let c = length ws in
     let us = ws ++ block (length ps) a x b y k ps in
@@ -240,7 +245,11 @@ linked-push ws hs refs ps ks a x b y k cs li j =
     )
 
 -- a clause of two or more literals, which watches a and b
-pub added-long : (ws hs refs ps : List ℕ) (a b k : ℕ) → Linked ws hs refs → a ≢ b → 2 ≤ length ps → Stands ps a → Stands ps b → ((p : ℕ) → Stands ps p → 2 ≤ p) → ((p : ℕ) → Stands ps p → p < length hs) → Joins ws hs refs ps (set (set hs a (length ws)) b (length ws)) a (get_or hs a 0) b (get_or hs b 0) k (upd (upd (chain_at ws hs) a (length ws ∷ chain_at ws hs a)) b (length ws ∷ upd (chain_at ws hs) a (length ws ∷ chain_at ws hs a) b))
+pub added-long : (ws hs refs ps : List ℕ) (a b k : ℕ) → Linked ws hs refs → a ≢ b → 2 ≤ length ps →
+    Stands ps a → Stands ps b → ((p : ℕ) → Stands ps p → 2 ≤ p) → ((p : ℕ) → Stands ps p → p < length hs) →
+    Joins ws hs refs ps (set (set hs a (length ws)) b (length ws)) a (get_or hs a 0) b (get_or hs b 0) k
+    (upd (upd (chain_at ws hs) a (length ws ∷ chain_at ws hs a)) b
+    (length ws ∷ upd (chain_at ws hs) a (length ws ∷ chain_at ws hs a) b))
 unfolding slot
 added-long ws hs refs ps a b k li ne long oa ob least small =
     let c = length ws in

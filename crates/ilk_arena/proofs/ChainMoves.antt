@@ -90,7 +90,9 @@ link-other ws R b f l d v k rb rd n wb wd =
     ]
 
 -- the clause after b leaves the chain
-pub drop-later : (ws hs : List ℕ) (R : ℕ → Type 0) (cs : ℕ → List ℕ) (f b c : ℕ) (pre post : List ℕ) → f < length hs → cs f ≡ pre ++ (b ∷ (c ∷ post)) → Headers ws R → Chains ws hs R cs → Chains (set ws (slot ws f b) (next_reference ws f c)) hs R (upd cs f (pre ++ (b ∷ post)))
+pub drop-later : (ws hs : List ℕ) (R : ℕ → Type 0) (cs : ℕ → List ℕ) (f b c : ℕ) (pre post : List ℕ) →
+    f < length hs → cs f ≡ pre ++ (b ∷ (c ∷ post)) → Headers ws R → Chains ws hs R cs →
+    Chains (set ws (slot ws f b) (next_reference ws f c)) hs R (upd cs f (pre ++ (b ∷ post)))
 drop-later ws hs R cs f b c pre post h e hd k =
     let x = next_reference ws f c in
     let vs = set ws (slot ws f b) x in
@@ -110,15 +112,28 @@ drop-later ws hs R cs f b c pre post h e hd k =
     let e2 : Each (λ y. next_reference vs f y ≡ next_reference ws f y) post = each-both (λ d. R d × Watches ws d f) (λ y. y ≢ b) (λ y. next_reference vs f y ≡ next_reference ws f y) post keep tail.1.1 (distinct-back pre b (c ∷ post) d).1 in
     let room = hd.room b rb in
     let at : next_reference vs f b ≡ x = next-same ws b f x room.1 in
-    let held2 : (l : ℕ) (ys : List ℕ) → Each (λ d. R d × Watches ws d l) ys → Each (λ d. R d × Watches vs d l) ys = λ l ys g. each-map (λ d. R d × Watches ws d l) (λ d. R d × Watches vs d l) ys (λ y r. (r.0, link-watch ws R b f l y x hd rb r.0 r.1)) g in
+    let held2 : (l : ℕ) (ys : List ℕ) → Each (λ d. R d × Watches ws d l) ys →
+    Each (λ d. R d × Watches vs d l) ys =
+    λ l ys g. each-map (λ d. R d × Watches ws d l) (λ d. R d × Watches vs d l) ys
+    (λ y r. (r.0, link-watch ws R b f l y x hd rb r.0 r.1)) g in
     record {
-      path = by-pick cs f (pre ++ (b ∷ post)) (length hs) (λ l ys. Path vs l (get_or hs l 0) ys) (unlink ws vs f (get_or hs f 0) b c pre post e1 at e2 p) (λ l ne j. frame ws vs l (get_or hs l 0) (cs l) (each-map (λ d. R d × Watches ws d l) (λ y. next_reference vs l y ≡ next_reference ws l y) (cs l) (λ y r. link-other ws R b f l y x hd rb r.0 ne wb r.1) (k.held l j)) (k.path l j));
-      held = by-pick cs f (pre ++ (b ∷ post)) (length hs) (λ l ys. Each (λ d. R d × Watches vs d l) ys) (held2 f (pre ++ (b ∷ post)) (each-join (λ d. R d × Watches ws d f) pre (b ∷ post) front (tail.0, tail.1.1))) (λ l ne j. held2 l (cs l) (k.held l j));
+      path = by-pick cs f (pre ++ (b ∷ post)) (length hs) (λ l ys. Path vs l (get_or hs l 0) ys)
+          (unlink ws vs f (get_or hs f 0) b c pre post e1 at e2 p)
+          (λ l ne j. frame ws vs l (get_or hs l 0) (cs l)
+          (each-map (λ d. R d × Watches ws d l) (λ y. next_reference vs l y ≡ next_reference ws l y)
+          (cs l) (λ y r. link-other ws R b f l y x hd rb r.0 ne wb r.1) (k.held l j)) (k.path l j));
+      held = by-pick cs f (pre ++ (b ∷ post)) (length hs) (λ l ys. Each (λ d. R d × Watches vs d l) ys)
+          (held2 f (pre ++ (b ∷ post))
+          (each-join (λ d. R d × Watches ws d f) pre (b ∷ post) front (tail.0, tail.1.1)))
+          (λ l ne j. held2 l (cs l) (k.held l j));
       once = by-pick cs f (pre ++ (b ∷ post)) (length hs) (λ l ys. Distinct ys) (distinct-skip pre b c post d) (λ l ne j. k.once l j);
     }
 
 -- c, which stands in neither chain now, is moved from f to t, and stands first there
-pub push-moved : (ws hs : List ℕ) (R : ℕ → Type 0) (cs : ℕ → List ℕ) (f t c : ℕ) → f < length hs → t < length hs → f ≢ t → R c → Watches ws c f → get_or ws (c + 1) 0 ≢ t → (Watches ws c t → ⊥) → Each (λ d. d ≢ c) (cs f) → Headers ws R → Chains ws hs R cs → Chains (watch_moved ws f c t (get_or hs t 0)) (set hs t c) R (upd cs t (c ∷ cs t))
+pub push-moved : (ws hs : List ℕ) (R : ℕ → Type 0) (cs : ℕ → List ℕ) (f t c : ℕ) → f < length hs →
+    t < length hs → f ≢ t → R c → Watches ws c f → get_or ws (c + 1) 0 ≢ t → (Watches ws c t → ⊥) →
+    Each (λ d. d ≢ c) (cs f) → Headers ws R → Chains ws hs R cs →
+    Chains (watch_moved ws f c t (get_or hs t 0)) (set hs t c) R (upd cs t (c ∷ cs t))
 push-moved ws hs R cs f t c hf ht ne rc wf nt nw gone hd k =
     let v = get_or hs t 0 in
     let vs = watch_moved ws f c t v in
@@ -147,7 +162,22 @@ push-moved ws hs R cs f t c hf ht ne rc wf nt nw gone hd k =
     ] in
     let P : ℕ → Type 0 = λ j. Path vs t j (cs t) in
     record {
-      path = λ l i. by-pick cs t (c ∷ cs t) (length hs) (λ l ys. Path vs l (get_or (set hs t c) l 0) ys) (at, room.0, subst P (sym link) (frame ws vs t v (cs t) samet (k.path t ht))) (λ l m j. rw (get_or-set_other hs t l c 0 m) (frame ws vs l (get_or hs l 0) (cs l) (each-map (λ y. (next_reference vs l y ≡ next_reference ws l y) × (R y × Watches vs y l)) (λ y. next_reference vs l y ≡ next_reference ws l y) (cs l) (λ y r. r.0) (others l m j)) (k.path l j))) l (omega (arith, n));
-      held = λ l i. by-pick cs t (c ∷ cs t) (length hs) (λ l ys. Each (λ d. R d × Watches vs d l) ys) ((rc, moved-watch ws f c t v room.1), heldt) (λ l m j. each-map (λ y. (next_reference vs l y ≡ next_reference ws l y) × (R y × Watches vs y l)) (λ d. R d × Watches vs d l) (cs l) (λ y r. r.1) (others l m j)) l (omega (arith, n));
+      path =
+          λ l i. by-pick cs t (c ∷ cs t) (length hs) (λ l ys. Path vs l (get_or (set hs t c) l 0) ys)
+          (at, room.0, subst P (sym link) (frame ws vs t v (cs t) samet (k.path t ht)))
+          (λ l m j. rw (get_or-set_other hs t l c 0 m)
+          (frame ws vs l (get_or hs l 0) (cs l)
+          (each-map
+          (λ y. (next_reference vs l y ≡ next_reference ws l y) × (R y × Watches vs y l))
+          (λ y. next_reference vs l y ≡ next_reference ws l y) (cs l) (λ y r. r.0)
+          (others l m j)) (k.path l j))) l
+          (omega (arith, n));
+      held =
+          λ l i. by-pick cs t (c ∷ cs t) (length hs) (λ l ys. Each (λ d. R d × Watches vs d l) ys)
+          ((rc, moved-watch ws f c t v room.1), heldt)
+          (λ l m j. each-map
+          (λ y. (next_reference vs l y ≡ next_reference ws l y) × (R y × Watches vs y l))
+          (λ d. R d × Watches vs d l) (cs l) (λ y r. r.1) (others l m j)) l
+          (omega (arith, n));
       once = λ l i. by-pick cs t (c ∷ cs t) (length hs) (λ l ys. Distinct ys) (absent, k.once t ht) (λ l m j. k.once l j) l (omega (arith, n));
     }

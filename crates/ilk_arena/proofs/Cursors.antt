@@ -69,7 +69,12 @@ turned ws hs refs c v k r =
     let pl : (d : ℕ) → Stands refs d → places_at us d ≡ places_at ws d = λ d s. cursor-places ws hs refs c d v k r s in
     let step : (l d : ℕ) → Stands refs d → next_reference us l d ≡ next_reference ws l d = λ l d s. next-far ws l d (c + 6) v (far d 1 s (omega arith)) (far d 2 s (omega arith)) (far d 4 s (omega arith)) in
     let ch : Chains us hs (Stands refs) (chain_at ws hs) = record {
-      path = λ l h. frame ws us l (get_or hs l 0) (chain_at ws hs l) (each-map (λ d. Stands refs d × Watches ws d l) (λ d. next_reference us l d ≡ next_reference ws l d) (chain_at ws hs l) (λ d s. step l d s.0) (k.chains.held l h)) (k.chains.path l h);
+      path =
+          λ l h. frame ws us l (get_or hs l 0) (chain_at ws hs l)
+          (each-map (λ d. Stands refs d × Watches ws d l)
+          (λ d. next_reference us l d ≡ next_reference ws l d) (chain_at ws hs l)
+          (λ d s. step l d s.0) (k.chains.held l h))
+          (k.chains.path l h);
       held = λ l h. each-map (λ d. Stands refs d × Watches ws d l) (λ d. Stands refs d × Watches us d l) (chain_at ws hs l) (λ d s. (s.0, watches-far ws d l (c + 6) v (far d 1 s.0 (omega arith)) (far d 3 s.0 (omega arith)) s.1)) (k.chains.held l h);
       once = k.chains.once;
     } in
@@ -120,7 +125,9 @@ pub record CursorSet (vars spare count : ℕ) (us hs : List ℕ) (a : ArenaLists
   pub holds : HoldsArena us hs vars count
   pub lists : lists_of vars spare us hs (references_in us) ≡ record a { cursors = set_beside c a.references a.cursors v }
 
-pub cursor-law : (vars spare count : ℕ) (ws hs : List ℕ) (a : ArenaLists) (c v : ℕ) → HoldsArena ws hs vars count → lists_of vars spare ws hs (references_in ws) ≡ a → Stands (references_in ws) c → v ≤ get_or ws c 0 → CursorSet vars spare count (set ws (c + 6) v) hs a c v
+pub cursor-law : (vars spare count : ℕ) (ws hs : List ℕ) (a : ArenaLists) (c v : ℕ) →
+    HoldsArena ws hs vars count → lists_of vars spare ws hs (references_in ws) ≡ a →
+    Stands (references_in ws) c → v ≤ get_or ws c 0 → CursorSet vars spare count (set ws (c + 6) v) hs a c v
 unfolding lists_of
 cursor-law vars spare count ws hs a c v h e s le =
     let refs = references_in ws in
@@ -143,7 +150,11 @@ cursor-law vars spare count ws hs a c v h e s le =
     let P : List ℕ → Type 0 = λ rs. Linked us hs rs in
     let Q : List ℕ → Type 0 = λ rs. Laid us rs in
     let L = lists_of vars spare ws hs refs in
-    let chains : (lists_of vars spare us hs refs).chains ≡ L.chains = gives-one (lists_of vars spare us hs refs).chains L.chains (length hs) (chain_at ws hs) (gives-as (lists_of vars spare us hs refs).chains (length hs) (chain_at us hs) (chain_at ws hs) (gives-seen vars spare us hs refs) t.chains) (gives-seen vars spare ws hs refs) in
+    let chains : (lists_of vars spare us hs refs).chains ≡ L.chains = gives-one
+    (lists_of vars spare us hs refs).chains L.chains (length hs) (chain_at ws hs)
+    (gives-as (lists_of vars spare us hs refs).chains (length hs) (chain_at us hs) (chain_at ws hs)
+    (gives-seen vars spare us hs refs) t.chains)
+    (gives-seen vars spare ws hs refs) in
     let clauses : map (literals_at us) refs ≡ map (literals_at ws) refs = map-same (literals_at us) (literals_at ws) refs (λ x q. ap (λ (ps : List ℕ). map lit_at ps) (cursor-places ws hs refs c x v k s q)) in
     let cursors : map (cursor_at us) refs ≡ set_beside c refs (map (cursor_at ws) refs) v = cursors-set (cursor_at ws) (cursor_at us) refs c v (rising ws 1 refs h.laid.blocks).1 at (λ x q n. away x n) in
     record {
@@ -155,7 +166,11 @@ cursor-law vars spare count ws hs a c v h e s le =
         linked = subst P (sym re) t.linked;
         laid = subst Q (sym re) d;
       };
-      lists = ap (λ (rs : List ℕ). lists_of vars spare us hs rs) re ∙ arena-ext (lists_of vars spare us hs refs) (record L { cursors = set_beside c L.references L.cursors v }) refl refl refl clauses cursors chains ∙ ap (λ (y : ArenaLists). record y { cursors = set_beside c y.references y.cursors v }) e;
+      lists = ap (λ (rs : List ℕ). lists_of vars spare us hs rs) re
+          ∙ arena-ext (lists_of vars spare us hs refs)
+          (record L { cursors = set_beside c L.references L.cursors v }) refl refl refl clauses cursors
+          chains
+          ∙ ap (λ (y : ArenaLists). record y { cursors = set_beside c y.references y.cursors v }) e;
     }
 
 -- an arena without clauses

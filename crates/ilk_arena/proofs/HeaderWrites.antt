@@ -62,7 +62,11 @@ moved-watch-far ws f c t v l d h w =
     watches-far us d l (slot ws f c) v (grind (arith, slot-in ws f c)) (grind (arith, slot-in ws f c)) (watches-far ws d l (slot ws f c - 1) t (grind (arith, slot-in ws f c)) (grind (arith, slot-in ws f c)) w)
 
 -- reads of the words of the header after the move
-pub moved-reads-left : (ws : List ℕ) (f c t v : ℕ) → c + 7 ≤ length ws → get_or ws (c + 1) 0 ≡ f → (slot ws f c ≡ c + 2) × (get_or (watch_moved ws f c t v) (c + 1) 0 ≡ t) × (get_or (watch_moved ws f c t v) (c + 2) 0 ≡ v) × (get_or (watch_moved ws f c t v) (c + 3) 0 ≡ get_or ws (c + 3) 0) × (get_or (watch_moved ws f c t v) (c + 4) 0 ≡ get_or ws (c + 4) 0)
+pub moved-reads-left : (ws : List ℕ) (f c t v : ℕ) → c + 7 ≤ length ws → get_or ws (c + 1) 0 ≡ f →
+    (slot ws f c ≡ c + 2) × (get_or (watch_moved ws f c t v) (c + 1) 0 ≡ t) ×
+    (get_or (watch_moved ws f c t v) (c + 2) 0 ≡ v) ×
+    (get_or (watch_moved ws f c t v) (c + 3) 0 ≡ get_or ws (c + 3) 0) ×
+    (get_or (watch_moved ws f c t v) (c + 4) 0 ≡ get_or ws (c + 4) 0)
 unfolding slot
 moved-reads-left ws f c t v h p =
     let s : slot ws f c ≡ c + 2 = grind (arith, nat_tests) in
@@ -75,7 +79,10 @@ moved-reads-left ws f c t v h p =
       rw s (get_or-set_other (set ws (c + 2 - 1) t) (c + 2) (c + 4) v 0 (omega arith) ∙ get_or-set_other ws (c + 2 - 1) (c + 4) t 0 (omega arith)),
     )
 
-pub moved-reads-right : (ws : List ℕ) (f c t v : ℕ) → c + 7 ≤ length ws → get_or ws (c + 1) 0 ≢ f → (slot ws f c ≡ c + 4) × (get_or (watch_moved ws f c t v) (c + 1) 0 ≡ get_or ws (c + 1) 0) × (get_or (watch_moved ws f c t v) (c + 2) 0 ≡ get_or ws (c + 2) 0) × (get_or (watch_moved ws f c t v) (c + 3) 0 ≡ t) × (get_or (watch_moved ws f c t v) (c + 4) 0 ≡ v)
+pub moved-reads-right : (ws : List ℕ) (f c t v : ℕ) → c + 7 ≤ length ws → get_or ws (c + 1) 0 ≢ f →
+    (slot ws f c ≡ c + 4) × (get_or (watch_moved ws f c t v) (c + 1) 0 ≡ get_or ws (c + 1) 0) ×
+    (get_or (watch_moved ws f c t v) (c + 2) 0 ≡ get_or ws (c + 2) 0) ×
+    (get_or (watch_moved ws f c t v) (c + 3) 0 ≡ t) × (get_or (watch_moved ws f c t v) (c + 4) 0 ≡ v)
 unfolding slot
 moved-reads-right ws f c t v h p =
     let s : slot ws f c ≡ c + 4 = grind (arith, nat_tests) in (

@@ -18,7 +18,10 @@ pub record LiteralRead (hs : List ℕ) (ls : List Literal) (i : ℕ) (l : Litera
   pub fits : 2 * l.var + 1 < WORD_LIMIT
   pub chained : place l < length hs
 
-pub literal-read : {vars count : ℕ} {ws hs : List ℕ} {x : ArenaLists} (old : ℕ) (ls : List Literal) (i : ℕ) (l : Literal) → HoldsArena ws hs vars count → lists_of vars old ws hs (references_in ws) ≡ x → clause_in x.vars ls ≡ true → i < length ls → l ≡ get_or ls i l → LiteralRead hs ls i l
+pub literal-read :
+    {vars count : ℕ} {ws hs : List ℕ} {x : ArenaLists} (old : ℕ) (ls : List Literal) (i : ℕ) (l : Literal) →
+    HoldsArena ws hs vars count → lists_of vars old ws hs (references_in ws) ≡ x →
+    clause_in x.vars ls ≡ true → i < length ls → l ≡ get_or ls i l → LiteralRead hs ls i l
 literal-read {vars} {count} {ws} {hs} {x} old ls i l h e within below is =
     let within0 = ap (λ (n : ℕ). clause_in n ls) (vars-are vars old ws hs x e) ∙ within in
     let s : slice_get ls i ≡ Some l = slice_get_read ls (length ls) i l refl below is in
@@ -45,7 +48,12 @@ pub record LongWritten (ws hs us ks : List ℕ) (count reference : ℕ) (ls : Li
   pub heads_are : ks ≡ set (set hs left reference) right reference
 
 -- so the new words and heads hold the arena with this clause
-pub long-grown : {vars count reference : ℕ} {ws hs us ks : List ℕ} {ls : List Literal} {x : ArenaLists} (spare old : ℕ) → HoldsArena ws hs vars count → lists_of vars old ws hs (references_in ws) ≡ x → clause_in x.vars ls ≡ true → vars_differ ls ≡ true → 2 ≤ length ls → length ls + 8 ≤ x.spare → old + length ws ≤ WORD_LIMIT → LongWritten ws hs us ks count reference ls → Grown vars spare count us ks x ls reference
+pub long-grown :
+    {vars count reference : ℕ} {ws hs us ks : List ℕ} {ls : List Literal} {x : ArenaLists} (spare old : ℕ) →
+    HoldsArena ws hs vars count → lists_of vars old ws hs (references_in ws) ≡ x →
+    clause_in x.vars ls ≡ true → vars_differ ls ≡ true → 2 ≤ length ls → length ls + 8 ≤ x.spare →
+    old + length ws ≤ WORD_LIMIT → LongWritten ws hs us ks count reference ls →
+    Grown vars spare count us ks x ls reference
 long-grown {vars} {count} {reference} {ws} {hs} {us} {ks} {ls} {x} spare old h e within differ long room below w =
     let a = literal-read old ls 0 w.l h e within (omega arith) w.l_is in
     let b = literal-read old ls 1 w.m h e within (omega arith) w.m_is in

@@ -27,7 +27,11 @@ split ws l k [] c post p = (refl, p.1, p.2)
 split ws l k (d ∷ pre) c post p = split ws l (next_reference ws l d) pre c post p.2
 
 -- a path without its element c, where the link before c skips it
-pub unlink : (ws vs : List ℕ) (l k b c : ℕ) (pre post : List ℕ) → Each (λ d. next_reference vs l d ≡ next_reference ws l d) pre → next_reference vs l b ≡ next_reference ws l c → Each (λ d. next_reference vs l d ≡ next_reference ws l d) post → Path ws l k (pre ++ (b ∷ (c ∷ post))) → Path vs l k (pre ++ (b ∷ post))
+pub unlink : (ws vs : List ℕ) (l k b c : ℕ) (pre post : List ℕ) →
+    Each (λ d. next_reference vs l d ≡ next_reference ws l d) pre →
+    next_reference vs l b ≡ next_reference ws l c →
+    Each (λ d. next_reference vs l d ≡ next_reference ws l d) post → Path ws l k (pre ++ (b ∷ (c ∷ post))) →
+    Path vs l k (pre ++ (b ∷ post))
 unlink ws vs l k b c [] post e x f p =
     let P : ℕ → Type 0 = λ j. Path vs l j post in
     let q : Path vs l (next_reference ws l c) post = frame ws vs l (next_reference ws l c) post f p.2.2 in

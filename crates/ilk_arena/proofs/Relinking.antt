@@ -97,7 +97,11 @@ pub record Relinked (ws hs refs us ks : List ℕ) (f t c : ℕ) : Type 0 where
   pub alike : Alike ws us refs
   pub seen : (l : ℕ) → l < length hs → chain_at us ks l ≡ upd (upd (chain_at ws hs) f (without_reference c (chain_at ws hs f))) t (c ∷ upd (chain_at ws hs) f (without_reference c (chain_at ws hs f)) t) l
 
-pub relinked : (ws hs refs vs gs : List ℕ) (f t c : ℕ) → Linked ws hs refs → Alike ws vs refs → SameWatches ws vs refs → length gs ≡ length hs → Chains vs gs (Stands refs) (upd (chain_at ws hs) f (without_reference c (chain_at ws hs f))) → 2 ≤ f → f < length hs → Stands (places_at ws c) t → Stands refs c → Watches ws c f → f ≢ t → (Watches ws c t → ⊥) → Relinked ws hs refs (watch_moved vs f c t (get_or gs t 0)) (set gs t c) f t c
+pub relinked : (ws hs refs vs gs : List ℕ) (f t c : ℕ) → Linked ws hs refs → Alike ws vs refs →
+    SameWatches ws vs refs → length gs ≡ length hs →
+    Chains vs gs (Stands refs) (upd (chain_at ws hs) f (without_reference c (chain_at ws hs f))) → 2 ≤ f →
+    f < length hs → Stands (places_at ws c) t → Stands refs c → Watches ws c f → f ≢ t →
+    (Watches ws c t → ⊥) → Relinked ws hs refs (watch_moved vs f c t (get_or gs t 0)) (set gs t c) f t c
 relinked ws hs refs vs gs f t c k a w g ch lf hf own rc wf ne nw =
     let v = get_or gs t 0 in
     let us = watch_moved vs f c t v in

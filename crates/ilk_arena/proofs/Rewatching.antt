@@ -30,7 +30,10 @@ before-ok ws hs refs (Some b) c f k h a =
     let s : Stands (chain_at ws hs f) b = (let P : List ℕ → Type 0 = λ ys. Stands ys b in subst P (sym a.1.1) (stands-in a.0 b (c ∷ a.1.0))) in
     omega (arith, k.whole b (in-chain ws hs refs f b k h s).0)
 
-after-alike : (ws hs refs : List ℕ) (before : Option ℕ) (c f : ℕ) → Linked ws hs refs → f < length hs → StandsAfter before c (chain_at ws hs f) → Alike ws (words_after ws before f c) refs × SameWatches ws (words_after ws before f c) refs × (length (heads_after hs ws before f c) ≡ length hs)
+after-alike : (ws hs refs : List ℕ) (before : Option ℕ) (c f : ℕ) → Linked ws hs refs → f < length hs →
+    StandsAfter before c (chain_at ws hs f) →
+    Alike ws (words_after ws before f c) refs × SameWatches ws (words_after ws before f c) refs ×
+    (length (heads_after hs ws before f c) ≡ length hs)
 after-alike ws hs refs None c f k h a = (record { size = refl; same = λ d s. record { len = refl; places = refl; number = refl; cursor = refl } }, record { left_same = λ d s. refl; right_same = λ d s. refl }, simp length-set)
 after-alike ws hs refs (Some b) c f k h a =
     let s : Stands (chain_at ws hs f) b = (let P : List ℕ → Type 0 = λ ys. Stands ys b in subst P (sym a.1.1) (stands-in a.0 b (c ∷ a.1.0))) in
@@ -79,10 +82,17 @@ lit-at vars spare ws hs refs a c i k e s h =
     record {
       room = omega (arith, w, lt);
       own = subst S g (stands-place (places_at ws c) i il);
-      is = ap (λ (x : ArenaLists). slice_get (literals_of x c) i) (sym e) ∙ ap (λ (ls : List Literal). slice_get ls i) (clause-seen vars spare ws hs refs c s) ∙ slice_get-map lit_at (places_at ws c) i ∙ ap (option_map lit_at) (slice_get-get_or (places_at ws c) i 0 il) ∙ ap (λ (p : ℕ). Some (lit_at p)) g;
+      is = ap (λ (x : ArenaLists). slice_get (literals_of x c) i) (sym e)
+          ∙ ap (λ (ls : List Literal). slice_get ls i) (clause-seen vars spare ws hs refs c s)
+          ∙ slice_get-map lit_at (places_at ws c) i
+          ∙ ap (option_map lit_at) (slice_get-get_or (places_at ws c) i 0 il)
+          ∙ ap (λ (p : ℕ). Some (lit_at p)) g;
     }
 
-pub ready : (vars spare count : ℕ) (ws hs : List ℕ) (a : ArenaLists) (before : Option ℕ) (c i : ℕ) (f : Literal) → HoldsArena ws hs vars count → lists_of vars spare ws hs (references_in ws) ≡ a → lit_in a.vars f ≡ true → follows before c (chain_of a f) ≡ true → i < length (literals_of a c) → Ready ws hs a before c i f
+pub ready :
+    (vars spare count : ℕ) (ws hs : List ℕ) (a : ArenaLists) (before : Option ℕ) (c i : ℕ) (f : Literal) →
+    HoldsArena ws hs vars count → lists_of vars spare ws hs (references_in ws) ≡ a → lit_in a.vars f ≡ true →
+    follows before c (chain_of a f) ≡ true → i < length (literals_of a c) → Ready ws hs a before c i f
 ready vars spare count ws hs a before c i f h e fi af lt =
     let refs = references_in ws in
     let k = h.linked in
@@ -113,7 +123,13 @@ pub record Moved (vars spare count : ℕ) (ws hs us ks : List ℕ) (a : ArenaLis
   pub holds : HoldsArena us ks vars count
   pub lists : lists_of vars spare us ks (references_in us) ≡ rewatched a c f t
 
-pub rewatch-law : (vars spare count : ℕ) (ws hs : List ℕ) (a : ArenaLists) (before : Option ℕ) (c i p : ℕ) (f : Literal) → HoldsArena ws hs vars count → lists_of vars spare ws hs (references_in ws) ≡ a → Ready ws hs a before c i f → lit_in a.vars f ≡ true → p ≡ get_or ws (c + 7 + i) 0 → stands_in c (chain_of a (lit_at p)) ≡ false → Moved vars spare count ws hs (words_moved ws hs before (place f) c p) (heads_moved ws hs before (place f) c p) a c f (lit_at p)
+pub rewatch-law :
+    (vars spare count : ℕ) (ws hs : List ℕ) (a : ArenaLists) (before : Option ℕ) (c i p : ℕ) (f : Literal) →
+    HoldsArena ws hs vars count → lists_of vars spare ws hs (references_in ws) ≡ a →
+    Ready ws hs a before c i f → lit_in a.vars f ≡ true → p ≡ get_or ws (c + 7 + i) 0 →
+    stands_in c (chain_of a (lit_at p)) ≡ false →
+    Moved vars spare count ws hs (words_moved ws hs before (place f) c p)
+    (heads_moved ws hs before (place f) c p) a c f (lit_at p)
 rewatch-law vars spare count ws hs a before c i p f h e r fi pe un =
     let refs = references_in ws in
     let k = h.linked in

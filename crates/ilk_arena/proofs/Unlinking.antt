@@ -128,13 +128,18 @@ watch-back ws f c t v l h n wf w =
     pick1 ws vs c f t l p n a b (left q) = inl (sym q ∙ a)
     pick1 ws vs c f t l p n a b (right q) = inr (right (sym b ∙ q), λ e. n (p ∙ sym e ∙ sym q ∙ b))
 
-    pick2 : (ws vs : List ℕ) (c f t l : ℕ) → get_or ws (c + 1) 0 ≢ f → get_or ws (c + 1) 0 ≢ get_or ws (c + 3) 0 → get_or vs (c + 1) 0 ≡ get_or ws (c + 1) 0 → get_or vs (c + 3) 0 ≡ t → Watches ws c f → Watches vs c l → (l ≡ t) ⊎ (Watches ws c l × (l ≢ f))
+    pick2 : (ws vs : List ℕ) (c f t l : ℕ) → get_or ws (c + 1) 0 ≢ f →
+        get_or ws (c + 1) 0 ≢ get_or ws (c + 3) 0 → get_or vs (c + 1) 0 ≡ get_or ws (c + 1) 0 →
+        get_or vs (c + 3) 0 ≡ t → Watches ws c f → Watches vs c l → (l ≡ t) ⊎ (Watches ws c l × (l ≢ f))
     pick2 ws vs c f t l p n a b (left x) w = absurd (p x)
     pick2 ws vs c f t l p n a b (right x) (left q) = inr (left (sym a ∙ q), λ e. p (sym a ∙ q ∙ e))
     pick2 ws vs c f t l p n a b (right x) (right q) = inl (sym q ∙ b)
 
 -- c leaves the chain of f
-pub unlinked : (ws hs refs : List ℕ) (before : Option ℕ) (f c : ℕ) → Linked ws hs refs → f < length hs → StandsAfter before c (chain_at ws hs f) → Chains (words_after ws before f c) (heads_after hs ws before f c) (Stands refs) (upd (chain_at ws hs) f (without_reference c (chain_at ws hs f)))
+pub unlinked : (ws hs refs : List ℕ) (before : Option ℕ) (f c : ℕ) → Linked ws hs refs → f < length hs →
+    StandsAfter before c (chain_at ws hs f) →
+    Chains (words_after ws before f c) (heads_after hs ws before f c) (Stands refs)
+    (upd (chain_at ws hs) f (without_reference c (chain_at ws hs f)))
 unlinked ws hs refs None f c k h a =
     let e : without_reference c (chain_at ws hs f) ≡ a.0 = rw a.1 (without-first c a.0 (let D : List ℕ → Type 0 = λ ys. Distinct ys in let d : Distinct (c ∷ a.0) = subst D a.1 (k.chains.once f h) in d.0)) in
     rw e (drop-first ws hs (Stands refs) (chain_at ws hs) f c a.0 h a.1 k.chains)

@@ -79,7 +79,9 @@ holds-alike ws us hs ks vars count h a n li =
       e,
     )
 
-pub lists-alike : (vars spare : ℕ) (ws us hs ks refs : List ℕ) (chains : List (List ℕ)) → Alike ws us refs → (lists_of vars spare us ks refs).chains ≡ chains → lists_of vars spare us ks refs ≡ record (lists_of vars spare ws hs refs) { chains = chains }
+pub lists-alike : (vars spare : ℕ) (ws us hs ks refs : List ℕ) (chains : List (List ℕ)) → Alike ws us refs →
+    (lists_of vars spare us ks refs).chains ≡ chains →
+    lists_of vars spare us ks refs ≡ record (lists_of vars spare ws hs refs) { chains = chains }
 unfolding lists_of
 lists-alike vars spare ws us hs ks refs chains a e =
     arena-ext (lists_of vars spare us ks refs) (record (lists_of vars spare ws hs refs) { chains = chains }) refl refl refl

@@ -60,7 +60,10 @@ stands-rewatched a c f t d p h =
 -- the chain that a clause leaves
 pub chain-left : (a : ArenaLists) (c : ℕ) (f t : Literal) → f ≢ t → chain_of (rewatched a c f t) f ≡ without_reference c (chain_of a f)
 chain-left a c f t n =
-    let other : get_or (put_first t c (taken_out f c a.chains)) (place f) [] ≡ get_or (taken_out f c a.chains) (place f) [] = get_or-set_other (taken_out f c a.chains) (place t) (place f) (c ∷ get_or (taken_out f c a.chains) (place t) []) [] (λ e. n (place-one f t e)) in
+    let other : get_or (put_first t c (taken_out f c a.chains)) (place f) []
+    ≡ get_or (taken_out f c a.chains) (place f) [] =
+    get_or-set_other (taken_out f c a.chains) (place t) (place f)
+    (c ∷ get_or (taken_out f c a.chains) (place t) []) [] (λ e. n (place-one f t e)) in
     other ∙ taken a.chains (place f)
   where
     taken : (xs : List (List ℕ)) (i : ℕ) → get_or (set xs i (without_reference c (get_or xs i []))) i [] ≡ without_reference c (get_or xs i [])

@@ -38,7 +38,8 @@ impl Model for Arena {
 
     ghost Value = { ArenaLists };
 
-    ghost view = { λ a. lists_of a.vars (min (vec_capacity a.words) WORD_LIMIT - vec_len a.words) a.words.items a.heads.items (references_in a.words.items) };
+    ghost view = { λ a. lists_of a.vars (min (vec_capacity a.words) WORD_LIMIT - vec_len a.words)
+        a.words.items a.heads.items (references_in a.words.items) };
 
     ghost invariant = { λ a. HoldsArena a.words.items a.heads.items a.vars a.count };
 }
@@ -56,7 +57,16 @@ impl Arena {
     /// or more: a word has no room for their places.
     pub fn new(alloc: Global, vars: u64) -> Result<Arena, AllocError>
         requires { vars ≤ 2 ^ 62 }
-        ensures empty { IfOk result (λ a. a ≡ record { vars = vars; spare = a.spare; references = []; clauses = []; cursors = []; chains = replicate (2 * vars + 2) [] }) }
+        ensures empty { IfOk result
+            (λ a. a
+            ≡ record {
+              vars = vars;
+              spare = a.spare;
+              references = [];
+              clauses = [];
+              cursors = [];
+              chains = replicate (2 * vars + 2) [];
+            }) }
         ensures arena { IfOk result (λ a. IsArena a) }
     {
         if 2 * vars + 2 > WORD_LIMIT {
@@ -203,7 +213,8 @@ impl Arena {
     pub fn set_cursor(&mut self, c: u64, i: u64)
         requires known { IsTrue (stands_in c self.old.references) }
         requires within { i ≤ length (literals_of self.old c) }
-        ensures { self.new ≡ record self.old { cursors = set_beside c self.old.references self.old.cursors i } }
+        ensures { self.new
+            ≡ record self.old { cursors = set_beside c self.old.references self.old.cursors i } }
     {
         let cursor = &mut self.words[c as usize + CURSOR];
         *cursor = i as u32;
@@ -243,8 +254,10 @@ impl Arena {
         requires within { IsTrue (lit_in self.old.vars from) }
         requires follows { IsTrue (follows before c (chain_of self.old from)) }
         requires to_in { to < length (literals_of self.old c) }
-        requires unwatched { IfSome (slice_get (literals_of self.old c) to) (λ l. stands_in c (chain_of self.old l) ≡ false) }
-        ensures moved { IfSome (slice_get (literals_of self.old c) to) (λ l. self.new ≡ rewatched self.old c from l) }
+        requires unwatched { IfSome (slice_get (literals_of self.old c) to)
+            (λ l. stands_in c (chain_of self.old l) ≡ false) }
+        ensures moved { IfSome (slice_get (literals_of self.old c) to)
+            (λ l. self.new ≡ rewatched self.old c from l) }
         ensures arena { IsArena self.new }
     {
         let watch = self.words[c as usize + HEADER + to as usize];

@@ -45,7 +45,8 @@ pub fn other_of(words: &[u32], at: u32, clause: u64) -> u32
 fn skip(words: &mut [u32], from: u32, before: u64, clause: u64)
     requires before_in { before + 7 ≤ length words.old }
     requires clause_in { clause + 7 ≤ length words.old }
-    ensures { words.new ≡ slice_set words.old (slot words.old from before) (next_reference words.old from clause) }
+    ensures { words.new
+        ≡ slice_set words.old (slot words.old from before) (next_reference words.old from clause) }
 {
     let after = next_of(words, from, clause);
     let at = slot_of(words, from, before);
@@ -104,8 +105,11 @@ pub fn move_watch(
     requires from_in { from < length heads.old }
     requires to_in { to < length heads.old }
     requires fits { clause < WORD_LIMIT }
-    ensures words { words.new ≡ watch_moved (words_after words.old before from clause) from clause to (slice_index (heads_after heads.old words.old before from clause) to) }
-    ensures heads { heads.new ≡ slice_set (heads_after heads.old words.old before from clause) to clause }
+    ensures words { words.new
+        ≡ watch_moved (words_after words.old before from clause) from clause to
+        (slice_index (heads_after heads.old words.old before from clause) to) }
+    ensures heads { heads.new
+        ≡ slice_set (heads_after heads.old words.old before from clause) to clause }
 {
     unlink(words, heads, before, from, clause);
     link_first(words, heads, from, clause, to);

@@ -61,7 +61,9 @@ between-push : (from : ℕ) (bounds codes new : List ℕ) → ascend from bounds
 between-push from [] codes new h =
     let e : from ≡ length codes = eqb-true from (length codes) h in
     let n : length codes + length new - from ≡ length new = omega (arith, e) in
-    let here : take (length codes + length new - from) (drop from (codes ++ new)) ≡ new = ap (λ k. take k (drop from (codes ++ new))) n ∙ ap (λ k. take (length new) (drop k (codes ++ new))) e ∙ ap (take (length new)) (drop-append_seam codes new) ∙ take_all (length new) new (omega arith) in
+    let here : take (length codes + length new - from) (drop from (codes ++ new)) ≡ new =
+    ap (λ k. take k (drop from (codes ++ new))) n ∙ ap (λ k. take (length new) (drop k (codes ++ new))) e
+    ∙ ap (take (length new)) (drop-append_seam codes new) ∙ take_all (length new) new (omega arith) in
     ap (λ (xs : List ℕ). literals_of xs ∷ []) here
 between-push from (b ∷ bounds) codes new h =
     let p = and_parts (nat_le from b) (ascend b bounds (length codes)) h in
@@ -118,7 +120,9 @@ block-push n codes more bounds c b e f within differ =
     )
 
 -- the clause with a number, where it is one of the block
-pub numbered : (bounds codes : List ℕ) (number a b : ℕ) → 0 < number → slice_get bounds (number - 1) ≡ Some a → slice_get bounds number ≡ Some b → clause_numbered (clauses_between bounds codes) number ≡ Some (literals_of (take (b - a) (drop a codes)))
+pub numbered : (bounds codes : List ℕ) (number a b : ℕ) → 0 < number →
+    slice_get bounds (number - 1) ≡ Some a → slice_get bounds number ≡ Some b →
+    clause_numbered (clauses_between bounds codes) number ≡ Some (literals_of (take (b - a) (drop a codes)))
 numbered bounds codes zero a b some p q = absurd (omega arith)
 numbered bounds codes (suc i) a b some p q =
     let e : suc i - 1 ≡ i = omega arith in

@@ -50,11 +50,22 @@ hints-derived clauses set (h ∷ []) = go (clause_numbered clauses h)
     go (Some c) = last-clause clauses set c
 hints-derived clauses set (h ∷ (k ∷ hints)) = go (λ l. hints-derived clauses (l ∷ set) (k ∷ hints)) (clause_numbered clauses h)
   where
-    by_unit : ((l : Literal) → is_none (hints_fault clauses (l ∷ set) (k ∷ hints)) ≡ ends_false clauses (l ∷ set) (k ∷ hints)) → (o : Option Literal) → is_none (option_map_or (λ l. hints_fault clauses (l ∷ set) (k ∷ hints)) o (Some NotUnit)) ≡ is_some_and (o >>= (λ l. Some (l ∷ set))) (λ s. ends_false clauses s (k ∷ hints))
+    by_unit :
+        ((l : Literal) →
+        is_none (hints_fault clauses (l ∷ set) (k ∷ hints)) ≡ ends_false clauses (l ∷ set) (k ∷ hints)) →
+        (o : Option Literal) →
+        is_none (option_map_or (λ l. hints_fault clauses (l ∷ set) (k ∷ hints)) o (Some NotUnit))
+        ≡ is_some_and (o >>= (λ l. Some (l ∷ set))) (λ s. ends_false clauses s (k ∷ hints))
     by_unit next None = refl
     by_unit next (Some l) = next l
 
-    go : ((l : Literal) → is_none (hints_fault clauses (l ∷ set) (k ∷ hints)) ≡ ends_false clauses (l ∷ set) (k ∷ hints)) → (o : Option (List Literal)) → is_none (option_map_or (in_clause clauses set (k ∷ hints)) o (Some BadHint)) ≡ is_some_and (o >>= (λ c. unit_of set c >>= (λ l. Some (l ∷ set)))) (λ s. ends_false clauses s (k ∷ hints))
+    go :
+        ((l : Literal) →
+        is_none (hints_fault clauses (l ∷ set) (k ∷ hints)) ≡ ends_false clauses (l ∷ set) (k ∷ hints)) →
+        (o : Option (List Literal)) →
+        is_none (option_map_or (in_clause clauses set (k ∷ hints)) o (Some BadHint))
+        ≡ is_some_and (o >>= (λ c. unit_of set c >>= (λ l. Some (l ∷ set))))
+        (λ s. ends_false clauses s (k ∷ hints))
     go next None = refl
     go next (Some c) =
         elim (cases_Bool (is_falsified set c)) [

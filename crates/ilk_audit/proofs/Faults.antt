@@ -64,7 +64,10 @@ unset-is l set =
     ]
 
 -- a suffix of a clause grows by one literal
-pub next-literal : (n : ℕ) (c : List Literal) (i : ℕ) (l : Literal) → i < length c → l ≡ get_or c i l → is_clause n (drop (i + 1) c) ≡ true → (lit_in n l && not (has_var l.var (opposites (drop (i + 1) c)))) ≡ true → (is_clause n (drop i c) ≡ true) × (opposites (drop i c) ≡ opposite l ∷ opposites (drop (i + 1) c))
+pub next-literal : (n : ℕ) (c : List Literal) (i : ℕ) (l : Literal) → i < length c → l ≡ get_or c i l →
+    is_clause n (drop (i + 1) c) ≡ true →
+    (lit_in n l && not (has_var l.var (opposites (drop (i + 1) c)))) ≡ true →
+    (is_clause n (drop i c) ≡ true) × (opposites (drop i c) ≡ opposite l ∷ opposites (drop (i + 1) c))
 next-literal n c i l at is h new =
     let e = item-drop c i l at is in
     let p = and_parts (lit_in n l) (not (has_var l.var (opposites (drop (i + 1) c)))) new in
@@ -82,7 +85,12 @@ bad-literal n c i l at is bad =
 pub record AtHints (clauses : List (List Literal)) (start : List Literal) (whole : List ℕ) (set : List Literal) (rest : List ℕ) : Type 0 where
   pub fault : hints_fault clauses set rest ≡ hints_fault clauses start whole
 
-pub hint-next : (clauses : List (List Literal)) (start : List Literal) (whole : List ℕ) (set : List Literal) (i h : ℕ) (found : Hinted) → AtHints clauses start whole set (drop i whole) → i < length whole → h ≡ get_or whole i 0 → found ≡ found_at clauses set h → by_found clauses set (drop (i + 1) whole) found ≡ hints_fault clauses start whole
+pub hint-next :
+    (clauses : List (List Literal)) (start : List Literal) (whole : List ℕ) (set : List Literal) (i h : ℕ)
+    (found : Hinted) →
+    AtHints clauses start whole set (drop i whole) → i < length whole → h ≡ get_or whole i 0 →
+    found ≡ found_at clauses set h →
+    by_found clauses set (drop (i + 1) whole) found ≡ hints_fault clauses start whole
 hint-next clauses start whole set i h found a at is e =
     ap (by_found clauses set (drop (i + 1) whole)) e
     ∙ sym (hints-found clauses set h (drop (i + 1) whole))

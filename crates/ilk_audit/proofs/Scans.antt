@@ -39,7 +39,9 @@ scan-false n set whole lone code rest a f = record {
 }
 
 -- at the first that isn't
-pub scan-open : (n : ℕ) (set : List Literal) (whole : List ℕ) (code : ℕ) (rest : List ℕ) → AtCodes n set whole None (code ∷ rest) → is_false set (literal_of code) ≡ false → lit_in n (literal_of code) ≡ true → AtCodes n set whole (Some (literal_of code)) rest
+pub scan-open : (n : ℕ) (set : List Literal) (whole : List ℕ) (code : ℕ) (rest : List ℕ) →
+    AtCodes n set whole None (code ∷ rest) → is_false set (literal_of code) ≡ false →
+    lit_in n (literal_of code) ≡ true → AtCodes n set whole (Some (literal_of code)) rest
 scan-open n set whole code rest a f within = record {
   found = sym (ap (λ (ls : List Literal). found_open set ls) (open-more set code rest f)) ∙ a.found;
   within = and_from (lit_in n (literal_of code)) true within refl;
@@ -85,7 +87,11 @@ by_found clauses set hints AllFalse = only_if (some_left hints) NotFalse
 by_found clauses set hints (OneUnset l) = hints_fault clauses (l ∷ set) hints
 by_found clauses set hints Other = Some NotUnit
 
-in-clause : (clauses : List (List Literal)) (set : List Literal) (hints : List ℕ) (c ls : List Literal) → open_of set c ≡ ls → cond (is_falsified set c) (only_if (some_left hints) NotFalse) (option_map_or (λ l. hints_fault clauses (l ∷ set) hints) (lone_unset set ls) (Some NotUnit)) ≡ by_found clauses set hints (found_open set ls)
+in-clause : (clauses : List (List Literal)) (set : List Literal) (hints : List ℕ) (c ls : List Literal) →
+    open_of set c ≡ ls →
+    cond (is_falsified set c) (only_if (some_left hints) NotFalse)
+    (option_map_or (λ l. hints_fault clauses (l ∷ set) hints) (lone_unset set ls) (Some NotUnit))
+    ≡ by_found clauses set hints (found_open set ls)
 in-clause clauses set hints c [] e = rw (all-false set c e) refl
 in-clause clauses set hints c (l ∷ []) e =
     rw (some-open set c l [] e)
@@ -98,7 +104,12 @@ in-clause clauses set hints c (l ∷ (m ∷ ls)) e = rw (some-open set c l (m �
 pub hints-found : (clauses : List (List Literal)) (set : List Literal) (h : ℕ) (hints : List ℕ) → hints_fault clauses set (h ∷ hints) ≡ by_found clauses set hints (found_at clauses set h)
 hints-found clauses set h hints = go (clause_numbered clauses h)
   where
-    go : (o : Option (List Literal)) → option_map_or (λ c. cond (is_falsified set c) (only_if (some_left hints) NotFalse) (option_map_or (λ l. hints_fault clauses (l ∷ set) hints) (unit_of set c) (Some NotUnit))) o (Some BadHint) ≡ by_found clauses set hints (option_map_or (found_in set) o Missing)
+    go : (o : Option (List Literal)) →
+        option_map_or
+        (λ c. cond (is_falsified set c) (only_if (some_left hints) NotFalse)
+        (option_map_or (λ l. hints_fault clauses (l ∷ set) hints) (unit_of set c) (Some NotUnit))) o
+        (Some BadHint)
+        ≡ by_found clauses set hints (option_map_or (found_in set) o Missing)
     go None = refl
     go (Some c) = in-clause clauses set hints c (open_of set c) refl
 

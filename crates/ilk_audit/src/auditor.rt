@@ -30,7 +30,8 @@ impl Model for Auditor {
 
     ghost Value = { Audited };
 
-    ghost view = { λ a. record { vars = a.clauses.vars; clauses = a.clauses.clauses; closed = a.closed } };
+    ghost view = { λ a. record
+        { vars = a.clauses.vars; clauses = a.clauses.clauses; closed = a.closed } };
 
     ghost invariant = { λ a. a.partial ≡ record { vars = a.clauses.vars; set = [] } };
 }
@@ -49,7 +50,8 @@ fn clauses_of(alloc: Global, cnf: &Cnf) -> Result<Block, AllocError>
 impl Auditor {
     /// The formula, and no step. Its clauses are numbered from 1, in order, and the steps after them.
     pub fn new(alloc: Global, cnf: &Cnf) -> Result<Auditor, AllocError>
-        ensures { IfOk result (λ a. a ≡ record { vars = cnf.now.vars; clauses = cnf.now.clauses; closed = false }) }
+        ensures { IfOk result
+            (λ a. a ≡ record { vars = cnf.now.vars; clauses = cnf.now.clauses; closed = false }) }
     {
         Ok(Auditor {
             clauses: clauses_of(alloc, cnf)?,
@@ -72,8 +74,15 @@ impl Auditor {
     fn add(&mut self, clause: &[Lit]) -> Result<Taken, AllocError>
         requires within { IsTrue (clause_in self.old.vars clause.now) }
         requires differ { IsTrue (vars_differ clause.now) }
-        ensures taken { IfOk result (λ taken. taken ≡ (if is_empty clause.now then Closed else Good)) }
-        ensures after { OnOk result (self.new ≡ record { vars = self.old.vars; clauses = self.old.clauses ++ clause.now ∷ []; closed = is_empty clause.now }) }
+        ensures taken { IfOk result
+            (λ taken. taken ≡ (if is_empty clause.now then Closed else Good)) }
+        ensures after { OnOk result
+            (self.new
+            ≡ record {
+              vars = self.old.vars;
+              clauses = self.old.clauses ++ clause.now ∷ [];
+              closed = is_empty clause.now;
+            }) }
         ensures err { OnErr result (self.new ≡ self.old) }
     {
         self.clauses.push(clause)?;
@@ -99,8 +108,11 @@ impl Auditor {
     /// The same of a step whose clause and hints stand in lists.
     pub fn take_parts(&mut self, clause: &[Lit], hints: &[u64]) -> Result<Taken, AllocError>
         requires open { self.old.closed ≡ false }
-        ensures taken { IfOk result (λ taken. taken ≡ taken_of self.old (record { clause = clause.now; hints = hints.now })) }
-        ensures after { OnOk result (self.new ≡ after_step self.old (record { clause = clause.now; hints = hints.now })) }
+        ensures taken { IfOk result
+            (λ taken. taken
+            ≡ taken_of self.old (record { clause = clause.now; hints = hints.now })) }
+        ensures after { OnOk result
+            (self.new ≡ after_step self.old (record { clause = clause.now; hints = hints.now })) }
         ensures err { OnErr result (self.new ≡ self.old) }
     {
         let fault = fault(&self.clauses, &mut self.partial, clause, hints);

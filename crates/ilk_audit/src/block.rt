@@ -32,7 +32,8 @@ impl Model for Block {
 
     ghost Value = { Formula };
 
-    ghost view = { λ b. record { vars = b.vars; clauses = clauses_between b.bounds.items (codes_in b.codes) } };
+    ghost view = { λ b. record
+        { vars = b.vars; clauses = clauses_between b.bounds.items (codes_in b.codes) } };
 
     ghost invariant = { λ b. IsBlock b.vars b.codes b.bounds.items };
 }
@@ -92,8 +93,12 @@ fn found_between(partial: &Partial, codes: &Codes, from: usize, to: usize) -> Hi
     requires few { partial.now.vars ≤ 2 ^ 62 }
     requires ascend { from ≤ to }
     requires fit { to ≤ length (codes_in codes.now) }
-    requires within { IsTrue (clause_in partial.now.vars (literals_of (take (to - from) (drop from (codes_in codes.now))))) }
-    ensures { result ≡ found_in partial.now.set (literals_of (take (to - from) (drop from (codes_in codes.now)))) }
+    requires within { IsTrue
+        (clause_in partial.now.vars
+        (literals_of (take (to - from) (drop from (codes_in codes.now))))) }
+    ensures { result
+        ≡ found_in partial.now.set
+        (literals_of (take (to - from) (drop from (codes_in codes.now)))) }
 {
     match codes {
         Codes::Narrow(codes) => found_in_narrow(partial, &codes[from..to]),
@@ -103,7 +108,9 @@ fn found_between(partial: &Partial, codes: &Codes, from: usize, to: usize) -> Hi
 
 // Where the part with a number, from 1, begins and ends; none where there are fewer.
 fn part_at(bounds: &[usize], number: u64) -> Option<(usize, usize)>
-    ensures some { IfSome result (λ part. (0 < number) × (slice_get bounds.now (number - 1) ≡ Some part.0) × (slice_get bounds.now number ≡ Some part.1)) }
+    ensures some { IfSome result
+        (λ part. (0 < number) × (slice_get bounds.now (number - 1) ≡ Some part.0) ×
+        (slice_get bounds.now number ≡ Some part.1)) }
     ensures none { IfNone result ((number ≡ 0) ⊎ (length bounds.now ≤ number)) }
 {
     let number = number as usize;

@@ -30,7 +30,8 @@ fn is_settable(partial: &Partial, l: Lit) -> bool
 // clause is over different variables of the formula.
 fn set_opposites(partial: &mut Partial, clause: &[Lit]) -> Result<bool, AllocError>
     requires { partial.old.set ≡ [] }
-    ensures answer { IfOk result (λ ok. ok ≡ (clause_in partial.old.vars clause.now && vars_differ clause.now)) }
+    ensures answer { IfOk result
+        (λ ok. ok ≡ (clause_in partial.old.vars clause.now && vars_differ clause.now)) }
     ensures set { IfOk result (λ ok. ok ≡ true → partial.new.set ≡ opposites clause.now) }
     ensures vars { partial.new.vars ≡ partial.old.vars }
 {
@@ -53,7 +54,8 @@ fn hints_fault(
     hints: &[u64],
 ) -> Result<Option<Why>, AllocError>
     requires { partial.old.vars ≡ clauses.now.vars }
-    ensures fault { IfOk result (λ fault. fault ≡ hints_fault clauses.now.clauses partial.old.set hints.now) }
+    ensures fault { IfOk result
+        (λ fault. fault ≡ hints_fault clauses.now.clauses partial.old.set hints.now) }
     ensures vars { partial.new.vars ≡ partial.old.vars }
 {
     for (i, hint) in hints.iter().enumerate() {
@@ -77,7 +79,10 @@ pub fn fault(
 ) -> Result<Option<Why>, AllocError>
     requires vars { partial.old.vars ≡ clauses.now.vars }
     requires none { partial.old.set ≡ [] }
-    ensures fault { IfOk result (λ fault. fault ≡ fault_of clauses.now.vars clauses.now.clauses (record { clause = clause.now; hints = hints.now })) }
+    ensures fault { IfOk result
+        (λ fault. fault
+        ≡ fault_of clauses.now.vars clauses.now.clauses
+        (record { clause = clause.now; hints = hints.now })) }
     ensures vars { partial.new.vars ≡ partial.old.vars }
 {
     if !set_opposites(partial, clause)? {

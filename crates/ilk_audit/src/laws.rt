@@ -8,5 +8,6 @@ ghost use Rattle.ilk_audit.specs.Taken.{is_taken, taken_of};
 /// it. The call does nothing, and tells a proof.
 #[tactic(auto, using(crate::proofs::Derived::taken_derived))]
 pub fn taken_steps_are_derived()
-    ensures { (a : Audited) (s : StepValue) → is_taken (taken_of a s) ≡ is_derived a.vars a.clauses s }
+    ensures { (a : Audited) (s : StepValue) →
+        is_taken (taken_of a s) ≡ is_derived a.vars a.clauses s }
 {}

@@ -30,7 +30,8 @@ impl Model for Partial {
 
     ghost view = { λ p. record { vars = p.vars; set = reverse p.trail.items } };
 
-    ghost invariant = { λ p. IsTableOf p.falses.items (record { vars = p.vars; set = reverse p.trail.items }) };
+    ghost invariant = { λ p. IsTableOf p.falses.items
+        (record { vars = p.vars; set = reverse p.trail.items }) };
 }
 
 impl Partial {

@@ -66,7 +66,10 @@ map_numbered-alike f g xs same =
 -- one after another
 pub map_numbered-after : {X : Type 0} (f g h : ℕ → X → X) (xs : List X) → ((i : ℕ) (z : X) → f i (g i z) ≡ h i z) → map_numbered f (map_numbered g xs) ≡ map_numbered h xs
 map_numbered-after {X = X} f g h xs same =
-    same_by_slice_get (map_numbered f (map_numbered g xs)) (map_numbered h xs) (λ i. slice_get-map_numbered f (map_numbered g xs) i ∙ ap (option_map (f i)) (slice_get-map_numbered g xs i) ∙ both i (slice_get xs i) ∙ sym (slice_get-map_numbered h xs i))
+    same_by_slice_get (map_numbered f (map_numbered g xs)) (map_numbered h xs)
+    (λ i. slice_get-map_numbered f (map_numbered g xs) i
+    ∙ ap (option_map (f i)) (slice_get-map_numbered g xs i) ∙ both i (slice_get xs i)
+    ∙ sym (slice_get-map_numbered h xs i))
   where
     both : (i : ℕ) (o : Option X) → option_map (f i) (option_map (g i) o) ≡ option_map (h i) o
     both i None = refl

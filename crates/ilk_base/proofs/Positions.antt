@@ -70,7 +70,10 @@ position-push p [] y = rw (position-cons p y []) (by_test (p y))
 position-push p (x ∷ xs) y =
     rw (position-cons p x (xs ++ y ∷ []), position-cons p x xs, position-push p xs y) (by_test (p x) (position p xs) (p y))
   where
-    by_test : (b : Bool) (o : Option ℕ) (c : Bool) → cond b (Some 0) (option_map suc (cond (is_some o) o (cond c (Some (length xs)) None))) ≡ cond (is_some (cond b (Some 0) (option_map suc o))) (cond b (Some 0) (option_map suc o)) (cond c (Some (suc (length xs))) None)
+    by_test : (b : Bool) (o : Option ℕ) (c : Bool) →
+        cond b (Some 0) (option_map suc (cond (is_some o) o (cond c (Some (length xs)) None)))
+        ≡ cond (is_some (cond b (Some 0) (option_map suc o))) (cond b (Some 0) (option_map suc o))
+        (cond c (Some (suc (length xs))) None)
     by_test true o c = refl
     by_test false (Some n) c = refl
     by_test false None true = refl

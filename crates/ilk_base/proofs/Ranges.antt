@@ -46,7 +46,9 @@ listed_all-more f n =
     ∙ ap (λ xs. flat_map f (range_with_len 0 n) ++ xs) (append-nil (f n))
 
 -- a list that grew by the place n where it passes
-pub grows_if : {X : Type 0} (f : ℕ → X) (p : ℕ → Bool) (n : ℕ) (b : Bool) (start now next : List X) → b ≡ p n → now ≡ start ++ map f (filter p (range_with_len 0 n)) → next ≡ now ++ cond b (f n ∷ []) [] → next ≡ start ++ map f (filter p (range_with_len 0 (n + 1)))
+pub grows_if : {X : Type 0} (f : ℕ → X) (p : ℕ → Bool) (n : ℕ) (b : Bool) (start now next : List X) →
+    b ≡ p n → now ≡ start ++ map f (filter p (range_with_len 0 n)) → next ≡ now ++ cond b (f n ∷ []) [] →
+    next ≡ start ++ map f (filter p (range_with_len 0 (n + 1)))
 grows_if f p n b start now next tested sofar grown =
     grown
     ∙ ap (λ xs. xs ++ cond b (f n ∷ []) []) sofar

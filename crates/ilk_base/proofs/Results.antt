@@ -31,5 +31,8 @@ with_front-step front x (Ok rest) = ap Ok (sym (append_assoc front (x ∷ []) re
 with_front-step front x (Err fault) = refl
 
 -- what the next item gives joins the front
-pub in_order-more : {X A E : Type 0} (one : ℕ → X → Result A E) (front : List A) (xs rest : List X) (i : ℕ) (x : X) (y : A) → xs ≡ x ∷ rest → one i x ≡ Ok y → with_front front (in_order one i xs) ≡ with_front (front ++ y ∷ []) (in_order one (i + 1) rest)
+pub in_order-more :
+    {X A E : Type 0} (one : ℕ → X → Result A E) (front : List A) (xs rest : List X) (i : ℕ) (x : X) (y : A) →
+    xs ≡ x ∷ rest → one i x ≡ Ok y →
+    with_front front (in_order one i xs) ≡ with_front (front ++ y ∷ []) (in_order one (i + 1) rest)
 in_order-more one front xs rest i x y split e = rw split (rw e (with_front-step front y (in_order one (i + 1) rest)))

@@ -12,7 +12,10 @@ pub list_any-at : {X : Type 0} (p : X → Bool) (xs : List X) → list_any p xs 
 list_any-at p [] h = cc
 list_any-at p (x ∷ xs) h = by_test p x xs (list_any-at p xs) h (p x) refl
   where
-    by_test : {X : Type 0} (p : X → Bool) (x : X) (xs : List X) → (list_any p xs ≡ true → (k : ℕ) × (y : X) × (slice_get xs k ≡ Some y) × (p y ≡ true)) → list_any p (x ∷ xs) ≡ true → (b : Bool) → p x ≡ b → (k : ℕ) × (y : X) × (slice_get (x ∷ xs) k ≡ Some y) × (p y ≡ true)
+    by_test : {X : Type 0} (p : X → Bool) (x : X) (xs : List X) →
+        (list_any p xs ≡ true → (k : ℕ) × (y : X) × (slice_get xs k ≡ Some y) × (p y ≡ true)) →
+        list_any p (x ∷ xs) ≡ true → (b : Bool) → p x ≡ b →
+        (k : ℕ) × (y : X) × (slice_get (x ∷ xs) k ≡ Some y) × (p y ≡ true)
     by_test p x xs ih h true e = (zero, x, refl, e)
     by_test p x xs ih h false e =
         let rest : list_any p xs ≡ true = rw e at h in
@@ -34,7 +37,9 @@ pub filter-none : {X : Type 0} (p : X → Bool) (xs : List X) (k : ℕ) (x : X) 
 filter-none p [] k x e at = cc
 filter-none p (y ∷ xs) k x e at = by_test p y xs k x (filter-none p xs) e at (p y) refl
   where
-    by_test : {X : Type 0} (p : X → Bool) (y : X) (xs : List X) (k : ℕ) (x : X) → ((j : ℕ) (z : X) → filter p xs ≡ [] → slice_get xs j ≡ Some z → p z ≡ false) → filter p (y ∷ xs) ≡ [] → slice_get (y ∷ xs) k ≡ Some x → (b : Bool) → p y ≡ b → p x ≡ false
+    by_test : {X : Type 0} (p : X → Bool) (y : X) (xs : List X) (k : ℕ) (x : X) →
+        ((j : ℕ) (z : X) → filter p xs ≡ [] → slice_get xs j ≡ Some z → p z ≡ false) →
+        filter p (y ∷ xs) ≡ [] → slice_get (y ∷ xs) k ≡ Some x → (b : Bool) → p y ≡ b → p x ≡ false
     by_test p y xs k x ih e at true test = let bad : y ∷ filter p xs ≡ [] = rw test at e in cc
     by_test p y xs zero x ih e at false test = let same : y ≡ x = cc in rw same at test
     by_test p y xs (suc k) x ih e at false test = let rest : filter p xs ≡ [] = rw test at e in ih k x rest at

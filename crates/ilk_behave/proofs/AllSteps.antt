@@ -84,7 +84,10 @@ rule-numbered p plant (Tail x) j rule at = towards-known p plant x (λ d y. map 
 rule-numbered p plant (Leave x) j rule at = let section = thing-of (slice_get p.sections x) _ j rule at in slice_get_within p.sections x section.0 section.1
 
 -- a rule of an event of these has a number, and that number is the event's
-numbered : (p : PlantLists) (events : List Event) (k : ℕ) (event : Event) (j : ℕ) (rule : RuleTree) → slice_get events k ≡ Some event → slice_get (rules_of p event) j ≡ Some rule → (i : ℕ) × (slice_get (events_of_rules p events) i ≡ Some event) × (slice_get (flat_map (rules_of p) events) i ≡ Some rule)
+numbered : (p : PlantLists) (events : List Event) (k : ℕ) (event : Event) (j : ℕ) (rule : RuleTree) →
+    slice_get events k ≡ Some event → slice_get (rules_of p event) j ≡ Some rule →
+    (i : ℕ) × (slice_get (events_of_rules p events) i ≡ Some event) ×
+    (slice_get (flat_map (rules_of p) events) i ≡ Some rule)
 numbered p [] k event j rule at there = cc
 numbered p (z ∷ rest) zero event j rule at there =
     let same = same_Some z event at in
@@ -96,7 +99,10 @@ numbered p (z ∷ rest) (suc k) event j rule at there =
     (length (rules_of p z) + later.0, of_rest p z rest (length (rules_of p z) + later.0) (omega arith) ∙ ap (slice_get (events_of_rules p rest)) back ∙ later.1, at-past (rules_of p z) (flat_map (rules_of p) rest) later.0 rule later.2)
 
 -- a rule with the number of an event's is a rule of the event
-rule-of : (p : PlantLists) (events : List Event) (i : ℕ) (event : Event) (rule : RuleTree) → slice_get (events_of_rules p events) i ≡ Some event → slice_get (flat_map (rules_of p) events) i ≡ Some rule → (j : ℕ) × (slice_get (rules_of p event) j ≡ Some rule)
+rule-of : (p : PlantLists) (events : List Event) (i : ℕ) (event : Event) (rule : RuleTree) →
+    slice_get (events_of_rules p events) i ≡ Some event →
+    slice_get (flat_map (rules_of p) events) i ≡ Some rule →
+    (j : ℕ) × (slice_get (rules_of p event) j ≡ Some rule)
 rule-of p [] i event rule at there = cc
 rule-of p (z ∷ rest) i event rule at there =
     elim (below_or_past i (length (rules_of p z))) [

@@ -74,7 +74,12 @@ module _ (p : PlantLists) (plant : IsPlant p) (s : State) (shape : HasShape p s)
       let vacant = vacant-holds p s shape calm x within in
       rw (lock, vacant) (ap (λ b. has_lock s x FreeLock && b) (and-true (not (is_occupied s x))))
 
-  allocate-guard : (r : ℕ) (route : Route) (now : RouteState) → slice_get p.routes r ≡ Some route → slice_get s.routes r ≡ Some now → list_all (tree_holds (image_of p s)) (mode_is r Marked ∷ flat_map unclaimed route.conflicts ++ flat_map (clear_at p) (sections_locked_for route)) ≡ (same_mode now.mode Marked && can_claim s route)
+  allocate-guard : (r : ℕ) (route : Route) (now : RouteState) → slice_get p.routes r ≡ Some route →
+      slice_get s.routes r ≡ Some now →
+      list_all (tree_holds (image_of p s))
+      (mode_is r Marked ∷ flat_map unclaimed route.conflicts
+      ++ flat_map (clear_at p) (sections_locked_for route))
+      ≡ (same_mode now.mode Marked && can_claim s route)
   allocate-guard r route now known here =
       let of = plant.routes_known r route known in
       let conflicts : list_all (tree_holds (image_of p s)) (flat_map unclaimed route.conflicts) ≡ not (list_any (is_claimed s) route.conflicts) =
@@ -89,7 +94,23 @@ module _ (p : PlantLists) (plant : IsPlant p) (s : State) (shape : HasShape p s)
       ∙ ap (λ b. same_mode now.mode Marked && (b && list_all (tree_holds (image_of p s)) (flat_map (clear_at p) (sections_locked_for route)))) conflicts
       ∙ ap (λ b. same_mode now.mode Marked && (not (list_any (is_claimed s) route.conflicts) && b)) sections
 
-  allocate-sets : (r : ℕ) (route : Route) (now : RouteState) → slice_get p.routes r ≡ Some route → slice_get s.routes r ≡ Some now → set_all (image_with s (occupancy_values p s)) (mode_becomes r Allocating ∷ locks_become p (sections_locked_for route) LockedLock ++ flat_map (commanded p) (wanted_points route)) ≡ image_with (record s { routes = set s.routes r (record now { mode = Allocating }); locks = with_locks s.locks (sections_locked_for route) LockedLock; points = with_commands p s.points (wanted_points route) }) (occupancy_values p (record s { routes = set s.routes r (record now { mode = Allocating }); locks = with_locks s.locks (sections_locked_for route) LockedLock; points = with_commands p s.points (wanted_points route) }))
+  allocate-sets : (r : ℕ) (route : Route) (now : RouteState) → slice_get p.routes r ≡ Some route →
+      slice_get s.routes r ≡ Some now →
+      set_all (image_with s (occupancy_values p s))
+      (mode_becomes r Allocating ∷ locks_become p (sections_locked_for route) LockedLock
+      ++ flat_map (commanded p) (wanted_points route))
+      ≡ image_with
+      (record s {
+        routes = set s.routes r (record now { mode = Allocating });
+        locks = with_locks s.locks (sections_locked_for route) LockedLock;
+        points = with_commands p s.points (wanted_points route);
+      })
+      (occupancy_values p
+      (record s {
+        routes = set s.routes r (record now { mode = Allocating });
+        locks = with_locks s.locks (sections_locked_for route) LockedLock;
+        points = with_commands p s.points (wanted_points route);
+      }))
   allocate-sets r route now known here =
       let e = occupancy_values p s in
       let of = plant.routes_known r route known in
@@ -121,24 +142,70 @@ module _ (p : PlantLists) (plant : IsPlant p) (s : State) (shape : HasShape p s)
           (all_of-holds (image_of p s) conditions ∙ allocate-guard r route now.0 e now.1)
           (λ h. by_image p s allocated sets (allocate-sets r route now.0 e now.1)))
 
-  lock-guard : (r : ℕ) (route : Route) (now : RouteState) → slice_get p.routes r ≡ Some route → slice_get s.routes r ≡ Some now → list_all (tree_holds (image_of p s)) (mode_is r Allocating ∷ ((map (lies_at_listed p) (wanted_points route) ++ map (λ m. board_is p m Closed) route.protecting_boards) ++ map (λ q. negation (mode_is q Locked)) (protectors p route.source))) ≡ (same_mode now.mode Allocating && can_lock p s route)
+  lock-guard : (r : ℕ) (route : Route) (now : RouteState) → slice_get p.routes r ≡ Some route →
+      slice_get s.routes r ≡ Some now →
+      list_all (tree_holds (image_of p s))
+      (mode_is r Allocating
+      ∷
+      ((map (lies_at_listed p) (wanted_points route)
+      ++ map (λ m. board_is p m Closed) route.protecting_boards)
+      ++ map (λ q. negation (mode_is q Locked)) (protectors p route.source)))
+      ≡ (same_mode now.mode Allocating && can_lock p s route)
   lock-guard r route now known here =
       let of = plant.routes_known r route known in
       let holds = tree_holds (image_of p s) in
       let lies : list_all holds (map (lies_at_listed p) (wanted_points route)) ≡ list_all (lies_as_listed p s) (wanted_points route) =
       list_all-map holds (lies_at_listed p) (wanted_points route) ∙ list_all-alike (λ listed. holds (lies_at_listed p listed)) (lies_as_listed p s) (wanted_points route) (λ i listed at. lie-holds listed.point listed.at) in
       let boards : list_all holds (map (λ m. board_is p m Closed) route.protecting_boards) ≡ list_all (λ m. has_aspect s m Closed) route.protecting_boards =
-      list_all-map holds (λ m. board_is p m Closed) route.protecting_boards ∙ list_all-alike (λ m. holds (board_is p m Closed)) (λ m. has_aspect s m Closed) route.protecting_boards (λ i m at. board-holds p s shape m Closed (all-at (λ m. m < length p.boards) route.protecting_boards i m of.protecting_boards at)) in
+      list_all-map holds (λ m. board_is p m Closed) route.protecting_boards
+      ∙ list_all-alike (λ m. holds (board_is p m Closed)) (λ m. has_aspect s m Closed)
+      route.protecting_boards
+      (λ i m at. board-holds p s shape m Closed
+      (all-at (λ m. m < length p.boards) route.protecting_boards i m of.protecting_boards at)) in
       let free : list_all holds (map (λ q. negation (mode_is q Locked)) (protectors p route.source)) ≡ not (is_protecting p s route.source) =
       list_all-map holds (λ q. negation (mode_is q Locked)) (protectors p route.source)
-      ∙ list_all-alike (λ q. not (holds (mode_is q Locked))) (λ q. not (has_mode s q Locked)) (protectors p route.source) (λ i q at. ap not (has_mode-holds p s shape q Locked (let less = passing_within (λ q. protects_by p q route.source) 0 (length p.routes) i q at in omega (arith, less))))
+      ∙ list_all-alike (λ q. not (holds (mode_is q Locked))) (λ q. not (has_mode s q Locked))
+      (protectors p route.source)
+      (λ i q at. ap not
+      (has_mode-holds p s shape q Locked
+      (let less = passing_within (λ q. protects_by p q route.source) 0 (length p.routes) i q at
+      in
+      omega (arith, less))))
       ∙ filtered-none (λ q. has_mode s q Locked) (λ q. protects_by p q route.source) (range_with_len 0 (length p.routes)) in
-      let first = list_all-append holds (map (lies_at_listed p) (wanted_points route)) (map (λ m. board_is p m Closed) route.protecting_boards) ∙ ap (λ b. b && list_all holds (map (λ m. board_is p m Closed) route.protecting_boards)) lies ∙ ap (λ b. list_all (lies_as_listed p s) (wanted_points route) && b) boards in
+      let first =
+      list_all-append holds (map (lies_at_listed p) (wanted_points route))
+      (map (λ m. board_is p m Closed) route.protecting_boards)
+      ∙ ap (λ b. b && list_all holds (map (λ m. board_is p m Closed) route.protecting_boards)) lies
+      ∙ ap (λ b. list_all (lies_as_listed p s) (wanted_points route) && b) boards in
       let parts = list_all-append holds (map (lies_at_listed p) (wanted_points route) ++ map (λ m. board_is p m Closed) route.protecting_boards) (map (λ q. negation (mode_is q Locked)) (protectors p route.source)) in
-      ap (λ b. b && list_all holds ((map (lies_at_listed p) (wanted_points route) ++ map (λ m. board_is p m Closed) route.protecting_boards) ++ map (λ q. negation (mode_is q Locked)) (protectors p route.source))) (mode-holds p s shape r now Allocating here)
-      ∙ ap (λ b. same_mode now.mode Allocating && b) (parts ∙ ap (λ b. b && list_all holds (map (λ q. negation (mode_is q Locked)) (protectors p route.source))) first ∙ ap (λ b. (list_all (lies_as_listed p s) (wanted_points route) && list_all (λ m. has_aspect s m Closed) route.protecting_boards) && b) free)
+      ap
+      (λ b. b
+      && list_all holds
+      ((map (lies_at_listed p) (wanted_points route)
+      ++ map (λ m. board_is p m Closed) route.protecting_boards)
+      ++ map (λ q. negation (mode_is q Locked)) (protectors p route.source)))
+      (mode-holds p s shape r now Allocating here)
+      ∙ ap (λ b. same_mode now.mode Allocating && b)
+      (parts
+      ∙ ap
+      (λ b. b
+      && list_all holds (map (λ q. negation (mode_is q Locked)) (protectors p route.source)))
+      first
+      ∙ ap
+      (λ b.
+      (list_all (lies_as_listed p s) (wanted_points route)
+      && list_all (λ m. has_aspect s m Closed) route.protecting_boards) && b) free)
 
-  lock-sets : (r : ℕ) (route : Route) (now : RouteState) → slice_get p.routes r ≡ Some route → slice_get s.routes r ≡ Some now → set_all (image_with s (occupancy_values p s)) (mode_becomes r Locked ∷ board_becomes p route.source Open ∷ []) ≡ image_with (record s { routes = set s.routes r (record now { mode = Locked }); boards = set s.boards route.source Open }) (occupancy_values p s)
+  lock-sets : (r : ℕ) (route : Route) (now : RouteState) → slice_get p.routes r ≡ Some route →
+      slice_get s.routes r ≡ Some now →
+      set_all (image_with s (occupancy_values p s))
+      (mode_becomes r Locked ∷ board_becomes p route.source Open ∷ [])
+      ≡ image_with
+      (record s {
+        routes = set s.routes r (record now { mode = Locked });
+        boards = set s.boards route.source Open;
+      })
+      (occupancy_values p s)
   lock-sets r route now known here =
       let e = occupancy_values p s in
       let counts = fits_path-counts route now (shape.counts r route now known here) in

@@ -48,7 +48,12 @@ use Rattle.ilk_conditions.proofs.Values.{lock-holds, occupancy-holds, vacant-hol
 use Rattle.ilk_behave.proofs.Writing.{by_image}
 
 -- where trains change the occupancy of x alone, one write does it
-pub one-written : (p : PlantLists) (s : State) (trains : List Train) (x : ℕ) → HasShape p s → x < length p.sections → ((y : ℕ) → (y ≡ x → ⊥) → occupancy_of p (with_trains s trains) y ≡ occupancy_of p s y) → set (image_with s (occupancy_values p s)) (occupancy_var p x) (occupancy_value (occupancy_of p (with_trains s trains) x)) ≡ image_with (with_trains s trains) (occupancy_values p (with_trains s trains))
+pub one-written : (p : PlantLists) (s : State) (trains : List Train) (x : ℕ) → HasShape p s →
+    x < length p.sections →
+    ((y : ℕ) → (y ≡ x → ⊥) → occupancy_of p (with_trains s trains) y ≡ occupancy_of p s y) →
+    set (image_with s (occupancy_values p s)) (occupancy_var p x)
+    (occupancy_value (occupancy_of p (with_trains s trains) x))
+    ≡ image_with (with_trains s trains) (occupancy_values p (with_trains s trains))
 one-written p s trains x shape within others =
     occupancy-written p s (occupancy_values p s) shape x (occupancy_value (occupancy_of p (with_trains s trains) x))
     ∙ ap (image_with s) (table-one (λ y. occupancy_value (occupancy_of p s y)) (λ y. occupancy_value (occupancy_of p (with_trains s trains) y)) (length p.sections) x within (λ y less apart. ap occupancy_value (others y apart)))
@@ -164,7 +169,10 @@ module _ (p : PlantLists) (plant : IsPlant p) (never : NeverReturns p) (s : Stat
           let lock = lock-holds p s shape x FreeLock within in
           rw e (rule_step p s (with_trains s (s.trains ++ train_on x d ∷ [])) (is_clear s x) (rule (no_train_at p x ∷ lock_is p x FreeLock ∷ []) (occupancy_becomes p x (Taken d true true) ∷ []))
           (ap (λ b. b && (tree_holds (image_of p s) (lock_is p x FreeLock) && true)) vacant ∙ ap (λ b. not (is_occupied s x) && (b && true)) lock ∙ shuffle (not (is_occupied s x)) (has_lock s x FreeLock))
-          (λ h. by_image p s (with_trains s (s.trains ++ train_on x d ∷ [])) (occupancy_becomes p x (Taken d true true) ∷ []) (ap (λ o. set (image_with s (occupancy_values p s)) (occupancy_var p x) (occupancy_value o)) (sym (entered-here x d e (free (has_lock s x FreeLock) (is_occupied s x) h)))
+          (λ h. by_image p s (with_trains s (s.trains ++ train_on x d ∷ []))
+          (occupancy_becomes p x (Taken d true true) ∷ []) (ap
+          (λ o. set (image_with s (occupancy_values p s)) (occupancy_var p x) (occupancy_value o))
+          (sym (entered-here x d e (free (has_lock s x FreeLock) (is_occupied s x) h)))
           ∙ one-written p s (s.trains ++ train_on x d ∷ []) x shape within (λ y apart. entered-other x y d apart))))
 
   -- where a train that stands on x alone leaves
@@ -198,7 +206,11 @@ module _ (p : PlantLists) (plant : IsPlant p) (never : NeverReturns p) (s : Stat
       let none : count_by (has_x x) (remove s.trains i) ≡ 0 = omega (arith, counted, few) in
       vacant-as p (with_trains s (remove s.trains i)) x (none-counted (has_x x) (remove s.trains i) none)
 
-  leave-sets : (i x : ℕ) (t : Train) → slice_get s.trains i ≡ Some t → t.body ≡ x ∷ [] → x < length p.sections → set (image_with s (occupancy_values p s)) (occupancy_var p x) 0 ≡ image_with (with_trains s (remove s.trains i)) (occupancy_values p (with_trains s (remove s.trains i)))
+  leave-sets : (i x : ℕ) (t : Train) → slice_get s.trains i ≡ Some t → t.body ≡ x ∷ [] →
+      x < length p.sections →
+      set (image_with s (occupancy_values p s)) (occupancy_var p x) 0
+      ≡ image_with (with_trains s (remove s.trains i))
+      (occupancy_values p (with_trains s (remove s.trains i)))
   leave-sets i x t at body within =
       let own : (x == x) ≡ true = eq-eqb x x refl in
       let has : has_section x t.body ≡ true = ap (has_section x) body ∙ rw own refl in
@@ -293,7 +305,10 @@ module _ (p : PlantLists) (plant : IsPlant p) (never : NeverReturns p) (s : Stat
       rule-sets (d ∷ ds) zero r at = (let same : leave_rule p x d ≡ r = same_Some (leave_rule p x d) r at in ap (λ (q : RuleTree). q.sets) (sym same))
       rule-sets (d ∷ ds) (suc i) r at = rule-sets ds i r at
 
-      by_train : (section : Section) (i : ℕ) (t : Train) → x < length p.sections → position (stands_on x) s.trains ≡ Some i → slice_get s.trains i ≡ Some t → StepAs p s (only_if (not (has_neighbour section t.dir)) (with_trains s (remove s.trains i))) (map (leave_rule p x) (filter (λ d. not (has_neighbour section d)) (Up ∷ Down ∷ [])))
+      by_train : (section : Section) (i : ℕ) (t : Train) → x < length p.sections →
+          position (stands_on x) s.trains ≡ Some i → slice_get s.trains i ≡ Some t →
+          StepAs p s (only_if (not (has_neighbour section t.dir)) (with_trains s (remove s.trains i)))
+          (map (leave_rule p x) (filter (λ d. not (has_neighbour section d)) (Up ∷ Down ∷ [])))
       by_train section i t within first at =
           let body = only-body x t.body (position-at (stands_on x) s.trains i t first at) in
           let place : slice_get t.body 0 ≡ Some x = ap (λ b. slice_get b 0) body in
@@ -301,15 +316,35 @@ module _ (p : PlantLists) (plant : IsPlant p) (never : NeverReturns p) (s : Stat
           let ends : (0 + 1 == length t.body) ≡ true = grind (arith, nat_tests) in
           let is : occupancy_of p s x ≡ Taken t.dir true true = occupancy-in p plant never s shape calm i 0 x t at place ∙ ap (Taken t.dir true) ends in
           rules_step p s (with_trains s (remove s.trains i)) (not (has_neighbour section t.dir)) (map (leave_rule p x) (filter (λ d. not (has_neighbour section d)) (Up ∷ Down ∷ [])))
-          (any-rule within (filter (λ d. not (has_neighbour section d)) (Up ∷ Down ∷ [])) ∙ ap (λ o. list_any (λ d. occupancy_value o == occupancy_value (Taken d true true)) (filter (λ d. not (has_neighbour section d)) (Up ∷ Down ∷ []))) is ∙ passing (λ d. not (has_neighbour section d)) t.dir)
-          (λ k r there h. ap (set_all (image_of p s)) (rule-sets (filter (λ d. not (has_neighbour section d)) (Up ∷ Down ∷ [])) k r there) ∙ by_image p s (with_trains s (remove s.trains i)) (occupancy_becomes p x Vacant ∷ []) (leave-sets i x t at body within))
+          (any-rule within (filter (λ d. not (has_neighbour section d)) (Up ∷ Down ∷ []))
+          ∙ ap
+          (λ o. list_any (λ d. occupancy_value o == occupancy_value (Taken d true true))
+          (filter (λ d. not (has_neighbour section d)) (Up ∷ Down ∷ []))) is
+          ∙ passing (λ d. not (has_neighbour section d)) t.dir)
+          (λ k r there h.
+          ap (set_all (image_of p s))
+          (rule-sets (filter (λ d. not (has_neighbour section d)) (Up ∷ Down ∷ [])) k r there)
+          ∙ by_image p s (with_trains s (remove s.trains i)) (occupancy_becomes p x Vacant ∷ [])
+          (leave-sets i x t at body within))
 
-      by_place : (section : Section) (o : Option ℕ) → x < length p.sections → position (stands_on x) s.trains ≡ o → StepAs p s (o >>= (λ i. slice_get s.trains i >>= (λ t. only_if (not (has_neighbour section t.dir)) (with_trains s (remove s.trains i))))) (map (leave_rule p x) (filter (λ d. not (has_neighbour section d)) (Up ∷ Down ∷ [])))
+      by_place : (section : Section) (o : Option ℕ) → x < length p.sections →
+          position (stands_on x) s.trains ≡ o →
+          StepAs p s
+          (o >>=
+          (λ i. slice_get s.trains i >>=
+          (λ t. only_if (not (has_neighbour section t.dir)) (with_trains s (remove s.trains i)))))
+          (map (leave_rule p x) (filter (λ d. not (has_neighbour section d)) (Up ∷ Down ∷ [])))
       by_place section None within none =
-          none_step p s (map (leave_rule p x) (filter (λ d. not (has_neighbour section d)) (Up ∷ Down ∷ []))) (any-rule within (filter (λ d. not (has_neighbour section d)) (Up ∷ Down ∷ [])) ∙ none-fires within none (filter (λ d. not (has_neighbour section d)) (Up ∷ Down ∷ [])))
+          none_step p s (map (leave_rule p x) (filter (λ d. not (has_neighbour section d)) (Up ∷ Down ∷ [])))
+          (any-rule within (filter (λ d. not (has_neighbour section d)) (Up ∷ Down ∷ []))
+          ∙ none-fires within none (filter (λ d. not (has_neighbour section d)) (Up ∷ Down ∷ [])))
       by_place section (Some i) within first = by_item (slice_get s.trains i) refl
         where
-          by_item : (o : Option Train) → slice_get s.trains i ≡ o → StepAs p s (o >>= (λ t. only_if (not (has_neighbour section t.dir)) (with_trains s (remove s.trains i)))) (map (leave_rule p x) (filter (λ d. not (has_neighbour section d)) (Up ∷ Down ∷ [])))
+          by_item : (o : Option Train) → slice_get s.trains i ≡ o →
+              StepAs p s
+              (o >>=
+              (λ t. only_if (not (has_neighbour section t.dir)) (with_trains s (remove s.trains i))))
+              (map (leave_rule p x) (filter (λ d. not (has_neighbour section d)) (Up ∷ Down ∷ [])))
           by_item None e = absurd (none-some ((position-some (stands_on x) s.trains i first).0) (sym e ∙ (position-some (stands_on x) s.trains i first).1))
           by_item (Some t) e = by_train section i t within first e
 

@@ -36,7 +36,10 @@ pub record Tells (p : PlantLists) (s : State) (following : Option State) (rule :
   pub image : set_all (image_of p s) rule.sets ≡ image_of p state
 
 -- rules of which each that can be fired tells what follows, and some can where something follows
-pub told_step : (p : PlantLists) (s : State) (following : Option State) (rules : List RuleTree) → ((i : ℕ) (rule : RuleTree) → slice_get rules i ≡ Some rule → can_fire p s rule ≡ true → Tells p s following rule) → ((t : State) → following ≡ Some t → list_any (can_fire p s) rules ≡ true) → StepAs p s following rules
+pub told_step : (p : PlantLists) (s : State) (following : Option State) (rules : List RuleTree) →
+    ((i : ℕ) (rule : RuleTree) → slice_get rules i ≡ Some rule → can_fire p s rule ≡ true →
+    Tells p s following rule) →
+    ((t : State) → following ≡ Some t → list_any (can_fire p s) rules ≡ true) → StepAs p s following rules
 told_step p s following rules told some =
     record {
       enabled = by_following following refl;
@@ -77,7 +80,12 @@ pub record IsFor (p : PlantLists) (s : State) (x : ℕ) (rules : Dir → ℕ →
   pub fires : list_any (can_fire p s) (rules dir neighbour) ≡ true
 
 -- rules for each neighbour of x, in each direction
-pub neighbour_steps : (p : PlantLists) (s : State) (following : Option State) (x : ℕ) (rules : Dir → ℕ → List RuleTree) → ((d : Dir) (y j : ℕ) (rule : RuleTree) → has_section y (next_to p x d) ≡ true → slice_get (rules d y) j ≡ Some rule → can_fire p s rule ≡ true → Tells p s following rule) → ((t : State) → following ≡ Some t → IsFor p s x rules) → StepAs p s following (flat_map (λ d. flat_map (rules d) (next_to p x d)) (Up ∷ Down ∷ []))
+pub neighbour_steps :
+    (p : PlantLists) (s : State) (following : Option State) (x : ℕ) (rules : Dir → ℕ → List RuleTree) →
+    ((d : Dir) (y j : ℕ) (rule : RuleTree) → has_section y (next_to p x d) ≡ true →
+    slice_get (rules d y) j ≡ Some rule → can_fire p s rule ≡ true → Tells p s following rule) →
+    ((t : State) → following ≡ Some t → IsFor p s x rules) →
+    StepAs p s following (flat_map (λ d. flat_map (rules d) (next_to p x d)) (Up ∷ Down ∷ []))
 neighbour_steps p s following x rules told some =
     told_step p s following (flat_map (λ d. flat_map (rules d) (next_to p x d)) (Up ∷ Down ∷ []))
     (λ i rule at h.

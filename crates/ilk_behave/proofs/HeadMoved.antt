@@ -82,10 +82,20 @@ module _ (p : PlantLists) (plant : IsPlant p) (never : NeverReturns p) (s : Stat
           lies (Some Moving) f = absurd (false≢true (sym (rw (e, f) at right)))
           lies (Some LiesPlus) f =
               let none : (is_some_and before (λ z. z == minus) || false) ≡ false = rw (e, f) at right in
-              rw (e, f) (or_from (is_some_and before (λ z. z == minus)) (y == minus) (or_parts (is_some_and before (λ z. z == minus)) false none).0 (ne_eqb y minus (λ same. (other-leg p plant (lie_of p s) x stem plus minus faces d e).0 f (led ∙ ap Some same))))
+              rw (e, f)
+              (or_from (is_some_and before (λ z. z == minus)) (y == minus)
+              (or_parts (is_some_and before (λ z. z == minus)) false none).0
+              (ne_eqb y minus
+              (λ same. (other-leg p plant (lie_of p s) x stem plus minus faces d e).0 f
+              (led ∙ ap Some same))))
           lies (Some LiesMinus) f =
               let none : (is_some_and before (λ z. z == plus) || false) ≡ false = rw (e, f) at right in
-              rw (e, f) (or_from (is_some_and before (λ z. z == plus)) (y == plus) (or_parts (is_some_and before (λ z. z == plus)) false none).0 (ne_eqb y plus (λ same. (other-leg p plant (lie_of p s) x stem plus minus faces d e).1 f (led ∙ ap Some same))))
+              rw (e, f)
+              (or_from (is_some_and before (λ z. z == plus)) (y == plus)
+              (or_parts (is_some_and before (λ z. z == plus)) false none).0
+              (ne_eqb y plus
+              (λ same. (other-leg p plant (lie_of p s) x stem plus minus faces d e).1 f
+              (led ∙ ap Some same))))
 
   -- the train with its head at x, from where it may go on to y
   module _ (i k x y : ℕ) (t : Train) (at : slice_get s.trains i ≡ Some t) (place : slice_get t.body k ≡ Some x) (last : k + 1 ≡ length t.body) (led : ahead p s x t.dir ≡ Some y) (open_board : may_pass s (board_of p x t.dir) ≡ true) where
@@ -215,14 +225,23 @@ module _ (p : PlantLists) (plant : IsPlant p) (never : NeverReturns p) (s : Stat
             let differ : i ≡ other.0 → ⊥ = λ same. (let own : t ≡ other.1 = same_Some t other.1 (sym at ∙ ap (slice_get s.trains) same ∙ other.2) in false≢true (sym not-own ∙ ap (λ (w : Train). has_section y w.body) own ∙ other.3)) in
             elim (cases_Bool (is_two (with_trains s (set s.trains i (with_new_head y t))) y)) [
               | inl two ↦ two
-              | inr one ↦ absurd (differ (count-one (has_x y) (set s.trains i (with_new_head y t)) (ltb-false 1 (count_by (has_x y) (set s.trains i (with_new_head y t))) one) i other.0 (with_new_head y t) other.1 head-now (slice_get-set_other s.trains i other.0 (with_new_head y t) differ ∙ other.2) has-new other.3))
+              | inr one ↦ absurd
+                  (differ
+                  (count-one (has_x y) (set s.trains i (with_new_head y t))
+                  (ltb-false 1 (count_by (has_x y) (set s.trains i (with_new_head y t))) one) i
+                  other.0 (with_new_head y t) other.1 head-now
+                  (slice_get-set_other s.trains i other.0 (with_new_head y t) differ ∙ other.2)
+                  has-new other.3))
             ]
 
         hazards : is_hazardous p (with_trains s (set s.trains i (with_new_head y t))) y ≡ true
         hazards =
             elim (or_cases (is_occupied s y) (is_wrong_between p s y (Some x) None) h) [
               | inl taken ↦ or_left (is_two (with_trains s (set s.trains i (with_new_head y t))) y) (is_wrong p (with_trains s (set s.trains i (with_new_head y t))) y) (gone_on_two taken)
-              | inr wrong ↦ or_right (is_two (with_trains s (set s.trains i (with_new_head y t))) y) (is_wrong p (with_trains s (set s.trains i (with_new_head y t))) y) (some-wrong p (with_trains s (set s.trains i (with_new_head y t))) i y (with_new_head y t) head-now (wrong-new ∙ wrong))
+              | inr wrong ↦ or_right (is_two (with_trains s (set s.trains i (with_new_head y t))) y)
+                  (is_wrong p (with_trains s (set s.trains i (with_new_head y t))) y)
+                  (some-wrong p (with_trains s (set s.trains i (with_new_head y t))) i y (with_new_head y t)
+                  head-now (wrong-new ∙ wrong))
             ]
 
     -- where it is free, the train's head is there
@@ -278,11 +297,18 @@ module _ (p : PlantLists) (plant : IsPlant p) (never : NeverReturns p) (s : Stat
             let there : (m + 1 == length (t.body ++ y ∷ [])) ≡ false = ne_eqb (m + 1) (length (t.body ++ y ∷ [])) (λ f. absurd (omega (arith, f, long, less))) in
             (m, at-before t.body (y ∷ []) m z e, refl, there ∙ sym here)
 
-    closes : (o : Option ℕ) → ((m : ℕ) → o ≡ Some m → m < length p.boards) → set_all (image_of p (with_trains s (set s.trains i (with_new_head y t)))) (map (λ m. board_becomes p m Closed) (option_to_list o)) ≡ image_of p (with_board_closed o (with_trains s (set s.trains i (with_new_head y t))))
+    closes : (o : Option ℕ) → ((m : ℕ) → o ≡ Some m → m < length p.boards) →
+        set_all (image_of p (with_trains s (set s.trains i (with_new_head y t))))
+        (map (λ m. board_becomes p m Closed) (option_to_list o))
+        ≡ image_of p (with_board_closed o (with_trains s (set s.trains i (with_new_head y t))))
     closes None known = refl
     closes (Some m) known = image-board p (with_trains s (set s.trains i (with_new_head y t))) head-moved m Closed (known m refl)
 
-    pub head-image : (tail : Bool) (there : Occupancy) → (k == 0) ≡ tail → occupancy_of p (with_trains s (set s.trains i (with_new_head y t))) y ≡ there → set_all (image_of p s) (gone_on p x t.dir y tail there) ≡ image_of p (with_board_closed (board_of p x t.dir) (with_trains s (set s.trains i (with_new_head y t))))
+    pub head-image : (tail : Bool) (there : Occupancy) → (k == 0) ≡ tail →
+        occupancy_of p (with_trains s (set s.trains i (with_new_head y t))) y ≡ there →
+        set_all (image_of p s) (gone_on p x t.dir y tail there)
+        ≡ image_of p
+        (with_board_closed (board_of p x t.dir) (with_trains s (set s.trains i (with_new_head y t))))
     head-image tail there begins is =
         let after = with_trains s (set s.trains i (with_new_head y t)) in
         let here : occupancy_of p after x ≡ Taken t.dir tail false = head-left ∙ ap (λ b. Taken t.dir b false) begins in

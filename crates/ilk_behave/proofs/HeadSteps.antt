@@ -143,7 +143,11 @@ module _ (p : PlantLists) (plant : IsPlant p) (never : NeverReturns p) (s : Stat
       leg plus minus LiesMinus false e apart h = (let other : (x == plus) ≡ false = ne_eqb x plus (λ same. false≢true (sym e ∙ eq-eqb plus x (sym same))) in rw (e, other) refl)
       leg plus minus Moving b e apart h = ap (λ v. v && true) (lies-nowhere (leg_position plus x))
 
-      from-stem : (stem_of plus minus : ℕ) (faces : Dir) → slice_get p.sections y ≡ Some (Point stem_of plus minus faces) → has_section x (stem_of ∷ []) ≡ true → takes_from p x d y ≡ negation (lie_is p y Moving) ∷ [] → list_all (tree_holds (image_of p s)) (takes_from p x d y) ≡ not (is_wrong_between p s y (Some x) None)
+      from-stem : (stem_of plus minus : ℕ) (faces : Dir) →
+          slice_get p.sections y ≡ Some (Point stem_of plus minus faces) →
+          has_section x (stem_of ∷ []) ≡ true → takes_from p x d y ≡ negation (lie_is p y Moving) ∷ [] →
+          list_all (tree_holds (image_of p s)) (takes_from p x d y)
+          ≡ not (is_wrong_between p s y (Some x) None)
       from-stem stem_of plus minus faces e h takes =
           let differ = legs-differ p plant y stem_of plus minus faces e in
           let lie = lie-known p plant never s shape calm y stem_of plus minus faces e in
@@ -153,7 +157,12 @@ module _ (p : PlantLists) (plant : IsPlant p) (never : NeverReturns p) (s : Stat
           ∙ stem plus minus lie.0 (ne_eqb x minus (λ same. differ.1 (is ∙ same))) (ne_eqb x plus (λ same. differ.2 (is ∙ same)))
           ∙ ap not (sym (wrong-known stem_of plus minus faces lie.0 e lie.1))
 
-      from-leg : (stem_of plus minus : ℕ) (faces : Dir) → slice_get p.sections y ≡ Some (Point stem_of plus minus faces) → has_section x (plus ∷ minus ∷ []) ≡ true → takes_from p x d y ≡ lie_is p y (lie_in (leg_position plus x)) ∷ [] → list_all (tree_holds (image_of p s)) (takes_from p x d y) ≡ not (is_wrong_between p s y (Some x) None)
+      from-leg : (stem_of plus minus : ℕ) (faces : Dir) →
+          slice_get p.sections y ≡ Some (Point stem_of plus minus faces) →
+          has_section x (plus ∷ minus ∷ []) ≡ true →
+          takes_from p x d y ≡ lie_is p y (lie_in (leg_position plus x)) ∷ [] →
+          list_all (tree_holds (image_of p s)) (takes_from p x d y)
+          ≡ not (is_wrong_between p s y (Some x) None)
       from-leg stem_of plus minus faces e h takes =
           let differ = legs-differ p plant y stem_of plus minus faces e in
           let lie = lie-known p plant never s shape calm y stem_of plus minus faces e in
@@ -171,7 +180,9 @@ module _ (p : PlantLists) (plant : IsPlant p) (never : NeverReturns p) (s : Stat
       turned stem_of plus minus Up Down e f h = cc
       turned stem_of plus minus Down Up e f h = cc
 
-      straight : (stem_of plus minus : ℕ) (faces e : Dir) → slice_get p.sections y ≡ Some (Point stem_of plus minus faces) → same_direction faces e ≡ false → has_section x (next_to p y (opposite_direction e)) ≡ true → has_section x (plus ∷ minus ∷ []) ≡ true
+      straight : (stem_of plus minus : ℕ) (faces e : Dir) →
+          slice_get p.sections y ≡ Some (Point stem_of plus minus faces) → same_direction faces e ≡ false →
+          has_section x (next_to p y (opposite_direction e)) ≡ true → has_section x (plus ∷ minus ∷ []) ≡ true
       straight stem_of plus minus Up Down e f h = rw e at h
       straight stem_of plus minus Down Up e f h = rw e at h
       straight stem_of plus minus Up Up e f h = cc
@@ -234,7 +245,10 @@ module _ (p : PlantLists) (plant : IsPlant p) (never : NeverReturns p) (s : Stat
         passes = ap (λ e. may_pass s (board_of p x e)) is.0 ∙ passes;
       }
 
-  told-by : (x y : ℕ) (d : Dir) (tail : Bool) (conditions : List Tree) (there : Occupancy) → (m : IsHead p s x y d tail) → occupancy_of p (with_trains s (set s.trains m.number (with_new_head y m.train))) y ≡ there → Tells p s (after_head p s x) (rule conditions (gone_on p x d y tail there))
+  told-by : (x y : ℕ) (d : Dir) (tail : Bool) (conditions : List Tree) (there : Occupancy) →
+      (m : IsHead p s x y d tail) →
+      occupancy_of p (with_trains s (set s.trains m.number (with_new_head y m.train))) y ≡ there →
+      Tells p s (after_head p s x) (rule conditions (gone_on p x d y tail there))
   told-by x y d tail conditions there m is =
       record {
         state = with_board_closed (board_of p x m.train.dir) (with_trains s (set s.trains m.number (with_new_head y m.train)));
@@ -243,7 +257,12 @@ module _ (p : PlantLists) (plant : IsPlant p) (never : NeverReturns p) (s : Stat
       }
 
   -- a rule that can be fired tells what follows
-  free-told : (x y : ℕ) (d : Dir) (tail : Bool) → has_section y (next_to p x d) ≡ true → can_fire p s (rule (may_go_on p x d y tail ++ free_from p x d y) (gone_on p x d y tail (Taken d false true))) ≡ true → Tells p s (after_head p s x) (rule (may_go_on p x d y tail ++ free_from p x d y) (gone_on p x d y tail (Taken d false true)))
+  free-told : (x y : ℕ) (d : Dir) (tail : Bool) → has_section y (next_to p x d) ≡ true →
+      can_fire p s
+      (rule (may_go_on p x d y tail ++ free_from p x d y) (gone_on p x d y tail (Taken d false true)))
+      ≡ true →
+      Tells p s (after_head p s x)
+      (rule (may_go_on p x d y tail ++ free_from p x d y) (gone_on p x d y tail (Taken d false true)))
   free-told x y d tail near h =
       let all = sym (list_all-append (tree_holds (image_of p s)) (may_go_on p x d y tail) (free_from p x d y)) ∙ sym (all_of-holds (image_of p s) (may_go_on p x d y tail ++ free_from p x d y)) ∙ h in
       let parts = and_parts (list_all (tree_holds (image_of p s)) (may_go_on p x d y tail)) (list_all (tree_holds (image_of p s)) (free_from p x d y)) all in
@@ -255,7 +274,13 @@ module _ (p : PlantLists) (plant : IsPlant p) (never : NeverReturns p) (s : Stat
       unbarred true e = cc
       unbarred false e = refl
 
-  crash-told : (x y : ℕ) (d : Dir) (tail : Bool) → has_section y (next_to p x d) ≡ true → can_fire p s (rule (may_go_on p x d y tail ++ any_of (trees (map negation (free_from p x d y))) ∷ []) (gone_on p x d y tail Crash)) ≡ true → Tells p s (after_head p s x) (rule (may_go_on p x d y tail ++ any_of (trees (map negation (free_from p x d y))) ∷ []) (gone_on p x d y tail Crash))
+  crash-told : (x y : ℕ) (d : Dir) (tail : Bool) → has_section y (next_to p x d) ≡ true →
+      can_fire p s
+      (rule (may_go_on p x d y tail ++ any_of (trees (map negation (free_from p x d y))) ∷ [])
+      (gone_on p x d y tail Crash)) ≡ true →
+      Tells p s (after_head p s x)
+      (rule (may_go_on p x d y tail ++ any_of (trees (map negation (free_from p x d y))) ∷ [])
+      (gone_on p x d y tail Crash))
   crash-told x y d tail near h =
       let bars = any_of (trees (map negation (free_from p x d y))) in
       let all = sym (list_all-append (tree_holds (image_of p s)) (may_go_on p x d y tail) (bars ∷ [])) ∙ sym (all_of-holds (image_of p s) (may_go_on p x d y tail ++ bars ∷ [])) ∙ h in
@@ -295,7 +320,9 @@ module _ (p : PlantLists) (plant : IsPlant p) (never : NeverReturns p) (s : Stat
       one-of true false false h e = cc
       one-of false b c h e = cc
 
-      from : (i : ℕ) (t : Train) (y k : ℕ) → slice_get s.trains i ≡ Some t → slice_get t.body k ≡ Some x → is_last x t.body ≡ true → ahead p s x t.dir ≡ Some y → may_pass s (board_of p x t.dir) ≡ true → IsFor p s x (λ d y. flat_map (head_rules p x d y) (true ∷ false ∷ []))
+      from : (i : ℕ) (t : Train) (y k : ℕ) → slice_get s.trains i ≡ Some t → slice_get t.body k ≡ Some x →
+          is_last x t.body ≡ true → ahead p s x t.dir ≡ Some y → may_pass s (board_of p x t.dir) ≡ true →
+          IsFor p s x (λ d y. flat_map (head_rules p x d y) (true ∷ false ∷ []))
       from i t y k at place is led open_board =
           let d = t.dir in
           let tail = k == 0 in
@@ -306,10 +333,29 @@ module _ (p : PlantLists) (plant : IsPlant p) (never : NeverReturns p) (s : Stat
           let at_x = occupancy-is p s shape x (Taken d tail true) within_x (occupancy-in p plant never s shape calm i k x t at place ∙ ap (Taken d tail) end) in
           let leads : list_all (tree_holds (image_of p s)) (leads_towards p x d y) ≡ true = leads-holds p plant s shape calm x y d near ∙ ap (λ o. is_some_and o (λ z. z == y)) led ∙ eq-eqb y y refl in
           let passes : list_all (tree_holds (image_of p s)) (passable p x d) ≡ true = passes-holds (board_of p x d) (λ m f. plant.boards_known x m d f) ∙ open_board in
-          let may : list_all (tree_holds (image_of p s)) (may_go_on p x d y tail) ≡ true = and_from (tree_holds (image_of p s) (occupancy_is p x (Taken d tail true))) (list_all (tree_holds (image_of p s)) (passable p x d ++ leads_towards p x d y)) at_x (list_all-append (tree_holds (image_of p s)) (passable p x d) (leads_towards p x d y) ∙ and_from (list_all (tree_holds (image_of p s)) (passable p x d)) (list_all (tree_holds (image_of p s)) (leads_towards p x d y)) passes leads) in
+          let may : list_all (tree_holds (image_of p s)) (may_go_on p x d y tail) ≡ true = and_from
+          (tree_holds (image_of p s) (occupancy_is p x (Taken d tail true)))
+          (list_all (tree_holds (image_of p s)) (passable p x d ++ leads_towards p x d y)) at_x
+          (list_all-append (tree_holds (image_of p s)) (passable p x d) (leads_towards p x d y)
+          ∙ and_from (list_all (tree_holds (image_of p s)) (passable p x d))
+          (list_all (tree_holds (image_of p s)) (leads_towards p x d y)) passes leads) in
           let bars = any_of (trees (map negation (free_from p x d y))) in
-          let one : can_fire p s (rule (may_go_on p x d y tail ++ free_from p x d y) (gone_on p x d y tail (Taken d false true))) ≡ (list_all (tree_holds (image_of p s)) (may_go_on p x d y tail) && list_all (tree_holds (image_of p s)) (free_from p x d y)) = all_of-holds (image_of p s) (may_go_on p x d y tail ++ free_from p x d y) ∙ list_all-append (tree_holds (image_of p s)) (may_go_on p x d y tail) (free_from p x d y) in
-          let two : can_fire p s (rule (may_go_on p x d y tail ++ bars ∷ []) (gone_on p x d y tail Crash)) ≡ (list_all (tree_holds (image_of p s)) (may_go_on p x d y tail) && (tree_holds (image_of p s) bars && true)) = all_of-holds (image_of p s) (may_go_on p x d y tail ++ bars ∷ []) ∙ list_all-append (tree_holds (image_of p s)) (may_go_on p x d y tail) (bars ∷ []) in
+          let one :
+          can_fire p s
+          (rule (may_go_on p x d y tail ++ free_from p x d y)
+          (gone_on p x d y tail (Taken d false true)))
+          ≡
+          (list_all (tree_holds (image_of p s)) (may_go_on p x d y tail)
+          && list_all (tree_holds (image_of p s)) (free_from p x d y)) =
+          all_of-holds (image_of p s) (may_go_on p x d y tail ++ free_from p x d y)
+          ∙ list_all-append (tree_holds (image_of p s)) (may_go_on p x d y tail) (free_from p x d y)
+          in
+          let two : can_fire p s (rule (may_go_on p x d y tail ++ bars ∷ []) (gone_on p x d y tail Crash))
+          ≡
+          (list_all (tree_holds (image_of p s)) (may_go_on p x d y tail)
+          && (tree_holds (image_of p s) bars && true)) =
+          all_of-holds (image_of p s) (may_go_on p x d y tail ++ bars ∷ [])
+          ∙ list_all-append (tree_holds (image_of p s)) (may_go_on p x d y tail) (bars ∷ []) in
           let apart : list_all (tree_holds (image_of p s)) (free_from p x d y) ≡ not (tree_holds (image_of p s) bars) = free-holds x y d near ∙ ap not (sym (bars-holds x y d near)) in
           let fires : list_any (can_fire p s) (head_rules p x d y tail) ≡ true =
           ap (λ b. b || (can_fire p s (rule (may_go_on p x d y tail ++ bars ∷ []) (gone_on p x d y tail Crash)) || false)) one

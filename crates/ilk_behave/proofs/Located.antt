@@ -83,7 +83,9 @@ past-at p events n d i j count within is beyond far =
     let event = get_or events n d in
     past-more p (take n events) (event ∷ []) (take (n + 1) events) i j (j - count) (take_more events n d within) far (past-one p event j count is beyond)
 
-pub found-at : (p : PlantLists) (events : List Event) (n : ℕ) (d : Event) (i j count : ℕ) → n < length events → count ≡ length (rules_of p (get_or events n d)) → j < count → IsPast p (take n events) i j → slice_get (events_of_rules p events) i ≡ Some (get_or events n d)
+pub found-at : (p : PlantLists) (events : List Event) (n : ℕ) (d : Event) (i j count : ℕ) →
+    n < length events → count ≡ length (rules_of p (get_or events n d)) → j < count →
+    IsPast p (take n events) i j → slice_get (events_of_rules p events) i ≡ Some (get_or events n d)
 found-at p events n d i j count within is less far =
     let event = get_or events n d in
     found-first p (take (n + 1) events) (drop (n + 1) events) events i event (sym (take-append-drop (n + 1) events))
@@ -109,12 +111,16 @@ event-found p first i event begins found =
     let same = as_many p (events_of p) in
     (sym here, (λ e. cc, λ beyond. absurd (omega (arith, within, same, beyond))))
 
-pub found-in-route : (p : PlantLists) (r i j : ℕ) (events : List Event) (event : Event) → r < length p.routes → events ≡ events_of_route r → IsPast p (events_before_route r) i j → slice_get (events_of_rules p events) j ≡ Some event → IsEventOf p i (Some event)
+pub found-in-route : (p : PlantLists) (r i j : ℕ) (events : List Event) (event : Event) →
+    r < length p.routes → events ≡ events_of_route r → IsPast p (events_before_route r) i j →
+    slice_get (events_of_rules p events) j ≡ Some event → IsEventOf p i (Some event)
 found-in-route p r i j events event within is far found =
     event-found p (events_before_route (r + 1)) i event (routes-begin p (r + 1) (omega arith))
     (found-next p (events_before_route r) events (events_before_route (r + 1)) i j event (routes-more r events is) far found)
 
-pub found-in-section : (p : PlantLists) (x i j : ℕ) (events : List Event) (event : Event) → x < length p.sections → events ≡ events_of_section x → IsPast p (events_before_section p x) i j → slice_get (events_of_rules p events) j ≡ Some event → IsEventOf p i (Some event)
+pub found-in-section : (p : PlantLists) (x i j : ℕ) (events : List Event) (event : Event) →
+    x < length p.sections → events ≡ events_of_section x → IsPast p (events_before_section p x) i j →
+    slice_get (events_of_rules p events) j ≡ Some event → IsEventOf p i (Some event)
 found-in-section p x i j events event within is far found =
     event-found p (events_before_section p (x + 1)) i event (sections-begin p (x + 1) (omega arith))
     (found-next p (events_before_section p x) events (events_before_section p (x + 1)) i j event (sections-more p x events is) far found)

@@ -48,7 +48,9 @@ module _ (p : PlantLists) where
   -- a section of one list of locks isn't in the other
   pub two_locks-once : (xs ys : List ℕ) (hold : Hold) → EachOnce xs → EachOnce ys → ((i j x : ℕ) → slice_get xs i ≡ Some x → slice_get ys j ≡ Some x → ⊥) → SetOnce (locks_become p (xs ++ ys) hold)
   two_locks-once xs ys hold once also apart =
-      subst SetOnce (sym (map-append (λ x. lock_becomes p x hold) xs ys)) (once-append (locks xs hold) (locks ys hold) (locks-once xs hold once) (locks-once ys hold also) (λ i s at. locks-elsewhere s.var ys hold (λ j y there same. cross i s at j y there same)))
+      subst SetOnce (sym (map-append (λ x. lock_becomes p x hold) xs ys))
+      (once-append (locks xs hold) (locks ys hold) (locks-once xs hold once) (locks-once ys hold also)
+      (λ i s at. locks-elsewhere s.var ys hold (λ j y there same. cross i s at j y there same)))
     where
       cross : (i : ℕ) (s : Setting) → slice_get (locks_become p xs hold) i ≡ Some s → (j y : ℕ) → slice_get ys j ≡ Some y → lock_var p y ≡ s.var → ⊥
       cross i s at j y there same =
@@ -124,12 +126,23 @@ module _ (p : PlantLists) where
     -- the locks that a route takes are of different sections
     pub all_locks-once : (hold : Hold) → SetOnce (locks_become p (sections_locked_for route) hold)
     all_locks-once hold =
-        two_locks-once (route.path ++ route.overlap) (map (λ (listed : Listed). listed.point) route.protecting_points) hold (none_twice-places (route.path ++ route.overlap) of.sections_once) (none_twice-places (map (λ (listed : Listed). listed.point) route.protecting_points) of.protecting_points_once) protecting-apart
+        two_locks-once (route.path ++ route.overlap)
+        (map (λ (listed : Listed). listed.point) route.protecting_points) hold
+        (none_twice-places (route.path ++ route.overlap) of.sections_once)
+        (none_twice-places (map (λ (listed : Listed). listed.point) route.protecting_points)
+        of.protecting_points_once) protecting-apart
 
     -- those beside its path, and that of a section of the path
     pub last_locks-once : (hold : Hold) (k x : ℕ) → slice_get route.path k ≡ Some x → SetOnce (locks_become p (x ∷ sections_beside route) hold)
-    last_locks-once hold k x there =
-        (other, two_locks-once route.overlap (map (λ (listed : Listed). listed.point) route.protecting_points) hold overlap-once (none_twice-places (map (λ (listed : Listed). listed.point) route.protecting_points) of.protecting_points_once) (λ i j y at also. protecting-apart (length route.path + i) j y (at-past route.path route.overlap i y at) also))
+    last_locks-once hold k x there = (
+      other,
+      two_locks-once route.overlap (map (λ (listed : Listed). listed.point) route.protecting_points)
+          hold overlap-once
+          (none_twice-places (map (λ (listed : Listed). listed.point) route.protecting_points)
+          of.protecting_points_once)
+          (λ i j y at also. protecting-apart (length route.path + i) j y
+          (at-past route.path route.overlap i y at) also),
+    )
       where
         overlap-once : EachOnce route.overlap
         overlap-once i j y at also =
@@ -151,7 +164,14 @@ module _ (p : PlantLists) where
     -- the points that a route wants are different points
     pub wanted-once : SetOnce (flat_map (commanded p) (wanted_points route))
     wanted-once =
-        subst SetOnce (sym (flat_map-append (commanded p) route.points route.protecting_points)) (once-append (commands route.points) (commands route.protecting_points) (commands-once route.points (none_twice-places (map (λ (listed : Listed). listed.point) route.points) of.points_once)) (commands-once route.protecting_points (none_twice-places (map (λ (listed : Listed). listed.point) route.protecting_points) of.protecting_points_once)) cross)
+        subst SetOnce (sym (flat_map-append (commanded p) route.points route.protecting_points))
+        (once-append (commands route.points) (commands route.protecting_points)
+        (commands-once route.points
+        (none_twice-places (map (λ (listed : Listed). listed.point) route.points)
+        of.points_once))
+        (commands-once route.protecting_points
+        (none_twice-places (map (λ (listed : Listed). listed.point) route.protecting_points)
+        of.protecting_points_once)) cross)
       where
         cross : (i : ℕ) (s : Setting) → slice_get (flat_map (commanded p) route.points) i ≡ Some s → SetElsewhere s.var (flat_map (commanded p) route.protecting_points)
         cross i s at =

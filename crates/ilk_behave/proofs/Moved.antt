@@ -57,14 +57,20 @@ some-wrong p s i x t at wrong = by_section (slice_get p.sections x) refl
         (let here : strays x plus minus (lie_of p s x) t.body ≡ true = rw e at wrong in rw e (list_any-from (λ (train : Train). strays x plus minus (lie_of p s x) train.body) s.trains i t at here))
 
 -- at a section that one train alone has, and no body is wrong on, stands no hazard
-pub safe-from : (p : PlantLists) (s : State) (x : ℕ) → ((i j : ℕ) (t u : Train) → slice_get s.trains i ≡ Some t → slice_get s.trains j ≡ Some u → has_section x t.body ≡ true → has_section x u.body ≡ true → i ≡ j) → ((i : ℕ) (t : Train) → slice_get s.trains i ≡ Some t → is_wrong_under p s x t.body ≡ false) → is_hazardous p s x ≡ false
+pub safe-from : (p : PlantLists) (s : State) (x : ℕ) →
+    ((i j : ℕ) (t u : Train) → slice_get s.trains i ≡ Some t → slice_get s.trains j ≡ Some u →
+    has_section x t.body ≡ true → has_section x u.body ≡ true → i ≡ j) →
+    ((i : ℕ) (t : Train) → slice_get s.trains i ≡ Some t → is_wrong_under p s x t.body ≡ false) →
+    is_hazardous p s x ≡ false
 safe-from p s x one right =
     let few : count_by (has_x x) s.trains ≤ 1 = few-from_places (has_x x) s.trains one in
     let two : is_two s x ≡ false = grind (arith, nat_tests) in
     or_from (is_two s x) (is_wrong p s x) two (none-wrong p s x right)
 
 -- the occupancy of a section of a body, where no hazard stands at it
-pub occupancy-there : (p : PlantLists) → NeverReturns p → (s : State) → HasShape p s → (i k x : ℕ) (t : Train) → slice_get s.trains i ≡ Some t → slice_get t.body k ≡ Some x → is_hazardous p s x ≡ false → occupancy_of p s x ≡ Taken t.dir (k == 0) (k + 1 == length t.body)
+pub occupancy-there : (p : PlantLists) → NeverReturns p → (s : State) → HasShape p s →
+    (i k x : ℕ) (t : Train) → slice_get s.trains i ≡ Some t → slice_get t.body k ≡ Some x →
+    is_hazardous p s x ≡ false → occupancy_of p s x ≡ Taken t.dir (k == 0) (k + 1 == length t.body)
 occupancy-there p never s shape i k x t at place safe =
     let has : has_section x t.body ≡ true = section-from t.body k x place in
     let once = body-once p t never (list_all-slice_get (is_body p) s.trains i t shape.bodies at) in
@@ -79,7 +85,9 @@ occupancy-there p never s shape i k x t at place safe =
     rw (safe, it, first, last) refl
 
 -- in a state without hazard, train i gets the body of u
-module _ (p : PlantLists) (plant : IsPlant p) (never : NeverReturns p) (s : State) (shape : HasShape p s) (calm : hazard p s ≡ None) (i : ℕ) (t u : Train) (at : slice_get s.trains i ≡ Some t) (moved : HasShape p (with_trains s (set s.trains i u))) where
+module _ (p : PlantLists) (plant : IsPlant p) (never : NeverReturns p) (s : State) (shape : HasShape p s)
+    (calm : hazard p s ≡ None) (i : ℕ) (t u : Train) (at : slice_get s.trains i ≡ Some t)
+    (moved : HasShape p (with_trains s (set s.trains i u))) where
   pub now-at : slice_get (set s.trains i u) i ≡ Some u
   now-at = slice_get-set_same s.trains i u (slice_get_within s.trains i t at)
 
@@ -92,7 +100,9 @@ module _ (p : PlantLists) (plant : IsPlant p) (never : NeverReturns p) (s : Stat
       ]
 
   -- a section that now a train has, had the train there
-  pub was-there : (x : ℕ) → (has_section x u.body ≡ true → has_section x t.body ≡ true) → (j : ℕ) (v : Train) → slice_get (set s.trains i u) j ≡ Some v → has_section x v.body ≡ true → (w : Train) × (slice_get s.trains j ≡ Some w) × (has_section x w.body ≡ true)
+  pub was-there : (x : ℕ) → (has_section x u.body ≡ true → has_section x t.body ≡ true) →
+      (j : ℕ) (v : Train) → slice_get (set s.trains i u) j ≡ Some v → has_section x v.body ≡ true →
+      (w : Train) × (slice_get s.trains j ≡ Some w) × (has_section x w.body ≡ true)
   was-there x had j v e has =
       elim (now-there j v e) [
         | inl h ↦ (t, ap (slice_get s.trains) (sym h.0) ∙ at, had (ap (λ (w : Train). has_section x w.body) h.1 ∙ has))
@@ -109,11 +119,26 @@ module _ (p : PlantLists) (plant : IsPlant p) (never : NeverReturns p) (s : Stat
       ])
 
   -- a section keeps its occupancy, if it has the same place in both bodies or is in none of them
-  pub kept : (x : ℕ) → x < length p.sections → u.dir ≡ t.dir → (has_section x u.body ≡ true → has_section x t.body ≡ true) → is_wrong_under p s x u.body ≡ false → ((k : ℕ) → slice_get t.body k ≡ Some x → (m : ℕ) × (slice_get u.body m ≡ Some x) × ((m == 0) ≡ (k == 0)) × ((m + 1 == length u.body) ≡ (k + 1 == length t.body))) → occupancy_of p (with_trains s (set s.trains i u)) x ≡ occupancy_of p s x
+  pub kept : (x : ℕ) → x < length p.sections → u.dir ≡ t.dir →
+      (has_section x u.body ≡ true → has_section x t.body ≡ true) → is_wrong_under p s x u.body ≡ false →
+      ((k : ℕ) → slice_get t.body k ≡ Some x →
+      (m : ℕ) × (slice_get u.body m ≡ Some x) × ((m == 0) ≡ (k == 0)) ×
+      ((m + 1 == length u.body) ≡ (k + 1 == length t.body))) →
+      occupancy_of p (with_trains s (set s.trains i u)) x ≡ occupancy_of p s x
   kept x within dir had right placed =
       elim (cases_Bool (is_occupied s x)) [
-        | inl there ↦ (let found : (j : ℕ) × (v : Train) × (slice_get s.trains j ≡ Some v) × (has_section x v.body ≡ true) = list_any-at (has_x x) s.trains there in by_train found.0 found.1 found.2 (cases_eq i found.0) (section-at x found.1.body found.3))
-        | inr away ↦ vacant-as p (with_trains s (set s.trains i u)) x (none-pass (has_x x) (set s.trains i u) (λ j v e. false_from_ne_true (has_section x v.body) (λ has. (let w = was-there x had j v e has in false≢true (sym (list_any-none (has_x x) s.trains j w.0 away w.1) ∙ w.2))))) ∙ sym (vacant-as p s x away)
+        | inl there ↦
+            (let found : (j : ℕ) × (v : Train) × (slice_get s.trains j ≡ Some v) ×
+            (has_section x v.body ≡ true) = list_any-at (has_x x) s.trains there in
+            by_train found.0 found.1 found.2 (cases_eq i found.0) (section-at x found.1.body found.3))
+        | inr away ↦
+            vacant-as p (with_trains s (set s.trains i u)) x
+            (none-pass (has_x x) (set s.trains i u)
+            (λ j v e. false_from_ne_true (has_section x v.body)
+            (λ has.
+            (let w = was-there x had j v e has in
+            false≢true (sym (list_any-none (has_x x) s.trains j w.0 away w.1) ∙ w.2)))))
+            ∙ sym (vacant-as p s x away)
       ]
     where
       safe : is_hazardous p s x ≡ false

@@ -46,7 +46,12 @@ module _ (p : PlantLists) (plant : IsPlant p) where
       let either : List Tree = mode_is r Locked ∷ mode_is r Occupied ∷ [] in
       let conditions : List Tree = any_of (trees either) ∷ seen_is r k ∷ train_at p x ∷ lock_is p x LockedLock ∷ [] in
       rule-valid p conditions (sets (k == 0))
-      (all-cons (is_valid p) (any_of (trees either)) (seen_is r k ∷ train_at p x ∷ lock_is p x LockedLock ∷ []) (any_of-valid (ranges_of_plant p) either ∙ all-cons (is_valid p) (mode_is r Locked) (mode_is r Occupied ∷ []) (mode_is-valid p r Locked within) (all-cons (is_valid p) (mode_is r Occupied) [] (mode_is-valid p r Occupied within) refl))
+      (all-cons (is_valid p) (any_of (trees either))
+      (seen_is r k ∷ train_at p x ∷ lock_is p x LockedLock ∷ [])
+      (any_of-valid (ranges_of_plant p) either
+      ∙ all-cons (is_valid p) (mode_is r Locked) (mode_is r Occupied ∷ [])
+      (mode_is-valid p r Locked within)
+      (all-cons (is_valid p) (mode_is r Occupied) [] (mode_is-valid p r Occupied within) refl))
       (all-cons (is_valid p) (seen_is r k) (train_at p x ∷ lock_is p x LockedLock ∷ []) (seen_is-valid p r k route known (omega (arith, few)))
       (all-cons (is_valid p) (train_at p x) (lock_is p x LockedLock ∷ []) (train_at-valid p x inside)
       (all-cons (is_valid p) (lock_is p x LockedLock) [] (lock_is-valid p x LockedLock inside) refl))))
@@ -66,8 +71,22 @@ module _ (p : PlantLists) (plant : IsPlant p) where
       closes-fit of false = refl
 
       once : r < length p.routes → IsRouteOf p route → (first : Bool) → SetOnce (sets first)
-      once within of true =
-          (((λ same. omega (arith, within, same)), ((λ same. omega (arith, within, same)), ((λ same. (let known = of.source in omega (arith, known, within, same))), tt))), (((λ same. omega (arith, same)), ((λ same. (let known = of.source in omega (arith, known, within, same))), tt)), (((λ same. (let known = of.source in omega (arith, known, within, same))), tt), (tt, tt))))
+      once within of true = (
+        (
+          (λ same. omega (arith, within, same)),
+          (
+            (λ same. omega (arith, within, same)),
+            ((λ same. (let known = of.source in omega (arith, known, within, same))), tt),
+          ),
+        ),
+        (
+          (
+            (λ same. omega (arith, same)),
+            ((λ same. (let known = of.source in omega (arith, known, within, same))), tt),
+          ),
+          (((λ same. (let known = of.source in omega (arith, known, within, same))), tt), (tt, tt)),
+        ),
+      )
       once within of false =
           (((λ same. omega (arith, within, same)), ((λ same. omega (arith, within, same)), tt)), (((λ same. omega (arith, same)), tt), (tt, tt)))
 

@@ -51,7 +51,11 @@ module _ (p : PlantLists) (plant : IsPlant p) (s : State) (shape : HasShape p s)
       by_section (Linear a b c d) e is right = cc
       by_section (Point stem plus minus faces) e is right = rw (e, moves) at right
 
-  settle-sets : (x n : ℕ) (point : PointState) (to : Position) → point_number p x ≡ Some n → slice_get s.points n ≡ Some point → is_occupied s x ≡ false → point.to ≡ to → set_all (image_with s (occupancy_values p s)) (at_becomes p n (lie_in to) ∷ []) ≡ image_with (with_point s n (record point { at = lie_in point.to })) (occupancy_values p (with_point s n (record point { at = lie_in point.to })))
+  settle-sets : (x n : ℕ) (point : PointState) (to : Position) → point_number p x ≡ Some n →
+      slice_get s.points n ≡ Some point → is_occupied s x ≡ false → point.to ≡ to →
+      set_all (image_with s (occupancy_values p s)) (at_becomes p n (lie_in to) ∷ [])
+      ≡ image_with (with_point s n (record point { at = lie_in point.to }))
+      (occupancy_values p (with_point s n (record point { at = lie_in point.to })))
   settle-sets x n point to number at none is =
       let goes : record point { at = lie_in to } ≡ record point { at = lie_in point.to } = ap (λ t. record point { at = lie_in t }) (sym is) in
       at-written p s (occupancy_values p s) shape n point (lie_in to) at
@@ -61,7 +65,9 @@ module _ (p : PlantLists) (plant : IsPlant p) (s : State) (shape : HasShape p s)
   pub settle-steps : (x : ℕ) → StepAs p s (after_settle p s x) (rules_of_settle p x)
   settle-steps x = by_number (point_number p x) refl
     where
-      guard : (n : ℕ) (point : PointState) (to : Position) → slice_get s.points n ≡ Some point → can_fire p s (rule (at_is p n Moving ∷ to_is p n to ∷ []) (at_becomes p n (lie_in to) ∷ [])) ≡ ((lie_value point.at == 2) && ((position_value point.to == position_value to) && true))
+      guard : (n : ℕ) (point : PointState) (to : Position) → slice_get s.points n ≡ Some point →
+          can_fire p s (rule (at_is p n Moving ∷ to_is p n to ∷ []) (at_becomes p n (lie_in to) ∷ []))
+          ≡ ((lie_value point.at == 2) && ((position_value point.to == position_value to) && true))
       guard n point to at =
           let one = at-holds p s shape n point Moving at in
           let two = to-holds p s shape n point to at in
@@ -121,7 +127,14 @@ module _ (p : PlantLists) (plant : IsPlant p) (s : State) (shape : HasShape p s)
   pub throw-steps : (x : ℕ) → StepAs p s (after_throw p s x) (rules_of_throw p x)
   throw-steps x = by_number (point_number p x) refl
     where
-      elsewhere : (at : Lie) (to : Position) (v : Bool) → (not (lie_value at == 2) && ((not (lie_value at == 0) || (not (position_value to == 0) || false)) && ((not (lie_value at == 1) || (not (position_value to == 1) || false)) && (v && true)))) ≡ ((not (is_moving at) && not (lies_at at to)) && v)
+      elsewhere : (at : Lie) (to : Position) (v : Bool) →
+          (not (lie_value at == 2)
+          &&
+          ((not (lie_value at == 0) || (not (position_value to == 0) || false))
+          &&
+          ((not (lie_value at == 1) || (not (position_value to == 1) || false))
+          && (v && true))))
+          ≡ ((not (is_moving at) && not (lies_at at to)) && v)
       elsewhere LiesPlus Plus v = refl
       elsewhere LiesPlus Minus true = refl
       elsewhere LiesPlus Minus false = refl
@@ -135,7 +148,10 @@ module _ (p : PlantLists) (plant : IsPlant p) (s : State) (shape : HasShape p s)
       either true false = refl
       either false v = refl
 
-      parts : (n : ℕ) (point : PointState) → slice_get s.points n ≡ Some point → (v : Bool) (last : Tree) → tree_holds (image_of p s) last ≡ v → can_fire p s (rule (lies_elsewhere p n ++ last ∷ []) []) ≡ ((not (is_moving point.at) && not (lies_at point.at point.to)) && v)
+      parts : (n : ℕ) (point : PointState) → slice_get s.points n ≡ Some point → (v : Bool) (last : Tree) →
+          tree_holds (image_of p s) last ≡ v →
+          can_fire p s (rule (lies_elsewhere p n ++ last ∷ []) [])
+          ≡ ((not (is_moving point.at) && not (lies_at point.at point.to)) && v)
       parts n point at v last is =
           let moving = at-holds p s shape n point Moving at in
           let plus = at-holds p s shape n point LiesPlus at in

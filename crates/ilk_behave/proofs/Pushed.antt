@@ -25,7 +25,10 @@ pushed_form f k n now next form sofar grown is =
     one = omega arith
 
 -- what is made of the first things of a list, and of one more
-pub made_more : {E R : Type 0} (made : E → List R) (things : List E) (n : ℕ) (d : E) (start now next : List R) → n < length things → now ≡ start ++ flat_map made (take n things) → next ≡ now ++ made (get_or things n d) → next ≡ start ++ flat_map made (take (n + 1) things)
+pub made_more :
+    {E R : Type 0} (made : E → List R) (things : List E) (n : ℕ) (d : E) (start now next : List R) →
+    n < length things → now ≡ start ++ flat_map made (take n things) →
+    next ≡ now ++ made (get_or things n d) → next ≡ start ++ flat_map made (take (n + 1) things)
 made_more made things n d start now next within sofar grown =
     grown ∙ ap (λ rs. rs ++ made (get_or things n d)) sofar ∙ flat_map_more made start (take n things) (get_or things n d)
     ∙ ap (λ es. start ++ flat_map made es) (sym (take_more things n d within))
@@ -53,7 +56,10 @@ two_next p x d = by_section (slice_get p.sections x) refl
     by_section None e = rw e refl
     by_section (Some section) e = rw e (two_beside section d)
 
-pub two_pushed : {R : Type 0} (f : ℕ → List R) (p : PlantLists) (x : ℕ) (d : Dir) (start one two : List R) → one ≡ start ++ flat_map f (option_to_list (slice_get (next_to p x d) 0)) → two ≡ one ++ flat_map f (option_to_list (slice_get (next_to p x d) 1)) → two ≡ start ++ flat_map f (next_to p x d)
+pub two_pushed : {R : Type 0} (f : ℕ → List R) (p : PlantLists) (x : ℕ) (d : Dir) (start one two : List R) →
+    one ≡ start ++ flat_map f (option_to_list (slice_get (next_to p x d) 0)) →
+    two ≡ one ++ flat_map f (option_to_list (slice_get (next_to p x d) 1)) →
+    two ≡ start ++ flat_map f (next_to p x d)
 two_pushed f p x d start one two first second =
     second ∙ ap (λ rs. rs ++ flat_map f (option_to_list (slice_get (next_to p x d) 1))) first
     ∙ append_assoc start (flat_map f (option_to_list (slice_get (next_to p x d) 0))) (flat_map f (option_to_list (slice_get (next_to p x d) 1)))

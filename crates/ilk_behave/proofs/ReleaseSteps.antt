@@ -66,7 +66,12 @@ module _ (p : PlantLists) (plant : IsPlant p) (s : State) (shape : HasShape p s)
       ∙ list_any-alike (λ c. tree_holds (image_of p s) (seen_is r c)) (λ c. now.seen == c) (range_with_len k (n + 1 - k)) (λ i c at. seen-holds p s shape r now c here)
       ∙ counted-from k (n + 1 - k) now.seen (omega arith)
 
-  release-guard : (r : ℕ) (route : Route) (now : RouteState) (x : ℕ) → slice_get s.routes r ≡ Some now → now.seen ≤ length route.path → now.rel + 2 ≤ length route.path → x < length p.sections → can_fire p s (release_rule p r route now.rel x) ≡ (((same_mode now.mode Occupied && nat_le (now.rel + 2) now.seen) && not (is_occupied s x)) && has_lock s x UsedLock)
+  release-guard : (r : ℕ) (route : Route) (now : RouteState) (x : ℕ) → slice_get s.routes r ≡ Some now →
+      now.seen ≤ length route.path → now.rel + 2 ≤ length route.path → x < length p.sections →
+      can_fire p s (release_rule p r route now.rel x)
+      ≡
+      (((same_mode now.mode Occupied && nat_le (now.rel + 2) now.seen) && not (is_occupied s x))
+      && has_lock s x UsedLock)
   release-guard r route now x here few place inside =
       let mode = mode-holds p s shape r now Occupied here in
       let rel : tree_holds (image_of p s) (rel_is r now.rel) ≡ true = rel-holds p s shape r now now.rel here ∙ eq-eqb now.rel now.rel refl in
@@ -91,7 +96,15 @@ module _ (p : PlantLists) (plant : IsPlant p) (s : State) (shape : HasShape p s)
       fails true = refl
       fails false = refl
 
-  release-sets : (r : ℕ) (route : Route) (now : RouteState) (x : ℕ) → slice_get s.routes r ≡ Some now → x < length p.sections → set_all (image_with s (occupancy_values p s)) (release_rule p r route now.rel x).sets ≡ image_with (record s { routes = set s.routes r (record now { rel = now.rel + 1 }); locks = set s.locks x FreeLock }) (occupancy_values p s)
+  release-sets : (r : ℕ) (route : Route) (now : RouteState) (x : ℕ) → slice_get s.routes r ≡ Some now →
+      x < length p.sections →
+      set_all (image_with s (occupancy_values p s)) (release_rule p r route now.rel x).sets
+      ≡ image_with
+      (record s {
+        routes = set s.routes r (record now { rel = now.rel + 1 });
+        locks = set s.locks x FreeLock;
+      })
+      (occupancy_values p s)
   release-sets r route now x here inside =
       let e = occupancy_values p s in
       let s1 = record s { locks = set s.locks x FreeLock } in
@@ -159,7 +172,12 @@ module _ (p : PlantLists) (plant : IsPlant p) (s : State) (shape : HasShape p s)
                 | inr past ↦ ap (λ o. o >>= (λ x. only_if (test x) (then x))) (take-none route.path now.0.rel (length route.path - 1) past) ∙ none-there (slice_get route.path now.0.rel) past
               ]
 
-  finish-guard : (r : ℕ) (route : Route) (now : RouteState) (x : ℕ) → slice_get s.routes r ≡ Some now → 0 < length route.path → can_fire p s (finish_rule p r route x) ≡ ((same_mode now.mode Occupied && (now.seen == length route.path)) && (now.rel + 1 == length route.path))
+  finish-guard : (r : ℕ) (route : Route) (now : RouteState) (x : ℕ) → slice_get s.routes r ≡ Some now →
+      0 < length route.path →
+      can_fire p s (finish_rule p r route x)
+      ≡
+      ((same_mode now.mode Occupied && (now.seen == length route.path))
+      && (now.rel + 1 == length route.path))
   finish-guard r route now x here some =
       let mode = mode-holds p s shape r now Occupied here in
       let seen = seen-holds p s shape r now (length route.path) here in
@@ -179,7 +197,15 @@ module _ (p : PlantLists) (plant : IsPlant p) (s : State) (shape : HasShape p s)
             | inr nay ↦ (let one : (k == n - 1) ≡ false = grind (arith, nat_tests) in one ∙ sym nay)
           ]
 
-  finish-sets : (r : ℕ) (route : Route) (now : RouteState) (x : ℕ) → slice_get p.routes r ≡ Some route → slice_get s.routes r ≡ Some now → x < length p.sections → set_all (image_with s (occupancy_values p s)) (finish_rule p r route x).sets ≡ image_with (record s { routes = set s.routes r (record { mode = Free; seen = 0; rel = 0 }); locks = with_locks (set s.locks x FreeLock) (sections_beside route) FreeLock }) (occupancy_values p s)
+  finish-sets : (r : ℕ) (route : Route) (now : RouteState) (x : ℕ) → slice_get p.routes r ≡ Some route →
+      slice_get s.routes r ≡ Some now → x < length p.sections →
+      set_all (image_with s (occupancy_values p s)) (finish_rule p r route x).sets
+      ≡ image_with
+      (record s {
+        routes = set s.routes r (record { mode = Free; seen = 0; rel = 0 });
+        locks = with_locks (set s.locks x FreeLock) (sections_beside route) FreeLock;
+      })
+      (occupancy_values p s)
   finish-sets r route now x known here inside =
       let e = occupancy_values p s in
       let locks = with_locks s.locks (x ∷ sections_beside route) FreeLock in
@@ -224,7 +250,18 @@ module _ (p : PlantLists) (plant : IsPlant p) (s : State) (shape : HasShape p s)
           finished : ℕ → State
           finished x = record s { routes = set s.routes r (record { mode = Free; seen = 0; rel = 0 }); locks = with_locks (set s.locks x FreeLock) (sections_beside route) FreeLock }
 
-          by_last : (o : Option ℕ) → last_or None route.path ≡ o → StepAs p s (o >>= (λ x. only_if ((same_mode now.0.mode Occupied && (now.0.seen == length route.path)) && (now.0.rel + 1 == length route.path)) (record s { routes = set s.routes r (record { mode = Free; seen = 0; rel = 0 }); locks = with_locks (set s.locks x FreeLock) (sections_beside route) FreeLock }))) (rules_for o (λ x. finish_rule p r route x ∷ []))
+          by_last : (o : Option ℕ) → last_or None route.path ≡ o →
+              StepAs p s
+              (o >>=
+              (λ x. only_if
+              ((same_mode now.0.mode Occupied && (now.0.seen == length route.path))
+              && (now.0.rel + 1 == length route.path))
+              (record s {
+                routes = set s.routes r (record { mode = Free; seen = 0; rel = 0 });
+                locks = with_locks (set s.locks x FreeLock) (sections_beside route)
+                    FreeLock;
+              })))
+              (rules_for o (λ x. finish_rule p r route x ∷ []))
           by_last None at = no_rules p s
           by_last (Some x) at =
               let of = plant.routes_known r route e in
@@ -232,4 +269,9 @@ module _ (p : PlantLists) (plant : IsPlant p) (s : State) (shape : HasShape p s)
                 | inl none ↦ absurd (none-some x none)
                 | inr there ↦ all-at (λ x. x < length p.sections) route.path there.0 x of.path there.1
               ] in
-              rule_step p s (finished x) ((same_mode now.0.mode Occupied && (now.0.seen == length route.path)) && (now.0.rel + 1 == length route.path)) (finish_rule p r route x) (finish-guard r route now.0 x now.1 of.path_begins) (λ h. by_image p s (finished x) (finish_rule p r route x).sets (finish-sets r route now.0 x e now.1 inside))
+              rule_step p s (finished x)
+              ((same_mode now.0.mode Occupied && (now.0.seen == length route.path))
+              && (now.0.rel + 1 == length route.path))
+              (finish_rule p r route x) (finish-guard r route now.0 x now.1 of.path_begins)
+              (λ h. by_image p s (finished x) (finish_rule p r route x).sets
+              (finish-sets r route now.0 x e now.1 inside))

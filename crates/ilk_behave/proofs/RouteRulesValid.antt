@@ -43,7 +43,10 @@ module _ (p : PlantLists) (plant : IsPlant p) where
 
   freed-fit : (r : ℕ) (route : Route) → slice_get p.routes r ≡ Some route → list_all (fits p) (mode_becomes r Free ∷ locks_become p (sections_locked_for route) FreeLock) ≡ true
   freed-fit r route e =
-      all-cons (fits p) (mode_becomes r Free) (locks_become p (sections_locked_for route) FreeLock) (mode_is-valid p r Free (slice_get_within p.routes r route e)) (locks-fit p (sections_locked_for route) FreeLock (locked-known p route (plant.routes_known r route e)))
+      all-cons (fits p) (mode_becomes r Free) (locks_become p (sections_locked_for route) FreeLock)
+      (mode_is-valid p r Free (slice_get_within p.routes r route e))
+      (locks-fit p (sections_locked_for route) FreeLock
+      (locked-known p route (plant.routes_known r route e)))
 
   pub cancel-valid : (r : ℕ) → list_all (is_valid_rule p) (rules_of_cancel p r) ≡ true
   cancel-valid r = by_route (slice_get p.routes r) refl
@@ -101,7 +104,10 @@ module _ (p : PlantLists) (plant : IsPlant p) where
           clear-valid x inside =
               all-cons (is_valid p) (lock_is p x FreeLock) (no_train_at p x ∷ []) (lock_is-valid p x FreeLock inside) (all-cons (is_valid p) (no_train_at p x) [] (no_train_at-valid p x inside) refl)
 
-          cross : r < length p.routes → (route : Route) → (i : ℕ) (s : Setting) → slice_get (mode_becomes r Allocating ∷ locks_become p (sections_locked_for route) LockedLock) i ≡ Some s → SetElsewhere s.var (flat_map (commanded p) (wanted_points route))
+          cross : r < length p.routes → (route : Route) → (i : ℕ) (s : Setting) →
+              slice_get (mode_becomes r Allocating ∷ locks_become p (sections_locked_for route) LockedLock) i
+              ≡ Some s →
+              SetElsewhere s.var (flat_map (commanded p) (wanted_points route))
           cross within route zero s at =
               commands-elsewhere p s.var (wanted_points route) (λ n less same. (let var : mode_var r ≡ s.var = ap (λ (z : Setting). z.var) (same_Some (mode_becomes r Allocating) s at) in omega (arith, within, less, same, var)))
           cross within route (suc i) s at =

@@ -40,7 +40,12 @@ use Rattle.ilk_behave.proofs.Writing.{by_image, locks-written, with_lists, with_
 -- the sections that are locked for a route are sections
 pub locked-known : (p : PlantLists) (route : Route) → IsRouteOf p route → (i x : ℕ) → slice_get (sections_locked_for route) i ≡ Some x → x < length p.sections
 locked-known p route of i x at =
-    all-at (λ x. x < length p.sections) (sections_locked_for route) i x (All-append (λ x. x < length p.sections) (route.path ++ route.overlap) (map (λ listed. listed.point) route.protecting_points) (All-append (λ x. x < length p.sections) route.path route.overlap of.path of.overlap) (All-map (λ x. x < length p.sections) (λ (listed : Listed). listed.point) route.protecting_points of.protecting_points)) at
+    all-at (λ x. x < length p.sections) (sections_locked_for route) i x
+    (All-append (λ x. x < length p.sections) (route.path ++ route.overlap)
+    (map (λ listed. listed.point) route.protecting_points)
+    (All-append (λ x. x < length p.sections) route.path route.overlap of.path of.overlap)
+    (All-map (λ x. x < length p.sections) (λ (listed : Listed). listed.point)
+    route.protecting_points of.protecting_points)) at
 
 module _ (p : PlantLists) (plant : IsPlant p) (s : State) (shape : HasShape p s) (calm : hazard p s ≡ None) where
   -- each route has a state
@@ -82,16 +87,39 @@ module _ (p : PlantLists) (plant : IsPlant p) (s : State) (shape : HasShape p s)
           let moded = mode-written p s (occupancy_values p s) shape r now.0 Free now.1 in
           let unlocked = locks-written p freed (occupancy_values p s) (sections_locked_for route) FreeLock shaped (locked-known p route (plant.routes_known r route e)) in
           let unlocked_all = record freed { locks = with_locks s.locks (sections_locked_for route) FreeLock } in
-          rw (e, now.1) (two_rules_step p s (record freed { locks = cond (same_mode now.0.mode Allocating) (with_locks s.locks (sections_locked_for route) FreeLock) s.locks }) (same_mode now.0.mode Marked) (same_mode now.0.mode Allocating) (same_mode now.0.mode Marked || same_mode now.0.mode Allocating)
+          rw (e, now.1) (two_rules_step p s
+          (record freed {
+            locks = cond (same_mode now.0.mode Allocating)
+                (with_locks s.locks (sections_locked_for route) FreeLock) s.locks;
+          })
+          (same_mode now.0.mode Marked) (same_mode now.0.mode Allocating)
+          (same_mode now.0.mode Marked || same_mode now.0.mode Allocating)
           (rule (mode_is r Marked ∷ []) (mode_becomes r Free ∷ [])) (rule (mode_is r Allocating ∷ []) (mode_becomes r Free ∷ locks_become p (sections_locked_for route) FreeLock))
           (and-true (tree_holds (image_of p s) (mode_is r Marked)) ∙ mode-holds p s shape r now.0 Marked now.1)
           (and-true (tree_holds (image_of p s) (mode_is r Allocating)) ∙ mode-holds p s shape r now.0 Allocating now.1)
           refl
           (λ h. by_image p s freed (mode_becomes r Free ∷ []) moded ∙ ap (λ b. image_of p (record freed { locks = cond b (with_locks s.locks (sections_locked_for route) FreeLock) s.locks })) (sym (not-both now.0.mode h)))
-          (λ h. by_image p s unlocked_all (mode_becomes r Free ∷ locks_become p (sections_locked_for route) FreeLock) (ap (λ values. set_all values (locks_become p (sections_locked_for route) FreeLock)) moded ∙ unlocked) ∙ ap (λ b. image_of p (record freed { locks = cond b (with_locks s.locks (sections_locked_for route) FreeLock) s.locks })) (sym h)))
+          (λ h.
+          by_image p s unlocked_all
+          (mode_becomes r Free ∷ locks_become p (sections_locked_for route) FreeLock)
+          (ap (λ values. set_all values (locks_become p (sections_locked_for route) FreeLock))
+          moded ∙ unlocked)
+          ∙ ap
+          (λ b. image_of p
+          (record freed {
+            locks = cond b (with_locks s.locks (sections_locked_for route) FreeLock)
+                s.locks;
+          })) (sym h)))
 
   -- the parts of sense's guard, where k sections are seen and the next is x
-  sense-guard : (r : ℕ) (route : Route) (now : RouteState) (k x : ℕ) → slice_get s.routes r ≡ Some now → x < length p.sections → can_fire p s (sense_rule p r route k x) ≡ ((now.seen == k) && (((same_mode now.mode Locked || same_mode now.mode Occupied) && is_occupied s x) && has_lock s x LockedLock))
+  sense-guard : (r : ℕ) (route : Route) (now : RouteState) (k x : ℕ) → slice_get s.routes r ≡ Some now →
+      x < length p.sections →
+      can_fire p s (sense_rule p r route k x)
+      ≡
+      ((now.seen == k)
+      &&
+      (((same_mode now.mode Locked || same_mode now.mode Occupied) && is_occupied s x)
+      && has_lock s x LockedLock))
   sense-guard r route now k x here inside =
       let locked = mode-holds p s shape r now Locked here in
       let occupied = mode-holds p s shape r now Occupied here in
@@ -124,7 +152,16 @@ module _ (p : PlantLists) (plant : IsPlant p) (s : State) (shape : HasShape p s)
       fails false = refl
 
   -- what sense sets
-  sense-sets : (r : ℕ) (route : Route) (now : RouteState) (x : ℕ) → slice_get p.routes r ≡ Some route → slice_get s.routes r ≡ Some now → slice_get route.path now.seen ≡ Some x → x < length p.sections → set_all (image_with s (occupancy_values p s)) (sense_rule p r route now.seen x).sets ≡ image_with (record s { routes = set s.routes r (record now { mode = Occupied; seen = now.seen + 1 }); locks = set s.locks x UsedLock; boards = (cond (now.seen == 0) (set s.boards route.source Closed) s.boards) }) (occupancy_values p s)
+  sense-sets : (r : ℕ) (route : Route) (now : RouteState) (x : ℕ) → slice_get p.routes r ≡ Some route →
+      slice_get s.routes r ≡ Some now → slice_get route.path now.seen ≡ Some x → x < length p.sections →
+      set_all (image_with s (occupancy_values p s)) (sense_rule p r route now.seen x).sets
+      ≡ image_with
+      (record s {
+        routes = set s.routes r (record now { mode = Occupied; seen = now.seen + 1 });
+        locks = set s.locks x UsedLock;
+        boards = (cond (now.seen == 0) (set s.boards route.source Closed) s.boards);
+      })
+      (occupancy_values p s)
   sense-sets r route now x known here at inside =
       let e = occupancy_values p s in
       let fits = fits_path-counts route now (shape.counts r route now known here) in
@@ -148,7 +185,11 @@ module _ (p : PlantLists) (plant : IsPlant p) (s : State) (shape : HasShape p s)
       ∙ ap (λ values. set_all values rest) three
       ∙ last s3 shape3 (now.seen == 0)
     where
-      last : (s3 : State) → HasShape p s3 → (b : Bool) → set_all (image_with s3 (occupancy_values p s)) (cond b (board_becomes p route.source Closed ∷ []) []) ≡ image_with (record s3 { boards = cond b (set s3.boards route.source Closed) s3.boards }) (occupancy_values p s)
+      last : (s3 : State) → HasShape p s3 → (b : Bool) →
+          set_all (image_with s3 (occupancy_values p s))
+          (cond b (board_becomes p route.source Closed ∷ []) [])
+          ≡ image_with (record s3 { boards = cond b (set s3.boards route.source Closed) s3.boards })
+          (occupancy_values p s)
       last s3 shape3 true = board-written p s3 (occupancy_values p s) shape3 route.source Closed (plant.routes_known r route known).source
       last s3 shape3 false = refl
 
@@ -163,7 +204,14 @@ module _ (p : PlantLists) (plant : IsPlant p) (s : State) (shape : HasShape p s)
           (λ x. ((same_mode now.0.mode Locked || same_mode now.0.mode Occupied) && is_occupied s x) && has_lock s x LockedLock)
           (sensed now.0)
           (λ k x apart. sense-other r route now.0 k x now.1 apart)
-          (λ x at. sense-guard r route now.0 now.0.seen x now.1 (inside now.0.seen x at) ∙ ap (λ b. b && (((same_mode now.0.mode Locked || same_mode now.0.mode Occupied) && is_occupied s x) && has_lock s x LockedLock)) (eq-eqb now.0.seen now.0.seen refl))
+          (λ x at. sense-guard r route now.0 now.0.seen x now.1 (inside now.0.seen x at)
+          ∙ ap
+          (λ b. b
+          &&
+          (((same_mode now.0.mode Locked || same_mode now.0.mode Occupied)
+          && is_occupied s x)
+          && has_lock s x LockedLock))
+          (eq-eqb now.0.seen now.0.seen refl))
           (λ x at. by_image p s (sensed now.0 x) (sense_rule p r route now.0.seen x).sets (sense-sets r route now.0 x e now.1 at (inside now.0.seen x at))))
         where
           sensed : RouteState → ℕ → State

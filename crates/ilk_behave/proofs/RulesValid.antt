@@ -39,7 +39,11 @@ all-flat_map f g (x ∷ xs) each = all-append f (g x) (flat_map g xs) (each 0 x 
 -- a rule of valid conditions and settings that sets no variable twice is valid
 pub rule-valid : (p : PlantLists) (conditions : List Tree) (sets : List Setting) → list_all (is_valid p) conditions ≡ true → list_all (fits p) sets ≡ true → SetOnce sets → is_valid_rule p (rule conditions sets) ≡ true
 rule-valid p conditions sets h k once =
-    and_from (tree_valid (ranges_of_plant p) (rule conditions sets).guard && list_all (fits p) sets) (sets_apart sets) (and_from (tree_valid (ranges_of_plant p) (rule conditions sets).guard) (list_all (fits p) sets) (all_of-valid (ranges_of_plant p) conditions ∙ h) k) (set_once-apart sets once)
+    and_from (tree_valid (ranges_of_plant p) (rule conditions sets).guard && list_all (fits p) sets)
+    (sets_apart sets)
+    (and_from (tree_valid (ranges_of_plant p) (rule conditions sets).guard) (list_all (fits p) sets)
+    (all_of-valid (ranges_of_plant p) conditions ∙ h) k)
+    (set_once-apart sets once)
 
 pub one_rule-valid : (p : PlantLists) (r : RuleTree) → is_valid_rule p r ≡ true → list_all (is_valid_rule p) (r ∷ []) ≡ true
 one_rule-valid p r h = all-cons (is_valid_rule p) r [] h refl

@@ -48,7 +48,16 @@ elsewhere-flat_map v f [] other = tt
 elsewhere-flat_map v f (x ∷ xs) other =
     elsewhere-append v (f x) (flat_map f xs) (other 0 x refl) (elsewhere-flat_map v f xs (λ i y at. other (suc i) y at))
 
-pub once-flat_map : {X : Type 0} (f : X → List Setting) (xs : List X) → ((i : ℕ) (x : X) → slice_get xs i ≡ Some x → SetOnce (f x)) → ((i j : ℕ) (x y : X) (k : ℕ) (s : Setting) → (i ≡ j → ⊥) → slice_get xs i ≡ Some x → slice_get xs j ≡ Some y → slice_get (f x) k ≡ Some s → SetElsewhere s.var (f y)) → SetOnce (flat_map f xs)
+pub once-flat_map : {X : Type 0} (f : X → List Setting) (xs : List X) →
+    ((i : ℕ) (x : X) → slice_get xs i ≡ Some x → SetOnce (f x)) →
+    ((i j : ℕ) (x y : X) (k : ℕ) (s : Setting) → (i ≡ j → ⊥) → slice_get xs i ≡ Some x →
+    slice_get xs j ≡ Some y → slice_get (f x) k ≡ Some s → SetElsewhere s.var (f y)) →
+    SetOnce (flat_map f xs)
 once-flat_map f [] each cross = tt
 once-flat_map f (x ∷ xs) each cross =
-    once-append (f x) (flat_map f xs) (each 0 x refl) (once-flat_map f xs (λ i y at. each (suc i) y at) (λ i j y z k s apart at also set. cross (suc i) (suc j) y z k s (λ same. apart (omega (arith, same))) at also set)) (λ k s set. elsewhere-flat_map s.var f xs (λ j y at. cross 0 (suc j) x y k s (λ same. (omega (arith, same))) refl at set))
+    once-append (f x) (flat_map f xs) (each 0 x refl)
+    (once-flat_map f xs (λ i y at. each (suc i) y at)
+    (λ i j y z k s apart at also set. cross (suc i) (suc j) y z k s
+    (λ same. apart (omega (arith, same))) at also set))
+    (λ k s set. elsewhere-flat_map s.var f xs
+    (λ j y at. cross 0 (suc j) x y k s (λ same. (omega (arith, same))) refl at set))

@@ -132,7 +132,10 @@ module _ (p : PlantLists) (plant : IsPlant p) (s : State) (shape : HasShape p s)
       goes : (stem plus minus : ℕ) (faces d : Dir) → slice_get p.sections x ≡ Some (Point stem plus minus faces) → ahead p s x d ≡ cond (same_direction faces d) (lie_of p s x >>= leg_at plus minus) (Some stem)
       goes stem plus minus faces d e = ap (λ o. o >>= (λ section. leads_to section d (lie_of p s x))) e
 
-      facing : (stem plus minus : ℕ) (faces d : Dir) (b : Bool) → same_direction faces d ≡ b → slice_get p.sections x ≡ Some (Point stem plus minus faces) → has_section y (next_to p x d) ≡ true → list_all (tree_holds (image_of p s)) (leads_towards p x d y) ≡ is_some_and (ahead p s x d) (λ z. z == y)
+      facing : (stem plus minus : ℕ) (faces d : Dir) (b : Bool) → same_direction faces d ≡ b →
+          slice_get p.sections x ≡ Some (Point stem plus minus faces) → has_section y (next_to p x d) ≡ true →
+          list_all (tree_holds (image_of p s)) (leads_towards p x d y)
+          ≡ is_some_and (ahead p s x d) (λ z. z == y)
       facing stem plus minus faces d true f e h =
           let near : has_section y (plus ∷ minus ∷ []) ≡ true = rw (e, f) at h in
           let apart = legs-differ p plant x stem plus minus faces e in
@@ -243,7 +246,9 @@ module _ (p : PlantLists) (plant : IsPlant p) (never : NeverReturns p) (s : Stat
       let is = parts-of-taken train.1.dir d (train.2 == 0) (train.2 + 1 == length train.1.body) true false (sym (occupancy-in p plant never s shape calm train.0 train.2 x train.1 train.3 train.4) ∙ at_x) in
       from train.0 train.1 train.2 train.3 train.4 is.0 is.1 is.2 leads at_y
     where
-      from : (i : ℕ) (t : Train) (k : ℕ) → slice_get s.trains i ≡ Some t → slice_get t.body k ≡ Some x → t.dir ≡ d → (k == 0) ≡ true → (k + 1 == length t.body) ≡ false → ahead p s x d ≡ Some y → occupancy_of p s y ≡ Taken d false head → Tells p s (after_tail p s x) (tail_rule p x d y head)
+      from : (i : ℕ) (t : Train) (k : ℕ) → slice_get s.trains i ≡ Some t → slice_get t.body k ≡ Some x →
+          t.dir ≡ d → (k == 0) ≡ true → (k + 1 == length t.body) ≡ false → ahead p s x d ≡ Some y →
+          occupancy_of p s y ≡ Taken d false head → Tells p s (after_tail p s x) (tail_rule p x d y head)
       from i t k at place dir tail head_on leads at_y =
           let zeroth : k ≡ 0 = eqb-true k 0 tail in
           let first : slice_get t.body 0 ≡ Some x = ap (slice_get t.body) (sym zeroth) ∙ place in
@@ -292,8 +297,19 @@ module _ (p : PlantLists) (plant : IsPlant p) (never : NeverReturns p) (s : Stat
           let at_x = occupancy-is p s shape x (Taken d true false) within_x (occupancy-in p plant never s shape calm i 0 x t at first ∙ ap (Taken d true) not_last) in
           let at_y = occupancy-is p s shape y (Taken d false head) within_y (occupancy-in p plant never s shape calm i 1 y t at second) in
           let leads : list_all holds (leads_towards p x d y) ≡ true = leads-holds p plant s shape calm x y d near ∙ ap (λ o. is_some_and o (λ z. z == y)) led ∙ eq-eqb y y refl in
-          let rest : list_all holds (leads_towards p x d y ++ occupancy_is p y (Taken d false head) ∷ []) ≡ true = list_all-append holds (leads_towards p x d y) (occupancy_is p y (Taken d false head) ∷ []) ∙ and_from (list_all holds (leads_towards p x d y)) (list_all holds (occupancy_is p y (Taken d false head) ∷ [])) leads (and_from (holds (occupancy_is p y (Taken d false head))) true at_y refl) in
-          let fires : can_fire p s (tail_rule p x d y head) ≡ true = all_of-holds (image_of p s) (occupancy_is p x (Taken d true false) ∷ leads_towards p x d y ++ occupancy_is p y (Taken d false head) ∷ []) ∙ and_from (holds (occupancy_is p x (Taken d true false))) (list_all holds (leads_towards p x d y ++ occupancy_is p y (Taken d false head) ∷ [])) at_x rest in
+          let rest : list_all holds (leads_towards p x d y ++ occupancy_is p y (Taken d false head) ∷ [])
+          ≡ true =
+          list_all-append holds (leads_towards p x d y) (occupancy_is p y (Taken d false head) ∷ [])
+          ∙ and_from (list_all holds (leads_towards p x d y))
+          (list_all holds (occupancy_is p y (Taken d false head) ∷ [])) leads
+          (and_from (holds (occupancy_is p y (Taken d false head))) true at_y refl) in
+          let fires : can_fire p s (tail_rule p x d y head) ≡ true =
+          all_of-holds (image_of p s)
+          (occupancy_is p x (Taken d true false) ∷ leads_towards p x d y
+          ++ occupancy_is p y (Taken d false head) ∷ [])
+          ∙ and_from (holds (occupancy_is p x (Taken d true false)))
+          (list_all holds (leads_towards p x d y ++ occupancy_is p y (Taken d false head) ∷ [])) at_x
+          rest in
           let place = flag head in
           record {
             dir = d;

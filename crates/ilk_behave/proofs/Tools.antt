@@ -25,7 +25,11 @@ pub none_step : (p : PlantLists) (s : State) (rules : List RuleTree) → list_an
 none_step p s rules none = record { enabled = none; after = λ t i rule e at h. cc }
 
 -- rules of which each that can be fired gives the image of the state that follows
-pub rules_step : (p : PlantLists) (s t : State) (b : Bool) (rules : List RuleTree) → list_any (can_fire p s) rules ≡ b → ((i : ℕ) (rule : RuleTree) → slice_get rules i ≡ Some rule → can_fire p s rule ≡ true → set_all (image_of p s) rule.sets ≡ image_of p t) → StepAs p s (only_if b t) rules
+pub rules_step : (p : PlantLists) (s t : State) (b : Bool) (rules : List RuleTree) →
+    list_any (can_fire p s) rules ≡ b →
+    ((i : ℕ) (rule : RuleTree) → slice_get rules i ≡ Some rule → can_fire p s rule ≡ true →
+    set_all (image_of p s) rule.sets ≡ image_of p t) →
+    StepAs p s (only_if b t) rules
 rules_step p s t b rules guard sets = record {
   enabled = guard ∙ some-if b t;
   after = λ u i rule e at h. sets i rule at h ∙ ap (image_of p) (cond_some b t u e).1;
@@ -42,7 +46,11 @@ rule_step p s t b rule guard sets =
     only (suc i) other at h = cc
 
 -- two rules
-pub two_rules_step : (p : PlantLists) (s t : State) (b c d : Bool) (first second : RuleTree) → can_fire p s first ≡ b → can_fire p s second ≡ c → (b || c) ≡ d → (b ≡ true → set_all (image_of p s) first.sets ≡ image_of p t) → (c ≡ true → set_all (image_of p s) second.sets ≡ image_of p t) → StepAs p s (only_if d t) (first ∷ second ∷ [])
+pub two_rules_step : (p : PlantLists) (s t : State) (b c d : Bool) (first second : RuleTree) →
+    can_fire p s first ≡ b → can_fire p s second ≡ c → (b || c) ≡ d →
+    (b ≡ true → set_all (image_of p s) first.sets ≡ image_of p t) →
+    (c ≡ true → set_all (image_of p s) second.sets ≡ image_of p t) →
+    StepAs p s (only_if d t) (first ∷ second ∷ [])
 two_rules_step p s t b c d first second guard1 guard2 either sets1 sets2 =
     rules_step p s t d (first ∷ second ∷ []) (ap (λ x. x || (can_fire p s second || false)) guard1 ∙ ap (λ x. b || x) (or-false (can_fire p s second) ∙ guard2) ∙ either) one
   where
@@ -56,7 +64,14 @@ two_rules_step p s t b c d first second guard1 guard2 either sets1 sets2 =
     one (suc (suc i)) other at h = cc
 
 -- rules that are made from the sections of a path with their places, where only the one with the place `key` can be fired
-pub place_steps : (p : PlantLists) (s : State) (f : ℕ → ℕ → RuleTree) (path : List ℕ) (key : ℕ) (b : ℕ → Bool) (t : ℕ → State) → ((k x : ℕ) → (key ≡ k → ⊥) → can_fire p s (f k x) ≡ false) → ((x : ℕ) → slice_get path key ≡ Some x → can_fire p s (f key x) ≡ b x) → ((x : ℕ) → slice_get path key ≡ Some x → set_all (image_of p s) (f key x).sets ≡ image_of p (t x)) → StepAs p s (slice_get path key >>= (λ x. only_if (b x) (t x))) (map (λ place. f place.0 place.1) (enumerate_from 0 path))
+pub place_steps :
+    (p : PlantLists) (s : State) (f : ℕ → ℕ → RuleTree) (path : List ℕ) (key : ℕ) (b : ℕ → Bool)
+    (t : ℕ → State) →
+    ((k x : ℕ) → (key ≡ k → ⊥) → can_fire p s (f k x) ≡ false) →
+    ((x : ℕ) → slice_get path key ≡ Some x → can_fire p s (f key x) ≡ b x) →
+    ((x : ℕ) → slice_get path key ≡ Some x → set_all (image_of p s) (f key x).sets ≡ image_of p (t x)) →
+    StepAs p s (slice_get path key >>= (λ x. only_if (b x) (t x)))
+    (map (λ place. f place.0 place.1) (enumerate_from 0 path))
 place_steps p s f path key b t other guard sets = by_place (slice_get path key) refl
   where
     some : list_any (can_fire p s) (map (λ place. f place.0 place.1) (enumerate_from 0 path)) ≡ is_some_and (slice_get path key) (λ x. can_fire p s (f key x))

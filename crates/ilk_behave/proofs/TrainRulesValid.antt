@@ -52,8 +52,17 @@ module _ (p : PlantLists) (plant : IsPlant p) where
       let plus : List Tree = negation (at_is p n LiesPlus) ∷ negation (to_is p n Plus) ∷ [] in
       let minus : List Tree = negation (at_is p n LiesMinus) ∷ negation (to_is p n Minus) ∷ [] in
       all-cons (is_valid p) (negation (at_is p n Moving)) (any_of (trees plus) ∷ any_of (trees minus) ∷ []) (at_is-valid p n Moving less)
-      (all-cons (is_valid p) (any_of (trees plus)) (any_of (trees minus) ∷ []) (any_of-valid ranges plus ∙ all-cons (is_valid p) (negation (at_is p n LiesPlus)) (negation (to_is p n Plus) ∷ []) (at_is-valid p n LiesPlus less) (all-cons (is_valid p) (negation (to_is p n Plus)) [] (to_is-valid p n Plus less) refl))
-      (all-cons (is_valid p) (any_of (trees minus)) [] (any_of-valid ranges minus ∙ all-cons (is_valid p) (negation (at_is p n LiesMinus)) (negation (to_is p n Minus) ∷ []) (at_is-valid p n LiesMinus less) (all-cons (is_valid p) (negation (to_is p n Minus)) [] (to_is-valid p n Minus less) refl)) refl))
+      (all-cons (is_valid p) (any_of (trees plus)) (any_of (trees minus) ∷ [])
+      (any_of-valid ranges plus
+      ∙ all-cons (is_valid p) (negation (at_is p n LiesPlus)) (negation (to_is p n Plus) ∷ [])
+      (at_is-valid p n LiesPlus less)
+      (all-cons (is_valid p) (negation (to_is p n Plus)) [] (to_is-valid p n Plus less) refl))
+      (all-cons (is_valid p) (any_of (trees minus)) []
+      (any_of-valid ranges minus
+      ∙ all-cons (is_valid p) (negation (at_is p n LiesMinus)) (negation (to_is p n Minus) ∷ [])
+      (at_is-valid p n LiesMinus less)
+      (all-cons (is_valid p) (negation (to_is p n Minus)) [] (to_is-valid p n Minus less) refl))
+      refl))
 
   pub throw-valid : (x : ℕ) → list_all (is_valid_rule p) (rules_of_throw p x) ≡ true
   throw-valid x = by_number (point_number p x) refl

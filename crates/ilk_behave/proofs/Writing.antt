@@ -40,7 +40,10 @@ set_all-append values [] ys = refl
 set_all-append values (x ∷ xs) ys = set_all-append (set values x.var x.value) xs ys
 
 -- the shape of a state with other locks, boards or points, as many as before
-pub with_lists : (p : PlantLists) (s : State) (points : List PointState) (boards : List Aspect) (locks : List Hold) → HasShape p s → length points ≡ length s.points → length boards ≡ length s.boards → length locks ≡ length s.locks → HasShape p (record s { points = points; boards = boards; locks = locks })
+pub with_lists :
+    (p : PlantLists) (s : State) (points : List PointState) (boards : List Aspect) (locks : List Hold) →
+    HasShape p s → length points ≡ length s.points → length boards ≡ length s.boards →
+    length locks ≡ length s.locks → HasShape p (record s { points = points; boards = boards; locks = locks })
 with_lists p s points boards locks shape n b l = record {
   routes = shape.routes;
   points = n ∙ shape.points;
@@ -65,7 +68,10 @@ with_route p s r mine now shape known within = record {
 }
 
 -- the locks of some sections
-pub locks-written : (p : PlantLists) (s : State) (occupancies : List ℕ) (xs : List ℕ) (hold : Hold) → HasShape p s → ((i x : ℕ) → slice_get xs i ≡ Some x → x < length p.sections) → set_all (image_with s occupancies) (locks_become p xs hold) ≡ image_with (record s { locks = with_locks s.locks xs hold }) occupancies
+pub locks-written : (p : PlantLists) (s : State) (occupancies : List ℕ) (xs : List ℕ) (hold : Hold) →
+    HasShape p s → ((i x : ℕ) → slice_get xs i ≡ Some x → x < length p.sections) →
+    set_all (image_with s occupancies) (locks_become p xs hold)
+    ≡ image_with (record s { locks = with_locks s.locks xs hold }) occupancies
 locks-written p s occupancies [] hold shape within =
     ap (λ locks. image_with (record s { locks = locks }) occupancies) (sym (with_locks-none s.locks hold))
 locks-written p s occupancies (x ∷ xs) hold shape within =
@@ -77,13 +83,22 @@ locks-written p s occupancies (x ∷ xs) hold shape within =
     ∙ ap (λ locks. image_with (record s { locks = locks }) occupancies) (with_locks-first s.locks x xs hold lock.0 lock.1)
 
 -- the commands of some points
-pub commands-written : (p : PlantLists) (s : State) (occupancies : List ℕ) (entries : List Listed) → HasShape p s → set_all (image_with s occupancies) (flat_map (commanded p) entries) ≡ image_with (record s { points = with_commands p s.points entries }) occupancies
+pub commands-written : (p : PlantLists) (s : State) (occupancies : List ℕ) (entries : List Listed) →
+    HasShape p s →
+    set_all (image_with s occupancies) (flat_map (commanded p) entries)
+    ≡ image_with (record s { points = with_commands p s.points entries }) occupancies
 commands-written p s occupancies [] shape =
     ap (λ points. image_with (record s { points = points }) occupancies) (sym (with_commands-none p s.points))
 commands-written p s occupancies (listed ∷ rest) shape =
     by_number (λ points shaped. commands-written p (record s { points = points }) occupancies rest shaped) (point_number p listed.point) refl
   where
-    by_number : ((points : List PointState) → HasShape p (record s { points = points }) → set_all (image_with (record s { points = points }) occupancies) (flat_map (commanded p) rest) ≡ image_with (record s { points = with_commands p points rest }) occupancies) → (o : Option ℕ) → point_number p listed.point ≡ o → set_all (image_with s occupancies) (flat_map (commanded p) (listed ∷ rest)) ≡ image_with (record s { points = with_commands p s.points (listed ∷ rest) }) occupancies
+    by_number :
+        ((points : List PointState) → HasShape p (record s { points = points }) →
+        set_all (image_with (record s { points = points }) occupancies) (flat_map (commanded p) rest)
+        ≡ image_with (record s { points = with_commands p points rest }) occupancies) →
+        (o : Option ℕ) → point_number p listed.point ≡ o →
+        set_all (image_with s occupancies) (flat_map (commanded p) (listed ∷ rest))
+        ≡ image_with (record s { points = with_commands p s.points (listed ∷ rest) }) occupancies
     by_number later None e =
         let nothing : commanded p listed ≡ [] = rw e refl in
         ap (λ ss. set_all (image_with s occupancies) (ss ++ flat_map (commanded p) rest)) nothing
@@ -99,7 +114,12 @@ commands-written p s occupancies (listed ∷ rest) shape =
         ∙ ap (λ points. image_with (record s { points = points }) occupancies) (with_commands-first p s.points listed rest n point.0 e point.1)
 
 -- where points lie as before, the same trains have the same occupancies
-pub same-occupancies : (p : PlantLists) (s : State) (routes : List RouteState) (points : List PointState) (boards : List Aspect) (locks : List Hold) → ((x : ℕ) → lie_of p (record s { points = points }) x ≡ lie_of p s x) → occupancy_values p (record s { routes = routes; points = points; boards = boards; locks = locks }) ≡ occupancy_values p s
+pub same-occupancies :
+    (p : PlantLists) (s : State) (routes : List RouteState) (points : List PointState) (boards : List Aspect)
+    (locks : List Hold) →
+    ((x : ℕ) → lie_of p (record s { points = points }) x ≡ lie_of p s x) →
+    occupancy_values p (record s { routes = routes; points = points; boards = boards; locks = locks })
+    ≡ occupancy_values p s
 same-occupancies p s routes points boards locks same =
     map-range-congr (λ x. occupancy_value (occupancy_of p t x)) (λ x. occupancy_value (occupancy_of p s x)) 0 (length p.sections) (λ x above below. ap occupancy_value (occupancy-kept p s t x refl (same x)))
   where

@@ -40,8 +40,10 @@ pub fn events_of_section(x: u32) -> [Event; 6]
 // past their last it is.
 fn find_event(plant: &Plant, events: &[Event], place: u32) -> Result<Event, u32>
     requires { HaveNumbers plant.now events.now }
-    ensures found { IfOk result (λ event. slice_get (events_of_rules plant.now events.now) place ≡ Some event) }
-    ensures past { IfErr result (λ left. place ≡ length (events_of_rules plant.now events.now) + left) }
+    ensures found { IfOk result
+        (λ event. slice_get (events_of_rules plant.now events.now) place ≡ Some event) }
+    ensures past { IfErr result
+        (λ left. place ≡ length (events_of_rules plant.now events.now) + left) }
 {
     let mut left = place;
     for event in events {

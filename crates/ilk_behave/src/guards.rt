@@ -30,7 +30,9 @@ pub fn push_leads_towards(
     y: u32,
 ) -> Result<(), AllocError>
     requires { x < length plant.now.sections }
-    ensures { OnOk result (map tree_of forms.new.items ≡ map tree_of forms.old.items ++ guards.leads_towards plant.now x d y) }
+    ensures { OnOk result
+        (map tree_of forms.new.items
+        ≡ map tree_of forms.old.items ++ guards.leads_towards plant.now x d y) }
 {
     if let Section::Point { plus, faces, .. } = *plant.section(x) {
         if faces == d {
@@ -51,7 +53,8 @@ fn right_on_point(
     plus: u32,
     faces: Dir,
 ) -> Result<Form, AllocError>
-    ensures { IfOk result (λ made. tree_of made ≡ guards.right_on_point plant.now x d y plus faces) }
+    ensures { IfOk result
+        (λ made. tree_of made ≡ guards.right_on_point plant.now x d y plus faces) }
 {
     if faces == d {
         negated(alloc, lie_is(plant, y, Lie::Moving))
@@ -71,7 +74,9 @@ pub fn push_takes_from(
     y: u32,
 ) -> Result<(), AllocError>
     requires { y < length plant.now.sections }
-    ensures { OnOk result (map tree_of forms.new.items ≡ map tree_of forms.old.items ++ guards.takes_from plant.now x d y) }
+    ensures { OnOk result
+        (map tree_of forms.new.items
+        ≡ map tree_of forms.old.items ++ guards.takes_from plant.now x d y) }
 {
     if let Section::Point { plus, faces, .. } = *plant.section(y) {
         forms.push(right_on_point(alloc, plant, x, d, y, plus, faces)?)?;
@@ -89,7 +94,9 @@ pub fn push_not_takes_from(
     y: u32,
 ) -> Result<(), AllocError>
     requires { y < length plant.now.sections }
-    ensures { OnOk result (map tree_of forms.new.items ≡ map tree_of forms.old.items ++ map negation (guards.takes_from plant.now x d y)) }
+    ensures { OnOk result
+        (map tree_of forms.new.items
+        ≡ map tree_of forms.old.items ++ map negation (guards.takes_from plant.now x d y)) }
 {
     if let Section::Point { plus, faces, .. } = *plant.section(y) {
         let right = right_on_point(alloc, plant, x, d, y, plus, faces)?;
@@ -101,7 +108,9 @@ pub fn push_not_takes_from(
 /// Adds that the board of section `x` for direction `d`, if there is one, is open.
 pub fn push_passable(forms: &mut Vec<Form>, plant: &Plant, x: u32, d: Dir) -> Result<(), AllocError>
     requires { x < length plant.now.sections }
-    ensures { OnOk result (map tree_of forms.new.items ≡ map tree_of forms.old.items ++ guards.passable plant.now x d) }
+    ensures { OnOk result
+        (map tree_of forms.new.items
+        ≡ map tree_of forms.old.items ++ guards.passable plant.now x d) }
 {
     if let Some(m) = plant.board_of(x, d) {
         forms.push(board_is(plant, m, Aspect::Open))?;
@@ -117,7 +126,9 @@ pub fn push_unclaimed(
     routes: &Row<u32>,
 ) -> Result<(), AllocError>
     requires { All (λ r. r < length plant.now.routes) routes.now }
-    ensures { OnOk result (map tree_of forms.new.items ≡ map tree_of forms.old.items ++ flat_map guards.unclaimed routes.now) }
+    ensures { OnOk result
+        (map tree_of forms.new.items
+        ≡ map tree_of forms.old.items ++ flat_map guards.unclaimed routes.now) }
 {
     for r in routes.as_slice() {
         forms.push(negated(alloc, mode_is(plant, *r, Mode::Allocating))?)?;
@@ -129,7 +140,8 @@ pub fn push_unclaimed(
 // Adds that section `x` has lock Free and is vacant.
 fn push_clear_at(forms: &mut Vec<Form>, plant: &Plant, x: u32) -> Result<(), AllocError>
     requires { x < length plant.now.sections }
-    ensures { OnOk result (map tree_of forms.new.items ≡ map tree_of forms.old.items ++ guards.clear_at plant.now x) }
+    ensures { OnOk result
+        (map tree_of forms.new.items ≡ map tree_of forms.old.items ++ guards.clear_at plant.now x) }
 {
     forms.push(lock_is(plant, x, Hold::Free))?;
     forms.push(no_train_at(plant, x))?;
@@ -143,7 +155,9 @@ pub fn push_clear(
     sections: &Row<u32>,
 ) -> Result<(), AllocError>
     requires { All (λ x. x < length plant.now.sections) sections.now }
-    ensures { OnOk result (map tree_of forms.new.items ≡ map tree_of forms.old.items ++ flat_map (guards.clear_at plant.now) sections.now) }
+    ensures { OnOk result
+        (map tree_of forms.new.items
+        ≡ map tree_of forms.old.items ++ flat_map (guards.clear_at plant.now) sections.now) }
 {
     for x in sections.as_slice() {
         push_clear_at(forms, plant, *x)?;
@@ -158,7 +172,10 @@ pub fn push_points_clear(
     points: &Row<Listed>,
 ) -> Result<(), AllocError>
     requires { All (λ listed. listed.point < length plant.now.sections) points.now }
-    ensures { OnOk result (map tree_of forms.new.items ≡ map tree_of forms.old.items ++ flat_map (guards.clear_at plant.now) (map (λ listed. listed.point) points.now)) }
+    ensures { OnOk result
+        (map tree_of forms.new.items
+        ≡ map tree_of forms.old.items
+        ++ flat_map (guards.clear_at plant.now) (map (λ listed. listed.point) points.now)) }
 {
     for listed in points.as_slice() {
         push_clear_at(forms, plant, listed.point)?;
@@ -172,7 +189,9 @@ pub fn push_lies(
     plant: &Plant,
     points: &Row<Listed>,
 ) -> Result<(), AllocError>
-    ensures { OnOk result (map tree_of forms.new.items ≡ map tree_of forms.old.items ++ map (conditions.lies_at_listed plant.now) points.now) }
+    ensures { OnOk result
+        (map tree_of forms.new.items
+        ≡ map tree_of forms.old.items ++ map (conditions.lies_at_listed plant.now) points.now) }
 {
     for listed in points.as_slice() {
         forms.push(lies_at_listed(plant, listed))?;

@@ -26,7 +26,8 @@ fn may_go_on(
     tail: bool,
 ) -> Result<Vec<Form>, AllocError>
     requires { x < length plant.now.sections }
-    ensures { IfOk result (λ forms. map tree_of forms.items ≡ definitions.may_go_on plant.now x d y tail) }
+    ensures { IfOk result
+        (λ forms. map tree_of forms.items ≡ definitions.may_go_on plant.now x d y tail) }
 {
     let train = Occupancy::Taken {
         dir: d,
@@ -77,7 +78,9 @@ fn push_free_from(
     y: u32,
 ) -> Result<(), AllocError>
     requires { y < length plant.now.sections }
-    ensures { OnOk result (map tree_of forms.new.items ≡ map tree_of forms.old.items ++ definitions.free_from plant.now x d y) }
+    ensures { OnOk result
+        (map tree_of forms.new.items
+        ≡ map tree_of forms.old.items ++ definitions.free_from plant.now x d y) }
 {
     forms.push(no_train_at(plant, y))?;
     push_takes_from(alloc, forms, plant, x, d, y)
@@ -86,7 +89,9 @@ fn push_free_from(
 // `y` isn't free for a train that comes from `x` in direction `d`.
 fn not_free_from(alloc: Global, plant: &Plant, x: u32, d: Dir, y: u32) -> Result<Form, AllocError>
     requires { y < length plant.now.sections }
-    ensures { IfOk result (λ form. tree_of form ≡ any_of (trees (map negation (definitions.free_from plant.now x d y)))) }
+    ensures { IfOk result
+        (λ form. tree_of form
+        ≡ any_of (trees (map negation (definitions.free_from plant.now x d y)))) }
 {
     let mut forms = Vec::new(alloc);
     forms.push(train_at(alloc, plant, y)?)?;
@@ -106,7 +111,13 @@ fn push_head_free(
 ) -> Result<(), AllocError>
     requires here { x < length plant.now.sections }
     requires there { y < length plant.now.sections }
-    ensures { OnOk result (map rule_tree rules.new ≡ map rule_tree rules.old ++ settings.rule (definitions.may_go_on plant.now x d y tail ++ definitions.free_from plant.now x d y) (definitions.gone_on plant.now x d y tail (Taken d false true)) ∷ []) }
+    ensures { OnOk result
+        (map rule_tree rules.new
+        ≡ map rule_tree rules.old
+        ++ settings.rule
+        (definitions.may_go_on plant.now x d y tail
+        ++ definitions.free_from plant.now x d y)
+        (definitions.gone_on plant.now x d y tail (Taken d false true)) ∷ []) }
 {
     let mut forms = may_go_on(alloc, plant, x, d, y, tail)?;
     push_free_from(alloc, &mut forms, plant, x, d, y)?;
@@ -131,7 +142,14 @@ fn push_head_crash(
 ) -> Result<(), AllocError>
     requires here { x < length plant.now.sections }
     requires there { y < length plant.now.sections }
-    ensures { OnOk result (map rule_tree rules.new ≡ map rule_tree rules.old ++ settings.rule (definitions.may_go_on plant.now x d y tail ++ any_of (trees (map negation (definitions.free_from plant.now x d y))) ∷ []) (definitions.gone_on plant.now x d y tail Crash) ∷ []) }
+    ensures { OnOk result
+        (map rule_tree rules.new
+        ≡ map rule_tree rules.old
+        ++ settings.rule
+        (definitions.may_go_on plant.now x d y tail
+        ++ any_of (trees (map negation (definitions.free_from plant.now x d y)))
+        ∷ [])
+        (definitions.gone_on plant.now x d y tail Crash) ∷ []) }
 {
     let mut forms = may_go_on(alloc, plant, x, d, y, tail)?;
     forms.push(not_free_from(alloc, plant, x, d, y)?)?;
@@ -150,7 +168,10 @@ fn push_head_to(
 ) -> Result<(), AllocError>
     requires here { x < length plant.now.sections }
     requires there { y < length plant.now.sections }
-    ensures { OnOk result (map rule_tree rules.new ≡ map rule_tree rules.old ++ flat_map (definitions.head_rules plant.now x d y) (true ∷ false ∷ [])) }
+    ensures { OnOk result
+        (map rule_tree rules.new
+        ≡ map rule_tree rules.old
+        ++ flat_map (definitions.head_rules plant.now x d y) (true ∷ false ∷ [])) }
 {
     push_head_free(alloc, rules, plant, x, d, y, true)?;
     push_head_crash(alloc, rules, plant, x, d, y, true)?;
@@ -169,7 +190,12 @@ fn push_head_at(
     i: u32,
 ) -> Result<(), AllocError>
     requires { x < length plant.now.sections }
-    ensures { OnOk result (map rule_tree rules.new ≡ map rule_tree rules.old ++ flat_map (λ y. flat_map (definitions.head_rules plant.now x d y) (true ∷ false ∷ [])) (option_to_list (slice_get (next_to plant.now x d) i))) }
+    ensures { OnOk result
+        (map rule_tree rules.new
+        ≡ map rule_tree rules.old
+        ++ flat_map
+        (λ y. flat_map (definitions.head_rules plant.now x d y) (true ∷ false ∷ []))
+        (option_to_list (slice_get (next_to plant.now x d) i))) }
 {
     if let Some(y) = plant.neighbour(x, d, i) {
         push_head_to(alloc, rules, plant, x, d, y)?;
@@ -186,7 +212,12 @@ fn push_head_in(
     d: Dir,
 ) -> Result<(), AllocError>
     requires { x < length plant.now.sections }
-    ensures { OnOk result (map rule_tree rules.new ≡ map rule_tree rules.old ++ flat_map (λ y. flat_map (definitions.head_rules plant.now x d y) (true ∷ false ∷ [])) (next_to plant.now x d)) }
+    ensures { OnOk result
+        (map rule_tree rules.new
+        ≡ map rule_tree rules.old
+        ++ flat_map
+        (λ y. flat_map (definitions.head_rules plant.now x d y) (true ∷ false ∷ []))
+        (next_to plant.now x d)) }
 {
     push_head_at(alloc, rules, plant, x, d, 0)?;
     push_head_at(alloc, rules, plant, x, d, 1)?;
@@ -196,7 +227,9 @@ fn push_head_in(
 /// Adds the rules of head for section `x`: in each direction, to each section next to it.
 pub fn push_head(alloc: Global, rules: &mut Rules, plant: &Plant, x: u32) -> Result<(), AllocError>
     requires { x < length plant.now.sections }
-    ensures { OnOk result (map rule_tree rules.new ≡ map rule_tree rules.old ++ definitions.rules_of_head plant.now x) }
+    ensures { OnOk result
+        (map rule_tree rules.new
+        ≡ map rule_tree rules.old ++ definitions.rules_of_head plant.now x) }
 {
     push_head_in(alloc, rules, plant, x, Dir::Up)?;
     push_head_in(alloc, rules, plant, x, Dir::Down)

@@ -25,7 +25,9 @@ use std::alloc::{AllocError, Global};
 // Route `r` is Locked or Occupied.
 fn locked_or_occupied(alloc: Global, plant: &Plant, r: u32) -> Result<Form, AllocError>
     requires { r < length plant.now.routes }
-    ensures { IfOk result (λ form. tree_of form ≡ any_of (trees (conditions.mode_is r Locked ∷ conditions.mode_is r Occupied ∷ []))) }
+    ensures { IfOk result
+        (λ form. tree_of form
+        ≡ any_of (trees (conditions.mode_is r Locked ∷ conditions.mode_is r Occupied ∷ []))) }
 {
     let mut forms = Vec::new(alloc);
     forms.push(mode_is(plant, r, Mode::Locked))?;
@@ -37,7 +39,8 @@ fn locked_or_occupied(alloc: Global, plant: &Plant, r: u32) -> Result<Form, Allo
 fn sense_forms(alloc: Global, plant: &Plant, r: u32, k: u8, x: u32) -> Result<Vec<Form>, AllocError>
     requires known { r < length plant.now.routes }
     requires section { x < length plant.now.sections }
-    ensures { IfOk result (λ forms. map tree_of forms.items ≡ any_of (trees (conditions.mode_is r Locked ∷ conditions.mode_is r Occupied ∷ []))
+    ensures { IfOk result (λ forms. map tree_of forms.items
+        ≡ any_of (trees (conditions.mode_is r Locked ∷ conditions.mode_is r Occupied ∷ []))
         ∷ conditions.seen_is r k
         ∷ conditions.train_at plant.now x
         ∷ conditions.lock_is plant.now x LockedLock
@@ -82,7 +85,9 @@ fn sense_sets(
 /// Adds the rules of sense for route `r`, one for each place of its path.
 pub fn push_sense(alloc: Global, rules: &mut Rules, plant: &Plant, r: u32) -> Result<(), AllocError>
     requires { r < length plant.now.routes }
-    ensures { OnOk result (map rule_tree rules.new ≡ map rule_tree rules.old ++ definitions.rules_of_sense plant.now r) }
+    ensures { OnOk result
+        (map rule_tree rules.new
+        ≡ map rule_tree rules.old ++ definitions.rules_of_sense plant.now r) }
 {
     let route = plant.route(r);
     let path = route.path.as_slice();
@@ -143,7 +148,9 @@ fn release_sets(alloc: Global, plant: &Plant, r: u32, k: u8, x: u32) -> Result<S
     requires known { r < length plant.now.routes }
     requires section { x < length plant.now.sections }
     requires place { k < MAX_PATH }
-    ensures { IfOk result (λ sets. sets ≡ settings.lock_becomes plant.now x FreeLock ∷ settings.rel_becomes r (k + 1) ∷ []) }
+    ensures { IfOk result
+        (λ sets. sets
+        ≡ settings.lock_becomes plant.now x FreeLock ∷ settings.rel_becomes r (k + 1) ∷ []) }
 {
     let mut sets = Row::new(alloc);
     sets.push(lock_becomes(plant, x, Hold::Free))?;
@@ -159,7 +166,9 @@ pub fn push_release(
     r: u32,
 ) -> Result<(), AllocError>
     requires { r < length plant.now.routes }
-    ensures { OnOk result (map rule_tree rules.new ≡ map rule_tree rules.old ++ definitions.rules_of_release plant.now r) }
+    ensures { OnOk result
+        (map rule_tree rules.new
+        ≡ map rule_tree rules.old ++ definitions.rules_of_release plant.now r) }
 {
     let route = plant.route(r);
     let path = route.path.as_slice();
@@ -176,7 +185,10 @@ pub fn push_release(
 fn finish_forms(alloc: Global, plant: &Plant, r: u32, n: u8) -> Result<Vec<Form>, AllocError>
     requires known { r < length plant.now.routes }
     requires path { 0 < n }
-    ensures { IfOk result (λ forms. map tree_of forms.items ≡ conditions.mode_is r Occupied ∷ conditions.seen_is r n ∷ conditions.rel_is r (n - 1) ∷ []) }
+    ensures { IfOk result
+        (λ forms. map tree_of forms.items
+        ≡ conditions.mode_is r Occupied ∷ conditions.seen_is r n
+        ∷ conditions.rel_is r (n - 1) ∷ []) }
 {
     let mut forms = Vec::new(alloc);
     forms.push(mode_is(plant, r, Mode::Occupied))?;
@@ -196,7 +208,8 @@ fn finish_sets(
     requires known { r < length plant.now.routes }
     requires route { IsRouteOf plant.now route.now }
     requires section { x < length plant.now.sections }
-    ensures { IfOk result (λ sets. sets ≡ settings.locks_become plant.now (x ∷ sections_beside route.now) FreeLock
+    ensures { IfOk result (λ sets. sets
+        ≡ settings.locks_become plant.now (x ∷ sections_beside route.now) FreeLock
         ++ settings.mode_becomes r Free
         ∷ settings.seen_becomes r 0
         ∷ settings.rel_becomes r 0
@@ -220,7 +233,9 @@ pub fn push_finish(
     r: u32,
 ) -> Result<(), AllocError>
     requires { r < length plant.now.routes }
-    ensures { OnOk result (map rule_tree rules.new ≡ map rule_tree rules.old ++ definitions.rules_of_finish plant.now r) }
+    ensures { OnOk result
+        (map rule_tree rules.new
+        ≡ map rule_tree rules.old ++ definitions.rules_of_finish plant.now r) }
 {
     let route = plant.route(r);
     let last = last_of(&route.path);

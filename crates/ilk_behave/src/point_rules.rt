@@ -26,7 +26,12 @@ fn lies_or_is_commanded_elsewhere(
     position: Position,
 ) -> Result<Form, AllocError>
     requires { n < point_count plant.now }
-    ensures { IfOk result (λ form. tree_of form ≡ any_of (trees (negation (conditions.at_is plant.now n (lie_in position)) ∷ negation (conditions.to_is plant.now n position) ∷ []))) }
+    ensures { IfOk result
+        (λ form. tree_of form
+        ≡ any_of
+        (trees
+        (negation (conditions.at_is plant.now n (lie_in position))
+        ∷ negation (conditions.to_is plant.now n position) ∷ []))) }
 {
     let mut forms = Vec::new(alloc);
     forms.push(negated(alloc, at_is(plant, n, lie_in(position)))?)?;
@@ -37,7 +42,8 @@ fn lies_or_is_commanded_elsewhere(
 // Point `n` doesn't move, and doesn't lie where it is commanded.
 fn lies_elsewhere(alloc: Global, plant: &Plant, n: u32) -> Result<Vec<Form>, AllocError>
     requires { n < point_count plant.now }
-    ensures { IfOk result (λ forms. map tree_of forms.items ≡ definitions.lies_elsewhere plant.now n) }
+    ensures { IfOk result
+        (λ forms. map tree_of forms.items ≡ definitions.lies_elsewhere plant.now n) }
 {
     let mut forms = Vec::new(alloc);
     forms.push(negated(alloc, at_is(plant, n, Lie::Moving))?)?;
@@ -56,7 +62,13 @@ fn push_throw_clear(
 ) -> Result<(), AllocError>
     requires point { n < point_count plant.now }
     requires section { x < length plant.now.sections }
-    ensures { OnOk result (map rule_tree rules.new ≡ map rule_tree rules.old ++ settings.rule (definitions.lies_elsewhere plant.now n ++ conditions.no_train_at plant.now x ∷ []) (settings.at_becomes plant.now n Moving ∷ []) ∷ []) }
+    ensures { OnOk result
+        (map rule_tree rules.new
+        ≡ map rule_tree rules.old
+        ++ settings.rule
+        (definitions.lies_elsewhere plant.now n
+        ++ conditions.no_train_at plant.now x ∷ [])
+        (settings.at_becomes plant.now n Moving ∷ []) ∷ []) }
 {
     let mut forms = lies_elsewhere(alloc, plant, n)?;
     forms.push(no_train_at(plant, x))?;
@@ -75,7 +87,14 @@ fn push_throw_under_train(
 ) -> Result<(), AllocError>
     requires point { n < point_count plant.now }
     requires section { x < length plant.now.sections }
-    ensures { OnOk result (map rule_tree rules.new ≡ map rule_tree rules.old ++ settings.rule (definitions.lies_elsewhere plant.now n ++ conditions.train_at plant.now x ∷ []) (settings.at_becomes plant.now n Moving ∷ settings.occupancy_becomes plant.now x Crash ∷ []) ∷ []) }
+    ensures { OnOk result
+        (map rule_tree rules.new
+        ≡ map rule_tree rules.old
+        ++ settings.rule
+        (definitions.lies_elsewhere plant.now n
+        ++ conditions.train_at plant.now x ∷ [])
+        (settings.at_becomes plant.now n Moving
+        ∷ settings.occupancy_becomes plant.now x Crash ∷ []) ∷ []) }
 {
     let mut forms = lies_elsewhere(alloc, plant, n)?;
     forms.push(train_at(alloc, plant, x)?)?;
@@ -88,7 +107,9 @@ fn push_throw_under_train(
 /// Adds the rules of throw for section `x`; none where it is no point.
 pub fn push_throw(alloc: Global, rules: &mut Rules, plant: &Plant, x: u32) -> Result<(), AllocError>
     requires { x < length plant.now.sections }
-    ensures { OnOk result (map rule_tree rules.new ≡ map rule_tree rules.old ++ definitions.rules_of_throw plant.now x) }
+    ensures { OnOk result
+        (map rule_tree rules.new
+        ≡ map rule_tree rules.old ++ definitions.rules_of_throw plant.now x) }
 {
     if let Some(n) = plant.point_number(x) {
         push_throw_clear(alloc, rules, plant, x, n)?;
@@ -106,7 +127,13 @@ fn push_settle_at(
     position: Position,
 ) -> Result<(), AllocError>
     requires { n < point_count plant.now }
-    ensures { OnOk result (map rule_tree rules.new ≡ map rule_tree rules.old ++ settings.rule (conditions.at_is plant.now n Moving ∷ conditions.to_is plant.now n position ∷ []) (settings.at_becomes plant.now n (lie_in position) ∷ []) ∷ []) }
+    ensures { OnOk result
+        (map rule_tree rules.new
+        ≡ map rule_tree rules.old
+        ++ settings.rule
+        (conditions.at_is plant.now n Moving ∷ conditions.to_is plant.now n position
+        ∷ [])
+        (settings.at_becomes plant.now n (lie_in position) ∷ []) ∷ []) }
 {
     let mut forms = Vec::new(alloc);
     forms.push(at_is(plant, n, Lie::Moving))?;
@@ -124,7 +151,9 @@ pub fn push_settle(
     x: u32,
 ) -> Result<(), AllocError>
     requires { x < length plant.now.sections }
-    ensures { OnOk result (map rule_tree rules.new ≡ map rule_tree rules.old ++ definitions.rules_of_settle plant.now x) }
+    ensures { OnOk result
+        (map rule_tree rules.new
+        ≡ map rule_tree rules.old ++ definitions.rules_of_settle plant.now x) }
 {
     if let Some(n) = plant.point_number(x) {
         push_settle_at(alloc, rules, plant, n, Position::Plus)?;

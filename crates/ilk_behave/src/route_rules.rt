@@ -27,7 +27,9 @@ use std::alloc::{AllocError, Global};
 /// Adds the rule of mark for route `r`.
 pub fn push_mark(alloc: Global, rules: &mut Rules, plant: &Plant, r: u32) -> Result<(), AllocError>
     requires { r < length plant.now.routes }
-    ensures { OnOk result (map rule_tree rules.new ≡ map rule_tree rules.old ++ definitions.rules_of_mark plant.now r) }
+    ensures { OnOk result
+        (map rule_tree rules.new
+        ≡ map rule_tree rules.old ++ definitions.rules_of_mark plant.now r) }
 {
     let _ = plant.route(r);
     let mut forms = Vec::new(alloc);
@@ -46,7 +48,10 @@ fn allocate_forms(
 ) -> Result<Vec<Form>, AllocError>
     requires known { r < length plant.now.routes }
     requires route { IsRouteOf plant.now route.now }
-    ensures { IfOk result (λ forms. map tree_of forms.items ≡ conditions.mode_is r Marked ∷ flat_map guards.unclaimed route.now.conflicts ++ flat_map (guards.clear_at plant.now) (sections_locked_for route.now)) }
+    ensures { IfOk result
+        (λ forms. map tree_of forms.items
+        ≡ conditions.mode_is r Marked ∷ flat_map guards.unclaimed route.now.conflicts
+        ++ flat_map (guards.clear_at plant.now) (sections_locked_for route.now)) }
 {
     let mut forms = Vec::new(alloc);
     forms.push(mode_is(plant, r, Mode::Marked))?;
@@ -65,7 +70,9 @@ fn push_all_locks(
     hold: Hold,
 ) -> Result<(), AllocError>
     requires { IsRouteOf plant.now route.now }
-    ensures { OnOk result (sets.new ≡ sets.old ++ settings.locks_become plant.now (sections_locked_for route.now) hold) }
+    ensures { OnOk result
+        (sets.new
+        ≡ sets.old ++ settings.locks_become plant.now (sections_locked_for route.now) hold) }
 {
     push_locks_become(sets, plant, &route.path, hold)?;
     push_locks_become(sets, plant, &route.overlap, hold)?;
@@ -76,7 +83,11 @@ fn push_all_locks(
 fn allocate_sets(alloc: Global, plant: &Plant, r: u32, route: &Route) -> Result<Sets, AllocError>
     requires known { r < length plant.now.routes }
     requires route { IsRouteOf plant.now route.now }
-    ensures { IfOk result (λ sets. sets ≡ settings.mode_becomes r Allocating ∷ settings.locks_become plant.now (sections_locked_for route.now) LockedLock ++ flat_map (settings.commanded plant.now) (wanted_points route.now)) }
+    ensures { IfOk result
+        (λ sets. sets
+        ≡ settings.mode_becomes r Allocating
+        ∷ settings.locks_become plant.now (sections_locked_for route.now) LockedLock
+        ++ flat_map (settings.commanded plant.now) (wanted_points route.now)) }
 {
     let mut sets = Row::new(alloc);
     sets.push(mode_becomes(plant, r, Mode::Allocating))?;
@@ -94,7 +105,9 @@ pub fn push_allocate(
     r: u32,
 ) -> Result<(), AllocError>
     requires { r < length plant.now.routes }
-    ensures { OnOk result (map rule_tree rules.new ≡ map rule_tree rules.old ++ definitions.rules_of_allocate plant.now r) }
+    ensures { OnOk result
+        (map rule_tree rules.new
+        ≡ map rule_tree rules.old ++ definitions.rules_of_allocate plant.now r) }
 {
     let route = plant.route(r);
     let forms = allocate_forms(alloc, plant, r, route)?;
@@ -105,7 +118,10 @@ pub fn push_allocate(
 // Adds of each of the boards that it is Closed.
 fn push_closed(forms: &mut Vec<Form>, plant: &Plant, boards: &Row<u32>) -> Result<(), AllocError>
     requires { All (λ m. m < length plant.now.boards) boards.now }
-    ensures { OnOk result (map tree_of forms.new.items ≡ map tree_of forms.old.items ++ map (λ m. conditions.board_is plant.now m Closed) boards.now) }
+    ensures { OnOk result
+        (map tree_of forms.new.items
+        ≡ map tree_of forms.old.items
+        ++ map (λ m. conditions.board_is plant.now m Closed) boards.now) }
 {
     for m in boards.as_slice() {
         forms.push(board_is(plant, *m, Aspect::Closed))?;
@@ -122,7 +138,10 @@ fn push_not_locked_if(
     is_asked: bool,
 ) -> Result<(), AllocError>
     requires { q < length plant.now.routes }
-    ensures { OnOk result (map tree_of forms.new.items ≡ map tree_of forms.old.items ++ (if is_asked then negation (conditions.mode_is q Locked) ∷ [] else [])) }
+    ensures { OnOk result
+        (map tree_of forms.new.items
+        ≡ map tree_of forms.old.items
+        ++ (if is_asked then negation (conditions.mode_is q Locked) ∷ [] else [])) }
 {
     if is_asked {
         forms.push(negated(alloc, mode_is(plant, q, Mode::Locked))?)?;
@@ -137,7 +156,11 @@ fn push_no_protector_locked(
     plant: &Plant,
     m: u32,
 ) -> Result<(), AllocError>
-    ensures { OnOk result (map tree_of forms.new.items ≡ map tree_of forms.old.items ++ map (λ q. negation (conditions.mode_is q Locked)) (definitions.protectors plant.now m)) }
+    ensures { OnOk result
+        (map tree_of forms.new.items
+        ≡ map tree_of forms.old.items
+        ++ map (λ q. negation (conditions.mode_is q Locked))
+        (definitions.protectors plant.now m)) }
 {
     for q in 0..plant.routes() {
         push_not_locked_if(alloc, forms, plant, q, protects_by(plant, q, m))?;
@@ -152,7 +175,8 @@ fn lock_forms(alloc: Global, plant: &Plant, r: u32, route: &Route) -> Result<Vec
     ensures { IfOk result (λ forms. map tree_of forms.items ≡ conditions.mode_is r Allocating
         ∷ map (conditions.lies_at_listed plant.now) (wanted_points route.now)
         ++ map (λ m. conditions.board_is plant.now m Closed) route.now.protecting_boards
-        ++ map (λ q. negation (conditions.mode_is q Locked)) (definitions.protectors plant.now route.now.source)) }
+        ++ map (λ q. negation (conditions.mode_is q Locked))
+        (definitions.protectors plant.now route.now.source)) }
 {
     let mut forms = Vec::new(alloc);
     forms.push(mode_is(plant, r, Mode::Allocating))?;
@@ -166,7 +190,9 @@ fn lock_forms(alloc: Global, plant: &Plant, r: u32, route: &Route) -> Result<Vec
 /// Adds the rule of lock for route `r`.
 pub fn push_lock(alloc: Global, rules: &mut Rules, plant: &Plant, r: u32) -> Result<(), AllocError>
     requires { r < length plant.now.routes }
-    ensures { OnOk result (map rule_tree rules.new ≡ map rule_tree rules.old ++ definitions.rules_of_lock plant.now r) }
+    ensures { OnOk result
+        (map rule_tree rules.new
+        ≡ map rule_tree rules.old ++ definitions.rules_of_lock plant.now r) }
 {
     let route = plant.route(r);
     let forms = lock_forms(alloc, plant, r, route)?;
@@ -184,7 +210,11 @@ fn push_cancel_marked(
     r: u32,
 ) -> Result<(), AllocError>
     requires { r < length plant.now.routes }
-    ensures { OnOk result (map rule_tree rules.new ≡ map rule_tree rules.old ++ settings.rule (conditions.mode_is r Marked ∷ []) (settings.mode_becomes r Free ∷ []) ∷ []) }
+    ensures { OnOk result
+        (map rule_tree rules.new
+        ≡ map rule_tree rules.old
+        ++ settings.rule (conditions.mode_is r Marked ∷ [])
+        (settings.mode_becomes r Free ∷ []) ∷ []) }
 {
     let mut forms = Vec::new(alloc);
     forms.push(mode_is(plant, r, Mode::Marked))?;
@@ -203,7 +233,13 @@ fn push_cancel_allocating(
 ) -> Result<(), AllocError>
     requires known { r < length plant.now.routes }
     requires route { IsRouteOf plant.now route.now }
-    ensures { OnOk result (map rule_tree rules.new ≡ map rule_tree rules.old ++ settings.rule (conditions.mode_is r Allocating ∷ []) (settings.mode_becomes r Free ∷ settings.locks_become plant.now (sections_locked_for route.now) FreeLock) ∷ []) }
+    ensures { OnOk result
+        (map rule_tree rules.new
+        ≡ map rule_tree rules.old
+        ++ settings.rule (conditions.mode_is r Allocating ∷ [])
+        (settings.mode_becomes r Free
+        ∷ settings.locks_become plant.now (sections_locked_for route.now)
+        FreeLock) ∷ []) }
 {
     let mut forms = Vec::new(alloc);
     forms.push(mode_is(plant, r, Mode::Allocating))?;
@@ -221,7 +257,9 @@ pub fn push_cancel(
     r: u32,
 ) -> Result<(), AllocError>
     requires { r < length plant.now.routes }
-    ensures { OnOk result (map rule_tree rules.new ≡ map rule_tree rules.old ++ definitions.rules_of_cancel plant.now r) }
+    ensures { OnOk result
+        (map rule_tree rules.new
+        ≡ map rule_tree rules.old ++ definitions.rules_of_cancel plant.now r) }
 {
     push_cancel_marked(alloc, rules, plant, r)?;
     push_cancel_allocating(alloc, rules, plant, r, plant.route(r))

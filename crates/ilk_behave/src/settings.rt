@@ -16,7 +16,9 @@ use std::alloc::AllocError;
 
 /// Adds a rule: where all of the forms hold, this is set.
 pub fn push_rule(rules: &mut Rules, forms: Vec<Form>, sets: Sets) -> Result<(), AllocError>
-    ensures { OnOk result (map rule_tree rules.new ≡ map rule_tree rules.old ++ settings.rule (map tree_of forms.items) sets ∷ []) }
+    ensures { OnOk result
+        (map rule_tree rules.new
+        ≡ map rule_tree rules.old ++ settings.rule (map tree_of forms.items) sets ∷ []) }
 {
     rules.push(Rule {
         guard: Form::And(forms),
@@ -120,7 +122,8 @@ pub fn push_locks_become(
     hold: Hold,
 ) -> Result<(), AllocError>
     requires { All (λ x. x < length plant.now.sections) sections.now }
-    ensures { OnOk result (sets.new ≡ sets.old ++ settings.locks_become plant.now sections.now hold) }
+    ensures { OnOk result
+        (sets.new ≡ sets.old ++ settings.locks_become plant.now sections.now hold) }
 {
     for x in sections.as_slice() {
         sets.push(lock_becomes(plant, *x, hold))?;
@@ -136,7 +139,10 @@ pub fn push_point_locks_become(
     hold: Hold,
 ) -> Result<(), AllocError>
     requires { All (λ listed. listed.point < length plant.now.sections) points.now }
-    ensures { OnOk result (sets.new ≡ sets.old ++ settings.locks_become plant.now (map (λ listed. listed.point) points.now) hold) }
+    ensures { OnOk result
+        (sets.new
+        ≡ sets.old
+        ++ settings.locks_become plant.now (map (λ listed. listed.point) points.now) hold) }
 {
     for listed in points.as_slice() {
         sets.push(lock_becomes(plant, listed.point, hold))?;
@@ -156,7 +162,8 @@ fn push_command(sets: &mut Sets, plant: &Plant, listed: &Listed) -> Result<(), A
 
 /// Adds of each of the points that it is commanded to its listed position from now on.
 pub fn push_commands(sets: &mut Sets, plant: &Plant, points: &Row<Listed>) -> Result<(), AllocError>
-    ensures { OnOk result (sets.new ≡ sets.old ++ flat_map (settings.commanded plant.now) points.now) }
+    ensures { OnOk result
+        (sets.new ≡ sets.old ++ flat_map (settings.commanded plant.now) points.now) }
 {
     for listed in points.as_slice() {
         push_command(sets, plant, listed)?;

@@ -28,7 +28,8 @@ fn push_rules_of(
     event: Event,
 ) -> Result<(), AllocError>
     requires { HasNumber plant.now event }
-    ensures { OnOk result (map rule_tree rules.new ≡ map rule_tree rules.old ++ rules_of plant.now event) }
+    ensures { OnOk result
+        (map rule_tree rules.new ≡ map rule_tree rules.old ++ rules_of plant.now event) }
 {
     match event {
         Event::Mark(r) => push_mark(alloc, rules, plant, r),
@@ -55,7 +56,9 @@ fn push_rules_of_all(
     events: &[Event],
 ) -> Result<(), AllocError>
     requires { HaveNumbers plant.now events.now }
-    ensures { OnOk result (map rule_tree rules.new ≡ map rule_tree rules.old ++ flat_map (rules_of plant.now) events.now) }
+    ensures { OnOk result
+        (map rule_tree rules.new
+        ≡ map rule_tree rules.old ++ flat_map (rules_of plant.now) events.now) }
 {
     for event in events {
         push_rules_of(alloc, rules, plant, *event)?;
@@ -65,7 +68,8 @@ fn push_rules_of_all(
 
 // The rules of all events, in their order: route by route, and then section by section.
 fn all_rules(alloc: Global, plant: &Plant) -> Result<Rules, AllocError>
-    ensures { IfOk result (λ rules. map rule_tree rules ≡ flat_map (rules_of plant.now) (events_of plant.now)) }
+    ensures { IfOk result
+        (λ rules. map rule_tree rules ≡ flat_map (rules_of plant.now) (events_of plant.now)) }
 {
     let mut rules = Row::new(alloc);
     for r in 0..plant.routes() {

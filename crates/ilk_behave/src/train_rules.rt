@@ -16,7 +16,9 @@ use std::alloc::{AllocError, Global};
 /// Adds the rule of enter for section `x`; none where it is no border.
 pub fn push_enter(alloc: Global, rules: &mut Rules, plant: &Plant, x: u32) -> Result<(), AllocError>
     requires { x < length plant.now.sections }
-    ensures { OnOk result (map rule_tree rules.new ≡ map rule_tree rules.old ++ definitions.rules_of_enter plant.now x) }
+    ensures { OnOk result
+        (map rule_tree rules.new
+        ≡ map rule_tree rules.old ++ definitions.rules_of_enter plant.now x) }
 {
     if let Some(inward) = plant.border(x) {
         let mut forms = Vec::new(alloc);
@@ -47,7 +49,9 @@ fn push_tail_rule(
 ) -> Result<(), AllocError>
     requires here { x < length plant.now.sections }
     requires there { y < length plant.now.sections }
-    ensures { OnOk result (map rule_tree rules.new ≡ map rule_tree rules.old ++ definitions.tail_rule plant.now x d y head ∷ []) }
+    ensures { OnOk result
+        (map rule_tree rules.new
+        ≡ map rule_tree rules.old ++ definitions.tail_rule plant.now x d y head ∷ []) }
 {
     let mut forms = Vec::new(alloc);
     let before = Occupancy::Taken {
@@ -85,7 +89,10 @@ fn push_tail_to(
 ) -> Result<(), AllocError>
     requires here { x < length plant.now.sections }
     requires there { y < length plant.now.sections }
-    ensures { OnOk result (map rule_tree rules.new ≡ map rule_tree rules.old ++ map (definitions.tail_rule plant.now x d y) (true ∷ false ∷ [])) }
+    ensures { OnOk result
+        (map rule_tree rules.new
+        ≡ map rule_tree rules.old
+        ++ map (definitions.tail_rule plant.now x d y) (true ∷ false ∷ [])) }
 {
     push_tail_rule(alloc, rules, plant, x, d, y, true)?;
     push_tail_rule(alloc, rules, plant, x, d, y, false)
@@ -100,7 +107,12 @@ fn push_tail_in(
     d: Dir,
 ) -> Result<(), AllocError>
     requires { x < length plant.now.sections }
-    ensures { OnOk result (map rule_tree rules.new ≡ map rule_tree rules.old ++ flat_map (λ y. map (definitions.tail_rule plant.now x d y) (true ∷ false ∷ [])) (next_to plant.now x d)) }
+    ensures { OnOk result
+        (map rule_tree rules.new
+        ≡ map rule_tree rules.old
+        ++ flat_map
+        (λ y. map (definitions.tail_rule plant.now x d y) (true ∷ false ∷ []))
+        (next_to plant.now x d)) }
 {
     if let Some(y) = plant.neighbour(x, d, 0) {
         push_tail_to(alloc, rules, plant, x, d, y)?;
@@ -114,7 +126,9 @@ fn push_tail_in(
 /// Adds the rules of tail for section `x`: in each direction, to each section next to it.
 pub fn push_tail(alloc: Global, rules: &mut Rules, plant: &Plant, x: u32) -> Result<(), AllocError>
     requires { x < length plant.now.sections }
-    ensures { OnOk result (map rule_tree rules.new ≡ map rule_tree rules.old ++ definitions.rules_of_tail plant.now x) }
+    ensures { OnOk result
+        (map rule_tree rules.new
+        ≡ map rule_tree rules.old ++ definitions.rules_of_tail plant.now x) }
 {
     push_tail_in(alloc, rules, plant, x, Dir::Up)?;
     push_tail_in(alloc, rules, plant, x, Dir::Down)
@@ -131,7 +145,11 @@ fn push_leave_in(
 ) -> Result<(), AllocError>
     requires known { x < length plant.now.sections }
     requires section { slice_get plant.now.sections x ≡ Some section.now }
-    ensures { OnOk result (map rule_tree rules.new ≡ map rule_tree rules.old ++ map (definitions.leave_rule plant.now x) (filter (λ e. not (has_neighbour section.now e)) (d ∷ []))) }
+    ensures { OnOk result
+        (map rule_tree rules.new
+        ≡ map rule_tree rules.old
+        ++ map (definitions.leave_rule plant.now x)
+        (filter (λ e. not (has_neighbour section.now e)) (d ∷ []))) }
 {
     if section.beside(d, 0).is_some() {
         return Ok(());
@@ -151,7 +169,9 @@ fn push_leave_in(
 /// Adds the rules of leave for section `x`, one for each direction in which it has no neighbour.
 pub fn push_leave(alloc: Global, rules: &mut Rules, plant: &Plant, x: u32) -> Result<(), AllocError>
     requires { x < length plant.now.sections }
-    ensures { OnOk result (map rule_tree rules.new ≡ map rule_tree rules.old ++ definitions.rules_of_leave plant.now x) }
+    ensures { OnOk result
+        (map rule_tree rules.new
+        ≡ map rule_tree rules.old ++ definitions.rules_of_leave plant.now x) }
 {
     let section = plant.section(x);
     push_leave_in(alloc, rules, plant, x, section, Dir::Up)?;

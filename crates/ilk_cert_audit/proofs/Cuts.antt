@@ -14,13 +14,19 @@ take-none : (m : ℕ) → take m (let xs : List Bytes = [] in xs) ≡ []
 take-none zero = refl
 take-none (suc m) = refl
 
-cut-steps : (may : Bool) (n : ℕ) (clauses : List (List Literal)) (After Cut : List Bytes → Type 0) → ((lines : List Bytes) (m : ℕ) → After lines → Cut (take m lines)) → (lines : List Bytes) (m : ℕ) → StepLines may n clauses After lines → StepLines true n clauses Cut (take m lines)
+cut-steps : (may : Bool) (n : ℕ) (clauses : List (List Literal)) (After Cut : List Bytes → Type 0) →
+    ((lines : List Bytes) (m : ℕ) → After lines → Cut (take m lines)) → (lines : List Bytes) (m : ℕ) →
+    StepLines may n clauses After lines → StepLines true n clauses Cut (take m lines)
 cut-steps may n clauses After Cut cut [] zero h = refl
 cut-steps may n clauses After Cut cut [] (suc m) h = refl
 cut-steps may n clauses After Cut cut (line ∷ lines) zero h = refl
 cut-steps may n clauses After Cut cut (line ∷ lines) (suc m) h = (h.0, h.1, h.2, by_end (is_empty h.0.clause) (cut-steps may n (clauses ++ h.0.clause ∷ []) After Cut cut lines m) h.3)
   where
-    by_end : (b : Bool) → (StepLines may n (clauses ++ h.0.clause ∷ []) After lines → StepLines true n (clauses ++ h.0.clause ∷ []) Cut (take m lines)) → Either b (After lines) (StepLines may n (clauses ++ h.0.clause ∷ []) After lines) → Either b (Cut (take m lines)) (StepLines true n (clauses ++ h.0.clause ∷ []) Cut (take m lines))
+    by_end : (b : Bool) →
+        (StepLines may n (clauses ++ h.0.clause ∷ []) After lines →
+        StepLines true n (clauses ++ h.0.clause ∷ []) Cut (take m lines)) →
+        Either b (After lines) (StepLines may n (clauses ++ h.0.clause ∷ []) After lines) →
+        Either b (Cut (take m lines)) (StepLines true n (clauses ++ h.0.clause ∷ []) Cut (take m lines))
     by_end true more after = cut lines m after
     by_end false more after = more after
 

@@ -53,7 +53,12 @@ line-added bytes more lacks =
     ∙ ap (λ (t : Bytes). text_of ls ++ t) (sym (append_assoc (after_lines bytes) more (10 ∷ [])))
     ∙ sym text
     ∙ sym (append-nil (text_of (ls ++ line ∷ []))) in
-    let plain = All-append (Lacks 10) ls (line ∷ []) (but-last-lack 10 (parts_at 10 bytes) (parts-lack 10 bytes)) (All-cons (Lacks 10) line [] (lacks_append 10 (after_lines bytes) more (last-lacks 10 (parts_at 10 bytes) (parts-lack 10 bytes)) lacks) (All-nil (Lacks 10))) in
+    let plain = All-append (Lacks 10) ls (line ∷ [])
+    (but-last-lack 10 (parts_at 10 bytes) (parts-lack 10 bytes))
+    (All-cons (Lacks 10) line []
+    (lacks_append 10 (after_lines bytes) more
+    (last-lacks 10 (parts_at 10 bytes) (parts-lack 10 bytes)) lacks)
+    (All-nil (Lacks 10))) in
     let back = lines_then (ls ++ line ∷ []) [] plain refl in
     (ap lines_of whole ∙ back.0, ap after_lines whole ∙ back.1)
 

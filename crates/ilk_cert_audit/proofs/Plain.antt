@@ -44,7 +44,14 @@ line-plain (word ∷ []) h = h zero word (omega arith)
 line-plain (word ∷ (next ∷ more)) h = lacks_spaced word (line_of (next ∷ more)) (h zero word (omega arith)) (line-plain (next ∷ more) (λ k d within. h (suc k) d (omega arith)))
 
 pub step-plain : (s : LogStep) → Lacks 10 (step_text s)
-step-plain s = line-plain (step_words s) (All-cons (Lacks 10) (codes "step") (map lit_word s.clause ++ (codes "0" ∷ (map decimal s.hints ++ codes "0" ∷ []))) refl (All-append (Lacks 10) (map lit_word s.clause) (codes "0" ∷ (map decimal s.hints ++ codes "0" ∷ [])) (lits s.clause) (All-cons (Lacks 10) (codes "0") (map decimal s.hints ++ codes "0" ∷ []) refl (All-append (Lacks 10) (map decimal s.hints) (codes "0" ∷ []) (numbers s.hints) (All-cons (Lacks 10) (codes "0") [] refl (All-nil (Lacks 10)))))))
+step-plain s = line-plain (step_words s)
+    (All-cons (Lacks 10) (codes "step")
+    (map lit_word s.clause ++ (codes "0" ∷ (map decimal s.hints ++ codes "0" ∷ []))) refl
+    (All-append (Lacks 10) (map lit_word s.clause) (codes "0" ∷ (map decimal s.hints ++ codes "0" ∷ []))
+    (lits s.clause)
+    (All-cons (Lacks 10) (codes "0") (map decimal s.hints ++ codes "0" ∷ []) refl
+    (All-append (Lacks 10) (map decimal s.hints) (codes "0" ∷ []) (numbers s.hints)
+    (All-cons (Lacks 10) (codes "0") [] refl (All-nil (Lacks 10)))))))
   where
     lit : (v : ℕ) (b : Bool) → Lacks 10 (lit_word (record { var = v; positive = b }))
     lit v true = decimal-plain v

@@ -70,7 +70,11 @@ next-good s g m q a new line taken may k lines =
       λ h. (h.0, (t, f.own, f.derived, subst B (sym taken.1) (subst A f.after h.1))),
     )
 
-pub next-closed : (s : SystemTree) (g : GoalTree) (m : ℕ) (q : Wanted) (next : Option Wanted) (a new : Audited) (line : Bytes) → IsLineOf line a new Closes → queries_from m next ≡ queries_after m q → IsNext s g (Within m q a) line (Some (Between m next))
+pub next-closed :
+    (s : SystemTree) (g : GoalTree) (m : ℕ) (q : Wanted) (next : Option Wanted) (a new : Audited)
+    (line : Bytes) →
+    IsLineOf line a new Closes → queries_from m next ≡ queries_after m q →
+    IsNext s g (Within m q a) line (Some (Between m next))
 next-closed s g m q next a new line taken left may k lines =
     let f = taken.0 in
     let t = f.step in

@@ -40,7 +40,10 @@ may-stop s g (Ended k) h = (k, (refl, refl))
 may-stop s g (Refused m) h = absurd (cc)
 
 -- after one more line
-pub at-next : (s : SystemTree) (g : GoalTree) (stage next : Stage) (lines : List Bytes) (n m : ℕ) (line : Bytes) → IsAt s g stage lines n → IsNext s g stage line (Some next) → is_stage next ≡ true → m ≡ in_64_bits (n + 1) → IsAt s g next (lines ++ line ∷ []) m
+pub at-next :
+    (s : SystemTree) (g : GoalTree) (stage next : Stage) (lines : List Bytes) (n m : ℕ) (line : Bytes) →
+    IsAt s g stage lines n → IsNext s g stage line (Some next) → is_stage next ≡ true →
+    m ≡ in_64_bits (n + 1) → IsAt s g next (lines ++ line ∷ []) m
 at-next s g stage next lines n m line at goes staged counted =
     let stop = may-stop s g next staged in
     let whole : (more : List Bytes) → (lines ++ line ∷ []) ++ more ≡ lines ++ (line ∷ more) = λ more. append_assoc lines (line ∷ []) more in

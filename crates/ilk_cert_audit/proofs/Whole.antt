@@ -29,7 +29,11 @@ ends-more s [] open_ h = absurd (cc)
 ends-more s (t ∷ log) open_ h = and_from (not (is_empty s.clause)) (ends_empty (t ∷ log)) (not_from_false (is_empty s.clause) open_) h
 
 -- the lines of a refutation, and those after it
-steps-lines : (n : ℕ) (clauses : List (List Literal)) (After : List Bytes → Type 0) (log : List LogStep) (rest : List Bytes) → each_derived n clauses log ≡ true → ends_empty log ≡ true → After rest → StepLines false n clauses After (map step_text log ++ rest)
+steps-lines :
+    (n : ℕ) (clauses : List (List Literal)) (After : List Bytes → Type 0) (log : List LogStep)
+    (rest : List Bytes) →
+    each_derived n clauses log ≡ true → ends_empty log ≡ true → After rest →
+    StepLines false n clauses After (map step_text log ++ rest)
 steps-lines n clauses After [] rest d e after = absurd (cc)
 steps-lines n clauses After (s ∷ []) rest d e after =
     let P : Bool → Type 0 = λ b. Either b (After rest) (StepLines false n (clauses ++ s.clause ∷ []) After rest) in
@@ -53,7 +57,11 @@ steps-back : (n : ℕ) (clauses : List (List Literal)) (After : List Bytes → T
 steps-back n clauses After [] h = absurd (cc)
 steps-back n clauses After (line ∷ lines) h = by_end (is_empty h.0.clause) refl h.3 (λ more. steps-back n (clauses ++ h.0.clause ∷ []) After lines more)
   where
-    by_end : (b : Bool) → is_empty h.0.clause ≡ b → Either b (After lines) (StepLines false n (clauses ++ h.0.clause ∷ []) After lines) → (StepLines false n (clauses ++ h.0.clause ∷ []) After lines → Refuting n (clauses ++ h.0.clause ∷ []) After lines) → Refuting n clauses After (line ∷ lines)
+    by_end : (b : Bool) → is_empty h.0.clause ≡ b →
+        Either b (After lines) (StepLines false n (clauses ++ h.0.clause ∷ []) After lines) →
+        (StepLines false n (clauses ++ h.0.clause ∷ []) After lines →
+        Refuting n (clauses ++ h.0.clause ∷ []) After lines) →
+        Refuting n clauses After (line ∷ lines)
     by_end true e after back = record {
       log = h.0 ∷ [];
       rest = lines;
@@ -129,7 +137,10 @@ whole-certificate s g k bytes h ends = go (lines_of bytes) refl h
     go (head ∷ []) e h = absurd (let z = h.1 in cc)
     go (head ∷ (told ∷ lines)) e h =
         let m = queries-back s g (certified_queries k) lines h.1.3 in
-        let whole : lines_of bytes ≡ certificate_lines (safe_line k) m.asked = e ∙ ap (λ (x : Bytes). x ∷ (told ∷ lines)) h.0 ∙ ap (λ (x : Bytes). codes "irv certificate 3" ∷ (x ∷ lines)) h.1.0 ∙ ap (λ (xs : List Bytes). codes "irv certificate 3" ∷ (safe_line k ∷ xs)) m.same in
+        let whole : lines_of bytes ≡ certificate_lines (safe_line k) m.asked = e
+        ∙ ap (λ (x : Bytes). x ∷ (told ∷ lines)) h.0
+        ∙ ap (λ (x : Bytes). codes "irv certificate 3" ∷ (x ∷ lines)) h.1.0
+        ∙ ap (λ (xs : List Bytes). codes "irv certificate 3" ∷ (safe_line k ∷ xs)) m.same in
         record {
           asked = m.asked;
           some = h.1.1;

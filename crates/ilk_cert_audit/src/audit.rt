@@ -59,7 +59,9 @@ impl CertificateAudit {
     // Takes the rest of a line, which a line feed ends. Nothing is kept after a bad line.
     fn end_line(&mut self, rest: &[u8]) -> Result<(), AllocError>
         requires { Lacks 10 rest.now }
-        ensures { OnOk result ((s : SystemTree) (g : GoalTree) (bytes : List ℕ) → HasFed s g self.old bytes → HasFed s g self.new (bytes ++ (rest.now ++ 10 ∷ []))) }
+        ensures { OnOk result
+            ((s : SystemTree) (g : GoalTree) (bytes : List ℕ) → HasFed s g self.old bytes →
+            HasFed s g self.new (bytes ++ (rest.now ++ 10 ∷ []))) }
     {
         if self.lines.is_refused() {
             return Ok(());
@@ -81,7 +83,9 @@ impl CertificateAudit {
     // Takes bytes of a line that isn't ended yet. Of one that can't become right no more are kept.
     fn keep(&mut self, rest: &[u8]) -> Result<(), AllocError>
         requires { Lacks 10 rest.now }
-        ensures { OnOk result ((s : SystemTree) (g : GoalTree) (bytes : List ℕ) → HasFed s g self.old bytes → HasFed s g self.new (bytes ++ rest.now)) }
+        ensures { OnOk result
+            ((s : SystemTree) (g : GoalTree) (bytes : List ℕ) → HasFed s g self.old bytes →
+            HasFed s g self.new (bytes ++ rest.now)) }
     {
         if self.lines.is_refused() {
             return Ok(());
@@ -95,7 +99,9 @@ impl CertificateAudit {
 
     // Takes the next bytes, line by line.
     fn split(&mut self, piece: &[u8]) -> Result<(), AllocError>
-        ensures { OnOk result ((s : SystemTree) (g : GoalTree) (bytes : List ℕ) → HasFed s g self.old bytes → HasFed s g self.new (bytes ++ piece.now)) }
+        ensures { OnOk result
+            ((s : SystemTree) (g : GoalTree) (bytes : List ℕ) → HasFed s g self.old bytes →
+            HasFed s g self.new (bytes ++ piece.now)) }
     {
         let mut left = piece;
         while let Some((line, rest)) = cut_line(left) {
@@ -109,8 +115,12 @@ impl CertificateAudit {
     /// however many pieces they come. Where memory runs out, the audit is of no more use, and its
     /// owner drops it.
     pub fn feed(&mut self, piece: &[u8]) -> Result<Fed, AllocError>
-        ensures fed { OnOk result ((s : SystemTree) (g : GoalTree) (bytes : List ℕ) → HasFed s g self.old bytes → HasFed s g self.new (bytes ++ piece.now)) }
-        ensures answer { IfOk result (λ fed. (s : SystemTree) (g : GoalTree) (bytes : List ℕ) → HasFed s g self.old bytes → FedAs s g (bytes ++ piece.now) fed) }
+        ensures fed { OnOk result
+            ((s : SystemTree) (g : GoalTree) (bytes : List ℕ) → HasFed s g self.old bytes →
+            HasFed s g self.new (bytes ++ piece.now)) }
+        ensures answer { IfOk result
+            (λ fed. (s : SystemTree) (g : GoalTree) (bytes : List ℕ) →
+            HasFed s g self.old bytes → FedAs s g (bytes ++ piece.now) fed) }
     {
         self.split(piece)?;
         Ok(self.lines.fed())
@@ -118,7 +128,8 @@ impl CertificateAudit {
 
     /// Answers whether the bytes are a certificate.
     pub fn end(self) -> Ended
-        ensures { (s : SystemTree) (g : GoalTree) (bytes : List ℕ) → HasFed s g self bytes → EndsAs s g bytes result }
+        ensures { (s : SystemTree) (g : GoalTree) (bytes : List ℕ) → HasFed s g self bytes →
+            EndsAs s g bytes result }
     {
         self.lines.ended(self.unfinished.is_empty())
     }

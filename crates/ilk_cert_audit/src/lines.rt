@@ -96,7 +96,9 @@ impl LineAudit {
     /// Takes the next line. After a bad one, nothing changes. Where memory runs out, the audit is of no
     /// more use.
     pub fn take(&mut self, line: &[u8]) -> Result<(), AllocError>
-        ensures { OnOk result ((s : SystemTree) (g : GoalTree) (lines : List Bytes) → HasTaken s g self.old lines → HasTaken s g self.new (lines ++ line.now ∷ [])) }
+        ensures { OnOk result
+            ((s : SystemTree) (g : GoalTree) (lines : List Bytes) → HasTaken s g self.old lines →
+            HasTaken s g self.new (lines ++ line.now ∷ [])) }
     {
         if let Stage::Refused { .. } = self.stage {
             return Ok(());
@@ -113,7 +115,8 @@ impl LineAudit {
 
     /// Whether a line was bad, and which.
     pub fn fed(&self) -> Fed
-        ensures { (s : SystemTree) (g : GoalTree) (lines : List Bytes) → HasTaken s g self.now lines → TellsLines s g lines result }
+        ensures { (s : SystemTree) (g : GoalTree) (lines : List Bytes) →
+            HasTaken s g self.now lines → TellsLines s g lines result }
     {
         match self.stage {
             Stage::Refused { line } => Fed::Bad { line },
@@ -123,7 +126,10 @@ impl LineAudit {
 
     /// What is answered at the end, where nothing stands after the last line feed, or something does.
     pub fn ended(&self, is_whole: bool) -> Ended
-        ensures { (s : SystemTree) (g : GoalTree) (bytes : List ℕ) → HasTaken s g self.now (lines_of bytes) → (is_refused self.now.stage ≡ false → (is_whole ≡ true) ↔ (after_lines bytes ≡ [])) → EndsAs s g bytes result }
+        ensures { (s : SystemTree) (g : GoalTree) (bytes : List ℕ) →
+            HasTaken s g self.now (lines_of bytes) →
+            (is_refused self.now.stage ≡ false → (is_whole ≡ true) ↔ (after_lines bytes ≡ [])) →
+            EndsAs s g bytes result }
     {
         match self.stage {
             Stage::Refused { line } => Ended::Rejected { line },

@@ -28,7 +28,9 @@ fn after_query(
     requires number { IsTrue (is_number k) }
     requires asked { IsTrue (may_ask k wanted) }
     ensures stage { IfOk result (λ stage. IsTrue (is_stage stage)) }
-    ensures next { IfOk result (λ stage. IsNext (system_tree system.now) (goal_tree goal.now) (Between k (Some wanted)) (query_line wanted) (Some stage)) }
+    ensures next { IfOk result
+        (λ stage. IsNext (system_tree system.now) (goal_tree goal.now) (Between k (Some wanted))
+        (query_line wanted) (Some stage)) }
 {
     let cnf = query(alloc, system, goal, wanted)?;
     Ok(Stage::Within {
@@ -76,7 +78,9 @@ fn after_step(
     requires asked { IsTrue (may_ask k query) }
     requires unfinished { auditor.closed ≡ false }
     ensures stage { IfOk result (λ next. IfSome next (λ stage. IsTrue (is_stage stage))) }
-    ensures next { IfOk result (λ next. (s : SystemTree) (g : GoalTree) → IsNext s g (Within k query auditor) line.now next) }
+    ensures next { IfOk result
+        (λ next. (s : SystemTree) (g : GoalTree) →
+        IsNext s g (Within k query auditor) line.now next) }
 {
     match take_step(step, &mut auditor, line)? {
         Line::Follows => Ok(Some(Stage::Within { k, query, auditor })),
@@ -113,7 +117,8 @@ pub fn next_stage(
     requires goal { IsTrue (goal_valid system.now.ranges (goal_tree goal.now)) }
     requires stage { IsTrue (is_stage stage) }
     ensures stage { IfOk result (λ next. IfSome next (λ stage. IsTrue (is_stage stage))) }
-    ensures next { IfOk result (IsNext (system_tree system.now) (goal_tree goal.now) stage line.now) }
+    ensures next { IfOk result
+        (IsNext (system_tree system.now) (goal_tree goal.now) stage line.now) }
 {
     match stage {
         Stage::Head if line == b"irv certificate 3".as_slice() => Ok(Some(Stage::Told)),

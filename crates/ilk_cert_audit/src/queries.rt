@@ -26,7 +26,8 @@ pub fn query_after(k: u32, query: Wanted) -> Option<Wanted>
 // The number up to the limit that stands after this word and a space, with which the line ends.
 fn number_after(line: &[u8], word: &[u8], limit: u64) -> Option<u64>
     ensures some { IfSome result (λ n. (line.now ≡ spaced word.now (decimal n)) × (n ≤ limit)) }
-    ensures none { IfNone result ((n : ℕ) → n ≤ limit → ¬ (line.now ≡ spaced word.now (decimal n))) }
+    ensures none { IfNone result
+        ((n : ℕ) → n ≤ limit → ¬ (line.now ≡ spaced word.now (decimal n))) }
 {
     let Some(rest) = after_word(line, word) else {
         return None;

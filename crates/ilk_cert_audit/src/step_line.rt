@@ -19,7 +19,12 @@ fn read_lits<'a>(
     lits: &mut Vec<Lit>,
     line: &'a [u8],
 ) -> Result<Option<Option<&'a [u8]>>, AllocError>
-    ensures { IfOk result (λ told. option_map (λ after. (lits.new.items, option_map_or (λ rest. words_of rest.now) after [])) told ≡ lits_of_words (words_of line.now)) }
+    ensures { IfOk result
+        (λ told.
+        option_map
+        (λ after. (lits.new.items, option_map_or (λ rest. words_of rest.now) after []))
+        told
+        ≡ lits_of_words (words_of line.now)) }
 {
     lits.clear();
     let mut left = line;
@@ -74,7 +79,11 @@ pub struct StepLine {
 
 // Reads the step that the words of a line tell, and answers whether they tell one.
 fn read_words(step: &mut StepLine, line: &[u8]) -> Result<bool, AllocError>
-    ensures { IfOk result (λ told. only_if told (record { clause = step.new.clause.items; hints = step.new.hints.items }) ≡ step_of (words_of line.now)) }
+    ensures { IfOk result
+        (λ told.
+        only_if told
+        (record { clause = step.new.clause.items; hints = step.new.hints.items })
+        ≡ step_of (words_of line.now)) }
 {
     let (word, rest) = next_word(line);
     if word != b"step".as_slice() {
@@ -95,7 +104,12 @@ fn read_words(step: &mut StepLine, line: &[u8]) -> Result<bool, AllocError>
 /// Reads the step whose line this is, and answers whether it is the line of one whose variables are
 /// from 1 to 2^62, and whose hints are from 1 to the greatest `u64`.
 pub fn read_step(step: &mut StepLine, line: &[u8]) -> Result<bool, AllocError>
-    ensures { IfOk result (λ told. (s : StepValue) → (only_if told (record { clause = step.new.clause.items; hints = step.new.hints.items }) ≡ Some s) ↔ ((line.now ≡ step_text s) × IsTrue (has_numbers s))) }
+    ensures { IfOk result
+        (λ told. (s : StepValue) →
+        (only_if told
+        (record { clause = step.new.clause.items; hints = step.new.hints.items })
+        ≡ Some s) ↔
+        ((line.now ≡ step_text s) × IsTrue (has_numbers s))) }
 {
     read_words(step, line)
 }

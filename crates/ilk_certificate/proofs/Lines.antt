@@ -53,7 +53,9 @@ asked_written start asked i now past sofar =
     sofar ∙ ap (λ (xs : List Asked). start ++ flat_map asked_text xs) (take_all i asked past) ∙ ap (λ (t : Bytes). start ++ t) (asked-fed asked)
 
 -- and those that are kept, where the last is written too
-pub kept_written : (start : Bytes) (asked before : List Asked) (last : Asked) (mid now : Bytes) → asked ≡ before ++ last ∷ [] → mid ≡ start ++ flat_map base_text before → now ≡ mid ++ asked_text last → now ≡ start ++ text_of (flat_map asked_lines (without_early_steps asked))
+pub kept_written : (start : Bytes) (asked before : List Asked) (last : Asked) (mid now : Bytes) →
+    asked ≡ before ++ last ∷ [] → mid ≡ start ++ flat_map base_text before → now ≡ mid ++ asked_text last →
+    now ≡ start ++ text_of (flat_map asked_lines (without_early_steps asked))
 kept_written start asked before last mid now split sofar grown =
     grown
     ∙ ap (λ (t : Bytes). t ++ asked_text last) sofar

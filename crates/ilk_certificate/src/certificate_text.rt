@@ -88,7 +88,8 @@ impl CertificateText {
 
     // Adds the lines of the next query at the end, unless it is a step query and others are left.
     fn add_next(&mut self, alloc: Global, next: Asked, left: &Row<Asked>) -> Result<(), AllocError>
-        ensures { OnOk result (self.new ++ kept_text left.now ≡ self.old ++ kept_text (next ∷ left.now)) }
+        ensures { OnOk result
+            (self.new ++ kept_text left.now ≡ self.old ++ kept_text (next ∷ left.now)) }
     {
         if left.len() > 0 && is_step(next.query) {
             return Ok(());
@@ -110,7 +111,9 @@ impl CertificateText {
 
     // The first two lines: the head, and what is told.
     fn begun(alloc: Global, word: &str, number: u128) -> Result<CertificateText, AllocError>
-        ensures { IfOk result (λ text. text ≡ text_of (codes "irv certificate 3" ∷ spaced word.now (decimal number) ∷ [])) }
+        ensures { IfOk result
+            (λ text. text
+            ≡ text_of (codes "irv certificate 3" ∷ spaced word.now (decimal number) ∷ [])) }
     {
         let mut text = CertificateText::none(alloc);
         text.add_lines(begun(alloc, word, number)?.into_bytes())?;

@@ -14,14 +14,17 @@ use std::alloc::AllocError;
 
 /// Writes the line of a word, a space and a number at the end of a text.
 pub(crate) fn push_numbered(text: &mut String, word: &str, number: u128) -> Result<(), AllocError>
-    ensures { OnOk result (string_bytes text.new ≡ string_bytes text.old ++ (spaced word.now (decimal number) ++ 10 ∷ [])) }
+    ensures { OnOk result
+        (string_bytes text.new
+        ≡ string_bytes text.old ++ (spaced word.now (decimal number) ++ 10 ∷ [])) }
 {
     write!(text, "{word} {number}\n")
 }
 
 /// Writes the line of a query.
 pub(crate) fn push_query(text: &mut String, query: Wanted) -> Result<(), AllocError>
-    ensures { OnOk result (string_bytes text.new ≡ string_bytes text.old ++ (query_line query ++ 10 ∷ [])) }
+    ensures { OnOk result
+        (string_bytes text.new ≡ string_bytes text.old ++ (query_line query ++ 10 ∷ [])) }
 {
     match query {
         Wanted::Hazard(n) => push_numbered(text, "query hazard", n as u128),
@@ -42,7 +45,8 @@ fn push_step_line(text: &mut String, step: &Step) -> Result<(), AllocError>
 // Writes the line of each step.
 fn push_steps(text: &mut String, log: &Log) -> Result<(), AllocError>
     requires { IsTrue (list_all hints_from_one log.now) }
-    ensures { OnOk result (string_bytes text.new ≡ string_bytes text.old ++ text_of (map step_text log.now)) }
+    ensures { OnOk result
+        (string_bytes text.new ≡ string_bytes text.old ++ text_of (map step_text log.now)) }
 {
     for i in 0..log.len() {
         let step = log.at(i)?;

@@ -24,7 +24,9 @@ pub(crate) fn all_conflicts(asked: &[Asked]) -> u128
 // Writes the lines of each query.
 fn push_all(text: &mut String, asked: &[Asked]) -> Result<(), AllocError>
     requires { IsTrue (all_hints_from_one asked.now) }
-    ensures { OnOk result (string_bytes text.new ≡ string_bytes text.old ++ text_of (flat_map asked_lines asked.now)) }
+    ensures { OnOk result
+        (string_bytes text.new
+        ≡ string_bytes text.old ++ text_of (flat_map asked_lines asked.now)) }
 {
     for query in asked {
         push_asked(text, query)?;
@@ -35,7 +37,8 @@ fn push_all(text: &mut String, asked: &[Asked]) -> Result<(), AllocError>
 // Writes the lines of each query but the step queries.
 fn push_bases(text: &mut String, asked: &[Asked]) -> Result<(), AllocError>
     requires { IsTrue (all_hints_from_one asked.now) }
-    ensures { OnOk result (string_bytes text.new ≡ string_bytes text.old ++ flat_map base_text asked.now) }
+    ensures { OnOk result
+        (string_bytes text.new ≡ string_bytes text.old ++ flat_map base_text asked.now) }
 {
     for query in asked {
         push_base(text, query)?;
@@ -46,7 +49,10 @@ fn push_bases(text: &mut String, asked: &[Asked]) -> Result<(), AllocError>
 // Writes the lines of each query but the step queries before the last.
 fn push_kept(text: &mut String, asked: &[Asked]) -> Result<(), AllocError>
     requires { IsTrue (all_hints_from_one asked.now) }
-    ensures { OnOk result (string_bytes text.new ≡ string_bytes text.old ++ text_of (flat_map asked_lines (without_early_steps asked.now))) }
+    ensures { OnOk result
+        (string_bytes text.new
+        ≡ string_bytes text.old
+        ++ text_of (flat_map asked_lines (without_early_steps asked.now))) }
 {
     let Some((last, before)) = asked.split_last() else {
         return Ok(());
@@ -58,7 +64,9 @@ fn push_kept(text: &mut String, asked: &[Asked]) -> Result<(), AllocError>
 
 /// The first two lines: the head, and what is told.
 pub(crate) fn begun(alloc: Global, word: &str, number: u128) -> Result<String, AllocError>
-    ensures { IfOk result (λ text. string_bytes text ≡ text_of (codes "irv certificate 3" ∷ spaced word.now (decimal number) ∷ [])) }
+    ensures { IfOk result
+        (λ text. string_bytes text
+        ≡ text_of (codes "irv certificate 3" ∷ spaced word.now (decimal number) ∷ [])) }
 {
     let mut text = String::from_str(alloc, "irv certificate 3\n")?;
     push_numbered(&mut text, word, number)?;

@@ -118,7 +118,9 @@ once-push (x ∷ rs) r u h =
     all-push (y ∷ ys) k e = (k.0, all-push ys k.1 e)
 
 -- one clause more
-pub held-added : (a : ArenaLists) (rs : List ℕ) (clause : List Literal) (r s : ℕ) → HoldsClauses a rs → clause_in a.vars clause ≡ true → vars_differ clause ≡ true → stands_in r a.references ≡ false → IsArena (added a clause r s) → HoldsClauses (added a clause r s) (rs ++ r ∷ [])
+pub held-added : (a : ArenaLists) (rs : List ℕ) (clause : List Literal) (r s : ℕ) → HoldsClauses a rs →
+    clause_in a.vars clause ≡ true → vars_differ clause ≡ true → stands_in r a.references ≡ false →
+    IsArena (added a clause r s) → HoldsClauses (added a clause r s) (rs ++ r ∷ [])
 held-added a rs clause r s h w d f k = record {
   row = ap (λ (xs : List ℕ). xs ++ r ∷ []) h.row;
   clauses = record {
@@ -146,7 +148,23 @@ held-cursor a rs c i h = record {
   row = h.row;
   clauses = record {
     formula = h.clauses.formula;
-    arena = record { long = λ d s n. (let w = h.clauses.arena.long d s n in (w.0, w.1, record { differ = w.2.differ; first = w.2.first; second = w.2.second; exactly = w.2.exactly })); short = h.clauses.arena.short; once = h.clauses.arena.once; held = h.clauses.arena.held };
+    arena = record {
+      long =
+          λ d s n.
+          (let w = h.clauses.arena.long d s n in (
+            w.0,
+            w.1,
+            record {
+              differ = w.2.differ;
+              first = w.2.first;
+              second = w.2.second;
+              exactly = w.2.exactly;
+            },
+          ));
+      short = h.clauses.arena.short;
+      once = h.clauses.arena.once;
+      held = h.clauses.arena.held;
+    };
     paired = h.clauses.paired;
     once = h.clauses.once;
   };
@@ -158,7 +176,23 @@ held-room a rs s h = record {
   row = h.row;
   clauses = record {
     formula = h.clauses.formula;
-    arena = record { long = λ d t n. (let w = h.clauses.arena.long d t n in (w.0, w.1, record { differ = w.2.differ; first = w.2.first; second = w.2.second; exactly = w.2.exactly })); short = h.clauses.arena.short; once = h.clauses.arena.once; held = h.clauses.arena.held };
+    arena = record {
+      long =
+          λ d t n.
+          (let w = h.clauses.arena.long d t n in (
+            w.0,
+            w.1,
+            record {
+              differ = w.2.differ;
+              first = w.2.first;
+              second = w.2.second;
+              exactly = w.2.exactly;
+            },
+          ));
+      short = h.clauses.arena.short;
+      once = h.clauses.arena.once;
+      held = h.clauses.arena.held;
+    };
     paired = h.clauses.paired;
     once = h.clauses.once;
   };
@@ -172,7 +206,10 @@ read-reference a rs c r h w e =
     by-number a c r h.clauses (ap (λ (xs : List ℕ). slice_get xs c) (sym h.row) ∙ there)
 
 -- room was made, and a clause added
-pub held-grown : (a b n : ArenaLists) (rs : List ℕ) (clause : List Literal) (r : ℕ) → HoldsClauses a rs → b ≡ record a { spare = b.spare } → clause_in a.vars clause ≡ true → vars_differ clause ≡ true → stands_in r b.references ≡ false → n ≡ added b clause r n.spare → IsArena n → HoldsClauses n (rs ++ r ∷ [])
+pub held-grown : (a b n : ArenaLists) (rs : List ℕ) (clause : List Literal) (r : ℕ) → HoldsClauses a rs →
+    b ≡ record a { spare = b.spare } → clause_in a.vars clause ≡ true → vars_differ clause ≡ true →
+    stands_in r b.references ≡ false → n ≡ added b clause r n.spare → IsArena n →
+    HoldsClauses n (rs ++ r ∷ [])
 held-grown a b n rs clause r h e w d f g k =
     let H : ArenaLists → Type 0 = λ x. HoldsClauses x rs in
     let G : ArenaLists → Type 0 = λ x. HoldsClauses x (rs ++ r ∷ []) in

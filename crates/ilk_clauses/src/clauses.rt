@@ -116,7 +116,8 @@ impl Clauses {
     pub fn set_cursor(&mut self, c: u64, i: u64)
         requires known { IsTrue (stands_in c self.old.references) }
         requires within { i ≤ length (literals_of self.old c) }
-        ensures { self.new ≡ record self.old { cursors = set_beside c self.old.references self.old.cursors i } }
+        ensures { self.new
+            ≡ record self.old { cursors = set_beside c self.old.references self.old.cursors i } }
     {
         self.arena.set_cursor(c, i);
     }
@@ -128,8 +129,10 @@ impl Clauses {
         requires within { IsTrue (lit_in self.old.vars from) }
         requires follows { IsTrue (follows before c (chain_of self.old from)) }
         requires to_in { to < length (literals_of self.old c) }
-        requires unwatched { IfSome (slice_get (literals_of self.old c) to) (λ l. stands_in c (chain_of self.old l) ≡ false) }
-        ensures { IfSome (slice_get (literals_of self.old c) to) (λ l. self.new ≡ rewatched self.old c from l) }
+        requires unwatched { IfSome (slice_get (literals_of self.old c) to)
+            (λ l. stands_in c (chain_of self.old l) ≡ false) }
+        ensures { IfSome (slice_get (literals_of self.old c) to)
+            (λ l. self.new ≡ rewatched self.old c from l) }
     {
         self.arena.rewatch(before, c, from, to);
     }

@@ -42,7 +42,9 @@ pub record Stands {X : Type 0} (xs : List X) (now : List (List X)) (i start end 
   pub within : end ≤ length xs
   pub is : slice_get now i ≡ Some (slice_range xs start end)
 
-pub stands : {X : Type 0} (ends : List ℕ) (xs : List X) (now : List (List X)) (i start end : ℕ) → are_ends 0 ends (length xs) ≡ true → cut_at 0 ends xs ≡ now → i < length now → start ≡ get_or (0 ∷ ends) i 0 → end ≡ get_or ends i end → Stands xs now i start end
+pub stands : {X : Type 0} (ends : List ℕ) (xs : List X) (now : List (List X)) (i start end : ℕ) →
+    are_ends 0 ends (length xs) ≡ true → cut_at 0 ends xs ≡ now → i < length now →
+    start ≡ get_or (0 ∷ ends) i 0 → end ≡ get_or ends i end → Stands xs now i start end
 stands ends xs now i start end h is k s read =
     let below = within ends xs now i is k in
     let e = get_or_read ends i end below read 0 in

@@ -59,9 +59,15 @@ no_more_if a m ds ok size h = record {
     by_list (w ∷ b) long sat = absurd (omega (arith, long, length-append a (w ∷ b)))
 
 -- two parts with conditions
-pub if_then_if : (a e f : List Bool) (o p : Bool) (m k : ℕ) (cs ds : List (List Literal)) → length a ≤ m → m ≤ k → clauses_in m cs ≡ true → Extends a m cs (OnlyIf o e) → (o ≡ true → Extends (a ++ e) k ds (OnlyIf p f)) → Extends a k (cs ++ ds) (OnlyIf (o && p) (e ++ f))
+pub if_then_if : (a e f : List Bool) (o p : Bool) (m k : ℕ) (cs ds : List (List Literal)) → length a ≤ m →
+    m ≤ k → clauses_in m cs ≡ true → Extends a m cs (OnlyIf o e) →
+    (o ≡ true → Extends (a ++ e) k ds (OnlyIf p f)) → Extends a k (cs ++ ds) (OnlyIf (o && p) (e ++ f))
 if_then_if a e f o p m k cs ds low high inside first next =
-    in_words a k (cs ++ ds) _ (OnlyIf (o && p) (e ++ f)) (λ d h. (and_from o p h.3.0 h.4.0, h.2 ∙ (let one = h.3.1 in let two = h.4.1 in rw (one, two) refl))) (λ d h. let parts = and_parts o p h.0 in (e, f, h.1, (parts.0, refl), (parts.1, refl))) (in_turn a m k cs ds (OnlyIf o e) (λ b _. OnlyIf p f) low high inside first (λ b h. let is = h.1 in rw is (next h.0)))
+    in_words a k (cs ++ ds) _ (OnlyIf (o && p) (e ++ f))
+    (λ d h. (and_from o p h.3.0 h.4.0, h.2 ∙ (let one = h.3.1 in let two = h.4.1 in rw (one, two) refl)))
+    (λ d h. let parts = and_parts o p h.0 in (e, f, h.1, (parts.0, refl), (parts.1, refl)))
+    (in_turn a m k cs ds (OnlyIf o e) (λ b _. OnlyIf p f) low high inside first
+    (λ b h. let is = h.1 in rw is (next h.0)))
 
 -- a condition that holds is none
 pub only_from_if : (a : List Bool) (m : ℕ) (ds : List (List Literal)) (e : List Bool) → Extends a m ds (OnlyIf true e) → Extends a m ds (Only e)

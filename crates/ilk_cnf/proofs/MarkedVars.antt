@@ -16,7 +16,9 @@ vars-more ls i d v x within is =
     ∙ ap (λ t. has_var v (take i ls) || t) (or-false ((get_or ls i d).var == v) ∙ ap (λ y. y == v) (sym is))
 
 -- a mark that is taken away
-pub unmarked-more : (ls : List Literal) (i : ℕ) (d : Literal) (v x : ℕ) (old new : Bool) → i < length ls → x ≡ (get_or ls i d).var → new ≡ cond (x == v) false old → (has_var v (take i ls) ≡ true → old ≡ false) → has_var v (take (i + 1) ls) ≡ true → new ≡ false
+pub unmarked-more : (ls : List Literal) (i : ℕ) (d : Literal) (v x : ℕ) (old new : Bool) → i < length ls →
+    x ≡ (get_or ls i d).var → new ≡ cond (x == v) false old → (has_var v (take i ls) ≡ true → old ≡ false) →
+    has_var v (take (i + 1) ls) ≡ true → new ≡ false
 unmarked-more ls i d v x old new within is told before h = by_test (x == v) told (sym (vars-more ls i d v x within is) ∙ h)
   where
     by_test : (b : Bool) → new ≡ cond b false old → (has_var v (take i ls) || b) ≡ true → new ≡ false

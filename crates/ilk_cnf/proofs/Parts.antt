@@ -34,7 +34,11 @@ satisfies-left a b (c ∷ cs) h =
     rw (first, rest) refl
 
 -- one part and then the next
-pub in_turn : (a : List Bool) (m k : ℕ) (cs ds : List (List Literal)) (E : List Bool → Type 0) (F : (b : List Bool) → E b → List Bool → Type 0) → length a ≤ m → m ≤ k → clauses_in m cs ≡ true → Extends a m cs E → ((b : List Bool) → (e : E b) → Extends (a ++ b) k ds (F b e)) → Extends a k (cs ++ ds) (Then E F)
+pub in_turn :
+    (a : List Bool) (m k : ℕ) (cs ds : List (List Literal)) (E : List Bool → Type 0)
+    (F : (b : List Bool) → E b → List Bool → Type 0) → length a ≤ m → m ≤ k →
+    clauses_in m cs ≡ true → Extends a m cs E →
+    ((b : List Bool) → (e : E b) → Extends (a ++ b) k ds (F b e)) → Extends a k (cs ++ ds) (Then E F)
 in_turn a m k cs ds E F low high inside first next = record {
   sized = λ d h. rw (h.2, ← append_assoc a h.0 h.1) ((next h.0 h.3).sized h.1 h.4);
   does = λ d h. rw (h.2, ← append_assoc a h.0 h.1) (both h.0 h.1 (first.sized h.0 h.3) (first.does h.0 h.3) ((next h.0 h.3).does h.1 h.4));

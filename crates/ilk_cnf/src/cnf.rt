@@ -32,7 +32,8 @@ impl Model for Cnf {
 
     ghost view = { λ c. record { vars = length c.marks.items; clauses = c.clauses } };
 
-    ghost invariant = { λ c. IsFormula (record { vars = length c.marks.items; clauses = c.clauses }) };
+    ghost invariant = { λ c. IsFormula
+        (record { vars = length c.marks.items; clauses = c.clauses }) };
 }
 
 impl Cnf {

@@ -38,7 +38,10 @@ fn gate_and_opposites(alloc: Global, gate: Lit, lits: &[Lit]) -> Result<Lits, Al
 fn imply_each(cnf: &mut Cnf, gate: Lit, lits: &[Lit]) -> Result<(), AllocError>
     requires gate { IsTrue (clause_in cnf.old.vars (gate ∷ [])) }
     requires lits { IsTrue (clause_in cnf.old.vars lits.now) }
-    ensures { OnOk result (cnf.new ≡ grown cnf.old cnf.old.vars (as_clauses (map (λ l. opposite gate ∷ l ∷ []) lits.now))) }
+    ensures { OnOk result
+        (cnf.new
+        ≡ grown cnf.old cnf.old.vars
+        (as_clauses (map (λ l. opposite gate ∷ l ∷ []) lits.now))) }
 {
     for lit in lits {
         cnf.add_lits(&[gate.negated(), *lit])?;
@@ -51,7 +54,8 @@ fn imply_each(cnf: &mut Cnf, gate: Lit, lits: &[Lit]) -> Result<(), AllocError>
 pub fn add_gate(alloc: Global, cnf: &mut Cnf, gate: Lit, lits: &[Lit]) -> Result<(), AllocError>
     requires gate { IsTrue (clause_in cnf.old.vars (gate ∷ [])) }
     requires lits { IsTrue (clause_in cnf.old.vars lits.now) }
-    ensures { OnOk result (cnf.new ≡ grown cnf.old cnf.old.vars (as_clauses (equals_all gate lits.now))) }
+    ensures { OnOk result
+        (cnf.new ≡ grown cnf.old cnf.old.vars (as_clauses (equals_all gate lits.now))) }
 {
     imply_each(cnf, gate, lits)?;
     let wide = gate_and_opposites(alloc, gate, lits)?;
@@ -65,7 +69,10 @@ pub fn all_of(alloc: Global, cnf: &mut Cnf, lits: &[Lit]) -> Result<Lit, AllocEr
     requires { IsTrue (clause_in cnf.old.vars lits.now) }
     ensures lit { IfOk result (λ l. l ≡ plus (cnf.old.vars + 1)) }
     ensures made { OnOk result (cnf.new ≡ with_part cnf.old (all_of_part lits.now cnf.old.vars)) }
-    ensures law { OnOk result ((a : List Bool) → length a ≡ cnf.old.vars → PartExtends a (all_of_part lits.now cnf.old.vars) (Only (list_all (is_true a) lits.now ∷ []))) }
+    ensures law { OnOk result
+        ((a : List Bool) → length a ≡ cnf.old.vars →
+        PartExtends a (all_of_part lits.now cnf.old.vars)
+        (Only (list_all (is_true a) lits.now ∷ []))) }
 {
     let gate = Lit::new(cnf.fresh()?, true);
     add_gate(alloc, cnf, gate, lits)?;
@@ -78,7 +85,9 @@ pub fn any_of(alloc: Global, cnf: &mut Cnf, lits: &[Lit]) -> Result<Lit, AllocEr
     requires { IsTrue (clause_in cnf.old.vars lits.now) }
     ensures lit { IfOk result (λ l. l ≡ plus (cnf.old.vars + 1)) }
     ensures made { OnOk result (cnf.new ≡ with_part cnf.old (any_of_part lits.now cnf.old.vars)) }
-    ensures law { OnOk result ((a : List Bool) → length a ≡ cnf.old.vars → PartExtends a (any_of_part lits.now cnf.old.vars) (Only (some_true a lits.now ∷ []))) }
+    ensures law { OnOk result
+        ((a : List Bool) → length a ≡ cnf.old.vars →
+        PartExtends a (any_of_part lits.now cnf.old.vars) (Only (some_true a lits.now ∷ []))) }
 {
     let gate = Lit::new(cnf.fresh()?, true);
     let others = opposites(alloc, lits)?;

@@ -10,7 +10,8 @@ fn set_mark(marks: &mut [u16], v: u64, mark: bool)
     requires from_1 { 0 < v }
     requires within { v ≤ length marks.old }
     ensures count { length marks.new ≡ length marks.old }
-    ensures marks { (w : ℕ) → 0 < w → is_marked marks.new w ≡ (if v == w then mark else is_marked marks.old w) }
+    ensures marks { (w : ℕ) → 0 < w →
+        is_marked marks.new w ≡ (if v == w then mark else is_marked marks.old w) }
 {
     marks[v as usize - 1] = mark as u16;
 }

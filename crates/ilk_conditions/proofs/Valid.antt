@@ -175,7 +175,11 @@ module _ (p : PlantLists) where
   pub to_is-valid : (n : ℕ) (to : Position) → n < point_count p → tree_valid (ranges_of_plant p) (to_is p n to) ≡ true
   to_is-valid n to within =
       let there : to_var p n ≡ 3 * length p.routes + (2 * n + 1) = omega arith in
-      value-valid (ranges_of_plant p) (to_var p n) (position_value to) 2 (ap (slice_get (ranges_of_plant p)) there ∙ get-second _ _ _ _ occupancies _ _ _ _ la lb lc ld (2 * n + 1) (omega arith) ∙ to_range-at (point_count p) n within) (position-small to)
+      value-valid (ranges_of_plant p) (to_var p n) (position_value to) 2
+      (ap (slice_get (ranges_of_plant p)) there
+      ∙ get-second _ _ _ _ occupancies _ _ _ _ la lb lc ld (2 * n + 1) (omega arith)
+      ∙ to_range-at (point_count p) n within)
+      (position-small to)
 
   pub board_is-valid : (m : ℕ) (aspect : Aspect) → m < length p.boards → tree_valid (ranges_of_plant p) (board_is p m aspect) ≡ true
   board_is-valid m aspect within =

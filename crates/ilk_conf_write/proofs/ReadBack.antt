@@ -128,8 +128,14 @@ route-of-read version i r in_version named limited = rw (route-read version r in
 routes-read : (version : Version) (i : ℕ) (rs : List RouteDraft) → All (IsRouteIn version) rs → list_all route_has_names rs ≡ true → list_all route_has_limits rs ≡ true → in_order (route_of version) i (map (route_value version) rs) ≡ Ok rs
 routes-read version i [] in_version named limited = refl
 routes-read version i (r ∷ rs) in_version named limited =
-    let first : route_of version i (route_value version r) ≡ Ok r = route-of-read version i r (All-head (IsRouteIn version) r rs in_version) (and-first (route_has_names r) (list_all route_has_names rs) named) (and-first (route_has_limits r) (list_all route_has_limits rs) limited) in
-    let rest : in_order (route_of version) (i + 1) (map (route_value version) rs) ≡ Ok rs = routes-read version (i + 1) rs (All-tail (IsRouteIn version) r rs in_version) (and-second (route_has_names r) (list_all route_has_names rs) named) (and-second (route_has_limits r) (list_all route_has_limits rs) limited) in
+    let first : route_of version i (route_value version r) ≡ Ok r = route-of-read version i r
+    (All-head (IsRouteIn version) r rs in_version)
+    (and-first (route_has_names r) (list_all route_has_names rs) named)
+    (and-first (route_has_limits r) (list_all route_has_limits rs) limited) in
+    let rest : in_order (route_of version) (i + 1) (map (route_value version) rs) ≡ Ok rs = routes-read
+    version (i + 1) rs (All-tail (IsRouteIn version) r rs in_version)
+    (and-second (route_has_names r) (list_all route_has_names rs) named)
+    (and-second (route_has_limits r) (list_all route_has_limits rs) limited) in
     rw (first, rest) refl
 
 -- ---- the document
@@ -191,7 +197,9 @@ pub depth-few : (version : Version) (net : NetDraft) (table : TableDraft) → de
 depth-few version net table =
     omega (arith, items-shallow section_value 1 section-shallow net.sections, items-shallow (route_value version) 3 (route-shallow version) table.routes)
 
-pub text-read : (version : Version) (net : NetDraft) (table : TableDraft) (text : List ℕ) → HasLimits net table → is_table_in version table ≡ true → IsUtf8 text → read text ≡ Some (configuration_value version net table) → drafts_of text ≡ Ok (net, table)
+pub text-read : (version : Version) (net : NetDraft) (table : TableDraft) (text : List ℕ) →
+    HasLimits net table → is_table_in version table ≡ true → IsUtf8 text →
+    read text ≡ Some (configuration_value version net table) → drafts_of text ≡ Ok (net, table)
 text-read version net table text limits in_version utf8 is =
     rw (value_of-read text (configuration_value version net table) utf8 is, network-read version net table limits, table-read version net table limits in_version) refl
 
@@ -229,12 +237,22 @@ no-float Second net table = rw (items-whole section_value section-whole net.sect
 
 -- ---- what was written
 
-pub text-of : {A E : Type 0} (bytes : A → List ℕ) (written : Result A E) (d : Data) (version : Version) (net : NetDraft) (table : TableDraft) → d ≡ configuration_value version net table → IfOk written (λ b. has_float d ≡ false → bytes b ≡ compact_text d) → IfOk written (λ b. bytes b ≡ configuration_text version net table)
+pub text-of :
+    {A E : Type 0} (bytes : A → List ℕ) (written : Result A E) (d : Data) (version : Version) (net : NetDraft)
+    (table : TableDraft) →
+    d ≡ configuration_value version net table →
+    IfOk written (λ b. has_float d ≡ false → bytes b ≡ compact_text d) →
+    IfOk written (λ b. bytes b ≡ configuration_text version net table)
 text-of bytes (Err e) d version net table same told = tt
 text-of bytes (Ok b) d version net table same told =
     told (ap has_float same ∙ no-float version net table) ∙ ap compact_text same
 
-pub read-of : {A E : Type 0} (bytes : A → List ℕ) (written : Result A E) (d : Data) (version : Version) (net : NetDraft) (table : TableDraft) → HasLimits net table → is_table_in version table ≡ true → d ≡ configuration_value version net table → IfOk written (λ b. IsUtf8 (bytes b)) → IfOk written (λ b. depth d ≤ max_depth → read (bytes b) ≡ Some d) → IfOk written (λ b. drafts_of (bytes b) ≡ Ok (net, table))
+pub read-of :
+    {A E : Type 0} (bytes : A → List ℕ) (written : Result A E) (d : Data) (version : Version) (net : NetDraft)
+    (table : TableDraft) →
+    HasLimits net table → is_table_in version table ≡ true → d ≡ configuration_value version net table →
+    IfOk written (λ b. IsUtf8 (bytes b)) → IfOk written (λ b. depth d ≤ max_depth → read (bytes b) ≡ Some d) →
+    IfOk written (λ b. drafts_of (bytes b) ≡ Ok (net, table))
 read-of bytes (Err e) d version net table limits in_version same utf8 told = tt
 read-of bytes (Ok b) d version net table limits in_version same utf8 told =
     let shallow : depth d ≤ max_depth = subst (λ (v : Data). depth v ≤ max_depth) (sym same) (depth-few version net table) in

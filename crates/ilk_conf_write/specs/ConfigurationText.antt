@@ -29,9 +29,21 @@ optional_value (Some text) = string text
 -- a section of this name, by its kind
 abbrev pub kind_value : Name → KindDraft → Data
 kind_value name (Linear down up board_down board_up) =
-    object (member (codes "board_down") (optional_value board_down) (member (codes "board_up") (optional_value board_up) (member (codes "down") (optional_value down) (member (codes "kind") (string (codes "linear")) (member (codes "name") (string name) (member (codes "up") (optional_value up) no_members))))))
+    object
+    (member (codes "board_down") (optional_value board_down)
+    (member (codes "board_up") (optional_value board_up)
+    (member (codes "down") (optional_value down)
+    (member (codes "kind") (string (codes "linear"))
+    (member (codes "name") (string name)
+    (member (codes "up") (optional_value up) no_members))))))
 kind_value name (Point stem plus minus faces) =
-    object (member (codes "faces") (string (direction_word faces)) (member (codes "kind") (string (codes "point")) (member (codes "minus") (string minus) (member (codes "name") (string name) (member (codes "plus") (string plus) (member (codes "stem") (string stem) no_members))))))
+    object
+    (member (codes "faces") (string (direction_word faces))
+    (member (codes "kind") (string (codes "point"))
+    (member (codes "minus") (string minus)
+    (member (codes "name") (string name)
+    (member (codes "plus") (string plus)
+    (member (codes "stem") (string stem) no_members))))))
 
 abbrev pub section_value : SectionDraft → Data
 section_value section = kind_value section.name section.kind
@@ -48,9 +60,27 @@ version_number Second = 2
 -- a route: in version 1 without what protects it
 abbrev pub route_value : Version → RouteDraft → Data
 route_value First route =
-    object (member (codes "conflicts") (array_of string route.conflicts) (member (codes "destination") (optional_value route.destination) (member (codes "name") (string route.name) (member (codes "overlap") (array_of string route.overlap) (member (codes "path") (array_of string route.path) (member (codes "points") (array_of listed_value route.points) (member (codes "source") (string route.source) no_members)))))))
+    object
+    (member (codes "conflicts") (array_of string route.conflicts)
+    (member (codes "destination") (optional_value route.destination)
+    (member (codes "name") (string route.name)
+    (member (codes "overlap") (array_of string route.overlap)
+    (member (codes "path") (array_of string route.path)
+    (member (codes "points") (array_of listed_value route.points)
+    (member (codes "source") (string route.source) no_members)))))))
 route_value Second route =
-    object (member (codes "conflicts") (array_of string route.conflicts) (member (codes "destination") (optional_value route.destination) (member (codes "name") (string route.name) (member (codes "overlap") (array_of string route.overlap) (member (codes "path") (array_of string route.path) (member (codes "points") (array_of listed_value route.points) (member (codes "protecting_boards") (array_of string route.protecting_boards) (member (codes "protecting_points") (array_of listed_value route.protecting_points) (member (codes "source") (string route.source) no_members)))))))))
+    object
+    (member (codes "conflicts") (array_of string route.conflicts)
+    (member (codes "destination") (optional_value route.destination)
+    (member (codes "name") (string route.name)
+    (member (codes "overlap") (array_of string route.overlap)
+    (member (codes "path") (array_of string route.path)
+    (member (codes "points") (array_of listed_value route.points)
+    (member (codes "protecting_boards")
+    (array_of string route.protecting_boards)
+    (member (codes "protecting_points")
+    (array_of listed_value route.protecting_points)
+    (member (codes "source") (string route.source) no_members)))))))))
 
 -- the document of a network and a table of routes
 abbrev pub configuration_value : Version → NetDraft → TableDraft → Data

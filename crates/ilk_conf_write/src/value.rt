@@ -68,7 +68,8 @@ fn kind_value(alloc: Global, name: &Text, kind: &KindDraft) -> Result<Value, All
 
 // The sections.
 fn sections_value(alloc: Global, sections: &[SectionDraft]) -> Result<Value, AllocError>
-    ensures { IfOk result (λ value. view value ≡ written.array_of written.section_value sections.now) }
+    ensures { IfOk result
+        (λ value. view value ≡ written.array_of written.section_value sections.now) }
 {
     let mut values = Vec::new(alloc);
     for section in sections {
@@ -156,7 +157,8 @@ fn route_value(alloc: Global, version: Version, route: &RouteDraft) -> Result<Va
 
 // The routes.
 fn routes_value(alloc: Global, version: Version, routes: &[RouteDraft]) -> Result<Value, AllocError>
-    ensures { IfOk result (λ value. view value ≡ written.array_of (written.route_value version) routes.now) }
+    ensures { IfOk result
+        (λ value. view value ≡ written.array_of (written.route_value version) routes.now) }
 {
     let mut values = Vec::new(alloc);
     for route in routes {
@@ -181,7 +183,8 @@ pub fn configuration_value(
     net: &NetDraft,
     table: &TableDraft,
 ) -> Result<Value, AllocError>
-    ensures { IfOk result (λ value. view value ≡ written.configuration_value version net.now table.now) }
+    ensures { IfOk result
+        (λ value. view value ≡ written.configuration_value version net.now table.now) }
 {
     let number = version_number(version);
     let sections = sections_value(alloc, net.sections.as_slice())?;

@@ -54,7 +54,11 @@ numbers-law (range ∷ ranges) a n size fit =
     let enough : range ≤ 2 ^ bit_count range = leb-true range (2 ^ bit_count range) parts.0 in
     let first = number-law a range n enough size in
     let here : clauses_in p.vars p.clauses ≡ true = ruled_out-in (n + bit_count range) (n + 1) range (omega arith) (omega arith) in
-    in_words a (numbers_part (range ∷ ranges) n).vars (numbers_part (range ∷ ranges) n).clauses _ (AreValues (range ∷ ranges)) to from (in_turn a p.vars (numbers_part ranges p.vars).vars p.clauses (numbers_part ranges p.vars).clauses (IsValue range) (λ b _. AreValues ranges) (omega (arith, size)) (numbers-low ranges p.vars) here first (λ b h. numbers-law ranges (a ++ b) p.vars (first.sized b h) parts.1))
+    in_words a (numbers_part (range ∷ ranges) n).vars (numbers_part (range ∷ ranges) n).clauses _
+    (AreValues (range ∷ ranges)) to from
+    (in_turn a p.vars (numbers_part ranges p.vars).vars p.clauses (numbers_part ranges p.vars).clauses
+    (IsValue range) (λ b _. AreValues ranges) (omega (arith, size)) (numbers-low ranges p.vars) here
+    first (λ b h. numbers-law ranges (a ++ b) p.vars (first.sized b h) parts.1))
   where
     to : (b : List Bool) → Then (IsValue range) (λ c _. AreValues ranges) b → AreValues (range ∷ ranges) b
     to b h =
@@ -98,7 +102,17 @@ HaveBits-new (range ∷ ranges) (w ∷ ws) a c first size h =
     )
 
 -- the literals of one variable, made after n variables
-pub column-law : (a : List Bool) (first range w n : ℕ) → length a ≡ n → 0 < first → first + bit_count range ≤ n + 1 → range ≤ 2 ^ bit_count range → w < range → bits_at a first (bit_count range) ≡ bits_of (bit_count range) w → Extends a (bounds_part first range (values_part first range n).lits (values_part first range n).part.vars).part.vars ((values_part first range n).part.clauses ++ (bounds_part first range (values_part first range n).lits (values_part first range n).part.vars).part.clauses) (Only (values_bits range w ++ bounds_bits range w 1 (bound_count range)))
+pub column-law : (a : List Bool) (first range w n : ℕ) → length a ≡ n → 0 < first →
+    first + bit_count range ≤ n + 1 → range ≤ 2 ^ bit_count range → w < range →
+    bits_at a first (bit_count range) ≡ bits_of (bit_count range) w →
+    Extends a
+    (bounds_part first range (values_part first range n).lits
+    (values_part first range n).part.vars).part.vars
+    ((values_part first range n).part.clauses
+    ++
+    (bounds_part first range (values_part first range n).lits
+    (values_part first range n).part.vars).part.clauses)
+    (Only (values_bits range w ++ bounds_bits range w 1 (bound_count range)))
 column-law a first range w n size low high enough less is =
     let v = values_part first range n in
     let m = v.part.vars in
@@ -110,18 +124,31 @@ column-law a first range w n size low high enough less is =
     let kept : bits_at (a ++ e) first (bit_count range) ≡ bits_of (bit_count range) w = bits_at-left (bit_count range) a e first (rw size high) ∙ is in
     let end : a ++ (e ++ []) ≡ a ++ e = ap (λ (u : List Bool). a ++ u) (append-nil e) in
     let says : map (is_true (a ++ e)) v.lits ≡ value_bits w 0 range = subst (λ (u : List Bool). map (is_true u) v.lits ≡ value_bits w 0 range) end (values_part-say a [] first range w n size high enough less is) in
-    let two : Extends (a ++ e) b.part.vars b.part.clauses (Only (bounds_bits range w 1 (bound_count range))) = bounds_part-law v.lits (a ++ e) first range w m long low (omega (arith, high, grows)) enough (length-values_part first range n) (values_part-lits_in first range n low high) less kept says in
+    let two : Extends (a ++ e) b.part.vars b.part.clauses (Only (bounds_bits range w 1 (bound_count range))) =
+    bounds_part-law v.lits (a ++ e) first range w m long low (omega (arith, high, grows)) enough
+    (length-values_part first range n) (values_part-lits_in first range n low high) less kept says in
     let fits : length a ≤ m = rw size grows in
     one_by_one a e (bounds_bits range w 1 (bound_count range)) m b.part.vars v.part.clauses b.part.clauses fits (bounds_part-low v.lits first range m) (values_part-in first range n low high) one two
 
-column-in : (first range n : ℕ) → 0 < first → first + bit_count range ≤ n + 1 → range ≤ 2 ^ bit_count range → clauses_in (bounds_part first range (values_part first range n).lits (values_part first range n).part.vars).part.vars ((values_part first range n).part.clauses ++ (bounds_part first range (values_part first range n).lits (values_part first range n).part.vars).part.clauses) ≡ true
+column-in : (first range n : ℕ) → 0 < first → first + bit_count range ≤ n + 1 → range ≤ 2 ^ bit_count range →
+    clauses_in
+    (bounds_part first range (values_part first range n).lits
+    (values_part first range n).part.vars).part.vars
+    ((values_part first range n).part.clauses
+    ++
+    (bounds_part first range (values_part first range n).lits
+    (values_part first range n).part.vars).part.clauses) ≡ true
 column-in first range n low high enough =
     let v = values_part first range n in
     let m = v.part.vars in
     let b = bounds_part first range v.lits m in
     let grows : n ≤ m = values_part-low first range n in
     list_all-append (clause_in b.part.vars) v.part.clauses b.part.clauses
-    ∙ and_from _ _ (clauses_in-more m b.part.vars v.part.clauses (bounds_part-low v.lits first range m) (values_part-in first range n low high)) (bounds_part-in v.lits first range m low (omega (arith, high, grows)) enough (values_part-lits_in first range n low high))
+    ∙ and_from _ _
+    (clauses_in-more m b.part.vars v.part.clauses (bounds_part-low v.lits first range m)
+    (values_part-in first range n low high))
+    (bounds_part-in v.lits first range m low (omega (arith, high, grows)) enough
+    (values_part-lits_in first range n low high))
 
 -- after a variable's literals there are no fewer variables
 pub column-low : (first range n : ℕ) → n ≤ (bounds_part first range (values_part first range n).lits (values_part first range n).part.vars).part.vars
@@ -137,7 +164,11 @@ columns-low (range ∷ ranges) first n =
     let rest = columns-low ranges (first + bit_count range) (bounds_part first range (values_part first range n).lits (values_part first range n).part.vars).part.vars in
     omega arith
 
-pub columns-law : (ranges ws : List ℕ) (a : List Bool) (first n : ℕ) → length a ≡ n → 0 < first → first + total_bits ranges ≤ n + 1 → ranges_fit ranges ≡ true → in_ranges ws ranges ≡ true → HaveBits a first ranges ws → Extends a (columns_part ranges first n).part.vars (columns_part ranges first n).part.clauses (Only (columns_bits ranges ws))
+pub columns-law : (ranges ws : List ℕ) (a : List Bool) (first n : ℕ) → length a ≡ n → 0 < first →
+    first + total_bits ranges ≤ n + 1 → ranges_fit ranges ≡ true → in_ranges ws ranges ≡ true →
+    HaveBits a first ranges ws →
+    Extends a (columns_part ranges first n).part.vars (columns_part ranges first n).part.clauses
+    (Only (columns_bits ranges ws))
 columns-law [] ws a first n size low high fit inside has = only_from_if a n [] [] (no_more_if a n [] true size refl)
 columns-law (range ∷ ranges) [] a first n size low high fit inside has = absurd has
 columns-law (range ∷ ranges) (w ∷ ws) a first n size low high fit inside has =
@@ -155,8 +186,19 @@ columns-law (range ∷ ranges) (w ∷ ws) a first n size low high fit inside has
     let grows : n ≤ b.part.vars = column-low first range n in
     let kept = HaveBits-left ranges ws a e (first + bit_count range) (rw size (assoc_fits first (bit_count range) (total_bits ranges) n high)) has.1 in
     let next = columns-law ranges ws (a ++ e) (first + bit_count range) b.part.vars long (omega (arith, low)) (omega (arith, high, grows)) fits.1 within.1 kept in
-    let whole = one_by_one a e (columns_bits ranges ws) b.part.vars rest.part.vars (v.part.clauses ++ b.part.clauses) rest.part.clauses (rw size grows) (columns-low ranges (first + bit_count range) b.part.vars) (column-in first range n low reach enough) one next in
-    in_words a rest.part.vars ((v.part.clauses ++ b.part.clauses) ++ rest.part.clauses) (Only (e ++ columns_bits ranges ws)) (Only (columns_bits (range ∷ ranges) (w ∷ ws))) (λ d k. k ∙ append_assoc (values_bits range w) (bounds_bits range w 1 (bound_count range)) (columns_bits ranges ws)) (λ d k. k ∙ sym (append_assoc (values_bits range w) (bounds_bits range w 1 (bound_count range)) (columns_bits ranges ws))) whole
+    let whole = one_by_one a e (columns_bits ranges ws) b.part.vars rest.part.vars
+    (v.part.clauses ++ b.part.clauses) rest.part.clauses (rw size grows)
+    (columns-low ranges (first + bit_count range) b.part.vars) (column-in first range n low reach enough)
+    one next in
+    in_words a rest.part.vars ((v.part.clauses ++ b.part.clauses) ++ rest.part.clauses)
+    (Only (e ++ columns_bits ranges ws)) (Only (columns_bits (range ∷ ranges) (w ∷ ws)))
+    (λ d k. k
+    ∙ append_assoc (values_bits range w) (bounds_bits range w 1 (bound_count range))
+    (columns_bits ranges ws))
+    (λ d k. k
+    ∙ sym
+    (append_assoc (values_bits range w) (bounds_bits range w 1 (bound_count range))
+    (columns_bits ranges ws))) whole
   where
     assoc_fits : (f b t m : ℕ) → f + (b + t) ≤ m + 1 → f + b + t ≤ m + 1
     assoc_fits f b t m h = omega arith
@@ -171,7 +213,11 @@ columns-in (range ∷ ranges) first n low high fit =
     let grows : n ≤ m = column-low first range n in
     let rest = columns_part ranges (first + bit_count range) m in
     list_all-append (clause_in rest.part.vars) p.part.clauses rest.part.clauses
-    ∙ and_from _ _ (clauses_in-more m rest.part.vars p.part.clauses (columns-low ranges (first + bit_count range) m) (column-in first range n low (omega arith) enough)) (columns-in ranges (first + bit_count range) m (omega (arith, low)) (omega (arith, high, grows)) fits.1)
+    ∙ and_from _ _
+    (clauses_in-more m rest.part.vars p.part.clauses (columns-low ranges (first + bit_count range) m)
+    (column-in first range n low (omega arith) enough))
+    (columns-in ranges (first + bit_count range) m (omega (arith, low)) (omega (arith, high, grows))
+    fits.1)
 
 pub copy-low : (ranges : List ℕ) (n : ℕ) → n ≤ (copy_part ranges n).part.vars
 copy-low ranges n =
@@ -199,7 +245,15 @@ numbers_step f g range all rest split made =
     ∙ with_part-and_then f (number_part range f.vars) (numbers_part rest)
     ∙ ap (λ (rs : List ℕ). with_part f (numbers_part rs f.vars)) (sym split)
 
-pub columns_step : (f g : Formula) (table whole : List Column) (column : Column) (first range : ℕ) (all rest : List ℕ) → all ≡ range ∷ rest → first + total_bits all ≤ f.vars + 1 → column ≡ (column_part first range f.vars).column → g ≡ with_part f (column_part first range f.vars).part → table ++ (columns_part all first f.vars).columns ≡ whole → (first + bit_count range + total_bits rest ≤ g.vars + 1) × ((table ++ column ∷ []) ++ (columns_part rest (first + bit_count range) g.vars).columns ≡ whole) × (with_part g (columns_part rest (first + bit_count range) g.vars).part ≡ with_part f (columns_part all first f.vars).part)
+pub columns_step :
+    (f g : Formula) (table whole : List Column) (column : Column) (first range : ℕ) (all rest : List ℕ) →
+    all ≡ range ∷ rest → first + total_bits all ≤ f.vars + 1 →
+    column ≡ (column_part first range f.vars).column → g ≡ with_part f (column_part first range f.vars).part →
+    table ++ (columns_part all first f.vars).columns ≡ whole →
+    (first + bit_count range + total_bits rest ≤ g.vars + 1) ×
+    ((table ++ column ∷ []) ++ (columns_part rest (first + bit_count range) g.vars).columns ≡ whole) ×
+    (with_part g (columns_part rest (first + bit_count range) g.vars).part
+    ≡ with_part f (columns_part all first f.vars).part)
 columns_step f g table whole column first range all rest split high is made h =
     let p = column_part first range f.vars in
     let next = first + bit_count range in
@@ -218,9 +272,23 @@ columns_step f g table whole column first range all rest split high is made h =
     )
 
 -- the same step, where the number of bits was counted
-pub columns_step_counted : (f g : Formula) (table whole : List Column) (column : Column) (first range count : ℕ) (all rest : List ℕ) → count ≡ bit_count range → all ≡ range ∷ rest → first + total_bits all ≤ f.vars + 1 → column ≡ (column_part first range f.vars).column → g ≡ with_part f (column_part first range f.vars).part → table ++ (columns_part all first f.vars).columns ≡ whole → (first + count + total_bits rest ≤ g.vars + 1) × ((table ++ column ∷ []) ++ (columns_part rest (first + count) g.vars).columns ≡ whole) × (with_part g (columns_part rest (first + count) g.vars).part ≡ with_part f (columns_part all first f.vars).part)
+pub columns_step_counted :
+    (f g : Formula) (table whole : List Column) (column : Column) (first range count : ℕ) (all rest : List ℕ)
+    →
+    count ≡ bit_count range → all ≡ range ∷ rest → first + total_bits all ≤ f.vars + 1 →
+    column ≡ (column_part first range f.vars).column → g ≡ with_part f (column_part first range f.vars).part →
+    table ++ (columns_part all first f.vars).columns ≡ whole →
+    (first + count + total_bits rest ≤ g.vars + 1) ×
+    ((table ++ column ∷ []) ++ (columns_part rest (first + count) g.vars).columns ≡ whole) ×
+    (with_part g (columns_part rest (first + count) g.vars).part
+    ≡ with_part f (columns_part all first f.vars).part)
 columns_step_counted f g table whole column first range count all rest counted split high is made h =
-    subst (λ (k : ℕ). (first + k + total_bits rest ≤ g.vars + 1) × ((table ++ column ∷ []) ++ (columns_part rest (first + k) g.vars).columns ≡ whole) × (with_part g (columns_part rest (first + k) g.vars).part ≡ with_part f (columns_part all first f.vars).part)) (sym counted) (columns_step f g table whole column first range all rest split high is made h)
+    subst
+    (λ (k : ℕ). (first + k + total_bits rest ≤ g.vars + 1) ×
+    ((table ++ column ∷ []) ++ (columns_part rest (first + k) g.vars).columns ≡ whole) ×
+    (with_part g (columns_part rest (first + k) g.vars).part
+    ≡ with_part f (columns_part all first f.vars).part)) (sym counted)
+    (columns_step f g table whole column first range all rest split high is made h)
 
 -- one variable reaches no further than all of them
 pub first_fits : (first range m : ℕ) (all rest : List ℕ) → all ≡ range ∷ rest → first + total_bits all ≤ m → first + bit_count range ≤ m
@@ -235,7 +303,9 @@ columns_fit n m first ranges rs is end same =
     let all : total_bits rs ≡ total_bits ranges = ap total_bits same in
     omega (arith, is, end, all, numbers-end ranges n)
 
-pub copy_made : (f g h : Formula) (ranges rs ss : List ℕ) (first : ℕ) → first ≡ f.vars → rs ≡ ranges → ss ≡ ranges → g ≡ with_part f (numbers_part rs f.vars) → h ≡ with_part g (columns_part ss (first + 1) g.vars).part → h ≡ with_part f (copy_part ranges f.vars).part
+pub copy_made : (f g h : Formula) (ranges rs ss : List ℕ) (first : ℕ) → first ≡ f.vars → rs ≡ ranges →
+    ss ≡ ranges → g ≡ with_part f (numbers_part rs f.vars) →
+    h ≡ with_part g (columns_part ss (first + 1) g.vars).part → h ≡ with_part f (copy_part ranges f.vars).part
 copy_made f g h ranges rs ss first is same other numbers columns =
     columns
     ∙ ap (λ (us : List ℕ). with_part g (columns_part us (first + 1) g.vars).part) other
@@ -252,7 +322,11 @@ ranges_fit-small (range ∷ ranges) h =
 
 pub copy-law : (ranges : List ℕ) (a : List Bool) (n : ℕ) → length a ≡ n → ranges_fit ranges ≡ true → Extends a (copy_part ranges n).part.vars (copy_part ranges n).part.clauses (IsCopy ranges)
 copy-law ranges a n size fit =
-    in_words a (copy_part ranges n).part.vars (copy_part ranges n).part.clauses _ (IsCopy ranges) to from (in_turn a p.vars (copy_part ranges n).part.vars p.clauses (columns_part ranges (n + 1) p.vars).part.clauses (AreValues ranges) after (rw size (numbers-low ranges n)) (columns-low ranges (n + 1) p.vars) (numbers-in ranges n) first next)
+    in_words a (copy_part ranges n).part.vars (copy_part ranges n).part.clauses _ (IsCopy ranges) to from
+    (in_turn a p.vars (copy_part ranges n).part.vars p.clauses
+    (columns_part ranges (n + 1) p.vars).part.clauses (AreValues ranges) after
+    (rw size (numbers-low ranges n)) (columns-low ranges (n + 1) p.vars) (numbers-in ranges n) first
+    next)
   where
     p : Part
     p = numbers_part ranges n

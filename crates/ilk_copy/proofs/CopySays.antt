@@ -13,7 +13,10 @@ use Rattle.ilk_ir.specs.System.{in_ranges}
 use Rattle.ilk_copy.specs.Copy.{HaveBits, LiteralsSay, numbers_part, columns_part, column_part, copy_part, numbers_bits, columns_bits, copy_bits, total_bits}
 use Rattle.ilk_copy.proofs.CopyLaw.{HaveBits-left, HaveBits-new, ranges_fit, numbers-law, numbers-end, column-law, column-low}
 
-pub columns-say : (ranges ws : List ℕ) (a c : List Bool) (first n : ℕ) → length a ≡ n → 0 < first → first + total_bits ranges ≤ n + 1 → ranges_fit ranges ≡ true → in_ranges ws ranges ≡ true → HaveBits a first ranges ws → LiteralsSay (a ++ (columns_bits ranges ws ++ c)) (columns_part ranges first n).columns ranges ws
+pub columns-say : (ranges ws : List ℕ) (a c : List Bool) (first n : ℕ) → length a ≡ n → 0 < first →
+    first + total_bits ranges ≤ n + 1 → ranges_fit ranges ≡ true → in_ranges ws ranges ≡ true →
+    HaveBits a first ranges ws →
+    LiteralsSay (a ++ (columns_bits ranges ws ++ c)) (columns_part ranges first n).columns ranges ws
 columns-say [] ws a c first n size low high fit inside has = tt
 columns-say (range ∷ ranges) [] a c first n size low high fit inside has = absurd has
 columns-say (range ∷ ranges) (w ∷ ws) a c first n size low high fit inside has =
@@ -42,8 +45,17 @@ columns-say (range ∷ ranges) (w ∷ ws) a c first n size low high fit inside h
     let whole_bounds : (a ++ e) ++ (f ++ (d ++ c)) ≡ a ++ ((e ++ (f ++ d)) ++ c) = append_assoc a e (f ++ (d ++ c)) ∙ ap (λ (u : List Bool). a ++ (e ++ u)) (sym (append_assoc f d c)) ∙ whole_values in
     let whole_rest : (a ++ (e ++ f)) ++ (d ++ c) ≡ a ++ ((e ++ (f ++ d)) ++ c) = append_assoc a (e ++ f) (d ++ c) ∙ ap (λ (u : List Bool). a ++ u) (append_assoc e f (d ++ c)) ∙ sym (append_assoc a e (f ++ (d ++ c))) ∙ whole_bounds in (
       subst (λ (u : List Bool). map (is_true u) v.lits ≡ value_bits w 0 range) whole_values (values_part-say a ((f ++ d) ++ c) first range w n size reach enough less has.0),
-      subst (λ (u : List Bool). map (is_true u) (bounds_part first range v.lits m).lits ≡ bound_bits w 1 (bound_count range)) whole_bounds (bounds_part-say v.lits (a ++ e) (d ++ c) first range w m long low (omega (arith, reach, grows)) enough (length-values_part first range n) (values_part-lits_in first range n low reach) less kept says),
-      subst (λ (u : List Bool). LiteralsSay u (columns_part ranges (first + bit_count range) p.part.vars).columns ranges ws) whole_rest (columns-say ranges ws (a ++ (e ++ f)) c (first + bit_count range) p.part.vars size_next (omega (arith, low)) (omega (arith, high, more)) fits.1 within.1 has_next),
+      subst
+          (λ (u : List Bool). map (is_true u) (bounds_part first range v.lits m).lits
+          ≡ bound_bits w 1 (bound_count range)) whole_bounds
+          (bounds_part-say v.lits (a ++ e) (d ++ c) first range w m long low (omega (arith, reach, grows))
+          enough (length-values_part first range n) (values_part-lits_in first range n low reach) less
+          kept says),
+      subst
+          (λ (u : List Bool). LiteralsSay u
+          (columns_part ranges (first + bit_count range) p.part.vars).columns ranges ws) whole_rest
+          (columns-say ranges ws (a ++ (e ++ f)) c (first + bit_count range) p.part.vars size_next
+          (omega (arith, low)) (omega (arith, high, more)) fits.1 within.1 has_next),
     )
   where
     further : (f b t m : ℕ) → f + (b + t) ≤ m + 1 → f + b + t ≤ m + 1

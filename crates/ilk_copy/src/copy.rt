@@ -48,7 +48,8 @@ fn take_columns(cnf: &mut Cnf, ranges: &[u8]) -> Result<(), AllocError>
 /// Adds the variables of a copy of variables with these ranges, and no clause. Where memory runs out
 /// the formula may have grown, and its owner drops it.
 pub fn take_copy(cnf: &mut Cnf, ranges: &Ranges) -> Result<(), AllocError>
-    ensures taken { OnOk result (cnf.new ≡ with_vars cnf.old (cnf.old.vars + copy_width ranges.now)) }
+    ensures taken { OnOk result
+        (cnf.new ≡ with_vars cnf.old (cnf.old.vars + copy_width ranges.now)) }
 
     // At most two variables for each value of a variable.
     ensures vars { OnOk result (cnf.new.vars ≤ cnf.old.vars + 2 * sum ranges.now) }
@@ -67,7 +68,9 @@ fn add_numbers(
 ) -> Result<(), AllocError>
     requires there { used.old + total_bits ranges.now ≤ cnf.old.vars }
     ensures vars { OnOk result (cnf.new.vars ≡ cnf.old.vars) }
-    ensures made { OnOk result (with_vars cnf.new used.new ≡ with_part (with_vars cnf.old used.old) (numbers_part ranges.now used.old)) }
+    ensures made { OnOk result
+        (with_vars cnf.new used.new
+        ≡ with_part (with_vars cnf.old used.old) (numbers_part ranges.now used.old)) }
 {
     for range in ranges {
         let _ = cnf.vars();
@@ -91,9 +94,12 @@ fn add_column(
     requires from_1 { 0 < n.first }
     requires within { n.first + bit_count n.range ≤ used.old + 1 }
     requires there { used.old + named_vars n.range ≤ cnf.old.vars }
-    ensures column { IfOk result (λ column. column ≡ (column_part n.first n.range used.old).column) }
+    ensures column { IfOk result
+        (λ column. column ≡ (column_part n.first n.range used.old).column) }
     ensures vars { OnOk result (cnf.new.vars ≡ cnf.old.vars) }
-    ensures made { OnOk result (with_vars cnf.new used.new ≡ with_part (with_vars cnf.old used.old) (column_part n.first n.range used.old).part) }
+    ensures made { OnOk result
+        (with_vars cnf.new used.new
+        ≡ with_part (with_vars cnf.old used.old) (column_part n.first n.range used.old).part) }
 {
     let values = values(alloc, cnf, used, n)?;
     let bounds = bounds(alloc, cnf, used, n, values.as_slice())?;
@@ -112,9 +118,13 @@ fn add_columns(
     requires from_1 { 0 < first }
     requires within { first + total_bits ranges.now ≤ used.old + 1 }
     requires there { used.old + total_named ranges.now ≤ cnf.old.vars }
-    ensures table { IfOk result (λ table. table ≡ (columns_part ranges.now first used.old).columns) }
+    ensures table { IfOk result
+        (λ table. table ≡ (columns_part ranges.now first used.old).columns) }
     ensures vars { OnOk result (cnf.new.vars ≡ cnf.old.vars) }
-    ensures made { OnOk result (with_vars cnf.new used.new ≡ with_part (with_vars cnf.old used.old) (columns_part ranges.now first used.old).part) }
+    ensures made { OnOk result
+        (with_vars cnf.new used.new
+        ≡ with_part (with_vars cnf.old used.old)
+        (columns_part ranges.now first used.old).part) }
 {
     let mut table = Table::new(alloc);
     let mut first = first;
@@ -142,11 +152,21 @@ pub fn add_copy(
 ) -> Result<Table, AllocError>
     requires { before + copy_width ranges.now ≤ cnf.old.vars }
     ensures table { IfOk result (λ table. table ≡ (copy_part ranges.now before).columns) }
-    ensures made { OnOk result (cnf.new ≡ grown cnf.old cnf.old.vars (as_clauses (copy_part ranges.now before).part.clauses)) }
-    ensures law { OnOk result ((a : List Bool) → length a ≡ before → IsTrue (list_all (λ range. nat_lt range 256) ranges.now) → PartExtends a (copy_part ranges.now before).part (IsCopy ranges.now)) }
+    ensures made { OnOk result
+        (cnf.new
+        ≡ grown cnf.old cnf.old.vars (as_clauses (copy_part ranges.now before).part.clauses)) }
+    ensures law { OnOk result
+        ((a : List Bool) → length a ≡ before →
+        IsTrue (list_all (λ range. nat_lt range 256) ranges.now) →
+        PartExtends a (copy_part ranges.now before).part (IsCopy ranges.now)) }
 
     // There each variable's literals say its value, whatever follows the copy.
-    ensures exact { OnOk result ((a c : List Bool) (ws : List ℕ) → length a ≡ before → IsTrue (list_all (λ range. nat_lt range 256) ranges.now) → IsTrue (in_ranges ws ranges.now) → LiteralsSay (a ++ (copy_bits ranges.now ws ++ c)) (copy_part ranges.now before).columns ranges.now ws) }
+    ensures exact { OnOk result
+        ((a c : List Bool) (ws : List ℕ) → length a ≡ before →
+        IsTrue (list_all (λ range. nat_lt range 256) ranges.now) →
+        IsTrue (in_ranges ws ranges.now) →
+        LiteralsSay (a ++ (copy_bits ranges.now ws ++ c))
+        (copy_part ranges.now before).columns ranges.now ws) }
 {
     let _ = cnf.vars();
     let mut used = before;

@@ -118,7 +118,12 @@ module _ (p : PlantLists) (s : State) (shape : HasShape p s) where
     where
       each : (x : ℕ) (o : Occupancy) → slice_get (map (occupancy_of p s) (range_with_len 0 (length p.sections))) x ≡ Some o → occupancy_read (image_of p s) (occupancies_begin p) x ≡ o
       each x o at =
-          let there : slice_get (occupancy_values p s) x ≡ Some (occupancy_value o) = slice_get-map (λ y. occupancy_value (occupancy_of p s y)) (range_with_len 0 (length p.sections)) x ∙ in_steps (slice_get (range_with_len 0 (length p.sections)) x) ∙ ap (option_map occupancy_value) (sym (slice_get-map (occupancy_of p s) (range_with_len 0 (length p.sections)) x) ∙ at) in
+          let there : slice_get (occupancy_values p s) x ≡ Some (occupancy_value o) =
+          slice_get-map (λ y. occupancy_value (occupancy_of p s y)) (range_with_len 0 (length p.sections))
+          x
+          ∙ in_steps (slice_get (range_with_len 0 (length p.sections)) x)
+          ∙ ap (option_map occupancy_value)
+          (sym (slice_get-map (occupancy_of p s) (range_with_len 0 (length p.sections)) x) ∙ at) in
           ap occupancy_numbered (value-is (occupancy_var p x) (occupancy_value o) (occupancy-at p s (occupancy_values p s) shape x ∙ there)) ∙ occupancy-numbered o
         where
           in_steps : (found : Option ℕ) → option_map (λ y. occupancy_value (occupancy_of p s y)) found ≡ option_map occupancy_value (option_map (occupancy_of p s) found)

@@ -32,7 +32,10 @@ use Rattle.ilk_layout.proofs.Writes.{image_with}
 use Rattle.ilk_decode.specs.Read.{decoded, next_in_body, occupancies_by, train_with_tail, trains_by_tails, without_trains}
 use Rattle.ilk_decode.proofs.Mapped.{boards-back, locks-back, occupancies-back, points-back, routes-back}
 
-module _ (p : PlantLists) (plant : IsPlant p) (never : NeverReturns p) (s : State) (occupancies : List Occupancy) (long : length occupancies ≡ length p.sections) (fits : (x : ℕ) → x < length p.sections → section_fits p (lie_of p s) (slice_get occupancies) x (slice_get occupancies x) ≡ true) where
+module _ (p : PlantLists) (plant : IsPlant p) (never : NeverReturns p) (s : State)
+    (occupancies : List Occupancy) (long : length occupancies ≡ length p.sections)
+    (fits : (x : ℕ) → x < length p.sections →
+    section_fits p (lie_of p s) (slice_get occupancies) x (slice_get occupancies x) ≡ true) where
   -- the section ahead of a train's section, where its head isn't there, is the next one of its body
   next-is : (x : ℕ) → next_in_body p s occupancies x ≡ onward p (lie_of p s) (slice_get occupancies) x
   next-is x = by_occupancy (slice_get occupancies x) refl

@@ -31,7 +31,11 @@ module _ (p : PlantLists) (s : State) (occupancies : List Occupancy) where
   tails-are [] = refl
   tails-are (x ∷ xs) = by_occupancy (slice_get occupancies x) refl (tails-are xs)
     where
-      by_occupancy : (o : Option Occupancy) → slice_get occupancies x ≡ o → tails_of (filter_map (train_with_tail p s occupancies) xs) ≡ filter (λ x. has_tail (slice_get occupancies x)) xs → tails_of (filter_map (train_with_tail p s occupancies) (x ∷ xs)) ≡ filter (λ x. has_tail (slice_get occupancies x)) (x ∷ xs)
+      by_occupancy : (o : Option Occupancy) → slice_get occupancies x ≡ o →
+          tails_of (filter_map (train_with_tail p s occupancies) xs)
+          ≡ filter (λ x. has_tail (slice_get occupancies x)) xs →
+          tails_of (filter_map (train_with_tail p s occupancies) (x ∷ xs))
+          ≡ filter (λ x. has_tail (slice_get occupancies x)) (x ∷ xs)
       by_occupancy None at rest = rw at rest
       by_occupancy (Some Vacant) at rest = rw at rest
       by_occupancy (Some Crash) at rest = rw at rest

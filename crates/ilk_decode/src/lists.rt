@@ -39,7 +39,8 @@ pub(crate) fn points_read(
     count: u32,
 ) -> Result<Row<PointState>, AllocError>
     requires { begin < 2 ^ 40 }
-    ensures { IfOk result (λ made. made ≡ map (point_read values.now begin) (range_with_len 0 count)) }
+    ensures { IfOk result
+        (λ made. made ≡ map (point_read values.now begin) (range_with_len 0 count)) }
 {
     let mut made = Row::new(alloc);
     for n in 0..count {
@@ -60,7 +61,8 @@ pub(crate) fn boards_read(
     count: u32,
 ) -> Result<Row<Aspect>, AllocError>
     requires { begin < 2 ^ 40 }
-    ensures { IfOk result (λ made. made ≡ map (board_read values.now begin) (range_with_len 0 count)) }
+    ensures { IfOk result
+        (λ made. made ≡ map (board_read values.now begin) (range_with_len 0 count)) }
 {
     let mut made = Row::new(alloc);
     for m in 0..count {
@@ -77,7 +79,8 @@ pub(crate) fn locks_read(
     count: u32,
 ) -> Result<Row<Hold>, AllocError>
     requires { begin < 2 ^ 40 }
-    ensures { IfOk result (λ made. made ≡ map (lock_read values.now begin) (range_with_len 0 count)) }
+    ensures { IfOk result
+        (λ made. made ≡ map (lock_read values.now begin) (range_with_len 0 count)) }
 {
     let mut made = Row::new(alloc);
     for x in 0..count {
@@ -94,7 +97,8 @@ pub(crate) fn occupancies_read(
     count: u32,
 ) -> Result<Row<Occupancy>, AllocError>
     requires { begin < 2 ^ 40 }
-    ensures { IfOk result (λ made. made ≡ map (occupancy_read values.now begin) (range_with_len 0 count)) }
+    ensures { IfOk result
+        (λ made. made ≡ map (occupancy_read values.now begin) (range_with_len 0 count)) }
 {
     let mut made = Row::new(alloc);
     for x in 0..count {

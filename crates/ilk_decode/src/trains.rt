@@ -33,7 +33,11 @@ fn body_from(
     occupancies: &[Occupancy],
     tail: u32,
 ) -> Result<Row<u32>, AllocError>
-    ensures { IfOk result (λ body. body ≡ tail ∷ chase (length plant.now.sections) (next_in_body plant.now s.now occupancies.now) tail) }
+    ensures { IfOk result
+        (λ body. body
+        ≡ tail
+        ∷ chase (length plant.now.sections)
+        (next_in_body plant.now s.now occupancies.now) tail) }
 {
     let mut body = Row::new(alloc);
     body.push(tail)?;
@@ -75,7 +79,9 @@ fn push_train(
     trains: &mut Row<Train>,
     x: u32,
 ) -> Result<(), AllocError>
-    ensures { OnOk result (trains.new ≡ trains.old ++ option_to_list (train_with_tail plant.now s.now occupancies.now x)) }
+    ensures { OnOk result
+        (trains.new
+        ≡ trains.old ++ option_to_list (train_with_tail plant.now s.now occupancies.now x)) }
 {
     match tail_direction(occupancies, x) {
         None => Ok(()),

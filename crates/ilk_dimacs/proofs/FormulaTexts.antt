@@ -14,11 +14,16 @@ of_four = record { vars = 2; clauses = (plus 1 ∷ plus 2 ∷ []) ∷ (plus 1 �
 
 -- its text, where the decimals of 1, 2 and 4 are these
 abbrev four_with : Bytes → Bytes → Bytes → Bytes
-four_with one two four = text_of (line_of (codes "p" ∷ codes "cnf" ∷ two ∷ four ∷ []) ∷ line_of (one ∷ two ∷ codes "0" ∷ []) ∷ line_of (one ∷ (45 ∷ two) ∷ codes "0" ∷ []) ∷ line_of ((45 ∷ one) ∷ two ∷ codes "0" ∷ []) ∷ line_of ((45 ∷ one) ∷ (45 ∷ two) ∷ codes "0" ∷ []) ∷ [])
+four_with one two four = text_of
+    (line_of (codes "p" ∷ codes "cnf" ∷ two ∷ four ∷ []) ∷ line_of (one ∷ two ∷ codes "0" ∷ [])
+    ∷ line_of (one ∷ (45 ∷ two) ∷ codes "0" ∷ []) ∷ line_of ((45 ∷ one) ∷ two ∷ codes "0" ∷ [])
+    ∷ line_of ((45 ∷ one) ∷ (45 ∷ two) ∷ codes "0" ∷ []) ∷ [])
 
 pub four_clauses : dimacs_text of_four ≡ codes "p cnf 2 4\n1 2 0\n1 -2 0\n-1 2 0\n-1 -2 0\n"
 four_clauses =
-    ap (λ (one : Bytes). four_with one (decimal 2) (decimal 4)) (decimal_digit 1 (omega arith)) ∙ ap (λ (two : Bytes). four_with (codes "1") two (decimal 4)) (decimal_digit 2 (omega arith)) ∙ ap (λ (four : Bytes). four_with (codes "1") (codes "2") four) (decimal_digit 4 (omega arith))
+    ap (λ (one : Bytes). four_with one (decimal 2) (decimal 4)) (decimal_digit 1 (omega arith))
+    ∙ ap (λ (two : Bytes). four_with (codes "1") two (decimal 4)) (decimal_digit 2 (omega arith))
+    ∙ ap (λ (four : Bytes). four_with (codes "1") (codes "2") four) (decimal_digit 4 (omega arith))
 
 pub empty_clause : dimacs_text (record { vars = 0; clauses = [] ∷ [] }) ≡ codes "p cnf 0 1\n0\n"
 empty_clause =

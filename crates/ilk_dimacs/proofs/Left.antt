@@ -45,10 +45,15 @@ text_is f header rest first clauses =
     ap (λ (t : Bytes). t ++ rest) first ∙ ap (λ (t : Bytes). fed (header_words f) ++ t) (clauses ∙ lines-fed f.clauses)
 
 -- where a literal is made, and where the end of a clause is
-pub literal-made : (cs : List (List Literal)) (i n : ℕ) (c : List Literal) (l : Literal) (made whole : Bytes) → slice_get cs (i + 1 - 1) ≡ Some c → slice_get c n ≡ Some l → made ≡ lit_word l ++ 32 ∷ [] → clauses_left n (drop i cs) ≡ whole → made ++ clauses_left (n + 1) (drop i cs) ≡ whole
+pub literal-made :
+    (cs : List (List Literal)) (i n : ℕ) (c : List Literal) (l : Literal) (made whole : Bytes) →
+    slice_get cs (i + 1 - 1) ≡ Some c → slice_get c n ≡ Some l → made ≡ lit_word l ++ 32 ∷ [] →
+    clauses_left n (drop i cs) ≡ whole → made ++ clauses_left (n + 1) (drop i cs) ≡ whole
 literal-made cs i n c l made whole clause literal is left =
     ap (λ (t : Bytes). t ++ clauses_left (n + 1) (drop i cs)) is ∙ left-literal cs i n c l clause literal ∙ left
 
-pub end-made : (cs : List (List Literal)) (i n : ℕ) (c : List Literal) (before made whole : Bytes) → slice_get cs (i + 1 - 1) ≡ Some c → length c ≤ n → before ≡ [] → made ≡ codes "0\n" ++ before → clauses_left n (drop i cs) ≡ whole → made ++ clauses_left 0 (drop (i + 1) cs) ≡ whole
+pub end-made : (cs : List (List Literal)) (i n : ℕ) (c : List Literal) (before made whole : Bytes) →
+    slice_get cs (i + 1 - 1) ≡ Some c → length c ≤ n → before ≡ [] → made ≡ codes "0\n" ++ before →
+    clauses_left n (drop i cs) ≡ whole → made ++ clauses_left 0 (drop (i + 1) cs) ≡ whole
 end-made cs i n c before made whole clause past none is left =
     ap (λ (t : Bytes). t ++ clauses_left 0 (drop (i + 1) cs)) (is ∙ ap (λ (t : Bytes). codes "0\n" ++ t) none) ∙ left-end cs i n c clause past ∙ left

@@ -41,7 +41,9 @@ text_is f i now past sofar =
     sofar ∙ ap (λ (cs : List (List Literal)). fed (header_words f) ++ lines_fed cs) (take_all i f.clauses past) ∙ ap (λ (t : Bytes). fed (header_words f) ++ t) (lines-fed f.clauses)
 
 -- a text that grew by the line of the next clause
-pub lines_grow : (start : Bytes) (cs : List (List Literal)) (i : ℕ) (c : List Literal) (now next : Bytes) → slice_get cs (i + 1 - 1) ≡ Some c → now ≡ start ++ lines_fed (take i cs) → next ≡ now ++ fed (clause_words c) → next ≡ start ++ lines_fed (take (i + 1) cs)
+pub lines_grow : (start : Bytes) (cs : List (List Literal)) (i : ℕ) (c : List Literal) (now next : Bytes) →
+    slice_get cs (i + 1 - 1) ≡ Some c → now ≡ start ++ lines_fed (take i cs) →
+    next ≡ now ++ fed (clause_words c) → next ≡ start ++ lines_fed (take (i + 1) cs)
 lines_grow start cs i c now next at sofar grown =
     let same : i ≡ i + 1 - 1 = omega arith in
     let stands : slice_get cs i ≡ Some c = ap (slice_get cs) same ∙ at in

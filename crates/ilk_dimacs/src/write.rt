@@ -17,7 +17,9 @@ fn push_lit_word(text: &mut String, l: Lit) -> Result<(), AllocError>
 
 // Writes the line of a clause at the end of a text.
 fn push_clause(text: &mut String, lits: &[Lit]) -> Result<(), AllocError>
-    ensures { OnOk result (string_bytes text.new ≡ string_bytes text.old ++ (line_of (clause_words lits.now) ++ 10 ∷ [])) }
+    ensures { OnOk result
+        (string_bytes text.new
+        ≡ string_bytes text.old ++ (line_of (clause_words lits.now) ++ 10 ∷ [])) }
 {
     for lit in lits {
         push_lit_word(text, *lit)?;
@@ -29,7 +31,9 @@ fn push_clause(text: &mut String, lits: &[Lit]) -> Result<(), AllocError>
 
 /// Writes the first line at the end of a text.
 pub(crate) fn push_header(text: &mut String, cnf: &Cnf) -> Result<(), AllocError>
-    ensures { OnOk result (string_bytes text.new ≡ string_bytes text.old ++ (line_of (header_words cnf.now) ++ 10 ∷ [])) }
+    ensures { OnOk result
+        (string_bytes text.new
+        ≡ string_bytes text.old ++ (line_of (header_words cnf.now) ++ 10 ∷ [])) }
 {
     write!(text, "p cnf {} {}\n", cnf.vars(), cnf.clauses())
 }

@@ -180,7 +180,9 @@ throw-stays p s t x same = throw-back p s t x (λ n number. ap (λ (l : List Poi
 settle-stays : (p : PlantLists) (s t : State) (x : ℕ) → t.points ≡ s.points → is_some (next p t (Settle x)) ≡ true → is_some (next p s (Settle x)) ≡ true
 settle-stays p s t x same = settle-back p s t x (λ n point number at moves. (point, sym (ap (λ (l : List PointState). slice_get l n) same) ∙ at, moves))
 
-head-stays : (p : PlantLists) (s t : State) (x : ℕ) → t.trains ≡ s.trains → lie_of p t x ≡ lie_of p s x → ((d : Dir) → may_pass t (board_of p x d) ≡ true → may_pass s (board_of p x d) ≡ true) → is_some (next p t (Head x)) ≡ true → is_some (next p s (Head x)) ≡ true
+head-stays : (p : PlantLists) (s t : State) (x : ℕ) → t.trains ≡ s.trains → lie_of p t x ≡ lie_of p s x →
+    ((d : Dir) → may_pass t (board_of p x d) ≡ true → may_pass s (board_of p x d) ≡ true) →
+    is_some (next p t (Head x)) ≡ true → is_some (next p s (Head x)) ≡ true
 head-stays p s t x same lies passes = head-back p s t x (ap (first_dir (has_head x)) same) (leads-back p s t x lies) passes
 
 tail-stays : (p : PlantLists) (s t : State) (x : ℕ) → t.trains ≡ s.trains → is_some (next p t (Tail x)) ≡ true → is_some (next p s (Tail x)) ≡ true
@@ -280,10 +282,27 @@ Keeps p s t event = (other : Event) → is_command other ≡ false → may_enabl
 
 mark-keeps : (p : PlantLists) → IsPlant p → (s t : State) → HasShape p s → (r : ℕ) → IsMarked p s t r → Keeps p s t (Mark r)
 mark-keeps p plant s t shape r it (Mark q) own out h = cc
-mark-keeps p plant s t shape r it (Allocate q) own out h = allocate-back p s t q (states-other p s t r it.route it.now (record it.now { mode = Marked }) it.changes q marked out) (λ route known k c at free. claims-back p s t r it.route it.now (record it.now { mode = Marked }) it.changes (inl (ap (λ (m : Mode). same_mode m Allocating || same_mode m Locked) it.was)) c free) (λ route known k x at. clear-back s t x (locks-kept s t it.locks x FreeLock) (vacant-stays s t it.trains x)) h
-mark-keeps p plant s t shape r it (Lock q) own out h = lock-back p s t q (states-back p s t r it.route it.now (record it.now { mode = Marked }) it.changes q allocating (refl)) (λ route known k listed at. lies-back p s t listed (lie-stays p s t it.points listed.point)) (λ route known k m at. aspect-stays s t it.boards m Closed) (λ route known. protecting-keeps p s t r it.route it.now (record it.now { mode = Marked }) it.changes (inl (ap (λ (m : Mode). same_mode m Locked) it.was)) route.source) h
-mark-keeps p plant s t shape r it (Sense q) own out h = sense-back p s t q (states-back p s t r it.route it.now (record it.now { mode = Marked }) it.changes q is_locked_or_occupied (refl)) (λ route now x known at next occupied locked. (occupied-stays s t it.trains x occupied, locks-kept s t it.locks x LockedLock locked)) h
-mark-keeps p plant s t shape r it (Release q) own out h = release-back p s t q (states-back p s t r it.route it.now (record it.now { mode = Marked }) it.changes q in_occupation (refl)) (λ route now x known at first vacant used. (vacant-stays s t it.trains x vacant, locks-kept s t it.locks x UsedLock used)) h
+mark-keeps p plant s t shape r it (Allocate q) own out h = allocate-back p s t q
+    (states-other p s t r it.route it.now (record it.now { mode = Marked }) it.changes q marked out)
+    (λ route known k c at free. claims-back p s t r it.route it.now (record it.now { mode = Marked })
+    it.changes (inl (ap (λ (m : Mode). same_mode m Allocating || same_mode m Locked) it.was)) c free)
+    (λ route known k x at. clear-back s t x (locks-kept s t it.locks x FreeLock)
+    (vacant-stays s t it.trains x)) h
+mark-keeps p plant s t shape r it (Lock q) own out h = lock-back p s t q
+    (states-back p s t r it.route it.now (record it.now { mode = Marked }) it.changes q allocating (refl))
+    (λ route known k listed at. lies-back p s t listed (lie-stays p s t it.points listed.point))
+    (λ route known k m at. aspect-stays s t it.boards m Closed)
+    (λ route known. protecting-keeps p s t r it.route it.now (record it.now { mode = Marked }) it.changes
+    (inl (ap (λ (m : Mode). same_mode m Locked) it.was)) route.source) h
+mark-keeps p plant s t shape r it (Sense q) own out h = sense-back p s t q
+    (states-back p s t r it.route it.now (record it.now { mode = Marked }) it.changes q is_locked_or_occupied
+    (refl))
+    (λ route now x known at next occupied locked.
+    (occupied-stays s t it.trains x occupied, locks-kept s t it.locks x LockedLock locked)) h
+mark-keeps p plant s t shape r it (Release q) own out h = release-back p s t q
+    (states-back p s t r it.route it.now (record it.now { mode = Marked }) it.changes q in_occupation (refl))
+    (λ route now x known at first vacant used.
+    (vacant-stays s t it.trains x vacant, locks-kept s t it.locks x UsedLock used)) h
 mark-keeps p plant s t shape r it (Finish q) own out h = finish-back p s t q (states-back p s t r it.route it.now (record it.now { mode = Marked }) it.changes q in_occupation (refl)) h
 mark-keeps p plant s t shape r it (Throw x) own out h = throw-stays p s t x it.points h
 mark-keeps p plant s t shape r it (Settle x) own out h = settle-stays p s t x it.points h
@@ -313,7 +332,12 @@ point-uncommanded : (o : Option PointState) (to : Option Position) → to ≡ No
 point-uncommanded None to e = refl
 point-uncommanded (Some point) to e = ap (λ (v : Option Position). Some (record point { to = unwrap_or v point.to })) e
 
-points-after : (p : PlantLists) (s t : State) (entries : List Listed) → t.points ≡ with_commands p s.points entries → (n : ℕ) → slice_get t.points n ≡ option_map (λ (point : PointState). record point { to = unwrap_or (listed_position p n entries) point.to }) (slice_get s.points n)
+points-after : (p : PlantLists) (s t : State) (entries : List Listed) →
+    t.points ≡ with_commands p s.points entries → (n : ℕ) →
+    slice_get t.points n
+    ≡ option_map
+    (λ (point : PointState). record point { to = unwrap_or (listed_position p n entries) point.to })
+    (slice_get s.points n)
 points-after p s t entries same n =
     ap (λ (l : List PointState). slice_get l n) same ∙ slice_get-map_numbered (λ k (point : PointState). record point { to = unwrap_or (listed_position p k entries) point.to }) s.points n
 
@@ -322,17 +346,47 @@ allocated-throw p s t r x it out n number =
     let same : wants_point p r x ≡ list_any (λ listed. listed.point == x) (wanted_points it.route) = rw it.changes.known refl in
     points-after p s t (wanted_points it.route) it.points n ∙ point-uncommanded (slice_get s.points n) (listed_position p n (wanted_points it.route)) (listed-none p x n number (wanted_points it.route) (sym same ∙ out))
 
-allocated-settle : (p : PlantLists) (s t : State) (r : ℕ) → (it : IsAllocated p s t r) → (n : ℕ) (point : PointState) → slice_get t.points n ≡ Some point → is_moving point.at ≡ true → (was : PointState) × (slice_get s.points n ≡ Some was) × (is_moving was.at ≡ true)
+allocated-settle : (p : PlantLists) (s t : State) (r : ℕ) → (it : IsAllocated p s t r) →
+    (n : ℕ) (point : PointState) → slice_get t.points n ≡ Some point → is_moving point.at ≡ true →
+    (was : PointState) × (slice_get s.points n ≡ Some was) × (is_moving was.at ≡ true)
 allocated-settle p s t r it n point at moves =
     let found = mapped-Some (λ (one : PointState). record one { to = unwrap_or (listed_position p n (wanted_points it.route)) one.to }) (slice_get s.points n) point (sym (points-after p s t (wanted_points it.route) it.points n) ∙ at) in
     (found.0, found.1, ap (λ (one : PointState). is_moving one.at) found.2 ∙ moves)
 
 allocate-keeps : (p : PlantLists) → IsPlant p → (s t : State) → HasShape p s → (r : ℕ) → IsAllocated p s t r → Keeps p s t (Allocate r)
 allocate-keeps p plant s t shape r it (Mark q) own out h = cc
-allocate-keeps p plant s t shape r it (Allocate q) own out h = allocate-back p s t q (states-back p s t r it.route it.now (record it.now { mode = Allocating }) it.changes q marked (refl)) (λ route known k c at free. claims-back p s t r it.route it.now (record it.now { mode = Allocating }) it.changes (inr refl) c free) (λ route known k x at. clear-back s t x (other-lock-back s t LockedLock (λ z. has_section z (sections_locked_for it.route)) (locks-with s t (sections_locked_for it.route) LockedLock it.locks) x FreeLock refl) (vacant-stays s t it.trains x)) h
-allocate-keeps p plant s t shape r it (Lock q) own out h = lock-back p s t q (states-other p s t r it.route it.now (record it.now { mode = Allocating }) it.changes q allocating out) (λ route known k listed at. lies-back p s t listed (lie-kept p s t (wanted_points it.route) it.points listed.point)) (λ route known k m at. aspect-stays s t it.boards m Closed) (λ route known. protecting-keeps p s t r it.route it.now (record it.now { mode = Allocating }) it.changes (inl (ap (λ (m : Mode). same_mode m Locked) it.was)) route.source) h
-allocate-keeps p plant s t shape r it (Sense q) own out h = sense-back p s t q (states-back p s t r it.route it.now (record it.now { mode = Allocating }) it.changes q is_locked_or_occupied (refl)) (λ route now x known at next occupied locked. (occupied-stays s t it.trains x occupied, lock-same s t LockedLock (λ z. has_section z (sections_locked_for it.route)) (locks-with s t (sections_locked_for it.route) LockedLock it.locks) x LockedLock (allocated-vacant p s t r it x (occupied-stays s t it.trains x occupied)) locked)) h
-allocate-keeps p plant s t shape r it (Release q) own out h = release-back p s t q (states-back p s t r it.route it.now (record it.now { mode = Allocating }) it.changes q in_occupation (refl)) (λ route now x known at first vacant used. (vacant-stays s t it.trains x vacant, other-lock-back s t LockedLock (λ z. has_section z (sections_locked_for it.route)) (locks-with s t (sections_locked_for it.route) LockedLock it.locks) x UsedLock refl used)) h
+allocate-keeps p plant s t shape r it (Allocate q) own out h = allocate-back p s t q
+    (states-back p s t r it.route it.now (record it.now { mode = Allocating }) it.changes q marked (refl))
+    (λ route known k c at free. claims-back p s t r it.route it.now (record it.now { mode = Allocating })
+    it.changes (inr refl) c free)
+    (λ route known k x at. clear-back s t x
+    (other-lock-back s t LockedLock (λ z. has_section z (sections_locked_for it.route))
+    (locks-with s t (sections_locked_for it.route) LockedLock it.locks) x FreeLock refl)
+    (vacant-stays s t it.trains x)) h
+allocate-keeps p plant s t shape r it (Lock q) own out h = lock-back p s t q
+    (states-other p s t r it.route it.now (record it.now { mode = Allocating }) it.changes q allocating out)
+    (λ route known k listed at. lies-back p s t listed
+    (lie-kept p s t (wanted_points it.route) it.points listed.point))
+    (λ route known k m at. aspect-stays s t it.boards m Closed)
+    (λ route known. protecting-keeps p s t r it.route it.now (record it.now { mode = Allocating }) it.changes
+    (inl (ap (λ (m : Mode). same_mode m Locked) it.was)) route.source) h
+allocate-keeps p plant s t shape r it (Sense q) own out h = sense-back p s t q
+    (states-back p s t r it.route it.now (record it.now { mode = Allocating }) it.changes q
+    is_locked_or_occupied (refl))
+    (λ route now x known at next occupied locked. (
+      occupied-stays s t it.trains x occupied,
+      lock-same s t LockedLock (λ z. has_section z (sections_locked_for it.route))
+          (locks-with s t (sections_locked_for it.route) LockedLock it.locks) x LockedLock
+          (allocated-vacant p s t r it x (occupied-stays s t it.trains x occupied)) locked,
+    )) h
+allocate-keeps p plant s t shape r it (Release q) own out h = release-back p s t q
+    (states-back p s t r it.route it.now (record it.now { mode = Allocating }) it.changes q in_occupation
+    (refl))
+    (λ route now x known at first vacant used. (
+      vacant-stays s t it.trains x vacant,
+      other-lock-back s t LockedLock (λ z. has_section z (sections_locked_for it.route))
+          (locks-with s t (sections_locked_for it.route) LockedLock it.locks) x UsedLock refl used,
+    )) h
 allocate-keeps p plant s t shape r it (Finish q) own out h = finish-back p s t q (states-back p s t r it.route it.now (record it.now { mode = Allocating }) it.changes q in_occupation (refl)) h
 allocate-keeps p plant s t shape r it (Throw x) own out h = throw-back p s t x (allocated-throw p s t r x it out) h
 allocate-keeps p plant s t shape r it (Settle x) own out h = settle-back p s t x (λ n point number. allocated-settle p s t r it n point) h
@@ -349,10 +403,27 @@ begins-not p r x route known out =
 
 lock-keeps : (p : PlantLists) → IsPlant p → (s t : State) → HasShape p s → (r : ℕ) → IsLocked p s t r → Keeps p s t (Lock r)
 lock-keeps p plant s t shape r it (Mark q) own out h = cc
-lock-keeps p plant s t shape r it (Allocate q) own out h = allocate-back p s t q (states-back p s t r it.route it.now (record it.now { mode = Locked }) it.changes q marked (refl)) (λ route known k c at free. claims-back p s t r it.route it.now (record it.now { mode = Locked }) it.changes (inr refl) c free) (λ route known k x at. clear-back s t x (locks-kept s t it.locks x FreeLock) (vacant-stays s t it.trains x)) h
-lock-keeps p plant s t shape r it (Lock q) own out h = lock-back p s t q (states-back p s t r it.route it.now (record it.now { mode = Locked }) it.changes q allocating (refl)) (λ route known k listed at. lies-back p s t listed (lie-stays p s t it.points listed.point)) (λ route known k m at. aspect-opened s t it.route.source it.boards m) (λ route known. protecting-keeps p s t r it.route it.now (record it.now { mode = Locked }) it.changes (inr refl) route.source) h
-lock-keeps p plant s t shape r it (Sense q) own out h = sense-back p s t q (states-other p s t r it.route it.now (record it.now { mode = Locked }) it.changes q is_locked_or_occupied out) (λ route now x known at next occupied locked. (occupied-stays s t it.trains x occupied, locks-kept s t it.locks x LockedLock locked)) h
-lock-keeps p plant s t shape r it (Release q) own out h = release-back p s t q (states-back p s t r it.route it.now (record it.now { mode = Locked }) it.changes q in_occupation (refl)) (λ route now x known at first vacant used. (vacant-stays s t it.trains x vacant, locks-kept s t it.locks x UsedLock used)) h
+lock-keeps p plant s t shape r it (Allocate q) own out h = allocate-back p s t q
+    (states-back p s t r it.route it.now (record it.now { mode = Locked }) it.changes q marked (refl))
+    (λ route known k c at free. claims-back p s t r it.route it.now (record it.now { mode = Locked })
+    it.changes (inr refl) c free)
+    (λ route known k x at. clear-back s t x (locks-kept s t it.locks x FreeLock)
+    (vacant-stays s t it.trains x)) h
+lock-keeps p plant s t shape r it (Lock q) own out h = lock-back p s t q
+    (states-back p s t r it.route it.now (record it.now { mode = Locked }) it.changes q allocating (refl))
+    (λ route known k listed at. lies-back p s t listed (lie-stays p s t it.points listed.point))
+    (λ route known k m at. aspect-opened s t it.route.source it.boards m)
+    (λ route known. protecting-keeps p s t r it.route it.now (record it.now { mode = Locked }) it.changes
+    (inr refl) route.source) h
+lock-keeps p plant s t shape r it (Sense q) own out h = sense-back p s t q
+    (states-other p s t r it.route it.now (record it.now { mode = Locked }) it.changes q
+    is_locked_or_occupied out)
+    (λ route now x known at next occupied locked.
+    (occupied-stays s t it.trains x occupied, locks-kept s t it.locks x LockedLock locked)) h
+lock-keeps p plant s t shape r it (Release q) own out h = release-back p s t q
+    (states-back p s t r it.route it.now (record it.now { mode = Locked }) it.changes q in_occupation (refl))
+    (λ route now x known at first vacant used.
+    (vacant-stays s t it.trains x vacant, locks-kept s t it.locks x UsedLock used)) h
 lock-keeps p plant s t shape r it (Finish q) own out h = finish-back p s t q (states-back p s t r it.route it.now (record it.now { mode = Locked }) it.changes q in_occupation (refl)) h
 lock-keeps p plant s t shape r it (Throw x) own out h = throw-stays p s t x it.points h
 lock-keeps p plant s t shape r it (Settle x) own out h = settle-stays p s t x it.points h
@@ -363,7 +434,10 @@ lock-keeps p plant s t shape r it (Leave x) own out h = leave-stays p s t x it.t
 lock-keeps p plant s t shape r it (Cancel q) own out h = cc
 
 -- where route r doesn't protect against a board, its state says nothing of that
-protecting-apart : (p : PlantLists) (s t : State) (r : ℕ) (route : Route) (now new : RouteState) → (changes : ChangesRoute p s t r route now new) → (m : ℕ) → list_any (λ k. k == m) route.protecting_boards ≡ false → is_protecting p t m ≡ false → is_protecting p s m ≡ false
+protecting-apart : (p : PlantLists) (s t : State) (r : ℕ) (route : Route) (now new : RouteState) →
+    (changes : ChangesRoute p s t r route now new) → (m : ℕ) →
+    list_any (λ k. k == m) route.protecting_boards ≡ false → is_protecting p t m ≡ false →
+    is_protecting p s m ≡ false
 protecting-apart p s t r route now new changes m out = protecting-back p s t m (λ k locked protects. elim (cases_Bool (k == r)) [
   | inl here ↦
       (let same : protects_by p r m ≡ list_any (λ j. j == m) route.protecting_boards = rw changes.known refl in
@@ -377,10 +451,45 @@ sensed-other p s t r it x vacant = false_from_ne_true (x == it.x) (λ e. true-fa
 
 sense-keeps : (p : PlantLists) → IsPlant p → (s t : State) → HasShape p s → (r : ℕ) → IsSensed p s t r → Keeps p s t (Sense r)
 sense-keeps p plant s t shape r it (Mark q) own out h = cc
-sense-keeps p plant s t shape r it (Allocate q) own out h = allocate-back p s t q (states-back p s t r it.route it.now (record it.now { mode = Occupied; seen = it.now.seen + 1 }) it.changes q marked (refl)) (λ route known k c at free. claims-other p s t r it.route it.now (record it.now { mode = Occupied; seen = it.now.seen + 1 }) it.changes c (list_any-none (λ z. z == r) route.conflicts k c (are-apart p r q it.route route it.changes.known known out).conflict at) free) (λ route known k x at. clear-back s t x (other-lock-back s t UsedLock (λ z. z == it.x) (locks-set s t it.x UsedLock it.locks) x FreeLock refl) (vacant-stays s t it.trains x)) h
-sense-keeps p plant s t shape r it (Lock q) own out h = lock-back p s t q (states-back p s t r it.route it.now (record it.now { mode = Occupied; seen = it.now.seen + 1 }) it.changes q allocating (refl)) (λ route known k listed at. lies-back p s t listed (lie-stays p s t it.points listed.point)) (λ route known k m at. aspect-alike s t m Closed (board-sensed s t it.route.source (it.now.seen == 0) it.boards m (apart m it.route.source (list_any-none (λ z. z == it.route.source) route.protecting_boards k m (are-apart p r q it.route route it.changes.known known out).guarded at)))) (λ route known. protecting-apart p s t r it.route it.now (record it.now { mode = Occupied; seen = it.now.seen + 1 }) it.changes route.source (are-apart p r q it.route route it.changes.known known out).guarding) h
-sense-keeps p plant s t shape r it (Sense q) own out h = sense-back p s t q (states-other p s t r it.route it.now (record it.now { mode = Occupied; seen = it.now.seen + 1 }) it.changes q is_locked_or_occupied out) (λ route now x known at next occupied locked. (occupied-stays s t it.trains x occupied, other-lock-back s t UsedLock (λ z. z == it.x) (locks-set s t it.x UsedLock it.locks) x LockedLock refl locked)) h
-sense-keeps p plant s t shape r it (Release q) own out h = release-back p s t q (states-other p s t r it.route it.now (record it.now { mode = Occupied; seen = it.now.seen + 1 }) it.changes q in_occupation out) (λ route now x known at first vacant used. (vacant-stays s t it.trains x vacant, lock-same s t UsedLock (λ z. z == it.x) (locks-set s t it.x UsedLock it.locks) x UsedLock (sensed-other p s t r it x (vacant-stays s t it.trains x vacant)) used)) h
+sense-keeps p plant s t shape r it (Allocate q) own out h = allocate-back p s t q
+    (states-back p s t r it.route it.now (record it.now { mode = Occupied; seen = it.now.seen + 1 })
+    it.changes q marked (refl))
+    (λ route known k c at free. claims-other p s t r it.route it.now
+    (record it.now { mode = Occupied; seen = it.now.seen + 1 }) it.changes c
+    (list_any-none (λ z. z == r) route.conflicts k c
+    (are-apart p r q it.route route it.changes.known known out).conflict at) free)
+    (λ route known k x at. clear-back s t x
+    (other-lock-back s t UsedLock (λ z. z == it.x) (locks-set s t it.x UsedLock it.locks) x FreeLock
+    refl)
+    (vacant-stays s t it.trains x)) h
+sense-keeps p plant s t shape r it (Lock q) own out h = lock-back p s t q
+    (states-back p s t r it.route it.now (record it.now { mode = Occupied; seen = it.now.seen + 1 })
+    it.changes q allocating (refl))
+    (λ route known k listed at. lies-back p s t listed (lie-stays p s t it.points listed.point))
+    (λ route known k m at. aspect-alike s t m Closed
+    (board-sensed s t it.route.source (it.now.seen == 0) it.boards m
+    (apart m it.route.source
+    (list_any-none (λ z. z == it.route.source) route.protecting_boards k m
+    (are-apart p r q it.route route it.changes.known known out).guarded at))))
+    (λ route known. protecting-apart p s t r it.route it.now
+    (record it.now { mode = Occupied; seen = it.now.seen + 1 }) it.changes route.source
+    (are-apart p r q it.route route it.changes.known known out).guarding) h
+sense-keeps p plant s t shape r it (Sense q) own out h = sense-back p s t q
+    (states-other p s t r it.route it.now (record it.now { mode = Occupied; seen = it.now.seen + 1 })
+    it.changes q is_locked_or_occupied out)
+    (λ route now x known at next occupied locked. (
+      occupied-stays s t it.trains x occupied,
+      other-lock-back s t UsedLock (λ z. z == it.x) (locks-set s t it.x UsedLock it.locks) x
+          LockedLock refl locked,
+    )) h
+sense-keeps p plant s t shape r it (Release q) own out h = release-back p s t q
+    (states-other p s t r it.route it.now (record it.now { mode = Occupied; seen = it.now.seen + 1 })
+    it.changes q in_occupation out)
+    (λ route now x known at first vacant used. (
+      vacant-stays s t it.trains x vacant,
+      lock-same s t UsedLock (λ z. z == it.x) (locks-set s t it.x UsedLock it.locks) x UsedLock
+          (sensed-other p s t r it x (vacant-stays s t it.trains x vacant)) used,
+    )) h
 sense-keeps p plant s t shape r it (Finish q) own out h = finish-back p s t q (states-other p s t r it.route it.now (record it.now { mode = Occupied; seen = it.now.seen + 1 }) it.changes q in_occupation out) h
 sense-keeps p plant s t shape r it (Throw x) own out h = throw-stays p s t x it.points h
 sense-keeps p plant s t shape r it (Settle x) own out h = settle-stays p s t x it.points h
@@ -392,10 +501,42 @@ sense-keeps p plant s t shape r it (Cancel q) own out h = cc
 
 release-keeps : (p : PlantLists) → IsPlant p → (s t : State) → HasShape p s → (r : ℕ) → IsReleased p s t r → Keeps p s t (Release r)
 release-keeps p plant s t shape r it (Mark q) own out h = cc
-release-keeps p plant s t shape r it (Allocate q) own out h = allocate-back p s t q (states-back p s t r it.route it.now (record it.now { rel = it.now.rel + 1 }) it.changes q marked (ap (λ (m : Mode). same_mode m Marked) it.was)) (λ route known k c at free. claims-back p s t r it.route it.now (record it.now { rel = it.now.rel + 1 }) it.changes (inl (ap (λ (m : Mode). same_mode m Allocating || same_mode m Locked) it.was)) c free) (λ route known k x at. clear-back s t x (lock-same s t FreeLock (λ z. z == it.x) (locks-set s t it.x FreeLock it.locks) x FreeLock (not-these (sections_locked_for it.route) x it.x (not-shared it.route route (are-apart p r q it.route route it.changes.known known out).sections x (section-from (sections_locked_for route) k x at)) (path-locked_for it.route it.now.rel it.x it.first))) (vacant-stays s t it.trains x)) h
-release-keeps p plant s t shape r it (Lock q) own out h = lock-back p s t q (states-back p s t r it.route it.now (record it.now { rel = it.now.rel + 1 }) it.changes q allocating (ap (λ (m : Mode). same_mode m Allocating) it.was)) (λ route known k listed at. lies-back p s t listed (lie-stays p s t it.points listed.point)) (λ route known k m at. aspect-stays s t it.boards m Closed) (λ route known. protecting-keeps p s t r it.route it.now (record it.now { rel = it.now.rel + 1 }) it.changes (inl (ap (λ (m : Mode). same_mode m Locked) it.was)) route.source) h
-release-keeps p plant s t shape r it (Sense q) own out h = sense-back p s t q (states-other p s t r it.route it.now (record it.now { rel = it.now.rel + 1 }) it.changes q is_locked_or_occupied out) (λ route now x known at next occupied locked. (occupied-stays s t it.trains x occupied, other-lock-back s t FreeLock (λ z. z == it.x) (locks-set s t it.x FreeLock it.locks) x LockedLock refl locked)) h
-release-keeps p plant s t shape r it (Release q) own out h = release-back p s t q (states-other p s t r it.route it.now (record it.now { rel = it.now.rel + 1 }) it.changes q in_occupation out) (λ route now x known at first vacant used. (vacant-stays s t it.trains x vacant, other-lock-back s t FreeLock (λ z. z == it.x) (locks-set s t it.x FreeLock it.locks) x UsedLock refl used)) h
+release-keeps p plant s t shape r it (Allocate q) own out h = allocate-back p s t q
+    (states-back p s t r it.route it.now (record it.now { rel = it.now.rel + 1 }) it.changes q marked
+    (ap (λ (m : Mode). same_mode m Marked) it.was))
+    (λ route known k c at free. claims-back p s t r it.route it.now (record it.now { rel = it.now.rel + 1 })
+    it.changes (inl (ap (λ (m : Mode). same_mode m Allocating || same_mode m Locked) it.was)) c free)
+    (λ route known k x at. clear-back s t x
+    (lock-same s t FreeLock (λ z. z == it.x) (locks-set s t it.x FreeLock it.locks) x FreeLock
+    (not-these (sections_locked_for it.route) x it.x
+    (not-shared it.route route
+    (are-apart p r q it.route route it.changes.known known out).sections x
+    (section-from (sections_locked_for route) k x at))
+    (path-locked_for it.route it.now.rel it.x it.first)))
+    (vacant-stays s t it.trains x)) h
+release-keeps p plant s t shape r it (Lock q) own out h = lock-back p s t q
+    (states-back p s t r it.route it.now (record it.now { rel = it.now.rel + 1 }) it.changes q allocating
+    (ap (λ (m : Mode). same_mode m Allocating) it.was))
+    (λ route known k listed at. lies-back p s t listed (lie-stays p s t it.points listed.point))
+    (λ route known k m at. aspect-stays s t it.boards m Closed)
+    (λ route known. protecting-keeps p s t r it.route it.now (record it.now { rel = it.now.rel + 1 })
+    it.changes (inl (ap (λ (m : Mode). same_mode m Locked) it.was)) route.source) h
+release-keeps p plant s t shape r it (Sense q) own out h = sense-back p s t q
+    (states-other p s t r it.route it.now (record it.now { rel = it.now.rel + 1 }) it.changes q
+    is_locked_or_occupied out)
+    (λ route now x known at next occupied locked. (
+      occupied-stays s t it.trains x occupied,
+      other-lock-back s t FreeLock (λ z. z == it.x) (locks-set s t it.x FreeLock it.locks) x
+          LockedLock refl locked,
+    )) h
+release-keeps p plant s t shape r it (Release q) own out h = release-back p s t q
+    (states-other p s t r it.route it.now (record it.now { rel = it.now.rel + 1 }) it.changes q in_occupation
+    out)
+    (λ route now x known at first vacant used. (
+      vacant-stays s t it.trains x vacant,
+      other-lock-back s t FreeLock (λ z. z == it.x) (locks-set s t it.x FreeLock it.locks) x UsedLock
+          refl used,
+    )) h
 release-keeps p plant s t shape r it (Finish q) own out h = finish-back p s t q (states-other p s t r it.route it.now (record it.now { rel = it.now.rel + 1 }) it.changes q in_occupation out) h
 release-keeps p plant s t shape r it (Throw x) own out h = throw-stays p s t x it.points h
 release-keeps p plant s t shape r it (Settle x) own out h = settle-stays p s t x it.points h
@@ -412,10 +553,45 @@ finished-other route k x z at out =
 
 finish-keeps : (p : PlantLists) → IsPlant p → (s t : State) → HasShape p s → (r : ℕ) → IsFinished p s t r → Keeps p s t (Finish r)
 finish-keeps p plant s t shape r it (Mark q) own out h = cc
-finish-keeps p plant s t shape r it (Allocate q) own out h = allocate-back p s t q (states-back p s t r it.route it.now (record { mode = Free; seen = 0; rel = 0 }) it.changes q marked (refl)) (λ route known k c at free. claims-back p s t r it.route it.now (record { mode = Free; seen = 0; rel = 0 }) it.changes (inl (ap (λ (m : Mode). same_mode m Allocating || same_mode m Locked) it.was)) c free) (λ route known k x at. clear-back s t x (lock-same s t FreeLock (λ z. z == it.x || has_section z (sections_beside it.route)) (locks-set_with s t it.x (sections_beside it.route) FreeLock it.locks) x FreeLock (finished-other it.route it.now.rel it.x x it.last (not-shared it.route route (are-apart p r q it.route route it.changes.known known out).sections x (section-from (sections_locked_for route) k x at)))) (vacant-stays s t it.trains x)) h
-finish-keeps p plant s t shape r it (Lock q) own out h = lock-back p s t q (states-back p s t r it.route it.now (record { mode = Free; seen = 0; rel = 0 }) it.changes q allocating (refl)) (λ route known k listed at. lies-back p s t listed (lie-stays p s t it.points listed.point)) (λ route known k m at. aspect-stays s t it.boards m Closed) (λ route known. protecting-keeps p s t r it.route it.now (record { mode = Free; seen = 0; rel = 0 }) it.changes (inl (ap (λ (m : Mode). same_mode m Locked) it.was)) route.source) h
-finish-keeps p plant s t shape r it (Sense q) own out h = sense-back p s t q (states-back p s t r it.route it.now (record { mode = Free; seen = 0; rel = 0 }) it.changes q is_locked_or_occupied (refl)) (λ route now x known at next occupied locked. (occupied-stays s t it.trains x occupied, other-lock-back s t FreeLock (λ z. z == it.x || has_section z (sections_beside it.route)) (locks-set_with s t it.x (sections_beside it.route) FreeLock it.locks) x LockedLock refl locked)) h
-finish-keeps p plant s t shape r it (Release q) own out h = release-back p s t q (states-back p s t r it.route it.now (record { mode = Free; seen = 0; rel = 0 }) it.changes q in_occupation (refl)) (λ route now x known at first vacant used. (vacant-stays s t it.trains x vacant, other-lock-back s t FreeLock (λ z. z == it.x || has_section z (sections_beside it.route)) (locks-set_with s t it.x (sections_beside it.route) FreeLock it.locks) x UsedLock refl used)) h
+finish-keeps p plant s t shape r it (Allocate q) own out h = allocate-back p s t q
+    (states-back p s t r it.route it.now (record { mode = Free; seen = 0; rel = 0 }) it.changes q marked
+    (refl))
+    (λ route known k c at free. claims-back p s t r it.route it.now
+    (record { mode = Free; seen = 0; rel = 0 }) it.changes
+    (inl (ap (λ (m : Mode). same_mode m Allocating || same_mode m Locked) it.was)) c free)
+    (λ route known k x at. clear-back s t x
+    (lock-same s t FreeLock (λ z. z == it.x || has_section z (sections_beside it.route))
+    (locks-set_with s t it.x (sections_beside it.route) FreeLock it.locks) x FreeLock
+    (finished-other it.route it.now.rel it.x x it.last
+    (not-shared it.route route
+    (are-apart p r q it.route route it.changes.known known out).sections x
+    (section-from (sections_locked_for route) k x at))))
+    (vacant-stays s t it.trains x)) h
+finish-keeps p plant s t shape r it (Lock q) own out h = lock-back p s t q
+    (states-back p s t r it.route it.now (record { mode = Free; seen = 0; rel = 0 }) it.changes q allocating
+    (refl))
+    (λ route known k listed at. lies-back p s t listed (lie-stays p s t it.points listed.point))
+    (λ route known k m at. aspect-stays s t it.boards m Closed)
+    (λ route known. protecting-keeps p s t r it.route it.now (record { mode = Free; seen = 0; rel = 0 })
+    it.changes (inl (ap (λ (m : Mode). same_mode m Locked) it.was)) route.source) h
+finish-keeps p plant s t shape r it (Sense q) own out h = sense-back p s t q
+    (states-back p s t r it.route it.now (record { mode = Free; seen = 0; rel = 0 }) it.changes q
+    is_locked_or_occupied (refl))
+    (λ route now x known at next occupied locked. (
+      occupied-stays s t it.trains x occupied,
+      other-lock-back s t FreeLock (λ z. z == it.x || has_section z (sections_beside it.route))
+          (locks-set_with s t it.x (sections_beside it.route) FreeLock it.locks) x LockedLock refl
+          locked,
+    )) h
+finish-keeps p plant s t shape r it (Release q) own out h = release-back p s t q
+    (states-back p s t r it.route it.now (record { mode = Free; seen = 0; rel = 0 }) it.changes q
+    in_occupation (refl))
+    (λ route now x known at first vacant used. (
+      vacant-stays s t it.trains x vacant,
+      other-lock-back s t FreeLock (λ z. z == it.x || has_section z (sections_beside it.route))
+          (locks-set_with s t it.x (sections_beside it.route) FreeLock it.locks) x UsedLock refl used,
+    ))
+    h
 finish-keeps p plant s t shape r it (Finish q) own out h = finish-back p s t q (states-back p s t r it.route it.now (record { mode = Free; seen = 0; rel = 0 }) it.changes q in_occupation (refl)) h
 finish-keeps p plant s t shape r it (Throw x) own out h = throw-stays p s t x it.points h
 finish-keeps p plant s t shape r it (Settle x) own out h = settle-stays p s t x it.points h
@@ -447,10 +623,41 @@ cancelled-locks p s t r it = given-back s t (sections_locked_for it.route) (same
 
 cancel-keeps : (p : PlantLists) → IsPlant p → (s t : State) → HasShape p s → (r : ℕ) → IsCancelled p s t r → Keeps p s t (Cancel r)
 cancel-keeps p plant s t shape r it (Mark q) own out h = cc
-cancel-keeps p plant s t shape r it (Allocate q) own out h = allocate-back p s t q (states-back p s t r it.route it.now (record it.now { mode = Free }) it.changes q marked (refl)) (λ route known k c at free. claims-other p s t r it.route it.now (record it.now { mode = Free }) it.changes c (list_any-none (λ z. z == r) route.conflicts k c (are-apart p r q it.route route it.changes.known known out).conflict at) free) (λ route known k x at. clear-back s t x (lock-same s t FreeLock (cancelled-locks p s t r it).changed (cancelled-locks p s t r it).gives x FreeLock ((cancelled-locks p s t r it).only x (not-shared it.route route (are-apart p r q it.route route it.changes.known known out).sections x (section-from (sections_locked_for route) k x at)))) (vacant-stays s t it.trains x)) h
-cancel-keeps p plant s t shape r it (Lock q) own out h = lock-back p s t q (states-back p s t r it.route it.now (record it.now { mode = Free }) it.changes q allocating (refl)) (λ route known k listed at. lies-back p s t listed (lie-stays p s t it.points listed.point)) (λ route known k m at. aspect-stays s t it.boards m Closed) (λ route known. protecting-keeps p s t r it.route it.now (record it.now { mode = Free }) it.changes (inl (cancelled-unlocked it.now.mode it.was)) route.source) h
-cancel-keeps p plant s t shape r it (Sense q) own out h = sense-back p s t q (states-back p s t r it.route it.now (record it.now { mode = Free }) it.changes q is_locked_or_occupied (refl)) (λ route now x known at next occupied locked. (occupied-stays s t it.trains x occupied, other-lock-back s t FreeLock (cancelled-locks p s t r it).changed (cancelled-locks p s t r it).gives x LockedLock refl locked)) h
-cancel-keeps p plant s t shape r it (Release q) own out h = release-back p s t q (states-back p s t r it.route it.now (record it.now { mode = Free }) it.changes q in_occupation (refl)) (λ route now x known at first vacant used. (vacant-stays s t it.trains x vacant, other-lock-back s t FreeLock (cancelled-locks p s t r it).changed (cancelled-locks p s t r it).gives x UsedLock refl used)) h
+cancel-keeps p plant s t shape r it (Allocate q) own out h = allocate-back p s t q
+    (states-back p s t r it.route it.now (record it.now { mode = Free }) it.changes q marked (refl))
+    (λ route known k c at free. claims-other p s t r it.route it.now (record it.now { mode = Free })
+    it.changes c
+    (list_any-none (λ z. z == r) route.conflicts k c
+    (are-apart p r q it.route route it.changes.known known out).conflict at) free)
+    (λ route known k x at. clear-back s t x
+    (lock-same s t FreeLock (cancelled-locks p s t r it).changed (cancelled-locks p s t r it).gives x
+    FreeLock
+    ((cancelled-locks p s t r it).only x
+    (not-shared it.route route
+    (are-apart p r q it.route route it.changes.known known out).sections x
+    (section-from (sections_locked_for route) k x at))))
+    (vacant-stays s t it.trains x)) h
+cancel-keeps p plant s t shape r it (Lock q) own out h = lock-back p s t q
+    (states-back p s t r it.route it.now (record it.now { mode = Free }) it.changes q allocating (refl))
+    (λ route known k listed at. lies-back p s t listed (lie-stays p s t it.points listed.point))
+    (λ route known k m at. aspect-stays s t it.boards m Closed)
+    (λ route known. protecting-keeps p s t r it.route it.now (record it.now { mode = Free }) it.changes
+    (inl (cancelled-unlocked it.now.mode it.was)) route.source) h
+cancel-keeps p plant s t shape r it (Sense q) own out h = sense-back p s t q
+    (states-back p s t r it.route it.now (record it.now { mode = Free }) it.changes q is_locked_or_occupied
+    (refl))
+    (λ route now x known at next occupied locked. (
+      occupied-stays s t it.trains x occupied,
+      other-lock-back s t FreeLock (cancelled-locks p s t r it).changed
+          (cancelled-locks p s t r it).gives x LockedLock refl locked,
+    )) h
+cancel-keeps p plant s t shape r it (Release q) own out h = release-back p s t q
+    (states-back p s t r it.route it.now (record it.now { mode = Free }) it.changes q in_occupation (refl))
+    (λ route now x known at first vacant used. (
+      vacant-stays s t it.trains x vacant,
+      other-lock-back s t FreeLock (cancelled-locks p s t r it).changed
+          (cancelled-locks p s t r it).gives x UsedLock refl used,
+    )) h
 cancel-keeps p plant s t shape r it (Finish q) own out h = finish-back p s t q (states-back p s t r it.route it.now (record it.now { mode = Free }) it.changes q in_occupation (refl)) h
 cancel-keeps p plant s t shape r it (Throw x) own out h = throw-stays p s t x it.points h
 cancel-keeps p plant s t shape r it (Settle x) own out h = settle-stays p s t x it.points h
@@ -481,39 +688,83 @@ thrown-lies p s t x it listed h = elim (cases_eq listed.point x) [
 
 throw-keeps : (p : PlantLists) → IsPlant p → (s t : State) → HasShape p s → (x : ℕ) → IsThrown p s t x → Keeps p s t (Throw x)
 throw-keeps p plant s t shape x it (Mark q) own out h = cc
-throw-keeps p plant s t shape x it (Allocate q) own out h = allocate-back p s t q (states-stay s t it.routes q marked) (λ route known k c at free. conflicts-stay s t it.routes c free) (λ route known k w at. clear-back s t w (locks-kept s t it.locks w FreeLock) (vacant-stays s t it.trains w)) h
-throw-keeps p plant s t shape x it (Lock q) own out h = lock-back p s t q (states-stay s t it.routes q allocating) (λ route known k listed at. thrown-lies p s t x it listed) (λ route known k m at. aspect-stays s t it.boards m Closed) (λ route known. protecting-stays p s t it.routes route.source) h
-throw-keeps p plant s t shape x it (Sense q) own out h = sense-back p s t q (states-stay s t it.routes q is_locked_or_occupied) (λ route now w known at next occupied locked. (occupied-stays s t it.trains w occupied, locks-kept s t it.locks w LockedLock locked)) h
+throw-keeps p plant s t shape x it (Allocate q) own out h = allocate-back p s t q
+    (states-stay s t it.routes q marked) (λ route known k c at free. conflicts-stay s t it.routes c free)
+    (λ route known k w at. clear-back s t w (locks-kept s t it.locks w FreeLock)
+    (vacant-stays s t it.trains w)) h
+throw-keeps p plant s t shape x it (Lock q) own out h = lock-back p s t q
+    (states-stay s t it.routes q allocating) (λ route known k listed at. thrown-lies p s t x it listed)
+    (λ route known k m at. aspect-stays s t it.boards m Closed)
+    (λ route known. protecting-stays p s t it.routes route.source) h
+throw-keeps p plant s t shape x it (Sense q) own out h = sense-back p s t q
+    (states-stay s t it.routes q is_locked_or_occupied)
+    (λ route now w known at next occupied locked.
+    (occupied-stays s t it.trains w occupied, locks-kept s t it.locks w LockedLock locked)) h
 throw-keeps p plant s t shape x it (Release q) own out h = release-back p s t q (states-stay s t it.routes q in_occupation) (λ route now w known at first vacant used. (vacant-stays s t it.trains w vacant, locks-kept s t it.locks w UsedLock used)) h
 throw-keeps p plant s t shape x it (Finish q) own out h = finish-back p s t q (states-stay s t it.routes q in_occupation) h
 throw-keeps p plant s t shape x it (Throw z) own out h = throw-back p s t z (point-other p s t x it.n (record it.point { at = Moving }) it.number it.points z out) h
 throw-keeps p plant s t shape x it (Settle z) own out h = settle-back p s t z (λ n point number at moves. (point, sym (point-other p s t x it.n (record it.point { at = Moving }) it.number it.points z out n number) ∙ at, moves)) h
 throw-keeps p plant s t shape x it (Enter z) own out h = cc
-throw-keeps p plant s t shape x it (Head z) own out h = head-stays p s t z it.trains (lie-other p s t x it.n it.point (record it.point { at = Moving }) it.number it.state it.points z (apart z x out)) (λ d. passes-same s t it.boards (board_of p z d)) h
+throw-keeps p plant s t shape x it (Head z) own out h = head-stays p s t z it.trains
+    (lie-other p s t x it.n it.point (record it.point { at = Moving }) it.number it.state it.points z
+    (apart z x out))
+    (λ d. passes-same s t it.boards (board_of p z d)) h
 throw-keeps p plant s t shape x it (Tail z) own out h = tail-stays p s t z it.trains h
 throw-keeps p plant s t shape x it (Leave z) own out h = leave-stays p s t z it.trains h
 throw-keeps p plant s t shape x it (Cancel q) own out h = cc
 
 settle-keeps : (p : PlantLists) → IsPlant p → (s t : State) → HasShape p s → (x : ℕ) → IsSettled p s t x → Keeps p s t (Settle x)
 settle-keeps p plant s t shape x it (Mark q) own out h = cc
-settle-keeps p plant s t shape x it (Allocate q) own out h = allocate-back p s t q (states-stay s t it.routes q marked) (λ route known k c at free. conflicts-stay s t it.routes c free) (λ route known k w at. clear-back s t w (locks-kept s t it.locks w FreeLock) (vacant-stays s t it.trains w)) h
-settle-keeps p plant s t shape x it (Lock q) own out h = lock-back p s t q (states-stay s t it.routes q allocating) (λ route known k listed at. lies-back p s t listed (lie-other p s t x it.n it.point (record it.point { at = lie_in it.point.to }) it.number it.state it.points listed.point (apart listed.point x (list_any-none (λ one. one.point == x) (wanted_points route) k listed (asks-not p x q route known out).point at)))) (λ route known k m at. aspect-stays s t it.boards m Closed) (λ route known. protecting-stays p s t it.routes route.source) h
-settle-keeps p plant s t shape x it (Sense q) own out h = sense-back p s t q (states-stay s t it.routes q is_locked_or_occupied) (λ route now w known at next occupied locked. (occupied-stays s t it.trains w occupied, locks-kept s t it.locks w LockedLock locked)) h
+settle-keeps p plant s t shape x it (Allocate q) own out h = allocate-back p s t q
+    (states-stay s t it.routes q marked) (λ route known k c at free. conflicts-stay s t it.routes c free)
+    (λ route known k w at. clear-back s t w (locks-kept s t it.locks w FreeLock)
+    (vacant-stays s t it.trains w)) h
+settle-keeps p plant s t shape x it (Lock q) own out h = lock-back p s t q
+    (states-stay s t it.routes q allocating)
+    (λ route known k listed at. lies-back p s t listed
+    (lie-other p s t x it.n it.point (record it.point { at = lie_in it.point.to }) it.number it.state
+    it.points listed.point
+    (apart listed.point x
+    (list_any-none (λ one. one.point == x) (wanted_points route) k listed
+    (asks-not p x q route known out).point at))))
+    (λ route known k m at. aspect-stays s t it.boards m Closed)
+    (λ route known. protecting-stays p s t it.routes route.source) h
+settle-keeps p plant s t shape x it (Sense q) own out h = sense-back p s t q
+    (states-stay s t it.routes q is_locked_or_occupied)
+    (λ route now w known at next occupied locked.
+    (occupied-stays s t it.trains w occupied, locks-kept s t it.locks w LockedLock locked)) h
 settle-keeps p plant s t shape x it (Release q) own out h = release-back p s t q (states-stay s t it.routes q in_occupation) (λ route now w known at first vacant used. (vacant-stays s t it.trains w vacant, locks-kept s t it.locks w UsedLock used)) h
 settle-keeps p plant s t shape x it (Finish q) own out h = finish-back p s t q (states-stay s t it.routes q in_occupation) h
 settle-keeps p plant s t shape x it (Throw z) own out h = throw-back p s t z (point-other p s t x it.n (record it.point { at = lie_in it.point.to }) it.number it.points z out) h
 settle-keeps p plant s t shape x it (Settle z) own out h = settle-back p s t z (λ n point number at moves. (point, sym (point-other p s t x it.n (record it.point { at = lie_in it.point.to }) it.number it.points z out n number) ∙ at, moves)) h
 settle-keeps p plant s t shape x it (Enter z) own out h = cc
-settle-keeps p plant s t shape x it (Head z) own out h = head-stays p s t z it.trains (lie-other p s t x it.n it.point (record it.point { at = lie_in it.point.to }) it.number it.state it.points z (apart z x out)) (λ d. passes-same s t it.boards (board_of p z d)) h
+settle-keeps p plant s t shape x it (Head z) own out h = head-stays p s t z it.trains
+    (lie-other p s t x it.n it.point (record it.point { at = lie_in it.point.to }) it.number it.state
+    it.points z (apart z x out))
+    (λ d. passes-same s t it.boards (board_of p z d)) h
 settle-keeps p plant s t shape x it (Tail z) own out h = tail-stays p s t z it.trains h
 settle-keeps p plant s t shape x it (Leave z) own out h = leave-stays p s t z it.trains h
 settle-keeps p plant s t shape x it (Cancel q) own out h = cc
 
 enter-keeps : (p : PlantLists) → IsPlant p → (s t : State) → HasShape p s → (x : ℕ) → IsEntered p s t x → Keeps p s t (Enter x)
 enter-keeps p plant s t shape x it (Mark q) own out h = cc
-enter-keeps p plant s t shape x it (Allocate q) own out h = allocate-back p s t q (states-stay s t it.routes q marked) (λ route known k c at free. conflicts-stay s t it.routes c free) (λ route known k w at. clear-back s t w (locks-kept s t it.locks w FreeLock) (enter-leaves p s t x it w)) h
-enter-keeps p plant s t shape x it (Lock q) own out h = lock-back p s t q (states-stay s t it.routes q allocating) (λ route known k listed at. lies-back p s t listed (lie-stays p s t it.points listed.point)) (λ route known k m at. aspect-stays s t it.boards m Closed) (λ route known. protecting-stays p s t it.routes route.source) h
-enter-keeps p plant s t shape x it (Sense q) own out h = sense-back p s t q (states-stay s t it.routes q is_locked_or_occupied) (λ route now w known at next occupied locked. (enter-was p s t x it w (not-that (sections_locked_for route) w x (path-locked_for route now.seen w next) (asks-not p x q route known out).section) occupied, locks-kept s t it.locks w LockedLock locked)) h
+enter-keeps p plant s t shape x it (Allocate q) own out h = allocate-back p s t q
+    (states-stay s t it.routes q marked) (λ route known k c at free. conflicts-stay s t it.routes c free)
+    (λ route known k w at. clear-back s t w (locks-kept s t it.locks w FreeLock) (enter-leaves p s t x it w))
+    h
+enter-keeps p plant s t shape x it (Lock q) own out h = lock-back p s t q
+    (states-stay s t it.routes q allocating)
+    (λ route known k listed at. lies-back p s t listed (lie-stays p s t it.points listed.point))
+    (λ route known k m at. aspect-stays s t it.boards m Closed)
+    (λ route known. protecting-stays p s t it.routes route.source) h
+enter-keeps p plant s t shape x it (Sense q) own out h = sense-back p s t q
+    (states-stay s t it.routes q is_locked_or_occupied)
+    (λ route now w known at next occupied locked. (
+      enter-was p s t x it w
+          (not-that (sections_locked_for route) w x (path-locked_for route now.seen w next)
+          (asks-not p x q route known out).section) occupied,
+      locks-kept s t it.locks w LockedLock locked,
+    )) h
 enter-keeps p plant s t shape x it (Release q) own out h = release-back p s t q (states-stay s t it.routes q in_occupation) (λ route now w known at first vacant used. (enter-leaves p s t x it w vacant, locks-kept s t it.locks w UsedLock used)) h
 enter-keeps p plant s t shape x it (Finish q) own out h = finish-back p s t q (states-stay s t it.routes q in_occupation) h
 enter-keeps p plant s t shape x it (Throw z) own out h = throw-stays p s t z it.points h
@@ -539,25 +790,65 @@ headed-board p plant s t x it m off =
 
 head-keeps : (p : PlantLists) → IsPlant p → (s t : State) → HasShape p s → (x : ℕ) → IsHeaded p s t x → Keeps p s t (Head x)
 head-keeps p plant s t shape x it (Mark q) own out h = cc
-head-keeps p plant s t shape x it (Allocate q) own out h = allocate-back p s t q (states-stay s t it.routes q marked) (λ route known k c at free. conflicts-stay s t it.routes c free) (λ route known k w at. clear-back s t w (locks-kept s t it.locks w FreeLock) (head-leaves p s t x it w)) h
-head-keeps p plant s t shape x it (Lock q) own out h = lock-back p s t q (states-stay s t it.routes q allocating) (λ route known k listed at. lies-back p s t listed (lie-stays p s t it.points listed.point)) (λ route known k m at. aspect-alike s t m Closed (headed-board p plant s t x it m (list_any-none (stands_at p x) route.protecting_boards k m (asks-not p x q route known out).board at))) (λ route known. protecting-stays p s t it.routes route.source) h
-head-keeps p plant s t shape x it (Sense q) own out h = sense-back p s t q (states-stay s t it.routes q is_locked_or_occupied) (λ route now w known at next occupied locked. (head-was p s t x it w (not-that (sections_locked_for route) w it.y (path-locked_for route now.seen w next) (asks-not p it.y q route known (headed-unasked p s t x q it out)).section) occupied, locks-kept s t it.locks w LockedLock locked)) h
+head-keeps p plant s t shape x it (Allocate q) own out h = allocate-back p s t q
+    (states-stay s t it.routes q marked) (λ route known k c at free. conflicts-stay s t it.routes c free)
+    (λ route known k w at. clear-back s t w (locks-kept s t it.locks w FreeLock) (head-leaves p s t x it w)) h
+head-keeps p plant s t shape x it (Lock q) own out h = lock-back p s t q
+    (states-stay s t it.routes q allocating)
+    (λ route known k listed at. lies-back p s t listed (lie-stays p s t it.points listed.point))
+    (λ route known k m at. aspect-alike s t m Closed
+    (headed-board p plant s t x it m
+    (list_any-none (stands_at p x) route.protecting_boards k m
+    (asks-not p x q route known out).board at)))
+    (λ route known. protecting-stays p s t it.routes route.source) h
+head-keeps p plant s t shape x it (Sense q) own out h = sense-back p s t q
+    (states-stay s t it.routes q is_locked_or_occupied)
+    (λ route now w known at next occupied locked. (
+      head-was p s t x it w
+          (not-that (sections_locked_for route) w it.y (path-locked_for route now.seen w next)
+          (asks-not p it.y q route known (headed-unasked p s t x q it out)).section) occupied,
+      locks-kept s t it.locks w LockedLock locked,
+    )) h
 head-keeps p plant s t shape x it (Release q) own out h = release-back p s t q (states-stay s t it.routes q in_occupation) (λ route now w known at first vacant used. (head-leaves p s t x it w vacant, locks-kept s t it.locks w UsedLock used)) h
 head-keeps p plant s t shape x it (Finish q) own out h = finish-back p s t q (states-stay s t it.routes q in_occupation) h
 head-keeps p plant s t shape x it (Throw z) own out h = throw-stays p s t z it.points h
 head-keeps p plant s t shape x it (Settle z) own out h = settle-stays p s t z it.points h
 head-keeps p plant s t shape x it (Enter z) own out h = cc
-head-keeps p plant s t shape x it (Head z) own out h = head-back p s t z (head-heads p s t x it z (neither (z == x) (has_section z (around p x)) out).0 (not-these (around p x) z it.y (neither (z == x) (has_section z (around p x)) out).1 (headed-around p s t x it))) (leads-back p s t z (lie-stays p s t it.points z)) (λ d. passes-headed s t (board_of p x it.train.dir) it.boards (board_of p z d)) h
+head-keeps p plant s t shape x it (Head z) own out h = head-back p s t z
+    (head-heads p s t x it z (neither (z == x) (has_section z (around p x)) out).0
+    (not-these (around p x) z it.y (neither (z == x) (has_section z (around p x)) out).1
+    (headed-around p s t x it)))
+    (leads-back p s t z (lie-stays p s t it.points z))
+    (λ d. passes-headed s t (board_of p x it.train.dir) it.boards (board_of p z d)) h
 head-keeps p plant s t shape x it (Tail z) own out h = tail-back p s t z (head-tails p s t x it z out) h
 head-keeps p plant s t shape x it (Leave z) own out h = leave-back p s t z (head-alone p s t x it z out) h
 head-keeps p plant s t shape x it (Cancel q) own out h = cc
 
 tail-keeps : (p : PlantLists) → IsPlant p → (s t : State) → HasShape p s → (x : ℕ) → IsTailed p s t x → Keeps p s t (Tail x)
 tail-keeps p plant s t shape x it (Mark q) own out h = cc
-tail-keeps p plant s t shape x it (Allocate q) own out h = allocate-back p s t q (states-stay s t it.routes q marked) (λ route known k c at free. conflicts-stay s t it.routes c free) (λ route known k w at. clear-back s t w (locks-kept s t it.locks w FreeLock) (tail-leaves p s t x it w (not-that (sections_locked_for route) w x (section-from (sections_locked_for route) k w at) (asks-not p x q route known out).section))) h
-tail-keeps p plant s t shape x it (Lock q) own out h = lock-back p s t q (states-stay s t it.routes q allocating) (λ route known k listed at. lies-back p s t listed (lie-stays p s t it.points listed.point)) (λ route known k m at. aspect-stays s t it.boards m Closed) (λ route known. protecting-stays p s t it.routes route.source) h
-tail-keeps p plant s t shape x it (Sense q) own out h = sense-back p s t q (states-stay s t it.routes q is_locked_or_occupied) (λ route now w known at next occupied locked. (tail-was p s t x it w occupied, locks-kept s t it.locks w LockedLock locked)) h
-tail-keeps p plant s t shape x it (Release q) own out h = release-back p s t q (states-stay s t it.routes q in_occupation) (λ route now w known at first vacant used. (tail-leaves p s t x it w (not-that (sections_locked_for route) w x (path-locked_for route now.rel w first) (asks-not p x q route known out).section) vacant, locks-kept s t it.locks w UsedLock used)) h
+tail-keeps p plant s t shape x it (Allocate q) own out h = allocate-back p s t q
+    (states-stay s t it.routes q marked) (λ route known k c at free. conflicts-stay s t it.routes c free)
+    (λ route known k w at. clear-back s t w (locks-kept s t it.locks w FreeLock)
+    (tail-leaves p s t x it w
+    (not-that (sections_locked_for route) w x (section-from (sections_locked_for route) k w at)
+    (asks-not p x q route known out).section))) h
+tail-keeps p plant s t shape x it (Lock q) own out h = lock-back p s t q
+    (states-stay s t it.routes q allocating)
+    (λ route known k listed at. lies-back p s t listed (lie-stays p s t it.points listed.point))
+    (λ route known k m at. aspect-stays s t it.boards m Closed)
+    (λ route known. protecting-stays p s t it.routes route.source) h
+tail-keeps p plant s t shape x it (Sense q) own out h = sense-back p s t q
+    (states-stay s t it.routes q is_locked_or_occupied)
+    (λ route now w known at next occupied locked.
+    (tail-was p s t x it w occupied, locks-kept s t it.locks w LockedLock locked)) h
+tail-keeps p plant s t shape x it (Release q) own out h = release-back p s t q
+    (states-stay s t it.routes q in_occupation)
+    (λ route now w known at first vacant used. (
+      tail-leaves p s t x it w
+          (not-that (sections_locked_for route) w x (path-locked_for route now.rel w first)
+          (asks-not p x q route known out).section) vacant,
+      locks-kept s t it.locks w UsedLock used,
+    )) h
 tail-keeps p plant s t shape x it (Finish q) own out h = finish-back p s t q (states-stay s t it.routes q in_occupation) h
 tail-keeps p plant s t shape x it (Throw z) own out h = throw-stays p s t z it.points h
 tail-keeps p plant s t shape x it (Settle z) own out h = settle-stays p s t z it.points h
@@ -569,10 +860,29 @@ tail-keeps p plant s t shape x it (Cancel q) own out h = cc
 
 leave-keeps : (p : PlantLists) → IsPlant p → (s t : State) → HasShape p s → (x : ℕ) → IsLeft p s t x → Keeps p s t (Leave x)
 leave-keeps p plant s t shape x it (Mark q) own out h = cc
-leave-keeps p plant s t shape x it (Allocate q) own out h = allocate-back p s t q (states-stay s t it.routes q marked) (λ route known k c at free. conflicts-stay s t it.routes c free) (λ route known k w at. clear-back s t w (locks-kept s t it.locks w FreeLock) (leave-leaves p s t x it w (not-that (sections_locked_for route) w x (section-from (sections_locked_for route) k w at) (asks-not p x q route known out).section))) h
-leave-keeps p plant s t shape x it (Lock q) own out h = lock-back p s t q (states-stay s t it.routes q allocating) (λ route known k listed at. lies-back p s t listed (lie-stays p s t it.points listed.point)) (λ route known k m at. aspect-stays s t it.boards m Closed) (λ route known. protecting-stays p s t it.routes route.source) h
-leave-keeps p plant s t shape x it (Sense q) own out h = sense-back p s t q (states-stay s t it.routes q is_locked_or_occupied) (λ route now w known at next occupied locked. (leave-was p s t x it w occupied, locks-kept s t it.locks w LockedLock locked)) h
-leave-keeps p plant s t shape x it (Release q) own out h = release-back p s t q (states-stay s t it.routes q in_occupation) (λ route now w known at first vacant used. (leave-leaves p s t x it w (not-that (sections_locked_for route) w x (path-locked_for route now.rel w first) (asks-not p x q route known out).section) vacant, locks-kept s t it.locks w UsedLock used)) h
+leave-keeps p plant s t shape x it (Allocate q) own out h = allocate-back p s t q
+    (states-stay s t it.routes q marked) (λ route known k c at free. conflicts-stay s t it.routes c free)
+    (λ route known k w at. clear-back s t w (locks-kept s t it.locks w FreeLock)
+    (leave-leaves p s t x it w
+    (not-that (sections_locked_for route) w x (section-from (sections_locked_for route) k w at)
+    (asks-not p x q route known out).section))) h
+leave-keeps p plant s t shape x it (Lock q) own out h = lock-back p s t q
+    (states-stay s t it.routes q allocating)
+    (λ route known k listed at. lies-back p s t listed (lie-stays p s t it.points listed.point))
+    (λ route known k m at. aspect-stays s t it.boards m Closed)
+    (λ route known. protecting-stays p s t it.routes route.source) h
+leave-keeps p plant s t shape x it (Sense q) own out h = sense-back p s t q
+    (states-stay s t it.routes q is_locked_or_occupied)
+    (λ route now w known at next occupied locked.
+    (leave-was p s t x it w occupied, locks-kept s t it.locks w LockedLock locked)) h
+leave-keeps p plant s t shape x it (Release q) own out h = release-back p s t q
+    (states-stay s t it.routes q in_occupation)
+    (λ route now w known at first vacant used. (
+      leave-leaves p s t x it w
+          (not-that (sections_locked_for route) w x (path-locked_for route now.rel w first)
+          (asks-not p x q route known out).section) vacant,
+      locks-kept s t it.locks w UsedLock used,
+    )) h
 leave-keeps p plant s t shape x it (Finish q) own out h = finish-back p s t q (states-stay s t it.routes q in_occupation) h
 leave-keeps p plant s t shape x it (Throw z) own out h = throw-stays p s t z it.points h
 leave-keeps p plant s t shape x it (Settle z) own out h = settle-stays p s t z it.points h

@@ -89,7 +89,11 @@ module _ (p : PlantLists) (s t : State) (q : ℕ) where
       rw (known, state now at asked.0, asked.0, lain, shut, free) refl))
 
   pub sense-back : StateBack s t q is_locked_or_occupied
-      → ((route : Route) (now : RouteState) (x : ℕ) → slice_get p.routes q ≡ Some route → slice_get t.routes q ≡ Some now → slice_get route.path now.seen ≡ Some x → is_occupied t x ≡ true → has_lock t x LockedLock ≡ true → (is_occupied s x ≡ true) × (has_lock s x LockedLock ≡ true))
+      →
+      ((route : Route) (now : RouteState) (x : ℕ) → slice_get p.routes q ≡ Some route →
+      slice_get t.routes q ≡ Some now → slice_get route.path now.seen ≡ Some x →
+      is_occupied t x ≡ true → has_lock t x LockedLock ≡ true →
+      (is_occupied s x ≡ true) × (has_lock s x LockedLock ≡ true))
       → is_some (after_sense p t q) ≡ true → is_some (after_sense p s q) ≡ true
   sense-back state taken h =
       let made = some-is (after_sense p t q) h in
@@ -99,7 +103,11 @@ module _ (p : PlantLists) (s t : State) (q : ℕ) where
       rw (f.changes.known, state f.now f.changes.state f.was, f.next, mode, was.0, was.1) refl
 
   pub release-back : StateBack s t q in_occupation
-      → ((route : Route) (now : RouteState) (x : ℕ) → slice_get p.routes q ≡ Some route → slice_get t.routes q ≡ Some now → slice_get route.path now.rel ≡ Some x → is_occupied t x ≡ false → has_lock t x UsedLock ≡ true → (is_occupied s x ≡ false) × (has_lock s x UsedLock ≡ true))
+      →
+      ((route : Route) (now : RouteState) (x : ℕ) → slice_get p.routes q ≡ Some route →
+      slice_get t.routes q ≡ Some now → slice_get route.path now.rel ≡ Some x →
+      is_occupied t x ≡ false → has_lock t x UsedLock ≡ true →
+      (is_occupied s x ≡ false) × (has_lock s x UsedLock ≡ true))
       → is_some (after_release p t q) ≡ true → is_some (after_release p s q) ≡ true
   release-back state left_ h =
       let made = some-is (after_release p t q) h in
@@ -128,7 +136,11 @@ module _ (p : PlantLists) (s t : State) (x : ℕ) where
       let f = throw-frame p t made.0 x made.1 in
       rw (f.number, sym (same f.n f.number) ∙ f.state, f.still, f.elsewhere) refl
 
-  pub settle-back : ((n : ℕ) (point : PointState) → point_number p x ≡ Some n → slice_get t.points n ≡ Some point → is_moving point.at ≡ true → (was : PointState) × (slice_get s.points n ≡ Some was) × (is_moving was.at ≡ true)) → is_some (after_settle p t x) ≡ true → is_some (after_settle p s x) ≡ true
+  pub settle-back :
+      ((n : ℕ) (point : PointState) → point_number p x ≡ Some n → slice_get t.points n ≡ Some point →
+      is_moving point.at ≡ true →
+      (was : PointState) × (slice_get s.points n ≡ Some was) × (is_moving was.at ≡ true)) →
+      is_some (after_settle p t x) ≡ true → is_some (after_settle p s x) ≡ true
   settle-back same h =
       let made = some-is (after_settle p t x) h in
       let f = settle-frame p t made.0 x made.1 in
@@ -140,7 +152,10 @@ abbrev pub first_dir : (Train → Bool) → List Train → Option Dir
 first_dir f [] = None
 first_dir f (train ∷ rest) = cond (f train) (Some train.dir) (first_dir f rest)
 
-first-shifted : (f : Train → Bool) (one : Train) (rest : List Train) (train : Train) → ((j : ℕ) → position f rest ≡ Some j → slice_get rest j ≡ Some train → first_dir f rest ≡ Some train.dir) → (b : Bool) (i : ℕ) → cond b (Some 0) (option_map suc (position f rest)) ≡ Some i → slice_get (one ∷ rest) i ≡ Some train → cond b (Some one.dir) (first_dir f rest) ≡ Some train.dir
+first-shifted : (f : Train → Bool) (one : Train) (rest : List Train) (train : Train) →
+    ((j : ℕ) → position f rest ≡ Some j → slice_get rest j ≡ Some train → first_dir f rest ≡ Some train.dir) →
+    (b : Bool) (i : ℕ) → cond b (Some 0) (option_map suc (position f rest)) ≡ Some i →
+    slice_get (one ∷ rest) i ≡ Some train → cond b (Some one.dir) (first_dir f rest) ≡ Some train.dir
 first-shifted f one rest train later true i at there =
     ap (λ (x : Train). Some x.dir) (same_Some _ _ (subst (λ (k : ℕ). slice_get (one ∷ rest) k ≡ Some train) (sym (same_Some _ _ at)) there))
 first-shifted f one rest train later false i at there = by_place (position f rest) refl at

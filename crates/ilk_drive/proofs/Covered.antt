@@ -21,7 +21,12 @@ use Rattle.ilk_drive.proofs.Found.{NoneBefore, first-none, left-alone}
 use Rattle.ilk_drive.proofs.Turns.{automatic-own}
 
 -- after an event: what was to be asked still is, and what the event may enable is too
-pub covers-on : (p : PlantLists) → IsPlant p → (s t : State) → HasShape p s → (event : Event) → next p s event ≡ Some t → (held : ℕ → Bool) → ((j : ℕ) (other : Event) → slice_get (automatic_events p) j ≡ Some other → is_some (next p s other) ≡ true → held j ≡ true) → (woken new : List ℕ) → AreWoken p event woken → ((j : ℕ) → held j ≡ true → has_section j new ≡ true) → ((j : ℕ) → has_section j woken ≡ true → has_section j new ≡ true) → Covers p t new
+pub covers-on : (p : PlantLists) → IsPlant p → (s t : State) → HasShape p s → (event : Event) →
+    next p s event ≡ Some t → (held : ℕ → Bool) →
+    ((j : ℕ) (other : Event) → slice_get (automatic_events p) j ≡ Some other →
+    is_some (next p s other) ≡ true → held j ≡ true) →
+    (woken new : List ℕ) → AreWoken p event woken → ((j : ℕ) → held j ≡ true → has_section j new ≡ true) →
+    ((j : ℕ) → has_section j woken ≡ true → has_section j new ≡ true) → Covers p t new
 covers-on p plant s t shape event e held covers woken new wakes keeps adds j other at enabled = elim (cases_Bool (may_enable p event other)) [
   | inl may ↦ adds j (wakes j other at may)
   | inr not_ ↦ keeps j (covers j other at (awakes p plant s t shape event e other (list_any-none is_command (automatic_events p) j other (automatic-own p) at) not_ enabled))
@@ -47,7 +52,11 @@ pub none-covered : (p : PlantLists) (s : State) (places : List ℕ) → Covers p
 none-covered p s places covers none = first-none p s (λ j event at. false_from_ne_true (is_some (next p s event)) (λ enabled. true-false (has_section j places) (covers j event at enabled) (none j)))
 
 -- the list of what each event wakes, with one event more
-pub wakes-more : (p : PlantLists) (events : List Event) (woken new : List (List ℕ)) (i : ℕ) (event : Event) (places : List ℕ) → length woken ≡ i → slice_get events i ≡ Some event → AreWoken p event places → new ≡ woken ++ places ∷ [] → WakeAsListed p events woken → WakeAsListed p events new
+pub wakes-more :
+    (p : PlantLists) (events : List Event) (woken new : List (List ℕ)) (i : ℕ) (event : Event)
+    (places : List ℕ) →
+    length woken ≡ i → slice_get events i ≡ Some event → AreWoken p event places →
+    new ≡ woken ++ places ∷ [] → WakeAsListed p events woken → WakeAsListed p events new
 wakes-more p events woken new i event places long here wakes grown before k other listed at listed_at = elim (slice_get-push_cases woken places listed k (ap (λ (l : List (List ℕ)). slice_get l k) (sym grown) ∙ listed_at)) [
   | inl old ↦ before k other listed at old
   | inr last ↦
@@ -61,7 +70,9 @@ done-is None s new enabled is = cc
 done-is (Some t) s new enabled is = ap Some (sym is)
 
 -- where the event at a place isn't enabled, the state is as it was, and the other places are enough
-pub stays-covered : (p : PlantLists) (s new : State) (event : Event) (place : ℕ) (places : List ℕ) → CoversWith p s place places → slice_get (automatic_events p) place ≡ Some event → is_some (next p s event) ≡ false → new ≡ unwrap_or (next p s event) s → Covers p new places
+pub stays-covered : (p : PlantLists) (s new : State) (event : Event) (place : ℕ) (places : List ℕ) →
+    CoversWith p s place places → slice_get (automatic_events p) place ≡ Some event →
+    is_some (next p s event) ≡ false → new ≡ unwrap_or (next p s event) s → Covers p new places
 stays-covered p s new event place places covers at none is =
     subst (λ (u : State). Covers p u places) (sym (left-alone p s new event none is)) (covers-without p s place places covers (λ other there.
     ap (λ (e : Event). is_some (next p s e)) (same_Some other event (sym there ∙ at)) ∙ none))

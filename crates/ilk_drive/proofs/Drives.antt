@@ -163,13 +163,22 @@ pub drive-read : (p : PlantLists) → IsPlant p → (scene : List Event) (driven
 drive-read p plant scene driven drives = written-told p plant (told_of p driven.events) (drive-writable p scene driven drives)
 
 -- how a loop over turns goes on: one event more, and the end
-pub drives-more : (p : PlantLists) (first m after : Moment) (events new later : List Event) (event : Event) (rest : Rest) → ((more : List Event) (r : Rest) → Drives p m more r → Drives p first (events ++ more) r) → turn p m ≡ Some (event, after) → new ≡ events ++ event ∷ [] → Drives p after later rest → Drives p first (new ++ later) rest
+pub drives-more :
+    (p : PlantLists) (first m after : Moment) (events new later : List Event) (event : Event) (rest : Rest) →
+    ((more : List Event) (r : Rest) → Drives p m more r → Drives p first (events ++ more) r) →
+    turn p m ≡ Some (event, after) → new ≡ events ++ event ∷ [] → Drives p after later rest →
+    Drives p first (new ++ later) rest
 drives-more p first m after events new later event rest before taken grown drives =
     let whole : Drives p first (events ++ event ∷ later) rest = before (event ∷ later) rest (after, taken, drives) in
     let same : events ++ event ∷ later ≡ new ++ later = sym (append_assoc events (event ∷ []) later) ∙ ap (λ (es : List Event). es ++ later) (sym grown) in
     subst (λ (es : List Event). Drives p first es rest) same whole
 
-pub drives-end : (p : PlantLists) (scene : List Event) (m after : Moment) (events : List Event) (o : Option Event) (rest : Rest) → ((more : List Event) (r : Rest) → Drives p m more r → Drives p (beginning p scene) (events ++ more) r) → Comes (turn p m) m after o → o ≡ None → rest ≡ rest_at p after → IsDriveOf p scene (record { rest = rest; events = events })
+pub drives-end :
+    (p : PlantLists) (scene : List Event) (m after : Moment) (events : List Event) (o : Option Event)
+    (rest : Rest) →
+    ((more : List Event) (r : Rest) → Drives p m more r → Drives p (beginning p scene) (events ++ more) r) →
+    Comes (turn p m) m after o → o ≡ None → rest ≡ rest_at p after →
+    IsDriveOf p scene (record { rest = rest; events = events })
 drives-end p scene m after events o rest before comes none is =
     let ends : (turn p m ≡ None) × (after ≡ m) = subst (Comes (turn p m) m after) none comes in
     let whole : Drives p (beginning p scene) (events ++ []) rest = before [] rest (ends.0, is ∙ ap (rest_at p) ends.1) in

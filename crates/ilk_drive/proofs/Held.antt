@@ -41,7 +41,15 @@ held-least rank j ranks most h =
     omega (arith, least, is)
 
 -- one place more was looked at
-pub woken-more : (p : PlantLists) (event at_place : Event) (automatic : List Event) (i : ℕ) (wanted : Bool) (old new : List ℕ) → slice_get automatic i ≡ Some at_place → wanted ≡ may_enable p event at_place → ((j : ℕ) (other : Event) → j < i → slice_get automatic j ≡ Some other → may_enable p event other ≡ true → has_number j old ≡ true) → ((j : ℕ) → has_number j old ≡ true → has_number j new ≡ true) → (wanted ≡ true → has_number i new ≡ true) → (j : ℕ) (other : Event) → j < i + 1 → slice_get automatic j ≡ Some other → may_enable p event other ≡ true → has_number j new ≡ true
+pub woken-more :
+    (p : PlantLists) (event at_place : Event) (automatic : List Event) (i : ℕ) (wanted : Bool)
+    (old new : List ℕ) →
+    slice_get automatic i ≡ Some at_place → wanted ≡ may_enable p event at_place →
+    ((j : ℕ) (other : Event) → j < i → slice_get automatic j ≡ Some other → may_enable p event other ≡ true →
+    has_number j old ≡ true) →
+    ((j : ℕ) → has_number j old ≡ true → has_number j new ≡ true) →
+    (wanted ≡ true → has_number i new ≡ true) → (j : ℕ) (other : Event) → j < i + 1 →
+    slice_get automatic j ≡ Some other → may_enable p event other ≡ true → has_number j new ≡ true
 woken-more p event at_place automatic i wanted old new here is before keeps adds j other less at may = elim (below_or_at j i less) [
   | inl earlier ↦ keeps j (before j other earlier at may)
   | inr same ↦
@@ -68,7 +76,10 @@ below-more place old new grows before j less = elim (below_or_at j place less) [
 ]
 
 -- all places of a list, up to the next
-pub listed-more : (places : List ℕ) (i place : ℕ) (old new : List ℕ) → slice_get places i ≡ Some place → ((j : ℕ) → has_number j new ≡ (place == j || has_number j old)) → ((k j : ℕ) → k < i → slice_get places k ≡ Some j → has_number j old ≡ true) → (k j : ℕ) → k < i + 1 → slice_get places k ≡ Some j → has_number j new ≡ true
+pub listed-more : (places : List ℕ) (i place : ℕ) (old new : List ℕ) → slice_get places i ≡ Some place →
+    ((j : ℕ) → has_number j new ≡ (place == j || has_number j old)) →
+    ((k j : ℕ) → k < i → slice_get places k ≡ Some j → has_number j old ≡ true) → (k j : ℕ) → k < i + 1 →
+    slice_get places k ≡ Some j → has_number j new ≡ true
 listed-more places i place old new here grows before k j less at = elim (below_or_at k i less) [
   | inl earlier ↦ kept-on place old new grows j (before k j earlier at)
   | inr same ↦

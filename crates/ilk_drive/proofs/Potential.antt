@@ -61,7 +61,11 @@ abbrev pub left : PlantLists → State → ℕ
 left p s = routes_left p.routes s.routes + points_left s.points + trains_left p s.trains
 
 -- what a change of one route, point or train does to the sum
-pub routes_left-set : (routes : List Route) (states : List RouteState) (r : ℕ) (route : Route) (now new : RouteState) → slice_get routes r ≡ Some route → slice_get states r ≡ Some now → routes_left routes (set states r new) + route_left route now ≡ routes_left routes states + route_left route new
+pub routes_left-set :
+    (routes : List Route) (states : List RouteState) (r : ℕ) (route : Route) (now new : RouteState) →
+    slice_get routes r ≡ Some route → slice_get states r ≡ Some now →
+    routes_left routes (set states r new) + route_left route now
+    ≡ routes_left routes states + route_left route new
 routes_left-set [] states r route now new known state = cc
 routes_left-set (first ∷ routes) [] r route now new known state = cc
 routes_left-set (first ∷ routes) (was ∷ states) zero route now new known state =

@@ -169,7 +169,10 @@ second-around p d x u v rest on is =
     let here : has_section v (next_to p u d) ≡ true = (and_parts (has_section v (next_to p u d)) (leads_on p d v rest) on).0 in
     next-around p x v d (subst (λ (w : ℕ). has_section v (next_to p w d) ≡ true) (eqb-true u x is) here)
 
-first-shorter : (p : PlantLists) (d : Dir) (x z : ℕ) (body : List ℕ) → is_body p (record { dir = d; body = body }) ≡ true → is_first_of_several x body ≡ true → (z == x) ≡ false → has_section z (around p x) ≡ false → is_first_of_several z (remove body 0) ≡ is_first_of_several z body
+first-shorter : (p : PlantLists) (d : Dir) (x z : ℕ) (body : List ℕ) →
+    is_body p (record { dir = d; body = body }) ≡ true → is_first_of_several x body ≡ true →
+    (z == x) ≡ false → has_section z (around p x) ≡ false →
+    is_first_of_several z (remove body 0) ≡ is_first_of_several z body
 first-shorter p d x z [] made several out off = cc
 first-shorter p d x z (u ∷ []) made several out off = cc
 first-shorter p d x z (u ∷ v ∷ []) made several out off = sym (differs u x z several out)

@@ -114,7 +114,11 @@ module _ (p : PlantLists) (s t : State) (z : ℕ) (two : is_two s z ≡ false) (
 
   -- where each train that is there was there before, as was what of it has the section
   trains-there : t.points ≡ s.points → is_two t z ≡ false
-      → ((i : ℕ) (train : Train) → slice_get t.trains i ≡ Some train → (plus minus : ℕ) → (k : ℕ) × (old : Train) × (slice_get s.trains k ≡ Some old) × (strays z plus minus (lie_of p s z) train.body ≡ true → strays z plus minus (lie_of p s z) old.body ≡ true))
+      →
+      ((i : ℕ) (train : Train) → slice_get t.trains i ≡ Some train → (plus minus : ℕ) →
+      (k : ℕ) × (old : Train) × (slice_get s.trains k ≡ Some old) ×
+      (strays z plus minus (lie_of p s z) train.body ≡ true →
+      strays z plus minus (lie_of p s z) old.body ≡ true))
       → is_hazardous p t z ≡ false
   trains-there points apart_ was = no-hazard p t z apart_ (wrong-from p t z (λ stem plus minus faces section i train at.
       let old = was i train at plus minus in
@@ -136,7 +140,10 @@ module _ (p : PlantLists) (s t : State) (z : ℕ) (two : is_two s z ≡ false) (
         | inr other ↦ (one, other.1, has)
       ]
 
-      stray : (i : ℕ) (train : Train) → slice_get t.trains i ≡ Some train → (plus minus : ℕ) → (k : ℕ) × (old : Train) × (slice_get s.trains k ≡ Some old) × (strays z plus minus (lie_of p s z) train.body ≡ true → strays z plus minus (lie_of p s z) old.body ≡ true)
+      stray : (i : ℕ) (train : Train) → slice_get t.trains i ≡ Some train → (plus minus : ℕ) →
+          (k : ℕ) × (old : Train) × (slice_get s.trains k ≡ Some old) ×
+          (strays z plus minus (lie_of p s z) train.body ≡ true →
+          strays z plus minus (lie_of p s z) old.body ≡ true)
       stray i train at plus minus = elim (tail-trains p s t x it i train at) [
         | inl moved ↦ (it.i, it.train, it.at, λ h. rest-strays z plus minus (lie_of p s z) it.train.body (subst (λ (one : Train). strays z plus minus (lie_of p s z) one.body ≡ true) moved.1 h))
         | inr other ↦ (i, train, other.1, λ h. h)
@@ -164,7 +171,10 @@ module _ (p : PlantLists) (s t : State) (z : ℕ) (two : is_two s z ≡ false) (
         | inr other ↦ (one, other.1, has)
       ]
 
-      stray : (i : ℕ) (train : Train) → slice_get t.trains i ≡ Some train → (plus minus : ℕ) → (k : ℕ) × (old : Train) × (slice_get s.trains k ≡ Some old) × (strays z plus minus (lie_of p s z) train.body ≡ true → strays z plus minus (lie_of p s z) old.body ≡ true)
+      stray : (i : ℕ) (train : Train) → slice_get t.trains i ≡ Some train → (plus minus : ℕ) →
+          (k : ℕ) × (old : Train) × (slice_get s.trains k ≡ Some old) ×
+          (strays z plus minus (lie_of p s z) train.body ≡ true →
+          strays z plus minus (lie_of p s z) old.body ≡ true)
       stray i train at plus minus = elim (head-trains p s t x it i train at) [
         | inl moved ↦ (it.i, it.train, it.at, λ h. strays-longer z x it.y plus minus (lie_of p s z) it.train.body it.heads behind ahead_ (subst (λ (one : Train). strays z plus minus (lie_of p s z) one.body ≡ true) moved.1 h))
         | inr other ↦ (i, train, other.1, λ h. h)
@@ -236,7 +246,10 @@ untouched-calm p s t event none e z within out =
 -- the least hazard ------------------------------------------------------------------------------------------------------
 
 -- where the other sections have no hazard, the least of these is the least of all
-pub least-of_all : (p : PlantLists) (s : State) (sections : List ℕ) (o : Option ℕ) → IsLeastHazardous p s sections o → ((z : ℕ) → z < length p.sections → has_section z sections ≡ false → is_hazardous p s z ≡ false) → hazard p s ≡ option_map (hazard_at s) o
+pub least-of_all : (p : PlantLists) (s : State) (sections : List ℕ) (o : Option ℕ) →
+    IsLeastHazardous p s sections o →
+    ((z : ℕ) → z < length p.sections → has_section z sections ≡ false → is_hazardous p s z ≡ false) →
+    hazard p s ≡ option_map (hazard_at s) o
 least-of_all p s sections None least rest =
     none-calm p s (λ z within. elim (cases_Bool (has_section z sections)) [
       | inl among ↦ least z among within
@@ -275,7 +288,10 @@ least-passed p s x sections (Some z) free least = (
 )
 
 -- the sections next to a linear section, and next to a point
-pub least-linear : (p : PlantLists) (s : State) (x : ℕ) (down up board_down board_up o : Option ℕ) → slice_get p.sections x ≡ Some (Linear down up board_down board_up) → IsLeastHazardous p s (option_to_list down ++ (option_to_list up ++ [])) o → IsLeastHazardous p s (around p x) o
+pub least-linear : (p : PlantLists) (s : State) (x : ℕ) (down up board_down board_up o : Option ℕ) →
+    slice_get p.sections x ≡ Some (Linear down up board_down board_up) →
+    IsLeastHazardous p s (option_to_list down ++ (option_to_list up ++ [])) o →
+    IsLeastHazardous p s (around p x) o
 least-linear p s x down up board_down board_up o section least =
     let these : around p x ≡ option_to_list down ++ (option_to_list up ++ []) = rw (section, append-nil (option_to_list up)) refl in
     subst (λ (xs : List ℕ). IsLeastHazardous p s xs o) (sym these) least
@@ -286,7 +302,9 @@ turned true b false h = refl
 turned false true false h = refl
 turned false false false h = cc
 
-pub least-point : (p : PlantLists) (s : State) (x stem plus minus : ℕ) (faces : Dir) (o : Option ℕ) → slice_get p.sections x ≡ Some (Point stem plus minus faces) → IsLeastHazardous p s (stem ∷ plus ∷ minus ∷ []) o → IsLeastHazardous p s (around p x) o
+pub least-point : (p : PlantLists) (s : State) (x stem plus minus : ℕ) (faces : Dir) (o : Option ℕ) →
+    slice_get p.sections x ≡ Some (Point stem plus minus faces) →
+    IsLeastHazardous p s (stem ∷ plus ∷ minus ∷ []) o → IsLeastHazardous p s (around p x) o
 least-point p s x stem plus minus Up o section least =
     let these : around p x ≡ stem ∷ plus ∷ minus ∷ [] = rw section refl in
     subst (λ (xs : List ℕ). IsLeastHazardous p s xs o) (sym these) least

@@ -18,7 +18,9 @@ fn push_numbers<F: Fn(u32) -> Event>(
     event: F,
 ) -> Result<(), AllocError>
     requires { F.IsAlwaysCallable event }
-    ensures { (of : ℕ → Event) → ((x : ℕ) (e : Event) → x < 2 ^ 32 → F.post event x e → e ≡ of x) → OnOk result (events.new ≡ events.old ++ map of (range_with_len 0 count)) }
+    ensures { (of : ℕ → Event) →
+        ((x : ℕ) (e : Event) → x < 2 ^ 32 → F.post event x e → e ≡ of x) →
+        OnOk result (events.new ≡ events.old ++ map of (range_with_len 0 count)) }
 {
     for x in 0..count {
         events.push(event(x))?;
@@ -83,7 +85,8 @@ impl Automatic {
 
     /// The places of all of them.
     pub(crate) fn all_places(&self, alloc: Global) -> Result<Candidates, AllocError>
-        ensures { IfOk result (λ candidates. (j : ℕ) → j < length self.now.events → has_number j candidates ≡ true) }
+        ensures { IfOk result
+            (λ candidates. (j : ℕ) → j < length self.now.events → has_number j candidates ≡ true) }
     {
         let mut candidates = Candidates::new(alloc);
         for place in 0..self.events.len() {

@@ -39,7 +39,8 @@ impl Candidates {
 
     /// Adds a place.
     pub(crate) fn push(&mut self, place: u64) -> Result<(), AllocError>
-        ensures { OnOk result ((j : ℕ) → has_number j self.new ≡ (place == j || has_number j self.old)) }
+        ensures { OnOk result
+            ((j : ℕ) → has_number j self.new ≡ (place == j || has_number j self.old)) }
     {
         self.ranks.push(u64::MAX - place)?;
         Ok(())
@@ -47,8 +48,10 @@ impl Candidates {
 
     /// Takes out the least place. None exactly where there is none.
     pub(crate) fn pop(&mut self) -> Option<u64>
-        ensures taken { IfSome result (λ place. (j : ℕ) → has_number j self.old ≡ (place == j || has_number j self.new)) }
-        ensures least { IfSome result (λ place. (j : ℕ) → has_number j self.new ≡ true → place ≤ j) }
+        ensures taken { IfSome result
+            (λ place. (j : ℕ) → has_number j self.old ≡ (place == j || has_number j self.new)) }
+        ensures least { IfSome result
+            (λ place. (j : ℕ) → has_number j self.new ≡ true → place ≤ j) }
         ensures fewer { IfSome result (λ place. length self.new + 1 ≡ length self.old) }
         ensures none { IfNone result ((j : ℕ) → has_number j self.old ≡ false) }
         ensures empty { IfNone result (self.new ≡ self.old) }

@@ -48,7 +48,9 @@ fn locks_any(route: &Route, sections: &Row<u32>) -> bool
 
 // Whether the section of one of these entries is locked for the route.
 fn locks_any_entry(route: &Route, entries: &Row<Listed>) -> bool
-    ensures { result ≡ list_any (λ listed. has_section listed.point (sections_locked_for route.now)) entries.now }
+    ensures { result
+        ≡ list_any (λ listed. has_section listed.point (sections_locked_for route.now))
+        entries.now }
 {
     entries
         .as_slice()
@@ -59,14 +61,17 @@ fn locks_any_entry(route: &Route, entries: &Row<Listed>) -> bool
 // The same of the points of the entries.
 #[tactic(auto, using(crate::proofs::Held::any_mapped))]
 fn locks_any_point(route: &Route, entries: &Row<Listed>) -> bool
-    ensures { result ≡ list_any (λ x. has_section x (sections_locked_for route.now)) (map (λ listed. listed.point) entries.now) }
+    ensures { result
+        ≡ list_any (λ x. has_section x (sections_locked_for route.now))
+        (map (λ listed. listed.point) entries.now) }
 {
     locks_any_entry(route, entries)
 }
 
 // Whether one of the sections of a route's path and overlap is locked for another.
 fn shares_way(a: &Route, b: &Route) -> bool
-    ensures { result ≡ list_any (λ x. has_section x (sections_locked_for b.now)) (sections_of a.now) }
+    ensures { result
+        ≡ list_any (λ x. has_section x (sections_locked_for b.now)) (sections_of a.now) }
 {
     locks_any(b, &a.path) || locks_any(b, &a.overlap)
 }

@@ -36,8 +36,10 @@ pub(crate) struct Standing {
 
 // Adds places to those that are to be asked.
 fn push_all(candidates: &mut Candidates, places: &Row<u64>) -> Result<(), AllocError>
-    ensures kept { OnOk result ((j : ℕ) → has_number j candidates.old ≡ true → has_number j candidates.new ≡ true) }
-    ensures added { OnOk result ((j : ℕ) → has_number j places.now ≡ true → has_number j candidates.new ≡ true) }
+    ensures kept { OnOk result
+        ((j : ℕ) → has_number j candidates.old ≡ true → has_number j candidates.new ≡ true) }
+    ensures added { OnOk result
+        ((j : ℕ) → has_number j places.now ≡ true → has_number j candidates.new ≡ true) }
 {
     for place in places.as_slice() {
         candidates.push(*place)?;
@@ -115,7 +117,10 @@ fn give_command(
     requires covers { Covers plant.now now.old.state now.old.candidates }
     ensures covers { OnOk result (Covers plant.now now.new.state now.new.candidates) }
     ensures hazard { now.new.hazard ≡ now.old.hazard }
-    ensures given { IfOk result (Comes (by_command plant.now (moment_of scene.now now.old.state now.old.given)) (moment_of scene.now now.old.state now.old.given) (moment_of scene.now now.new.state now.new.given)) }
+    ensures given { IfOk result
+        (Comes (by_command plant.now (moment_of scene.now now.old.state now.old.given))
+        (moment_of scene.now now.old.state now.old.given)
+        (moment_of scene.now now.new.state now.new.given)) }
     ensures shape { HasShape plant.now now.new.state }
     ensures within { now.old.given ≤ length scene.now → now.new.given ≤ length scene.now }
 {
@@ -147,7 +152,10 @@ fn go_on(
     requires calm { hazard plant.now now.old.state ≡ None }
     ensures covers { OnOk result (Covers plant.now now.new.state now.new.candidates) }
     ensures hazard { now.new.hazard ≡ now.old.hazard }
-    ensures turn { IfOk result (Comes (turn plant.now (moment_of scene.now now.old.state now.old.given)) (moment_of scene.now now.old.state now.old.given) (moment_of scene.now now.new.state now.new.given)) }
+    ensures turn { IfOk result
+        (Comes (turn plant.now (moment_of scene.now now.old.state now.old.given))
+        (moment_of scene.now now.old.state now.old.given)
+        (moment_of scene.now now.new.state now.new.given)) }
     ensures shape { HasShape plant.now now.new.state }
     ensures within { now.old.given ≤ length scene.now → now.new.given ≤ length scene.now }
 {
@@ -177,7 +185,10 @@ fn take_turn(
     requires hazard { now.old.hazard ≡ hazard plant.now now.old.state }
     ensures covers { OnOk result (Covers plant.now now.new.state now.new.candidates) }
     ensures hazard { OnOk result (now.new.hazard ≡ hazard plant.now now.new.state) }
-    ensures turn { IfOk result (Comes (turn plant.now (moment_of scene.now now.old.state now.old.given)) (moment_of scene.now now.old.state now.old.given) (moment_of scene.now now.new.state now.new.given)) }
+    ensures turn { IfOk result
+        (Comes (turn plant.now (moment_of scene.now now.old.state now.old.given))
+        (moment_of scene.now now.old.state now.old.given)
+        (moment_of scene.now now.new.state now.new.given)) }
     ensures shape { HasShape plant.now now.new.state }
     ensures within { now.old.given ≤ length scene.now → now.new.given ≤ length scene.now }
 {
@@ -211,7 +222,8 @@ fn is_done(scene: &Row<Event>, now: &Standing) -> bool
 // How a drive rests, after which nothing comes.
 fn rest_at(scene: &Row<Event>, now: &Standing) -> Rest
     requires within { now.now.given ≤ length scene.now }
-    ensures { (p : PlantLists) → now.now.hazard ≡ hazard p now.now.state → result ≡ rest_at p (moment_of scene.now now.now.state now.now.given) }
+    ensures { (p : PlantLists) → now.now.hazard ≡ hazard p now.now.state →
+        result ≡ rest_at p (moment_of scene.now now.now.state now.now.given) }
 {
     if let Some(at) = now.hazard {
         return Rest::Hazard(at);
@@ -232,7 +244,8 @@ pub fn drive(alloc: Global, plant: &Plant, scene: &Row<Event>) -> Result<Driven,
     ensures drive { IfOk result (IsDriveOf plant.now scene.now) }
     ensures run { IfOk result (λ driven. IsRun plant.now driven.events) }
     ensures told { IfOk result (λ driven. IsOfPlant plant.now (told_of plant.now driven.events)) }
-    ensures few { IfOk result (λ driven. length driven.events ≤ MAX_EVENTS_FOR_A_COMMAND * length scene.now) }
+    ensures few { IfOk result
+        (λ driven. length driven.events ≤ MAX_EVENTS_FOR_A_COMMAND * length scene.now) }
     ensures strict { IsStrict plant.now → IfOk result (λ driven. RestsSafely driven.rest) }
 {
     plant.is_sound();

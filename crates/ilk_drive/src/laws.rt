@@ -22,10 +22,14 @@ use ilk_plant::Plant;
 /// `MAX_EVENTS_FOR_A_COMMAND` for each command; and over a strict table it doesn't rest with a
 /// hazard. The call does nothing, and tells a proof.
 pub fn drives_are_runs(plant: &Plant)
-    ensures one { (scene : List Event) (a b : Driven) → IsDriveOf plant.now scene a → IsDriveOf plant.now scene b → a ≡ b }
-    ensures run { (scene : List Event) (driven : Driven) → IsDriveOf plant.now scene driven → IsRun plant.now driven.events }
-    ensures few { (scene : List Event) (driven : Driven) → IsDriveOf plant.now scene driven → length driven.events ≤ MAX_EVENTS_FOR_A_COMMAND * length scene }
-    ensures strict { IsStrict plant.now → (scene : List Event) (driven : Driven) → IsDriveOf plant.now scene driven → RestsSafely driven.rest }
+    ensures one { (scene : List Event) (a b : Driven) → IsDriveOf plant.now scene a →
+        IsDriveOf plant.now scene b → a ≡ b }
+    ensures run { (scene : List Event) (driven : Driven) → IsDriveOf plant.now scene driven →
+        IsRun plant.now driven.events }
+    ensures few { (scene : List Event) (driven : Driven) → IsDriveOf plant.now scene driven →
+        length driven.events ≤ MAX_EVENTS_FOR_A_COMMAND * length scene }
+    ensures strict { IsStrict plant.now → (scene : List Event) (driven : Driven) →
+        IsDriveOf plant.now scene driven → RestsSafely driven.rest }
 {
     plant.is_sound();
     plant.is_of_drafts();
@@ -34,9 +38,13 @@ pub fn drives_are_runs(plant: &Plant)
 /// The run of a drive has a text, which says `start` and is read again as that run; and its replay
 /// shows the hazard in which the drive rests, or else none. The call does nothing, and tells a proof.
 pub fn drives_are_read_again(plant: &Plant)
-    ensures writable { (scene : List Event) (driven : Driven) → IsDriveOf plant.now scene driven → IsOfPlant plant.now (told_of plant.now driven.events) }
-    ensures read { (scene : List Event) (driven : Driven) → IsDriveOf plant.now scene driven → tale_of plant.now (run_text plant.now (told_of plant.now driven.events)) ≡ IsTold (told_of plant.now driven.events) }
-    ensures seen { (scene : List Event) (driven : Driven) → IsDriveOf plant.now scene driven → seen_of plant.now (start plant.now) driven.events ≡ seen_at driven.rest }
+    ensures writable { (scene : List Event) (driven : Driven) → IsDriveOf plant.now scene driven →
+        IsOfPlant plant.now (told_of plant.now driven.events) }
+    ensures read { (scene : List Event) (driven : Driven) → IsDriveOf plant.now scene driven →
+        tale_of plant.now (run_text plant.now (told_of plant.now driven.events))
+        ≡ IsTold (told_of plant.now driven.events) }
+    ensures seen { (scene : List Event) (driven : Driven) → IsDriveOf plant.now scene driven →
+        seen_of plant.now (start plant.now) driven.events ≡ seen_at driven.rest }
 {
     plant.is_sound();
 }

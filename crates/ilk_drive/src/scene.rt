@@ -21,7 +21,8 @@ pub enum Scene {
 
 // The commands that a text tells.
 fn read_commands(alloc: Global, plant: &Plant, text: &[u8]) -> Result<Row<Event>, LineFault>
-    ensures { AnswersAsTold (commands_told plant.now (lines_of text.now) (after_lines text.now)) result }
+    ensures { AnswersAsTold (commands_told plant.now (lines_of text.now) (after_lines text.now))
+        result }
 {
     let mut lines = Lines::of(text);
     lines.pass(b"drive 1")?;

@@ -193,7 +193,8 @@ fn may_enable(plant: &Plant, event: Event, other: Event) -> bool
 
 // Adds the place, where it is wanted.
 fn push_if(places: &mut Row<u64>, wanted: bool, place: u64) -> Result<(), AllocError>
-    ensures kept { OnOk result ((j : ℕ) → has_number j places.old ≡ true → has_number j places.new ≡ true) }
+    ensures kept { OnOk result
+        ((j : ℕ) → has_number j places.old ≡ true → has_number j places.new ≡ true) }
     ensures added { OnOk result (IsTrue wanted → has_number place places.new ≡ true) }
 {
     if wanted {

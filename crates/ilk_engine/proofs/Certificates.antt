@@ -14,7 +14,9 @@ use Rattle.ilk_engine.specs.Right.{IsRightFor}
 use Rattle.ilk_engine.specs.declared.verdict.Verdict.{Verdict}
 use Rattle.ilk_engine.specs.declared.verdict.Verdict.TheVariants.{Safe, Unsafe, Breach, NotInductive, Spent}
 
-pub text_certifies : (p : PlantLists) (depth conflicts : ℕ) (verdict : Verdict) (asked : List Asked) → depth ≤ 16 → IsRightFor p depth verdict ⊎ (verdict ≡ Spent) → IsAskedOf p depth conflicts verdict asked → IsCertificateOf p depth conflicts verdict (certificate_text_of verdict asked)
+pub text_certifies : (p : PlantLists) (depth conflicts : ℕ) (verdict : Verdict) (asked : List Asked) →
+    depth ≤ 16 → IsRightFor p depth verdict ⊎ (verdict ≡ Spent) → IsAskedOf p depth conflicts verdict asked →
+    IsCertificateOf p depth conflicts verdict (certificate_text_of verdict asked)
 text_certifies p depth conflicts (Safe k) asked deep (inl right) h = safe_certifies (system_of p) (goal_of p) depth conflicts k asked deep right.induction.so.0 h
 text_certifies p depth conflicts (Safe k) asked deep (inr spent) h = absurd cc
 text_certifies p depth conflicts (Unsafe events at) asked deep right h = refl

@@ -63,7 +63,10 @@ least-some p t broken = nine (keeps_v1 p t) (keeps_v2 p t) (keeps_v3 p t) (keeps
 pub run-begins : (p : PlantLists) (s : State) (items events : List Event) → s ≡ start p → items ≡ events → run p s (drop 0 items) ≡ run p (start p) events
 run-begins p s items events at same = ap (λ (u : State). run p u items) at ∙ ap (run p (start p)) same
 
-pub run-goes : (p : PlantLists) (s t : State) (items : List Event) (i : ℕ) (d : Event) (whole : Option State) → i < length items → is_some whole ≡ true → t ≡ unwrap_or (next p s (get_or items i d)) s → run p s (drop i items) ≡ whole → run p t (drop (i + 1) items) ≡ whole
+pub run-goes :
+    (p : PlantLists) (s t : State) (items : List Event) (i : ℕ) (d : Event) (whole : Option State) →
+    i < length items → is_some whole ≡ true → t ≡ unwrap_or (next p s (get_or items i d)) s →
+    run p s (drop i items) ≡ whole → run p t (drop (i + 1) items) ≡ whole
 run-goes p s t items i d whole within some goes rest =
     ap (λ (u : State). run p u (drop (i + 1) items)) goes
     ∙ run-next p s (get_or items i d) (drop (i + 1) items) whole some (ap (run p s) (sym (drop_more items i d within)) ∙ rest)

@@ -28,7 +28,9 @@ fired-by p rules events some are =
 pub fired-begins : (p : PlantLists) (events : List Event) (items rules : List ℕ) → items ≡ rules → events ++ events_fired p (drop 0 items) ≡ events ++ events_fired p rules
 fired-begins p events items rules same = ap (λ (xs : List ℕ). events ++ events_fired p xs) same
 
-pub fired-goes : (p : PlantLists) (items : List ℕ) (i d : ℕ) (now after whole : List Event) → i < length items → after ≡ now ++ option_to_list (event_of_rule p (get_or items i d)) → now ++ events_fired p (drop i items) ≡ whole → after ++ events_fired p (drop (i + 1) items) ≡ whole
+pub fired-goes : (p : PlantLists) (items : List ℕ) (i d : ℕ) (now after whole : List Event) →
+    i < length items → after ≡ now ++ option_to_list (event_of_rule p (get_or items i d)) →
+    now ++ events_fired p (drop i items) ≡ whole → after ++ events_fired p (drop (i + 1) items) ≡ whole
 fired-goes p items i d now after whole within one rest =
     let here : List Event = option_to_list (event_of_rule p (get_or items i d)) in
     ap (λ (xs : List Event). xs ++ events_fired p (drop (i + 1) items)) one

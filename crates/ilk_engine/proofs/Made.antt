@@ -36,7 +36,9 @@ module _ (p : PlantLists) (plant : IsPlant p) (steps : StepsAs p) (goal : IsGoal
   pub unsafe-ends : (depth : ℕ) (trace : Trace) (events : List Event) → depth ≤ 16 → IsRight (system_of p) (goal_of p) depth (system.Unsafe trace) → events_by p trace.rules ≡ Some events → ends_in_hazard p (start p) events ≡ true
   unsafe-ends = on.unsafe-ends p (rules-step p plant steps) (goal_of p) goal
 
-  pub unsafe-made : (depth : ℕ) (trace : Trace) (events : List Event) (at : HazardAt) → depth ≤ 16 → IsRight (system_of p) (goal_of p) depth (system.Unsafe trace) → events_by p trace.rules ≡ Some events → hazard_after p events ≡ Some at → IsMadeOf p depth (system.Unsafe trace) (Unsafe events at)
+  pub unsafe-made : (depth : ℕ) (trace : Trace) (events : List Event) (at : HazardAt) → depth ≤ 16 →
+      IsRight (system_of p) (goal_of p) depth (system.Unsafe trace) → events_by p trace.rules ≡ Some events →
+      hazard_after p events ≡ Some at → IsMadeOf p depth (system.Unsafe trace) (Unsafe events at)
   unsafe-made depth trace events at few right by is = record {
     right = inl (on.unsafe-right p (rules-step p plant steps) (goal_of p) goal depth trace events at few right by is);
     lasts = tt;
@@ -49,7 +51,9 @@ module _ (p : PlantLists) (plant : IsPlant p) (steps : StepsAs p) (goal : IsGoal
   pub breach-ends : (depth : ℕ) (trace : Trace) (events : List Event) → depth ≤ 16 → IsRight (system_of p) (goal_of p) depth (system.Breach trace) → events_by p trace.rules ≡ Some events → ends_in_breach p (start p) events ≡ true
   breach-ends = on.breach-ends p (rules-step p plant steps) (goal_of p) goal
 
-  pub breach-made : (depth : ℕ) (trace : Trace) (events : List Event) (family : ℕ) → depth ≤ 16 → IsRight (system_of p) (goal_of p) depth (system.Breach trace) → events_by p trace.rules ≡ Some events → broken_after p events ≡ Some family → IsMadeOf p depth (system.Breach trace) (Breach events family)
+  pub breach-made : (depth : ℕ) (trace : Trace) (events : List Event) (family : ℕ) → depth ≤ 16 →
+      IsRight (system_of p) (goal_of p) depth (system.Breach trace) → events_by p trace.rules ≡ Some events →
+      broken_after p events ≡ Some family → IsMadeOf p depth (system.Breach trace) (Breach events family)
   breach-made depth trace events family few right by is = record {
     right = inl (on.breach-right p (rules-step p plant steps) (goal_of p) goal depth trace events family few right by is);
     lasts = tt;
@@ -65,7 +69,11 @@ module _ (p : PlantLists) (plant : IsPlant p) (steps : StepsAs p) (goal : IsGoal
   pub out-fires : (depth : ℕ) (trace : Trace) (first : State) → IsCalm p first → image_of p first ≡ trace.first → IsRight (system_of p) (goal_of p) depth (system.NotInductive trace) → is_some (events_by p trace.rules) ≡ true
   out-fires = on.out-fires p (rules-step p plant steps) (goal_of p) goal
 
-  pub out-made : (depth : ℕ) (trace : Trace) (first : State) (events : List Event) → depth ≤ 16 → IsCalm p first → image_of p first ≡ trace.first → IsRight (system_of p) (goal_of p) depth (system.NotInductive trace) → events_by p trace.rules ≡ Some events → IsMadeOf p depth (system.NotInductive trace) (NotInductive first events)
+  pub out-made : (depth : ℕ) (trace : Trace) (first : State) (events : List Event) → depth ≤ 16 →
+      IsCalm p first → image_of p first ≡ trace.first →
+      IsRight (system_of p) (goal_of p) depth (system.NotInductive trace) →
+      events_by p trace.rules ≡ Some events →
+      IsMadeOf p depth (system.NotInductive trace) (NotInductive first events)
   out-made depth trace first events few calm image right by = record {
     right = inl (on.out-right p (rules-step p plant steps) (goal_of p) goal depth trace first events few calm image right by);
     lasts = tt;
@@ -88,7 +96,11 @@ right-safe s g depth verdict k same (inr spent) = let clash : system.Safe k ≡ 
 pub over : (P : SystemTree → GoalTree → Type 0) (s t : SystemTree) (g h : GoalTree) → s ≡ t → g ≡ h → P s g → P t h
 over P s t g h same also has = subst (λ (k : GoalTree). P t k) also (subst (λ (u : SystemTree). P u g) same has)
 
-pub safe-lifted : (p : PlantLists) (plant : IsPlant p) (steps : StepsAs p) (goal : IsGoalOf p (goal_of p)) (depth k : ℕ) (found : SystemVerdict) → depth ≤ 16 → found ≡ system.Safe k → IsRight (system_of p) (goal_of p) depth found ⊎ (found ≡ system.Spent) → Lasts (system_of p) (goal_of p) found → IsMadeOf p depth found (Safe k)
+pub safe-lifted :
+    (p : PlantLists) (plant : IsPlant p) (steps : StepsAs p) (goal : IsGoalOf p (goal_of p)) (depth k : ℕ)
+    (found : SystemVerdict) → depth ≤ 16 →
+    found ≡ system.Safe k → IsRight (system_of p) (goal_of p) depth found ⊎ (found ≡ system.Spent) →
+    Lasts (system_of p) (goal_of p) found → IsMadeOf p depth found (Safe k)
 safe-lifted p plant steps goal depth k found few same right never =
     subst (λ (v : SystemVerdict). IsMadeOf p depth v (Safe k)) (sym same)
     (safe-made p plant steps goal depth k few (right-safe (system_of p) (goal_of p) depth found k same right) (subst (Lasts (system_of p) (goal_of p)) same never))

@@ -66,7 +66,9 @@ module _ (p : PlantLists) (lead : RulesStep p) (g : GoalTree) (goal : IsGoalOf p
       let led = led-to-hazard depth trace few right in
       subst (λ (es : List Event). ends_in_hazard p (start p) es ≡ true) (same_Some led.events events (sym led.by_rules ∙ by)) led.ends
 
-  pub unsafe-right : (depth : ℕ) (trace : Trace) (events : List Event) (at : HazardAt) → depth ≤ 16 → IsRight (system_of p) g depth (system.Unsafe trace) → events_by p trace.rules ≡ Some events → hazard_after p events ≡ Some at → IsRightFor p depth (Unsafe events at)
+  pub unsafe-right : (depth : ℕ) (trace : Trace) (events : List Event) (at : HazardAt) → depth ≤ 16 →
+      IsRight (system_of p) g depth (system.Unsafe trace) → events_by p trace.rules ≡ Some events →
+      hazard_after p events ≡ Some at → IsRightFor p depth (Unsafe events at)
   unsafe-right depth trace events at few right by is =
       let led = led-to-hazard depth trace few right in
       let same : led.events ≡ events = same_Some led.events events (sym led.by_rules ∙ by) in
@@ -99,7 +101,9 @@ module _ (p : PlantLists) (lead : RulesStep p) (g : GoalTree) (goal : IsGoalOf p
       let led = led-to-breach depth trace few right in
       subst (λ (es : List Event). ends_in_breach p (start p) es ≡ true) (same_Some led.events events (sym led.by_rules ∙ by)) led.ends
 
-  pub breach-right : (depth : ℕ) (trace : Trace) (events : List Event) (family : ℕ) → depth ≤ 16 → IsRight (system_of p) g depth (system.Breach trace) → events_by p trace.rules ≡ Some events → broken_after p events ≡ Some family → IsRightFor p depth (Breach events family)
+  pub breach-right : (depth : ℕ) (trace : Trace) (events : List Event) (family : ℕ) → depth ≤ 16 →
+      IsRight (system_of p) g depth (system.Breach trace) → events_by p trace.rules ≡ Some events →
+      broken_after p events ≡ Some family → IsRightFor p depth (Breach events family)
   breach-right depth trace events family few right by is =
       let led = led-to-breach depth trace few right in
       let same : led.events ≡ events = same_Some led.events events (sym led.by_rules ∙ by) in
@@ -132,7 +136,10 @@ module _ (p : PlantLists) (lead : RulesStep p) (g : GoalTree) (goal : IsGoalOf p
   pub out-fires : (depth : ℕ) (trace : Trace) (first : State) → IsCalm p first → image_of p first ≡ trace.first → IsRight (system_of p) g depth (system.NotInductive trace) → is_some (events_by p trace.rules) ≡ true
   out-fires depth trace first calm image right = ap is_some (led-out depth trace first calm image right.1).by_rules
 
-  pub out-right : (depth : ℕ) (trace : Trace) (first : State) (events : List Event) → depth ≤ 16 → IsCalm p first → image_of p first ≡ trace.first → IsRight (system_of p) g depth (system.NotInductive trace) → events_by p trace.rules ≡ Some events → IsRightFor p depth (NotInductive first events)
+  pub out-right : (depth : ℕ) (trace : Trace) (first : State) (events : List Event) → depth ≤ 16 →
+      IsCalm p first → image_of p first ≡ trace.first →
+      IsRight (system_of p) g depth (system.NotInductive trace) → events_by p trace.rules ≡ Some events →
+      IsRightFor p depth (NotInductive first events)
   out-right depth trace first events few calm image right by =
       let led = led-out depth trace first calm image right.1 in
       let same : led.events ≡ events = same_Some led.events events (sym led.by_rules ∙ by) in

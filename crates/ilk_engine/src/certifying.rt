@@ -12,7 +12,8 @@ use std::alloc::{AllocError, Global};
 /// answers. No memory for the text is its only error.
 pub fn certificate(alloc: Global, found: &Found) -> Result<Vec<u8>, AllocError>
     requires hints { IsTrue (all_hints_from_one found.now.asked) }
-    ensures { IfOk result (λ text. text.items ≡ certificate_text_of found.now.verdict found.now.asked) }
+    ensures { IfOk result
+        (λ text. text.items ≡ certificate_text_of found.now.verdict found.now.asked) }
 {
     let asked = found.asked.as_slice();
     match &found.verdict {

@@ -25,18 +25,24 @@ use std::alloc::{AllocError, Global};
 pub fn decide(alloc: Global, plant: &Plant, depth: u32, conflicts: u64) -> Result<Found, AllocError>
     requires some_depth { 0 < depth }
     requires depth { depth ≤ 16 }
-    ensures right { IfOk result (λ found. IsRightFor plant.now depth found.verdict ⊎ (found.verdict ≡ Verdict.Spent)) }
+    ensures right { IfOk result
+        (λ found. IsRightFor plant.now depth found.verdict ⊎ (found.verdict ≡ Verdict.Spent)) }
 
     // What is safe is so for runs of any length.
     ensures lasts { IfOk result (λ found. LastsFor plant.now found.verdict) }
 
     // Over a strict table it is safe with k = 1, or all conflicts are spent.
-    ensures strict { IfOk result (λ found. IsStrict plant.now → (found.verdict ≡ Verdict.Safe 1) ⊎ (found.verdict ≡ Verdict.Spent)) }
-    ensures asked { IfOk result (λ found. IsAskedOf plant.now depth conflicts found.verdict found.asked) }
+    ensures strict { IfOk result
+        (λ found. IsStrict plant.now →
+        (found.verdict ≡ Verdict.Safe 1) ⊎ (found.verdict ≡ Verdict.Spent)) }
+    ensures asked { IfOk result
+        (λ found. IsAskedOf plant.now depth conflicts found.verdict found.asked) }
     ensures few { IfOk result (λ found. all_conflicts found.asked ≤ conflicts) }
 
     // What `certificate` writes of the answer is the certificate of its verdict.
-    ensures certified { IfOk result (λ found. IsCertificateOf plant.now depth conflicts found.verdict (certificate_text_of found.verdict found.asked)) }
+    ensures certified { IfOk result
+        (λ found. IsCertificateOf plant.now depth conflicts found.verdict
+        (certificate_text_of found.verdict found.asked)) }
     ensures hints { IfOk result (λ found. IsTrue (all_hints_from_one found.asked)) }
 {
     plant.is_sound();

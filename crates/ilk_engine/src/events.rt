@@ -12,7 +12,8 @@ use std::alloc::{AllocError, Global};
 
 // Adds the event of a rule, if it has one.
 fn push_event(plant: &Plant, events: &mut Row<Event>, rule: u32) -> Result<(), AllocError>
-    ensures { OnOk result (events.new ≡ events.old ++ option_to_list (event_of_rule plant.now rule)) }
+    ensures { OnOk result
+        (events.new ≡ events.old ++ option_to_list (event_of_rule plant.now rule)) }
 {
     match event_of(plant, rule) {
         None => Ok(()),

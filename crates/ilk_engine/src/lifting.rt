@@ -27,7 +27,8 @@ fn lift_unsafe(
     requires steps { StepsAs plant.now }
     requires goal { IsGoalOf plant.now (goal_of plant.now) }
     requires depth { depth ≤ 16 }
-    requires right { IsRight (system_of plant.now) (goal_of plant.now) depth (system.Unsafe trace.now) }
+    requires right { IsRight (system_of plant.now) (goal_of plant.now) depth
+        (system.Unsafe trace.now) }
     ensures { IfOk result (IsMadeOf plant.now depth (system.Unsafe trace.now)) }
 {
     plant.is_sound();
@@ -46,7 +47,8 @@ fn lift_breach(
     requires steps { StepsAs plant.now }
     requires goal { IsGoalOf plant.now (goal_of plant.now) }
     requires depth { depth ≤ 16 }
-    requires right { IsRight (system_of plant.now) (goal_of plant.now) depth (system.Breach trace.now) }
+    requires right { IsRight (system_of plant.now) (goal_of plant.now) depth
+        (system.Breach trace.now) }
     ensures { IfOk result (IsMadeOf plant.now depth (system.Breach trace.now)) }
 {
     plant.is_sound();
@@ -66,7 +68,8 @@ fn lift_not_inductive(
     requires goal { IsGoalOf plant.now (goal_of plant.now) }
     requires some_depth { 0 < depth }
     requires depth { depth ≤ 16 }
-    requires right { IsRight (system_of plant.now) (goal_of plant.now) depth (system.NotInductive trace.now) }
+    requires right { IsRight (system_of plant.now) (goal_of plant.now) depth
+        (system.NotInductive trace.now) }
     ensures { IfOk result (IsMadeOf plant.now depth (system.NotInductive trace.now)) }
 {
     plant.is_sound();
@@ -87,7 +90,8 @@ pub(crate) fn lift(
     requires goal { IsGoalOf plant.now (goal_of plant.now) }
     requires some_depth { 0 < depth }
     requires depth { depth ≤ 16 }
-    requires right { IsRight (system_of plant.now) (goal_of plant.now) depth verdict.now ⊎ (verdict.now ≡ system.Spent) }
+    requires right { IsRight (system_of plant.now) (goal_of plant.now) depth verdict.now
+        ⊎ (verdict.now ≡ system.Spent) }
     requires lasts { Lasts (system_of plant.now) (goal_of plant.now) verdict.now }
     ensures { IfOk result (IsMadeOf plant.now depth verdict.now) }
 {

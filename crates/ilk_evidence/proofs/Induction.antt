@@ -38,7 +38,10 @@ record FromStart (s : SystemTree) (g : GoalTree) (n : ℕ) (first rules : List �
   wellformed : (j : ℕ) → j < n → met_by run (holds_in j g.wellformed) ≡ true
 
 -- its values before the last keep the families, where no shorter run breaks one
-kept-before : (s : SystemTree) (g : GoalTree) (n : ℕ) (first rules : List ℕ) (w : FromStart s g n first rules) (j : ℕ) (values : List ℕ) → j < n → ¬ HasRun s g (Breach j) → slice_get w.run j ≡ Some values → list_all (tree_holds values) g.families ≡ true
+kept-before :
+    (s : SystemTree) (g : GoalTree) (n : ℕ) (first rules : List ℕ) (w : FromStart s g n first rules) (j : ℕ)
+    (values : List ℕ) → j < n →
+    ¬ HasRun s g (Breach j) → slice_get w.run j ≡ Some values → list_all (tree_holds values) g.families ≡ true
 kept-before s g n first rules w j values less none at = by_case (list_all (tree_holds values) g.families) refl
   where
     by_case : (b : Bool) → list_all (tree_holds values) g.families ≡ b → list_all (tree_holds values) g.families ≡ true
@@ -47,14 +50,21 @@ kept-before s g n first rules w j values less none at = by_case (list_all (tree_
         let m = middle s rules first w.run j (let many = w.many in omega arith) w.is in
         let run = take (suc j) w.run in
         let start : met_by run (holds_in 0 g.start) ≡ true = met-same run w.run 0 0 g.start true (get-taken w.run (suc j) 0 (omega arith)) ∙ w.start in
-        let wellformed : list_all (met_by run) (holds_below g.wellformed (j + 1)) ≡ true = below-from run g.wellformed (j + 1) (λ i low. met-same run w.run i i g.wellformed true (get-taken w.run (suc j) i (omega arith)) ∙ w.wellformed i (omega arith)) in
+        let wellformed : list_all (met_by run) (holds_below g.wellformed (j + 1)) ≡ true = below-from run
+        g.wellformed (j + 1)
+        (λ i low. met-same run w.run i i g.wellformed true (get-taken w.run (suc j) i (omega arith))
+        ∙ w.wellformed i (omega arith)) in
         let last : met_by run (fails_in j (all_of (trees g.families))) ≡ true = met-at run (fails_in j (all_of (trees g.families))) values (get-taken w.run (suc j) j (omega arith) ∙ at) ∙ ap not (all_of-holds values g.families ∙ e) in
         let met = and_from _ _ start (list_all-append (met_by run) (holds_below g.wellformed (j + 1)) (fails_in j (all_of (trees g.families)) ∷ []) ∙ and_from _ _ wellformed (and_from _ _ last refl)) in
         let wanted : IsWanted s g (Breach j) first (take j rules) = record { in_range = w.in_range; many = length-take-le j rules (let many = w.many in omega arith); run = run; is = m.before; met = met } in
         absurd (none (first, take j rules, wanted-from s g (Breach j) first (take j rules) wanted))
 
 -- the same, of the values from number m on
-kept-later : (s : SystemTree) (g : GoalTree) (n : ℕ) (first rules : List ℕ) (w : FromStart s g n first rules) (m k : ℕ) → m + k ≡ n → ((j : ℕ) → j < n → ¬ HasRun s g (Breach j)) → (j : ℕ) → j < k → list_all (λ t. met_by (drop m w.run) (holds_in j t)) g.families ≡ true
+kept-later :
+    (s : SystemTree) (g : GoalTree) (n : ℕ) (first rules : List ℕ) (w : FromStart s g n first rules) (m k : ℕ)
+    → m + k ≡ n →
+    ((j : ℕ) → j < n → ¬ HasRun s g (Breach j)) → (j : ℕ) → j < k →
+    list_all (λ t. met_by (drop m w.run) (holds_in j t)) g.families ≡ true
 kept-later s g n first rules w m k whole none j less =
     let many = w.many in
     let here = middle s rules first w.run (m + j) (omega arith) w.is in
@@ -63,14 +73,20 @@ kept-later s g n first rules w m k whole none j less =
     ∙ kept-before s g n first rules w (m + j) here.values (omega arith) (none (m + j) (omega arith)) here.at
 
 -- so its last k steps are a run of a step query, where its last values have a hazard or break a family
-last-steps : (s : SystemTree) (g : GoalTree) (k n : ℕ) (first rules : List ℕ) → list_all (rule_valid s.ranges) s.rules ≡ true → k ≤ n → (w : FromStart s g n first rules) → ((j : ℕ) → j < n → ¬ HasRun s g (Breach j)) → met_by w.run (fails_in n (all_of (trees (negation g.hazard ∷ g.families)))) ≡ true → HasRun s g (Step k)
+last-steps : (s : SystemTree) (g : GoalTree) (k n : ℕ) (first rules : List ℕ) →
+    list_all (rule_valid s.ranges) s.rules ≡ true → k ≤ n → (w : FromStart s g n first rules) →
+    ((j : ℕ) → j < n → ¬ HasRun s g (Breach j)) →
+    met_by w.run (fails_in n (all_of (trees (negation g.hazard ∷ g.families)))) ≡ true → HasRun s g (Step k)
 last-steps s g k n first rules valid le w none last =
     let many = w.many in
     let m = middle s rules first w.run (n - k) (omega arith) w.is in
     let run = drop (n - k) w.run in
     let far : (n - k) + k ≡ n = omega arith in
     let in_range : in_ranges m.values s.ranges ≡ true = list_all-slice_get (λ values. in_ranges values s.ranges) w.run (n - k) m.values (run-is s rules first w.run valid w.in_range w.is).in_range m.at in
-    let same : (i : ℕ) (t : Tree) (holds : Bool) → met_by run (record { copy = i; form = t; holds = holds }) ≡ met_by w.run (record { copy = (n - k) + i; form = t; holds = holds }) = λ i t holds. met-same run w.run i ((n - k) + i) t holds (get-dropped w.run (n - k) i) in
+    let same : (i : ℕ) (t : Tree) (holds : Bool) →
+    met_by run (record { copy = i; form = t; holds = holds })
+    ≡ met_by w.run (record { copy = (n - k) + i; form = t; holds = holds }) =
+    λ i t holds. met-same run w.run i ((n - k) + i) t holds (get-dropped w.run (n - k) i) in
     let wellformed : list_all (met_by run) (holds_below g.wellformed k) ≡ true = below-from run g.wellformed k (λ j less. same j g.wellformed true ∙ w.wellformed ((n - k) + j) (omega arith)) in
     let families = λ (j : ℕ) (less : j < k). kept-later s g n first rules w (n - k) k far none j less in
     let T = all_of (trees (negation g.hazard ∷ g.families)) in
@@ -114,7 +130,9 @@ breach-steps s g k n valid le none has =
     last-steps s g k n has.0 has.1 valid le (record { in_range = w.in_range; many = w.many; run = w.run; is = w.is; start = parts.0; wellformed = λ j less. below-each w.run g.wellformed (n + 1) j rest.0 (omega arith) }) none last
 
 -- no run from the start of up to so many steps reaches a hazard or breaks a family
-forever-to : (s : SystemTree) (g : GoalTree) (k : ℕ) → list_all (rule_valid s.ranges) s.rules ≡ true → ((n : ℕ) → n ≤ k → ¬ HasRun s g (Hazard n)) → ((n : ℕ) → n ≤ k → ¬ HasRun s g (Breach n)) → ¬ HasRun s g (Step k) → (bound n : ℕ) → n ≤ bound → (¬ HasRun s g (Hazard n)) × (¬ HasRun s g (Breach n))
+forever-to : (s : SystemTree) (g : GoalTree) (k : ℕ) → list_all (rule_valid s.ranges) s.rules ≡ true →
+    ((n : ℕ) → n ≤ k → ¬ HasRun s g (Hazard n)) → ((n : ℕ) → n ≤ k → ¬ HasRun s g (Breach n)) →
+    ¬ HasRun s g (Step k) → (bound n : ℕ) → n ≤ bound → (¬ HasRun s g (Hazard n)) × (¬ HasRun s g (Breach n))
 forever-to s g k valid hazards breaches step zero n le = (hazards n (omega arith), breaches n (omega arith))
 forever-to s g k valid hazards breaches step (suc bound) n le =
     elim (below_or_past k n) [
@@ -123,5 +141,7 @@ forever-to s g k valid hazards breaches step (suc bound) n le =
       | inr short ↦ (hazards n short, breaches n short)
     ]
 
-pub forever : (s : SystemTree) (g : GoalTree) (k : ℕ) → list_all (rule_valid s.ranges) s.rules ≡ true → ((n : ℕ) → n ≤ k → ¬ HasRun s g (Hazard n)) → ((n : ℕ) → n ≤ k → ¬ HasRun s g (Breach n)) → ¬ HasRun s g (Step k) → (n : ℕ) → (¬ HasRun s g (Hazard n)) × (¬ HasRun s g (Breach n))
+pub forever : (s : SystemTree) (g : GoalTree) (k : ℕ) → list_all (rule_valid s.ranges) s.rules ≡ true →
+    ((n : ℕ) → n ≤ k → ¬ HasRun s g (Hazard n)) → ((n : ℕ) → n ≤ k → ¬ HasRun s g (Breach n)) →
+    ¬ HasRun s g (Step k) → (n : ℕ) → (¬ HasRun s g (Hazard n)) × (¬ HasRun s g (Breach n))
 forever s g k valid hazards breaches step n = forever-to s g k valid hazards breaches step n n (omega arith)

@@ -30,7 +30,9 @@ route-bytes : (p : PlantLists) → IsPlant p → (i : ℕ) (route : Route) → s
 route-bytes p plant i route at =
     let few : length route.path ≤ MAX_PATH = (plant.routes_known i route at).path_ends in
     let counts : is_byte (length route.path + 1) ≡ true = lt-ltb (length route.path + 1) 256 (omega (arith, few)) in
-    and_from true (is_byte (length route.path + 1) && (is_byte (length route.path + 1) && true)) refl (and_from (is_byte (length route.path + 1)) (is_byte (length route.path + 1) && true) counts (and_from (is_byte (length route.path + 1)) true counts refl))
+    and_from true (is_byte (length route.path + 1) && (is_byte (length route.path + 1) && true)) refl
+    (and_from (is_byte (length route.path + 1)) (is_byte (length route.path + 1) && true) counts
+    (and_from (is_byte (length route.path + 1)) true counts refl))
 
 pub ranges_are_bytes : (p : PlantLists) → IsPlant p → list_all (λ range. nat_lt range 256) (ranges_of_plant p) ≡ true
 ranges_are_bytes p plant =

@@ -61,7 +61,8 @@ pub fn safe_forever(plant: &Plant)
 /// start, of whatever length, ends in a state that meets the invariant. The call does nothing, and
 /// tells a proof.
 pub fn certificates_are_right(plant: &Plant)
-    ensures { (k : ℕ) (bytes : Bytes) → IsCertificate (system_of plant.now) (goal_of plant.now) k bytes → IsForeverSafe plant.now }
+    ensures { (k : ℕ) (bytes : Bytes) →
+        IsCertificate (system_of plant.now) (goal_of plant.now) k bytes → IsForeverSafe plant.now }
 {
     plant.is_sound();
     system_steps(plant);

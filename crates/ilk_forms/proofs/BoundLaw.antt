@@ -230,9 +230,17 @@ greatest-stands a None range w k e less h =
     absurd (false≢true (sym h ∙ there))
 greatest-stands a (Some l) range w k e less h = (refl, is_true-opposite a l ∙ ap not h.1 ∙ below w k (omega arith))
 
-column-says : (a : List Bool) (column : Column) (range w k : ℕ) → map (is_true a) column.values ≡ value_bits w 0 range → map (is_true a) column.bounds ≡ bound_bits w 1 (bound_count range) → w < range → 0 < k → Stands a (column_bound column k) (eqb (k + 2) range || ltb (k - 1) (bound_count range)) (leb w k)
+column-says : (a : List Bool) (column : Column) (range w k : ℕ) →
+    map (is_true a) column.values ≡ value_bits w 0 range →
+    map (is_true a) column.bounds ≡ bound_bits w 1 (bound_count range) → w < range → 0 < k →
+    Stands a (column_bound column k) (eqb (k + 2) range || ltb (k - 1) (bound_count range)) (leb w k)
 column-says a column range w k values bounds less some =
-    subst (λ (n : ℕ). Stands a (cond (eqb (k + 2) n) (option_map opposite (slice_get column.values (k + 1))) (slice_get column.bounds (k - 1))) (eqb (k + 2) range || ltb (k - 1) (bound_count range)) (leb w k)) (sym long) (by_case (eqb (k + 2) range) refl)
+    subst
+    (λ (n : ℕ). Stands a
+    (cond (eqb (k + 2) n) (option_map opposite (slice_get column.values (k + 1)))
+    (slice_get column.bounds (k - 1)))
+    (eqb (k + 2) range || ltb (k - 1) (bound_count range)) (leb w k)) (sym long)
+    (by_case (eqb (k + 2) range) refl)
   where
     long : length column.values ≡ range
     long = sym (length-map column.values (is_true a)) ∙ ap length values ∙ length-value_bits w 0 range
@@ -245,7 +253,10 @@ column-says a column range w k values bounds less some =
 
 -- the literals of a copy
 
-pub bound-says : (a : List Bool) (columns : List Column) (ranges ws : List ℕ) (v k : ℕ) → LiteralsSay a columns ranges ws → in_ranges ws ranges ≡ true → value_valid (ranges_of columns) v k ≡ true → 0 < k → Stands a (bound_leaf columns v k) (has_bound ranges v k) (at_most ws v k)
+pub bound-says : (a : List Bool) (columns : List Column) (ranges ws : List ℕ) (v k : ℕ) →
+    LiteralsSay a columns ranges ws → in_ranges ws ranges ≡ true →
+    value_valid (ranges_of columns) v k ≡ true → 0 < k →
+    Stands a (bound_leaf columns v k) (has_bound ranges v k) (at_most ws v k)
 bound-says a [] ranges ws v k h inside valid some = absurd (false≢true valid)
 bound-says a (column ∷ columns) [] ws v k h inside valid some = absurd h
 bound-says a (column ∷ columns) (range ∷ ranges) [] v k h inside valid some = absurd h
@@ -279,7 +290,11 @@ any-in ts columns n l inside e =
     bound-in columns b.0.var b.0.most n l inside b.2
 
 -- of the forms, where each literal of a bound says it
-pub any-says : (ts : Trees) (a : List Bool) (columns : List Column) (ranges ws : List ℕ) → ((v k : ℕ) → value_valid (ranges_of columns) v k ≡ true → 0 < k → Stands a (bound_leaf columns v k) (has_bound ranges v k) (at_most ws v k)) → each_valid (ranges_of columns) ts ≡ true → Stands a (any_leaf columns ts) (has_any_leaf ranges ts) (some_holds ws ts)
+pub any-says : (ts : Trees) (a : List Bool) (columns : List Column) (ranges ws : List ℕ) →
+    ((v k : ℕ) → value_valid (ranges_of columns) v k ≡ true → 0 < k →
+    Stands a (bound_leaf columns v k) (has_bound ranges v k) (at_most ws v k)) →
+    each_valid (ranges_of columns) ts ≡ true →
+    Stands a (any_leaf columns ts) (has_any_leaf ranges ts) (some_holds ws ts)
 any-says ts a columns ranges ws bounds valid = by_case (bound_of ts) refl
   where
     by_case : (o : Option Bound) → bound_of ts ≡ o → Stands a (option_and_then (λ b. bound_leaf columns b.var b.most) o) (is_some_and o (λ b. has_bound ranges b.var b.most)) (some_holds ws ts)

@@ -16,7 +16,10 @@ use Rattle.ilk_copy.proofs.CopyLaw.{ranges_fit, numbers-end, column-low, columns
 use Rattle.ilk_forms.specs.Leaf.{columns_in, ranges_of}
 use Rattle.ilk_forms.proofs.Reading.{columns_in-more}
 
-bounds-lits_in : (es : List Literal) (first range k n : ℕ) (below : Literal) → 0 < first → 0 < bit_count range → first + bit_count range ≤ n + 1 → clause_in (bounds_from first range below k es n).part.vars (bounds_from first range below k es n).lits ≡ true
+bounds-lits_in : (es : List Literal) (first range k n : ℕ) (below : Literal) → 0 < first →
+    0 < bit_count range → first + bit_count range ≤ n + 1 →
+    clause_in (bounds_from first range below k es n).part.vars (bounds_from first range below k es n).lits
+    ≡ true
 bounds-lits_in [] first range k n below low some high = refl
 bounds-lits_in (e ∷ es) first range k n below low some high =
     let m = (at_most_part range k below e n).vars in

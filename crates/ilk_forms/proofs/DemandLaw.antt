@@ -58,7 +58,9 @@ clause_or-fits first positive None n p f inside h = h
 clause_or-fits first positive (Some l) n p f inside h = signed_clause-fits first positive l n f (inside l refl)
 
 mutual
-  pub demand_of-fits : (t : Tree) (columns : List Column) (first : List Literal) (positive : Bool) (n : ℕ) → columns_in n columns ≡ true → clause_in n first ≡ true → tree_valid (ranges_of columns) t ≡ true → PartFits n (demand_of columns first positive t n)
+  pub demand_of-fits : (t : Tree) (columns : List Column) (first : List Literal) (positive : Bool) (n : ℕ) →
+      columns_in n columns ≡ true → clause_in n first ≡ true → tree_valid (ranges_of columns) t ≡ true →
+      PartFits n (demand_of columns first positive t n)
   demand_of-fits yes columns first true n h f k = record { low = same n; inside = refl }
   demand_of-fits yes columns first false n h f k = clause-fits first n f
   demand_of-fits no columns first true n h f k = clause-fits first n f
@@ -73,7 +75,10 @@ mutual
       clause_or-fits first false (any_leaf columns ts) n (demand_each columns first false ts n) f (λ l e. any-in ts columns n l h e) (demand_each-fits ts columns first false n h f k)
   demand_of-fits (negation t) columns first positive n h f k = demand_of-fits t columns first (not positive) n h f k
 
-  pub demand_each-fits : (ts : Trees) (columns : List Column) (first : List Literal) (positive : Bool) (n : ℕ) → columns_in n columns ≡ true → clause_in n first ≡ true → each_valid (ranges_of columns) ts ≡ true → PartFits n (demand_each columns first positive ts n)
+  pub demand_each-fits :
+      (ts : Trees) (columns : List Column) (first : List Literal) (positive : Bool) (n : ℕ) →
+      columns_in n columns ≡ true → clause_in n first ≡ true → each_valid (ranges_of columns) ts ≡ true →
+      PartFits n (demand_each columns first positive ts n)
   demand_each-fits none columns first positive n h f k = record { low = same n; inside = refl }
   demand_each-fits (more t ts) columns first positive n h f k =
       let parts = and_parts _ _ k in
@@ -107,9 +112,16 @@ clause-law a first n size = no_more_if a n (first ∷ []) (some_true a first || 
 
 leaf-law : (a : List Bool) (first : List Literal) (l : Literal) (truth : Bool) (n : ℕ) → length a ≡ n → is_true a l ≡ truth → Extends a n ((first ++ l ∷ []) ∷ []) (OnlyIf (some_true a first || truth) [])
 leaf-law a first l truth n size h =
-    no_more_if a n ((first ++ l ∷ []) ∷ []) (some_true a first || truth) size (and-true (some_true a (first ++ l ∷ [])) ∙ list_any-append (is_true a) first (l ∷ []) ∙ (let one : (is_true a l || false) ≡ truth = or-false (is_true a l) ∙ h in ap (λ (b : Bool). some_true a first || b) one))
+    no_more_if a n ((first ++ l ∷ []) ∷ []) (some_true a first || truth) size
+    (and-true (some_true a (first ++ l ∷ [])) ∙ list_any-append (is_true a) first (l ∷ [])
+    ∙
+    (let one : (is_true a l || false) ≡ truth = or-false (is_true a l) ∙ h in
+    ap (λ (b : Bool). some_true a first || b) one))
 
-pub some-law : (a : List Bool) (first : List Literal) (g : Named) (t : Truths) (truth : Bool) (n : ℕ) → length a ≡ n → clause_in n first ≡ true → Fits n g → Says a g t → gate_truth false t.lits ≡ truth → Extends a (some_part first g).vars (some_part first g).clauses (OnlyIf (some_true a first || truth) t.bits)
+pub some-law : (a : List Bool) (first : List Literal) (g : Named) (t : Truths) (truth : Bool) (n : ℕ) →
+    length a ≡ n → clause_in n first ≡ true → Fits n g → Says a g t → gate_truth false t.lits ≡ truth →
+    Extends a (some_part first g).vars (some_part first g).clauses
+    (OnlyIf (some_true a first || truth) t.bits)
 some-law a first g t truth n size f fits says means =
     let m = g.part.vars in
     let e = t.bits in
@@ -120,21 +132,40 @@ some-law a first g t truth n size f fits says means =
     let old : some_true (a ++ e) first ≡ some_true a first = some_true-left a e first (rw size f) in
     let new : some_true (a ++ e) g.lits ≡ truth = sym (list_any-map (λ (q : Bool). q) (is_true (a ++ e)) g.lits) ∙ ap (gate_truth false) says.means ∙ means in
     let one : satisfies (a ++ e) (ls ∷ []) ≡ ok = and-true (some_true (a ++ e) ls) ∙ list_any-append (is_true (a ++ e)) first g.lits ∙ rw (old, new) refl in
-    let both : Extends a m (g.part.clauses ++ ls ∷ []) (OnlyIf ok (e ++ [])) = if_then_if a e [] true ok m m g.part.clauses (ls ∷ []) low (same m) fits.inside (if_from_only a m g.part.clauses e says.part) (λ _. no_more_if (a ++ e) m (ls ∷ []) ok long one) in
+    let both : Extends a m (g.part.clauses ++ ls ∷ []) (OnlyIf ok (e ++ [])) = if_then_if a e [] true ok m m
+    g.part.clauses (ls ∷ []) low (same m) fits.inside (if_from_only a m g.part.clauses e says.part)
+    (λ _. no_more_if (a ++ e) m (ls ∷ []) ok long one) in
     subst (λ (d : List Bool). Extends a m (g.part.clauses ++ ls ∷ []) (OnlyIf ok d)) (append-nil e) both
 
-clause_or-law : (a : List Bool) (first : List Literal) (positive : Bool) (o : Option Literal) (has truth : Bool) (n : ℕ) (p : Part) (bits : List Bool) → length a ≡ n → Stands a o has truth → Extends a p.vars p.clauses (OnlyIf (some_true a first || same_truth positive truth) bits) → Extends a (clause_or first positive o n p).vars (clause_or first positive o n p).clauses (OnlyIf (some_true a first || same_truth positive truth) (cond has [] bits))
+clause_or-law :
+    (a : List Bool) (first : List Literal) (positive : Bool) (o : Option Literal) (has truth : Bool) (n : ℕ)
+    (p : Part) (bits : List Bool) → length a ≡ n →
+    Stands a o has truth →
+    Extends a p.vars p.clauses (OnlyIf (some_true a first || same_truth positive truth) bits) →
+    Extends a (clause_or first positive o n p).vars (clause_or first positive o n p).clauses
+    (OnlyIf (some_true a first || same_truth positive truth) (cond has [] bits))
 clause_or-law a first positive None has truth n p bits size h law =
     subst (λ (b : Bool). Extends a p.vars p.clauses (OnlyIf (some_true a first || same_truth positive truth) (cond {A = List Bool} b [] bits))) (sym h) law
 clause_or-law a first positive (Some l) has truth n p bits size h law =
-    subst (λ (b : Bool). Extends a n ((first ++ signed positive l ∷ []) ∷ []) (OnlyIf (some_true a first || same_truth positive truth) (cond {A = List Bool} b [] bits))) (sym h.0) (leaf-law a first (signed positive l) (same_truth positive truth) n size (signed-says a positive l ∙ ap (same_truth positive) h.1))
+    subst
+    (λ (b : Bool). Extends a n ((first ++ signed positive l ∷ []) ∷ [])
+    (OnlyIf (some_true a first || same_truth positive truth) (cond {A = List Bool} b [] bits)))
+    (sym h.0)
+    (leaf-law a first (signed positive l) (same_truth positive truth) n size
+    (signed-says a positive l ∙ ap (same_truth positive) h.1))
 
 share : (x p q : Bool) → ((x || p) && (x || q)) ≡ (x || (p && q))
 share true p q = refl
 share false p q = refl
 
 mutual
-  pub demand_of-law : (t : Tree) (columns : List Column) (ranges ws : List ℕ) (first : List Literal) (positive : Bool) (a : List Bool) (n : ℕ) → length a ≡ n → Reads a columns ranges ws → clause_in n first ≡ true → tree_valid (ranges_of columns) t ≡ true → Extends a (demand_of columns first positive t n).vars (demand_of columns first positive t n).clauses (OnlyIf (some_true a first || same_truth positive (tree_holds ws t)) (demand_of_bits ranges ws positive t))
+  pub demand_of-law :
+      (t : Tree) (columns : List Column) (ranges ws : List ℕ) (first : List Literal) (positive : Bool)
+      (a : List Bool) (n : ℕ) → length a ≡ n →
+      Reads a columns ranges ws → clause_in n first ≡ true → tree_valid (ranges_of columns) t ≡ true →
+      Extends a (demand_of columns first positive t n).vars (demand_of columns first positive t n).clauses
+      (OnlyIf (some_true a first || same_truth positive (tree_holds ws t))
+      (demand_of_bits ranges ws positive t))
   demand_of-law yes columns ranges ws first true a n size r f k = no_clause-law a first n size
   demand_of-law yes columns ranges ws first false a n size r f k = clause-law a first n size
   demand_of-law no columns ranges ws first true a n size r f k = clause-law a first n size
@@ -142,21 +173,49 @@ mutual
   demand_of-law (is v c) columns ranges ws first positive a n size r f k =
       leaf-law a first (signed positive (leaf columns v c)) (same_truth positive (has_value ws v c)) n size (signed-says a positive (leaf columns v c) ∙ ap (same_truth positive) (r.says v c k))
   demand_of-law (all_of ts) columns ranges ws first true a n size r f k =
-      subst (λ (q : Bool). Extends a (demand_each columns first true ts n).vars (demand_each columns first true ts n).clauses (OnlyIf (some_true a first || q) (demand_each_bits ranges ws true ts))) (all-are ws true ts) (demand_each-law ts columns ranges ws first true a n size r f k)
+      subst
+      (λ (q : Bool). Extends a (demand_each columns first true ts n).vars
+      (demand_each columns first true ts n).clauses
+      (OnlyIf (some_true a first || q) (demand_each_bits ranges ws true ts)))
+      (all-are ws true ts) (demand_each-law ts columns ranges ws first true a n size r f k)
   demand_of-law (all_of ts) columns ranges ws first false a n size r f k =
-      some-law a first (gathered_each columns false false ts n) (truths_each ranges ws false false ts) (not (each_holds ws ts)) n size f (gathered_each-fits ts columns false false n (here columns ranges ws a n size r) k) (gathered_each-says ts columns ranges ws false false a n size r k) (truths_each-mean ts ranges ws false false ∙ all-are ws false ts)
+      some-law a first (gathered_each columns false false ts n) (truths_each ranges ws false false ts)
+      (not (each_holds ws ts)) n size f
+      (gathered_each-fits ts columns false false n (here columns ranges ws a n size r) k)
+      (gathered_each-says ts columns ranges ws false false a n size r k)
+      (truths_each-mean ts ranges ws false false ∙ all-are ws false ts)
   demand_of-law (any_of ts) columns ranges ws first true a n size r f k =
       let g = gathered_each columns false true ts n in
       let s = truths_each ranges ws false true ts in
-      clause_or-law a first true (any_leaf columns ts) (has_any_leaf ranges ts) (some_holds ws ts) n (some_part first g) s.bits size (any-says ts a columns ranges ws r.bounded k) (some-law a first g s (some_holds ws ts) n size f (gathered_each-fits ts columns false true n (here columns ranges ws a n size r) k) (gathered_each-says ts columns ranges ws false true a n size r k) (truths_each-mean ts ranges ws false true ∙ some-are ws true ts))
+      clause_or-law a first true (any_leaf columns ts) (has_any_leaf ranges ts) (some_holds ws ts) n
+      (some_part first g) s.bits size (any-says ts a columns ranges ws r.bounded k)
+      (some-law a first g s (some_holds ws ts) n size f
+      (gathered_each-fits ts columns false true n (here columns ranges ws a n size r) k)
+      (gathered_each-says ts columns ranges ws false true a n size r k)
+      (truths_each-mean ts ranges ws false true ∙ some-are ws true ts))
   demand_of-law (any_of ts) columns ranges ws first false a n size r f k =
       let p = demand_each columns first false ts n in
       let bits = demand_each_bits ranges ws false ts in
-      clause_or-law a first false (any_leaf columns ts) (has_any_leaf ranges ts) (some_holds ws ts) n p bits size (any-says ts a columns ranges ws r.bounded k) (subst (λ (q : Bool). Extends a p.vars p.clauses (OnlyIf (some_true a first || q) bits)) (some-are ws false ts) (demand_each-law ts columns ranges ws first false a n size r f k))
+      clause_or-law a first false (any_leaf columns ts) (has_any_leaf ranges ts) (some_holds ws ts) n p bits
+      size (any-says ts a columns ranges ws r.bounded k)
+      (subst (λ (q : Bool). Extends a p.vars p.clauses (OnlyIf (some_true a first || q) bits))
+      (some-are ws false ts) (demand_each-law ts columns ranges ws first false a n size r f k))
   demand_of-law (negation t) columns ranges ws first positive a n size r f k =
-      subst (λ (q : Bool). Extends a (demand_of columns first (not positive) t n).vars (demand_of columns first (not positive) t n).clauses (OnlyIf (some_true a first || q) (demand_of_bits ranges ws (not positive) t))) (turned positive (tree_holds ws t)) (demand_of-law t columns ranges ws first (not positive) a n size r f k)
+      subst
+      (λ (q : Bool). Extends a (demand_of columns first (not positive) t n).vars
+      (demand_of columns first (not positive) t n).clauses
+      (OnlyIf (some_true a first || q) (demand_of_bits ranges ws (not positive) t)))
+      (turned positive (tree_holds ws t))
+      (demand_of-law t columns ranges ws first (not positive) a n size r f k)
 
-  pub demand_each-law : (ts : Trees) (columns : List Column) (ranges ws : List ℕ) (first : List Literal) (positive : Bool) (a : List Bool) (n : ℕ) → length a ≡ n → Reads a columns ranges ws → clause_in n first ≡ true → each_valid (ranges_of columns) ts ≡ true → Extends a (demand_each columns first positive ts n).vars (demand_each columns first positive ts n).clauses (OnlyIf (some_true a first || forms_are ws true positive ts) (demand_each_bits ranges ws positive ts))
+  pub demand_each-law :
+      (ts : Trees) (columns : List Column) (ranges ws : List ℕ) (first : List Literal) (positive : Bool)
+      (a : List Bool) (n : ℕ) → length a ≡ n →
+      Reads a columns ranges ws → clause_in n first ≡ true → each_valid (ranges_of columns) ts ≡ true →
+      Extends a (demand_each columns first positive ts n).vars
+      (demand_each columns first positive ts n).clauses
+      (OnlyIf (some_true a first || forms_are ws true positive ts)
+      (demand_each_bits ranges ws positive ts))
   demand_each-law none columns ranges ws first positive a n size r f k = no_clause-law a first n size
   demand_each-law (more t ts) columns ranges ws first positive a n size r f k =
       let parts = and_parts _ _ k in
@@ -175,5 +234,8 @@ mutual
       let low : length a ≤ m = rw size fits.low in
       let old : some_true (a ++ e) first ≡ x = some_true-left a e first (rw size f) in
       let two : (x || truth) ≡ true → Extends (a ++ e) q.vars q.clauses (OnlyIf (x || others) d) =
-      λ ok. subst (λ (b : Bool). Extends (a ++ e) q.vars q.clauses (OnlyIf (b || others) d)) old (demand_each-law ts columns ranges ws first positive (a ++ e) m (one.sized e (ok, refl)) (reads-more a e columns ranges ws (longer a e) r) (clause_in-more n m first fits.low f) parts.1) in
+      λ ok. subst (λ (b : Bool). Extends (a ++ e) q.vars q.clauses (OnlyIf (b || others) d)) old
+      (demand_each-law ts columns ranges ws first positive (a ++ e) m (one.sized e (ok, refl))
+      (reads-more a e columns ranges ws (longer a e) r) (clause_in-more n m first fits.low f) parts.1)
+      in
       subst (λ (b : Bool). Extends a q.vars (p.clauses ++ q.clauses) (OnlyIf b (e ++ d))) (share x truth others) (if_then_if a e d (x || truth) (x || others) m q.vars p.clauses q.clauses low rest.low fits.inside one two)

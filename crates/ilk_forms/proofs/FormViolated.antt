@@ -45,7 +45,10 @@ named-fits n g h =
       inside = list_all-append (clause_in q.vars) g.part.clauses q.clauses ∙ and_from _ _ (clauses_in-more m q.vars g.part.clauses next.low h.inside) next.inside;
     }
 
-named-law : (a : List Bool) (n : ℕ) (g : Named) (s : Truths) → length a ≡ n → Fits n g → Says a g s → Extends a (first_violated_part g.lits g.part.vars).vars (g.part.clauses ++ (first_violated_part g.lits g.part.vars).clauses) (OnlyIf (not (list_all (λ q. q) s.lits)) (s.bits ++ first_violated_bits s.lits))
+named-law : (a : List Bool) (n : ℕ) (g : Named) (s : Truths) → length a ≡ n → Fits n g → Says a g s →
+    Extends a (first_violated_part g.lits g.part.vars).vars
+    (g.part.clauses ++ (first_violated_part g.lits g.part.vars).clauses)
+    (OnlyIf (not (list_all (λ q. q) s.lits)) (s.bits ++ first_violated_bits s.lits))
 named-law a n g s size fits says =
     let m = g.part.vars in
     let q = first_violated_part g.lits m in
@@ -54,7 +57,11 @@ named-law a n g s size fits says =
     let long : length b ≡ m = says.part.sized s.bits refl in
     let all : list_all (is_true b) g.lits ≡ list_all (λ (p : Bool). p) s.lits = sym (list_all-map (λ (p : Bool). p) (is_true b) g.lits) ∙ ap (λ (ps : List Bool). list_all (λ (p : Bool). p) ps) says.means in
     let law : Extends b q.vars q.clauses (OnlyIf (not (list_all (is_true b) g.lits)) (first_violated_bits (map (is_true b) g.lits))) = first_violated-law g.lits b m long fits.lits in
-    let next : Extends b q.vars q.clauses (OnlyIf ok (first_violated_bits s.lits)) = subst (λ (ps : List Bool). Extends b q.vars q.clauses (OnlyIf ok (first_violated_bits ps))) says.means (subst (λ (p : Bool). Extends b q.vars q.clauses (OnlyIf (not p) (first_violated_bits (map (is_true b) g.lits)))) all law) in
+    let next : Extends b q.vars q.clauses (OnlyIf ok (first_violated_bits s.lits)) = subst
+    (λ (ps : List Bool). Extends b q.vars q.clauses (OnlyIf ok (first_violated_bits ps))) says.means
+    (subst
+    (λ (p : Bool). Extends b q.vars q.clauses
+    (OnlyIf (not p) (first_violated_bits (map (is_true b) g.lits)))) all law) in
     let low : length a ≤ m = rw size fits.low in
     if_then_if a s.bits (first_violated_bits s.lits) true ok m q.vars g.part.clauses q.clauses low (first_violated-fits g.lits m fits.lits).low fits.inside (if_from_only a m g.part.clauses s.bits says.part) (λ _. next)
 
@@ -113,7 +120,10 @@ mutual
         | inr later ↦ right_true (tree_holds ws t) (some_holds ws ts) (some_never-means ts ws false later)
       ]
 
-pub violated-law : (t : Tree) (columns : List Column) (ranges ws : List ℕ) (a : List Bool) (n : ℕ) → length a ≡ n → Reads a columns ranges ws → tree_valid (ranges_of columns) t ≡ true → Extends a (violated_part columns t n).vars (violated_part columns t n).clauses (OnlyIf (not (tree_holds ws t)) (violated_bits ranges ws t))
+pub violated-law : (t : Tree) (columns : List Column) (ranges ws : List ℕ) (a : List Bool) (n : ℕ) →
+    length a ≡ n → Reads a columns ranges ws → tree_valid (ranges_of columns) t ≡ true →
+    Extends a (violated_part columns t n).vars (violated_part columns t n).clauses
+    (OnlyIf (not (tree_holds ws t)) (violated_bits ranges ws t))
 violated-law t columns ranges ws a n size r k = by_case (never_kept true t) refl
   where
     g : Named
@@ -122,7 +132,10 @@ violated-law t columns ranges ws a n size r k = by_case (never_kept true t) refl
     s : Truths
     s = truths ranges ws true true t
 
-    by_case : (b : Bool) → never_kept true t ≡ b → Extends a (cond b (nothing_at n) (and_then g.part (first_violated_part g.lits))).vars (cond b (nothing_at n) (and_then g.part (first_violated_part g.lits))).clauses (OnlyIf (not (tree_holds ws t)) (cond b [] (s.bits ++ first_violated_bits s.lits)))
+    by_case : (b : Bool) → never_kept true t ≡ b →
+        Extends a (cond b (nothing_at n) (and_then g.part (first_violated_part g.lits))).vars
+        (cond b (nothing_at n) (and_then g.part (first_violated_part g.lits))).clauses
+        (OnlyIf (not (tree_holds ws t)) (cond b [] (s.bits ++ first_violated_bits s.lits)))
     by_case true h = no_more_if a n [] (not (tree_holds ws t)) size (sym (ap not (never-means t ws true h)))
     by_case false h =
         let law = named-law a n g s size (gathered-fits t columns true true n (here columns ranges ws a n size r) k) (gathered-says t columns ranges ws true true a n size r k) in
@@ -205,7 +218,10 @@ more-lits f h g q ls ms made same other = ap (λ (ks : List Literal). ks ++ ms) 
 pub more-made : (f h e : Formula) (g : Named) (q : ℕ → Named) → h ≡ with_part f g.part → e ≡ with_part h (q h.vars).part → e ≡ with_part f (then_named g q).part
 more-made f h e g q made last = last ∙ ap (λ (k : Formula). with_part k (q k.vars).part) made ∙ with_part-and_then f g.part (λ m. (q m).part)
 
-pub violated-made : (f h e : Formula) (t : Tree) (columns : List Column) (ls : List Literal) → never_kept true t ≡ false → h ≡ with_part f (gathered columns true true t f.vars).part → ls ≡ (gathered columns true true t f.vars).lits → e ≡ with_part h (first_violated_part ls h.vars) → e ≡ with_part f (violated_part columns t f.vars)
+pub violated-made : (f h e : Formula) (t : Tree) (columns : List Column) (ls : List Literal) →
+    never_kept true t ≡ false → h ≡ with_part f (gathered columns true true t f.vars).part →
+    ls ≡ (gathered columns true true t f.vars).lits → e ≡ with_part h (first_violated_part ls h.vars) →
+    e ≡ with_part f (violated_part columns t f.vars)
 violated-made f h e t columns ls kept made same last =
     let g = gathered columns true true t f.vars in
     last

@@ -57,7 +57,9 @@ then-says a n g h s t size fits next_fits one two =
 
 -- one literal in place of several
 
-gate-says : (a : List Bool) (all : Bool) (ls : List Literal) (n : ℕ) → length a ≡ n → clause_in n ls ≡ true → SingleSays a (record { part = gate_part all ls n; lit = plus (n + 1) }) (gate_truth all (map (is_true a) ls) ∷ []) (gate_truth all (map (is_true a) ls))
+gate-says : (a : List Bool) (all : Bool) (ls : List Literal) (n : ℕ) → length a ≡ n → clause_in n ls ≡ true →
+    SingleSays a (record { part = gate_part all ls n; lit = plus (n + 1) })
+    (gate_truth all (map (is_true a) ls) ∷ []) (gate_truth all (map (is_true a) ls))
 gate-says a true ls n size h =
     let e : list_all (is_true a) ls ≡ gate_truth true (map (is_true a) ls) = sym (list_all-map (λ (q : Bool). q) (is_true a) ls) in
     record {
@@ -125,25 +127,44 @@ one_literal-says a positive l truth n size h =
     let says : is_true (a ++ []) (signed positive l) ≡ same_truth positive truth = ap (λ (u : List Bool). is_true u (signed positive l)) (append-nil a) ∙ signed-says a positive l ∙ ap (same_truth positive) h in
     record { part = nothing a n size; means = ap (λ (q : Bool). q ∷ []) says }
 
-literal_or-says : (a : List Bool) (positive : Bool) (o : Option Literal) (has truth : Bool) (n : ℕ) (g : Named) (t : Truths) → length a ≡ n → Stands a o has truth → Says a g t → Says a (literal_or positive o n g) (cond has (one_truth positive truth) t)
+literal_or-says :
+    (a : List Bool) (positive : Bool) (o : Option Literal) (has truth : Bool) (n : ℕ) (g : Named) (t : Truths)
+    → length a ≡ n →
+    Stands a o has truth → Says a g t →
+    Says a (literal_or positive o n g) (cond has (one_truth positive truth) t)
 literal_or-says a positive None has truth n g t size h one = subst (λ (b : Bool). Says a g (cond {A = Truths} b (one_truth positive truth) t)) (sym h) one
 literal_or-says a positive (Some l) has truth n g t size h one =
     subst (λ (b : Bool). Says a (one_literal positive l n) (cond {A = Truths} b (one_truth positive truth) t)) (sym h.0) (one_literal-says a positive l truth n size h.1)
 
 mutual
-  pub gathered-says : (t : Tree) (columns : List Column) (ranges ws : List ℕ) (all positive : Bool) (a : List Bool) (n : ℕ) → length a ≡ n → Reads a columns ranges ws → tree_valid (ranges_of columns) t ≡ true → Says a (gathered columns all positive t n) (truths ranges ws all positive t)
+  pub gathered-says :
+      (t : Tree) (columns : List Column) (ranges ws : List ℕ) (all positive : Bool) (a : List Bool) (n : ℕ) →
+      length a ≡ n → Reads a columns ranges ws → tree_valid (ranges_of columns) t ≡ true →
+      Says a (gathered columns all positive t n) (truths ranges ws all positive t)
   gathered-says yes columns ranges ws all positive a n size r k = taken_in-says a all positive n (no_literals n) no_truths size (record { low = same n; inside = refl; lits = refl }) (no_literals-says a n size)
   gathered-says no columns ranges ws all positive a n size r k = taken_in-says a all (not positive) n (no_literals n) no_truths size (record { low = same n; inside = refl; lits = refl }) (no_literals-says a n size)
   gathered-says (is v c) columns ranges ws all positive a n size r k = one_literal-says a positive (leaf columns v c) (has_value ws v c) n size (r.says v c k)
   gathered-says (all_of ts) columns ranges ws all positive a n size r k =
-      taken_in-says a all positive n (gathered_each columns positive positive ts n) (truths_each ranges ws positive positive ts) size (gathered_each-fits ts columns positive positive n (here columns ranges ws a n size r) k) (gathered_each-says ts columns ranges ws positive positive a n size r k)
+      taken_in-says a all positive n (gathered_each columns positive positive ts n)
+      (truths_each ranges ws positive positive ts) size
+      (gathered_each-fits ts columns positive positive n (here columns ranges ws a n size r) k)
+      (gathered_each-says ts columns ranges ws positive positive a n size r k)
   gathered-says (any_of ts) columns ranges ws all positive a n size r k =
       let g = gathered_each columns (not positive) positive ts n in
       let s = truths_each ranges ws (not positive) positive ts in
-      literal_or-says a positive (any_leaf columns ts) (has_any_leaf ranges ts) (some_holds ws ts) n (taken_in all (not positive) g) (truths_taken_in all (not positive) s) size (any-says ts a columns ranges ws r.bounded k) (taken_in-says a all (not positive) n g s size (gathered_each-fits ts columns (not positive) positive n (here columns ranges ws a n size r) k) (gathered_each-says ts columns ranges ws (not positive) positive a n size r k))
+      literal_or-says a positive (any_leaf columns ts) (has_any_leaf ranges ts) (some_holds ws ts) n
+      (taken_in all (not positive) g) (truths_taken_in all (not positive) s) size
+      (any-says ts a columns ranges ws r.bounded k)
+      (taken_in-says a all (not positive) n g s size
+      (gathered_each-fits ts columns (not positive) positive n (here columns ranges ws a n size r) k)
+      (gathered_each-says ts columns ranges ws (not positive) positive a n size r k))
   gathered-says (negation t) columns ranges ws all positive a n size r k = gathered-says t columns ranges ws all (not positive) a n size r k
 
-  pub gathered_each-says : (ts : Trees) (columns : List Column) (ranges ws : List ℕ) (all positive : Bool) (a : List Bool) (n : ℕ) → length a ≡ n → Reads a columns ranges ws → each_valid (ranges_of columns) ts ≡ true → Says a (gathered_each columns all positive ts n) (truths_each ranges ws all positive ts)
+  pub gathered_each-says :
+      (ts : Trees) (columns : List Column) (ranges ws : List ℕ) (all positive : Bool) (a : List Bool) (n : ℕ)
+      → length a ≡ n →
+      Reads a columns ranges ws → each_valid (ranges_of columns) ts ≡ true →
+      Says a (gathered_each columns all positive ts n) (truths_each ranges ws all positive ts)
   gathered_each-says none columns ranges ws all positive a n size r k = no_literals-says a n size
   gathered_each-says (more t ts) columns ranges ws all positive a n size r k =
       let parts = and_parts _ _ k in
@@ -153,4 +174,8 @@ mutual
       let one = gathered-says t columns ranges ws all positive a n size r parts.0 in
       let long : length (a ++ s.bits) ≡ g.part.vars = one.part.sized s.bits refl in
       let next = reads-more a s.bits columns ranges ws (longer a s.bits) r in
-      then-says a n g (gathered_each columns all positive ts) s (truths_each ranges ws all positive ts) size fits (gathered_each-fits ts columns all positive g.part.vars (here columns ranges ws (a ++ s.bits) g.part.vars long next) parts.1) one (gathered_each-says ts columns ranges ws all positive (a ++ s.bits) g.part.vars long next parts.1)
+      then-says a n g (gathered_each columns all positive ts) s (truths_each ranges ws all positive ts) size
+      fits
+      (gathered_each-fits ts columns all positive g.part.vars
+      (here columns ranges ws (a ++ s.bits) g.part.vars long next) parts.1) one
+      (gathered_each-says ts columns ranges ws all positive (a ++ s.bits) g.part.vars long next parts.1)

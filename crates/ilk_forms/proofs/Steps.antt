@@ -22,15 +22,36 @@ use Rattle.ilk_forms.proofs.DemandLaw.{demand_of-fits}
 pub taken_in-lits : (outer inner : Bool) (f h : Formula) (g : Named) (ls : List Literal) → h ≡ with_part f g.part → ls ≡ g.lits → (taken_in outer inner (record { part = nothing_at h.vars; lits = ls })).lits ≡ (taken_in outer inner g).lits
 taken_in-lits outer inner f h g ls made is = by_case (same_truth outer inner)
   where
-    by_case : (b : Bool) → (cond {A = Named} b (record { part = nothing_at h.vars; lits = ls }) (record { part = (single inner (record { part = nothing_at h.vars; lits = ls })).part; lits = (single inner (record { part = nothing_at h.vars; lits = ls })).lit ∷ [] })).lits ≡ (cond {A = Named} b g (record { part = (single inner g).part; lits = (single inner g).lit ∷ [] })).lits
+    by_case : (b : Bool) →
+        (cond {A = Named} b (record { part = nothing_at h.vars; lits = ls })
+        (record {
+          part = (single inner (record { part = nothing_at h.vars; lits = ls })).part;
+          lits = (single inner (record { part = nothing_at h.vars; lits = ls })).lit ∷ [];
+        })).lits
+        ≡
+        (cond {A = Named} b g
+        (record { part = (single inner g).part; lits = (single inner g).lit ∷ [] })).lits
     by_case true = is
     by_case false =
         ap (λ (ks : List Literal). (single_of inner ks h.vars).lit ∷ []) is ∙ ap (λ (k : Formula). (single_of inner g.lits k.vars).lit ∷ []) made
 
-pub taken_in-made : (outer inner : Bool) (f h k : Formula) (g : Named) (ls : List Literal) → h ≡ with_part f g.part → ls ≡ g.lits → k ≡ with_part h (taken_in outer inner (record { part = nothing_at h.vars; lits = ls })).part → k ≡ with_part f (taken_in outer inner g).part
+pub taken_in-made : (outer inner : Bool) (f h k : Formula) (g : Named) (ls : List Literal) →
+    h ≡ with_part f g.part → ls ≡ g.lits →
+    k ≡ with_part h (taken_in outer inner (record { part = nothing_at h.vars; lits = ls })).part →
+    k ≡ with_part f (taken_in outer inner g).part
 taken_in-made outer inner f h k g ls made is last = last ∙ by_case (same_truth outer inner)
   where
-    by_case : (b : Bool) → with_part h (cond {A = Named} b (record { part = nothing_at h.vars; lits = ls }) (record { part = (single inner (record { part = nothing_at h.vars; lits = ls })).part; lits = (single inner (record { part = nothing_at h.vars; lits = ls })).lit ∷ [] })).part ≡ with_part f (cond {A = Named} b g (record { part = (single inner g).part; lits = (single inner g).lit ∷ [] })).part
+    by_case : (b : Bool) →
+        with_part h
+        (cond {A = Named} b (record { part = nothing_at h.vars; lits = ls })
+        (record {
+          part = (single inner (record { part = nothing_at h.vars; lits = ls })).part;
+          lits = (single inner (record { part = nothing_at h.vars; lits = ls })).lit
+              ∷ [];
+        })).part
+        ≡ with_part f
+        (cond {A = Named} b g
+        (record { part = (single inner g).part; lits = (single inner g).lit ∷ [] })).part
     by_case true = (let end = append-nil h.clauses in rw end made)
     by_case false =
         ap (λ (ks : List Literal). with_part h (single_of inner ks h.vars).part) is
@@ -49,7 +70,12 @@ pub record Gathering (columns : List Column) (all positive : Bool) (g : Formula)
   pub lits : done ++ (gathered_each columns all positive rest g.vars).lits ≡ whole
   pub made : with_part g (gathered_each columns all positive rest g.vars).part ≡ end
 
-pub gathered-step : (columns : List Column) (all positive : Bool) (f g : Formula) (lits slice next longer whole : List Literal) (end : Formula) (t : Tree) (ts ss : Trees) → ss ≡ more t ts → slice ≡ next → next ≡ (gathered columns all positive t f.vars).lits → g ≡ with_part f (gathered columns all positive t f.vars).part → longer ≡ lits ++ slice → Gathering columns all positive f lits ss whole end → Gathering columns all positive g longer ts whole end
+pub gathered-step :
+    (columns : List Column) (all positive : Bool) (f g : Formula)
+    (lits slice next longer whole : List Literal) (end : Formula) (t : Tree) (ts ss : Trees) →
+    ss ≡ more t ts → slice ≡ next → next ≡ (gathered columns all positive t f.vars).lits →
+    g ≡ with_part f (gathered columns all positive t f.vars).part → longer ≡ lits ++ slice →
+    Gathering columns all positive f lits ss whole end → Gathering columns all positive g longer ts whole end
 gathered-step columns all positive f g lits slice next longer whole end t ts ss split seen is made pushed h =
     let n = f.vars in
     let p = gathered columns all positive t n in
@@ -82,7 +108,11 @@ pub record Demanding (columns : List Column) (heads : List Literal) (positive : 
   pub valid : each_valid (ranges_of columns) rest ≡ true
   pub made : with_part g (demand_each columns heads positive rest g.vars) ≡ end
 
-pub demand-step : (columns : List Column) (first : List Literal) (positive : Bool) (f g end : Formula) (t : Tree) (ts ss : Trees) → ss ≡ more t ts → g ≡ with_part f (demand_of columns first positive t f.vars) → Demanding columns first positive f ss end → Demanding columns first positive g ts end
+pub demand-step :
+    (columns : List Column) (first : List Literal) (positive : Bool) (f g end : Formula) (t : Tree)
+    (ts ss : Trees) → ss ≡ more t ts →
+    g ≡ with_part f (demand_of columns first positive t f.vars) → Demanding columns first positive f ss end →
+    Demanding columns first positive g ts end
 demand-step columns first positive f g end t ts ss split made h =
     let n = f.vars in
     let p = demand_of columns first positive t n in

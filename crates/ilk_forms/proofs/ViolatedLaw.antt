@@ -41,7 +41,10 @@ pub after-fits : (others : List Literal) (before : Literal) (n : ℕ) → lit_in
 after-fits [] before n h k = no_literals-fits n
 after-fits (kept ∷ others) before n h k =
     let parts = and_parts _ _ k in
-    then-fits n (next_violated before kept n) (violated_after (plus (n + 1 + 1)) others) (next-fits before kept n h parts.0) (after-fits others (plus (n + 1 + 1)) (n + 1 + 1) (new-in (n + 1) true) (clause_in-more n (n + 1 + 1) others (omega arith) parts.1))
+    then-fits n (next_violated before kept n) (violated_after (plus (n + 1 + 1)) others)
+    (next-fits before kept n h parts.0)
+    (after-fits others (plus (n + 1 + 1)) (n + 1 + 1) (new-in (n + 1) true)
+    (clause_in-more n (n + 1 + 1) others (omega arith) parts.1))
 
 pub first_violated-fits : (ls : List Literal) (n : ℕ) → clause_in n ls ≡ true → PartFits n (first_violated_part ls n)
 first_violated-fits [] n h = record { low = omega arith; inside = refl }
@@ -72,7 +75,10 @@ next-says a before kept p q n size h k bp kq =
     let next : Extends (a ++ e) (n + 1 + 1) (all_of_part (before ∷ kept ∷ []) (n + 1)).clauses (Only ((p && q) ∷ [])) = subst (λ (b : Bool). Extends (a ++ e) (n + 1 + 1) (all_of_part (before ∷ kept ∷ []) (n + 1)).clauses (Only (b ∷ []))) w two in
     let low : length a ≤ n + 1 = omega (arith, size) in
     record {
-      part = one_by_one a e ((p && q) ∷ []) (n + 1) (n + 1 + 1) (any_of_part (opposite before ∷ kept ∷ []) n).clauses (all_of_part (before ∷ kept ∷ []) (n + 1)).clauses low (omega arith) (any_of-in n (opposite before ∷ kept ∷ []) (two-in n (opposite before) kept h k)) first next;
+      part = one_by_one a e ((p && q) ∷ []) (n + 1) (n + 1 + 1)
+          (any_of_part (opposite before ∷ kept ∷ []) n).clauses
+          (all_of_part (before ∷ kept ∷ []) (n + 1)).clauses low (omega arith)
+          (any_of-in n (opposite before ∷ kept ∷ []) (two-in n (opposite before) kept h k)) first next;
       means = ap (λ (b : Bool). not b ∷ []) (value-new a ((p && q) ∷ []) (not (p && not q)) (n + 1) (ap (λ (m : ℕ). m + 1) size)) ∙ ap (λ (b : Bool). b ∷ []) (twice (p && not q));
     }
   where
@@ -98,7 +104,9 @@ next-says a before kept p q n size h k bp kq =
         let y_is : y ≡ q = two ∙ kq in
         rw (x_is, y_is) (last p q)
 
-pub after-says : (others : List Literal) (a : List Bool) (before : Literal) (p : Bool) (n : ℕ) → length a ≡ n → lit_in n before ≡ true → clause_in n others ≡ true → is_true a before ≡ p → Says a (violated_after before others n) (truths_after p (map (is_true a) others))
+pub after-says : (others : List Literal) (a : List Bool) (before : Literal) (p : Bool) (n : ℕ) →
+    length a ≡ n → lit_in n before ≡ true → clause_in n others ≡ true → is_true a before ≡ p →
+    Says a (violated_after before others n) (truths_after p (map (is_true a) others))
 after-says [] a before p n size h k bp = no_literals-says a n size
 after-says (kept ∷ others) a before p n size h k bp =
     let parts = and_parts _ _ k in
@@ -112,10 +120,17 @@ after-says (kept ∷ others) a before p n size h k bp =
     let split : (a ++ not (p && not q) ∷ []) ++ (p && q) ∷ [] ≡ a ++ s.bits = append_assoc a (not (p && not q) ∷ []) ((p && q) ∷ []) in
     let here : length (a ++ not (p && not q) ∷ []) + 1 ≡ m = omega (arith, size, length-append a (not (p && not q) ∷ [])) in
     let new : is_true (a ++ s.bits) (plus m) ≡ (p && q) = subst (λ (u : List Bool). value u m ≡ (p && q)) split (value-new (a ++ not (p && not q) ∷ []) [] (p && q) m here) in
-    let rest : Says (a ++ s.bits) (violated_after (plus m) others m) (truths_after (p && q) (map (is_true a) others)) = subst (λ (qs : List Bool). Says (a ++ s.bits) (violated_after (plus m) others m) (truths_after (p && q) qs)) same (after-says others (a ++ s.bits) (plus m) (p && q) m long (new-in (n + 1) true) inside new) in
+    let rest : Says (a ++ s.bits) (violated_after (plus m) others m)
+    (truths_after (p && q) (map (is_true a) others)) =
+    subst
+    (λ (qs : List Bool). Says (a ++ s.bits) (violated_after (plus m) others m)
+    (truths_after (p && q) qs)) same
+    (after-says others (a ++ s.bits) (plus m) (p && q) m long (new-in (n + 1) true) inside new) in
     then-says a n (next_violated before kept n) (violated_after (plus m) others) s (truths_after (p && q) (map (is_true a) others)) size (next-fits before kept n h parts.0) (after-fits others (plus m) m (new-in (n + 1) true) inside) one rest
 
-pub first_violated-law : (ls : List Literal) (a : List Bool) (n : ℕ) → length a ≡ n → clause_in n ls ≡ true → Extends a (first_violated_part ls n).vars (first_violated_part ls n).clauses (OnlyIf (not (list_all (is_true a) ls)) (first_violated_bits (map (is_true a) ls)))
+pub first_violated-law : (ls : List Literal) (a : List Bool) (n : ℕ) → length a ≡ n → clause_in n ls ≡ true →
+    Extends a (first_violated_part ls n).vars (first_violated_part ls n).clauses
+    (OnlyIf (not (list_all (is_true a) ls)) (first_violated_bits (map (is_true a) ls)))
 first_violated-law [] a n size h = no_more_if a n ([] ∷ []) false size refl
 first_violated-law (kept ∷ others) a n size h =
     let parts = and_parts _ _ h in
@@ -161,7 +176,16 @@ first_violated-few (kept ∷ others) n =
 more_by_two : (n : ℕ) → n ≤ n + 1 + 1
 more_by_two n = omega arith
 
-pub after-step : (f g : Formula) (before kept next first : Literal) (ls whole : List Literal) (end : Formula) (others rest : List Literal) → others ≡ kept ∷ rest → clause_in f.vars (before ∷ others) ≡ true → first ≡ minus (f.vars + 1) → next ≡ plus (f.vars + 1 + 1) → g ≡ with_part f (next_violated before kept f.vars).part → ls ++ (violated_after before others f.vars).lits ≡ whole → with_part f (violated_after before others f.vars).part ≡ end → (clause_in g.vars (next ∷ rest) ≡ true) × ((ls ++ first ∷ []) ++ (violated_after next rest g.vars).lits ≡ whole) × (with_part g (violated_after next rest g.vars).part ≡ end)
+pub after-step :
+    (f g : Formula) (before kept next first : Literal) (ls whole : List Literal) (end : Formula)
+    (others rest : List Literal) →
+    others ≡ kept ∷ rest → clause_in f.vars (before ∷ others) ≡ true → first ≡ minus (f.vars + 1) →
+    next ≡ plus (f.vars + 1 + 1) → g ≡ with_part f (next_violated before kept f.vars).part →
+    ls ++ (violated_after before others f.vars).lits ≡ whole →
+    with_part f (violated_after before others f.vars).part ≡ end →
+    (clause_in g.vars (next ∷ rest) ≡ true) ×
+    ((ls ++ first ∷ []) ++ (violated_after next rest g.vars).lits ≡ whole) ×
+    (with_part g (violated_after next rest g.vars).part ≡ end)
 after-step f g before kept next first ls whole end others rest split inside is_first is_next made seen h =
     let n = f.vars in
     let m = n + 1 + 1 in

@@ -77,7 +77,8 @@ fn bound_leaf(table: &Table, bound: Bound) -> Option<Lit>
 // variable is at most a value, and the copy has a literal of that.
 pub fn any_leaf(table: &Table, forms: &[Form]) -> Option<Lit>
     ensures leaf { result ≡ any_leaf table.now (trees_of forms.now) }
-    ensures within { (n : ℕ) → IsTrue (columns_in n table.now) → IfSome result (λ l. IsTrue (lit_in n l)) }
+    ensures within { (n : ℕ) → IsTrue (columns_in n table.now) →
+        IfSome result (λ l. IsTrue (lit_in n l)) }
 {
     let bound = bound_of(forms)?;
     bound_leaf(table, bound)

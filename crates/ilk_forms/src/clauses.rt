@@ -29,7 +29,8 @@ pub fn add_some(
 ) -> Result<(), AllocError>
     requires first { IsTrue (clause_in cnf.old.vars first.now) }
     requires others { IsTrue (clause_in cnf.old.vars others.now) }
-    ensures { OnOk result (cnf.new ≡ with_part cnf.old (one_clause (first.now ++ others.now) cnf.old.vars)) }
+    ensures { OnOk result
+        (cnf.new ≡ with_part cnf.old (one_clause (first.now ++ others.now) cnf.old.vars)) }
 {
     let mut lits = Lits::new(alloc);
     push_all(&mut lits, first)?;
@@ -50,7 +51,11 @@ fn demand_some(
     requires within { IsTrue (columns_in cnf.old.vars table.now) }
     requires first { IsTrue (clause_in cnf.old.vars first.now) }
     requires valid { IsTrue (each_valid (ranges_of table.now) (trees_of forms.now)) }
-    ensures { OnOk result (cnf.new ≡ with_part cnf.old (some_part first.now (gathered_each table.now false positive (trees_of forms.now) cnf.old.vars))) }
+    ensures { OnOk result
+        (cnf.new
+        ≡ with_part cnf.old
+        (some_part first.now
+        (gathered_each table.now false positive (trees_of forms.now) cnf.old.vars))) }
 {
     let lits = gather_each(alloc, cnf, table, false, positive, forms)?;
     add_some(alloc, cnf, first, lits.as_slice())?;
@@ -70,7 +75,10 @@ fn demand_of(
     requires within { IsTrue (columns_in cnf.old.vars table.now) }
     requires first { IsTrue (clause_in cnf.old.vars first.now) }
     requires valid { IsTrue (tree_valid (ranges_of table.now) (tree_of form.now)) }
-    ensures { OnOk result (cnf.new ≡ with_part cnf.old (demand_of table.now first.now positive (tree_of form.now) cnf.old.vars)) }
+    ensures { OnOk result
+        (cnf.new
+        ≡ with_part cnf.old
+        (demand_of table.now first.now positive (tree_of form.now) cnf.old.vars)) }
 {
     match form {
         Form::Yes if positive => Ok(()),
@@ -105,7 +113,10 @@ fn demand_each(
     requires within { IsTrue (columns_in cnf.old.vars table.now) }
     requires first { IsTrue (clause_in cnf.old.vars first.now) }
     requires valid { IsTrue (each_valid (ranges_of table.now) (trees_of forms.now)) }
-    ensures { OnOk result (cnf.new ≡ with_part cnf.old (demand_each table.now first.now positive (trees_of forms.now) cnf.old.vars)) }
+    ensures { OnOk result
+        (cnf.new
+        ≡ with_part cnf.old
+        (demand_each table.now first.now positive (trees_of forms.now) cnf.old.vars)) }
 {
     for form in forms {
         demand_of(alloc, cnf, table, first, positive, form)?;
@@ -129,15 +140,23 @@ pub fn demand(
     requires within { IsTrue (columns_in cnf.old.vars table.now) }
     requires first { IsTrue (clause_in cnf.old.vars first.now) }
     requires valid { IsTrue (tree_valid (ranges_of table.now) (tree_of form.now)) }
-    ensures made { OnOk result (cnf.new ≡ with_part cnf.old (demand_part table.now first.now (tree_of form.now) cnf.old.vars)) }
+    ensures made { OnOk result
+        (cnf.new
+        ≡ with_part cnf.old (demand_part table.now first.now (tree_of form.now) cnf.old.vars)) }
 
     // Where the copy's literals say the values ws, exactly the assignments in which a first literal
     // is true or the form holds of ws extend over the part, and the new variables have one value
     // each.
-    ensures law { OnOk result ((a : List Bool) (ranges ws : List ℕ) → length a ≡ cnf.old.vars → LiteralsSay a table.now ranges ws → IsTrue (in_ranges ws ranges) → PartExtends a (demand_part table.now first.now (tree_of form.now) cnf.old.vars) (OnlyIf (some_true a first.now || tree_holds ws (tree_of form.now)) (demand_bits ranges ws (tree_of form.now)))) }
+    ensures law { OnOk result
+        ((a : List Bool) (ranges ws : List ℕ) → length a ≡ cnf.old.vars →
+        LiteralsSay a table.now ranges ws → IsTrue (in_ranges ws ranges) →
+        PartExtends a (demand_part table.now first.now (tree_of form.now) cnf.old.vars)
+        (OnlyIf (some_true a first.now || tree_holds ws (tree_of form.now))
+        (demand_bits ranges ws (tree_of form.now)))) }
     ensures more { OnOk result (cnf.old.vars ≤ cnf.new.vars) }
     ensures vars { OnOk result (cnf.new.vars ≤ cnf.old.vars + tree_size (tree_of form.now)) }
-    ensures clauses { OnOk result (length cnf.new.clauses ≤ length cnf.old.clauses + 2 * tree_size (tree_of form.now)) }
+    ensures clauses { OnOk result
+        (length cnf.new.clauses ≤ length cnf.old.clauses + 2 * tree_size (tree_of form.now)) }
 {
     demand_of(alloc, cnf, table, first, true, form)?;
     Ok(())

@@ -46,7 +46,8 @@ fn gate(alloc: Global, cnf: &mut Cnf, all: bool, lits: &[Lit]) -> Result<Lit, Al
 fn single(alloc: Global, cnf: &mut Cnf, all: bool, lits: &[Lit]) -> Result<Lit, AllocError>
     requires { IsTrue (clause_in cnf.old.vars lits.now) }
     ensures lit { IfOk result (λ l. l ≡ (single_of all lits.now cnf.old.vars).lit) }
-    ensures made { OnOk result (cnf.new ≡ with_part cnf.old (single_of all lits.now cnf.old.vars).part) }
+    ensures made { OnOk result
+        (cnf.new ≡ with_part cnf.old (single_of all lits.now cnf.old.vars).part) }
 {
     match lits {
         [lit] => Ok(*lit),
@@ -72,8 +73,16 @@ fn take_in(
     lits: Lits,
 ) -> Result<Lits, AllocError>
     requires { IsTrue (clause_in cnf.old.vars lits) }
-    ensures lits { IfOk result (λ taken. taken ≡ (taken_in outer inner (record { part = nothing_at cnf.old.vars; lits = lits })).lits) }
-    ensures made { OnOk result (cnf.new ≡ with_part cnf.old (taken_in outer inner (record { part = nothing_at cnf.old.vars; lits = lits })).part) }
+    ensures lits { IfOk result
+        (λ taken. taken
+        ≡
+        (taken_in outer inner
+        (record { part = nothing_at cnf.old.vars; lits = lits })).lits) }
+    ensures made { OnOk result
+        (cnf.new
+        ≡ with_part cnf.old
+        (taken_in outer inner
+        (record { part = nothing_at cnf.old.vars; lits = lits })).part) }
 {
     if outer == inner {
         return Ok(lits);
@@ -105,8 +114,12 @@ pub fn gather(
 ) -> Result<Lits, AllocError>
     requires within { IsTrue (columns_in cnf.old.vars table.now) }
     requires valid { IsTrue (tree_valid (ranges_of table.now) (tree_of form.now)) }
-    ensures lits { IfOk result (λ lits. lits ≡ (gathered table.now all positive (tree_of form.now) cnf.old.vars).lits) }
-    ensures made { OnOk result (cnf.new ≡ with_part cnf.old (gathered table.now all positive (tree_of form.now) cnf.old.vars).part) }
+    ensures lits { IfOk result
+        (λ lits. lits ≡ (gathered table.now all positive (tree_of form.now) cnf.old.vars).lits) }
+    ensures made { OnOk result
+        (cnf.new
+        ≡ with_part cnf.old
+        (gathered table.now all positive (tree_of form.now) cnf.old.vars).part) }
 {
     match form {
         Form::Yes => take_in(alloc, cnf, all, positive, Lits::new(alloc)),
@@ -134,8 +147,18 @@ fn join(
 ) -> Result<Lits, AllocError>
     requires within { IsTrue (columns_in cnf.old.vars table.now) }
     requires valid { IsTrue (each_valid (ranges_of table.now) (trees_of forms.now)) }
-    ensures lits { IfOk result (λ lits. lits ≡ (taken_in all inner (gathered_each table.now inner positive (trees_of forms.now) cnf.old.vars)).lits) }
-    ensures made { OnOk result (cnf.new ≡ with_part cnf.old (taken_in all inner (gathered_each table.now inner positive (trees_of forms.now) cnf.old.vars)).part) }
+    ensures lits { IfOk result
+        (λ lits. lits
+        ≡
+        (taken_in all inner
+        (gathered_each table.now inner positive (trees_of forms.now)
+        cnf.old.vars)).lits) }
+    ensures made { OnOk result
+        (cnf.new
+        ≡ with_part cnf.old
+        (taken_in all inner
+        (gathered_each table.now inner positive (trees_of forms.now)
+        cnf.old.vars)).part) }
 {
     let lits = gather_each(alloc, cnf, table, inner, positive, forms)?;
     let taken = take_in(alloc, cnf, all, inner, lits)?;
@@ -154,8 +177,13 @@ pub fn gather_each(
 ) -> Result<Lits, AllocError>
     requires within { IsTrue (columns_in cnf.old.vars table.now) }
     requires valid { IsTrue (each_valid (ranges_of table.now) (trees_of forms.now)) }
-    ensures lits { IfOk result (λ lits. lits ≡ (gathered_each table.now all positive (trees_of forms.now) cnf.old.vars).lits) }
-    ensures made { OnOk result (cnf.new ≡ with_part cnf.old (gathered_each table.now all positive (trees_of forms.now) cnf.old.vars).part) }
+    ensures lits { IfOk result
+        (λ lits. lits
+        ≡ (gathered_each table.now all positive (trees_of forms.now) cnf.old.vars).lits) }
+    ensures made { OnOk result
+        (cnf.new
+        ≡ with_part cnf.old
+        (gathered_each table.now all positive (trees_of forms.now) cnf.old.vars).part) }
 {
     let mut lits = Lits::new(alloc);
     for form in forms {

@@ -35,7 +35,8 @@ fn add_next(alloc: Global, cnf: &mut Cnf, before: Lit, kept: Lit) -> Result<Next
     requires { IsTrue (clause_in cnf.old.vars (before ∷ kept ∷ [])) }
     ensures first { IfOk result (λ next. next.first ≡ minus (cnf.old.vars + 1)) }
     ensures before { IfOk result (λ next. next.before ≡ plus (cnf.old.vars + 1 + 1)) }
-    ensures made { OnOk result (cnf.new ≡ with_part cnf.old (next_violated before kept cnf.old.vars).part) }
+    ensures made { OnOk result
+        (cnf.new ≡ with_part cnf.old (next_violated before kept cnf.old.vars).part) }
 {
     let other = any_of(alloc, cnf, &[before.negated(), kept])?;
     let before = all_of(alloc, cnf, &[before, kept])?;
@@ -53,8 +54,10 @@ fn violated_after(
     others: &[Lit],
 ) -> Result<Lits, AllocError>
     requires { IsTrue (clause_in cnf.old.vars (before ∷ others.now)) }
-    ensures lits { IfOk result (λ lits. lits ≡ (violated_after before others.now cnf.old.vars).lits) }
-    ensures made { OnOk result (cnf.new ≡ with_part cnf.old (violated_after before others.now cnf.old.vars).part) }
+    ensures lits { IfOk result
+        (λ lits. lits ≡ (violated_after before others.now cnf.old.vars).lits) }
+    ensures made { OnOk result
+        (cnf.new ≡ with_part cnf.old (violated_after before others.now cnf.old.vars).part) }
 {
     let mut before = before;
     let mut lits = Lits::new(alloc);
@@ -69,7 +72,10 @@ fn violated_after(
 // Demands that one of the instances isn't kept, of which this is the first.
 fn some_violated(alloc: Global, cnf: &mut Cnf, kept: Lit, others: &[Lit]) -> Result<(), AllocError>
     requires { IsTrue (clause_in cnf.old.vars (kept ∷ others.now)) }
-    ensures { OnOk result (cnf.new ≡ with_part cnf.old (some_part (opposite kept ∷ []) (violated_after kept others.now cnf.old.vars))) }
+    ensures { OnOk result
+        (cnf.new
+        ≡ with_part cnf.old
+        (some_part (opposite kept ∷ []) (violated_after kept others.now cnf.old.vars))) }
 {
     let lits = violated_after(alloc, cnf, kept, others)?;
     add_some(alloc, cnf, &[kept.negated()], lits.as_slice())?;
@@ -79,7 +85,8 @@ fn some_violated(alloc: Global, cnf: &mut Cnf, kept: Lit, others: &[Lit]) -> Res
 // Demands that one of the instances isn't kept.
 fn add_first_violated(alloc: Global, cnf: &mut Cnf, kept: &[Lit]) -> Result<(), AllocError>
     requires { IsTrue (clause_in cnf.old.vars kept.now) }
-    ensures { OnOk result (cnf.new ≡ with_part cnf.old (first_violated_part kept.now cnf.old.vars)) }
+    ensures { OnOk result
+        (cnf.new ≡ with_part cnf.old (first_violated_part kept.now cnf.old.vars)) }
 {
     match kept {
         [] => cnf.add_lits(&[])?,
@@ -94,11 +101,17 @@ fn add_first_violated(alloc: Global, cnf: &mut Cnf, kept: &[Lit]) -> Result<(), 
 /// first that isn't. Where memory runs out the formula may have grown, and its owner drops it.
 pub fn first_violated(alloc: Global, cnf: &mut Cnf, kept: &[Lit]) -> Result<(), AllocError>
     requires { IsTrue (clause_in cnf.old.vars kept.now) }
-    ensures made { OnOk result (cnf.new ≡ with_part cnf.old (first_violated_part kept.now cnf.old.vars)) }
-    ensures law { OnOk result ((a : List Bool) → length a ≡ cnf.old.vars → PartExtends a (first_violated_part kept.now cnf.old.vars) (OnlyIf (not (list_all (is_true a) kept.now)) (first_violated_bits (map (is_true a) kept.now)))) }
+    ensures made { OnOk result
+        (cnf.new ≡ with_part cnf.old (first_violated_part kept.now cnf.old.vars)) }
+    ensures law { OnOk result
+        ((a : List Bool) → length a ≡ cnf.old.vars →
+        PartExtends a (first_violated_part kept.now cnf.old.vars)
+        (OnlyIf (not (list_all (is_true a) kept.now))
+        (first_violated_bits (map (is_true a) kept.now)))) }
     ensures more { OnOk result (cnf.old.vars ≤ cnf.new.vars) }
     ensures vars { OnOk result (cnf.new.vars ≤ cnf.old.vars + 2 * length kept.now) }
-    ensures clauses { OnOk result (length cnf.new.clauses ≤ length cnf.old.clauses + 6 * length kept.now + 1) }
+    ensures clauses { OnOk result
+        (length cnf.new.clauses ≤ length cnf.old.clauses + 6 * length kept.now + 1) }
 {
     add_first_violated(alloc, cnf, kept)?;
     Ok(())
@@ -150,7 +163,10 @@ fn add_some_fails(
 ) -> Result<(), AllocError>
     requires within { IsTrue (columns_in cnf.old.vars table.now) }
     requires valid { IsTrue (each_valid (ranges_of table.now) (trees_of forms.now)) }
-    ensures { OnOk result (cnf.new ≡ with_part cnf.old (violated_part table.now (all_of (trees_of forms.now)) cnf.old.vars)) }
+    ensures { OnOk result
+        (cnf.new
+        ≡ with_part cnf.old
+        (violated_part table.now (all_of (trees_of forms.now)) cnf.old.vars)) }
 {
     if some_never(true, forms) {
         return Ok(());
@@ -172,13 +188,22 @@ pub fn some_fails(
 ) -> Result<(), AllocError>
     requires within { IsTrue (columns_in cnf.old.vars table.now) }
     requires valid { IsTrue (each_valid (ranges_of table.now) (trees_of forms.now)) }
-    ensures made { OnOk result (cnf.new ≡ with_part cnf.old (violated_part table.now (all_of (trees_of forms.now)) cnf.old.vars)) }
+    ensures made { OnOk result
+        (cnf.new
+        ≡ with_part cnf.old
+        (violated_part table.now (all_of (trees_of forms.now)) cnf.old.vars)) }
 
     // Where the copy's literals say the values ws, exactly the assignments extend over the part for
     // which some form doesn't hold of ws, and the new variables have one value each.
-    ensures law { OnOk result ((a : List Bool) (ranges ws : List ℕ) → length a ≡ cnf.old.vars → LiteralsSay a table.now ranges ws → IsTrue (in_ranges ws ranges) → PartExtends a (violated_part table.now (all_of (trees_of forms.now)) cnf.old.vars) (OnlyIf (not (each_holds ws (trees_of forms.now))) (violated_bits ranges ws (all_of (trees_of forms.now))))) }
+    ensures law { OnOk result
+        ((a : List Bool) (ranges ws : List ℕ) → length a ≡ cnf.old.vars →
+        LiteralsSay a table.now ranges ws → IsTrue (in_ranges ws ranges) →
+        PartExtends a (violated_part table.now (all_of (trees_of forms.now)) cnf.old.vars)
+        (OnlyIf (not (each_holds ws (trees_of forms.now)))
+        (violated_bits ranges ws (all_of (trees_of forms.now))))) }
     ensures more { OnOk result (cnf.old.vars ≤ cnf.new.vars) }
-    ensures vars { OnOk result (cnf.new.vars ≤ cnf.old.vars + 2 * tree_size (all_of (trees_of forms.now))) }
+    ensures vars { OnOk result
+        (cnf.new.vars ≤ cnf.old.vars + 2 * tree_size (all_of (trees_of forms.now))) }
 {
     add_some_fails(alloc, cnf, table, forms)?;
     Ok(())
@@ -202,7 +227,12 @@ fn add_holds_or_some_fails(
     requires within { IsTrue (columns_in cnf.old.vars table.now) }
     requires form { IsTrue (tree_valid (ranges_of table.now) (tree_of form.now)) }
     requires valid { IsTrue (each_valid (ranges_of table.now) (trees_of forms.now)) }
-    ensures { OnOk result (cnf.new ≡ with_part cnf.old (violated_part table.now (all_of (more (negation (tree_of form.now)) (trees_of forms.now))) cnf.old.vars)) }
+    ensures { OnOk result
+        (cnf.new
+        ≡ with_part cnf.old
+        (violated_part table.now
+        (all_of (more (negation (tree_of form.now)) (trees_of forms.now)))
+        cnf.old.vars)) }
 {
     if either_never(form, forms) {
         return Ok(());
@@ -228,10 +258,30 @@ pub fn holds_or_some_fails(
     requires within { IsTrue (columns_in cnf.old.vars table.now) }
     requires form { IsTrue (tree_valid (ranges_of table.now) (tree_of form.now)) }
     requires valid { IsTrue (each_valid (ranges_of table.now) (trees_of forms.now)) }
-    ensures made { OnOk result (cnf.new ≡ with_part cnf.old (violated_part table.now (all_of (more (negation (tree_of form.now)) (trees_of forms.now))) cnf.old.vars)) }
-    ensures law { OnOk result ((a : List Bool) (ranges ws : List ℕ) → length a ≡ cnf.old.vars → LiteralsSay a table.now ranges ws → IsTrue (in_ranges ws ranges) → PartExtends a (violated_part table.now (all_of (more (negation (tree_of form.now)) (trees_of forms.now))) cnf.old.vars) (OnlyIf (not (not (tree_holds ws (tree_of form.now)) && each_holds ws (trees_of forms.now))) (violated_bits ranges ws (all_of (more (negation (tree_of form.now)) (trees_of forms.now)))))) }
+    ensures made { OnOk result
+        (cnf.new
+        ≡ with_part cnf.old
+        (violated_part table.now
+        (all_of (more (negation (tree_of form.now)) (trees_of forms.now)))
+        cnf.old.vars)) }
+    ensures law { OnOk result
+        ((a : List Bool) (ranges ws : List ℕ) → length a ≡ cnf.old.vars →
+        LiteralsSay a table.now ranges ws → IsTrue (in_ranges ws ranges) →
+        PartExtends a
+        (violated_part table.now
+        (all_of (more (negation (tree_of form.now)) (trees_of forms.now)))
+        cnf.old.vars)
+        (OnlyIf
+        (not
+        (not (tree_holds ws (tree_of form.now))
+        && each_holds ws (trees_of forms.now)))
+        (violated_bits ranges ws
+        (all_of (more (negation (tree_of form.now)) (trees_of forms.now)))))) }
     ensures more { OnOk result (cnf.old.vars ≤ cnf.new.vars) }
-    ensures vars { OnOk result (cnf.new.vars ≤ cnf.old.vars + 2 * tree_size (all_of (more (negation (tree_of form.now)) (trees_of forms.now)))) }
+    ensures vars { OnOk result
+        (cnf.new.vars
+        ≤ cnf.old.vars + 2 * tree_size
+        (all_of (more (negation (tree_of form.now)) (trees_of forms.now)))) }
 {
     add_holds_or_some_fails(alloc, cnf, table, form, forms)?;
     Ok(())

@@ -12,12 +12,17 @@ use Rattle.ilk_plant.specs.declared.network.Section.TheVariants.{Linear, Point}
 use Rattle.ilk_plant.specs.declared.table.Route.{Route}
 
 -- the text of one station
-one-text : stations_text 1 ≡ codes "{\"routes\":[{\"conflicts\":[\"s1r2\",\"s1r5\",\"s1r7\",\"s1r8\"],\"destination\":\"t1U\",\"name\":\"s1r1\",\"overlap\":[],\"path\":[\"p1\",\"t1\"],\"points\":[{\"point\":\"p1\",\"position\":\"plus\"}],\"source\":\"l0U\"},{\"conflicts\":[\"s1r1\",\"s1r6\",\"s1r7\",\"s1r8\"],\"destination\":\"u1U\",\"name\":\"s1r2\",\"overlap\":[],\"path\":[\"p1\",\"u1\"],\"points\":[{\"point\":\"p1\",\"position\":\"minus\"}],\"source\":\"l0U\"},{\"conflicts\":[\"s1r4\",\"s1r5\",\"s1r6\"],\"destination\":null,\"name\":\"s1r3\",\"overlap\":[],\"path\":[\"q1\",\"l1\"],\"points\":[{\"point\":\"q1\",\"position\":\"plus\"}],\"source\":\"t1U\"},{\"conflicts\":[\"s1r3\",\"s1r5\",\"s1r6\"],\"destination\":null,\"name\":\"s1r4\",\"overlap\":[],\"path\":[\"q1\",\"l1\"],\"points\":[{\"point\":\"q1\",\"position\":\"minus\"}],\"source\":\"u1U\"},{\"conflicts\":[\"s1r1\",\"s1r3\",\"s1r4\",\"s1r6\"],\"destination\":\"t1D\",\"name\":\"s1r5\",\"overlap\":[],\"path\":[\"q1\",\"t1\"],\"points\":[{\"point\":\"q1\",\"position\":\"plus\"}],\"source\":\"l1D\"},{\"conflicts\":[\"s1r2\",\"s1r3\",\"s1r4\",\"s1r5\"],\"destination\":\"u1D\",\"name\":\"s1r6\",\"overlap\":[],\"path\":[\"q1\",\"u1\"],\"points\":[{\"point\":\"q1\",\"position\":\"minus\"}],\"source\":\"l1D\"},{\"conflicts\":[\"s1r1\",\"s1r2\",\"s1r8\"],\"destination\":null,\"name\":\"s1r7\",\"overlap\":[],\"path\":[\"p1\",\"l0\"],\"points\":[{\"point\":\"p1\",\"position\":\"plus\"}],\"source\":\"t1D\"},{\"conflicts\":[\"s1r1\",\"s1r2\",\"s1r7\"],\"destination\":null,\"name\":\"s1r8\",\"overlap\":[],\"path\":[\"p1\",\"l0\"],\"points\":[{\"point\":\"p1\",\"position\":\"minus\"}],\"source\":\"u1D\"}],\"sections\":[{\"board_down\":null,\"board_up\":\"l0U\",\"down\":null,\"kind\":\"linear\",\"name\":\"l0\",\"up\":\"p1\"},{\"faces\":\"up\",\"kind\":\"point\",\"minus\":\"u1\",\"name\":\"p1\",\"plus\":\"t1\",\"stem\":\"l0\"},{\"board_down\":\"t1D\",\"board_up\":\"t1U\",\"down\":\"p1\",\"kind\":\"linear\",\"name\":\"t1\",\"up\":\"q1\"},{\"board_down\":\"u1D\",\"board_up\":\"u1U\",\"down\":\"p1\",\"kind\":\"linear\",\"name\":\"u1\",\"up\":\"q1\"},{\"faces\":\"down\",\"kind\":\"point\",\"minus\":\"u1\",\"name\":\"q1\",\"plus\":\"t1\",\"stem\":\"l1\"},{\"board_down\":\"l1D\",\"board_up\":null,\"down\":\"q1\",\"kind\":\"linear\",\"name\":\"l1\",\"up\":null}],\"version\":1}"
+one-text : stations_text 1
+    ≡ codes
+    "{\"routes\":[{\"conflicts\":[\"s1r2\",\"s1r5\",\"s1r7\",\"s1r8\"],\"destination\":\"t1U\",\"name\":\"s1r1\",\"overlap\":[],\"path\":[\"p1\",\"t1\"],\"points\":[{\"point\":\"p1\",\"position\":\"plus\"}],\"source\":\"l0U\"},{\"conflicts\":[\"s1r1\",\"s1r6\",\"s1r7\",\"s1r8\"],\"destination\":\"u1U\",\"name\":\"s1r2\",\"overlap\":[],\"path\":[\"p1\",\"u1\"],\"points\":[{\"point\":\"p1\",\"position\":\"minus\"}],\"source\":\"l0U\"},{\"conflicts\":[\"s1r4\",\"s1r5\",\"s1r6\"],\"destination\":null,\"name\":\"s1r3\",\"overlap\":[],\"path\":[\"q1\",\"l1\"],\"points\":[{\"point\":\"q1\",\"position\":\"plus\"}],\"source\":\"t1U\"},{\"conflicts\":[\"s1r3\",\"s1r5\",\"s1r6\"],\"destination\":null,\"name\":\"s1r4\",\"overlap\":[],\"path\":[\"q1\",\"l1\"],\"points\":[{\"point\":\"q1\",\"position\":\"minus\"}],\"source\":\"u1U\"},{\"conflicts\":[\"s1r1\",\"s1r3\",\"s1r4\",\"s1r6\"],\"destination\":\"t1D\",\"name\":\"s1r5\",\"overlap\":[],\"path\":[\"q1\",\"t1\"],\"points\":[{\"point\":\"q1\",\"position\":\"plus\"}],\"source\":\"l1D\"},{\"conflicts\":[\"s1r2\",\"s1r3\",\"s1r4\",\"s1r5\"],\"destination\":\"u1D\",\"name\":\"s1r6\",\"overlap\":[],\"path\":[\"q1\",\"u1\"],\"points\":[{\"point\":\"q1\",\"position\":\"minus\"}],\"source\":\"l1D\"},{\"conflicts\":[\"s1r1\",\"s1r2\",\"s1r8\"],\"destination\":null,\"name\":\"s1r7\",\"overlap\":[],\"path\":[\"p1\",\"l0\"],\"points\":[{\"point\":\"p1\",\"position\":\"plus\"}],\"source\":\"t1D\"},{\"conflicts\":[\"s1r1\",\"s1r2\",\"s1r7\"],\"destination\":null,\"name\":\"s1r8\",\"overlap\":[],\"path\":[\"p1\",\"l0\"],\"points\":[{\"point\":\"p1\",\"position\":\"minus\"}],\"source\":\"u1D\"}],\"sections\":[{\"board_down\":null,\"board_up\":\"l0U\",\"down\":null,\"kind\":\"linear\",\"name\":\"l0\",\"up\":\"p1\"},{\"faces\":\"up\",\"kind\":\"point\",\"minus\":\"u1\",\"name\":\"p1\",\"plus\":\"t1\",\"stem\":\"l0\"},{\"board_down\":\"t1D\",\"board_up\":\"t1U\",\"down\":\"p1\",\"kind\":\"linear\",\"name\":\"t1\",\"up\":\"q1\"},{\"board_down\":\"u1D\",\"board_up\":\"u1U\",\"down\":\"p1\",\"kind\":\"linear\",\"name\":\"u1\",\"up\":\"q1\"},{\"faces\":\"down\",\"kind\":\"point\",\"minus\":\"u1\",\"name\":\"q1\",\"plus\":\"t1\",\"stem\":\"l1\"},{\"board_down\":\"l1D\",\"board_up\":null,\"down\":\"q1\",\"kind\":\"linear\",\"name\":\"l1\",\"up\":null}],\"version\":1}"
 unfolding digits serde_json_on_literals
 one-text = refl
 
 -- its sections in numbers, from down to up
-one-sections : (numbered (stations_net 1) (stations_table 1)).sections ≡ Linear None (Some 1) None (Some 0) ∷ Point 0 2 3 Up ∷ Linear (Some 1) (Some 4) (Some 1) (Some 2) ∷ Linear (Some 1) (Some 4) (Some 3) (Some 4) ∷ Point 5 2 3 Down ∷ Linear (Some 4) None (Some 5) None ∷ []
+one-sections : (numbered (stations_net 1) (stations_table 1)).sections
+    ≡ Linear None (Some 1) None (Some 0) ∷ Point 0 2 3 Up ∷ Linear (Some 1) (Some 4) (Some 1) (Some 2)
+    ∷ Linear (Some 1) (Some 4) (Some 3) (Some 4) ∷ Point 5 2 3 Down ∷ Linear (Some 4) None (Some 5) None
+    ∷ []
 unfolding digits
 one-sections = refl
 
@@ -27,7 +32,9 @@ unfolding digits
 one-paths = refl
 
 -- and their conflicts in numbers
-one-conflicts : map (λ (route : Route). route.conflicts) (numbered (stations_net 1) (stations_table 1)).routes ≡ (1 ∷ 4 ∷ 6 ∷ 7 ∷ []) ∷ (0 ∷ 5 ∷ 6 ∷ 7 ∷ []) ∷ (3 ∷ 4 ∷ 5 ∷ []) ∷ (2 ∷ 4 ∷ 5 ∷ []) ∷ (0 ∷ 2 ∷ 3 ∷ 5 ∷ []) ∷ (1 ∷ 2 ∷ 3 ∷ 4 ∷ []) ∷ (0 ∷ 1 ∷ 7 ∷ []) ∷ (0 ∷ 1 ∷ 6 ∷ []) ∷ []
+one-conflicts : map (λ (route : Route). route.conflicts) (numbered (stations_net 1) (stations_table 1)).routes
+    ≡ (1 ∷ 4 ∷ 6 ∷ 7 ∷ []) ∷ (0 ∷ 5 ∷ 6 ∷ 7 ∷ []) ∷ (3 ∷ 4 ∷ 5 ∷ []) ∷ (2 ∷ 4 ∷ 5 ∷ []) ∷ (0 ∷ 2 ∷ 3 ∷ 5 ∷ [])
+    ∷ (1 ∷ 2 ∷ 3 ∷ 4 ∷ []) ∷ (0 ∷ 1 ∷ 7 ∷ []) ∷ (0 ∷ 1 ∷ 6 ∷ []) ∷ []
 unfolding digits
 one-conflicts = refl
 
@@ -38,6 +45,10 @@ two-names = refl
 
 -- the routes up out of the first of two stations are in conflict with those down out of the second, since all end on the line
 -- between them
-two-conflicts : map (λ (route : RouteDraft). route.conflicts) (take 4 (stations_table 2).routes) ≡ (codes "s1r2" ∷ codes "s1r5" ∷ codes "s1r7" ∷ codes "s1r8" ∷ []) ∷ (codes "s1r1" ∷ codes "s1r6" ∷ codes "s1r7" ∷ codes "s1r8" ∷ []) ∷ (codes "s1r4" ∷ codes "s1r5" ∷ codes "s1r6" ∷ codes "s2r7" ∷ codes "s2r8" ∷ []) ∷ (codes "s1r3" ∷ codes "s1r5" ∷ codes "s1r6" ∷ codes "s2r7" ∷ codes "s2r8" ∷ []) ∷ []
+two-conflicts : map (λ (route : RouteDraft). route.conflicts) (take 4 (stations_table 2).routes)
+    ≡ (codes "s1r2" ∷ codes "s1r5" ∷ codes "s1r7" ∷ codes "s1r8" ∷ [])
+    ∷ (codes "s1r1" ∷ codes "s1r6" ∷ codes "s1r7" ∷ codes "s1r8" ∷ [])
+    ∷ (codes "s1r4" ∷ codes "s1r5" ∷ codes "s1r6" ∷ codes "s2r7" ∷ codes "s2r8" ∷ [])
+    ∷ (codes "s1r3" ∷ codes "s1r5" ∷ codes "s1r6" ∷ codes "s2r7" ∷ codes "s2r8" ∷ []) ∷ []
 unfolding digits
 two-conflicts = refl

@@ -50,7 +50,11 @@ fn over_point(
     behind: &Text,
     conflicts: Row<Text>,
 ) -> Result<RouteDraft, AllocError>
-    ensures { IfOk result (λ route. route ≡ written.listing conflicts (stations.over_point ends.name ends.source ends.destination point.now at behind.now)) }
+    ensures { IfOk result
+        (λ route. route
+        ≡ written.listing conflicts
+        (stations.over_point ends.name ends.source ends.destination point.now at
+        behind.now)) }
 {
     let path = path_of(alloc, point, behind)?;
     let points = listed(alloc, point, at)?;
@@ -106,7 +110,8 @@ fn up_out_of(
     at: Position,
     conflicts: Row<Text>,
 ) -> Result<RouteDraft, AllocError>
-    ensures { IfOk result (λ route. route ≡ written.listing conflicts (stations.up_out_of n j k at)) }
+    ensures { IfOk result
+        (λ route. route ≡ written.listing conflicts (stations.up_out_of n j k at)) }
 {
     let above = line(alloc, j)?;
     let point = up_point(alloc, j)?;
@@ -155,7 +160,8 @@ fn down_out_of(
     conflicts: Row<Text>,
 ) -> Result<RouteDraft, AllocError>
     requires { 1 ≤ j }
-    ensures { IfOk result (λ route. route ≡ written.listing conflicts (stations.down_out_of j k at)) }
+    ensures { IfOk result
+        (λ route. route ≡ written.listing conflicts (stations.down_out_of j k at)) }
 {
     let below = line(alloc, j - 1)?;
     let point = down_point(alloc, j)?;

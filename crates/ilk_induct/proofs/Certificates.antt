@@ -34,7 +34,11 @@ ends-count clauses set (suc h ∷ []) e = and_from (nat_lt 0 (suc h)) true (from
 ends-count clauses set (zero ∷ (k ∷ hints)) e = absurd cc
 ends-count clauses set (suc h ∷ (k ∷ hints)) e = and_from (nat_lt 0 (suc h)) (list_all (λ h. nat_lt 0 h) (k ∷ hints)) (from-one h) (by_next (after_hint clauses set (suc h)) (λ next. ends-count clauses next (k ∷ hints)) e)
   where
-    by_next : (o : Option (List Literal)) → ((next : List Literal) → ends_false clauses next (k ∷ hints) ≡ true → list_all (λ h. nat_lt 0 h) (k ∷ hints) ≡ true) → is_some_and o (λ next. ends_false clauses next (k ∷ hints)) ≡ true → list_all (λ h. nat_lt 0 h) (k ∷ hints) ≡ true
+    by_next : (o : Option (List Literal)) →
+        ((next : List Literal) → ends_false clauses next (k ∷ hints) ≡ true →
+        list_all (λ h. nat_lt 0 h) (k ∷ hints) ≡ true) →
+        is_some_and o (λ next. ends_false clauses next (k ∷ hints)) ≡ true →
+        list_all (λ h. nat_lt 0 h) (k ∷ hints) ≡ true
     by_next None count e = absurd cc
     by_next (Some next) count e = count next e
 

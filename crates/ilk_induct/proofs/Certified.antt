@@ -90,11 +90,16 @@ bases-refuted s g last (a ∷ before) r h = by_case (is_step_query a.query) refl
     by_case false e rest = All-cons (λ (x : Asked). IsRefuted s g x.query x.log) a (bases before ++ last ∷ []) (base-refuted s g a.query a.log e (All-head (HasPassed s g None) a before h)) rest
 
 -- all together
-certified : (s : SystemTree) (g : GoalTree) (depth k : ℕ) (asked : List Asked) (last : Asked) → map (λ (a : Asked). a.query) asked ≡ query_order None k → AreAsked s g depth None asked last → last.query ≡ Step k → IsRefuted s g last.query last.log → IsCertified s g k asked
+certified : (s : SystemTree) (g : GoalTree) (depth k : ℕ) (asked : List Asked) (last : Asked) →
+    map (λ (a : Asked). a.query) asked ≡ query_order None k → AreAsked s g depth None asked last →
+    last.query ≡ Step k → IsRefuted s g last.query last.log → IsCertified s g k asked
 certified s g depth k asked last order are is refuted =
     let query : Asked → Wanted = λ a. a.query in
     let split = ap without_early_steps are.split ∙ without-early are.before last in
-    let whole : base_of (map query asked) ≡ base_of (map query are.before) ++ base_of (query last ∷ []) = ap (λ (xs : List Asked). base_of (map query xs)) are.split ∙ ap base_of (map-append query are.before (last ∷ [])) ∙ base_of-append (map query are.before) (query last ∷ []) in
+    let whole : base_of (map query asked) ≡ base_of (map query are.before) ++ base_of (query last ∷ []) =
+    ap (λ (xs : List Asked). base_of (map query xs)) are.split
+    ∙ ap base_of (map-append query are.before (last ∷ []))
+    ∙ base_of-append (map query are.before) (query last ∷ []) in
     let none : base_of (query last ∷ []) ≡ [] = ap (λ (q : Wanted). base_of (q ∷ [])) is in
     let front : base_of (map query are.before) ≡ base_of (map query asked) = sym (append-nil (base_of (map query are.before))) ∙ ap (λ (us : List Wanted). base_of (map query are.before) ++ us) (sym none) ∙ sym whole in
     record {

@@ -48,7 +48,12 @@ few : (total rest conflicts : ℕ) → total + rest ≡ conflicts → total ≤ 
 few total rest conflicts h = omega (arith, h)
 
 -- a hazard is reached
-endangered : (s : SystemTree) (g : GoalTree) (depth conflicts : ℕ) (breach : Option ℕ) (n : ℕ) (t : Trace) (log : List LogStep) (asked : List Asked) (left rest : ℕ) → IsInOrder s g depth conflicts breach (Hazard n) asked left → ((m : ℕ) → m < n → ¬ HasRun s g (Hazard m)) → IsLogOf s g (asked_with (Hazard n) log) → conflicts_of log + rest ≡ left → IsRun s g (Hazard n) t → IsEnd s g depth conflicts (Unsafe t) (asked ++ asked_with (Hazard n) log ∷ [])
+endangered :
+    (s : SystemTree) (g : GoalTree) (depth conflicts : ℕ) (breach : Option ℕ) (n : ℕ) (t : Trace)
+    (log : List LogStep) (asked : List Asked) (left rest : ℕ) →
+    IsInOrder s g depth conflicts breach (Hazard n) asked left → ((m : ℕ) → m < n → ¬ HasRun s g (Hazard m)) →
+    IsLogOf s g (asked_with (Hazard n) log) → conflicts_of log + rest ≡ left → IsRun s g (Hazard n) t →
+    IsEnd s g depth conflicts (Unsafe t) (asked ++ asked_with (Hazard n) log ∷ [])
 endangered s g depth conflicts breach n t log asked left rest d none logged count run =
     let a = asked_with (Hazard n) log in
     let e : length t.rules ≡ n = steps-of s g (Hazard n) t run in
@@ -67,7 +72,14 @@ breach-end s g depth t within known run =
     (record { no_hazard = λ m le. known.no_hazard m (omega arith); breach = record { within = within; so = (t.first, t.rules, run); least = known.no_breach } }, run)
 
 -- after a breach, a hazard query is refuted
-after-broken : (s : SystemTree) (g : GoalTree) (depth conflicts n : ℕ) (t : Trace) (log : List LogStep) (asked : List Asked) (left rest : ℕ) → depth ≤ 16 → IsInOrder s g depth conflicts (Some (length t.rules)) (Hazard n) asked left → IsFoundBreach s g n t → IsLogOf s g (asked_with (Hazard n) log) → conflicts_of log + rest ≡ left → IsRefuted s g (Hazard n) log → ¬ HasRun s g (Hazard n) → IsNext s g depth conflicts (3 * (depth - n) + 2) (after_breach depth n t) (asked ++ asked_with (Hazard n) log ∷ []) rest
+after-broken :
+    (s : SystemTree) (g : GoalTree) (depth conflicts n : ℕ) (t : Trace) (log : List LogStep)
+    (asked : List Asked) (left rest : ℕ) → depth ≤ 16 →
+    IsInOrder s g depth conflicts (Some (length t.rules)) (Hazard n) asked left → IsFoundBreach s g n t →
+    IsLogOf s g (asked_with (Hazard n) log) → conflicts_of log + rest ≡ left → IsRefuted s g (Hazard n) log →
+    ¬ HasRun s g (Hazard n) →
+    IsNext s g depth conflicts (3 * (depth - n) + 2) (after_breach depth n t)
+    (asked ++ asked_with (Hazard n) log ∷ []) rest
 after-broken s g depth conflicts n t log asked left rest low d found logged count refuted none = by_case (nat_lt n depth) refl
   where
     no_hazard : (m : ℕ) → m < n + 1 → ¬ HasRun s g (Hazard m)
@@ -93,15 +105,35 @@ after-broken s g depth conflicts n t log asked left rest low d found logged coun
         record {
           right = inl (breach-end s g depth t (omega arith) (record { no_hazard = λ m less. no_hazard m (omega arith); no_breach = found.known.no_breach; runs = found.known.runs }) found.run);
           lasts = tt;
-          queries = record { all = more-queries asked a (queries_to (Some (length t.rules)) (Hazard n)) d.order ∙ all-to-hazard (length t.rules) depth (Hazard n) same; ends = (a, asked-to s g depth conflicts (Some (length t.rules)) a asked left d logged, refuted) };
+          queries = record {
+            all = more-queries asked a (queries_to (Some (length t.rules)) (Hazard n)) d.order
+                ∙ all-to-hazard (length t.rules) depth (Hazard n) same;
+            ends = (
+              a,
+              asked-to s g depth conflicts (Some (length t.rules)) a asked left d logged,
+              refuted,
+            );
+          };
           few = few (all_conflicts (asked ++ a ∷ [])) rest conflicts (more-conflicts asked a left rest conflicts d.counted count);
         }
 
 -- a breach is found
-broke-at : (s : SystemTree) (g : GoalTree) (depth conflicts : ℕ) (t : Trace) (log : List LogStep) (asked : List Asked) (left rest : ℕ) → depth ≤ 16 → IsInOrder s g depth conflicts None (BreachQuery (length t.rules)) asked left → IsKnown s g (length t.rules + 1) (length t.rules) (length t.rules) → IsLogOf s g (asked_with (BreachQuery (length t.rules)) log) → conflicts_of log + rest ≡ left → IsRun s g (BreachQuery (length t.rules)) t → IsSatisfiable (query_formula s g (BreachQuery (length t.rules))) → IsNext s g depth conflicts (3 * (depth - length t.rules) + 1) (after_breach depth (length t.rules) t) (asked ++ asked_with (BreachQuery (length t.rules)) log ∷ []) rest
+broke-at :
+    (s : SystemTree) (g : GoalTree) (depth conflicts : ℕ) (t : Trace) (log : List LogStep)
+    (asked : List Asked) (left rest : ℕ) → depth ≤ 16 →
+    IsInOrder s g depth conflicts None (BreachQuery (length t.rules)) asked left →
+    IsKnown s g (length t.rules + 1) (length t.rules) (length t.rules) →
+    IsLogOf s g (asked_with (BreachQuery (length t.rules)) log) → conflicts_of log + rest ≡ left →
+    IsRun s g (BreachQuery (length t.rules)) t →
+    IsSatisfiable (query_formula s g (BreachQuery (length t.rules))) →
+    IsNext s g depth conflicts (3 * (depth - length t.rules) + 1) (after_breach depth (length t.rules) t)
+    (asked ++ asked_with (BreachQuery (length t.rules)) log ∷ []) rest
 broke-at s g depth conflicts t log asked left rest low d known logged count run has = by_case (nat_lt (length t.rules) depth) refl
   where
-    by_case : (c : Bool) → nat_lt (length t.rules) depth ≡ c → IsNext s g depth conflicts (3 * (depth - length t.rules) + 1) (cond c (Ask (Broken (length t.rules + 1) t)) (End (Breach t))) (asked ++ asked_with (BreachQuery (length t.rules)) log ∷ []) rest
+    by_case : (c : Bool) → nat_lt (length t.rules) depth ≡ c →
+        IsNext s g depth conflicts (3 * (depth - length t.rules) + 1)
+        (cond c (Ask (Broken (length t.rules + 1) t)) (End (Breach t)))
+        (asked ++ asked_with (BreachQuery (length t.rules)) log ∷ []) rest
     by_case true e =
         let less : length t.rules < depth = grind (arith, nat_tests) in (
           record {
@@ -118,20 +150,49 @@ broke-at s g depth conflicts t log asked left rest low d known logged count run 
         record {
           right = inl (breach-end s g depth t (omega (arith, within)) (record { no_hazard = λ m below. known.no_hazard m (omega (arith, same, below)); no_breach = known.no_breach; runs = λ m pos none. absurd (omega (arith, none)) }) run);
           lasts = tt;
-          queries = record { all = found-order asked (length t.rules) log d.order ∙ all-to-hazard (length t.rules) depth (BreachQuery (length t.rules)) same; ends = (a, found-to s g depth conflicts (length t.rules) log asked left d logged has, inr refl) };
+          queries = record {
+            all = found-order asked (length t.rules) log d.order
+                ∙ all-to-hazard (length t.rules) depth (BreachQuery (length t.rules)) same;
+            ends = (
+              a,
+              found-to s g depth conflicts (length t.rules) log asked left d logged has,
+              inr refl,
+            );
+          };
           few = few (all_conflicts (asked ++ a ∷ [])) rest conflicts (more-conflicts asked a left rest conflicts d.counted count);
         }
 
-broke : (s : SystemTree) (g : GoalTree) (depth conflicts n : ℕ) (t : Trace) (log : List LogStep) (asked : List Asked) (left rest : ℕ) → depth ≤ 16 → length t.rules ≡ n → IsInOrder s g depth conflicts None (BreachQuery n) asked left → IsKnown s g (n + 1) n n → IsLogOf s g (asked_with (BreachQuery n) log) → conflicts_of log + rest ≡ left → IsRun s g (BreachQuery n) t → IsSatisfiable (query_formula s g (BreachQuery n)) → IsNext s g depth conflicts (3 * (depth - n) + 1) (after_breach depth n t) (asked ++ asked_with (BreachQuery n) log ∷ []) rest
+broke :
+    (s : SystemTree) (g : GoalTree) (depth conflicts n : ℕ) (t : Trace) (log : List LogStep)
+    (asked : List Asked) (left rest : ℕ) → depth ≤ 16 →
+    length t.rules ≡ n → IsInOrder s g depth conflicts None (BreachQuery n) asked left →
+    IsKnown s g (n + 1) n n → IsLogOf s g (asked_with (BreachQuery n) log) → conflicts_of log + rest ≡ left →
+    IsRun s g (BreachQuery n) t → IsSatisfiable (query_formula s g (BreachQuery n)) →
+    IsNext s g depth conflicts (3 * (depth - n) + 1) (after_breach depth n t)
+    (asked ++ asked_with (BreachQuery n) log ∷ []) rest
 broke s g depth conflicts n t log asked left rest low size =
-    subst (λ (k : ℕ). IsInOrder s g depth conflicts None (BreachQuery k) asked left → IsKnown s g (k + 1) k k → IsLogOf s g (asked_with (BreachQuery k) log) → conflicts_of log + rest ≡ left → IsRun s g (BreachQuery k) t → IsSatisfiable (query_formula s g (BreachQuery k)) → IsNext s g depth conflicts (3 * (depth - k) + 1) (after_breach depth k t) (asked ++ asked_with (BreachQuery k) log ∷ []) rest) size (broke-at s g depth conflicts t log asked left rest low)
+    subst
+    (λ (k : ℕ). IsInOrder s g depth conflicts None (BreachQuery k) asked left → IsKnown s g (k + 1) k k →
+    IsLogOf s g (asked_with (BreachQuery k) log) → conflicts_of log + rest ≡ left →
+    IsRun s g (BreachQuery k) t → IsSatisfiable (query_formula s g (BreachQuery k)) →
+    IsNext s g depth conflicts (3 * (depth - k) + 1) (after_breach depth k t)
+    (asked ++ asked_with (BreachQuery k) log ∷ []) rest) size
+    (broke-at s g depth conflicts t log asked left rest low)
 
 -- a step query asks for some step
 some-step : (n : ℕ) → wanted_valid (Step n) ≡ true → 0 < n
 some-step n h = ltb-true 0 n (and_parts _ _ h).0
 
 -- a step query has a run
-left-invariant : (s : SystemTree) (g : GoalTree) (depth conflicts n : ℕ) (t : Trace) (log : List LogStep) (asked : List Asked) (left rest : ℕ) → depth ≤ 16 → IsInOrder s g depth conflicts None (Step n) asked left → IsKnown s g (n + 1) (n + 1) n → IsLogOf s g (asked_with (Step n) log) → conflicts_of log + rest ≡ left → IsRun s g (Step n) t → IsSatisfiable (query_formula s g (Step n)) → IsNext s g depth conflicts (3 * (depth - n)) (cond (nat_lt n depth) (Ask (Unbroken (Hazard (n + 1)))) (End (NotInductive t))) (asked ++ asked_with (Step n) log ∷ []) rest
+left-invariant :
+    (s : SystemTree) (g : GoalTree) (depth conflicts n : ℕ) (t : Trace) (log : List LogStep)
+    (asked : List Asked) (left rest : ℕ) → depth ≤ 16 →
+    IsInOrder s g depth conflicts None (Step n) asked left → IsKnown s g (n + 1) (n + 1) n →
+    IsLogOf s g (asked_with (Step n) log) → conflicts_of log + rest ≡ left → IsRun s g (Step n) t →
+    IsSatisfiable (query_formula s g (Step n)) →
+    IsNext s g depth conflicts (3 * (depth - n))
+    (cond (nat_lt n depth) (Ask (Unbroken (Hazard (n + 1)))) (End (NotInductive t)))
+    (asked ++ asked_with (Step n) log ∷ []) rest
 left-invariant s g depth conflicts n t log asked left rest low d known logged count run sat = by_case (nat_lt n depth) refl
   where
     has : HasRun s g (Step n)
@@ -170,7 +231,13 @@ left-invariant s g depth conflicts n t log asked left rest low d known logged co
         }
 
 -- a step query has none
-carried : (s : SystemTree) (g : GoalTree) (depth conflicts n : ℕ) (log : List LogStep) (asked : List Asked) (left rest : ℕ) → list_all (rule_valid s.ranges) s.rules ≡ true → IsInOrder s g depth conflicts None (Step n) asked left → IsKnown s g (n + 1) (n + 1) n → IsLogOf s g (asked_with (Step n) log) → conflicts_of log + rest ≡ left → IsRefuted s g (Step n) log → ¬ HasRun s g (Step n) → IsEnd s g depth conflicts (Safe n) (asked ++ asked_with (Step n) log ∷ [])
+carried :
+    (s : SystemTree) (g : GoalTree) (depth conflicts n : ℕ) (log : List LogStep) (asked : List Asked)
+    (left rest : ℕ) →
+    list_all (rule_valid s.ranges) s.rules ≡ true → IsInOrder s g depth conflicts None (Step n) asked left →
+    IsKnown s g (n + 1) (n + 1) n → IsLogOf s g (asked_with (Step n) log) → conflicts_of log + rest ≡ left →
+    IsRefuted s g (Step n) log → ¬ HasRun s g (Step n) →
+    IsEnd s g depth conflicts (Safe n) (asked ++ asked_with (Step n) log ∷ [])
 carried s g depth conflicts n log asked left rest rules d known logged count refuted none =
     let a = asked_with (Step n) log in
     let ever = forever s g n rules (λ m le. known.no_hazard m (omega (arith, le))) (λ m le. known.no_breach m (omega (arith, le))) none in
@@ -186,7 +253,12 @@ carried s g depth conflicts n log asked left rest rules d known logged count ref
     }
 
 -- a search is given up
-given-up : (s : SystemTree) (g : GoalTree) (depth conflicts : ℕ) (due : Due) (log : List LogStep) (asked : List Asked) (left rest : ℕ) → IsDue s g depth conflicts due asked left → IsLogOf s g (asked_with (due_query due) log) → conflicts_of log + rest ≡ left → IsResponse s g (due_query due) left GivenUp log → IsEnd s g depth conflicts Spent (asked ++ asked_with (due_query due) log ∷ [])
+given-up :
+    (s : SystemTree) (g : GoalTree) (depth conflicts : ℕ) (due : Due) (log : List LogStep)
+    (asked : List Asked) (left rest : ℕ) →
+    IsDue s g depth conflicts due asked left → IsLogOf s g (asked_with (due_query due) log) →
+    conflicts_of log + rest ≡ left → IsResponse s g (due_query due) left GivenUp log →
+    IsEnd s g depth conflicts Spent (asked ++ asked_with (due_query due) log ∷ [])
 given-up s g depth conflicts due log asked left rest d logged count spent =
     let a = asked_with (due_query due) log in
     let total = more-conflicts asked a left rest conflicts d.in_order.counted count in
@@ -200,21 +272,44 @@ given-up s g depth conflicts due log asked left rest d logged count spent =
     }
 
 -- a hazard query has no run, and a breach query
-no-hazard : (s : SystemTree) (g : GoalTree) (depth conflicts n : ℕ) (log : List LogStep) (asked : List Asked) (left rest : ℕ) → IsInOrder s g depth conflicts None (Hazard n) asked left → IsKnown s g n n n → IsLogOf s g (asked_with (Hazard n) log) → conflicts_of log + rest ≡ left → IsRefuted s g (Hazard n) log → ¬ HasRun s g (Hazard n) → IsDue s g depth conflicts (Unbroken (BreachQuery n)) (asked ++ asked_with (Hazard n) log ∷ []) rest
+no-hazard :
+    (s : SystemTree) (g : GoalTree) (depth conflicts n : ℕ) (log : List LogStep) (asked : List Asked)
+    (left rest : ℕ) →
+    IsInOrder s g depth conflicts None (Hazard n) asked left → IsKnown s g n n n →
+    IsLogOf s g (asked_with (Hazard n) log) → conflicts_of log + rest ≡ left → IsRefuted s g (Hazard n) log →
+    ¬ HasRun s g (Hazard n) →
+    IsDue s g depth conflicts (Unbroken (BreachQuery n)) (asked ++ asked_with (Hazard n) log ∷ []) rest
 no-hazard s g depth conflicts n log asked left rest d known logged count refuted none =
     record {
       in_order = go-on s g depth conflicts None (asked_with (Hazard n) log) (BreachQuery n) asked left rest d logged refuted count (to-breach n) d.valid d.within;
       known = record { no_hazard = below-more (λ m. ¬ HasRun s g (Hazard m)) n known.no_hazard none; no_breach = known.no_breach; runs = known.runs };
     }
 
-no-breach : (s : SystemTree) (g : GoalTree) (depth conflicts n : ℕ) (log : List LogStep) (asked : List Asked) (left rest : ℕ) → IsInOrder s g depth conflicts None (BreachQuery (suc n)) asked left → IsKnown s g (suc n + 1) (suc n) (suc n) → IsLogOf s g (asked_with (BreachQuery (suc n)) log) → conflicts_of log + rest ≡ left → IsRefuted s g (BreachQuery (suc n)) log → ¬ HasRun s g (BreachQuery (suc n)) → IsDue s g depth conflicts (Unbroken (Step (suc n))) (asked ++ asked_with (BreachQuery (suc n)) log ∷ []) rest
+no-breach :
+    (s : SystemTree) (g : GoalTree) (depth conflicts n : ℕ) (log : List LogStep) (asked : List Asked)
+    (left rest : ℕ) →
+    IsInOrder s g depth conflicts None (BreachQuery (suc n)) asked left →
+    IsKnown s g (suc n + 1) (suc n) (suc n) → IsLogOf s g (asked_with (BreachQuery (suc n)) log) →
+    conflicts_of log + rest ≡ left → IsRefuted s g (BreachQuery (suc n)) log →
+    ¬ HasRun s g (BreachQuery (suc n)) →
+    IsDue s g depth conflicts (Unbroken (Step (suc n))) (asked ++ asked_with (BreachQuery (suc n)) log ∷ [])
+    rest
 no-breach s g depth conflicts n log asked left rest d known logged count refuted none =
     record {
-      in_order = go-on s g depth conflicts None (asked_with (BreachQuery (suc n)) log) (Step (suc n)) asked left rest d logged (inl refuted) count (to-step (suc n)) (and_from (nat_lt 0 (suc n)) (wanted_valid (BreachQuery (suc n))) (lt-ltb 0 (suc n) (omega arith)) d.valid) d.within;
+      in_order = go-on s g depth conflicts None (asked_with (BreachQuery (suc n)) log) (Step (suc n)) asked
+          left rest d logged (inl refuted) count (to-step (suc n))
+          (and_from (nat_lt 0 (suc n)) (wanted_valid (BreachQuery (suc n))) (lt-ltb 0 (suc n) (omega arith))
+          d.valid) d.within;
       known = record { no_hazard = known.no_hazard; no_breach = below-more (λ m. ¬ HasRun s g (BreachQuery m)) (suc n) known.no_breach none; runs = known.runs };
     }
 
-no-breach-at-start : (s : SystemTree) (g : GoalTree) (depth conflicts : ℕ) (log : List LogStep) (asked : List Asked) (left rest : ℕ) → 0 < depth → IsInOrder s g depth conflicts None (BreachQuery 0) asked left → IsKnown s g 1 0 0 → IsLogOf s g (asked_with (BreachQuery 0) log) → conflicts_of log + rest ≡ left → IsRefuted s g (BreachQuery 0) log → ¬ HasRun s g (BreachQuery 0) → IsDue s g depth conflicts (Unbroken (Hazard 1)) (asked ++ asked_with (BreachQuery 0) log ∷ []) rest
+no-breach-at-start :
+    (s : SystemTree) (g : GoalTree) (depth conflicts : ℕ) (log : List LogStep) (asked : List Asked)
+    (left rest : ℕ) → 0 < depth →
+    IsInOrder s g depth conflicts None (BreachQuery 0) asked left → IsKnown s g 1 0 0 →
+    IsLogOf s g (asked_with (BreachQuery 0) log) → conflicts_of log + rest ≡ left →
+    IsRefuted s g (BreachQuery 0) log → ¬ HasRun s g (BreachQuery 0) →
+    IsDue s g depth conflicts (Unbroken (Hazard 1)) (asked ++ asked_with (BreachQuery 0) log ∷ []) rest
 no-breach-at-start s g depth conflicts log asked left rest deep d known logged count refuted none =
     record {
       in_order = go-on s g depth conflicts None (asked_with (BreachQuery 0) log) (Hazard 1) asked left rest d logged (inl refuted) count refl refl (omega (arith, deep));
@@ -222,7 +317,14 @@ no-breach-at-start s g depth conflicts log asked left rest deep d known logged c
     }
 
 -- all together
-pub follows : (s : SystemTree) (g : GoalTree) (depth conflicts : ℕ) (due : Due) (response : Response) (log : List LogStep) (asked : List Asked) (left rest : ℕ) → list_all (rule_valid s.ranges) s.rules ≡ true → 0 < depth → depth ≤ 16 → IsDue s g depth conflicts due asked left → IsLogOf s g (asked_with (due_query due) log) → conflicts_of log + rest ≡ left → IsResponse s g (due_query due) left response log → IsNext s g depth conflicts (still_due depth due) (after_response depth due response) (asked ++ asked_with (due_query due) log ∷ []) rest
+pub follows :
+    (s : SystemTree) (g : GoalTree) (depth conflicts : ℕ) (due : Due) (response : Response)
+    (log : List LogStep) (asked : List Asked) (left rest : ℕ) →
+    list_all (rule_valid s.ranges) s.rules ≡ true → 0 < depth → depth ≤ 16 →
+    IsDue s g depth conflicts due asked left → IsLogOf s g (asked_with (due_query due) log) →
+    conflicts_of log + rest ≡ left → IsResponse s g (due_query due) left response log →
+    IsNext s g depth conflicts (still_due depth due) (after_response depth due response)
+    (asked ++ asked_with (due_query due) log ∷ []) rest
 follows s g depth conflicts (Unbroken (Hazard n)) (Run t) log asked left rest rules deep low d logged count r = endangered s g depth conflicts None n t log asked left rest d.in_order d.known.no_hazard logged count r.0
 follows s g depth conflicts (Unbroken (BreachQuery n)) (Run t) log asked left rest rules deep low d logged count r = broke s g depth conflicts n t log asked left rest low (steps-of s g (BreachQuery n) t r.0) d.in_order d.known logged count r.0 r.1
 follows s g depth conflicts (Unbroken (Step n)) (Run t) log asked left rest rules deep low d logged count r = left-invariant s g depth conflicts n t log asked left rest low d.in_order d.known logged count r.0 r.1
@@ -243,7 +345,13 @@ first-due s g depth conflicts =
     }
 
 -- one turn: a query is asked, its conflicts are counted, and what follows is looked up
-pub turned : (s : SystemTree) (g : GoalTree) (depth conflicts : ℕ) (due : Due) (q : Wanted) (response : Response) (log : List LogStep) (asked new : List Asked) (left count rest : ℕ) (next : Next) → system_valid s ≡ true → 0 < depth → depth ≤ 16 → IsDue s g depth conflicts due asked left → q ≡ due_query due → IsLog (query_formula s g q) left log → IsResponse s g q left response log → count ≡ conflicts_of log → rest ≡ left - count → new ≡ asked ++ asked_with q log ∷ [] → next ≡ after_response depth due response → IsNext s g depth conflicts (still_due depth due) next new rest
+pub turned :
+    (s : SystemTree) (g : GoalTree) (depth conflicts : ℕ) (due : Due) (q : Wanted) (response : Response)
+    (log : List LogStep) (asked new : List Asked) (left count rest : ℕ) (next : Next) →
+    system_valid s ≡ true → 0 < depth → depth ≤ 16 → IsDue s g depth conflicts due asked left →
+    q ≡ due_query due → IsLog (query_formula s g q) left log → IsResponse s g q left response log →
+    count ≡ conflicts_of log → rest ≡ left - count → new ≡ asked ++ asked_with q log ∷ [] →
+    next ≡ after_response depth due response → IsNext s g depth conflicts (still_due depth due) next new rest
 turned s g depth conflicts due q response log asked new left count rest next valid deep low d same is_log says counted rested grown is_next =
     let good = subst (λ (u : Wanted). IsLog (query_formula s g u) left log) same is_log in
     let said = subst (λ (u : Wanted). IsResponse s g u left response log) same says in

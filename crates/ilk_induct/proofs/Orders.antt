@@ -139,7 +139,11 @@ as-prefix : (asked : List Asked) (qs all : List Wanted) → map (λ (x : Asked).
 as-prefix asked qs all e p = subst (λ (us : List Wanted). IsPrefix us all) (sym e) p
 
 -- what was asked, up to the query that was due
-pub asked-to : (s : SystemTree) (g : GoalTree) (depth conflicts : ℕ) (breach : Option ℕ) (a : Asked) (asked : List Asked) (left : ℕ) → IsInOrder s g depth conflicts breach a.query asked left → IsLogOf s g a → AreAsked s g depth breach (asked ++ a ∷ []) a
+pub asked-to :
+    (s : SystemTree) (g : GoalTree) (depth conflicts : ℕ) (breach : Option ℕ) (a : Asked) (asked : List Asked)
+    (left : ℕ) →
+    IsInOrder s g depth conflicts breach a.query asked left → IsLogOf s g a →
+    AreAsked s g depth breach (asked ++ a ∷ []) a
 asked-to s g depth conflicts breach a asked left d log =
     record {
       before = asked;
@@ -151,7 +155,13 @@ asked-to s g depth conflicts breach a asked left d log =
     }
 
 -- the next is due
-pub go-on : (s : SystemTree) (g : GoalTree) (depth conflicts : ℕ) (breach : Option ℕ) (a : Asked) (q : Wanted) (asked : List Asked) (left rest : ℕ) → IsInOrder s g depth conflicts breach a.query asked left → IsLogOf s g a → HasPassed s g breach a → conflicts_of a.log + rest ≡ left → queries_to breach a.query ++ q ∷ [] ≡ queries_to breach q → wanted_valid q ≡ true → step_count q ≤ depth → IsInOrder s g depth conflicts breach q (asked ++ a ∷ []) rest
+pub go-on :
+    (s : SystemTree) (g : GoalTree) (depth conflicts : ℕ) (breach : Option ℕ) (a : Asked) (q : Wanted)
+    (asked : List Asked) (left rest : ℕ) →
+    IsInOrder s g depth conflicts breach a.query asked left → IsLogOf s g a → HasPassed s g breach a →
+    conflicts_of a.log + rest ≡ left → queries_to breach a.query ++ q ∷ [] ≡ queries_to breach q →
+    wanted_valid q ≡ true → step_count q ≤ depth →
+    IsInOrder s g depth conflicts breach q (asked ++ a ∷ []) rest
 go-on s g depth conflicts breach a q asked left rest d log passed count order valid within =
     record {
       order = ap (λ (qs : List Wanted). qs ++ q ∷ []) (more-queries asked a (queries_to breach a.query) d.order) ∙ order;
@@ -176,10 +186,19 @@ pub all-passed-after : (s : SystemTree) (g : GoalTree) (b : ℕ) (asked : List A
 all-passed-after s g b asked h = All-weaker (HasPassed s g None) (HasPassed s g (Some b)) (λ a k. passed-after s g b a.query a.log k) asked h
 
 -- what was asked, up to the breach query that is satisfiable
-pub found-order : (asked : List Asked) (n : ℕ) (log : List LogStep) → map (λ (x : Asked). x.query) asked ++ BreachQuery n ∷ [] ≡ queries_to None (BreachQuery n) → map (λ (x : Asked). x.query) (asked ++ asked_with (BreachQuery n) log ∷ []) ≡ queries_to (Some n) (BreachQuery n)
+pub found-order : (asked : List Asked) (n : ℕ) (log : List LogStep) →
+    map (λ (x : Asked). x.query) asked ++ BreachQuery n ∷ [] ≡ queries_to None (BreachQuery n) →
+    map (λ (x : Asked). x.query) (asked ++ asked_with (BreachQuery n) log ∷ [])
+    ≡ queries_to (Some n) (BreachQuery n)
 found-order asked n log order = more-queries asked (asked_with (BreachQuery n) log) (queries_to None (BreachQuery n)) order ∙ to-found n
 
-pub found-to : (s : SystemTree) (g : GoalTree) (depth conflicts n : ℕ) (log : List LogStep) (asked : List Asked) (left : ℕ) → IsInOrder s g depth conflicts None (BreachQuery n) asked left → IsLogOf s g (asked_with (BreachQuery n) log) → IsSatisfiable (query_formula s g (BreachQuery n)) → AreAsked s g depth (Some n) (asked ++ asked_with (BreachQuery n) log ∷ []) (asked_with (BreachQuery n) log)
+pub found-to :
+    (s : SystemTree) (g : GoalTree) (depth conflicts n : ℕ) (log : List LogStep) (asked : List Asked)
+    (left : ℕ) →
+    IsInOrder s g depth conflicts None (BreachQuery n) asked left →
+    IsLogOf s g (asked_with (BreachQuery n) log) → IsSatisfiable (query_formula s g (BreachQuery n)) →
+    AreAsked s g depth (Some n) (asked ++ asked_with (BreachQuery n) log ∷ [])
+    (asked_with (BreachQuery n) log)
 found-to s g depth conflicts n log asked left d logged has =
     let a = asked_with (BreachQuery n) log in
     record {
@@ -192,7 +211,14 @@ found-to s g depth conflicts n log asked left d logged has =
     }
 
 -- and the hazard query after it is due
-pub go-on-found : (s : SystemTree) (g : GoalTree) (depth conflicts n : ℕ) (log : List LogStep) (asked : List Asked) (left rest : ℕ) → IsInOrder s g depth conflicts None (BreachQuery n) asked left → IsLogOf s g (asked_with (BreachQuery n) log) → IsSatisfiable (query_formula s g (BreachQuery n)) → conflicts_of log + rest ≡ left → wanted_valid (Hazard (n + 1)) ≡ true → n + 1 ≤ depth → IsInOrder s g depth conflicts (Some n) (Hazard (n + 1)) (asked ++ asked_with (BreachQuery n) log ∷ []) rest
+pub go-on-found :
+    (s : SystemTree) (g : GoalTree) (depth conflicts n : ℕ) (log : List LogStep) (asked : List Asked)
+    (left rest : ℕ) →
+    IsInOrder s g depth conflicts None (BreachQuery n) asked left →
+    IsLogOf s g (asked_with (BreachQuery n) log) → IsSatisfiable (query_formula s g (BreachQuery n)) →
+    conflicts_of log + rest ≡ left → wanted_valid (Hazard (n + 1)) ≡ true → n + 1 ≤ depth →
+    IsInOrder s g depth conflicts (Some n) (Hazard (n + 1)) (asked ++ asked_with (BreachQuery n) log ∷ [])
+    rest
 go-on-found s g depth conflicts n log asked left rest d logged has count valid within =
     let a = asked_with (BreachQuery n) log in
     record {
@@ -207,7 +233,11 @@ go-on-found s g depth conflicts n log asked left rest d logged has count valid w
 
 -- all queries of the order were asked
 
-pub asked-all : (s : SystemTree) (g : GoalTree) (depth conflicts n : ℕ) (a : Asked) (asked : List Asked) (left : ℕ) (Ends : Asked → Type 0) → IsInOrder s g depth conflicts None a.query asked left → IsLogOf s g a → a.query ≡ Step n → Ends a → AllAsked s g n None Ends (asked ++ a ∷ [])
+pub asked-all :
+    (s : SystemTree) (g : GoalTree) (depth conflicts n : ℕ) (a : Asked) (asked : List Asked) (left : ℕ)
+    (Ends : Asked → Type 0) →
+    IsInOrder s g depth conflicts None a.query asked left → IsLogOf s g a → a.query ≡ Step n → Ends a →
+    AllAsked s g n None Ends (asked ++ a ∷ [])
 asked-all s g depth conflicts n a asked left Ends d log is ends =
     let pos : 0 < n = ltb-true 0 n (and_parts _ _ (ap wanted_valid (sym is) ∙ d.valid)).0 in
     let all : map (λ (x : Asked). x.query) (asked ++ a ∷ []) ≡ query_order None n = more-queries asked a (queries_to None a.query) d.order ∙ ap (queries_to None) is ∙ all-to-step n pos in

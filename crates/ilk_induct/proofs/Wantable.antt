@@ -41,7 +41,10 @@ order-valid (Some b) depth low within =
     ∙ and_from _ _ (rounds-valid b (omega (arith, low, within))) (and_from _ _ base (and_from _ _ base later))
 
 -- and so may those that are a prefix of it
-pub prefix-valid : (asked : List Asked) (breach : Option ℕ) (depth : ℕ) → depth ≤ 16 → IfSome breach (λ b. b ≤ depth) → IsPrefix (map (λ (a : Asked). a.query) asked) (query_order breach depth) → list_all (λ (a : Asked). wanted_valid a.query) asked ≡ true
+pub prefix-valid : (asked : List Asked) (breach : Option ℕ) (depth : ℕ) → depth ≤ 16 →
+    IfSome breach (λ b. b ≤ depth) →
+    IsPrefix (map (λ (a : Asked). a.query) asked) (query_order breach depth) →
+    list_all (λ (a : Asked). wanted_valid a.query) asked ≡ true
 prefix-valid asked breach depth low within p =
     let queries = map (λ (a : Asked). a.query) asked in
     let all = sym (list_all-append wanted_valid queries p.0) ∙ ap (list_all wanted_valid) p.1 ∙ order-valid breach depth low within in

@@ -43,8 +43,10 @@ pub fn ask(
     requires system { IsTrue (system_valid (system_tree system.now)) }
     requires goal { IsTrue (goal_valid system.now.ranges (goal_tree goal.now)) }
     requires wanted { IsTrue (wanted_valid q) }
-    ensures log { IfOk result (λ r. IsLog (query_formula (system_tree system.now) (goal_tree goal.now) q) budget r.log) }
-    ensures response { IfOk result (λ r. IsResponse (system_tree system.now) (goal_tree goal.now) q budget r.response r.log) }
+    ensures log { IfOk result
+        (λ r. IsLog (query_formula (system_tree system.now) (goal_tree goal.now) q) budget r.log) }
+    ensures response { IfOk result
+        (λ r. IsResponse (system_tree system.now) (goal_tree goal.now) q budget r.response r.log) }
 {
     let cnf = query(alloc, system, goal, q)?;
     refutations_refute();

@@ -35,14 +35,21 @@ pub fn decide(
     requires goal { IsTrue (goal_valid system.now.ranges (goal_tree goal.now)) }
     requires some_depth { 0 < depth }
     requires depth { depth ≤ 16 }
-    ensures right { IfOk result (λ found. IsRight (system_tree system.now) (goal_tree goal.now) depth found.verdict ⊎ (found.verdict ≡ Verdict.Spent)) }
+    ensures right { IfOk result
+        (λ found. IsRight (system_tree system.now) (goal_tree goal.now) depth found.verdict
+        ⊎ (found.verdict ≡ Verdict.Spent)) }
 
     // What is safe is so for runs of any length.
-    ensures lasts { IfOk result (λ found. Lasts (system_tree system.now) (goal_tree goal.now) found.verdict) }
-    ensures asked { IfOk result (λ found. IsAskedFor (system_tree system.now) (goal_tree goal.now) depth conflicts found.verdict found.asked) }
+    ensures lasts { IfOk result
+        (λ found. Lasts (system_tree system.now) (goal_tree goal.now) found.verdict) }
+    ensures asked { IfOk result
+        (λ found. IsAskedFor (system_tree system.now) (goal_tree goal.now) depth conflicts
+        found.verdict found.asked) }
 
     // Where the verdict is safe, all of these but the step queries before the last are refuted.
-    ensures certified { IfOk result (λ found. Certifies (system_tree system.now) (goal_tree goal.now) found.verdict found.asked) }
+    ensures certified { IfOk result
+        (λ found. Certifies (system_tree system.now) (goal_tree goal.now) found.verdict
+        found.asked) }
     ensures few { IfOk result (λ found. all_conflicts found.asked ≤ conflicts) }
 {
     let mut asked = Row::new(alloc);

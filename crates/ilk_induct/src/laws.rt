@@ -16,18 +16,26 @@ ghost use Rattle.ilk_induct.specs.Spent.{IsSpentText};
 /// What is written of what was asked for a safe verdict is a certificate of that, and of what was asked
 /// for a spent one a spent text. The call does nothing, and tells a proof.
 pub fn texts_are_certificates()
-    ensures safe { (s : SystemTree) (g : GoalTree) (depth conflicts k : ℕ) (asked : List Asked) → depth ≤ 16 → 0 < k → IsAskedFor s g depth conflicts (Safe k) asked → IsCertificate s g k (safe_text k (without_early_steps asked)) }
-    ensures spent { (s : SystemTree) (g : GoalTree) (depth conflicts : ℕ) (asked : List Asked) → IsAskedFor s g depth conflicts Spent asked → IsSpentText s g depth conflicts (spent_text (all_conflicts asked) asked) }
+    ensures safe { (s : SystemTree) (g : GoalTree) (depth conflicts k : ℕ) (asked : List Asked) →
+        depth ≤ 16 → 0 < k → IsAskedFor s g depth conflicts (Safe k) asked →
+        IsCertificate s g k (safe_text k (without_early_steps asked)) }
+    ensures spent { (s : SystemTree) (g : GoalTree) (depth conflicts : ℕ) (asked : List Asked) →
+        IsAskedFor s g depth conflicts Spent asked →
+        IsSpentText s g depth conflicts (spent_text (all_conflicts asked) asked) }
 {}
 
 /// What was asked for a verdict has no step with a hint 0. The call does nothing, and tells a proof.
 #[tactic(auto, using(crate::proofs::Certificates::hints_count))]
 pub fn hints_are_from_one()
-    ensures { (s : SystemTree) (g : GoalTree) (depth conflicts : ℕ) (verdict : Verdict) (asked : List Asked) → IsAskedFor s g depth conflicts verdict asked → IsTrue (all_hints_from_one asked) }
+    ensures { (s : SystemTree) (g : GoalTree) (depth conflicts : ℕ) (verdict : Verdict)
+        (asked : List Asked) →
+        IsAskedFor s g depth conflicts verdict asked → IsTrue (all_hints_from_one asked) }
 {}
 
 /// Each query of a spent text is one that may be asked: of at most 16 steps, and of at least one where
 /// it is a step query. The call does nothing, and tells a proof.
 pub fn spent_queries_are_valid()
-    ensures { (s : SystemTree) (g : GoalTree) (depth n : ℕ) (bytes : Bytes) → depth ≤ 16 → (text : IsSpentText s g depth n bytes) → IsTrue (list_all (λ (a : Asked). wanted_valid a.query) text.asked) }
+    ensures { (s : SystemTree) (g : GoalTree) (depth n : ℕ) (bytes : Bytes) → depth ≤ 16 →
+        (text : IsSpentText s g depth n bytes) →
+        IsTrue (list_all (λ (a : Asked). wanted_valid a.query) text.asked) }
 {}

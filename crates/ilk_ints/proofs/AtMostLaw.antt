@@ -65,7 +65,10 @@ below_or_equal v k =
       ])
     ]
 
-pub at_most-law : (a : List Bool) (range k v n : ℕ) (below equal : Literal) → length a ≡ n → clause_in n (below ∷ equal ∷ []) ≡ true → is_true a below ≡ ltb v k → is_true a equal ≡ eqb v k → Extends a (at_most_part range k below equal n).vars (at_most_part range k below equal n).clauses (Only (at_most_bits range k v))
+pub at_most-law : (a : List Bool) (range k v n : ℕ) (below equal : Literal) → length a ≡ n →
+    clause_in n (below ∷ equal ∷ []) ≡ true → is_true a below ≡ ltb v k → is_true a equal ≡ eqb v k →
+    Extends a (at_most_part range k below equal n).vars (at_most_part range k below equal n).clauses
+    (Only (at_most_bits range k v))
 at_most-law a range k v n below equal size inside low same = by_case (highest_bit_says range k)
   where
     some : list_any (is_true a) (below ∷ equal ∷ []) ≡ leb v k
@@ -75,7 +78,10 @@ at_most-law a range k v n below equal size inside low same = by_case (highest_bi
     by_case true = only_from_if a n [] [] (no_more_if a n [] true size refl)
     by_case false = subst (λ (e : Bool). Extends a (n + 1) (any_of_part (below ∷ equal ∷ []) n).clauses (Only (e ∷ []))) some (any_of-law a n (below ∷ equal ∷ []) size inside)
 
-pub at_most-exact : (a : List Bool) (first range k v n : ℕ) → length a ≡ n → 0 < bit_count range → range ≤ 2 ^ bit_count range → v < range → bits_at a first (bit_count range) ≡ bits_of (bit_count range) v → is_true (a ++ at_most_bits range k v) (at_most_lit first range k n) ≡ leb v k
+pub at_most-exact : (a : List Bool) (first range k v n : ℕ) → length a ≡ n → 0 < bit_count range →
+    range ≤ 2 ^ bit_count range → v < range →
+    bits_at a first (bit_count range) ≡ bits_of (bit_count range) v →
+    is_true (a ++ at_most_bits range k v) (at_most_lit first range k n) ≡ leb v k
 at_most-exact a first range k v n size some enough less is = by_case (highest_bit_says range k) refl
   where
     b : ℕ

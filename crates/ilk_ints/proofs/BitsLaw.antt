@@ -99,7 +99,10 @@ bits-test b v e hv he =
 -- literals
 
 -- one literal more, of the lowest bit of what is left
-pub lits_step : (first count i rest : ℕ) (ls whole : List Literal) (l : Literal) → i < count → l ≡ record { var = first + i; positive = (rest % 2 == 1) } → ls ++ bit_lits (first + i) (bits_of (count - i) rest) ≡ whole → (ls ++ l ∷ []) ++ bit_lits (first + (i + 1)) (bits_of (count - (i + 1)) (rest / 2)) ≡ whole
+pub lits_step : (first count i rest : ℕ) (ls whole : List Literal) (l : Literal) → i < count →
+    l ≡ record { var = first + i; positive = (rest % 2 == 1) } →
+    ls ++ bit_lits (first + i) (bits_of (count - i) rest) ≡ whole →
+    (ls ++ l ∷ []) ++ bit_lits (first + (i + 1)) (bits_of (count - (i + 1)) (rest / 2)) ≡ whole
 lits_step first count i rest ls whole l less is h =
     let more : count - i ≡ suc (count - (i + 1)) = omega arith in
     let next : first + i + 1 ≡ first + (i + 1) = omega arith in

@@ -59,12 +59,17 @@ bounds-low (e ∷ es) first range k n below =
     omega arith
 
 -- one bound more
-pub next-inside : (first range k n : ℕ) (below e : Literal) (es : List Literal) → 0 < first → 0 < bit_count range → first + bit_count range ≤ n + 1 → clause_in n (below ∷ e ∷ es) ≡ true → clause_in (at_most_part range k below e n).vars (at_most_lit first range k n ∷ es) ≡ true
+pub next-inside : (first range k n : ℕ) (below e : Literal) (es : List Literal) → 0 < first →
+    0 < bit_count range → first + bit_count range ≤ n + 1 → clause_in n (below ∷ e ∷ es) ≡ true →
+    clause_in (at_most_part range k below e n).vars (at_most_lit first range k n ∷ es) ≡ true
 next-inside first range k n below e es low some high h =
     let rest = (and_parts _ _ (and_parts _ _ h).1).1 in
     and_from _ _ (at_most-lit_in first range k n below e low some high) (clause_in-more n (at_most_part range k below e n).vars es (at_most-low range k n below e) rest)
 
-pub bounds-in : (es : List Literal) (first range k n : ℕ) (below : Literal) → 0 < first → 0 < bit_count range → first + bit_count range ≤ n + 1 → clause_in n (below ∷ es) ≡ true → clauses_in (bounds_from first range below k es n).part.vars (bounds_from first range below k es n).part.clauses ≡ true
+pub bounds-in : (es : List Literal) (first range k n : ℕ) (below : Literal) → 0 < first →
+    0 < bit_count range → first + bit_count range ≤ n + 1 → clause_in n (below ∷ es) ≡ true →
+    clauses_in (bounds_from first range below k es n).part.vars
+    (bounds_from first range below k es n).part.clauses ≡ true
 bounds-in [] first range k n below low some high h = refl
 bounds-in (e ∷ es) first range k n below low some high h =
     let p = at_most_part range k below e n in
@@ -73,9 +78,19 @@ bounds-in (e ∷ es) first range k n below low some high h =
     let grows = at_most-low range k n below e in
     let end = bounds-low es first range (k + 1) p.vars l in
     list_all-append (clause_in rest.part.vars) p.clauses rest.part.clauses
-    ∙ and_from _ _ (clauses_in-more p.vars rest.part.vars p.clauses end (at_most-in range k n below e (first-two n below e es h))) (bounds-in es first range (k + 1) p.vars l low some (omega arith) (next-inside first range k n below e es low some high h))
+    ∙ and_from _ _
+    (clauses_in-more p.vars rest.part.vars p.clauses end
+    (at_most-in range k n below e (first-two n below e es h)))
+    (bounds-in es first range (k + 1) p.vars l low some (omega arith)
+    (next-inside first range k n below e es low some high h))
 
-pub bounds-law : (es : List Literal) (a : List Bool) (first range k w n : ℕ) (below : Literal) → length a ≡ n → 0 < first → 0 < bit_count range → first + bit_count range ≤ n + 1 → range ≤ 2 ^ bit_count range → w < range → bits_at a first (bit_count range) ≡ bits_of (bit_count range) w → clause_in n (below ∷ es) ≡ true → is_true a below ≡ ltb w k → map (is_true a) es ≡ value_bits w k (length es) → Extends a (bounds_from first range below k es n).part.vars (bounds_from first range below k es n).part.clauses (Only (bounds_bits range w k (length es)))
+pub bounds-law : (es : List Literal) (a : List Bool) (first range k w n : ℕ) (below : Literal) →
+    length a ≡ n → 0 < first → 0 < bit_count range → first + bit_count range ≤ n + 1 →
+    range ≤ 2 ^ bit_count range → w < range →
+    bits_at a first (bit_count range) ≡ bits_of (bit_count range) w → clause_in n (below ∷ es) ≡ true →
+    is_true a below ≡ ltb w k → map (is_true a) es ≡ value_bits w k (length es) →
+    Extends a (bounds_from first range below k es n).part.vars
+    (bounds_from first range below k es n).part.clauses (Only (bounds_bits range w k (length es)))
 bounds-law [] a first range k w n below size low some high enough less is inside under same = only_from_if a n [] [] (no_more_if a n [] true size refl)
 bounds-law (e ∷ es) a first range k w n below size low some high enough less is inside under same =
     let p = at_most_part range k below e n in
@@ -101,7 +116,13 @@ bounds-law (e ∷ es) a first range k w n below size low some high enough less i
     rest_of p q ps qs h = cc
 
 -- and the literals say so, whatever follows
-pub bounds-say : (es : List Literal) (a c : List Bool) (first range k w n : ℕ) (below : Literal) → length a ≡ n → 0 < first → 0 < bit_count range → first + bit_count range ≤ n + 1 → range ≤ 2 ^ bit_count range → w < range → bits_at a first (bit_count range) ≡ bits_of (bit_count range) w → clause_in n (below ∷ es) ≡ true → is_true a below ≡ ltb w k → map (is_true a) es ≡ value_bits w k (length es) → map (is_true (a ++ (bounds_bits range w k (length es) ++ c))) (bounds_from first range below k es n).lits ≡ bound_bits w k (length es)
+pub bounds-say : (es : List Literal) (a c : List Bool) (first range k w n : ℕ) (below : Literal) →
+    length a ≡ n → 0 < first → 0 < bit_count range → first + bit_count range ≤ n + 1 →
+    range ≤ 2 ^ bit_count range → w < range →
+    bits_at a first (bit_count range) ≡ bits_of (bit_count range) w → clause_in n (below ∷ es) ≡ true →
+    is_true a below ≡ ltb w k → map (is_true a) es ≡ value_bits w k (length es) →
+    map (is_true (a ++ (bounds_bits range w k (length es) ++ c))) (bounds_from first range below k es n).lits
+    ≡ bound_bits w k (length es)
 bounds-say [] a c first range k w n below size low some high enough less is inside under same = refl
 bounds-say (e ∷ es) a c first range k w n below size low some high enough less is inside under same =
     let p = at_most_part range k below e n in
@@ -120,7 +141,11 @@ bounds-say (e ∷ es) a c first range k w n below size low some high enough less
     let whole : (a ++ b) ++ (d ++ c) ≡ a ++ ((b ++ d) ++ c) = append_assoc a b (d ++ c) ∙ ap (λ (u : List Bool). a ++ u) (sym (append_assoc b d c)) in
     let var_in : l.var ≤ length (a ++ b) = rw long (leb-true _ _ (and_parts _ _ (at_most-lit_in first range k n below e low some high)).1) in
     let head : is_true (a ++ ((b ++ d) ++ c)) l ≡ leb w k = subst (λ (u : List Bool). is_true u l ≡ leb w k) whole (is_true-left (a ++ b) (d ++ c) l var_in ∙ says) in
-    let tail : map (is_true (a ++ ((b ++ d) ++ c))) (bounds_from first range l (k + 1) es p.vars).lits ≡ bound_bits w (k + 1) (length es) = subst (λ (u : List Bool). map (is_true u) (bounds_from first range l (k + 1) es p.vars).lits ≡ bound_bits w (k + 1) (length es)) whole rest in
+    let tail : map (is_true (a ++ ((b ++ d) ++ c))) (bounds_from first range l (k + 1) es p.vars).lits
+    ≡ bound_bits w (k + 1) (length es) =
+    subst
+    (λ (u : List Bool). map (is_true u) (bounds_from first range l (k + 1) es p.vars).lits
+    ≡ bound_bits w (k + 1) (length es)) whole rest in
     join head tail
   where
     first_of : (p q : Bool) (ps qs : List Bool) → p ∷ ps ≡ q ∷ qs → p ≡ q
@@ -133,7 +158,16 @@ bounds-say (e ∷ es) a c first range k w n below size low some high enough less
     join h k = cc
 
 -- one step of the walk over the literals
-pub bounds_step : (f g : Formula) (lits whole : List Literal) (first range k : ℕ) (below l e : Literal) (es rest : List Literal) → es ≡ e ∷ rest → 0 < first → 0 < bit_count range → first + bit_count range ≤ f.vars + 1 → clause_in f.vars (below ∷ es) ≡ true → l ≡ at_most_lit first range k f.vars → g ≡ with_part f (at_most_part range k below e f.vars) → lits ++ (bounds_from first range below k es f.vars).lits ≡ whole → (first + bit_count range ≤ g.vars + 1) × (clause_in g.vars (l ∷ rest) ≡ true) × ((lits ++ l ∷ []) ++ (bounds_from first range l (k + 1) rest g.vars).lits ≡ whole) × (with_part g (bounds_from first range l (k + 1) rest g.vars).part ≡ with_part f (bounds_from first range below k es f.vars).part)
+pub bounds_step :
+    (f g : Formula) (lits whole : List Literal) (first range k : ℕ) (below l e : Literal)
+    (es rest : List Literal) → es ≡ e ∷ rest → 0 < first →
+    0 < bit_count range → first + bit_count range ≤ f.vars + 1 → clause_in f.vars (below ∷ es) ≡ true →
+    l ≡ at_most_lit first range k f.vars → g ≡ with_part f (at_most_part range k below e f.vars) →
+    lits ++ (bounds_from first range below k es f.vars).lits ≡ whole →
+    (first + bit_count range ≤ g.vars + 1) × (clause_in g.vars (l ∷ rest) ≡ true) ×
+    ((lits ++ l ∷ []) ++ (bounds_from first range l (k + 1) rest g.vars).lits ≡ whole) ×
+    (with_part g (bounds_from first range l (k + 1) rest g.vars).part
+    ≡ with_part f (bounds_from first range below k es f.vars).part)
 bounds_step f g lits whole first range k below l e es rest split low some high inside is made h =
     let n = f.vars in
     let p = at_most_part range k below e n in
@@ -212,25 +246,48 @@ ready a first range w n e es all inside says =
     zero_below : (w : ℕ) → eqb w 0 ≡ ltb w 1
     zero_below w = elim (cases_lt w 1) [ inl low ↦ eq-eqb w 0 (omega arith) ∙ sym (lt-ltb w 1 low) | inr high ↦ ne_eqb w 0 (λ e. absurd (omega arith)) ∙ sym (le-ltb w 1 high) ]
 
-pub bounds_part-law : (values : List Literal) (a : List Bool) (first range w n : ℕ) → length a ≡ n → 0 < first → first + bit_count range ≤ n + 1 → range ≤ 2 ^ bit_count range → length values ≡ range → clause_in n values ≡ true → w < range → bits_at a first (bit_count range) ≡ bits_of (bit_count range) w → map (is_true a) values ≡ value_bits w 0 range → Extends a (bounds_part first range values n).part.vars (bounds_part first range values n).part.clauses (Only (bounds_bits range w 1 (bound_count range)))
+pub bounds_part-law : (values : List Literal) (a : List Bool) (first range w n : ℕ) → length a ≡ n →
+    0 < first → first + bit_count range ≤ n + 1 → range ≤ 2 ^ bit_count range → length values ≡ range →
+    clause_in n values ≡ true → w < range → bits_at a first (bit_count range) ≡ bits_of (bit_count range) w →
+    map (is_true a) values ≡ value_bits w 0 range →
+    Extends a (bounds_part first range values n).part.vars (bounds_part first range values n).part.clauses
+    (Only (bounds_bits range w 1 (bound_count range)))
 bounds_part-law [] a first range w n size low high enough all inside less is says = absurd (omega arith)
 bounds_part-law (e ∷ es) a first range w n size low high enough all inside less is says =
     elim (cases_lt 1 range) [
       | inl more ↦
           (let r = ready a first range w n e es all inside says in
-          subst (λ (j : ℕ). Extends a (bounds_part first range (e ∷ es) n).part.vars (bounds_part first range (e ∷ es) n).part.clauses (Only (bounds_bits range w 1 j))) r.count (bounds-law (take (bound_count range) es) a first range 1 w n e size low (bits_some range (bit_count range) more enough) high enough less is r.inside r.under r.same))
+          subst
+          (λ (j : ℕ). Extends a (bounds_part first range (e ∷ es) n).part.vars
+          (bounds_part first range (e ∷ es) n).part.clauses (Only (bounds_bits range w 1 j))) r.count
+          (bounds-law (take (bound_count range) es) a first range 1 w n e size low
+          (bits_some range (bit_count range) more enough) high enough less is r.inside r.under
+          r.same))
       | inr one ↦
           (let none : 0 ≡ bound_count range = omega (arith, few_bounds range) in
           subst (λ (j : ℕ). Extends a (bounds_from first range e 1 (take j es) n).part.vars (bounds_from first range e 1 (take j es) n).part.clauses (Only (bounds_bits range w 1 j))) none (only_from_if a n [] [] (no_more_if a n [] true size refl)))
     ]
 
-pub bounds_part-say : (values : List Literal) (a c : List Bool) (first range w n : ℕ) → length a ≡ n → 0 < first → first + bit_count range ≤ n + 1 → range ≤ 2 ^ bit_count range → length values ≡ range → clause_in n values ≡ true → w < range → bits_at a first (bit_count range) ≡ bits_of (bit_count range) w → map (is_true a) values ≡ value_bits w 0 range → map (is_true (a ++ (bounds_bits range w 1 (bound_count range) ++ c))) (bounds_part first range values n).lits ≡ bound_bits w 1 (bound_count range)
+pub bounds_part-say : (values : List Literal) (a c : List Bool) (first range w n : ℕ) → length a ≡ n →
+    0 < first → first + bit_count range ≤ n + 1 → range ≤ 2 ^ bit_count range → length values ≡ range →
+    clause_in n values ≡ true → w < range → bits_at a first (bit_count range) ≡ bits_of (bit_count range) w →
+    map (is_true a) values ≡ value_bits w 0 range →
+    map (is_true (a ++ (bounds_bits range w 1 (bound_count range) ++ c)))
+    (bounds_part first range values n).lits
+    ≡ bound_bits w 1 (bound_count range)
 bounds_part-say [] a c first range w n size low high enough all inside less is says = absurd (omega arith)
 bounds_part-say (e ∷ es) a c first range w n size low high enough all inside less is says =
     elim (cases_lt 1 range) [
       | inl more ↦
           (let r = ready a first range w n e es all inside says in
-          subst (λ (j : ℕ). map (is_true (a ++ (bounds_bits range w 1 j ++ c))) (bounds_part first range (e ∷ es) n).lits ≡ bound_bits w 1 j) r.count (bounds-say (take (bound_count range) es) a c first range 1 w n e size low (bits_some range (bit_count range) more enough) high enough less is r.inside r.under r.same))
+          subst
+          (λ (j : ℕ).
+          map (is_true (a ++ (bounds_bits range w 1 j ++ c)))
+          (bounds_part first range (e ∷ es) n).lits
+          ≡ bound_bits w 1 j) r.count
+          (bounds-say (take (bound_count range) es) a c first range 1 w n e size low
+          (bits_some range (bit_count range) more enough) high enough less is r.inside r.under
+          r.same))
       | inr one ↦
           (let none : 0 ≡ bound_count range = omega (arith, few_bounds range) in
           subst (λ (j : ℕ). map (is_true (a ++ (bounds_bits range w 1 j ++ c))) (bounds_from first range e 1 (take j es) n).lits ≡ bound_bits w 1 j) none refl)

@@ -78,7 +78,12 @@ value-below a first range enough sat = below
 
     past : range ≤ v → ⊥
     past h =
-        let each : list_all (λ u. some_true a (map opposite (value_lits first range u))) (range_with_len range (2 ^ b - range)) ≡ true = sym (satisfies-map a (λ u. map opposite (value_lits first range u)) (range_with_len range (2 ^ b - range))) ∙ sat in
+        let each :
+        list_all (λ u. some_true a (map opposite (value_lits first range u)))
+        (range_with_len range (2 ^ b - range)) ≡ true =
+        sym
+        (satisfies-map a (λ u. map opposite (value_lits first range u))
+        (range_with_len range (2 ^ b - range))) ∙ sat in
         let here : some_true a (map opposite (value_lits first range v)) ≡ true = each-range (λ u. some_true a (map opposite (value_lits first range u))) (2 ^ b - range) range v each h (omega (arith, less, enough)) in
         false≢true (sym (ap not same) ∙ (sym (ruled-says a first range v) ∙ here))
 
@@ -116,7 +121,15 @@ ruled_out-in n first range low high =
     clauses_in-map n (λ v. map opposite (value_lits first range v)) (range_with_len range (2 ^ bit_count range - range)) (λ v. opposites-in n (value_lits first range v) (value_lits-in n first range v low high))
 
 -- one pattern more
-pub ruled_step : (f g : Formula) (whole : List (List Literal)) (first b v : ℕ) → v < 2 ^ b → g ≡ grown f f.vars (as_clause (map opposite (bit_lits first (bits_of b v)))) → f.clauses ++ as_clauses (map (λ u. map opposite (bit_lits first (bits_of b u))) (range_with_len v (2 ^ b - v))) ≡ whole → g.clauses ++ as_clauses (map (λ u. map opposite (bit_lits first (bits_of b u))) (range_with_len (v + 1) (2 ^ b - (v + 1)))) ≡ whole
+pub ruled_step : (f g : Formula) (whole : List (List Literal)) (first b v : ℕ) → v < 2 ^ b →
+    g ≡ grown f f.vars (as_clause (map opposite (bit_lits first (bits_of b v)))) →
+    f.clauses
+    ++ as_clauses (map (λ u. map opposite (bit_lits first (bits_of b u))) (range_with_len v (2 ^ b - v)))
+    ≡ whole →
+    g.clauses
+    ++ as_clauses
+    (map (λ u. map opposite (bit_lits first (bits_of b u)))
+    (range_with_len (v + 1) (2 ^ b - (v + 1)))) ≡ whole
 ruled_step f g whole first b v less made h =
     let more : 2 ^ b - v ≡ suc (2 ^ b - (v + 1)) = omega arith in
     let rest = as_clauses (map (λ u. map opposite (bit_lits first (bits_of b u))) (range_with_len (v + 1) (2 ^ b - (v + 1)))) in
@@ -126,7 +139,11 @@ ruled_step f g whole first b v less made h =
     ∙ h
 
 -- reading a value back, from the highest bit down
-pub value_step : (a : List Bool) (first count k v q : ℕ) → k < count → count ≤ 8 → q ≡ cond (value a (first + (count - 1 - k))) 1 0 → bits_of k v ≡ bits_at a (first + (count - k)) k → v < 2 ^ k → (bits_of (k + 1) (2 * v + q) ≡ bits_at a (first + (count - (k + 1))) (k + 1)) × (2 * v + q < 2 ^ (k + 1)) × (2 * v + q < 256)
+pub value_step : (a : List Bool) (first count k v q : ℕ) → k < count → count ≤ 8 →
+    q ≡ cond (value a (first + (count - 1 - k))) 1 0 → bits_of k v ≡ bits_at a (first + (count - k)) k →
+    v < 2 ^ k →
+    (bits_of (k + 1) (2 * v + q) ≡ bits_at a (first + (count - (k + 1))) (k + 1)) ×
+    (2 * v + q < 2 ^ (k + 1)) × (2 * v + q < 256)
 value_step a first count k v q less few is bits small =
     let f : ℕ = first + (count - 1 - k) in
     let here : f ≡ first + (count - suc k) = omega arith in

@@ -120,7 +120,10 @@ joined-in (suc k) (s ∷ l ∷ ls) n h =
     ∙ and_from _ _ (clauses_in-more (n + 1) _ (either_of s l (plus (n + 1))) low (either_of-in (n + 1) s l (plus (n + 1)) (either-next-in s l ls n h))) (joined-in k next (n + 1) (next-in s l ls n h))
 
 -- exactly one is true, and then the new variables have one value each
-joined-law : (k : ℕ) (ls : List Literal) (a : List Bool) (n : ℕ) → length a ≡ n → length ls ≤ k → clause_in n ls ≡ true → Extends a (joined k ls n).vars (joined k ls n).clauses (OnlyIf (one_true (map (is_true a) ls)) (joined_bits k (map (is_true a) ls)))
+joined-law : (k : ℕ) (ls : List Literal) (a : List Bool) (n : ℕ) → length a ≡ n → length ls ≤ k →
+    clause_in n ls ≡ true →
+    Extends a (joined k ls n).vars (joined k ls n).clauses
+    (OnlyIf (one_true (map (is_true a) ls)) (joined_bits k (map (is_true a) ls)))
 joined-law zero [] a n size few h = no_more_if a n ([] ∷ []) false size refl
 joined-law zero (l ∷ ls) a n size few h = absurd (omega arith)
 joined-law (suc k) [] a n size few h = no_more_if a n ([] ∷ []) false size refl
@@ -144,8 +147,16 @@ joined-law (suc k) (s ∷ l ∷ ls) a n size few h =
     let fits : length a ≤ n + 1 = rw size (more n) in
     let here : length (a ++ (p || q) ∷ []) ≡ n + 1 = length-append a ((p || q) ∷ []) ∙ longer in
     let then : Extends (a ++ (p || q) ∷ []) (joined k next (n + 1)).vars (joined k next (n + 1)).clauses (OnlyIf (one_true (qs ++ (p || q) ∷ [])) (joined_bits k (qs ++ (p || q) ∷ []))) =
-    subst (λ (xs : List Bool). Extends (a ++ (p || q) ∷ []) (joined k next (n + 1)).vars (joined k next (n + 1)).clauses (OnlyIf (one_true xs) (joined_bits k xs))) (next-true ls a (p || q) n size two.1) (joined-law k next (a ++ (p || q) ∷ []) (n + 1) here fewer (next-in s l ls n h)) in
-    let both = if_then_if a ((p || q) ∷ []) (joined_bits k (qs ++ (p || q) ∷ [])) (not (p && q)) (one_true (qs ++ (p || q) ∷ [])) (n + 1) (joined k next (n + 1)).vars (either_of s l v) (joined k next (n + 1)).clauses fits (joined-low k next (n + 1)) (either_of-in (n + 1) s l v (either-next-in s l ls n h)) (either_of-law a s l p q (n + 1) longer (rw size si) (rw size li) refl refl) (λ _. then) in
+    subst
+    (λ (xs : List Bool). Extends (a ++ (p || q) ∷ []) (joined k next (n + 1)).vars
+    (joined k next (n + 1)).clauses (OnlyIf (one_true xs) (joined_bits k xs)))
+    (next-true ls a (p || q) n size two.1)
+    (joined-law k next (a ++ (p || q) ∷ []) (n + 1) here fewer (next-in s l ls n h)) in
+    let both = if_then_if a ((p || q) ∷ []) (joined_bits k (qs ++ (p || q) ∷ [])) (not (p && q))
+    (one_true (qs ++ (p || q) ∷ [])) (n + 1) (joined k next (n + 1)).vars (either_of s l v)
+    (joined k next (n + 1)).clauses fits (joined-low k next (n + 1))
+    (either_of-in (n + 1) s l v (either-next-in s l ls n h))
+    (either_of-law a s l p q (n + 1) longer (rw size si) (rw size li) refl refl) (λ _. then) in
     subst (λ (o : Bool). Extends a (joined k next (n + 1)).vars (either_of s l v ++ (joined k next (n + 1)).clauses) (OnlyIf o (joined_bits (suc k) (p ∷ q ∷ qs)))) (one_true-joined p q qs) both
 
 -- how many variables and lists of literals there are
@@ -218,7 +229,11 @@ one_of-join s l ls n =
     let long : length next ≡ suc (length ls) = omega (arith, length-append ls (plus (n + 1) ∷ [])) in
     ap (λ (k : ℕ). and_then (either_part s l n) (joined k next)) long
 
-pub join-step : (f g : Formula) (s l : Literal) (ls : List Literal) → g ≡ with_part f (either_part s l f.vars) → clause_in f.vars (s ∷ l ∷ ls) ≡ true → (clause_in g.vars (ls ++ plus (f.vars + 1) ∷ []) ≡ true) × (with_part g (one_of_part (ls ++ plus (f.vars + 1) ∷ []) g.vars) ≡ with_part f (one_of_part (s ∷ l ∷ ls) f.vars))
+pub join-step : (f g : Formula) (s l : Literal) (ls : List Literal) →
+    g ≡ with_part f (either_part s l f.vars) → clause_in f.vars (s ∷ l ∷ ls) ≡ true →
+    (clause_in g.vars (ls ++ plus (f.vars + 1) ∷ []) ≡ true) ×
+    (with_part g (one_of_part (ls ++ plus (f.vars + 1) ∷ []) g.vars)
+    ≡ with_part f (one_of_part (s ∷ l ∷ ls) f.vars))
 join-step f g s l ls made inside =
     let n = f.vars in
     let next = ls ++ plus (n + 1) ∷ [] in

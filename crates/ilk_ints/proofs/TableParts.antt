@@ -74,7 +74,10 @@ pub bounds_part-low : (values : List Literal) (first range n : ℕ) → n ≤ (b
 bounds_part-low [] first range n = omega arith
 bounds_part-low (e ∷ es) first range n = bounds-low (take (bound_count range) es) first range 1 n e
 
-pub bounds_part-in : (values : List Literal) (first range n : ℕ) → 0 < first → first + bit_count range ≤ n + 1 → range ≤ 2 ^ bit_count range → clause_in n values ≡ true → clauses_in (bounds_part first range values n).part.vars (bounds_part first range values n).part.clauses ≡ true
+pub bounds_part-in : (values : List Literal) (first range n : ℕ) → 0 < first →
+    first + bit_count range ≤ n + 1 → range ≤ 2 ^ bit_count range → clause_in n values ≡ true →
+    clauses_in (bounds_part first range values n).part.vars (bounds_part first range values n).part.clauses
+    ≡ true
 bounds_part-in [] first range n low high enough h = refl
 bounds_part-in (e ∷ es) first range n low high enough h =
     elim (cases_lt 1 range) [

@@ -17,7 +17,12 @@ use Rattle.ilk_ints.proofs.BitsLaw.{is-law, has_value-exact, value_lits-in, bit_
 use Rattle.ilk_ints.specs.Named.{values_from, values_part, value_bits, values_bits}
 
 -- one value more
-pub values_step : (f g : Formula) (lits whole : List Literal) (l : Literal) (first range v : ℕ) → v < range → l ≡ plus (f.vars + 1) → g ≡ with_part f (is_part first range v f.vars) → lits ++ (values_from first range v (range - v) f.vars).lits ≡ whole → ((lits ++ l ∷ []) ++ (values_from first range (v + 1) (range - (v + 1)) g.vars).lits ≡ whole) × (with_part g (values_from first range (v + 1) (range - (v + 1)) g.vars).part ≡ with_part f (values_from first range v (range - v) f.vars).part)
+pub values_step : (f g : Formula) (lits whole : List Literal) (l : Literal) (first range v : ℕ) → v < range →
+    l ≡ plus (f.vars + 1) → g ≡ with_part f (is_part first range v f.vars) →
+    lits ++ (values_from first range v (range - v) f.vars).lits ≡ whole →
+    ((lits ++ l ∷ []) ++ (values_from first range (v + 1) (range - (v + 1)) g.vars).lits ≡ whole) ×
+    (with_part g (values_from first range (v + 1) (range - (v + 1)) g.vars).part
+    ≡ with_part f (values_from first range v (range - v) f.vars).part)
 values_step f g lits whole l first range v less is made h =
     let n = f.vars in
     let j = range - (v + 1) in
@@ -64,7 +69,11 @@ length-value_bits w v zero = refl
 length-value_bits w v (suc j) = ap suc (length-value_bits w (v + 1) j)
 
 -- the integer is w: each new variable says whether it is the value
-pub values-law : (j : ℕ) (a : List Bool) (first range v w n : ℕ) → length a ≡ n → 0 < first → first + bit_count range ≤ n + 1 → range ≤ 2 ^ bit_count range → w < range → v + j ≤ range → bits_at a first (bit_count range) ≡ bits_of (bit_count range) w → Extends a (values_from first range v j n).part.vars (values_from first range v j n).part.clauses (Only (value_bits w v j))
+pub values-law : (j : ℕ) (a : List Bool) (first range v w n : ℕ) → length a ≡ n → 0 < first →
+    first + bit_count range ≤ n + 1 → range ≤ 2 ^ bit_count range → w < range → v + j ≤ range →
+    bits_at a first (bit_count range) ≡ bits_of (bit_count range) w →
+    Extends a (values_from first range v j n).part.vars (values_from first range v j n).part.clauses
+    (Only (value_bits w v j))
 values-law zero a first range v w n size low high enough less upto is = only_from_if a n [] [] (no_more_if a n [] true size refl)
 values-law (suc j) a first range v w n size low high enough less upto is =
     let rest = values_from first range (v + 1) j (n + 1) in
@@ -86,7 +95,14 @@ values-say (suc j) a c first range v w n size =
     let here : value (a ++ q ∷ (value_bits w (v + 1) j ++ c)) (n + 1) ≡ q = value-new a (value_bits w (v + 1) j ++ c) q (n + 1) (ap (λ (k : ℕ). k + 1) size) in
     let long : length (a ++ q ∷ []) ≡ n + 1 = length-append a (q ∷ []) ∙ ap (λ (k : ℕ). k + 1) size in
     let rest = values-say j (a ++ q ∷ []) c first range (v + 1) w (n + 1) long in
-    let moved : map (is_true (a ++ q ∷ (value_bits w (v + 1) j ++ c))) (values_from first range (v + 1) j (n + 1)).lits ≡ value_bits w (v + 1) j = subst (λ (u : List Bool). map (is_true u) (values_from first range (v + 1) j (n + 1)).lits ≡ value_bits w (v + 1) j) (append_assoc a (q ∷ []) (value_bits w (v + 1) j ++ c)) rest in
+    let moved :
+    map (is_true (a ++ q ∷ (value_bits w (v + 1) j ++ c)))
+    (values_from first range (v + 1) j (n + 1)).lits
+    ≡ value_bits w (v + 1) j =
+    subst
+    (λ (u : List Bool). map (is_true u) (values_from first range (v + 1) j (n + 1)).lits
+    ≡ value_bits w (v + 1) j)
+    (append_assoc a (q ∷ []) (value_bits w (v + 1) j ++ c)) rest in
     rw (here, moved) refl
 
 -- the same of all values of a range
@@ -98,22 +114,57 @@ values_part-low first range n = by_case (range == 2)
     by_case true = omega arith
     by_case false = omega (arith, values-low range first range 0 n)
 
-pub values_part-law : (a : List Bool) (first range w n : ℕ) → length a ≡ n → 0 < first → first + bit_count range ≤ n + 1 → range ≤ 2 ^ bit_count range → w < range → bits_at a first (bit_count range) ≡ bits_of (bit_count range) w → Extends a (values_part first range n).part.vars (values_part first range n).part.clauses (Only (values_bits range w))
+pub values_part-law : (a : List Bool) (first range w n : ℕ) → length a ≡ n → 0 < first →
+    first + bit_count range ≤ n + 1 → range ≤ 2 ^ bit_count range → w < range →
+    bits_at a first (bit_count range) ≡ bits_of (bit_count range) w →
+    Extends a (values_part first range n).part.vars (values_part first range n).part.clauses
+    (Only (values_bits range w))
 values_part-law a first range w n size low high enough less is = by_case (range == 2)
   where
-    by_case : (h : Bool) → Extends a (cond h (record { part = nothing_at n; lits = (record { var = first; positive = (0 == 1) }) ∷ (record { var = first; positive = (1 == 1) }) ∷ [] }) (values_from first range 0 range n)).part.vars (cond h (record { part = nothing_at n; lits = (record { var = first; positive = (0 == 1) }) ∷ (record { var = first; positive = (1 == 1) }) ∷ [] }) (values_from first range 0 range n)).part.clauses (Only (cond h [] (value_bits w 0 range)))
+    by_case : (h : Bool) →
+        Extends a
+        (cond h
+        (record {
+          part = nothing_at n;
+          lits = (record { var = first; positive = (0 == 1) })
+              ∷ (record { var = first; positive = (1 == 1) }) ∷ [];
+        })
+        (values_from first range 0 range n)).part.vars
+        (cond h
+        (record {
+          part = nothing_at n;
+          lits = (record { var = first; positive = (0 == 1) })
+              ∷ (record { var = first; positive = (1 == 1) }) ∷ [];
+        })
+        (values_from first range 0 range n)).part.clauses
+        (Only (cond h [] (value_bits w 0 range)))
     by_case true = only_from_if a n [] [] (no_more_if a n [] true size refl)
     by_case false = values-law range a first range 0 w n size low high enough less (omega arith) is
 
-pub values_part-say : (a c : List Bool) (first range w n : ℕ) → length a ≡ n → first + bit_count range ≤ n + 1 → range ≤ 2 ^ bit_count range → w < range → bits_at a first (bit_count range) ≡ bits_of (bit_count range) w → map (is_true (a ++ (values_bits range w ++ c))) (values_part first range n).lits ≡ value_bits w 0 range
+pub values_part-say : (a c : List Bool) (first range w n : ℕ) → length a ≡ n →
+    first + bit_count range ≤ n + 1 → range ≤ 2 ^ bit_count range → w < range →
+    bits_at a first (bit_count range) ≡ bits_of (bit_count range) w →
+    map (is_true (a ++ (values_bits range w ++ c))) (values_part first range n).lits ≡ value_bits w 0 range
 values_part-say a c first range w n size high enough less is = by_case (range == 2) refl
   where
-    by_case : (h : Bool) → (range == 2) ≡ h → map (is_true (a ++ (cond h [] (value_bits w 0 range) ++ c))) (cond h (record { part = nothing_at n; lits = (record { var = first; positive = (0 == 1) }) ∷ (record { var = first; positive = (1 == 1) }) ∷ [] }) (values_from first range 0 range n)).lits ≡ value_bits w 0 range
+    by_case : (h : Bool) → (range == 2) ≡ h →
+        map (is_true (a ++ (cond h [] (value_bits w 0 range) ++ c)))
+        (cond h
+        (record {
+          part = nothing_at n;
+          lits = (record { var = first; positive = (0 == 1) })
+              ∷ (record { var = first; positive = (1 == 1) }) ∷ [];
+        })
+        (values_from first range 0 range n)).lits
+        ≡ value_bits w 0 range
     by_case true h =
         let two : range ≡ 2 = eqb-true range 2 h in
         let long : first + bit_count range ≤ length a + 1 = rw size high in
         let kept : bits_at (a ++ c) first (bit_count range) ≡ bits_of (bit_count range) w = bits_at-left (bit_count range) a c first long ∙ is in
-        let one : (v : ℕ) → v < 2 → is_true (a ++ c) (record { var = first; positive = (v == 1) }) ≡ eqb w v = λ v small. bit_is-exact (a ++ c) first v small ∙ ap (λ (r : ℕ). bits_have_value (a ++ c) first r v) (sym two) ∙ has_value-exact (a ++ c) first range v w enough (omega (arith, two, small)) less kept in
+        let one : (v : ℕ) → v < 2 → is_true (a ++ c) (record { var = first; positive = (v == 1) }) ≡ eqb w v =
+        λ v small. bit_is-exact (a ++ c) first v small
+        ∙ ap (λ (r : ℕ). bits_have_value (a ++ c) first r v) (sym two)
+        ∙ has_value-exact (a ++ c) first range v w enough (omega (arith, two, small)) less kept in
         let zeroth = one 0 (omega arith) in
         let first_one = one 1 (omega arith) in
         let both : map (is_true (a ++ c)) ((record { var = first; positive = (0 == 1) }) ∷ (record { var = first; positive = (1 == 1) }) ∷ []) ≡ value_bits w 0 2 = cc in

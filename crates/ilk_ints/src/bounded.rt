@@ -66,7 +66,10 @@ fn rule_out_value(
 ) -> Result<(), AllocError>
     requires from_1 { 0 < first }
     requires within { first + count ≤ cnf.old.vars + 1 }
-    ensures { OnOk result (cnf.new ≡ grown cnf.old cnf.old.vars (as_clause (map opposite (bit_lits first (bits_of count value))))) }
+    ensures { OnOk result
+        (cnf.new
+        ≡ grown cnf.old cnf.old.vars
+        (as_clause (map opposite (bit_lits first (bits_of count value))))) }
 {
     let _ = cnf.vars();
     let lits = lits_of(alloc, first, count, value)?;
@@ -87,7 +90,8 @@ fn rule_out(
     requires few { count ≤ 8 }
     requires from_1 { 0 < first }
     requires within { first + count ≤ cnf.old.vars + 1 }
-    ensures { OnOk result (cnf.new ≡ grown cnf.old cnf.old.vars (as_clauses (ruled_out first range))) }
+    ensures { OnOk result
+        (cnf.new ≡ grown cnf.old cnf.old.vars (as_clauses (ruled_out first range))) }
 {
     for value in u64::from(range)..1 << count {
         rule_out_value(alloc, cnf, first, count, value)?;
@@ -111,7 +115,8 @@ pub fn take_number(cnf: &mut Cnf, range: u8) -> Result<Bounded, AllocError>
 pub fn add_number(alloc: Global, cnf: &mut Cnf, n: Bounded) -> Result<(), AllocError>
     requires from_1 { 0 < n.first }
     requires within { n.first + bit_count n.range ≤ cnf.old.vars + 1 }
-    ensures { OnOk result (cnf.new ≡ grown cnf.old cnf.old.vars (as_clauses (ruled_out n.first n.range))) }
+    ensures { OnOk result
+        (cnf.new ≡ grown cnf.old cnf.old.vars (as_clauses (ruled_out n.first n.range))) }
 {
     rule_out(alloc, cnf, n.first, bits(n.range), n.range)?;
     Ok(())
@@ -124,7 +129,9 @@ pub fn number(alloc: Global, cnf: &mut Cnf, range: u8) -> Result<Bounded, AllocE
     requires { 0 < range }
     ensures number { IfOk result (λ n. n ≡ record { first = cnf.old.vars + 1; range = range }) }
     ensures made { OnOk result (cnf.new ≡ with_part cnf.old (number_part range cnf.old.vars)) }
-    ensures law { OnOk result ((a : List Bool) → length a ≡ cnf.old.vars → PartExtends a (number_part range cnf.old.vars) (IsValue range)) }
+    ensures law { OnOk result
+        ((a : List Bool) → length a ≡ cnf.old.vars →
+        PartExtends a (number_part range cnf.old.vars) (IsValue range)) }
 {
     let _ = bits(range);
     let n = take_number(cnf, range)?;
@@ -153,7 +160,10 @@ pub fn add_is(
     requires from_1 { 0 < n.first }
     requires within { n.first + bit_count n.range ≤ cnf.old.vars + 1 }
     requires lit { IsTrue (clause_in cnf.old.vars (lit ∷ [])) }
-    ensures { OnOk result (cnf.new ≡ grown cnf.old cnf.old.vars (as_clauses (equals_all lit (value_lits n.first n.range value)))) }
+    ensures { OnOk result
+        (cnf.new
+        ≡ grown cnf.old cnf.old.vars
+        (as_clauses (equals_all lit (value_lits n.first n.range value)))) }
 {
     let _ = cnf.vars();
     let lits = lits_of(alloc, n.first, bits(n.range), u64::from(value))?;
@@ -168,11 +178,18 @@ pub fn is(alloc: Global, cnf: &mut Cnf, n: Bounded, value: u8) -> Result<Lit, Al
     requires from_1 { 0 < n.first }
     requires within { n.first + bit_count n.range ≤ cnf.old.vars + 1 }
     ensures lit { IfOk result (λ l. l ≡ plus (cnf.old.vars + 1)) }
-    ensures made { OnOk result (cnf.new ≡ with_part cnf.old (is_part n.first n.range value cnf.old.vars)) }
-    ensures law { OnOk result ((a : List Bool) → length a ≡ cnf.old.vars → PartExtends a (is_part n.first n.range value cnf.old.vars) (Only (bits_have_value a n.first n.range value ∷ []))) }
+    ensures made { OnOk result
+        (cnf.new ≡ with_part cnf.old (is_part n.first n.range value cnf.old.vars)) }
+    ensures law { OnOk result
+        ((a : List Bool) → length a ≡ cnf.old.vars →
+        PartExtends a (is_part n.first n.range value cnf.old.vars)
+        (Only (bits_have_value a n.first n.range value ∷ []))) }
 
     // The bits are those of the value exactly where the integer is the value.
-    ensures exact { OnOk result ((a : List Bool) (v : ℕ) → v < n.range → bits_at a n.first (bit_count n.range) ≡ bits_of (bit_count n.range) v → bits_have_value a n.first n.range value ≡ (v == value)) }
+    ensures exact { OnOk result
+        ((a : List Bool) (v : ℕ) → v < n.range →
+        bits_at a n.first (bit_count n.range) ≡ bits_of (bit_count n.range) v →
+        bits_have_value a n.first n.range value ≡ (v == value)) }
 {
     let _ = bits(n.range);
     let lit = take_is(cnf)?;

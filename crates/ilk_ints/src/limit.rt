@@ -43,11 +43,23 @@ pub fn at_most(
     requires there { (at_most_part n.range k below equal used.old).vars ≤ cnf.old.vars }
     ensures lit { IfOk result (λ l. l ≡ at_most_lit n.first n.range k used.old) }
     ensures vars { OnOk result (cnf.new.vars ≡ cnf.old.vars) }
-    ensures made { OnOk result (with_vars cnf.new used.new ≡ with_part (with_vars cnf.old used.old) (at_most_part n.range k below equal used.old)) }
+    ensures made { OnOk result
+        (with_vars cnf.new used.new
+        ≡ with_part (with_vars cnf.old used.old)
+        (at_most_part n.range k below equal used.old)) }
 
     // Where the integer is v and the two literals say what they are to.
-    ensures law { OnOk result ((a : List Bool) (v : ℕ) → length a ≡ used.old → v < n.range → bits_at a n.first (bit_count n.range) ≡ bits_of (bit_count n.range) v → is_true a below ≡ nat_lt v k → is_true a equal ≡ (v == k) → PartExtends a (at_most_part n.range k below equal used.old) (Only (at_most_bits n.range k v))) }
-    ensures exact { OnOk result ((a : List Bool) (v : ℕ) → length a ≡ used.old → v < n.range → bits_at a n.first (bit_count n.range) ≡ bits_of (bit_count n.range) v → is_true (a ++ at_most_bits n.range k v) (at_most_lit n.first n.range k used.old) ≡ nat_le v k) }
+    ensures law { OnOk result
+        ((a : List Bool) (v : ℕ) → length a ≡ used.old → v < n.range →
+        bits_at a n.first (bit_count n.range) ≡ bits_of (bit_count n.range) v →
+        is_true a below ≡ nat_lt v k → is_true a equal ≡ (v == k) →
+        PartExtends a (at_most_part n.range k below equal used.old)
+        (Only (at_most_bits n.range k v))) }
+    ensures exact { OnOk result
+        ((a : List Bool) (v : ℕ) → length a ≡ used.old → v < n.range →
+        bits_at a n.first (bit_count n.range) ≡ bits_of (bit_count n.range) v →
+        is_true (a ++ at_most_bits n.range k v) (at_most_lit n.first n.range k used.old)
+        ≡ nat_le v k) }
 {
     let _ = cnf.vars();
     if highest_bit_says(n.range, k) {

@@ -12,7 +12,8 @@ use std::alloc::{AllocError, Global};
 // Adds the clauses that make `joined` true exactly where `s` or `l` is, and not both.
 fn add_either(cnf: &mut Cnf, s: Lit, l: Lit, joined: Lit) -> Result<(), AllocError>
     requires { IsTrue (clause_in cnf.old.vars (s ∷ l ∷ joined ∷ [])) }
-    ensures { OnOk result (cnf.new ≡ grown cnf.old cnf.old.vars (as_clauses (either_of s l joined))) }
+    ensures { OnOk result
+        (cnf.new ≡ grown cnf.old cnf.old.vars (as_clauses (either_of s l joined))) }
 {
     cnf.add_lits(&[l.negated(), joined])?;
     cnf.add_lits(&[s.negated(), joined])?;
@@ -26,7 +27,8 @@ fn add_either(cnf: &mut Cnf, s: Lit, l: Lit, joined: Lit) -> Result<(), AllocErr
 fn join(cnf: &mut Cnf, queue: &mut Vec<Lit>, s: Lit, l: Lit) -> Result<(), AllocError>
     requires { IsTrue (clause_in cnf.old.vars (s ∷ l ∷ [])) }
     ensures made { OnOk result (cnf.new ≡ with_part cnf.old (either_part s l cnf.old.vars)) }
-    ensures queued { OnOk result (queue.new.items ≡ queue.old.items ++ plus (cnf.old.vars + 1) ∷ []) }
+    ensures queued { OnOk result
+        (queue.new.items ≡ queue.old.items ++ plus (cnf.old.vars + 1) ∷ []) }
 {
     let joined = Lit::new(cnf.fresh()?, true);
     add_either(cnf, s, l, joined)?;
@@ -56,8 +58,13 @@ fn join_all(cnf: &mut Cnf, queue: Vec<Lit>) -> Result<(), AllocError>
 pub fn one_of(alloc: Global, cnf: &mut Cnf, lits: &Clause) -> Result<(), AllocError>
     requires { IsTrue (clause_in cnf.old.vars lits.now) }
     ensures made { OnOk result (cnf.new ≡ with_part cnf.old (one_of_part lits.now cnf.old.vars)) }
-    ensures law { OnOk result ((a : List Bool) → length a ≡ cnf.old.vars → PartExtends a (one_of_part lits.now cnf.old.vars) (OnlyIf (one_true (map (is_true a) lits.now)) (one_of_bits (map (is_true a) lits.now)))) }
-    ensures few { OnOk result (length cnf.new.clauses ≤ length cnf.old.clauses + 4 * length lits.now + 1) }
+    ensures law { OnOk result
+        ((a : List Bool) → length a ≡ cnf.old.vars →
+        PartExtends a (one_of_part lits.now cnf.old.vars)
+        (OnlyIf (one_true (map (is_true a) lits.now))
+        (one_of_bits (map (is_true a) lits.now)))) }
+    ensures few { OnOk result
+        (length cnf.new.clauses ≤ length cnf.old.clauses + 4 * length lits.now + 1) }
 {
     join_all(cnf, Vec::from_slice(alloc, lits.as_slice())?)?;
     Ok(())

@@ -27,7 +27,9 @@ fn next_is(
     requires there { used.old < cnf.old.vars }
     ensures lit { IfOk result (λ l. l ≡ plus (used.old + 1)) }
     ensures vars { OnOk result (cnf.new.vars ≡ cnf.old.vars) }
-    ensures made { OnOk result (with_vars cnf.new used.new ≡ with_part (with_vars cnf.old used.old) (is_part n.first n.range value used.old)) }
+    ensures made { OnOk result
+        (with_vars cnf.new used.new
+        ≡ with_part (with_vars cnf.old used.old) (is_part n.first n.range value used.old)) }
 {
     let _ = cnf.vars();
     *used += 1;
@@ -41,9 +43,13 @@ fn add_values(alloc: Global, cnf: &mut Cnf, used: &mut u64, n: Bounded) -> Resul
     requires from_1 { 0 < n.first }
     requires within { n.first + bit_count n.range ≤ used.old + 1 }
     requires there { used.old + n.range ≤ cnf.old.vars }
-    ensures lits { IfOk result (λ lits. lits ≡ (values_from n.first n.range 0 n.range used.old).lits) }
+    ensures lits { IfOk result
+        (λ lits. lits ≡ (values_from n.first n.range 0 n.range used.old).lits) }
     ensures vars { OnOk result (cnf.new.vars ≡ cnf.old.vars) }
-    ensures made { OnOk result (with_vars cnf.new used.new ≡ with_part (with_vars cnf.old used.old) (values_from n.first n.range 0 n.range used.old).part) }
+    ensures made { OnOk result
+        (with_vars cnf.new used.new
+        ≡ with_part (with_vars cnf.old used.old)
+        (values_from n.first n.range 0 n.range used.old).part) }
 {
     let mut lits = Lits::new(alloc);
     for value in 0..n.range {
@@ -61,11 +67,22 @@ pub fn values(alloc: Global, cnf: &mut Cnf, used: &mut u64, n: Bounded) -> Resul
     requires there { used.old + values_vars n.range ≤ cnf.old.vars }
     ensures lits { IfOk result (λ lits. lits ≡ (values_part n.first n.range used.old).lits) }
     ensures vars { OnOk result (cnf.new.vars ≡ cnf.old.vars) }
-    ensures made { OnOk result (with_vars cnf.new used.new ≡ with_part (with_vars cnf.old used.old) (values_part n.first n.range used.old).part) }
+    ensures made { OnOk result
+        (with_vars cnf.new used.new
+        ≡ with_part (with_vars cnf.old used.old) (values_part n.first n.range used.old).part) }
 
     // Where the integer is w, the new variables have one value each, and the literals say w.
-    ensures law { OnOk result ((a : List Bool) (w : ℕ) → length a ≡ used.old → w < n.range → bits_at a n.first (bit_count n.range) ≡ bits_of (bit_count n.range) w → PartExtends a (values_part n.first n.range used.old).part (Only (values_bits n.range w))) }
-    ensures exact { OnOk result ((a c : List Bool) (w : ℕ) → length a ≡ used.old → w < n.range → bits_at a n.first (bit_count n.range) ≡ bits_of (bit_count n.range) w → map (is_true (a ++ (values_bits n.range w ++ c))) (values_part n.first n.range used.old).lits ≡ value_bits w 0 n.range) }
+    ensures law { OnOk result
+        ((a : List Bool) (w : ℕ) → length a ≡ used.old → w < n.range →
+        bits_at a n.first (bit_count n.range) ≡ bits_of (bit_count n.range) w →
+        PartExtends a (values_part n.first n.range used.old).part
+        (Only (values_bits n.range w))) }
+    ensures exact { OnOk result
+        ((a c : List Bool) (w : ℕ) → length a ≡ used.old → w < n.range →
+        bits_at a n.first (bit_count n.range) ≡ bits_of (bit_count n.range) w →
+        map (is_true (a ++ (values_bits n.range w ++ c)))
+        (values_part n.first n.range used.old).lits
+        ≡ value_bits w 0 n.range) }
 {
     let _ = cnf.vars();
     let _ = bits(n.range);
@@ -82,7 +99,10 @@ fn two_values(alloc: Global, n: Bounded) -> Result<Lits, AllocError>
     requires range { n.range ≡ 2 }
     requires from_1 { 0 < n.first }
     requires numbered { n.first ≤ 2 ^ 62 }
-    ensures { IfOk result (λ lits. lits ≡ (record { var = n.first; positive = (0 == 1) }) ∷ (record { var = n.first; positive = (1 == 1) }) ∷ []) }
+    ensures { IfOk result
+        (λ lits. lits
+        ≡ (record { var = n.first; positive = (0 == 1) })
+        ∷ (record { var = n.first; positive = (1 == 1) }) ∷ []) }
 {
     let mut lits = Lits::new(alloc);
     lits.push(bit_is(n, 0))?;
@@ -142,10 +162,15 @@ fn add_bounds(
     requires from_1 { 0 < n.first }
     requires within { n.first + bit_count n.range ≤ used.old + 1 }
     requires lits { IsTrue (clause_in used.old (below ∷ equals.now)) }
-    requires there { (bounds_from n.first n.range below 1 equals.now used.old).part.vars ≤ cnf.old.vars }
-    ensures lits { IfOk result (λ lits. lits ≡ (bounds_from n.first n.range below 1 equals.now used.old).lits) }
+    requires there { (bounds_from n.first n.range below 1 equals.now used.old).part.vars
+        ≤ cnf.old.vars }
+    ensures lits { IfOk result
+        (λ lits. lits ≡ (bounds_from n.first n.range below 1 equals.now used.old).lits) }
     ensures vars { OnOk result (cnf.new.vars ≡ cnf.old.vars) }
-    ensures made { OnOk result (with_vars cnf.new used.new ≡ with_part (with_vars cnf.old used.old) (bounds_from n.first n.range below 1 equals.now used.old).part) }
+    ensures made { OnOk result
+        (with_vars cnf.new used.new
+        ≡ with_part (with_vars cnf.old used.old)
+        (bounds_from n.first n.range below 1 equals.now used.old).part) }
 {
     let _ = bits(n.range);
     let mut lits = Lits::new(alloc);
@@ -172,9 +197,13 @@ fn bounds_of(
     requires all { length values.now ≡ n.range }
     requires lits { IsTrue (clause_in used.old values.now) }
     requires there { (bounds_part n.first n.range values.now used.old).part.vars ≤ cnf.old.vars }
-    ensures lits { IfOk result (λ lits. lits ≡ (bounds_part n.first n.range values.now used.old).lits) }
+    ensures lits { IfOk result
+        (λ lits. lits ≡ (bounds_part n.first n.range values.now used.old).lits) }
     ensures vars { OnOk result (cnf.new.vars ≡ cnf.old.vars) }
-    ensures made { OnOk result (with_vars cnf.new used.new ≡ with_part (with_vars cnf.old used.old) (bounds_part n.first n.range values.now used.old).part) }
+    ensures made { OnOk result
+        (with_vars cnf.new used.new
+        ≡ with_part (with_vars cnf.old used.old)
+        (bounds_part n.first n.range values.now used.old).part) }
 {
     let count = bound_count(n.range);
     match values {
@@ -202,13 +231,28 @@ pub fn bounds(
     requires all { length values.now ≡ n.range }
     requires lits { IsTrue (clause_in used.old values.now) }
     requires there { (bounds_part n.first n.range values.now used.old).part.vars ≤ cnf.old.vars }
-    ensures lits { IfOk result (λ lits. lits ≡ (bounds_part n.first n.range values.now used.old).lits) }
+    ensures lits { IfOk result
+        (λ lits. lits ≡ (bounds_part n.first n.range values.now used.old).lits) }
     ensures vars { OnOk result (cnf.new.vars ≡ cnf.old.vars) }
-    ensures made { OnOk result (with_vars cnf.new used.new ≡ with_part (with_vars cnf.old used.old) (bounds_part n.first n.range values.now used.old).part) }
+    ensures made { OnOk result
+        (with_vars cnf.new used.new
+        ≡ with_part (with_vars cnf.old used.old)
+        (bounds_part n.first n.range values.now used.old).part) }
 
     // Where the integer is w, and the literals of its values say so.
-    ensures law { OnOk result ((a : List Bool) (w : ℕ) → length a ≡ used.old → w < n.range → bits_at a n.first (bit_count n.range) ≡ bits_of (bit_count n.range) w → map (is_true a) values.now ≡ value_bits w 0 n.range → PartExtends a (bounds_part n.first n.range values.now used.old).part (Only (bounds_bits n.range w 1 (bound_count n.range)))) }
-    ensures exact { OnOk result ((a c : List Bool) (w : ℕ) → length a ≡ used.old → w < n.range → bits_at a n.first (bit_count n.range) ≡ bits_of (bit_count n.range) w → map (is_true a) values.now ≡ value_bits w 0 n.range → map (is_true (a ++ (bounds_bits n.range w 1 (bound_count n.range) ++ c))) (bounds_part n.first n.range values.now used.old).lits ≡ bound_bits w 1 (bound_count n.range)) }
+    ensures law { OnOk result
+        ((a : List Bool) (w : ℕ) → length a ≡ used.old → w < n.range →
+        bits_at a n.first (bit_count n.range) ≡ bits_of (bit_count n.range) w →
+        map (is_true a) values.now ≡ value_bits w 0 n.range →
+        PartExtends a (bounds_part n.first n.range values.now used.old).part
+        (Only (bounds_bits n.range w 1 (bound_count n.range)))) }
+    ensures exact { OnOk result
+        ((a c : List Bool) (w : ℕ) → length a ≡ used.old → w < n.range →
+        bits_at a n.first (bit_count n.range) ≡ bits_of (bit_count n.range) w →
+        map (is_true a) values.now ≡ value_bits w 0 n.range →
+        map (is_true (a ++ (bounds_bits n.range w 1 (bound_count n.range) ++ c)))
+        (bounds_part n.first n.range values.now used.old).lits
+        ≡ bound_bits w 1 (bound_count n.range)) }
 {
     let _ = bits(n.range);
     let lits = bounds_of(alloc, cnf, used, n, values)?;

@@ -8,7 +8,12 @@ use Rattle.ilk_invs.specs.declared.hold_family.TheConstants.{MAX_IN_ORDER}
 use Rattle.ilk_invs.specs.HoldFamilies.{held_by_halves, held_in_order, not_in_both}
 
 -- of many routes the conditions that no two hold a section: that of both halves, and those of each
-pub halves_pushed : (p : PlantLists) (x n : ℕ) (routes first second : List ℕ) (start one two three : List Tree) → MAX_IN_ORDER < length routes → first ≡ take (length routes / 2) routes → second ≡ drop (length routes / 2) routes → one ≡ start ++ not_in_both p x first second ∷ [] → two ≡ one ++ held_by_halves n p x first → three ≡ two ++ held_by_halves n p x second → three ≡ start ++ held_by_halves (suc n) p x routes
+pub halves_pushed :
+    (p : PlantLists) (x n : ℕ) (routes first second : List ℕ) (start one two three : List Tree) →
+    MAX_IN_ORDER < length routes → first ≡ take (length routes / 2) routes →
+    second ≡ drop (length routes / 2) routes → one ≡ start ++ not_in_both p x first second ∷ [] →
+    two ≡ one ++ held_by_halves n p x first → three ≡ two ++ held_by_halves n p x second →
+    three ≡ start ++ held_by_halves (suc n) p x routes
 halves_pushed p x n routes first second start one two three many here there a b c = by_size (nat_le (length routes) MAX_IN_ORDER) no
   where
     no : nat_le (length routes) MAX_IN_ORDER ≡ false
@@ -20,11 +25,26 @@ halves_pushed p x n routes first second start one two three many here there a b 
         ∙ append_assoc (start ++ not_in_both p x first second ∷ []) (held_by_halves n p x first) (held_by_halves n p x second)
         ∙ append_assoc start (not_in_both p x first second ∷ []) (held_by_halves n p x first ++ held_by_halves n p x second)
 
-    halved : start ++ (not_in_both p x first second ∷ (held_by_halves n p x first ++ held_by_halves n p x second)) ≡ start ++ (not_in_both p x (take (length routes / 2) routes) (drop (length routes / 2) routes) ∷ (held_by_halves n p x (take (length routes / 2) routes) ++ held_by_halves n p x (drop (length routes / 2) routes)))
+    halved :
+        start ++ (not_in_both p x first second ∷ (held_by_halves n p x first ++ held_by_halves n p x second))
+        ≡ start
+        ++
+        (not_in_both p x (take (length routes / 2) routes) (drop (length routes / 2) routes)
+        ∷
+        (held_by_halves n p x (take (length routes / 2) routes)
+        ++ held_by_halves n p x (drop (length routes / 2) routes)))
     halved =
         ap (λ xs. start ++ (not_in_both p x xs second ∷ (held_by_halves n p x xs ++ held_by_halves n p x second))) here
         ∙ ap (λ xs. start ++ (not_in_both p x (take (length routes / 2) routes) xs ∷ (held_by_halves n p x (take (length routes / 2) routes) ++ held_by_halves n p x xs))) there
 
-    by_size : (few : Bool) → few ≡ false → three ≡ start ++ (if few then held_in_order p x routes else not_in_both p x (take (length routes / 2) routes) (drop (length routes / 2) routes) ∷ held_by_halves n p x (take (length routes / 2) routes) ++ held_by_halves n p x (drop (length routes / 2) routes))
+    by_size : (few : Bool) → few ≡ false →
+        three
+        ≡ start
+        ++
+        (if few then held_in_order p x routes
+        else not_in_both p x (take (length routes / 2) routes)
+        (drop (length routes / 2) routes)
+        ∷ held_by_halves n p x (take (length routes / 2) routes)
+        ++ held_by_halves n p x (drop (length routes / 2) routes))
     by_size true e = cc
     by_size false e = joined ∙ halved

@@ -56,7 +56,13 @@ pub passing-once : (test : ℕ → Bool) (a n : ℕ) → EachOnce (filter test (
 passing-once test a zero i j x at also = cc
 passing-once test a (suc n) i j x at also = by_test (test a) i j at also (λ k l one two. passing-once test (a + 1) n k l x one two)
   where
-    by_test : (b : Bool) (i j : ℕ) → slice_get (cond b (a ∷ filter test (range_with_len (a + 1) n)) (filter test (range_with_len (a + 1) n))) i ≡ Some x → slice_get (cond b (a ∷ filter test (range_with_len (a + 1) n)) (filter test (range_with_len (a + 1) n))) j ≡ Some x
+    by_test : (b : Bool) (i j : ℕ) →
+        slice_get
+        (cond b (a ∷ filter test (range_with_len (a + 1) n)) (filter test (range_with_len (a + 1) n))) i
+        ≡ Some x →
+        slice_get
+        (cond b (a ∷ filter test (range_with_len (a + 1) n)) (filter test (range_with_len (a + 1) n))) j
+        ≡ Some x
         → ((k l : ℕ) → slice_get (filter test (range_with_len (a + 1) n)) k ≡ Some x → slice_get (filter test (range_with_len (a + 1) n)) l ≡ Some x → k ≡ l) → i ≡ j
     by_test true zero zero at also later = refl
     by_test true zero (suc j) at also later =
@@ -111,7 +117,12 @@ module _ (p : PlantLists) (plant : IsPlant p) (s : State) (shape : HasShape p s)
   lock_place-holds r now i x at within =
       let rel = rel_below-holds p s shape r now (i + 1) at ∙ below-next now.rel i in
       let seen : tree_holds (image_of p s) (seen_below r (i + 1)) ≡ not (nat_lt i now.seen) = seen_below-holds p s shape r now (i + 1) at ∙ below-next now.seen i ∙ turned now.seen i in
-      joined (tree_holds (image_of p s) (rel_below r (i + 1))) (tree_holds (image_of p s) (seen_below r (i + 1))) (tree_holds (image_of p s) (lock_is p x LockedLock)) (tree_holds (image_of p s) (lock_is p x UsedLock)) (nat_le now.rel i) (nat_lt i now.seen) (has_lock s x LockedLock) (has_lock s x UsedLock) rel seen (lock-holds p s shape x LockedLock within) (lock-holds p s shape x UsedLock within)
+      joined (tree_holds (image_of p s) (rel_below r (i + 1)))
+      (tree_holds (image_of p s) (seen_below r (i + 1)))
+      (tree_holds (image_of p s) (lock_is p x LockedLock))
+      (tree_holds (image_of p s) (lock_is p x UsedLock)) (nat_le now.rel i) (nat_lt i now.seen)
+      (has_lock s x LockedLock) (has_lock s x UsedLock) rel seen
+      (lock-holds p s shape x LockedLock within) (lock-holds p s shape x UsedLock within)
       ∙ ap (λ v. not (nat_le now.rel i) || v) (chosen (nat_lt i now.seen) refl)
     where
       turned : (a b : ℕ) → nat_le a b ≡ not (nat_lt b a)
@@ -136,11 +147,21 @@ module _ (p : PlantLists) (plant : IsPlant p) (s : State) (shape : HasShape p s)
           ∙ ap (λ v. ((not a2 || (not (not b) || (l2 || false))) && ((not a2 || (not b || (v || false))) && true))) four
           ∙ cases a2 b l2 u2
 
-  locked_for-holds : (r : ℕ) (route : Route) (now : RouteState) → slice_get p.routes r ≡ Some route → slice_get s.routes r ≡ Some now → list_all (tree_holds (image_of p s)) (locked_for p r route ∷ []) ≡ (if holds_sections now then has_its_locks s route now else true)
+  locked_for-holds : (r : ℕ) (route : Route) (now : RouteState) → slice_get p.routes r ≡ Some route →
+      slice_get s.routes r ≡ Some now →
+      list_all (tree_holds (image_of p s)) (locked_for p r route ∷ [])
+      ≡ (if holds_sections now then has_its_locks s route now else true)
   locked_for-holds r route now known at =
       let of = plant.routes_known r route known in
-      let places = each-place (image_of p s) route (lock_at_place p r) (λ i x. not (nat_le now.rel i) || has_lock s x (lock_on_path now i)) (λ i x found. lock_place-holds r now i x at (all-at (λ x. x < length p.sections) route.path i x of.path found)) in
-      let beside = list_all-map (tree_holds (image_of p s)) (λ x. lock_is p x LockedLock) (sections_beside route) ∙ list_all-alike (λ x. tree_holds (image_of p s) (lock_is p x LockedLock)) (λ x. has_lock s x LockedLock) (sections_beside route) (λ i x found. lock-holds p s shape x LockedLock (beside-known p route of i x found)) in
+      let places = each-place (image_of p s) route (lock_at_place p r)
+      (λ i x. not (nat_le now.rel i) || has_lock s x (lock_on_path now i))
+      (λ i x found. lock_place-holds r now i x at
+      (all-at (λ x. x < length p.sections) route.path i x of.path found)) in
+      let beside =
+      list_all-map (tree_holds (image_of p s)) (λ x. lock_is p x LockedLock) (sections_beside route)
+      ∙ list_all-alike (λ x. tree_holds (image_of p s) (lock_is p x LockedLock))
+      (λ x. has_lock s x LockedLock) (sections_beside route)
+      (λ i x found. lock-holds p s shape x LockedLock (beside-known p route of i x found)) in
       and-true (tree_holds (image_of p s) (locked_for p r route))
       ∙ where-holds (image_of p s) (is_holding r) (each_of (of_each_place route (lock_at_place p r) ++ map (λ x. lock_is p x LockedLock) (sections_beside route))) (holds_sections now) (has_its_locks s route now) (is_holding-holds p s shape r now at)
       (each_of-holds (image_of p s) (of_each_place route (lock_at_place p r) ++ map (λ x. lock_is p x LockedLock) (sections_beside route))
@@ -173,7 +194,10 @@ module _ (p : PlantLists) (plant : IsPlant p) (s : State) (shape : HasShape p s)
       ∙ list_all-flat_map (λ t. not (tree_holds (image_of p s) t)) (route_holding p x) routes
       ∙ list_all-alike (λ q. list_all (λ t. not (tree_holds (image_of p s) t)) (route_holding p x q)) (λ q. not (route_holds p s q x)) routes (λ i q found. not_holding-holds x q (known i q found))
 
-  none_before-holds : (x : ℕ) (before : List ℕ) (r : ℕ) → r < length p.routes → ((i q : ℕ) → slice_get before i ≡ Some q → q < length p.routes) → tree_holds (image_of p s) (none_before p x before r) ≡ (if route_holds p s r x then list_all (λ q. not (route_holds p s q x)) before else true)
+  none_before-holds : (x : ℕ) (before : List ℕ) (r : ℕ) → r < length p.routes →
+      ((i q : ℕ) → slice_get before i ≡ Some q → q < length p.routes) →
+      tree_holds (image_of p s) (none_before p x before r)
+      ≡ (if route_holds p s r x then list_all (λ q. not (route_holds p s q x)) before else true)
   none_before-holds x before r within known =
       where-holds (image_of p s) (each_of (route_holding p x r)) (none_holding p x before) (route_holds p s r x) (list_all (λ q. not (route_holds p s q x)) before) (route_holding-holds x r within) (none_holding-holds x before known)
 
@@ -203,19 +227,30 @@ module _ (p : PlantLists) (plant : IsPlant p) (s : State) (shape : HasShape p s)
           ]
 
   -- of two routes in order, the later one's condition speaks of the earlier one
-  two-in-order : (x : ℕ) (routes : List ℕ) → ((i q : ℕ) → slice_get routes i ≡ Some q → q < length p.routes) → list_all (tree_holds (image_of p s)) (held_in_order p x routes) ≡ true → (i j r q : ℕ) → i < j → slice_get routes i ≡ Some r → slice_get routes j ≡ Some q → route_holds p s r x ≡ true → route_holds p s q x ≡ true → ⊥
+  two-in-order : (x : ℕ) (routes : List ℕ) → ((i q : ℕ) → slice_get routes i ≡ Some q → q < length p.routes) →
+      list_all (tree_holds (image_of p s)) (held_in_order p x routes) ≡ true → (i j r q : ℕ) → i < j →
+      slice_get routes i ≡ Some r → slice_get routes j ≡ Some q → route_holds p s r x ≡ true →
+      route_holds p s q x ≡ true → ⊥
   two-in-order x routes known all i zero r q less at also one two = omega (arith, less)
   two-in-order x routes known all i (suc j) r q less at also one two =
       let place = enumerated-at 1 (drop 1 routes) j q (before-first routes j q also) in
       let each = sym (list_all-map (tree_holds (image_of p s)) (λ place. none_before p x (take place.0 routes) place.1) (enumerate_from 1 (drop 1 routes))) ∙ all in
-      let this : tree_holds (image_of p s) (none_before p x (take (1 + j) routes) q) ≡ true = list_all-slice_get (λ place. tree_holds (image_of p s) (none_before p x (take place.0 routes) place.1)) (enumerate_from 1 (drop 1 routes)) j (1 + j, q) each place in
+      let this : tree_holds (image_of p s) (none_before p x (take (1 + j) routes) q) ≡ true =
+      list_all-slice_get
+      (λ place. tree_holds (image_of p s) (none_before p x (take place.0 routes) place.1))
+      (enumerate_from 1 (drop 1 routes)) j (1 + j, q) each place in
       let says = sym (none_before-holds x (take (1 + j) routes) q (known (suc j) q also) (taken-known routes (1 + j) known)) ∙ this in
       let none = if-passes (route_holds p s q x) (list_all (λ q. not (route_holds p s q x)) (take (1 + j) routes)) says two in
       let first = list_all-slice_get (λ q. not (route_holds p s q x)) (take (1 + j) routes) i r none (take-at routes i (1 + j) r (omega (arith, less)) at) in
       not-true-false (route_holds p s r x) first one
 
   -- of a route of the first list and one of the second not both hold a section
-  one-of-both : (x : ℕ) (these those : List ℕ) → ((i q : ℕ) → slice_get these i ≡ Some q → q < length p.routes) → ((i q : ℕ) → slice_get those i ≡ Some q → q < length p.routes) → tree_holds (image_of p s) (not_in_both p x these those) ≡ true → (i j r q : ℕ) → slice_get these i ≡ Some r → slice_get those j ≡ Some q → route_holds p s r x ≡ true → route_holds p s q x ≡ true → ⊥
+  one-of-both : (x : ℕ) (these those : List ℕ) →
+      ((i q : ℕ) → slice_get these i ≡ Some q → q < length p.routes) →
+      ((i q : ℕ) → slice_get those i ≡ Some q → q < length p.routes) →
+      tree_holds (image_of p s) (not_in_both p x these those) ≡ true → (i j r q : ℕ) →
+      slice_get these i ≡ Some r → slice_get those j ≡ Some q → route_holds p s r x ≡ true →
+      route_holds p s q x ≡ true → ⊥
   one-of-both x these those known also_known h i j r q at also one two =
       elim (or_cases (tree_holds (image_of p s) (none_holding p x these)) (tree_holds (image_of p s) (none_holding p x those) || false) h) [
         | inl none ↦ not-true-false (route_holds p s r x) (list_all-slice_get (λ r. not (route_holds p s r x)) these i r (sym (none_holding-holds x these known) ∙ none) at) one
@@ -227,7 +262,14 @@ module _ (p : PlantLists) (plant : IsPlant p) (s : State) (shape : HasShape p s)
       ]
 
   -- no two of some routes hold a section where no two of each part do, nor one of the one part and one of the other
-  of-parts : (x n : ℕ) (routes : List ℕ) → ((i q : ℕ) → slice_get routes i ≡ Some q → q < length p.routes) → tree_holds (image_of p s) (not_in_both p x (take n routes) (drop n routes)) ≡ true → ((i j r q : ℕ) → i < j → slice_get (take n routes) i ≡ Some r → slice_get (take n routes) j ≡ Some q → route_holds p s r x ≡ true → route_holds p s q x ≡ true → ⊥) → ((i j r q : ℕ) → i < j → slice_get (drop n routes) i ≡ Some r → slice_get (drop n routes) j ≡ Some q → route_holds p s r x ≡ true → route_holds p s q x ≡ true → ⊥) → (i j r q : ℕ) → i < j → slice_get routes i ≡ Some r → slice_get routes j ≡ Some q → route_holds p s r x ≡ true → route_holds p s q x ≡ true → ⊥
+  of-parts : (x n : ℕ) (routes : List ℕ) → ((i q : ℕ) → slice_get routes i ≡ Some q → q < length p.routes) →
+      tree_holds (image_of p s) (not_in_both p x (take n routes) (drop n routes)) ≡ true →
+      ((i j r q : ℕ) → i < j → slice_get (take n routes) i ≡ Some r → slice_get (take n routes) j ≡ Some q →
+      route_holds p s r x ≡ true → route_holds p s q x ≡ true → ⊥) →
+      ((i j r q : ℕ) → i < j → slice_get (drop n routes) i ≡ Some r → slice_get (drop n routes) j ≡ Some q →
+      route_holds p s r x ≡ true → route_holds p s q x ≡ true → ⊥) → (i j r q : ℕ) → i < j →
+      slice_get routes i ≡ Some r → slice_get routes j ≡ Some q → route_holds p s r x ≡ true →
+      route_holds p s q x ≡ true → ⊥
   of-parts x n routes known both early late i j r q less at also one two =
       elim (below_or_past j n) [
         | inl before ↦ early i j r q less (take-at routes i n r (omega (arith, less, before)) at) (take-at routes j n q before also) one two
@@ -239,20 +281,52 @@ module _ (p : PlantLists) (plant : IsPlant p) (s : State) (shape : HasShape p s)
       ]
 
   -- no two routes hold a section of which the condition by halves holds
-  no-two : (n x : ℕ) (routes : List ℕ) → ((i q : ℕ) → slice_get routes i ≡ Some q → q < length p.routes) → list_all (tree_holds (image_of p s)) (held_by_halves n p x routes) ≡ true → (i j r q : ℕ) → i < j → slice_get routes i ≡ Some r → slice_get routes j ≡ Some q → route_holds p s r x ≡ true → route_holds p s q x ≡ true → ⊥
+  no-two : (n x : ℕ) (routes : List ℕ) → ((i q : ℕ) → slice_get routes i ≡ Some q → q < length p.routes) →
+      list_all (tree_holds (image_of p s)) (held_by_halves n p x routes) ≡ true → (i j r q : ℕ) → i < j →
+      slice_get routes i ≡ Some r → slice_get routes j ≡ Some q → route_holds p s r x ≡ true →
+      route_holds p s q x ≡ true → ⊥
   no-two zero x routes known all i j r q less at also one two = two-in-order x routes known all i j r q less at also one two
   no-two (suc n) x routes known all i j r q less at also one two =
       by_size (nat_le (length routes) MAX_IN_ORDER) all (no-two n x (take (length routes / 2) routes) (taken-known routes (length routes / 2) known)) (no-two n x (drop (length routes / 2) routes) (dropped-known routes (length routes / 2) known))
     where
-      by_size : (few : Bool) → list_all (tree_holds (image_of p s)) (if few then held_in_order p x routes else not_in_both p x (take (length routes / 2) routes) (drop (length routes / 2) routes) ∷ held_by_halves n p x (take (length routes / 2) routes) ++ held_by_halves n p x (drop (length routes / 2) routes)) ≡ true → (list_all (tree_holds (image_of p s)) (held_by_halves n p x (take (length routes / 2) routes)) ≡ true → ((i j r q : ℕ) → i < j → slice_get (take (length routes / 2) routes) i ≡ Some r → slice_get (take (length routes / 2) routes) j ≡ Some q → route_holds p s r x ≡ true → route_holds p s q x ≡ true → ⊥)) → (list_all (tree_holds (image_of p s)) (held_by_halves n p x (drop (length routes / 2) routes)) ≡ true → ((i j r q : ℕ) → i < j → slice_get (drop (length routes / 2) routes) i ≡ Some r → slice_get (drop (length routes / 2) routes) j ≡ Some q → route_holds p s r x ≡ true → route_holds p s q x ≡ true → ⊥)) → ⊥
+      by_size : (few : Bool) →
+          list_all (tree_holds (image_of p s))
+          (if few then held_in_order p x routes
+          else not_in_both p x (take (length routes / 2) routes) (drop (length routes / 2) routes)
+          ∷ held_by_halves n p x (take (length routes / 2) routes)
+          ++ held_by_halves n p x (drop (length routes / 2) routes)) ≡ true →
+          (list_all (tree_holds (image_of p s)) (held_by_halves n p x (take (length routes / 2) routes))
+          ≡ true →
+          ((i j r q : ℕ) → i < j → slice_get (take (length routes / 2) routes) i ≡ Some r →
+          slice_get (take (length routes / 2) routes) j ≡ Some q → route_holds p s r x ≡ true →
+          route_holds p s q x ≡ true → ⊥)) →
+          (list_all (tree_holds (image_of p s)) (held_by_halves n p x (drop (length routes / 2) routes))
+          ≡ true →
+          ((i j r q : ℕ) → i < j → slice_get (drop (length routes / 2) routes) i ≡ Some r →
+          slice_get (drop (length routes / 2) routes) j ≡ Some q → route_holds p s r x ≡ true →
+          route_holds p s q x ≡ true → ⊥)) → ⊥
       by_size true h early late = two-in-order x routes known h i j r q less at also one two
       by_size false h early late =
-          let parts = and_parts (tree_holds (image_of p s) (not_in_both p x (take (length routes / 2) routes) (drop (length routes / 2) routes))) (list_all (tree_holds (image_of p s)) (held_by_halves n p x (take (length routes / 2) routes) ++ held_by_halves n p x (drop (length routes / 2) routes))) h in
-          let halves = and_parts (list_all (tree_holds (image_of p s)) (held_by_halves n p x (take (length routes / 2) routes))) (list_all (tree_holds (image_of p s)) (held_by_halves n p x (drop (length routes / 2) routes))) (sym (list_all-append (tree_holds (image_of p s)) (held_by_halves n p x (take (length routes / 2) routes)) (held_by_halves n p x (drop (length routes / 2) routes))) ∙ parts.1) in
+          let parts = and_parts
+          (tree_holds (image_of p s)
+          (not_in_both p x (take (length routes / 2) routes) (drop (length routes / 2) routes)))
+          (list_all (tree_holds (image_of p s))
+          (held_by_halves n p x (take (length routes / 2) routes)
+          ++ held_by_halves n p x (drop (length routes / 2) routes))) h in
+          let halves = and_parts
+          (list_all (tree_holds (image_of p s)) (held_by_halves n p x (take (length routes / 2) routes)))
+          (list_all (tree_holds (image_of p s)) (held_by_halves n p x (drop (length routes / 2) routes)))
+          (sym
+          (list_all-append (tree_holds (image_of p s))
+          (held_by_halves n p x (take (length routes / 2) routes))
+          (held_by_halves n p x (drop (length routes / 2) routes))) ∙ parts.1) in
           of-parts x (length routes / 2) routes known parts.0 (early halves.0) (late halves.1) i j r q less at also one two
 
   -- where no two of the routes hold a section, its condition holds: in order, of two lists, and by halves
-  in-order : (x : ℕ) (routes : List ℕ) → ((i q : ℕ) → slice_get routes i ≡ Some q → q < length p.routes) → ((i j r q : ℕ) → i < j → slice_get routes i ≡ Some r → slice_get routes j ≡ Some q → route_holds p s r x ≡ true → route_holds p s q x ≡ true → ⊥) → list_all (tree_holds (image_of p s)) (held_in_order p x routes) ≡ true
+  in-order : (x : ℕ) (routes : List ℕ) → ((i q : ℕ) → slice_get routes i ≡ Some q → q < length p.routes) →
+      ((i j r q : ℕ) → i < j → slice_get routes i ≡ Some r → slice_get routes j ≡ Some q →
+      route_holds p s r x ≡ true → route_holds p s q x ≡ true → ⊥) →
+      list_all (tree_holds (image_of p s)) (held_in_order p x routes) ≡ true
   in-order x routes known never =
       list_all-map (tree_holds (image_of p s)) (λ place. none_before p x (take place.0 routes) place.1) (enumerate_from 1 (drop 1 routes))
       ∙ all-pass (λ place. tree_holds (image_of p s) (none_before p x (take place.0 routes) place.1)) (enumerate_from 1 (drop 1 routes)) (λ k place there.
@@ -264,7 +338,11 @@ module _ (p : PlantLists) (plant : IsPlant p) (s : State) (shape : HasShape p s)
       let earlier = taken-before place.0 routes j q before in
       not-where-never (route_holds p s q x) (λ two. never j (1 + k) q place.1 (let less = earlier.0 in let same = it.0 in omega (arith, less, same)) earlier.1 at two one))))
 
-  of-both : (x : ℕ) (these those : List ℕ) → ((i q : ℕ) → slice_get these i ≡ Some q → q < length p.routes) → ((i q : ℕ) → slice_get those i ≡ Some q → q < length p.routes) → ((i j r q : ℕ) → slice_get these i ≡ Some r → slice_get those j ≡ Some q → route_holds p s r x ≡ true → route_holds p s q x ≡ true → ⊥) → tree_holds (image_of p s) (not_in_both p x these those) ≡ true
+  of-both : (x : ℕ) (these those : List ℕ) → ((i q : ℕ) → slice_get these i ≡ Some q → q < length p.routes) →
+      ((i q : ℕ) → slice_get those i ≡ Some q → q < length p.routes) →
+      ((i j r q : ℕ) → slice_get these i ≡ Some r → slice_get those j ≡ Some q → route_holds p s r x ≡ true →
+      route_holds p s q x ≡ true → ⊥) →
+      tree_holds (image_of p s) (not_in_both p x these those) ≡ true
   of-both x these those known also_known never = by_first (tree_holds (image_of p s) (none_holding p x these)) refl
     where
       by_first : (b : Bool) → tree_holds (image_of p s) (none_holding p x these) ≡ b → tree_holds (image_of p s) (not_in_both p x these those) ≡ true
@@ -281,7 +359,10 @@ module _ (p : PlantLists) (plant : IsPlant p) (s : State) (shape : HasShape p s)
           let no : false ≡ true = sym e ∙ none in
           cc))))
 
-  by-halves : (n x : ℕ) (routes : List ℕ) → ((i q : ℕ) → slice_get routes i ≡ Some q → q < length p.routes) → ((i j r q : ℕ) → i < j → slice_get routes i ≡ Some r → slice_get routes j ≡ Some q → route_holds p s r x ≡ true → route_holds p s q x ≡ true → ⊥) → list_all (tree_holds (image_of p s)) (held_by_halves n p x routes) ≡ true
+  by-halves : (n x : ℕ) (routes : List ℕ) → ((i q : ℕ) → slice_get routes i ≡ Some q → q < length p.routes) →
+      ((i j r q : ℕ) → i < j → slice_get routes i ≡ Some r → slice_get routes j ≡ Some q →
+      route_holds p s r x ≡ true → route_holds p s q x ≡ true → ⊥) →
+      list_all (tree_holds (image_of p s)) (held_by_halves n p x routes) ≡ true
   by-halves zero x routes known never = in-order x routes known never
   by-halves (suc n) x routes known never =
       by_size (nat_le (length routes) MAX_IN_ORDER)
@@ -297,10 +378,24 @@ module _ (p : PlantLists) (plant : IsPlant p) (s : State) (shape : HasShape p s)
           let less = here.0 in
           never i (length routes / 2 + j) r q (omega (arith, less)) here.1 (dropped-at (length routes / 2) routes j q also) one two)
 
-      by_size : (few : Bool) → list_all (tree_holds (image_of p s)) (held_by_halves n p x (take (length routes / 2) routes)) ≡ true → list_all (tree_holds (image_of p s)) (held_by_halves n p x (drop (length routes / 2) routes)) ≡ true → list_all (tree_holds (image_of p s)) (if few then held_in_order p x routes else not_in_both p x (take (length routes / 2) routes) (drop (length routes / 2) routes) ∷ held_by_halves n p x (take (length routes / 2) routes) ++ held_by_halves n p x (drop (length routes / 2) routes)) ≡ true
+      by_size : (few : Bool) →
+          list_all (tree_holds (image_of p s)) (held_by_halves n p x (take (length routes / 2) routes))
+          ≡ true →
+          list_all (tree_holds (image_of p s)) (held_by_halves n p x (drop (length routes / 2) routes))
+          ≡ true →
+          list_all (tree_holds (image_of p s))
+          (if few then held_in_order p x routes
+          else not_in_both p x (take (length routes / 2) routes) (drop (length routes / 2) routes)
+          ∷ held_by_halves n p x (take (length routes / 2) routes)
+          ++ held_by_halves n p x (drop (length routes / 2) routes)) ≡ true
       by_size true here there = in-order x routes known never
       by_size false here there =
-          and_from (tree_holds (image_of p s) (not_in_both p x (take (length routes / 2) routes) (drop (length routes / 2) routes))) (list_all (tree_holds (image_of p s)) (held_by_halves n p x (take (length routes / 2) routes) ++ held_by_halves n p x (drop (length routes / 2) routes))) both
+          and_from
+          (tree_holds (image_of p s)
+          (not_in_both p x (take (length routes / 2) routes) (drop (length routes / 2) routes)))
+          (list_all (tree_holds (image_of p s))
+          (held_by_halves n p x (take (length routes / 2) routes)
+          ++ held_by_halves n p x (drop (length routes / 2) routes))) both
           (list_all-append (tree_holds (image_of p s)) (held_by_halves n p x (take (length routes / 2) routes)) (held_by_halves n p x (drop (length routes / 2) routes))
           ∙ and_from (list_all (tree_holds (image_of p s)) (held_by_halves n p x (take (length routes / 2) routes))) (list_all (tree_holds (image_of p s)) (held_by_halves n p x (drop (length routes / 2) routes))) here there)
 
@@ -365,5 +460,9 @@ module _ (p : PlantLists) (plant : IsPlant p) (s : State) (shape : HasShape p s)
               elim (or_cases (r == q) (each_below (length p.sections) (λ x. not (route_holds p s r x && route_holds p s q x))) pair) [
                 | inl same ↦ apart (eqb-true r q same)
                 | inr each ↦
-                    not-true-false (route_holds p s q x) (not-both (route_holds p s r x) (route_holds p s q x) (list_all-slice_get (λ x. not (route_holds p s r x && route_holds p s q x)) (range_with_len 0 (length p.sections)) x x each (range-at (length p.sections) x inside)) one) two
+                    not-true-false (route_holds p s q x)
+                    (not-both (route_holds p s r x) (route_holds p s q x)
+                    (list_all-slice_get (λ x. not (route_holds p s r x && route_holds p s q x))
+                    (range_with_len 0 (length p.sections)) x x each
+                    (range-at (length p.sections) x inside)) one) two
               ]

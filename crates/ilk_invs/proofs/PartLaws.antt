@@ -45,7 +45,9 @@ any-if values t true = or-false (tree_holds values t)
 any-if values t false = refl
 
 -- of the places of a path
-pub each-place : (values : List ℕ) (route : Route) (f : ℕ → ℕ → List Tree) (test : ℕ → ℕ → Bool) → ((i x : ℕ) → slice_get route.path i ≡ Some x → list_all (tree_holds values) (f i x) ≡ test i x) → list_all (tree_holds values) (of_each_place route f) ≡ each_place route test
+pub each-place : (values : List ℕ) (route : Route) (f : ℕ → ℕ → List Tree) (test : ℕ → ℕ → Bool) →
+    ((i x : ℕ) → slice_get route.path i ≡ Some x → list_all (tree_holds values) (f i x) ≡ test i x) →
+    list_all (tree_holds values) (of_each_place route f) ≡ each_place route test
 each-place values route f test same =
     list_all-flat_map (tree_holds values) (λ place. f place.0 place.1) (enumerate_from 0 route.path)
     ∙ list_all-alike (λ place. list_all (tree_holds values) (f place.0 place.1)) (λ place. test place.0 place.1) (enumerate_from 0 route.path) (λ i place at.
@@ -53,7 +55,9 @@ each-place values route f test same =
     let number : place.0 ≡ i = it.0 ∙ omega arith in
     same place.0 place.1 (ap (slice_get route.path) number ∙ it.1))
 
-pub some-place : (values : List ℕ) (route : Route) (f : ℕ → ℕ → List Tree) (test : ℕ → ℕ → Bool) → ((i x : ℕ) → slice_get route.path i ≡ Some x → list_any (tree_holds values) (f i x) ≡ test i x) → list_any (tree_holds values) (of_each_place route f) ≡ some_place route test
+pub some-place : (values : List ℕ) (route : Route) (f : ℕ → ℕ → List Tree) (test : ℕ → ℕ → Bool) →
+    ((i x : ℕ) → slice_get route.path i ≡ Some x → list_any (tree_holds values) (f i x) ≡ test i x) →
+    list_any (tree_holds values) (of_each_place route f) ≡ some_place route test
 some-place values route f test same =
     list_any-flat_map (tree_holds values) (λ place. f place.0 place.1) (enumerate_from 0 route.path)
     ∙ list_any-alike (λ place. list_any (tree_holds values) (f place.0 place.1)) (λ place. test place.0 place.1) (enumerate_from 0 route.path) (λ i place at.
@@ -69,7 +73,10 @@ module _ (p : PlantLists) (s : State) (shape : HasShape p s) where
       let count = shape.routes in
       item_at s.routes r (omega arith)
 
-  pub each-route : (values : List ℕ) (f : ℕ → Route → List Tree) (test : Route → RouteState → Bool) → ((r : ℕ) (route : Route) (now : RouteState) → slice_get p.routes r ≡ Some route → slice_get s.routes r ≡ Some now → list_all (tree_holds values) (f r route) ≡ test route now) → list_all (tree_holds values) (of_each_route p f) ≡ each_route p s test
+  pub each-route : (values : List ℕ) (f : ℕ → Route → List Tree) (test : Route → RouteState → Bool) →
+      ((r : ℕ) (route : Route) (now : RouteState) → slice_get p.routes r ≡ Some route →
+      slice_get s.routes r ≡ Some now → list_all (tree_holds values) (f r route) ≡ test route now) →
+      list_all (tree_holds values) (of_each_route p f) ≡ each_route p s test
   each-route values f test same =
       list_all-flat_map (tree_holds values) (λ r. conditions_for (slice_get p.routes r) (f r)) (range_with_len 0 (length p.routes))
       ∙ list_all-alike (λ r. list_all (tree_holds values) (conditions_for (slice_get p.routes r) (f r))) (λ r. route_passes p s r test) (range_with_len 0 (length p.routes)) (λ i r at. of_number r (range_within (length p.routes) i r at).1)
@@ -80,7 +87,10 @@ module _ (p : PlantLists) (s : State) (shape : HasShape p s) where
           let now = state_of_route r route.0 route.1 in
           rw (route.1, now.1) (same r route.0 now.0 route.1 now.1)
 
-  pub some-route : (values : List ℕ) (f : ℕ → Route → List Tree) (test : Route → RouteState → Bool) → ((r : ℕ) (route : Route) (now : RouteState) → slice_get p.routes r ≡ Some route → slice_get s.routes r ≡ Some now → list_any (tree_holds values) (f r route) ≡ test route now) → list_any (tree_holds values) (of_each_route p f) ≡ some_route p s test
+  pub some-route : (values : List ℕ) (f : ℕ → Route → List Tree) (test : Route → RouteState → Bool) →
+      ((r : ℕ) (route : Route) (now : RouteState) → slice_get p.routes r ≡ Some route →
+      slice_get s.routes r ≡ Some now → list_any (tree_holds values) (f r route) ≡ test route now) →
+      list_any (tree_holds values) (of_each_route p f) ≡ some_route p s test
   some-route values f test same =
       list_any-flat_map (tree_holds values) (λ r. conditions_for (slice_get p.routes r) (f r)) (range_with_len 0 (length p.routes))
       ∙ list_any-alike (λ r. list_any (tree_holds values) (conditions_for (slice_get p.routes r) (f r))) (λ r. route_passes p s r test) (range_with_len 0 (length p.routes)) (λ i r at. of_number r (range_within (length p.routes) i r at).1)

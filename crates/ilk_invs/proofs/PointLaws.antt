@@ -35,17 +35,52 @@ pub not-kept : (route : Route) (now : RouteState) (x : ℕ) → has_section x ro
 not-kept route now x away = false_from_ne_true (is_kept_on_path route now x) (λ h. false≢true (sym away ∙ kept-on_path route now x h))
 
 module _ (p : PlantLists) (s : State) (shape : HasShape p s) where
-  set_for-holds : (r : ℕ) (route : Route) (now : RouteState) (listed : Listed) → slice_get p.routes r ≡ Some route → slice_get s.routes r ≡ Some now → tree_holds (image_of p s) (set_for p r route listed) ≡ ((not (same_mode now.mode Allocating) || is_commanded_as_listed p s listed) && (not (is_locked_or_occupied now && is_kept_on_path route now listed.point) || (is_commanded_as_listed p s listed && lies_as_listed p s listed)))
+  set_for-holds : (r : ℕ) (route : Route) (now : RouteState) (listed : Listed) →
+      slice_get p.routes r ≡ Some route → slice_get s.routes r ≡ Some now →
+      tree_holds (image_of p s) (set_for p r route listed)
+      ≡
+      ((not (same_mode now.mode Allocating) || is_commanded_as_listed p s listed)
+      &&
+      (not (is_locked_or_occupied now && is_kept_on_path route now listed.point)
+      || (is_commanded_as_listed p s listed && lies_as_listed p s listed)))
   set_for-holds r route now listed known at =
       let mode = mode-holds p s shape r now Allocating at in
       let either_mode = locked_or_occupied-holds p s shape r now at in
       let kept = kept_on_path-holds p s shape r route now listed.point known at in
       let commanded = commanded_at_listed-holds p s shape listed in
       let lies = lies_at_listed-holds p s shape listed in
-      simplified (tree_holds (image_of p s) (mode_is r Allocating)) (tree_holds (image_of p s) (locked_or_occupied r)) (tree_holds (image_of p s) (kept_on_path r route listed.point)) (tree_holds (image_of p s) (commanded_at_listed p listed)) (tree_holds (image_of p s) (lies_at_listed p listed))
-      ∙ ap (λ b. (not b || tree_holds (image_of p s) (commanded_at_listed p listed)) && (not (tree_holds (image_of p s) (locked_or_occupied r) && tree_holds (image_of p s) (kept_on_path r route listed.point)) || (tree_holds (image_of p s) (commanded_at_listed p listed) && tree_holds (image_of p s) (lies_at_listed p listed)))) mode
-      ∙ ap (λ b. (not (same_mode now.mode Allocating) || tree_holds (image_of p s) (commanded_at_listed p listed)) && (not (b && tree_holds (image_of p s) (kept_on_path r route listed.point)) || (tree_holds (image_of p s) (commanded_at_listed p listed) && tree_holds (image_of p s) (lies_at_listed p listed)))) either_mode
-      ∙ ap (λ b. (not (same_mode now.mode Allocating) || tree_holds (image_of p s) (commanded_at_listed p listed)) && (not (is_locked_or_occupied now && b) || (tree_holds (image_of p s) (commanded_at_listed p listed) && tree_holds (image_of p s) (lies_at_listed p listed)))) kept
+      simplified (tree_holds (image_of p s) (mode_is r Allocating))
+      (tree_holds (image_of p s) (locked_or_occupied r))
+      (tree_holds (image_of p s) (kept_on_path r route listed.point))
+      (tree_holds (image_of p s) (commanded_at_listed p listed))
+      (tree_holds (image_of p s) (lies_at_listed p listed))
+      ∙ ap
+      (λ b. (not b || tree_holds (image_of p s) (commanded_at_listed p listed))
+      &&
+      (not
+      (tree_holds (image_of p s) (locked_or_occupied r)
+      && tree_holds (image_of p s) (kept_on_path r route listed.point))
+      ||
+      (tree_holds (image_of p s) (commanded_at_listed p listed)
+      && tree_holds (image_of p s) (lies_at_listed p listed)))) mode
+      ∙ ap
+      (λ b.
+      (not (same_mode now.mode Allocating)
+      || tree_holds (image_of p s) (commanded_at_listed p listed))
+      &&
+      (not (b && tree_holds (image_of p s) (kept_on_path r route listed.point))
+      ||
+      (tree_holds (image_of p s) (commanded_at_listed p listed)
+      && tree_holds (image_of p s) (lies_at_listed p listed)))) either_mode
+      ∙ ap
+      (λ b.
+      (not (same_mode now.mode Allocating)
+      || tree_holds (image_of p s) (commanded_at_listed p listed))
+      &&
+      (not (is_locked_or_occupied now && b)
+      ||
+      (tree_holds (image_of p s) (commanded_at_listed p listed)
+      && tree_holds (image_of p s) (lies_at_listed p listed)))) kept
       ∙ ap (λ b. (not (same_mode now.mode Allocating) || b) && (not (is_locked_or_occupied now && is_kept_on_path route now listed.point) || (b && tree_holds (image_of p s) (lies_at_listed p listed)))) commanded
       ∙ ap (λ b. (not (same_mode now.mode Allocating) || is_commanded_as_listed p s listed) && (not (is_locked_or_occupied now && is_kept_on_path route now listed.point) || (is_commanded_as_listed p s listed && b))) lies
     where
@@ -64,7 +99,10 @@ module _ (p : PlantLists) (s : State) (shape : HasShape p s) where
       simplified false false k c l = refl
 
   -- a listed point, on the path or not
-  point-of : (r : ℕ) (route : Route) (now : RouteState) (listed : Listed) → slice_get p.routes r ≡ Some route → slice_get s.routes r ≡ Some now → (not (has_section listed.point route.path) || tree_holds (image_of p s) (set_for p r route listed)) ≡ (is_commanded_for p s route now listed && lies_for p s route now listed)
+  point-of : (r : ℕ) (route : Route) (now : RouteState) (listed : Listed) →
+      slice_get p.routes r ≡ Some route → slice_get s.routes r ≡ Some now →
+      (not (has_section listed.point route.path) || tree_holds (image_of p s) (set_for p r route listed))
+      ≡ (is_commanded_for p s route now listed && lies_for p s route now listed)
   point-of r route now listed known at = by_path (has_section listed.point route.path) refl
     where
       on_path : (a m k c l : Bool) → ((not a || c) && (not (m && k) || (c && l))) ≡ ((if a && true then c else true) && (if m && k then c && l else true))
@@ -88,11 +126,19 @@ module _ (p : PlantLists) (s : State) (shape : HasShape p s) where
           let none = not-kept route now listed.point e in
           rw (e, none) (off_path (same_mode now.mode Allocating) (is_locked_or_occupied now) (is_commanded_as_listed p s listed) (is_commanded_as_listed p s listed && lies_as_listed p s listed))
 
-  v6-of : (r : ℕ) (route : Route) (now : RouteState) → slice_get p.routes r ≡ Some route → slice_get s.routes r ≡ Some now → list_all (tree_holds (image_of p s)) (map (set_for p r route) (points_of_path route)) ≡ list_all (λ listed. is_commanded_for p s route now listed && lies_for p s route now listed) route.points
+  v6-of : (r : ℕ) (route : Route) (now : RouteState) → slice_get p.routes r ≡ Some route →
+      slice_get s.routes r ≡ Some now →
+      list_all (tree_holds (image_of p s)) (map (set_for p r route) (points_of_path route))
+      ≡ list_all (λ listed. is_commanded_for p s route now listed && lies_for p s route now listed)
+      route.points
   v6-of r route now known at =
       list_all-map (tree_holds (image_of p s)) (set_for p r route) (points_of_path route)
       ∙ list_all-filter (λ listed. tree_holds (image_of p s) (set_for p r route listed)) (λ listed. has_section listed.point route.path) route.points
-      ∙ list_all-alike (λ listed. not (has_section listed.point route.path) || tree_holds (image_of p s) (set_for p r route listed)) (λ listed. is_commanded_for p s route now listed && lies_for p s route now listed) route.points (λ i listed found. point-of r route now listed known at)
+      ∙ list_all-alike
+      (λ listed. not (has_section listed.point route.path)
+      || tree_holds (image_of p s) (set_for p r route listed))
+      (λ listed. is_commanded_for p s route now listed && lies_for p s route now listed) route.points
+      (λ i listed found. point-of r route now listed known at)
 
   pub v6-law : tree_holds (image_of p s) (v6_tree p) ≡ keeps_v6 p s
   v6-law =

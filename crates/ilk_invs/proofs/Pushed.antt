@@ -13,7 +13,9 @@ use Rattle.ilk_plant.specs.declared.table.Route.{Route}
 use Rattle.ilk_invs.specs.Parts.{conditions_for}
 
 -- one form for each of the first n numbers, and one more
-pub one_form_more : (f : ℕ → Tree) (n : ℕ) (start : List Tree) (now next : List Form) (form : Form) → map tree_of now ≡ start ++ map f (range_with_len 0 n) → next ≡ now ++ form ∷ [] → tree_of form ≡ f n → map tree_of next ≡ start ++ map f (range_with_len 0 (n + 1))
+pub one_form_more : (f : ℕ → Tree) (n : ℕ) (start : List Tree) (now next : List Form) (form : Form) →
+    map tree_of now ≡ start ++ map f (range_with_len 0 n) → next ≡ now ++ form ∷ [] → tree_of form ≡ f n →
+    map tree_of next ≡ start ++ map f (range_with_len 0 (n + 1))
 one_form_more f n start now next form sofar grown is =
     ap (map tree_of) grown ∙ map-append tree_of now (form ∷ []) ∙ ap (λ ts. ts ++ tree_of form ∷ []) sofar
     ∙ ap (λ t. (start ++ map f (range_with_len 0 n)) ++ t ∷ []) is
@@ -21,12 +23,29 @@ one_form_more f n start now next form sofar grown is =
     ∙ ap (λ ts. start ++ ts) (sym (ap (map f) (range-more n) ∙ map-append f (range_with_len 0 n) (n ∷ [])))
 
 -- the forms of the first r routes, and those of one more
-pub route_more : (p : PlantLists) (f : ℕ → Route → List Tree) (r : ℕ) (route : Route) (start now next : List Tree) → slice_get p.routes r ≡ Some route → now ≡ start ++ flat_map (λ q. conditions_for (slice_get p.routes q) (f q)) (range_with_len 0 r) → next ≡ now ++ f r route → next ≡ start ++ flat_map (λ q. conditions_for (slice_get p.routes q) (f q)) (range_with_len 0 (r + 1))
+pub route_more :
+    (p : PlantLists) (f : ℕ → Route → List Tree) (r : ℕ) (route : Route) (start now next : List Tree) →
+    slice_get p.routes r ≡ Some route →
+    now ≡ start ++ flat_map (λ q. conditions_for (slice_get p.routes q) (f q)) (range_with_len 0 r) →
+    next ≡ now ++ f r route →
+    next ≡ start ++ flat_map (λ q. conditions_for (slice_get p.routes q) (f q)) (range_with_len 0 (r + 1))
 route_more p f r route start now next at sofar grown =
     grows_all (λ q. conditions_for (slice_get p.routes q) (f q)) r start now next sofar (grown ∙ ap (λ ts. now ++ ts) (sym (ap (λ o. conditions_for o (f r)) at)))
 
 -- one form for each of the first r routes, and one more
-pub route_form_more : (p : PlantLists) (f : ℕ → Route → Tree) (r : ℕ) (route : Route) (start : List Tree) (now next : List Form) (form : Form) → slice_get p.routes r ≡ Some route → map tree_of now ≡ start ++ flat_map (λ q. conditions_for (slice_get p.routes q) (λ route. f q route ∷ [])) (range_with_len 0 r) → next ≡ now ++ form ∷ [] → tree_of form ≡ f r route → map tree_of next ≡ start ++ flat_map (λ q. conditions_for (slice_get p.routes q) (λ route. f q route ∷ [])) (range_with_len 0 (r + 1))
+pub route_form_more :
+    (p : PlantLists) (f : ℕ → Route → Tree) (r : ℕ) (route : Route) (start : List Tree) (now next : List Form)
+    (form : Form) →
+    slice_get p.routes r ≡ Some route →
+    map tree_of now
+    ≡ start
+    ++ flat_map (λ q. conditions_for (slice_get p.routes q) (λ route. f q route ∷ []))
+    (range_with_len 0 r) →
+    next ≡ now ++ form ∷ [] → tree_of form ≡ f r route →
+    map tree_of next
+    ≡ start
+    ++ flat_map (λ q. conditions_for (slice_get p.routes q) (λ route. f q route ∷ []))
+    (range_with_len 0 (r + 1))
 route_form_more p f r route start now next form at sofar grown is =
     route_more p (λ q route. f q route ∷ []) r route start (map tree_of now) (map tree_of next) at sofar (ap (map tree_of) grown ∙ map-append tree_of now (form ∷ []) ∙ ap (λ t. map tree_of now ++ t ∷ []) is)
 

@@ -34,33 +34,68 @@ use Rattle.ilk_invs.proofs.Tests.{asked-at}
 
 module _ (p : PlantLists) (plant : IsPlant p) (s : State) (shape : HasShape p s) where
   -- the condition on one count
-  clause-holds : (r : ℕ) (now : RouteState) (k : ℕ) → slice_get s.routes r ≡ Some now → tree_holds (image_of p s) (some_of (negation (mode_is r Occupied) ∷ negation (seen_is r k) ∷ rel_below r k ∷ [])) ≡ (not (same_mode now.mode Occupied) || (not (now.seen == k) || nat_lt now.rel k))
+  clause-holds : (r : ℕ) (now : RouteState) (k : ℕ) → slice_get s.routes r ≡ Some now →
+      tree_holds (image_of p s)
+      (some_of (negation (mode_is r Occupied) ∷ negation (seen_is r k) ∷ rel_below r k ∷ []))
+      ≡ (not (same_mode now.mode Occupied) || (not (now.seen == k) || nat_lt now.rel k))
   clause-holds r now k at =
-      joined (tree_holds (image_of p s) (mode_is r Occupied)) (tree_holds (image_of p s) (seen_is r k)) (tree_holds (image_of p s) (rel_below r k)) (same_mode now.mode Occupied) (now.seen == k) (nat_lt now.rel k) (mode-holds p s shape r now Occupied at) (seen-holds p s shape r now k at) (rel_below-holds p s shape r now k at)
+      joined (tree_holds (image_of p s) (mode_is r Occupied)) (tree_holds (image_of p s) (seen_is r k))
+      (tree_holds (image_of p s) (rel_below r k)) (same_mode now.mode Occupied) (now.seen == k)
+      (nat_lt now.rel k) (mode-holds p s shape r now Occupied at) (seen-holds p s shape r now k at)
+      (rel_below-holds p s shape r now k at)
     where
       joined : (a b c a2 b2 c2 : Bool) → a ≡ a2 → b ≡ b2 → c ≡ c2 → (not a || (not b || (c || false))) ≡ (not a2 || (not b2 || c2))
       joined a b c a2 b2 c2 one two three =
           ap (λ v. not v || (not b || (c || false))) one ∙ ap (λ v. not a2 || (not v || (c || false))) two ∙ ap (λ v. not a2 || (not b2 || v)) (or-false c ∙ three)
 
-  clauses-hold : (r : ℕ) (route : Route) (now : RouteState) → slice_get p.routes r ≡ Some route → slice_get s.routes r ≡ Some now → list_all (tree_holds (image_of p s)) (map (λ k. some_of (negation (mode_is r Occupied) ∷ negation (seen_is r k) ∷ rel_below r k ∷ [])) (range_with_len 0 (length route.path + 1))) ≡ (not (same_mode now.mode Occupied) || nat_lt now.rel now.seen)
+  clauses-hold : (r : ℕ) (route : Route) (now : RouteState) → slice_get p.routes r ≡ Some route →
+      slice_get s.routes r ≡ Some now →
+      list_all (tree_holds (image_of p s))
+      (map (λ k. some_of (negation (mode_is r Occupied) ∷ negation (seen_is r k) ∷ rel_below r k ∷ []))
+      (range_with_len 0 (length route.path + 1)))
+      ≡ (not (same_mode now.mode Occupied) || nat_lt now.rel now.seen)
   clauses-hold r route now known at =
       let fits = fits_path-counts route now (shape.counts r route now known at) in
       let few = fits.0 in
       let within : now.seen < length route.path + 1 = omega (arith, few) in
       list_all-map (tree_holds (image_of p s)) (λ k. some_of (negation (mode_is r Occupied) ∷ negation (seen_is r k) ∷ rel_below r k ∷ [])) (range_with_len 0 (length route.path + 1))
-      ∙ list_all-alike (λ k. tree_holds (image_of p s) (some_of (negation (mode_is r Occupied) ∷ negation (seen_is r k) ∷ rel_below r k ∷ []))) (λ k. not (same_mode now.mode Occupied) || (not (now.seen == k) || nat_lt now.rel k)) (range_with_len 0 (length route.path + 1)) (λ i k found. clause-holds r now k at)
+      ∙ list_all-alike
+      (λ k. tree_holds (image_of p s)
+      (some_of (negation (mode_is r Occupied) ∷ negation (seen_is r k) ∷ rel_below r k ∷ [])))
+      (λ k. not (same_mode now.mode Occupied) || (not (now.seen == k) || nat_lt now.rel k))
+      (range_with_len 0 (length route.path + 1)) (λ i k found. clause-holds r now k at)
       ∙ by_mode (same_mode now.mode Occupied) within
     where
       by_mode : (b : Bool) → now.seen < length route.path + 1 → list_all (λ k. not b || (not (now.seen == k) || nat_lt now.rel k)) (range_with_len 0 (length route.path + 1)) ≡ (not b || nat_lt now.rel now.seen)
       by_mode true within = asked-at (λ k. nat_lt now.rel k) now.seen (length route.path + 1) within
       by_mode false within = all-pass (λ k. true) (range_with_len 0 (length route.path + 1)) (λ i k found. refl)
 
-  v1-of : (r : ℕ) (route : Route) (now : RouteState) → slice_get p.routes r ≡ Some route → slice_get s.routes r ≡ Some now → list_all (tree_holds (image_of p s)) (counts_of r route ∷ []) ≡ (if same_mode now.mode Occupied then nat_lt now.rel now.seen && nat_le now.seen (length route.path) else now.seen == 0 && now.rel == 0)
+  v1-of : (r : ℕ) (route : Route) (now : RouteState) → slice_get p.routes r ≡ Some route →
+      slice_get s.routes r ≡ Some now →
+      list_all (tree_holds (image_of p s)) (counts_of r route ∷ [])
+      ≡
+      (if same_mode now.mode Occupied
+      then nat_lt now.rel now.seen && nat_le now.seen (length route.path)
+      else now.seen == 0 && now.rel == 0)
   v1-of r route now known at =
       let few : nat_le now.seen (length route.path) ≡ true = (fits_within route now (fits_path-counts route now (shape.counts r route now known at)).0) in
       and-true (tree_holds (image_of p s) (counts_of r route))
-      ∙ each_of-holds (image_of p s) (some_of (mode_is r Occupied ∷ seen_is r 0 ∷ []) ∷ some_of (mode_is r Occupied ∷ rel_is r 0 ∷ []) ∷ map (λ k. some_of (negation (mode_is r Occupied) ∷ negation (seen_is r k) ∷ rel_below r k ∷ [])) (range_with_len 0 (length route.path + 1)))
-      ∙ joined (tree_holds (image_of p s) (mode_is r Occupied)) (tree_holds (image_of p s) (seen_is r 0)) (tree_holds (image_of p s) (rel_is r 0)) (list_all (tree_holds (image_of p s)) (map (λ k. some_of (negation (mode_is r Occupied) ∷ negation (seen_is r k) ∷ rel_below r k ∷ [])) (range_with_len 0 (length route.path + 1)))) (same_mode now.mode Occupied) (now.seen == 0) (now.rel == 0) (nat_lt now.rel now.seen) (mode-holds p s shape r now Occupied at) (seen-holds p s shape r now 0 at) (rel-holds p s shape r now 0 at) (clauses-hold r route now known at)
+      ∙ each_of-holds (image_of p s)
+      (some_of (mode_is r Occupied ∷ seen_is r 0 ∷ []) ∷ some_of (mode_is r Occupied ∷ rel_is r 0 ∷ [])
+      ∷ map
+      (λ k. some_of
+      (negation (mode_is r Occupied) ∷ negation (seen_is r k) ∷ rel_below r k ∷ []))
+      (range_with_len 0 (length route.path + 1)))
+      ∙ joined (tree_holds (image_of p s) (mode_is r Occupied)) (tree_holds (image_of p s) (seen_is r 0))
+      (tree_holds (image_of p s) (rel_is r 0))
+      (list_all (tree_holds (image_of p s))
+      (map
+      (λ k. some_of
+      (negation (mode_is r Occupied) ∷ negation (seen_is r k) ∷ rel_below r k ∷ []))
+      (range_with_len 0 (length route.path + 1))))
+      (same_mode now.mode Occupied) (now.seen == 0) (now.rel == 0) (nat_lt now.rel now.seen)
+      (mode-holds p s shape r now Occupied at) (seen-holds p s shape r now 0 at)
+      (rel-holds p s shape r now 0 at) (clauses-hold r route now known at)
       ∙ ap (λ v. if same_mode now.mode Occupied then nat_lt now.rel now.seen && v else now.seen == 0 && now.rel == 0) (sym few)
     where
       fits_within : (route : Route) (now : RouteState) → now.seen ≤ length route.path → nat_le now.seen (length route.path) ≡ true
@@ -87,11 +122,21 @@ module _ (p : PlantLists) (plant : IsPlant p) (s : State) (shape : HasShape p s)
       ∙ each-route p s shape (image_of p s) (λ r route. counts_of r route ∷ []) (λ route now. if same_mode now.mode Occupied then nat_lt now.rel now.seen && nat_le now.seen (length route.path) else now.seen == 0 && now.rel == 0) v1-of
 
   -- the boards of a route
-  v9-of : (r : ℕ) (route : Route) (now : RouteState) → slice_get p.routes r ≡ Some route → slice_get s.routes r ≡ Some now → list_all (tree_holds (image_of p s)) (map (λ m. where_holds (mode_is r Locked) (board_is p m Closed)) route.protecting_boards) ≡ (if same_mode now.mode Locked then list_all (λ m. has_aspect s m Closed) route.protecting_boards else true)
+  v9-of : (r : ℕ) (route : Route) (now : RouteState) → slice_get p.routes r ≡ Some route →
+      slice_get s.routes r ≡ Some now →
+      list_all (tree_holds (image_of p s))
+      (map (λ m. where_holds (mode_is r Locked) (board_is p m Closed)) route.protecting_boards)
+      ≡
+      (if same_mode now.mode Locked
+      then list_all (λ m. has_aspect s m Closed) route.protecting_boards else true)
   v9-of r route now known at =
       list_all-map (tree_holds (image_of p s)) (λ m. where_holds (mode_is r Locked) (board_is p m Closed)) route.protecting_boards
       ∙ list_all-alike (λ m. tree_holds (image_of p s) (where_holds (mode_is r Locked) (board_is p m Closed))) (λ m. if same_mode now.mode Locked then has_aspect s m Closed else true) route.protecting_boards (λ i m found.
-      where-holds (image_of p s) (mode_is r Locked) (board_is p m Closed) (same_mode now.mode Locked) (has_aspect s m Closed) (mode-holds p s shape r now Locked at) (board-holds p s shape m Closed (all-at (λ m. m < length p.boards) route.protecting_boards i m (plant.routes_known r route known).protecting_boards found)))
+      where-holds (image_of p s) (mode_is r Locked) (board_is p m Closed) (same_mode now.mode Locked)
+      (has_aspect s m Closed) (mode-holds p s shape r now Locked at)
+      (board-holds p s shape m Closed
+      (all-at (λ m. m < length p.boards) route.protecting_boards i m
+      (plant.routes_known r route known).protecting_boards found)))
       ∙ by_mode (same_mode now.mode Locked)
     where
       by_mode : (b : Bool) → list_all (λ m. if b then has_aspect s m Closed else true) route.protecting_boards ≡ (if b then list_all (λ m. has_aspect s m Closed) route.protecting_boards else true)
@@ -101,17 +146,27 @@ module _ (p : PlantLists) (plant : IsPlant p) (s : State) (shape : HasShape p s)
   pub v9-law : tree_holds (image_of p s) (v9_tree p) ≡ keeps_v9 p s
   v9-law =
       each_of-holds (image_of p s) (of_each_route p (λ r route. map (λ m. where_holds (mode_is r Locked) (board_is p m Closed)) route.protecting_boards))
-      ∙ each-route p s shape (image_of p s) (λ r route. map (λ m. where_holds (mode_is r Locked) (board_is p m Closed)) route.protecting_boards) (λ route now. if same_mode now.mode Locked then list_all (λ m. has_aspect s m Closed) route.protecting_boards else true) v9-of
+      ∙ each-route p s shape (image_of p s)
+      (λ r route. map (λ m. where_holds (mode_is r Locked) (board_is p m Closed)) route.protecting_boards)
+      (λ route now. if same_mode now.mode Locked
+      then list_all (λ m. has_aspect s m Closed) route.protecting_boards else true) v9-of
 
   -- the path sections of a route
   pub path_vacant-holds : hazard p s ≡ None → (r : ℕ) (route : Route) → slice_get p.routes r ≡ Some route → list_all (tree_holds (image_of p s)) (path_vacant p route) ≡ list_all (is_vacant s) route.path
   path_vacant-holds calm r route known =
       vacant-all p s shape calm route.path (λ i x found. all-at (λ x. x < length p.sections) route.path i x (plant.routes_known r route known).path found)
 
-  v4-of : hazard p s ≡ None → (r : ℕ) (route : Route) (now : RouteState) → slice_get p.routes r ≡ Some route → slice_get s.routes r ≡ Some now → list_all (tree_holds (image_of p s)) (where_holds (mode_is r Allocating) (each_of (path_vacant p route)) ∷ []) ≡ (if same_mode now.mode Allocating then list_all (is_vacant s) route.path else true)
+  v4-of : hazard p s ≡ None → (r : ℕ) (route : Route) (now : RouteState) → slice_get p.routes r ≡ Some route →
+      slice_get s.routes r ≡ Some now →
+      list_all (tree_holds (image_of p s))
+      (where_holds (mode_is r Allocating) (each_of (path_vacant p route)) ∷ [])
+      ≡ (if same_mode now.mode Allocating then list_all (is_vacant s) route.path else true)
   v4-of calm r route now known at =
       and-true (tree_holds (image_of p s) (where_holds (mode_is r Allocating) (each_of (path_vacant p route))))
-      ∙ where-holds (image_of p s) (mode_is r Allocating) (each_of (path_vacant p route)) (same_mode now.mode Allocating) (list_all (is_vacant s) route.path) (mode-holds p s shape r now Allocating at) (each_of-holds (image_of p s) (path_vacant p route) ∙ path_vacant-holds calm r route known)
+      ∙ where-holds (image_of p s) (mode_is r Allocating) (each_of (path_vacant p route))
+      (same_mode now.mode Allocating) (list_all (is_vacant s) route.path)
+      (mode-holds p s shape r now Allocating at)
+      (each_of-holds (image_of p s) (path_vacant p route) ∙ path_vacant-holds calm r route known)
 
   pub v4-law : hazard p s ≡ None → tree_holds (image_of p s) (v4_tree p) ≡ keeps_v4 p s
   v4-law calm =
@@ -119,7 +174,11 @@ module _ (p : PlantLists) (plant : IsPlant p) (s : State) (shape : HasShape p s)
       ∙ each-route p s shape (image_of p s) (λ r route. where_holds (mode_is r Allocating) (each_of (path_vacant p route)) ∷ []) (λ route now. if same_mode now.mode Allocating then list_all (is_vacant s) route.path else true) (v4-of calm)
 
   -- the routes for which a board may be Open
-  ready-of : hazard p s ≡ None → (m r : ℕ) (route : Route) (now : RouteState) → slice_get p.routes r ≡ Some route → slice_get s.routes r ≡ Some now → list_any (tree_holds (image_of p s)) (if route.source == m then each_of (mode_is r Locked ∷ path_vacant p route) ∷ [] else []) ≡ ((route.source == m) && same_mode now.mode Locked && list_all (is_vacant s) route.path)
+  ready-of : hazard p s ≡ None → (m r : ℕ) (route : Route) (now : RouteState) →
+      slice_get p.routes r ≡ Some route → slice_get s.routes r ≡ Some now →
+      list_any (tree_holds (image_of p s))
+      (if route.source == m then each_of (mode_is r Locked ∷ path_vacant p route) ∷ [] else [])
+      ≡ ((route.source == m) && same_mode now.mode Locked && list_all (is_vacant s) route.path)
   ready-of calm m r route now known at =
       let locked = mode-holds p s shape r now Locked at in
       let vacant = path_vacant-holds calm r route known in
@@ -132,10 +191,19 @@ module _ (p : PlantLists) (plant : IsPlant p) (s : State) (shape : HasShape p s)
       joined true false c = refl
       joined false b c = refl
 
-  v5-of : hazard p s ≡ None → (m : ℕ) → m < length p.boards → tree_holds (image_of p s) (opened_for p m) ≡ (if has_aspect s m Open then some_route p s (λ route now. (route.source == m) && same_mode now.mode Locked && list_all (is_vacant s) route.path) else true)
+  v5-of : hazard p s ≡ None → (m : ℕ) → m < length p.boards →
+      tree_holds (image_of p s) (opened_for p m)
+      ≡
+      (if has_aspect s m Open
+      then some_route p s
+      (λ route now. (route.source == m) && same_mode now.mode Locked
+      && list_all (is_vacant s) route.path) else true)
   v5-of calm m within =
       let open_now = board-holds p s shape m Open within in
-      let ready = some-route p s shape (image_of p s) (λ r route. if route.source == m then each_of (mode_is r Locked ∷ path_vacant p route) ∷ [] else []) (λ route now. (route.source == m) && same_mode now.mode Locked && list_all (is_vacant s) route.path) (ready-of calm m) in
+      let ready = some-route p s shape (image_of p s)
+      (λ r route. if route.source == m then each_of (mode_is r Locked ∷ path_vacant p route) ∷ [] else [])
+      (λ route now. (route.source == m) && same_mode now.mode Locked && list_all (is_vacant s) route.path)
+      (ready-of calm m) in
       some_of-holds (image_of p s) (negation (board_is p m Open) ∷ of_each_route p (λ r route. if route.source == m then each_of (mode_is r Locked ∷ path_vacant p route) ∷ [] else []))
       ∙ ap (λ b. not b || list_any (tree_holds (image_of p s)) (of_each_route p (λ r route. if route.source == m then each_of (mode_is r Locked ∷ path_vacant p route) ∷ [] else []))) open_now
       ∙ ap (λ b. not (has_aspect s m Open) || b) ready
@@ -149,4 +217,10 @@ module _ (p : PlantLists) (plant : IsPlant p) (s : State) (shape : HasShape p s)
   v5-law calm =
       each_of-holds (image_of p s) (map (opened_for p) (range_with_len 0 (length p.boards)))
       ∙ list_all-map (tree_holds (image_of p s)) (opened_for p) (range_with_len 0 (length p.boards))
-      ∙ list_all-alike (λ m. tree_holds (image_of p s) (opened_for p m)) (λ m. if has_aspect s m Open then some_route p s (λ route now. (route.source == m) && same_mode now.mode Locked && list_all (is_vacant s) route.path) else true) (range_with_len 0 (length p.boards)) (λ i m at. v5-of calm m (range_within (length p.boards) i m at).1)
+      ∙ list_all-alike (λ m. tree_holds (image_of p s) (opened_for p m))
+      (λ m. if has_aspect s m Open
+      then some_route p s
+      (λ route now. (route.source == m) && same_mode now.mode Locked
+      && list_all (is_vacant s) route.path) else true)
+      (range_with_len 0 (length p.boards))
+      (λ i m at. v5-of calm m (range_within (length p.boards) i m at).1)

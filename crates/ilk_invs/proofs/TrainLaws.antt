@@ -83,7 +83,21 @@ head-values Down (Taken Down true false) = refl
 head-values Down (Taken Down false true) = refl
 head-values Down (Taken Down false false) = refl
 
-up-values : (o : Occupancy) → (not (occupancy_value o == occupancy_value Vacant) && (((occupancy_value o == occupancy_value Vacant) || ((occupancy_value o == occupancy_value (Taken Up false false)) || ((occupancy_value o == occupancy_value (Taken Up false true)) || ((occupancy_value o == occupancy_value (Taken Up true false)) || ((occupancy_value o == occupancy_value (Taken Up true true)) || false))))) && true)) ≡ has_train_in Up o
+up-values : (o : Occupancy) →
+    (not (occupancy_value o == occupancy_value Vacant)
+    &&
+    (((occupancy_value o == occupancy_value Vacant)
+    ||
+    ((occupancy_value o == occupancy_value (Taken Up false false))
+    ||
+    ((occupancy_value o == occupancy_value (Taken Up false true))
+    ||
+    ((occupancy_value o == occupancy_value (Taken Up true false))
+    ||
+    ((occupancy_value o
+    == occupancy_value (Taken Up true true)) || false)))))
+    && true))
+    ≡ has_train_in Up o
 up-values Vacant = refl
 up-values Crash = refl
 up-values (Taken Up true true) = refl
@@ -95,7 +109,20 @@ up-values (Taken Down true false) = refl
 up-values (Taken Down false true) = refl
 up-values (Taken Down false false) = refl
 
-down-values : (o : Occupancy) → (not ((occupancy_value o == occupancy_value Vacant) || ((occupancy_value o == occupancy_value (Taken Up false false)) || ((occupancy_value o == occupancy_value (Taken Up false true)) || ((occupancy_value o == occupancy_value (Taken Up true false)) || ((occupancy_value o == occupancy_value (Taken Up true true)) || false))))) && (not (occupancy_value o == occupancy_value Crash) && true)) ≡ has_train_in Down o
+down-values : (o : Occupancy) →
+    (not
+    ((occupancy_value o == occupancy_value Vacant)
+    ||
+    ((occupancy_value o == occupancy_value (Taken Up false false))
+    ||
+    ((occupancy_value o == occupancy_value (Taken Up false true))
+    ||
+    ((occupancy_value o == occupancy_value (Taken Up true false))
+    ||
+    ((occupancy_value o == occupancy_value (Taken Up true true))
+    || false)))))
+    && (not (occupancy_value o == occupancy_value Crash) && true))
+    ≡ has_train_in Down o
 down-values Vacant = refl
 down-values Crash = refl
 down-values (Taken Up true true) = refl
@@ -200,7 +227,13 @@ module _ (p : PlantLists) (plant : IsPlant p) (s : State) (shape : HasShape p s)
   ]
 
   -- a route that leads a train with its head at place i
-  leads_from-holds : (r : ℕ) (route : Route) (now : RouteState) (i : ℕ) → slice_get p.routes r ≡ Some route → slice_get s.routes r ≡ Some now → tree_holds (image_of p s) (leads_from p r route i) ≡ ((same_mode now.mode Occupied || (same_mode now.mode Locked && has_aspect s route.source Closed)) && (nat_le now.seen (i + 1) && list_all (is_vacant s) (drop (i + 1) route.path)))
+  leads_from-holds : (r : ℕ) (route : Route) (now : RouteState) (i : ℕ) → slice_get p.routes r ≡ Some route →
+      slice_get s.routes r ≡ Some now →
+      tree_holds (image_of p s) (leads_from p r route i)
+      ≡
+      ((same_mode now.mode Occupied
+      || (same_mode now.mode Locked && has_aspect s route.source Closed))
+      && (nat_le now.seen (i + 1) && list_all (is_vacant s) (drop (i + 1) route.path)))
   leads_from-holds r route now i known at =
       let of = plant.routes_known r route known in
       let occupied = mode-holds p s shape r now Occupied at in
@@ -209,8 +242,19 @@ module _ (p : PlantLists) (plant : IsPlant p) (s : State) (shape : HasShape p s)
       let seen = none_seen_past-holds r route now i known at in
       let vacant = vacant-all p s shape calm (drop (i + 1) route.path) (λ k x found. all-at (λ x. x < length p.sections) route.path ((i + 1) + k) x of.path (dropped-at (i + 1) route.path k x found)) in
       each_of-holds (image_of p s) (some_of (mode_is r Occupied ∷ each_of (mode_is r Locked ∷ board_is p route.source Closed ∷ []) ∷ []) ∷ (none_seen_past r route i ++ map (no_train_at p) (drop (i + 1) route.path)))
-      ∙ ap (λ v. tree_holds (image_of p s) (some_of (mode_is r Occupied ∷ each_of (mode_is r Locked ∷ board_is p route.source Closed ∷ []) ∷ [])) && v) (list_all-append (tree_holds (image_of p s)) (none_seen_past r route i) (map (no_train_at p) (drop (i + 1) route.path)))
-      ∙ joined (tree_holds (image_of p s) (mode_is r Occupied)) (tree_holds (image_of p s) (mode_is r Locked)) (tree_holds (image_of p s) (board_is p route.source Closed)) (list_all (tree_holds (image_of p s)) (none_seen_past r route i)) (list_all (tree_holds (image_of p s)) (map (no_train_at p) (drop (i + 1) route.path))) _ _ _ _ _ occupied locked closed seen vacant
+      ∙ ap
+      (λ v.
+      tree_holds (image_of p s)
+      (some_of
+      (mode_is r Occupied
+      ∷ each_of (mode_is r Locked ∷ board_is p route.source Closed ∷ []) ∷ [])) && v)
+      (list_all-append (tree_holds (image_of p s)) (none_seen_past r route i)
+      (map (no_train_at p) (drop (i + 1) route.path)))
+      ∙ joined (tree_holds (image_of p s) (mode_is r Occupied)) (tree_holds (image_of p s) (mode_is r Locked))
+      (tree_holds (image_of p s) (board_is p route.source Closed))
+      (list_all (tree_holds (image_of p s)) (none_seen_past r route i))
+      (list_all (tree_holds (image_of p s)) (map (no_train_at p) (drop (i + 1) route.path))) _ _ _ _ _
+      occupied locked closed seen vacant
     where
       joined : (a b c d e a2 b2 c2 d2 e2 : Bool) → a ≡ a2 → b ≡ b2 → c ≡ c2 → d ≡ d2 → e ≡ e2 → ((a || ((b && (c && true)) || false)) && (d && e)) ≡ ((a2 || (b2 && c2)) && (d2 && e2))
       joined a b c d e a2 b2 c2 d2 e2 one two three four five =
@@ -221,7 +265,15 @@ module _ (p : PlantLists) (plant : IsPlant p) (s : State) (shape : HasShape p s)
           ∙ ap (λ v. (a2 || (b2 && c2)) && (v && e)) four
           ∙ ap (λ v. (a2 || (b2 && c2)) && (d2 && v)) five
 
-  leads_at-holds : (d : Dir) (x r : ℕ) (route : Route) (now : RouteState) → slice_get p.routes r ≡ Some route → slice_get s.routes r ≡ Some now → list_any (tree_holds (image_of p s)) (leads_at p d x r route) ≡ some_place route (λ i y. (y == x) && runs_in p d route && (same_mode now.mode Occupied || (same_mode now.mode Locked && has_aspect s route.source Closed)) && nat_le now.seen (i + 1) && list_all (is_vacant s) (drop (i + 1) route.path))
+  leads_at-holds : (d : Dir) (x r : ℕ) (route : Route) (now : RouteState) →
+      slice_get p.routes r ≡ Some route → slice_get s.routes r ≡ Some now →
+      list_any (tree_holds (image_of p s)) (leads_at p d x r route)
+      ≡ some_place route
+      (λ i y. (y == x) && runs_in p d route
+      &&
+      (same_mode now.mode Occupied
+      || (same_mode now.mode Locked && has_aspect s route.source Closed))
+      && nat_le now.seen (i + 1) && list_all (is_vacant s) (drop (i + 1) route.path))
   leads_at-holds d x r route now known at = by_runs (runs_in p d route)
     where
       joined : (a b c e : Bool) → (a && (b && (c && e))) ≡ (a && true && b && c && e)
@@ -234,21 +286,52 @@ module _ (p : PlantLists) (plant : IsPlant p) (s : State) (shape : HasShape p s)
       parted true b c e = refl
       parted false b c e = refl
 
-      by_runs : (b : Bool) → list_any (tree_holds (image_of p s)) (if b then of_each_place route (λ i y. if y == x then leads_from p r route i ∷ [] else []) else []) ≡ some_place route (λ i y. (y == x) && b && (same_mode now.mode Occupied || (same_mode now.mode Locked && has_aspect s route.source Closed)) && nat_le now.seen (i + 1) && list_all (is_vacant s) (drop (i + 1) route.path))
+      by_runs : (b : Bool) →
+          list_any (tree_holds (image_of p s))
+          (if b then of_each_place route (λ i y. if y == x then leads_from p r route i ∷ [] else [])
+          else [])
+          ≡ some_place route
+          (λ i y. (y == x) && b
+          &&
+          (same_mode now.mode Occupied
+          || (same_mode now.mode Locked && has_aspect s route.source Closed))
+          && nat_le now.seen (i + 1) && list_all (is_vacant s) (drop (i + 1) route.path))
       by_runs true =
-          some-place (image_of p s) route (λ i y. if y == x then leads_from p r route i ∷ [] else []) (λ i y. (y == x) && true && (same_mode now.mode Occupied || (same_mode now.mode Locked && has_aspect s route.source Closed)) && nat_le now.seen (i + 1) && list_all (is_vacant s) (drop (i + 1) route.path)) (λ i y place.
+          some-place (image_of p s) route (λ i y. if y == x then leads_from p r route i ∷ [] else [])
+          (λ i y. (y == x) && true
+          &&
+          (same_mode now.mode Occupied
+          || (same_mode now.mode Locked && has_aspect s route.source Closed))
+          && nat_le now.seen (i + 1) && list_all (is_vacant s) (drop (i + 1) route.path)) (λ i y
+          place.
           any-if (image_of p s) (leads_from p r route i) (y == x)
           ∙ ap (λ v. (y == x) && v) (leads_from-holds r route now i known at)
           ∙ joined (y == x) (same_mode now.mode Occupied || (same_mode now.mode Locked && has_aspect s route.source Closed)) (nat_le now.seen (i + 1)) (list_all (is_vacant s) (drop (i + 1) route.path)))
       by_runs false =
-          sym (list_any-never (λ place. (place.1 == x) && false && (same_mode now.mode Occupied || (same_mode now.mode Locked && has_aspect s route.source Closed)) && nat_le now.seen (place.0 + 1) && list_all (is_vacant s) (drop (place.0 + 1) route.path)) (enumerate_from 0 route.path) (λ place.
+          sym (list_any-never
+          (λ place. (place.1 == x) && false
+          &&
+          (same_mode now.mode Occupied
+          || (same_mode now.mode Locked && has_aspect s route.source Closed))
+          && nat_le now.seen (place.0 + 1) && list_all (is_vacant s) (drop (place.0 + 1) route.path))
+          (enumerate_from 0 route.path) (λ place.
           parted (place.1 == x) (same_mode now.mode Occupied || (same_mode now.mode Locked && has_aspect s route.source Closed)) (nat_le now.seen (place.0 + 1)) (list_all (is_vacant s) (drop (place.0 + 1) route.path))))
 
   led-holds : (d : Dir) (x : ℕ) → list_any (tree_holds (image_of p s)) (of_each_route p (leads_at p d x)) ≡ is_led p s d x
   led-holds d x =
-      some-route p s shape (image_of p s) (leads_at p d x) (λ route now. some_place route (λ i y. (y == x) && runs_in p d route && (same_mode now.mode Occupied || (same_mode now.mode Locked && has_aspect s route.source Closed)) && nat_le now.seen (i + 1) && list_all (is_vacant s) (drop (i + 1) route.path))) (λ r route now known at. leads_at-holds d x r route now known at)
+      some-route p s shape (image_of p s) (leads_at p d x)
+      (λ route now. some_place route
+      (λ i y. (y == x) && runs_in p d route
+      &&
+      (same_mode now.mode Occupied
+      || (same_mode now.mode Locked && has_aspect s route.source Closed))
+      && nat_le now.seen (i + 1) && list_all (is_vacant s) (drop (i + 1) route.path)))
+      (λ r route now known at. leads_at-holds d x r route now known at)
 
-  keeps_at-holds : (d : Dir) (x r : ℕ) (route : Route) (now : RouteState) → slice_get p.routes r ≡ Some route → slice_get s.routes r ≡ Some now → list_any (tree_holds (image_of p s)) (keeps_at p d x r route) ≡ (runs_in p d route && is_locked_or_occupied now && is_kept_on_path route now x)
+  keeps_at-holds : (d : Dir) (x r : ℕ) (route : Route) (now : RouteState) →
+      slice_get p.routes r ≡ Some route → slice_get s.routes r ≡ Some now →
+      list_any (tree_holds (image_of p s)) (keeps_at p d x r route)
+      ≡ (runs_in p d route && is_locked_or_occupied now && is_kept_on_path route now x)
   keeps_at-holds d x r route now known at =
       any-if (image_of p s) (each_of (locked_or_occupied r ∷ kept_on_path r route x ∷ [])) (runs_in p d route && has_section x route.path)
       ∙ ap (λ v. (runs_in p d route && has_section x route.path) && (v && (tree_holds (image_of p s) (kept_on_path r route x) && true))) (locked_or_occupied-holds p s shape r now at)
@@ -265,7 +348,10 @@ module _ (p : PlantLists) (plant : IsPlant p) (s : State) (shape : HasShape p s)
       without true false = refl
       without false b = refl
 
-      by_path : (b : Bool) → has_section x route.path ≡ b → ((runs_in p d route && has_section x route.path) && (is_locked_or_occupied now && is_kept_on_path route now x)) ≡ (runs_in p d route && is_locked_or_occupied now && is_kept_on_path route now x)
+      by_path : (b : Bool) → has_section x route.path ≡ b →
+          ((runs_in p d route && has_section x route.path)
+          && (is_locked_or_occupied now && is_kept_on_path route now x))
+          ≡ (runs_in p d route && is_locked_or_occupied now && is_kept_on_path route now x)
       by_path true e =
           ap (λ v. (runs_in p d route && v) && (is_locked_or_occupied now && is_kept_on_path route now x)) e ∙ with_path (runs_in p d route) (is_locked_or_occupied now) (is_kept_on_path route now x)
       by_path false e =
@@ -280,7 +366,10 @@ module _ (p : PlantLists) (plant : IsPlant p) (s : State) (shape : HasShape p s)
       some-route p s shape (image_of p s) (keeps_at p d x) (λ route now. runs_in p d route && is_locked_or_occupied now && is_kept_on_path route now x) (λ r route now known at. keeps_at-holds d x r route now known at)
 
   -- one instance
-  instance-holds : (t : Tree) (ts : List Tree) (a b plain : Bool) → tree_holds (image_of p s) t ≡ a → list_any (tree_holds (image_of p s)) ts ≡ b → list_all (tree_holds (image_of p s)) (if plain then some_of (negation t ∷ ts) ∷ [] else []) ≡ (if plain then not a || b else true)
+  instance-holds : (t : Tree) (ts : List Tree) (a b plain : Bool) → tree_holds (image_of p s) t ≡ a →
+      list_any (tree_holds (image_of p s)) ts ≡ b →
+      list_all (tree_holds (image_of p s)) (if plain then some_of (negation t ∷ ts) ∷ [] else [])
+      ≡ (if plain then not a || b else true)
   instance-holds t ts a b true one two =
       and-true (tree_holds (image_of p s) (some_of (negation t ∷ ts))) ∙ some_of-holds (image_of p s) (negation t ∷ ts) ∙ ap (λ v. not v || list_any (tree_holds (image_of p s)) ts) one ∙ ap (λ v. not a || v) two
   instance-holds t ts a b false one two = refl
@@ -294,7 +383,11 @@ module _ (p : PlantLists) (plant : IsPlant p) (s : State) (shape : HasShape p s)
       instance-holds (body_at p d x) (of_each_route p (keeps_at p d x)) (has_train_in d (occupancy_of p s x)) (is_kept_for p s d x) (is_plain p d x) (body_at-holds d x within) (kept-holds d x)
 
   -- the instances of a section in both directions, and of all sections
-  all-sections : (f : Dir → ℕ → List Tree) (test : Dir → ℕ → Bool) → ((d : Dir) (x : ℕ) → x < length p.sections → list_all (tree_holds (image_of p s)) (f d x) ≡ test d x) → list_all (tree_holds (image_of p s)) (flat_map (λ x. f Up x ++ f Down x) (range_with_len 0 (length p.sections))) ≡ list_all (λ x. test Up x && test Down x) (range_with_len 0 (length p.sections))
+  all-sections : (f : Dir → ℕ → List Tree) (test : Dir → ℕ → Bool) →
+      ((d : Dir) (x : ℕ) → x < length p.sections → list_all (tree_holds (image_of p s)) (f d x) ≡ test d x) →
+      list_all (tree_holds (image_of p s))
+      (flat_map (λ x. f Up x ++ f Down x) (range_with_len 0 (length p.sections)))
+      ≡ list_all (λ x. test Up x && test Down x) (range_with_len 0 (length p.sections))
   all-sections f test same =
       list_all-flat_map (tree_holds (image_of p s)) (λ x. f Up x ++ f Down x) (range_with_len 0 (length p.sections))
       ∙ list_all-alike (λ x. list_all (tree_holds (image_of p s)) (f Up x ++ f Down x)) (λ x. test Up x && test Down x) (range_with_len 0 (length p.sections)) (λ i x at.
@@ -340,7 +433,11 @@ module _ (p : PlantLists) (plant : IsPlant p) (s : State) (shape : HasShape p s)
           let here : has_head_in t.dir (occupancy_of p s last.0) ≡ true = ap (has_head_in t.dir) (taken ∙ ap (Taken t.dir (place.0 == 0)) head) ∙ own-head t.dir (place.0 == 0) in
           let passes = in_direction led_test t.dir last.0 within h in
           ap (λ o. is_some_and o (λ x. if is_plain p t.dir x then is_led p s t.dir x else true)) last.1
-          ∙ passes-if (is_plain p t.dir last.0) (is_led p s t.dir last.0) (λ plain. then-passes (has_head_in t.dir (occupancy_of p s last.0)) (is_led p s t.dir last.0) (if-passes (is_plain p t.dir last.0) (not (has_head_in t.dir (occupancy_of p s last.0)) || is_led p s t.dir last.0) passes plain) here))
+          ∙ passes-if (is_plain p t.dir last.0) (is_led p s t.dir last.0)
+          (λ plain. then-passes (has_head_in t.dir (occupancy_of p s last.0)) (is_led p s t.dir last.0)
+          (if-passes (is_plain p t.dir last.0)
+          (not (has_head_in t.dir (occupancy_of p s last.0)) || is_led p s t.dir last.0) passes
+          plain) here))
 
       back : list_all of_train s.trains ≡ true → list_all (λ x. led_test Up x && led_test Down x) (range_with_len 0 (length p.sections)) ≡ true
       back h =
@@ -375,7 +472,11 @@ module _ (p : PlantLists) (plant : IsPlant p) (s : State) (shape : HasShape p s)
           let taken = occupancy-in p plant never s shape calm i k x t at place in
           let here : has_train_in t.dir (occupancy_of p s x) ≡ true = ap (has_train_in t.dir) taken ∙ own-train t.dir (k == 0) (k + 1 == length t.body) in
           let passes = in_direction kept_test t.dir x within h in
-          passes-if (is_plain p t.dir x) (is_kept_for p s t.dir x) (λ plain. then-passes (has_train_in t.dir (occupancy_of p s x)) (is_kept_for p s t.dir x) (if-passes (is_plain p t.dir x) (not (has_train_in t.dir (occupancy_of p s x)) || is_kept_for p s t.dir x) passes plain) here)))
+          passes-if (is_plain p t.dir x) (is_kept_for p s t.dir x)
+          (λ plain. then-passes (has_train_in t.dir (occupancy_of p s x)) (is_kept_for p s t.dir x)
+          (if-passes (is_plain p t.dir x)
+          (not (has_train_in t.dir (occupancy_of p s x)) || is_kept_for p s t.dir x) passes
+          plain) here)))
 
       back : list_all of_train s.trains ≡ true → list_all (λ x. kept_test Up x && kept_test Down x) (range_with_len 0 (length p.sections)) ≡ true
       back h =
@@ -387,5 +488,7 @@ module _ (p : PlantLists) (plant : IsPlant p) (s : State) (shape : HasShape p s)
           let t = train.1 in
           let there = occupancy-in p plant never s shape calm train.0 train.2 x t train.3 train.4 in
           let same = same-taken (sym taken.2 ∙ there) in
-          let passes : (if is_plain p t.dir x then is_kept_for p s t.dir x else true) ≡ true = list_all-slice_get (λ x. if is_plain p t.dir x then is_kept_for p s t.dir x else true) t.body train.2 x (list_all-slice_get of_train s.trains train.0 t h train.3) train.4 in
+          let passes : (if is_plain p t.dir x then is_kept_for p s t.dir x else true) ≡ true =
+          list_all-slice_get (λ x. if is_plain p t.dir x then is_kept_for p s t.dir x else true) t.body
+          train.2 x (list_all-slice_get of_train s.trains train.0 t h train.3) train.4 in
           if-passes (is_plain p d x) (is_kept_for p s d x) (ap (λ e. if is_plain p e x then is_kept_for p s e x else true) same.0 ∙ passes) plain)))

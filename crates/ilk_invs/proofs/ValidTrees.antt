@@ -102,13 +102,20 @@ module _ (p : PlantLists) (plant : IsPlant p) where
 
   kept_on_path-valid : (r : ℕ) (route : Route) (x : ℕ) → slice_get p.routes r ≡ Some route → tree_valid (ranges_of_plant p) (kept_on_path r route x) ≡ true
   kept_on_path-valid r route x known =
-      some_of-valid (flat_map (λ c. if has_section x (drop c route.path) then rel_is r c ∷ [] else []) (range_with_len 0 (length route.path + 1))) (flat_map-valid (λ c. if has_section x (drop c route.path) then rel_is r c ∷ [] else []) (range_with_len 0 (length route.path + 1)) (λ i c at.
+      some_of-valid
+      (flat_map (λ c. if has_section x (drop c route.path) then rel_is r c ∷ [] else [])
+      (range_with_len 0 (length route.path + 1))) (flat_map-valid
+      (λ c. if has_section x (drop c route.path) then rel_is r c ∷ [] else [])
+      (range_with_len 0 (length route.path + 1)) (λ i c at.
       let below = (range_within (length route.path + 1) i c at).1 in
       if-valid (has_section x (drop c route.path)) (rel_is r c ∷ []) (one-valid (rel_is r c) (rel_is-valid p r c route known (omega (arith, below))))))
 
   locked_or_occupied-valid : (r : ℕ) → r < length p.routes → tree_valid (ranges_of_plant p) (locked_or_occupied r) ≡ true
   locked_or_occupied-valid r within =
-      some_of-valid (mode_is r Free ∷ mode_is r Marked ∷ mode_is r Allocating ∷ []) (three-valid (mode_is r Free) (mode_is r Marked) (mode_is r Allocating) (mode_is-valid p r Free within) (mode_is-valid p r Marked within) (mode_is-valid p r Allocating within))
+      some_of-valid (mode_is r Free ∷ mode_is r Marked ∷ mode_is r Allocating ∷ [])
+      (three-valid (mode_is r Free) (mode_is r Marked) (mode_is r Allocating)
+      (mode_is-valid p r Free within) (mode_is-valid p r Marked within)
+      (mode_is-valid p r Allocating within))
 
   is_holding-valid : (r : ℕ) → r < length p.routes → tree_valid (ranges_of_plant p) (is_holding r) ≡ true
   is_holding-valid r within =
@@ -137,14 +144,31 @@ module _ (p : PlantLists) (plant : IsPlant p) where
   v1-valid =
       each_of-valid (of_each_route p (λ r route. counts_of r route ∷ [])) (routes-valid (λ r route. counts_of r route ∷ []) (λ r route known. one-valid (counts_of r route) (of_route r route known (slice_get_within p.routes r route known))))
     where
-      of_count : (r : ℕ) (route : Route) (k : ℕ) → slice_get p.routes r ≡ Some route → r < length p.routes → k ≤ length route.path → tree_valid (ranges_of_plant p) (some_of (negation (mode_is r Occupied) ∷ negation (seen_is r k) ∷ rel_below r k ∷ [])) ≡ true
+      of_count : (r : ℕ) (route : Route) (k : ℕ) → slice_get p.routes r ≡ Some route → r < length p.routes →
+          k ≤ length route.path →
+          tree_valid (ranges_of_plant p)
+          (some_of (negation (mode_is r Occupied) ∷ negation (seen_is r k) ∷ rel_below r k ∷ [])) ≡ true
       of_count r route k known within few =
-          some_of-valid (negation (mode_is r Occupied) ∷ negation (seen_is r k) ∷ rel_below r k ∷ []) (three-valid (negation (mode_is r Occupied)) (negation (seen_is r k)) (rel_below r k) (mode_is-valid p r Occupied within) (seen_is-valid p r k route known few) (rel_below-valid r k route known (omega (arith, few))))
+          some_of-valid (negation (mode_is r Occupied) ∷ negation (seen_is r k) ∷ rel_below r k ∷ [])
+          (three-valid (negation (mode_is r Occupied)) (negation (seen_is r k)) (rel_below r k)
+          (mode_is-valid p r Occupied within) (seen_is-valid p r k route known few)
+          (rel_below-valid r k route known (omega (arith, few))))
 
       of_route : (r : ℕ) (route : Route) → slice_get p.routes r ≡ Some route → r < length p.routes → tree_valid (ranges_of_plant p) (counts_of r route) ≡ true
       of_route r route known within =
-          each_of-valid (some_of (mode_is r Occupied ∷ seen_is r 0 ∷ []) ∷ some_of (mode_is r Occupied ∷ rel_is r 0 ∷ []) ∷ map (λ k. some_of (negation (mode_is r Occupied) ∷ negation (seen_is r k) ∷ rel_below r k ∷ [])) (range_with_len 0 (length route.path + 1)))
-          (more-valid (some_of (mode_is r Occupied ∷ seen_is r 0 ∷ [])) (some_of (mode_is r Occupied ∷ rel_is r 0 ∷ []) ∷ map (λ k. some_of (negation (mode_is r Occupied) ∷ negation (seen_is r k) ∷ rel_below r k ∷ [])) (range_with_len 0 (length route.path + 1)))
+          each_of-valid
+          (some_of (mode_is r Occupied ∷ seen_is r 0 ∷ [])
+          ∷ some_of (mode_is r Occupied ∷ rel_is r 0 ∷ [])
+          ∷ map
+          (λ k. some_of
+          (negation (mode_is r Occupied) ∷ negation (seen_is r k) ∷ rel_below r k ∷ []))
+          (range_with_len 0 (length route.path + 1)))
+          (more-valid (some_of (mode_is r Occupied ∷ seen_is r 0 ∷ []))
+          (some_of (mode_is r Occupied ∷ rel_is r 0 ∷ [])
+          ∷ map
+          (λ k. some_of
+          (negation (mode_is r Occupied) ∷ negation (seen_is r k) ∷ rel_below r k ∷ []))
+          (range_with_len 0 (length route.path + 1)))
           (some_of-valid (mode_is r Occupied ∷ seen_is r 0 ∷ []) (two-valid (mode_is r Occupied) (seen_is r 0) (mode_is-valid p r Occupied within) (seen_is-valid p r 0 route known (omega arith))))
           (more-valid (some_of (mode_is r Occupied ∷ rel_is r 0 ∷ [])) (map (λ k. some_of (negation (mode_is r Occupied) ∷ negation (seen_is r k) ∷ rel_below r k ∷ [])) (range_with_len 0 (length route.path + 1)))
           (some_of-valid (mode_is r Occupied ∷ rel_is r 0 ∷ []) (two-valid (mode_is r Occupied) (rel_is r 0) (mode_is-valid p r Occupied within) (rel_is-valid p r 0 route known (omega arith))))
@@ -173,11 +197,26 @@ module _ (p : PlantLists) (plant : IsPlant p) where
       by_halves (suc n) x routes =
           by_size (nat_le (length routes) MAX_IN_ORDER) (by_halves n x (take (length routes / 2) routes)) (by_halves n x (drop (length routes / 2) routes))
         where
-          by_size : (few : Bool) → list_all (tree_valid (ranges_of_plant p)) (held_by_halves n p x (take (length routes / 2) routes)) ≡ true → list_all (tree_valid (ranges_of_plant p)) (held_by_halves n p x (drop (length routes / 2) routes)) ≡ true → list_all (tree_valid (ranges_of_plant p)) (if few then held_in_order p x routes else not_in_both p x (take (length routes / 2) routes) (drop (length routes / 2) routes) ∷ held_by_halves n p x (take (length routes / 2) routes) ++ held_by_halves n p x (drop (length routes / 2) routes)) ≡ true
+          by_size : (few : Bool) →
+              list_all (tree_valid (ranges_of_plant p))
+              (held_by_halves n p x (take (length routes / 2) routes)) ≡ true →
+              list_all (tree_valid (ranges_of_plant p))
+              (held_by_halves n p x (drop (length routes / 2) routes)) ≡ true →
+              list_all (tree_valid (ranges_of_plant p))
+              (if few then held_in_order p x routes
+              else not_in_both p x (take (length routes / 2) routes)
+              (drop (length routes / 2) routes)
+              ∷ held_by_halves n p x (take (length routes / 2) routes)
+              ++ held_by_halves n p x (drop (length routes / 2) routes)) ≡ true
           by_size true here there = in_order x routes
           by_size false here there =
               more-valid (not_in_both p x (take (length routes / 2) routes) (drop (length routes / 2) routes)) (held_by_halves n p x (take (length routes / 2) routes) ++ held_by_halves n p x (drop (length routes / 2) routes))
-              (some_of-valid (none_holding p x (take (length routes / 2) routes) ∷ none_holding p x (drop (length routes / 2) routes) ∷ []) (two-valid (none_holding p x (take (length routes / 2) routes)) (none_holding p x (drop (length routes / 2) routes)) (none x (take (length routes / 2) routes)) (none x (drop (length routes / 2) routes))))
+              (some_of-valid
+              (none_holding p x (take (length routes / 2) routes)
+              ∷ none_holding p x (drop (length routes / 2) routes) ∷ [])
+              (two-valid (none_holding p x (take (length routes / 2) routes))
+              (none_holding p x (drop (length routes / 2) routes))
+              (none x (take (length routes / 2) routes)) (none x (drop (length routes / 2) routes))))
               (joined-valid (held_by_halves n p x (take (length routes / 2) routes)) (held_by_halves n p x (drop (length routes / 2) routes)) here there)
 
   v3-valid : tree_valid (ranges_of_plant p) (v3_tree p) ≡ true
@@ -194,13 +233,20 @@ module _ (p : PlantLists) (plant : IsPlant p) where
           let seen = seen_below-valid r (i + 1) route known (omega (arith, less)) in
           let inside = path_known r route i x known at in
           two-valid (some_of (negation (rel_below r (i + 1)) ∷ negation (seen_below r (i + 1)) ∷ lock_is p x LockedLock ∷ [])) (some_of (negation (rel_below r (i + 1)) ∷ seen_below r (i + 1) ∷ lock_is p x UsedLock ∷ []))
-          (some_of-valid (negation (rel_below r (i + 1)) ∷ negation (seen_below r (i + 1)) ∷ lock_is p x LockedLock ∷ []) (three-valid (negation (rel_below r (i + 1))) (negation (seen_below r (i + 1))) (lock_is p x LockedLock) rel seen (lock_is-valid p x LockedLock inside)))
+          (some_of-valid
+          (negation (rel_below r (i + 1)) ∷ negation (seen_below r (i + 1)) ∷ lock_is p x LockedLock
+          ∷ [])
+          (three-valid (negation (rel_below r (i + 1))) (negation (seen_below r (i + 1)))
+          (lock_is p x LockedLock) rel seen (lock_is-valid p x LockedLock inside)))
           (some_of-valid (negation (rel_below r (i + 1)) ∷ seen_below r (i + 1) ∷ lock_is p x UsedLock ∷ []) (three-valid (negation (rel_below r (i + 1))) (seen_below r (i + 1)) (lock_is p x UsedLock) rel seen (lock_is-valid p x UsedLock inside)))
 
   v4-valid : tree_valid (ranges_of_plant p) (v4_tree p) ≡ true
   v4-valid =
       each_of-valid (of_each_route p (λ r route. where_holds (mode_is r Allocating) (each_of (path_vacant p route)) ∷ [])) (routes-valid (λ r route. where_holds (mode_is r Allocating) (each_of (path_vacant p route)) ∷ []) (λ r route known.
-      one-valid (where_holds (mode_is r Allocating) (each_of (path_vacant p route))) (where_holds-valid (mode_is r Allocating) (each_of (path_vacant p route)) (mode_is-valid p r Allocating (slice_get_within p.routes r route known)) (each_of-valid (path_vacant p route) (path_vacant-valid r route known)))))
+      one-valid (where_holds (mode_is r Allocating) (each_of (path_vacant p route)))
+      (where_holds-valid (mode_is r Allocating) (each_of (path_vacant p route))
+      (mode_is-valid p r Allocating (slice_get_within p.routes r route known))
+      (each_of-valid (path_vacant p route) (path_vacant-valid r route known)))))
 
   v5-valid : tree_valid (ranges_of_plant p) (v5_tree p) ≡ true
   v5-valid =
@@ -208,7 +254,12 @@ module _ (p : PlantLists) (plant : IsPlant p) where
       some_of-valid (negation (board_is p m Open) ∷ of_each_route p (λ r route. if route.source == m then each_of (mode_is r Locked ∷ path_vacant p route) ∷ [] else []))
       (more-valid (negation (board_is p m Open)) (of_each_route p (λ r route. if route.source == m then each_of (mode_is r Locked ∷ path_vacant p route) ∷ [] else [])) (board_is-valid p m Open (range_within (length p.boards) i m at).1)
       (routes-valid (λ r route. if route.source == m then each_of (mode_is r Locked ∷ path_vacant p route) ∷ [] else []) (λ r route known.
-      if-valid (route.source == m) (each_of (mode_is r Locked ∷ path_vacant p route) ∷ []) (one-valid (each_of (mode_is r Locked ∷ path_vacant p route)) (each_of-valid (mode_is r Locked ∷ path_vacant p route) (more-valid (mode_is r Locked) (path_vacant p route) (mode_is-valid p r Locked (slice_get_within p.routes r route known)) (path_vacant-valid r route known)))))))))
+      if-valid (route.source == m) (each_of (mode_is r Locked ∷ path_vacant p route) ∷ [])
+      (one-valid (each_of (mode_is r Locked ∷ path_vacant p route))
+      (each_of-valid (mode_is r Locked ∷ path_vacant p route)
+      (more-valid (mode_is r Locked) (path_vacant p route)
+      (mode_is-valid p r Locked (slice_get_within p.routes r route known))
+      (path_vacant-valid r route known)))))))))
 
   v6-valid : tree_valid (ranges_of_plant p) (v6_tree p) ≡ true
   v6-valid =
@@ -219,7 +270,10 @@ module _ (p : PlantLists) (plant : IsPlant p) where
       of_point r route listed known =
           let commanded = commanded_at_listed-valid p listed in
           let set = each_of-valid (commanded_at_listed p listed ∷ lies_at_listed p listed ∷ []) (two-valid (commanded_at_listed p listed) (lies_at_listed p listed) commanded (lies_at_listed-valid p listed)) in
-          each_of-valid (where_holds (mode_is r Allocating) (commanded_at_listed p listed) ∷ where_holds (each_of (locked_or_occupied r ∷ kept_on_path r route listed.point ∷ [])) (each_of (commanded_at_listed p listed ∷ lies_at_listed p listed ∷ [])) ∷ [])
+          each_of-valid
+          (where_holds (mode_is r Allocating) (commanded_at_listed p listed)
+          ∷ where_holds (each_of (locked_or_occupied r ∷ kept_on_path r route listed.point ∷ []))
+          (each_of (commanded_at_listed p listed ∷ lies_at_listed p listed ∷ [])) ∷ [])
           (two-valid (where_holds (mode_is r Allocating) (commanded_at_listed p listed)) (where_holds (each_of (locked_or_occupied r ∷ kept_on_path r route listed.point ∷ [])) (each_of (commanded_at_listed p listed ∷ lies_at_listed p listed ∷ [])))
           (where_holds-valid (mode_is r Allocating) (commanded_at_listed p listed) (mode_is-valid p r Allocating (slice_get_within p.routes r route known)) commanded)
           (where_holds-valid (each_of (locked_or_occupied r ∷ kept_on_path r route listed.point ∷ [])) (each_of (commanded_at_listed p listed ∷ lies_at_listed p listed ∷ [])) (is_kept-valid r route listed.point known) set))
@@ -249,14 +303,22 @@ module _ (p : PlantLists) (plant : IsPlant p) where
   leads_from-valid r route i x known at =
       let within = slice_get_within p.routes r route known in
       let less = slice_get_within route.path i x at in
-      let closed = each_of-valid (mode_is r Locked ∷ board_is p route.source Closed ∷ []) (two-valid (mode_is r Locked) (board_is p route.source Closed) (mode_is-valid p r Locked within) (board_is-valid p route.source Closed (plant.routes_known r route known).source)) in
-      let may = some_of-valid (mode_is r Occupied ∷ each_of (mode_is r Locked ∷ board_is p route.source Closed ∷ []) ∷ []) (two-valid (mode_is r Occupied) (each_of (mode_is r Locked ∷ board_is p route.source Closed ∷ [])) (mode_is-valid p r Occupied within) closed) in
+      let closed = each_of-valid (mode_is r Locked ∷ board_is p route.source Closed ∷ [])
+      (two-valid (mode_is r Locked) (board_is p route.source Closed) (mode_is-valid p r Locked within)
+      (board_is-valid p route.source Closed (plant.routes_known r route known).source)) in
+      let may = some_of-valid
+      (mode_is r Occupied ∷ each_of (mode_is r Locked ∷ board_is p route.source Closed ∷ []) ∷ [])
+      (two-valid (mode_is r Occupied) (each_of (mode_is r Locked ∷ board_is p route.source Closed ∷ []))
+      (mode_is-valid p r Occupied within) closed) in
       each_of-valid (some_of (mode_is r Occupied ∷ each_of (mode_is r Locked ∷ board_is p route.source Closed ∷ []) ∷ []) ∷ (none_seen_past r route i ++ map (no_train_at p) (drop (i + 1) route.path)))
       (more-valid (some_of (mode_is r Occupied ∷ each_of (mode_is r Locked ∷ board_is p route.source Closed ∷ []) ∷ [])) (none_seen_past r route i ++ map (no_train_at p) (drop (i + 1) route.path)) may
       (joined-valid (none_seen_past r route i) (map (no_train_at p) (drop (i + 1) route.path)) (none_seen_past-valid r route i known less)
       (map-valid (no_train_at p) (drop (i + 1) route.path) (λ k y there. no_train_at-valid p y (path_known r route ((i + 1) + k) y known (dropped-at (i + 1) route.path k y there))))))
 
-  instances-valid : (f : Dir → ℕ → List Tree) → ((d : Dir) (x : ℕ) → x < length p.sections → list_all (tree_valid (ranges_of_plant p)) (f d x) ≡ true) → tree_valid (ranges_of_plant p) (each_of (flat_map (λ x. f Up x ++ f Down x) (range_with_len 0 (length p.sections)))) ≡ true
+  instances-valid : (f : Dir → ℕ → List Tree) →
+      ((d : Dir) (x : ℕ) → x < length p.sections → list_all (tree_valid (ranges_of_plant p)) (f d x) ≡ true) →
+      tree_valid (ranges_of_plant p)
+      (each_of (flat_map (λ x. f Up x ++ f Down x) (range_with_len 0 (length p.sections)))) ≡ true
   instances-valid f each =
       each_of-valid (flat_map (λ x. f Up x ++ f Down x) (range_with_len 0 (length p.sections))) (flat_map-valid (λ x. f Up x ++ f Down x) (range_with_len 0 (length p.sections)) (λ i x at.
       let within = (range_within (length p.sections) i x at).1 in joined-valid (f Up x) (f Down x) (each Up x within) (each Down x within)))
@@ -280,13 +342,37 @@ module _ (p : PlantLists) (plant : IsPlant p) where
 
   v9-valid : tree_valid (ranges_of_plant p) (v9_tree p) ≡ true
   v9-valid =
-      each_of-valid (of_each_route p (λ r route. map (λ m. where_holds (mode_is r Locked) (board_is p m Closed)) route.protecting_boards)) (routes-valid (λ r route. map (λ m. where_holds (mode_is r Locked) (board_is p m Closed)) route.protecting_boards) (λ r route known.
+      each_of-valid
+      (of_each_route p
+      (λ r route. map (λ m. where_holds (mode_is r Locked) (board_is p m Closed))
+      route.protecting_boards)) (routes-valid
+      (λ r route. map (λ m. where_holds (mode_is r Locked) (board_is p m Closed)) route.protecting_boards)
+      (λ r route known.
       map-valid (λ m. where_holds (mode_is r Locked) (board_is p m Closed)) route.protecting_boards (λ i m at.
-      where_holds-valid (mode_is r Locked) (board_is p m Closed) (mode_is-valid p r Locked (slice_get_within p.routes r route known)) (board_is-valid p m Closed (all-at (λ m. m < length p.boards) route.protecting_boards i m (plant.routes_known r route known).protecting_boards at)))))
+      where_holds-valid (mode_is r Locked) (board_is p m Closed)
+      (mode_is-valid p r Locked (slice_get_within p.routes r route known))
+      (board_is-valid p m Closed
+      (all-at (λ m. m < length p.boards) route.protecting_boards i m
+      (plant.routes_known r route known).protecting_boards at)))))
 
   pub families-valid : list_all (tree_valid (ranges_of_plant p)) (family_trees p) ≡ true
   families-valid =
-      more-valid (v1_tree p) (v2_tree p ∷ v3_tree p ∷ v4_tree p ∷ v5_tree p ∷ v6_tree p ∷ v7_tree p ∷ v8_tree p ∷ v9_tree p ∷ []) v1-valid (more-valid (v2_tree p) (v3_tree p ∷ v4_tree p ∷ v5_tree p ∷ v6_tree p ∷ v7_tree p ∷ v8_tree p ∷ v9_tree p ∷ []) v2-valid (more-valid (v3_tree p) (v4_tree p ∷ v5_tree p ∷ v6_tree p ∷ v7_tree p ∷ v8_tree p ∷ v9_tree p ∷ []) v3-valid (more-valid (v4_tree p) (v5_tree p ∷ v6_tree p ∷ v7_tree p ∷ v8_tree p ∷ v9_tree p ∷ []) v4-valid (more-valid (v5_tree p) (v6_tree p ∷ v7_tree p ∷ v8_tree p ∷ v9_tree p ∷ []) v5-valid (more-valid (v6_tree p) (v7_tree p ∷ v8_tree p ∷ v9_tree p ∷ []) v6-valid (more-valid (v7_tree p) (v8_tree p ∷ v9_tree p ∷ []) v7-valid (more-valid (v8_tree p) (v9_tree p ∷ []) v8-valid (one-valid (v9_tree p) v9-valid))))))))
+      more-valid (v1_tree p)
+      (v2_tree p ∷ v3_tree p ∷ v4_tree p ∷ v5_tree p ∷ v6_tree p ∷ v7_tree p ∷ v8_tree p ∷ v9_tree p ∷ [])
+      v1-valid
+      (more-valid (v2_tree p)
+      (v3_tree p ∷ v4_tree p ∷ v5_tree p ∷ v6_tree p ∷ v7_tree p ∷ v8_tree p ∷ v9_tree p ∷ [])
+      v2-valid
+      (more-valid (v3_tree p)
+      (v4_tree p ∷ v5_tree p ∷ v6_tree p ∷ v7_tree p ∷ v8_tree p ∷ v9_tree p ∷ []) v3-valid
+      (more-valid (v4_tree p) (v5_tree p ∷ v6_tree p ∷ v7_tree p ∷ v8_tree p ∷ v9_tree p ∷ [])
+      v4-valid
+      (more-valid (v5_tree p) (v6_tree p ∷ v7_tree p ∷ v8_tree p ∷ v9_tree p ∷ [])
+      v5-valid
+      (more-valid (v6_tree p) (v7_tree p ∷ v8_tree p ∷ v9_tree p ∷ []) v6-valid
+      (more-valid (v7_tree p) (v8_tree p ∷ v9_tree p ∷ []) v7-valid
+      (more-valid (v8_tree p) (v9_tree p ∷ []) v8-valid
+      (one-valid (v9_tree p) v9-valid))))))))
 
   pub family-valid : (j : ℕ) → tree_valid (ranges_of_plant p) (family_tree p j) ≡ true
   family-valid j = by_option (slice_get (family_trees p) (j - 1)) refl

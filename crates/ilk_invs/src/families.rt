@@ -42,7 +42,8 @@ pub fn family_form(alloc: Global, plant: &Plant, j: u8) -> Result<Form, AllocErr
 
     // It holds of the image of a state with shape and without hazard exactly where the state keeps VJ.
     ensures kept { IfOk result (λ form. HoldsAsKept plant.now j (tree_of form)) }
-    ensures valid { IfOk result (λ form. tree_valid (ranges_of_plant plant.now) (tree_of form) ≡ true) }
+    ensures valid { IfOk result
+        (λ form. tree_valid (ranges_of_plant plant.now) (tree_of form) ≡ true) }
 {
     plant.is_sound();
     plant.is_of_drafts();

@@ -69,7 +69,10 @@ fn push_if_kept(
     is_kept: bool,
 ) -> Result<(), AllocError>
     requires { r < length plant.now.routes }
-    ensures { OnOk result (map tree_of forms.new.items ≡ map tree_of forms.old.items ++ (if is_kept then conditions.rel_is r count ∷ [] else [])) }
+    ensures { OnOk result
+        (map tree_of forms.new.items
+        ≡ map tree_of forms.old.items
+        ++ (if is_kept then conditions.rel_is r count ∷ [] else [])) }
 {
     if is_kept {
         forms.push(rel_is(plant, r, count))?;

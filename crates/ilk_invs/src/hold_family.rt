@@ -27,7 +27,8 @@ fn may_hold(plant: &Plant, x: u32, r: u32) -> bool
 
 // Adds `r` to the routes, if that is asked.
 fn push_if(routes: &mut Vec<u32>, r: u32, is_asked: bool) -> Result<(), AllocError>
-    ensures { OnOk result (routes.new.items ≡ routes.old.items ++ (if is_asked then r ∷ [] else [])) }
+    ensures { OnOk result
+        (routes.new.items ≡ routes.old.items ++ (if is_asked then r ∷ [] else [])) }
 {
     if is_asked {
         routes.push(r)?;
@@ -65,7 +66,10 @@ fn push_not_holding(
     routes: &[u32],
 ) -> Result<(), AllocError>
     requires { All (λ r. r < length plant.now.routes) routes.now }
-    ensures { OnOk result (map tree_of forms.new.items ≡ map tree_of forms.old.items ++ map negation (flat_map (definitions.route_holding plant.now x) routes.now)) }
+    ensures { OnOk result
+        (map tree_of forms.new.items
+        ≡ map tree_of forms.old.items
+        ++ map negation (flat_map (definitions.route_holding plant.now x) routes.now)) }
 {
     for r in routes {
         let holding = route_holding(alloc, plant, x, *r)?;
@@ -94,7 +98,8 @@ fn none_before(
 ) -> Result<Form, AllocError>
     requires known { r < length plant.now.routes }
     requires before { All (λ q. q < length plant.now.routes) before.now }
-    ensures { IfOk result (λ form. tree_of form ≡ definitions.none_before plant.now x before.now r) }
+    ensures { IfOk result
+        (λ form. tree_of form ≡ definitions.none_before plant.now x before.now r) }
 {
     let mut held = Vec::new(alloc);
     held.push(route_holding(alloc, plant, x, r)?)?;
@@ -112,7 +117,9 @@ fn push_held_in_order(
     routes: &[u32],
 ) -> Result<(), AllocError>
     requires { All (λ r. r < length plant.now.routes) routes.now }
-    ensures { OnOk result (map tree_of forms.new.items ≡ map tree_of forms.old.items ++ definitions.held_in_order plant.now x routes.now) }
+    ensures { OnOk result
+        (map tree_of forms.new.items
+        ≡ map tree_of forms.old.items ++ definitions.held_in_order plant.now x routes.now) }
 {
     for i in 1..routes.len() {
         forms.push(none_before(alloc, plant, x, &routes[..i], routes[i])?)?;
@@ -130,7 +137,8 @@ fn not_in_both(
 ) -> Result<Form, AllocError>
     requires these { All (λ r. r < length plant.now.routes) these.now }
     requires those { All (λ r. r < length plant.now.routes) those.now }
-    ensures { IfOk result (λ form. tree_of form ≡ definitions.not_in_both plant.now x these.now those.now) }
+    ensures { IfOk result
+        (λ form. tree_of form ≡ definitions.not_in_both plant.now x these.now those.now) }
 {
     let mut forms = Vec::new(alloc);
     forms.push(none_holding(alloc, plant, x, these)?)?;
@@ -149,7 +157,9 @@ fn push_held_by_halves(
     n: usize,
 ) -> Result<(), AllocError>
     requires { All (λ r. r < length plant.now.routes) routes.now }
-    ensures { OnOk result (map tree_of forms.new.items ≡ map tree_of forms.old.items ++ definitions.held_by_halves n plant.now x routes.now) }
+    ensures { OnOk result
+        (map tree_of forms.new.items
+        ≡ map tree_of forms.old.items ++ definitions.held_by_halves n plant.now x routes.now) }
 {
     if n == 0 || routes.len() <= MAX_IN_ORDER {
         return push_held_in_order(alloc, forms, plant, x, routes);
@@ -168,7 +178,9 @@ fn push_held_once(
     plant: &Plant,
     x: u32,
 ) -> Result<(), AllocError>
-    ensures { OnOk result (map tree_of forms.new.items ≡ map tree_of forms.old.items ++ definitions.held_once plant.now x) }
+    ensures { OnOk result
+        (map tree_of forms.new.items
+        ≡ map tree_of forms.old.items ++ definitions.held_once plant.now x) }
 {
     let routes = holders(alloc, plant, x)?;
     let routes = routes.as_slice();

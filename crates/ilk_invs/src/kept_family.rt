@@ -22,7 +22,11 @@ fn push_keeps_at(
     r: u32,
 ) -> Result<(), AllocError>
     requires { r < length plant.now.routes }
-    ensures { OnOk result (map tree_of forms.new.items ≡ map tree_of forms.old.items ++ parts.conditions_for (slice_get plant.now.routes r) (definitions.keeps_at plant.now d x r)) }
+    ensures { OnOk result
+        (map tree_of forms.new.items
+        ≡ map tree_of forms.old.items
+        ++ parts.conditions_for (slice_get plant.now.routes r)
+        (definitions.keeps_at plant.now d x r)) }
 {
     let route = plant.route(r);
     if runs_in(plant, d, route) && has_section(&route.path, x) {
@@ -34,7 +38,11 @@ fn push_keeps_at(
 // No train in direction `d` has section `x` in its body, or some route keeps it.
 fn is_kept_by_some(alloc: Global, plant: &Plant, d: Dir, x: u32) -> Result<Form, AllocError>
     requires { x < length plant.now.sections }
-    ensures { IfOk result (λ form. tree_of form ≡ parts.some_of (negation (definitions.body_at plant.now d x) ∷ parts.of_each_route plant.now (definitions.keeps_at plant.now d x))) }
+    ensures { IfOk result
+        (λ form. tree_of form
+        ≡ parts.some_of
+        (negation (definitions.body_at plant.now d x)
+        ∷ parts.of_each_route plant.now (definitions.keeps_at plant.now d x))) }
 {
     let body = body_at(alloc, plant, d, x)?;
     let mut forms = Vec::new(alloc);
@@ -54,7 +62,9 @@ fn push_kept_at(
     x: u32,
 ) -> Result<(), AllocError>
     requires { x < length plant.now.sections }
-    ensures { OnOk result (map tree_of forms.new.items ≡ map tree_of forms.old.items ++ definitions.kept_at plant.now d x) }
+    ensures { OnOk result
+        (map tree_of forms.new.items
+        ≡ map tree_of forms.old.items ++ definitions.kept_at plant.now d x) }
 {
     if is_plain(plant, d, x) {
         forms.push(is_kept_by_some(alloc, plant, d, x)?)?;
@@ -65,7 +75,10 @@ fn push_kept_at(
 // Adds V8 of section `x`.
 fn push_kept(alloc: Global, forms: &mut Vec<Form>, plant: &Plant, x: u32) -> Result<(), AllocError>
     requires { x < length plant.now.sections }
-    ensures { OnOk result (map tree_of forms.new.items ≡ map tree_of forms.old.items ++ (definitions.kept_at plant.now Up x ++ definitions.kept_at plant.now Down x)) }
+    ensures { OnOk result
+        (map tree_of forms.new.items
+        ≡ map tree_of forms.old.items
+        ++ (definitions.kept_at plant.now Up x ++ definitions.kept_at plant.now Down x)) }
 {
     push_kept_at(alloc, forms, plant, Dir::Up, x)?;
     push_kept_at(alloc, forms, plant, Dir::Down, x)

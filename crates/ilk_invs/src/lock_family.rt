@@ -23,7 +23,11 @@ fn locked_ahead(alloc: Global, plant: &Plant, r: u32, i: u8, x: u32) -> Result<F
     requires known { r < length plant.now.routes }
     requires section { x < length plant.now.sections }
     requires place { i < MAX_PATH }
-    ensures { IfOk result (λ form. tree_of form ≡ parts.some_of (negation (held.rel_below r (i + 1)) ∷ negation (held.seen_below r (i + 1)) ∷ conditions.lock_is plant.now x LockedLock ∷ [])) }
+    ensures { IfOk result
+        (λ form. tree_of form
+        ≡ parts.some_of
+        (negation (held.rel_below r (i + 1)) ∷ negation (held.seen_below r (i + 1))
+        ∷ conditions.lock_is plant.now x LockedLock ∷ [])) }
 {
     let mut forms = Vec::new(alloc);
     forms.push(negated(alloc, rel_below(alloc, plant, r, i + 1)?)?)?;
@@ -38,7 +42,11 @@ fn used_behind(alloc: Global, plant: &Plant, r: u32, i: u8, x: u32) -> Result<Fo
     requires known { r < length plant.now.routes }
     requires section { x < length plant.now.sections }
     requires place { i < MAX_PATH }
-    ensures { IfOk result (λ form. tree_of form ≡ parts.some_of (negation (held.rel_below r (i + 1)) ∷ held.seen_below r (i + 1) ∷ conditions.lock_is plant.now x UsedLock ∷ [])) }
+    ensures { IfOk result
+        (λ form. tree_of form
+        ≡ parts.some_of
+        (negation (held.rel_below r (i + 1)) ∷ held.seen_below r (i + 1)
+        ∷ conditions.lock_is plant.now x UsedLock ∷ [])) }
 {
     let mut forms = Vec::new(alloc);
     forms.push(negated(alloc, rel_below(alloc, plant, r, i + 1)?)?)?;
@@ -57,7 +65,10 @@ fn push_locks_on_path(
 ) -> Result<(), AllocError>
     requires known { r < length plant.now.routes }
     requires route { IsRouteOf plant.now route.now }
-    ensures { OnOk result (map tree_of forms.new.items ≡ map tree_of forms.old.items ++ parts.of_each_place route.now (definitions.lock_at_place plant.now r)) }
+    ensures { OnOk result
+        (map tree_of forms.new.items
+        ≡ map tree_of forms.old.items
+        ++ parts.of_each_place route.now (definitions.lock_at_place plant.now r)) }
 {
     let path = route.path.as_slice();
     for i in 0..path.len() {
@@ -70,7 +81,10 @@ fn push_locks_on_path(
 // Adds of each of the sections that it has lock Locked.
 fn push_locked(forms: &mut Vec<Form>, plant: &Plant, sections: &[u32]) -> Result<(), AllocError>
     requires { All (λ x. x < length plant.now.sections) sections.now }
-    ensures { OnOk result (map tree_of forms.new.items ≡ map tree_of forms.old.items ++ map (λ x. conditions.lock_is plant.now x LockedLock) sections.now) }
+    ensures { OnOk result
+        (map tree_of forms.new.items
+        ≡ map tree_of forms.old.items
+        ++ map (λ x. conditions.lock_is plant.now x LockedLock) sections.now) }
 {
     for x in sections {
         forms.push(lock_is(plant, *x, Hold::Locked))?;
@@ -85,7 +99,11 @@ fn push_points_locked(
     points: &[Listed],
 ) -> Result<(), AllocError>
     requires { All (λ listed. listed.point < length plant.now.sections) points.now }
-    ensures { OnOk result (map tree_of forms.new.items ≡ map tree_of forms.old.items ++ map (λ x. conditions.lock_is plant.now x LockedLock) (map (λ listed. listed.point) points.now)) }
+    ensures { OnOk result
+        (map tree_of forms.new.items
+        ≡ map tree_of forms.old.items
+        ++ map (λ x. conditions.lock_is plant.now x LockedLock)
+        (map (λ listed. listed.point) points.now)) }
 {
     for listed in points {
         forms.push(lock_is(plant, listed.point, Hold::Locked))?;
@@ -97,7 +115,11 @@ fn push_points_locked(
 fn locks_for(alloc: Global, plant: &Plant, r: u32, route: &Route) -> Result<Vec<Form>, AllocError>
     requires known { r < length plant.now.routes }
     requires route { IsRouteOf plant.now route.now }
-    ensures { IfOk result (λ forms. map tree_of forms.items ≡ parts.of_each_place route.now (definitions.lock_at_place plant.now r) ++ map (λ x. conditions.lock_is plant.now x LockedLock) (sections_beside route.now)) }
+    ensures { IfOk result
+        (λ forms. map tree_of forms.items
+        ≡ parts.of_each_place route.now (definitions.lock_at_place plant.now r)
+        ++ map (λ x. conditions.lock_is plant.now x LockedLock)
+        (sections_beside route.now)) }
 {
     let mut forms = Vec::new(alloc);
     push_locks_on_path(alloc, &mut forms, plant, r, route)?;

@@ -8,7 +8,8 @@ use std::alloc::{AllocError, Global};
 
 /// Where the first holds, the second does.
 pub fn where_holds(alloc: Global, condition: Form, then_this: Form) -> Result<Form, AllocError>
-    ensures { IfOk result (λ form. tree_of form ≡ parts.where_holds (tree_of condition) (tree_of then_this)) }
+    ensures { IfOk result
+        (λ form. tree_of form ≡ parts.where_holds (tree_of condition) (tree_of then_this)) }
 {
     let mut forms = Vec::new(alloc);
     forms.push(negated(alloc, condition)?)?;

@@ -24,7 +24,9 @@ pub fn is_kept(
 ) -> Result<Form, AllocError>
     requires known { r < length plant.now.routes }
     requires route { IsRouteOf plant.now route.now }
-    ensures { IfOk result (λ form. tree_of form ≡ parts.each_of (held.locked_or_occupied r ∷ held.kept_on_path r route.now x ∷ [])) }
+    ensures { IfOk result
+        (λ form. tree_of form
+        ≡ parts.each_of (held.locked_or_occupied r ∷ held.kept_on_path r route.now x ∷ [])) }
 {
     let mut forms = Vec::new(alloc);
     forms.push(locked_or_occupied(alloc, plant, r)?)?;
@@ -34,7 +36,11 @@ pub fn is_kept(
 
 // A listed point is commanded to its position, and lies there.
 fn is_set(alloc: Global, plant: &Plant, listed: &Listed) -> Result<Form, AllocError>
-    ensures { IfOk result (λ form. tree_of form ≡ parts.each_of (conditions.commanded_at_listed plant.now listed.now ∷ conditions.lies_at_listed plant.now listed.now ∷ [])) }
+    ensures { IfOk result
+        (λ form. tree_of form
+        ≡ parts.each_of
+        (conditions.commanded_at_listed plant.now listed.now
+        ∷ conditions.lies_at_listed plant.now listed.now ∷ [])) }
 {
     let mut forms = Vec::new(alloc);
     forms.push(commanded_at_listed(plant, listed))?;
@@ -52,7 +58,8 @@ fn set_for(
 ) -> Result<Form, AllocError>
     requires known { r < length plant.now.routes }
     requires route { IsRouteOf plant.now route.now }
-    ensures { IfOk result (λ form. tree_of form ≡ definitions.set_for plant.now r route.now listed.now) }
+    ensures { IfOk result
+        (λ form. tree_of form ≡ definitions.set_for plant.now r route.now listed.now) }
 {
     let allocating = mode_is(plant, r, Mode::Allocating);
     let kept = is_kept(alloc, plant, r, route, listed.point)?;
@@ -73,7 +80,12 @@ fn push_set_for(
 ) -> Result<(), AllocError>
     requires known { r < length plant.now.routes }
     requires route { IsRouteOf plant.now route.now }
-    ensures { OnOk result (map tree_of forms.new.items ≡ map tree_of forms.old.items ++ (if has_section listed.now.point route.now.path then definitions.set_for plant.now r route.now listed.now ∷ [] else [])) }
+    ensures { OnOk result
+        (map tree_of forms.new.items
+        ≡ map tree_of forms.old.items
+        ++
+        (if has_section listed.now.point route.now.path
+        then definitions.set_for plant.now r route.now listed.now ∷ [] else [])) }
 {
     if has_section(&route.path, listed.point) {
         forms.push(set_for(alloc, plant, r, route, listed)?)?;
@@ -91,7 +103,11 @@ fn push_points_set(
 ) -> Result<(), AllocError>
     requires known { r < length plant.now.routes }
     requires route { IsRouteOf plant.now route.now }
-    ensures { OnOk result (map tree_of forms.new.items ≡ map tree_of forms.old.items ++ map (definitions.set_for plant.now r route.now) (definitions.points_of_path route.now)) }
+    ensures { OnOk result
+        (map tree_of forms.new.items
+        ≡ map tree_of forms.old.items
+        ++ map (definitions.set_for plant.now r route.now)
+        (definitions.points_of_path route.now)) }
 {
     for listed in route.points.as_slice() {
         push_set_for(alloc, forms, plant, r, route, listed)?;

@@ -20,7 +20,11 @@ use std::alloc::{AllocError, Global};
 // Route `r` isn't Occupied, or `k` of its path sections aren't seen, or fewer than `k` are released.
 fn fewer_released(alloc: Global, plant: &Plant, r: u32, k: u8) -> Result<Form, AllocError>
     requires { r < length plant.now.routes }
-    ensures { IfOk result (λ form. tree_of form ≡ parts.some_of (negation (conditions.mode_is r Occupied) ∷ negation (conditions.seen_is r k) ∷ held.rel_below r k ∷ [])) }
+    ensures { IfOk result
+        (λ form. tree_of form
+        ≡ parts.some_of
+        (negation (conditions.mode_is r Occupied) ∷ negation (conditions.seen_is r k)
+        ∷ held.rel_below r k ∷ [])) }
 {
     let mut forms = Vec::new(alloc);
     forms.push(negated(alloc, mode_is(plant, r, Mode::Occupied))?)?;
@@ -38,7 +42,14 @@ fn push_fewer_released(
     n: u8,
 ) -> Result<(), AllocError>
     requires { r < length plant.now.routes }
-    ensures { OnOk result (map tree_of forms.new.items ≡ map tree_of forms.old.items ++ map (λ k. parts.some_of (negation (conditions.mode_is r Occupied) ∷ negation (conditions.seen_is r k) ∷ held.rel_below r k ∷ [])) (range_with_len 0 n)) }
+    ensures { OnOk result
+        (map tree_of forms.new.items
+        ≡ map tree_of forms.old.items
+        ++ map
+        (λ k. parts.some_of
+        (negation (conditions.mode_is r Occupied)
+        ∷ negation (conditions.seen_is r k) ∷ held.rel_below r k ∷ []))
+        (range_with_len 0 n)) }
 {
     for k in 0..n {
         forms.push(fewer_released(alloc, plant, r, k)?)?;
@@ -49,7 +60,9 @@ fn push_fewer_released(
 // Route `r` is Occupied, or the other holds.
 fn occupied_or(alloc: Global, plant: &Plant, r: u32, other: Form) -> Result<Form, AllocError>
     requires { r < length plant.now.routes }
-    ensures { IfOk result (λ form. tree_of form ≡ parts.some_of (conditions.mode_is r Occupied ∷ tree_of other ∷ [])) }
+    ensures { IfOk result
+        (λ form. tree_of form
+        ≡ parts.some_of (conditions.mode_is r Occupied ∷ tree_of other ∷ [])) }
 {
     let mut forms = Vec::new(alloc);
     forms.push(mode_is(plant, r, Mode::Occupied))?;
@@ -84,7 +97,9 @@ pub fn v1_form(alloc: Global, plant: &Plant) -> Result<Form, AllocError>
 /// Adds of each of the sections that it is vacant.
 pub fn push_vacant(forms: &mut Vec<Form>, plant: &Plant, sections: &[u32]) -> Result<(), AllocError>
     requires { All (λ x. x < length plant.now.sections) sections.now }
-    ensures { OnOk result (map tree_of forms.new.items ≡ map tree_of forms.old.items ++ map (conditions.no_train_at plant.now) sections.now) }
+    ensures { OnOk result
+        (map tree_of forms.new.items
+        ≡ map tree_of forms.old.items ++ map (conditions.no_train_at plant.now) sections.now) }
 {
     for x in sections {
         forms.push(no_train_at(plant, *x))?;
@@ -101,7 +116,10 @@ fn vacant_while_allocating(
 ) -> Result<Form, AllocError>
     requires known { r < length plant.now.routes }
     requires route { IsRouteOf plant.now route.now }
-    ensures { IfOk result (λ form. tree_of form ≡ parts.where_holds (conditions.mode_is r Allocating) (parts.each_of (definitions.path_vacant plant.now route.now))) }
+    ensures { IfOk result
+        (λ form. tree_of form
+        ≡ parts.where_holds (conditions.mode_is r Allocating)
+        (parts.each_of (definitions.path_vacant plant.now route.now))) }
 {
     let mut forms = Vec::new(alloc);
     push_vacant(&mut forms, plant, route.path.as_slice())?;
@@ -123,7 +141,10 @@ pub fn v4_form(alloc: Global, plant: &Plant) -> Result<Form, AllocError>
 fn is_ready(alloc: Global, plant: &Plant, r: u32, route: &Route) -> Result<Form, AllocError>
     requires known { r < length plant.now.routes }
     requires route { IsRouteOf plant.now route.now }
-    ensures { IfOk result (λ form. tree_of form ≡ parts.each_of (conditions.mode_is r Locked ∷ definitions.path_vacant plant.now route.now)) }
+    ensures { IfOk result
+        (λ form. tree_of form
+        ≡ parts.each_of
+        (conditions.mode_is r Locked ∷ definitions.path_vacant plant.now route.now)) }
 {
     let mut forms = Vec::new(alloc);
     forms.push(mode_is(plant, r, Mode::Locked))?;
@@ -140,7 +161,14 @@ fn push_ready_from(
     r: u32,
 ) -> Result<(), AllocError>
     requires { r < length plant.now.routes }
-    ensures { OnOk result (map tree_of forms.new.items ≡ map tree_of forms.old.items ++ parts.conditions_for (slice_get plant.now.routes r) (λ route. if route.source == m then parts.each_of (conditions.mode_is r Locked ∷ definitions.path_vacant plant.now route) ∷ [] else [])) }
+    ensures { OnOk result
+        (map tree_of forms.new.items
+        ≡ map tree_of forms.old.items
+        ++ parts.conditions_for (slice_get plant.now.routes r)
+        (λ route. if route.source == m
+        then parts.each_of
+        (conditions.mode_is r Locked
+        ∷ definitions.path_vacant plant.now route) ∷ [] else [])) }
 {
     let route = plant.route(r);
     if route.source == m {
@@ -183,7 +211,12 @@ fn push_closed_while_locked(
 ) -> Result<(), AllocError>
     requires known { r < length plant.now.routes }
     requires boards { All (λ m. m < length plant.now.boards) boards.now }
-    ensures { OnOk result (map tree_of forms.new.items ≡ map tree_of forms.old.items ++ map (λ m. parts.where_holds (conditions.mode_is r Locked) (conditions.board_is plant.now m Closed)) boards.now) }
+    ensures { OnOk result
+        (map tree_of forms.new.items
+        ≡ map tree_of forms.old.items
+        ++ map
+        (λ m. parts.where_holds (conditions.mode_is r Locked)
+        (conditions.board_is plant.now m Closed)) boards.now) }
 {
     for m in boards {
         let locked = mode_is(plant, r, Mode::Locked);

@@ -93,7 +93,13 @@ pub fn body_at(alloc: Global, plant: &Plant, d: Dir, x: u32) -> Result<Form, All
 fn may_lead(alloc: Global, plant: &Plant, r: u32, route: &Route) -> Result<Form, AllocError>
     requires known { r < length plant.now.routes }
     requires route { IsRouteOf plant.now route.now }
-    ensures { IfOk result (λ form. tree_of form ≡ parts.some_of (conditions.mode_is r Occupied ∷ parts.each_of (conditions.mode_is r Locked ∷ conditions.board_is plant.now route.now.source Closed ∷ []) ∷ [])) }
+    ensures { IfOk result
+        (λ form. tree_of form
+        ≡ parts.some_of
+        (conditions.mode_is r Occupied
+        ∷ parts.each_of
+        (conditions.mode_is r Locked
+        ∷ conditions.board_is plant.now route.now.source Closed ∷ []) ∷ [])) }
 {
     let mut closed = Vec::new(alloc);
     closed.push(mode_is(plant, r, Mode::Locked))?;
@@ -116,7 +122,9 @@ fn push_none_seen_past(
     requires known { r < length plant.now.routes }
     requires route { IsRouteOf plant.now route.now }
     requires place { i < length route.now.path }
-    ensures { OnOk result (map tree_of forms.new.items ≡ map tree_of forms.old.items ++ definitions.none_seen_past r route.now i) }
+    ensures { OnOk result
+        (map tree_of forms.new.items
+        ≡ map tree_of forms.old.items ++ definitions.none_seen_past r route.now i) }
 {
     if i + 1 < route.path.as_slice().len() {
         forms.push(seen_below(alloc, plant, r, i as u8 + 2)?)?;
@@ -157,7 +165,10 @@ fn push_leads_if(
     requires known { r < length plant.now.routes }
     requires route { IsRouteOf plant.now route.now }
     requires place { i < length route.now.path }
-    ensures { OnOk result (map tree_of forms.new.items ≡ map tree_of forms.old.items ++ (if is_asked then definitions.leads_from plant.now r route.now i ∷ [] else [])) }
+    ensures { OnOk result
+        (map tree_of forms.new.items
+        ≡ map tree_of forms.old.items
+        ++ (if is_asked then definitions.leads_from plant.now r route.now i ∷ [] else [])) }
 {
     if is_asked {
         forms.push(leads_from(alloc, plant, r, route, i)?)?;
@@ -177,7 +188,12 @@ fn push_leads_on_path(
 ) -> Result<(), AllocError>
     requires known { r < length plant.now.routes }
     requires route { IsRouteOf plant.now route.now }
-    ensures { OnOk result (map tree_of forms.new.items ≡ map tree_of forms.old.items ++ parts.of_each_place route.now (λ i y. if y == x then definitions.leads_from plant.now r route.now i ∷ [] else [])) }
+    ensures { OnOk result
+        (map tree_of forms.new.items
+        ≡ map tree_of forms.old.items
+        ++ parts.of_each_place route.now
+        (λ i y. if y == x then definitions.leads_from plant.now r route.now i ∷ []
+        else [])) }
 {
     let path = route.path.as_slice();
     for i in 0..path.len() {
@@ -196,7 +212,11 @@ fn push_leads_at(
     r: u32,
 ) -> Result<(), AllocError>
     requires { r < length plant.now.routes }
-    ensures { OnOk result (map tree_of forms.new.items ≡ map tree_of forms.old.items ++ parts.conditions_for (slice_get plant.now.routes r) (definitions.leads_at plant.now d x r)) }
+    ensures { OnOk result
+        (map tree_of forms.new.items
+        ≡ map tree_of forms.old.items
+        ++ parts.conditions_for (slice_get plant.now.routes r)
+        (definitions.leads_at plant.now d x r)) }
 {
     let route = plant.route(r);
     if runs_in(plant, d, route) {
@@ -208,7 +228,11 @@ fn push_leads_at(
 // No train in direction `d` has its head at section `x`, or some route leads it.
 fn is_led(alloc: Global, plant: &Plant, d: Dir, x: u32) -> Result<Form, AllocError>
     requires { x < length plant.now.sections }
-    ensures { IfOk result (λ form. tree_of form ≡ parts.some_of (negation (definitions.head_at plant.now d x) ∷ parts.of_each_route plant.now (definitions.leads_at plant.now d x))) }
+    ensures { IfOk result
+        (λ form. tree_of form
+        ≡ parts.some_of
+        (negation (definitions.head_at plant.now d x)
+        ∷ parts.of_each_route plant.now (definitions.leads_at plant.now d x))) }
 {
     let head = head_at(alloc, plant, d, x)?;
     let mut forms = Vec::new(alloc);
@@ -228,7 +252,9 @@ fn push_led_at(
     x: u32,
 ) -> Result<(), AllocError>
     requires { x < length plant.now.sections }
-    ensures { OnOk result (map tree_of forms.new.items ≡ map tree_of forms.old.items ++ definitions.led_at plant.now d x) }
+    ensures { OnOk result
+        (map tree_of forms.new.items
+        ≡ map tree_of forms.old.items ++ definitions.led_at plant.now d x) }
 {
     if is_plain(plant, d, x) {
         forms.push(is_led(alloc, plant, d, x)?)?;
@@ -239,7 +265,10 @@ fn push_led_at(
 // Adds V7 of section `x`.
 fn push_led(alloc: Global, forms: &mut Vec<Form>, plant: &Plant, x: u32) -> Result<(), AllocError>
     requires { x < length plant.now.sections }
-    ensures { OnOk result (map tree_of forms.new.items ≡ map tree_of forms.old.items ++ (definitions.led_at plant.now Up x ++ definitions.led_at plant.now Down x)) }
+    ensures { OnOk result
+        (map tree_of forms.new.items
+        ≡ map tree_of forms.old.items
+        ++ (definitions.led_at plant.now Up x ++ definitions.led_at plant.now Down x)) }
 {
     push_led_at(alloc, forms, plant, Dir::Up, x)?;
     push_led_at(alloc, forms, plant, Dir::Down, x)

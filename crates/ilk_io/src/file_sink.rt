@@ -56,7 +56,8 @@ impl<'a, R: Files> FileSink<'a, R> {
             WriteAppends (R.File.contents old) (R.File.contents new) result piece.now)) }
         // What the call that opens the file writes is one write on a file that was opened.
         ensures first { IfNone self.old.file (IfSome self.new.file (λ new.
-            (opened : R.File) × WriteAppends (R.File.contents opened) (R.File.contents new) result piece.now)) }
+            (opened : R.File) ×
+            WriteAppends (R.File.contents opened) (R.File.contents new) result piece.now)) }
     {
         if self.file.is_none() {
             self.file = File::create(self.rt, self.name.as_str()).ok();
@@ -86,7 +87,8 @@ impl<R: Files> Sink for FileSink<'_, R> {
             WriteAppends (R.File.contents old) (R.File.contents new) result piece.now)) }
         // What the call that opens the file writes is one write on a file that was opened.
         ensures first { IfNone self.old.file (IfSome self.new.file (λ new.
-            (opened : R.File) × WriteAppends (R.File.contents opened) (R.File.contents new) result piece.now)) }
+            (opened : R.File) ×
+            WriteAppends (R.File.contents opened) (R.File.contents new) result piece.now)) }
     {
         let answer = self.write_open(piece);
         if answer.is_err() {

@@ -53,7 +53,8 @@ impl<'a, R: Files> FileSource<'a, R> {
             ReadConsumes (R.File.remaining old) (R.File.remaining new) result into.new)) }
         // What the call that opens the file gives is one read of a file that was opened.
         ensures first { IfNone self.old.file (IfSome self.new.file (λ new.
-            (opened : R.File) × ReadConsumes (R.File.remaining opened) (R.File.remaining new) result into.new)) }
+            (opened : R.File) ×
+            ReadConsumes (R.File.remaining opened) (R.File.remaining new) result into.new)) }
     {
         if self.file.is_none() {
             self.file = File::open(self.rt, self.name.as_str()).ok();
@@ -82,7 +83,8 @@ impl<R: Files> Source for FileSource<'_, R> {
             ReadConsumes (R.File.remaining old) (R.File.remaining new) result into.new)) }
         // What the call that opens the file gives is one read of a file that was opened.
         ensures first { IfNone self.old.file (IfSome self.new.file (λ new.
-            (opened : R.File) × ReadConsumes (R.File.remaining opened) (R.File.remaining new) result into.new)) }
+            (opened : R.File) ×
+            ReadConsumes (R.File.remaining opened) (R.File.remaining new) result into.new)) }
     {
         let answer = self.read_open(into);
         if answer.is_err() {

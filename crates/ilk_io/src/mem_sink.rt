@@ -35,7 +35,13 @@ impl MemSink {
     /// Those calls of `write` fail whose numbers, from 1, stand in `fails`, and those that find no
     /// room for a piece that isn't empty.
     pub fn new(alloc: Global, room: u64, fails: Vec<u64>) -> Result<MemSink, AllocError>
-        ensures { IfOk result (λ s. s ≡ record { taken = []; room = room; plan = record { fails = fails.items; calls = 0; faults = 0 } }) }
+        ensures { IfOk result
+            (λ s. s
+            ≡ record {
+              taken = [];
+              room = room;
+              plan = record { fails = fails.items; calls = 0; faults = 0 };
+            }) }
     {
         let room = room as usize;
         Ok(MemSink {
@@ -61,7 +67,8 @@ impl Sink for MemSink {
     fn write(&mut self, piece: &[u8]) -> Result<usize, Failed>
         ensures within { IfOk result (λ n. n ≤ length piece.now) }
         ensures some { IfOk result (λ n. 0 < length piece.now → 0 < n) }
-        ensures taken { IfOk result (λ n. Adds (Some self.old.taken) (Some self.new.taken) (take n piece.now)) }
+        ensures taken { IfOk result
+            (λ n. Adds (Some self.old.taken) (Some self.new.taken) (take n piece.now)) }
         ensures kept { OnErr result (self.new.taken ≡ self.old.taken) }
         ensures failed { OnErr result (RoseByOne self.old.plan.faults self.new.plan.faults) }
         ensures unraised { OnOk result (self.new.plan.faults ≡ self.old.plan.faults) }

@@ -28,7 +28,11 @@ impl MemSource {
     /// A source that gives these bytes. Those calls of `read` fail whose numbers, from 1, stand in
     /// `fails`, and no other.
     pub fn new(bytes: Vec<u8>, fails: Vec<u64>) -> MemSource
-        ensures { result ≡ record { rest = bytes.items; plan = record { fails = fails.items; calls = 0; faults = 0 } } }
+        ensures { result
+            ≡ record {
+              rest = bytes.items;
+              plan = record { fails = fails.items; calls = 0; faults = 0 };
+            } }
     {
         MemSource {
             unread: Unread::new(bytes),
@@ -44,8 +48,10 @@ impl Source for MemSource {
 
     fn read(&mut self, into: &mut [u8]) -> Result<usize, Failed>
         ensures within { IfOk result (λ n. n ≤ length into.new) }
-        ensures taken { IfOk result (λ n. Takes (Some self.old.rest) (Some self.new.rest) (take n into.new)) }
-        ensures end { IfOk result (λ n. n ≡ 0 → 0 < length into.new → IsAtEnd (Some self.new.rest)) }
+        ensures taken { IfOk result
+            (λ n. Takes (Some self.old.rest) (Some self.new.rest) (take n into.new)) }
+        ensures end { IfOk result
+            (λ n. n ≡ 0 → 0 < length into.new → IsAtEnd (Some self.new.rest)) }
         ensures kept { OnErr result (self.new.rest ≡ self.old.rest) }
         ensures failed { OnErr result (RoseByOne self.old.plan.faults self.new.plan.faults) }
         ensures unraised { OnOk result (self.new.plan.faults ≡ self.old.plan.faults) }

@@ -34,7 +34,8 @@ pub fn read_all<S: Source>(alloc: Global, source: &mut S, limit: u64) -> Result<
     ensures whole { IfOk result (λ v. IsWhole (S.left source.old) v.items) }
     ensures end { IfOk result (λ _. IsAtEnd (S.left source.new)) }
     ensures within { IfOk result (λ v. vec_len v ≤ limit) }
-    ensures cause { IfErr result (λ e. HasCause e limit (S.left source.old) (S.faults source.old) (S.faults source.new)) }
+    ensures cause { IfErr result
+        (λ e. HasCause e limit (S.left source.old) (S.faults source.old) (S.faults source.new)) }
     ensures taken { TakesAtMost (limit + 1) (S.left source.old) (S.left source.new) }
     ensures unraised { result ≢ Err ReadError.Failed → S.faults source.new ≡ S.faults source.old }
     ensures counted { S.faults source.old ≤ S.faults source.new }

@@ -50,10 +50,13 @@ fn write_all(values: &mut Values, sets: &Sets)
 pub fn fire(system: &System, values: &mut Values, rule: u32) -> bool
     requires { rule < length system.now.rules }
     ensures fires { result ≡ is_some (fired_at (system_tree system.now) rule values.old) }
-    ensures values { values.new ≡ unwrap_or (fired_at (system_tree system.now) rule values.old) values.old }
+    ensures values { values.new
+        ≡ unwrap_or (fired_at (system_tree system.now) rule values.old) values.old }
 
     // Of a valid system, values in range stay in range.
-    ensures in_ranges { IsTrue (system_valid (system_tree system.now)) → IsTrue (in_ranges values.old system.now.ranges) → IsTrue (in_ranges values.new system.now.ranges) }
+    ensures in_ranges { IsTrue (system_valid (system_tree system.now)) →
+        IsTrue (in_ranges values.old system.now.ranges) →
+        IsTrue (in_ranges values.new system.now.ranges) }
 {
     let rule = system.rules.at(u64::from(rule));
     if !holds(&rule.guard, values) {

@@ -178,7 +178,10 @@ module _ (p : PlantLists) (plant : IsPlant p) (never : NeverReturns p) (s : Stat
             | inr e ↦ ap Some (only-one y minus e)
           ]
 
-      facing : (stem plus minus : ℕ) (faces d : Dir) (lie : Option Lie) → slice_get p.sections x ≡ Some (Point stem plus minus faces) → lie_of p s x ≡ lie → has_section y (beside (Point stem plus minus faces) d) ≡ true → leads_to (Point stem plus minus faces) d lie ≡ Some y
+      facing : (stem plus minus : ℕ) (faces d : Dir) (lie : Option Lie) →
+          slice_get p.sections x ≡ Some (Point stem plus minus faces) → lie_of p s x ≡ lie →
+          has_section y (beside (Point stem plus minus faces) d) ≡ true →
+          leads_to (Point stem plus minus faces) d lie ≡ Some y
       facing stem plus minus Up Up lie e f h =
           let known = lie-known x stem plus minus Up e in
           let none = not_strays i t x stem plus minus Up at e in
@@ -202,7 +205,10 @@ module _ (p : PlantLists) (plant : IsPlant p) (never : NeverReturns p) (s : Stat
       let body = body-of i t at in
       let beside_it = body-beside p t k x y body here next in
       let pairs = pair-of t.body k x y here next in
-      joined-from p (lie_of p s) x y t.dir (led-on i t x y t.dir at (body-known p t k x plant body here) beside_it pairs.0) (led-on i t y x (opposite_direction t.dir) at (body-known p t (suc k) y plant body next) (back-opposite p plant x y t.dir beside_it) pairs.1)
+      joined-from p (lie_of p s) x y t.dir
+      (led-on i t x y t.dir at (body-known p t k x plant body here) beside_it pairs.0)
+      (led-on i t y x (opposite_direction t.dir) at (body-known p t (suc k) y plant body next)
+      (back-opposite p plant x y t.dir beside_it) pairs.1)
 
   -- no point under a train moves
   pub not_moving : (i k x : ℕ) (t : Train) → slice_get s.trains i ≡ Some t → slice_get t.body k ≡ Some x → not (is_some_and (lie_of p s x) is_moving) ≡ true

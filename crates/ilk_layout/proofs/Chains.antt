@@ -107,7 +107,12 @@ module _ (n : ℕ) (On : ℕ → Type 0) (f b : ℕ → Option ℕ) (g : GoesBac
   searched zero x on = inr ([], tt, refl)
   searched (suc k) x on = by_before (searched k) (b x) refl
     where
-      by_before : ((y : ℕ) → On y → ((a : ℕ) × (i : ℕ) × On a × (b a ≡ None) × (slice_get (a ∷ chase n f a) i ≡ Some y)) ⊎ ((walk : List ℕ) × IsWalk b y walk × (length walk ≡ k))) → (o : Option ℕ) → b x ≡ o → ((a : ℕ) × (i : ℕ) × On a × (b a ≡ None) × (slice_get (a ∷ chase n f a) i ≡ Some x)) ⊎ ((walk : List ℕ) × IsWalk b x walk × (length walk ≡ suc k))
+      by_before :
+          ((y : ℕ) → On y →
+          ((a : ℕ) × (i : ℕ) × On a × (b a ≡ None) × (slice_get (a ∷ chase n f a) i ≡ Some y))
+          ⊎ ((walk : List ℕ) × IsWalk b y walk × (length walk ≡ k))) → (o : Option ℕ) → b x ≡ o →
+          ((a : ℕ) × (i : ℕ) × On a × (b a ≡ None) × (slice_get (a ∷ chase n f a) i ≡ Some x))
+          ⊎ ((walk : List ℕ) × IsWalk b x walk × (length walk ≡ suc k))
       by_before ih None e = inl (x, zero, on, e, refl)
       by_before ih (Some y) e =
           elim (ih y (g.on_back x y on e)) [

@@ -53,7 +53,11 @@ legs-differ p plant x stem plus minus Down at =
     (λ e. absurd (let one = places 0 1 minus (ap Some e) refl in omega arith), λ e. absurd (let one = places 2 1 minus (ap Some e) refl in omega arith), λ e. absurd (let one = places 2 0 plus (ap Some e) refl in omega arith))
 
 -- a point leads to no leg at which it doesn't lie
-pub other-leg : (p : PlantLists) → IsPlant p → (lie : ℕ → Option Lie) (x stem plus minus : ℕ) (faces d : Dir) → slice_get p.sections x ≡ Some (Point stem plus minus faces) → ((lie x ≡ Some Plus) → ahead_by p lie x d ≡ Some minus → ⊥) × ((lie x ≡ Some Minus) → ahead_by p lie x d ≡ Some plus → ⊥)
+pub other-leg : (p : PlantLists) → IsPlant p →
+    (lie : ℕ → Option Lie) (x stem plus minus : ℕ) (faces d : Dir) →
+    slice_get p.sections x ≡ Some (Point stem plus minus faces) →
+    ((lie x ≡ Some Plus) → ahead_by p lie x d ≡ Some minus → ⊥) ×
+    ((lie x ≡ Some Minus) → ahead_by p lie x d ≡ Some plus → ⊥)
 other-leg p plant lie x stem plus minus faces d at =
     let apart = legs-differ p plant x stem plus minus faces at in
     (λ l e. plus-only faces d (lie x) l apart (ap (option_and_then (λ section. leads_to section d (lie x))) (sym at) ∙ e), λ l e. minus-only faces d (lie x) l apart (ap (option_and_then (λ section. leads_to section d (lie x))) (sym at) ∙ e))
@@ -81,7 +85,10 @@ module _ (p : PlantLists) (plant : IsPlant p) (never : NeverReturns p) (lie : �
   whole x d t h within is = chased (length p.sections) (IsTaken p occupancy) (onward p lie occupancy) _ (tracks p plant never lie occupancy fits) x (record { dir = d; tail = t; head = h; within = within; is = is })
 
   -- along a chain the direction stays
-  along : (a : ℕ) (rest : List ℕ) (d : Dir) (t h : Bool) → a < length p.sections → occupancy a ≡ Some (Taken d t h) → IsChain (onward p lie occupancy) a rest → (k y : ℕ) → slice_get (a ∷ rest) k ≡ Some y → (u : Bool) × (v : Bool) × (y < length p.sections) × (occupancy y ≡ Some (Taken d u v))
+  along : (a : ℕ) (rest : List ℕ) (d : Dir) (t h : Bool) → a < length p.sections →
+      occupancy a ≡ Some (Taken d t h) → IsChain (onward p lie occupancy) a rest → (k y : ℕ) →
+      slice_get (a ∷ rest) k ≡ Some y →
+      (u : Bool) × (v : Bool) × (y < length p.sections) × (occupancy y ≡ Some (Taken d u v))
   along a rest d t h within is c zero y at =
       let same : a ≡ y = same_Some a y at in
       (t, h, subst (λ v. v < length p.sections) same within, ap occupancy (sym same) ∙ is)
@@ -92,7 +99,9 @@ module _ (p : PlantLists) (plant : IsPlant p) (never : NeverReturns p) (lie : �
       along b rest d false step.2 step.5 (step.7 ∙ ap (λ v. Some (Taken v false step.2)) same) c.1 k y at
 
   -- and the places of a chain from a tail are the tail's and the head's
-  at-place : (a : ℕ) (rest : List ℕ) (d : Dir) (h : Bool) → a < length p.sections → occupancy a ≡ Some (Taken d true h) → IsChain (onward p lie occupancy) a rest → (k y : ℕ) → slice_get (a ∷ rest) k ≡ Some y → occupancy y ≡ Some (Taken d (k == 0) (k + 1 == length (a ∷ rest)))
+  at-place : (a : ℕ) (rest : List ℕ) (d : Dir) (h : Bool) → a < length p.sections →
+      occupancy a ≡ Some (Taken d true h) → IsChain (onward p lie occupancy) a rest → (k y : ℕ) →
+      slice_get (a ∷ rest) k ≡ Some y → occupancy y ≡ Some (Taken d (k == 0) (k + 1 == length (a ∷ rest)))
   at-place a rest d h within is c k y at =
       let there = along a rest d true h within is c k y at in
       there.3 ∙ ap (λ u. Some (Taken d u there.1)) (tail-bit k at there.0 there.1 there.3) ∙ ap (λ v. Some (Taken d (k == 0) v)) (head-bit there.1 there.0 there.2 there.3 (k + 1 == length (a ∷ rest)) refl)
@@ -124,7 +133,10 @@ module _ (p : PlantLists) (plant : IsPlant p) (never : NeverReturns p) (lie : �
           (same_taken (sym there ∙ is_on.2)).2
 
   module _ (s : State) (lies : (x : ℕ) → lie_of p s x ≡ lie x) (trains : s.trains ≡ trains_of p lie occupancy) (others : HasShape p (record s { trains = [] })) where
-    made-at : (i : ℕ) (u : Train) → slice_get s.trains i ≡ Some u → (a : ℕ) × (d : Dir) × (h : Bool) × (a < length p.sections) × (occupancy a ≡ Some (Taken d true h)) × (record { dir = d; body = a ∷ rest-of a } ≡ u) × (train_from p lie occupancy a (occupancy a) ≡ Some u)
+    made-at : (i : ℕ) (u : Train) → slice_get s.trains i ≡ Some u →
+        (a : ℕ) × (d : Dir) × (h : Bool) × (a < length p.sections) × (occupancy a ≡ Some (Taken d true h)) ×
+        (record { dir = d; body = a ∷ rest-of a } ≡ u) ×
+        (train_from p lie occupancy a (occupancy a) ≡ Some u)
     made-at i u at =
         let from = filter_map-at (λ x. train_from p lie occupancy x (occupancy x)) (range_with_len 0 (length p.sections)) i u (ap (λ ts. slice_get ts i) (sym trains) ∙ at) in
         let place = range_within (length p.sections) from.0 from.1 from.2 in
@@ -159,7 +171,12 @@ module _ (p : PlantLists) (plant : IsPlant p) (never : NeverReturns p) (lie : �
         let tail-first : (a : ℕ) (d : Dir) (h : Bool) → occupancy a ≡ Some (Taken d true h) → backward p lie occupancy a ≡ None = λ a d h is. ap (backward_from p lie a) is in
         let taken : (a : ℕ) (d : Dir) (h : Bool) → a < length p.sections → occupancy a ≡ Some (Taken d true h) → IsTaken p occupancy a = λ a d h within is. record { dir = d; tail = true; head = h; within = within; is = is } in
         let same : m.0 ≡ l.0 =
-        one_first (length p.sections) (IsTaken p occupancy) (onward p lie occupancy) (backward p lie occupancy) (tracks p plant never lie occupancy fits) m.0 l.0 (rest-of m.0) (rest-of l.0) (taken m.0 m.1 m.2 m.3 m.4) (taken l.0 l.1 l.2 l.3 l.4) (whole m.0 m.1 true m.2 m.3 m.4) (whole l.0 l.1 true l.2 l.3 l.4) (tail-first m.0 m.1 m.2 m.4) (tail-first l.0 l.1 l.2 l.4) pu.0 pv.0 y (ap (λ (t : Train). slice_get t.body pu.0) m.5 ∙ pu.1) (ap (λ (t : Train). slice_get t.body pv.0) l.5 ∙ pv.1) in
+        one_first (length p.sections) (IsTaken p occupancy) (onward p lie occupancy)
+        (backward p lie occupancy) (tracks p plant never lie occupancy fits) m.0 l.0 (rest-of m.0)
+        (rest-of l.0) (taken m.0 m.1 m.2 m.3 m.4) (taken l.0 l.1 l.2 l.3 l.4)
+        (whole m.0 m.1 true m.2 m.3 m.4) (whole l.0 l.1 true l.2 l.3 l.4) (tail-first m.0 m.1 m.2 m.4)
+        (tail-first l.0 l.1 l.2 l.4) pu.0 pv.0 y (ap (λ (t : Train). slice_get t.body pu.0) m.5 ∙ pu.1)
+        (ap (λ (t : Train). slice_get t.body pv.0) l.5 ∙ pv.1) in
         let one : v ≡ u = same_Some v u (sym l.6 ∙ ap (λ a. train_from p lie occupancy a (occupancy a)) (sym same) ∙ m.6) in
         trains-once p lie occupancy i j u (ap (λ ts. slice_get ts i) (sym trains) ∙ at) (ap (λ ts. slice_get ts j) (sym trains) ∙ also ∙ ap Some one)
 
@@ -203,7 +220,10 @@ module _ (p : PlantLists) (plant : IsPlant p) (never : NeverReturns p) (lie : �
         by_section None e = rw e refl
         by_section (Some (Linear down up b c)) e = rw e refl
         by_section (Some (Point stem plus minus faces)) e =
-            let right : list_any (λ (train : Train). strays x plus minus (lie_of p s x) train.body) s.trains ≡ false = none-pass (λ (train : Train). strays x plus minus (lie_of p s x) train.body) s.trains (λ i u at. made-right i u x stem plus minus faces at e (lie_of p s x) (sym (lies x))) in
+            let right : list_any (λ (train : Train). strays x plus minus (lie_of p s x) train.body) s.trains
+            ≡ false =
+            none-pass (λ (train : Train). strays x plus minus (lie_of p s x) train.body) s.trains
+            (λ i u at. made-right i u x stem plus minus faces at e (lie_of p s x) (sym (lies x))) in
             rw e right
 
     pub made-calm : hazard p s ≡ None
@@ -230,7 +250,10 @@ module _ (p : PlantLists) (plant : IsPlant p) (never : NeverReturns p) (lie : �
             let first = first_of (length p.sections) (IsTaken p occupancy) (onward p lie occupancy) (backward p lie occupancy) (tracks p plant never lie occupancy fits) x (record { dir = d; tail = t; head = head; within = within; is = is }) in
             let on_first = first.2 in
             let tail : on_first.tail ≡ true = tail-of on_first.tail first.0 on_first refl first.3 in
-            let begins : train_from p lie occupancy first.0 (occupancy first.0) ≡ Some (record { dir = on_first.dir; body = first.0 ∷ rest-of first.0 }) = ap (train_from p lie occupancy first.0) (on_first.is ∙ ap (λ b. Some (Taken on_first.dir b on_first.head)) tail) in
+            let begins : train_from p lie occupancy first.0 (occupancy first.0)
+            ≡ Some (record { dir = on_first.dir; body = first.0 ∷ rest-of first.0 }) =
+            ap (train_from p lie occupancy first.0)
+            (on_first.is ∙ ap (λ b. Some (Taken on_first.dir b on_first.head)) tail) in
             let placed = filter_map-of (λ v. train_from p lie occupancy v (occupancy v)) (range_with_len 0 (length p.sections)) first.0 first.0 _ (range-at (length p.sections) first.0 on_first.within) begins in
             let at : slice_get s.trains placed.0 ≡ Some (record { dir = on_first.dir; body = first.0 ∷ rest-of first.0 }) = ap (λ ts. slice_get ts placed.0) trains ∙ placed.1 in
             let u : Train = record { dir = on_first.dir; body = first.0 ∷ rest-of first.0 } in

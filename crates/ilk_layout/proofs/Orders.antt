@@ -73,7 +73,11 @@ pub filter_map-at : {X Y : Type 0} (f : X → Option Y) (xs : List X) (i : ℕ) 
 filter_map-at f [] i y at = cc
 filter_map-at {X} {Y} f (z ∷ xs) i y at = by_value (filter_map-at f xs) (f z) refl i at
   where
-    by_value : ((k : ℕ) (v : Y) → slice_get (filter_map f xs) k ≡ Some v → (j : ℕ) × (x : X) × (slice_get xs j ≡ Some x) × (f x ≡ Some v)) → (o : Option Y) → f z ≡ o → (k : ℕ) → slice_get (filter_map f (z ∷ xs)) k ≡ Some y → (j : ℕ) × (x : X) × (slice_get (z ∷ xs) j ≡ Some x) × (f x ≡ Some y)
+    by_value :
+        ((k : ℕ) (v : Y) → slice_get (filter_map f xs) k ≡ Some v →
+        (j : ℕ) × (x : X) × (slice_get xs j ≡ Some x) × (f x ≡ Some v)) → (o : Option Y) → f z ≡ o →
+        (k : ℕ) → slice_get (filter_map f (z ∷ xs)) k ≡ Some y →
+        (j : ℕ) × (x : X) × (slice_get (z ∷ xs) j ≡ Some x) × (f x ≡ Some y)
     by_value ih None e k here = (let rest : slice_get (filter_map f xs) k ≡ Some y = rw e at here in let found = ih k y rest in (suc found.0, found.1, found.2, found.3))
     by_value ih (Some v) e zero here = (let same : Some v ≡ Some y = rw e at here in (zero, z, refl, e ∙ same))
     by_value ih (Some v) e (suc k) here = (let rest : slice_get (filter_map f xs) k ≡ Some y = rw e at here in let found = ih k y rest in (suc found.0, found.1, found.2, found.3))

@@ -68,7 +68,12 @@ distinct (x ∷ xs) once =
 -- different numbers below n are at most n
 few-below : (xs : List ℕ) (n : ℕ) → EachOnce xs → ((i x : ℕ) → slice_get xs i ≡ Some x → x < n) → length xs ≤ n
 few-below xs n once below =
-    length-le_from_distinct_below xs n (distinct xs once) (λ q h. (let found : (k : ℕ) × (y : ℕ) × (slice_get xs k ≡ Some y) × (eqb q y ≡ true) = list_any-at (eqb q) xs h in let same = eqb-true q found.1 found.3 in let less = below found.0 found.1 found.2 in omega arith))
+    length-le_from_distinct_below xs n (distinct xs once)
+    (λ q h.
+    (let found : (k : ℕ) × (y : ℕ) × (slice_get xs k ≡ Some y) × (eqb q y ≡ true) = list_any-at
+    (eqb q) xs h in
+    let same = eqb-true q found.1 found.3 in let less = below found.0 found.1 found.2 in
+    omega arith))
 
 -- a walk has fewer steps than there are sections
 pub walk-short : (p : PlantLists) → IsPlant p → NeverReturns p → (d : Dir) (x : ℕ) (walk : List ℕ) → x < length p.sections → leads_on p d x walk ≡ true → length walk < length p.sections

@@ -174,7 +174,11 @@ module _ (p : PlantLists) (plant : IsPlant p) (never : NeverReturns p) where
       (λ i. rs.1 i ++ (qs.1 i ++ (bs.1 i ++ (ls.1 i ++ e)))) ∙ sym (one.2 ∙ ap (λ u. one.0 ++ u) (two.2 ∙ ap (λ u. two.0 ++ u) (three.2 ∙ ap (λ u. three.0 ++ u) four.2))) in
       let others : HasShape p (record s { trains = [] }) = record { routes = rs.2; points = qs.2; boards = bs.2; locks = ls.2; counts = rs.3; bodies = refl } in
       let lies : (x : ℕ) → lie_of p s x ≡ lie_by p values x = λ x. sym (lie-read p (record s { trains = [] }) e others x) ∙ ap (λ v. lie_by p v x) whole in
-      let each : (x : ℕ) → x < length p.sections → section_fits p (lie_by p values) (occupancy_by p values) x (occupancy_by p values x) ≡ true = λ x within. list_all-slice_get (λ y. section_fits p (lie_by p values) (occupancy_by p values) y (occupancy_by p values y)) (range_with_len 0 (length p.sections)) x x fits (range-at (length p.sections) x within) in
+      let each : (x : ℕ) → x < length p.sections →
+      section_fits p (lie_by p values) (occupancy_by p values) x (occupancy_by p values x) ≡ true =
+      λ x within. list_all-slice_get
+      (λ y. section_fits p (lie_by p values) (occupancy_by p values) y (occupancy_by p values y))
+      (range_with_len 0 (length p.sections)) x x fits (range-at (length p.sections) x within) in
       let shape : HasShape p s = made-shape p plant never (lie_by p values) (occupancy_by p values) each s lies refl others in
       let no_hazard = made-calm p plant never (lie_by p values) (occupancy_by p values) each s lies refl others in
       let long : length e ≡ length p.sections = in_ranges-length e (replicate (length p.sections) 10) four.4 ∙ length-replicate (length p.sections) 10 in
@@ -185,7 +189,10 @@ module _ (p : PlantLists) (plant : IsPlant p) (never : NeverReturns p) where
       read-back : (v : ℕ) (o : Occupancy) → occupancy_of_value v ≡ Some o → occupancy_value o ≡ v
       read-back v o g = let found = find-at (λ a. occupancy_value a == v) all_occupancies o g in eqb-true (occupancy_value o) v found.2
 
-      occupancy-same : (s : State) (e : List ℕ) → length e ≡ length p.sections → (x : ℕ) → (x < length p.sections → occupancy_by p (image_with s e) x ≡ Some (occupancy_of p s x)) → slice_get (image_with s e) (occupancy_var p x) ≡ slice_get e x → slice_get (occupancy_values p s) x ≡ slice_get e x
+      occupancy-same : (s : State) (e : List ℕ) → length e ≡ length p.sections → (x : ℕ) →
+          (x < length p.sections → occupancy_by p (image_with s e) x ≡ Some (occupancy_of p s x)) →
+          slice_get (image_with s e) (occupancy_var p x) ≡ slice_get e x →
+          slice_get (occupancy_values p s) x ≡ slice_get e x
       occupancy-same s e long x made at =
           slice_get-map (λ y. occupancy_value (occupancy_of p s y)) (range_with_len 0 (length p.sections)) x
           ∙ elim (below_or_past x (length p.sections)) [
@@ -246,10 +253,25 @@ pub image-in_ranges : (p : PlantLists) (s : State) → HasShape p s → in_range
 image-in_ranges p s shape =
     let e = list-in_ranges (λ x. occupancy_value (occupancy_of p s x)) 10 (λ x. occupancy-below (occupancy_of p s x)) (range_with_len 0 (length p.sections)) (length p.sections) (length-range_with_len 0 (length p.sections)) in
     let d = joined (map hold_value s.locks) (occupancy_values p s) (replicate (length p.sections) 3) (replicate (length p.sections) 10) (list-in_ranges hold_value 3 hold-below s.locks (length p.sections) shape.locks) e in
-    let c = joined (map aspect_value s.boards) (map hold_value s.locks ++ occupancy_values p s) (replicate (length p.boards) 2) (replicate (length p.sections) 3 ++ replicate (length p.sections) 10) (list-in_ranges aspect_value 2 aspect-below s.boards (length p.boards) shape.boards) d in
+    let c = joined (map aspect_value s.boards) (map hold_value s.locks ++ occupancy_values p s)
+    (replicate (length p.boards) 2) (replicate (length p.sections) 3 ++ replicate (length p.sections) 10)
+    (list-in_ranges aspect_value 2 aspect-below s.boards (length p.boards) shape.boards) d in
     let b =
-    joined (flat_map point_values s.points) (map aspect_value s.boards ++ (map hold_value s.locks ++ occupancy_values p s)) (points_ranges (point_count p)) (replicate (length p.boards) 2 ++ (replicate (length p.sections) 3 ++ replicate (length p.sections) 10)) (point-in_ranges s.points (point_count p) shape.points) c in
-    joined (flat_map route_values s.routes) (flat_map point_values s.points ++ (map aspect_value s.boards ++ (map hold_value s.locks ++ occupancy_values p s))) (flat_map route_ranges p.routes) (points_ranges (point_count p) ++ (replicate (length p.boards) 2 ++ (replicate (length p.sections) 3 ++ replicate (length p.sections) 10))) (route-in_ranges p.routes s.routes shape.routes shape.counts) b
+    joined (flat_map point_values s.points)
+    (map aspect_value s.boards ++ (map hold_value s.locks ++ occupancy_values p s))
+    (points_ranges (point_count p))
+    (replicate (length p.boards) 2
+    ++ (replicate (length p.sections) 3 ++ replicate (length p.sections) 10))
+    (point-in_ranges s.points (point_count p) shape.points) c in
+    joined (flat_map route_values s.routes)
+    (flat_map point_values s.points
+    ++ (map aspect_value s.boards ++ (map hold_value s.locks ++ occupancy_values p s)))
+    (flat_map route_ranges p.routes)
+    (points_ranges (point_count p)
+    ++
+    (replicate (length p.boards) 2
+    ++ (replicate (length p.sections) 3 ++ replicate (length p.sections) 10)))
+    (route-in_ranges p.routes s.routes shape.routes shape.counts) b
   where
     aspect-below : (a : Aspect) → nat_lt (aspect_value a) 2 ≡ true
     aspect-below Open = refl

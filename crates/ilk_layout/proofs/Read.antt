@@ -182,7 +182,10 @@ lie-read p s e shape x = by_number (point_number p x) refl
 -- and the occupancies
 pub occupancy-read : (p : PlantLists) (s : State) → HasShape p s → (x : ℕ) → x < length p.sections → occupancy_by p (image_of p s) x ≡ Some (occupancy_of p s x)
 occupancy-read p s shape x within =
-    let at : slice_get (occupancy_values p s) x ≡ Some (occupancy_value (occupancy_of p s x)) = slice_get-map (λ y. occupancy_value (occupancy_of p s y)) (range_with_len 0 (length p.sections)) x ∙ ap (option_map (λ y. occupancy_value (occupancy_of p s y))) (range-at (length p.sections) x within) in
+    let at : slice_get (occupancy_values p s) x ≡ Some (occupancy_value (occupancy_of p s x)) =
+    slice_get-map (λ y. occupancy_value (occupancy_of p s y)) (range_with_len 0 (length p.sections)) x
+    ∙ ap (option_map (λ y. occupancy_value (occupancy_of p s y))) (range-at (length p.sections) x within)
+    in
     ap (λ o. o >>= λ value. occupancy_of_value value) (occupancy-at p s (occupancy_values p s) shape x ∙ at) ∙ occupancy-back (occupancy_of p s x)
 
 -- a state's trains are those that its image stands for, in some order

@@ -57,7 +57,11 @@ gone_same p s train g h y same None = refl
 gone_same p s train g h y same (Some u) = rw same refl
 
 -- one more gone through
-pub gone_on : (p : PlantLists) (s : State) (train : Train) (i x : ℕ) (u : Occupancy) (before now : List Occupancy) → EachOnce train.body → slice_get train.body i ≡ Some x → slice_get now x ≡ Some u → AreWithTrainOn p s train (take i train.body) before now → AreWithTrainOn p s train (take (i + 1) train.body) before (set now x (after_taking p s train x i u))
+pub gone_on :
+    (p : PlantLists) (s : State) (train : Train) (i x : ℕ) (u : Occupancy) (before now : List Occupancy) →
+    EachOnce train.body → slice_get train.body i ≡ Some x → slice_get now x ≡ Some u →
+    AreWithTrainOn p s train (take i train.body) before now →
+    AreWithTrainOn p s train (take (i + 1) train.body) before (set now x (after_taking p s train x i u))
 gone_on p s train i x u before now once at here with_front y =
     elim (cases_eq x y) [
       | inl same ↦
@@ -93,7 +97,10 @@ gone_on p s train i x u before now once at here with_front y =
         rw (has, first, last, wrong) (ap (λ v. Some (after_taking p s train x i v)) same)
 
 -- the occupancies with one more train
-pub train_added : (p : PlantLists) (s : State) (ts : List Train) (t : Train) (before now : List Occupancy) → before ≡ map (occupancy_of p (with_trains s ts)) (range_with_len 0 (length p.sections)) → AreWithTrainOn p s t t.body before now → now ≡ map (occupancy_of p (with_trains s (ts ++ t ∷ []))) (range_with_len 0 (length p.sections))
+pub train_added : (p : PlantLists) (s : State) (ts : List Train) (t : Train) (before now : List Occupancy) →
+    before ≡ map (occupancy_of p (with_trains s ts)) (range_with_len 0 (length p.sections)) →
+    AreWithTrainOn p s t t.body before now →
+    now ≡ map (occupancy_of p (with_trains s (ts ++ t ∷ []))) (range_with_len 0 (length p.sections))
 train_added p s ts t before now is added = same_by_slice_get now (map (occupancy_of p (with_trains s (ts ++ t ∷ []))) (range_with_len 0 (length p.sections))) at
   where
     f : ℕ → Occupancy
@@ -105,9 +112,22 @@ train_added p s ts t before now is added = same_by_slice_get now (map (occupancy
         ∙ ap (option_map (with_train_on p s t t.body x)) (slice_get-map (occupancy_of p (with_trains s ts)) (range_with_len 0 (length p.sections)) x)
         ∙ elim (below_or_past x (length p.sections)) [
           | inl below ↦ (let number = range-at (length p.sections) x below in
-              ap (λ o. option_map (with_train_on p s t t.body x) (option_map (occupancy_of p (with_trains s ts)) o)) number ∙ ap Some (sym (occupancy-more p s ts t x)) ∙ sym (slice_get-map (occupancy_of p (with_trains s (ts ++ t ∷ []))) (range_with_len 0 (length p.sections)) x ∙ ap (option_map (occupancy_of p (with_trains s (ts ++ t ∷ [])))) number))
+              ap
+              (λ o. option_map (with_train_on p s t t.body x)
+              (option_map (occupancy_of p (with_trains s ts)) o)) number
+              ∙ ap Some (sym (occupancy-more p s ts t x))
+              ∙ sym
+              (slice_get-map (occupancy_of p (with_trains s (ts ++ t ∷ [])))
+              (range_with_len 0 (length p.sections)) x
+              ∙ ap (option_map (occupancy_of p (with_trains s (ts ++ t ∷ [])))) number))
           | inr past ↦ (let none : slice_get (range_with_len 0 (length p.sections)) x ≡ None = slice_get_past (range_with_len 0 (length p.sections)) x (let long = length-range_with_len 0 (length p.sections) in omega arith) in
-              ap (λ o. option_map (with_train_on p s t t.body x) (option_map (occupancy_of p (with_trains s ts)) o)) none ∙ sym (slice_get-map (occupancy_of p (with_trains s (ts ++ t ∷ []))) (range_with_len 0 (length p.sections)) x ∙ ap (option_map (occupancy_of p (with_trains s (ts ++ t ∷ [])))) none))
+              ap
+              (λ o. option_map (with_train_on p s t t.body x)
+              (option_map (occupancy_of p (with_trains s ts)) o)) none
+              ∙ sym
+              (slice_get-map (occupancy_of p (with_trains s (ts ++ t ∷ [])))
+              (range_with_len 0 (length p.sections)) x
+              ∙ ap (option_map (occupancy_of p (with_trains s (ts ++ t ∷ [])))) none))
         ]
 
 -- the section at a place of a body
@@ -121,7 +141,13 @@ section_known p train i items plant h is within =
     let P : List ℕ → Type 0 = λ l. get_or l i 0 < length p.sections in
     subst P is (section_at p train i items plant h is within).0
 
-pub put_on : (p : PlantLists) (s : State) (train : Train) (i : ℕ) (items : List ℕ) (u v : Occupancy) (before now : List Occupancy) → IsPlant p → NeverReturns p → is_body p train ≡ true → items ≡ train.body → i < length items → slice_get now (get_or items i 0) ≡ Some u → v ≡ after_taking p s train (get_or train.body i 0) i u → AreWithTrainOn p s train (take i train.body) before now → AreWithTrainOn p s train (take (i + 1) train.body) before (set now (get_or items i 0) v)
+pub put_on :
+    (p : PlantLists) (s : State) (train : Train) (i : ℕ) (items : List ℕ) (u v : Occupancy)
+    (before now : List Occupancy) → IsPlant p → NeverReturns p →
+    is_body p train ≡ true → items ≡ train.body → i < length items →
+    slice_get now (get_or items i 0) ≡ Some u → v ≡ after_taking p s train (get_or train.body i 0) i u →
+    AreWithTrainOn p s train (take i train.body) before now →
+    AreWithTrainOn p s train (take (i + 1) train.body) before (set now (get_or items i 0) v)
 put_on p s train i items u v before now plant never h is within here after with_front =
     let x = get_or items i 0 in
     let at : slice_get train.body i ≡ Some x = (section_at p train i items plant h is within).1 in
@@ -130,17 +156,27 @@ put_on p s train i items u v before now plant never h is within here after with_
     subst P (sym same) (gone_on p s train i x u before now (body-once p train never h) at here with_front)
 
 -- the next of the trains
-pub next_added : (p : PlantLists) (s : State) (trains : List Train) (i : ℕ) (t : Train) (before now : List Occupancy) → i < length trains → t ≡ get_or trains i t → before ≡ map (occupancy_of p (with_trains s (take i trains))) (range_with_len 0 (length p.sections)) → AreWithTrainOn p s t t.body before now → now ≡ map (occupancy_of p (with_trains s (take (i + 1) trains))) (range_with_len 0 (length p.sections))
+pub next_added :
+    (p : PlantLists) (s : State) (trains : List Train) (i : ℕ) (t : Train) (before now : List Occupancy) →
+    i < length trains → t ≡ get_or trains i t →
+    before ≡ map (occupancy_of p (with_trains s (take i trains))) (range_with_len 0 (length p.sections)) →
+    AreWithTrainOn p s t t.body before now →
+    now ≡ map (occupancy_of p (with_trains s (take (i + 1) trains))) (range_with_len 0 (length p.sections))
 next_added p s trains i t before now within at is added =
     let front : take (i + 1) trains ≡ take i trains ++ t ∷ [] = take_more trains i t within ∙ ap (λ u. take i trains ++ u ∷ []) (sym at) in
     train_added p s (take i trains) t before now is added ∙ ap (λ ts. map (occupancy_of p (with_trains s ts)) (range_with_len 0 (length p.sections))) (sym front)
 
-pub all_added : (p : PlantLists) (s : State) (trains : List Train) (i : ℕ) (now : List Occupancy) → length trains ≤ i → trains ≡ s.trains → now ≡ map (occupancy_of p (with_trains s (take i trains))) (range_with_len 0 (length p.sections)) → now ≡ map (occupancy_of p s) (range_with_len 0 (length p.sections))
+pub all_added : (p : PlantLists) (s : State) (trains : List Train) (i : ℕ) (now : List Occupancy) →
+    length trains ≤ i → trains ≡ s.trains →
+    now ≡ map (occupancy_of p (with_trains s (take i trains))) (range_with_len 0 (length p.sections)) →
+    now ≡ map (occupancy_of p s) (range_with_len 0 (length p.sections))
 all_added p s trains i now past is made =
     made ∙ ap (λ ts. map (occupancy_of p (with_trains s ts)) (range_with_len 0 (length p.sections))) (take_all i trains past ∙ is)
 
 -- without trains all sections are vacant
-pub none_added : (p : PlantLists) (s : State) (trains : List Train) (n : ℕ) (made : List Occupancy) → n ≡ length p.sections → made ≡ replicate n Vacant → made ≡ map (occupancy_of p (with_trains s (take 0 trains))) (range_with_len 0 (length p.sections))
+pub none_added : (p : PlantLists) (s : State) (trains : List Train) (n : ℕ) (made : List Occupancy) →
+    n ≡ length p.sections → made ≡ replicate n Vacant →
+    made ≡ map (occupancy_of p (with_trains s (take 0 trains))) (range_with_len 0 (length p.sections))
 none_added p s trains n made is e =
     e ∙ ap (λ k. replicate k Vacant) is ∙ all 0 (length p.sections)
     ∙ ap (λ ts. map (occupancy_of p (with_trains s ts)) (range_with_len 0 (length p.sections))) (sym (take_none trains))

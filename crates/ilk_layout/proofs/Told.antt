@@ -36,10 +36,15 @@ taken_is : {d e : Dir} {t u h k : Bool} → Taken d t h ≡ Taken e u k → (d �
 taken_is e = (cc, cc, cc)
 
 -- the train that begins at a tail
-pub train-is : (p : PlantLists) (lie : ℕ → _) (occupancy : ℕ → Option Occupancy) (x : ℕ) (u : Train) → train_from p lie occupancy x (occupancy x) ≡ Some u → (d : Dir) × (head : Bool) × (occupancy x ≡ Some (Taken d true head)) × (record { dir = d; body = x ∷ chase (length p.sections) (onward p lie occupancy) x } ≡ u)
+pub train-is : (p : PlantLists) (lie : ℕ → _) (occupancy : ℕ → Option Occupancy) (x : ℕ) (u : Train) →
+    train_from p lie occupancy x (occupancy x) ≡ Some u →
+    (d : Dir) × (head : Bool) × (occupancy x ≡ Some (Taken d true head)) ×
+    (record { dir = d; body = x ∷ chase (length p.sections) (onward p lie occupancy) x } ≡ u)
 train-is p lie occupancy x u e = by_occupancy (occupancy x) refl e
   where
-    by_occupancy : (o : Option Occupancy) → occupancy x ≡ o → train_from p lie occupancy x o ≡ Some u → (d : Dir) × (head : Bool) × (occupancy x ≡ Some (Taken d true head)) × (record { dir = d; body = x ∷ chase (length p.sections) (onward p lie occupancy) x } ≡ u)
+    by_occupancy : (o : Option Occupancy) → occupancy x ≡ o → train_from p lie occupancy x o ≡ Some u →
+        (d : Dir) × (head : Bool) × (occupancy x ≡ Some (Taken d true head)) ×
+        (record { dir = d; body = x ∷ chase (length p.sections) (onward p lie occupancy) x } ≡ u)
     by_occupancy None is e = cc
     by_occupancy (Some Vacant) is e = cc
     by_occupancy (Some Crash) is e = cc
@@ -60,7 +65,9 @@ trains-once p lie occupancy =
     range-once : EachOnce (range_with_len 0 (length p.sections))
     range-once i j x at also = let one = (range_within (length p.sections) i x at).0 in let two = (range_within (length p.sections) j x also).0 in omega arith
 
-module _ (p : PlantLists) (plant : IsPlant p) (never : NeverReturns p) (s : State) (shape : HasShape p s) (calm : hazard p s ≡ None) (occupancy : ℕ → Option Occupancy) (told : (x : ℕ) → x < length p.sections → occupancy x ≡ Some (occupancy_of p s x)) where
+module _ (p : PlantLists) (plant : IsPlant p) (never : NeverReturns p) (s : State) (shape : HasShape p s)
+    (calm : hazard p s ≡ None) (occupancy : ℕ → Option Occupancy)
+    (told : (x : ℕ) → x < length p.sections → occupancy x ≡ Some (occupancy_of p s x)) where
   -- at a place of a body
   told-in : (i k x : ℕ) (t : Train) → slice_get s.trains i ≡ Some t → slice_get t.body k ≡ Some x → occupancy x ≡ Some (Taken t.dir (k == 0) (k + 1 == length t.body))
   told-in i k x t at here =
@@ -120,7 +127,9 @@ module _ (p : PlantLists) (plant : IsPlant p) (never : NeverReturns p) (s : Stat
           subst P same (and_from _ _ (and_from _ _ (not_moving p plant never s shape calm i k x t at.3 at.4) (head_fits i k x t at.3 at.4)) (tail_fits i k x t at.3 at.4))
 
   -- the sections of a body are a chain
-  chain-from : (i k a : ℕ) (t : Train) (rest : List ℕ) → slice_get s.trains i ≡ Some t → ((j y : ℕ) → slice_get (a ∷ rest) j ≡ Some y → slice_get t.body (k + j) ≡ Some y) → k + length (a ∷ rest) ≡ length t.body → IsChain (onward p (lie_of p s) occupancy) a rest
+  chain-from : (i k a : ℕ) (t : Train) (rest : List ℕ) → slice_get s.trains i ≡ Some t →
+      ((j y : ℕ) → slice_get (a ∷ rest) j ≡ Some y → slice_get t.body (k + j) ≡ Some y) →
+      k + length (a ∷ rest) ≡ length t.body → IsChain (onward p (lie_of p s) occupancy) a rest
   chain-from i k a t [] at part long =
       let here : slice_get t.body k ≡ Some a = (let n : k + 0 ≡ k = omega arith in ap (slice_get t.body) (sym n) ∙ part 0 a refl) in
       let last : (k + 1 == length t.body) ≡ true = eq-eqb (k + 1) (length t.body) (omega arith) in
@@ -139,9 +148,21 @@ module _ (p : PlantLists) (plant : IsPlant p) (never : NeverReturns p) (s : Stat
       let here : slice_get t.body 0 ≡ Some a = ap (λ body. slice_get body 0) is in
       let body = body-of p plant never s shape calm i t at in
       let taken : occupancy a ≡ Some (Taken t.dir true (0 + 1 == length t.body)) = told-in i 0 a t at here in
-      let chain : IsChain (onward p (lie_of p s) occupancy) a rest = chain-from i 0 a t rest at (λ j y found. (let n : 0 + j ≡ j = omega arith in ap (slice_get t.body) n ∙ ap (λ body. slice_get body j) is ∙ found)) (ap (λ n. n) (let long = ap length is in omega arith)) in
+      let chain : IsChain (onward p (lie_of p s) occupancy) a rest = chain-from i 0 a t rest at
+      (λ j y found.
+      (let n : 0 + j ≡ j = omega arith in
+      ap (slice_get t.body) n ∙ ap (λ body. slice_get body j) is ∙ found))
+      (ap (λ n. n) (let long = ap length is in omega arith)) in
       let whole : IsChain (onward p (lie_of p s) occupancy) a (chase (length p.sections) (onward p (lie_of p s) occupancy) a) =
-      chased (length p.sections) (IsTaken p occupancy) (onward p (lie_of p s) occupancy) _ (tracks p plant never (lie_of p s) occupancy told-fits) a (record { dir = t.dir; tail = true; head = 0 + 1 == length t.body; within = body-known p t 0 a plant body here; is = taken }) in
+      chased (length p.sections) (IsTaken p occupancy) (onward p (lie_of p s) occupancy) _
+      (tracks p plant never (lie_of p s) occupancy told-fits) a
+      (record {
+        dir = t.dir;
+        tail = true;
+        head = 0 + 1 == length t.body;
+        within = body-known p t 0 a plant body here;
+        is = taken;
+      }) in
       let same : chase (length p.sections) (onward p (lie_of p s) occupancy) a ≡ rest = chain-same (onward p (lie_of p s) occupancy) a _ rest whole chain in
       ap (train_from p (lie_of p s) occupancy a) taken ∙ ap (λ r. Some (record { dir = t.dir; body = a ∷ r })) same ∙ ap (λ b. Some (record { dir = t.dir; body = b })) (sym is)
 

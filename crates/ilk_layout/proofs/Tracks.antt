@@ -72,7 +72,14 @@ module _ (p : PlantLists) (lie : ℕ → Option Lie) (occupancy : ℕ → Option
 
 module _ (p : PlantLists) (plant : IsPlant p) (never : NeverReturns p) (lie : ℕ → Option Lie) (occupancy : ℕ → Option Occupancy) (fits : (x : ℕ) → x < length p.sections → section_fits p lie occupancy x (occupancy x) ≡ true) where
   -- what the occupancy of a section demands, one by one
-  pub demands : (x : ℕ) (d : Dir) (tail head : Bool) → x < length p.sections → occupancy x ≡ Some (Taken d tail head) → (not (is_some_and (lie x) is_moving) ≡ true) × ((head || is_some_and (joined_to p lie x d) (λ y. is_some_and (occupancy y) (has_more_behind d))) ≡ true) × ((tail || is_some_and (joined_to p lie x (opposite_direction d)) (λ y. is_some_and (occupancy y) (has_more_ahead d))) ≡ true)
+  pub demands : (x : ℕ) (d : Dir) (tail head : Bool) → x < length p.sections →
+      occupancy x ≡ Some (Taken d tail head) →
+      (not (is_some_and (lie x) is_moving) ≡ true) ×
+      ((head || is_some_and (joined_to p lie x d) (λ y. is_some_and (occupancy y) (has_more_behind d)))
+      ≡ true) ×
+      ((tail
+      || is_some_and (joined_to p lie x (opposite_direction d))
+      (λ y. is_some_and (occupancy y) (has_more_ahead d))) ≡ true)
   demands x d tail head within is =
       let P : Option Occupancy → Type 0 = λ o. section_fits p lie occupancy x o ≡ true in
       let all = subst P is (fits x within) in
@@ -81,7 +88,10 @@ module _ (p : PlantLists) (plant : IsPlant p) (never : NeverReturns p) (lie : �
       (one.0, one.1, two.1)
 
   -- the next section of the same train
-  pub step-forth : (x y : ℕ) → x < length p.sections → onward p lie occupancy x ≡ Some y → (d : Dir) × (tail head : Bool) × (occupancy x ≡ Some (Taken d tail false)) × (joined_to p lie x d ≡ Some y) × (y < length p.sections) × (has_section y (next_to p x d) ≡ true) × (occupancy y ≡ Some (Taken d false head))
+  pub step-forth : (x y : ℕ) → x < length p.sections → onward p lie occupancy x ≡ Some y →
+      (d : Dir) × (tail head : Bool) × (occupancy x ≡ Some (Taken d tail false)) ×
+      (joined_to p lie x d ≡ Some y) × (y < length p.sections) × (has_section y (next_to p x d) ≡ true) ×
+      (occupancy y ≡ Some (Taken d false head))
   step-forth x y within e =
       let at : (d : Dir) × (tail : Bool) × (occupancy x ≡ Some (Taken d tail false)) × (joined_to p lie x d ≡ Some y) = onward-is p lie occupancy x y e in
       let d = at.0 in
@@ -93,7 +103,11 @@ module _ (p : PlantLists) (plant : IsPlant p) (never : NeverReturns p) (lie : �
       (d, at.1, behind.0, at.2, at.3, plant.neighbours x y d beside.1, beside.1, ap occupancy (sym same) ∙ o.1 ∙ ap Some behind.1)
 
   -- the section before it
-  pub step-back : (x y : ℕ) → x < length p.sections → backward p lie occupancy x ≡ Some y → (d : Dir) × (tail head : Bool) × (occupancy x ≡ Some (Taken d false head)) × (joined_to p lie x (opposite_direction d) ≡ Some y) × (y < length p.sections) × (has_section y (next_to p x (opposite_direction d)) ≡ true) × (occupancy y ≡ Some (Taken d tail false))
+  pub step-back : (x y : ℕ) → x < length p.sections → backward p lie occupancy x ≡ Some y →
+      (d : Dir) × (tail head : Bool) × (occupancy x ≡ Some (Taken d false head)) ×
+      (joined_to p lie x (opposite_direction d) ≡ Some y) × (y < length p.sections) ×
+      (has_section y (next_to p x (opposite_direction d)) ≡ true) ×
+      (occupancy y ≡ Some (Taken d tail false))
   step-back x y within e =
       let at : (d : Dir) × (head : Bool) × (occupancy x ≡ Some (Taken d false head)) × (joined_to p lie x (opposite_direction d) ≡ Some y) = backward-is p lie occupancy x y e in
       let d = at.0 in

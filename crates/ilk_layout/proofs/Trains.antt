@@ -59,7 +59,12 @@ wrong-more p s ts t x = by_section (slice_get p.sections x) refl
     by_section None e = rw e refl
     by_section (Some (Linear down up b c)) e = rw e refl
     by_section (Some (Point stem plus minus faces)) e =
-        rw e (list_any-append (λ (train : Train). strays x plus minus (lie_of p s x) train.body) ts (t ∷ []) ∙ ap (λ b. list_any (λ (train : Train). strays x plus minus (lie_of p s x) train.body) ts || b) (or-false (strays x plus minus (lie_of p s x) t.body)))
+        rw e
+        (list_any-append (λ (train : Train). strays x plus minus (lie_of p s x) train.body) ts (t ∷ [])
+        ∙ ap
+        (λ b. list_any (λ (train : Train). strays x plus minus (lie_of p s x) train.body) ts
+        || b)
+        (or-false (strays x plus minus (lie_of p s x) t.body)))
 
 pub wrong-none : (p : PlantLists) (s : State) (ts : List Train) (x : ℕ) → list_any (has_x x) ts ≡ false → is_wrong p (with_trains s ts) x ≡ false
 wrong-none p s ts x none = by_section (slice_get p.sections x) refl
@@ -68,7 +73,11 @@ wrong-none p s ts x none = by_section (slice_get p.sections x) refl
     each [] plus minus lie none = refl
     each (t ∷ ts) plus minus lie none =
         let parts = or_parts (has_section x t.body) (list_any (has_x x) ts) none in
-        or_from (strays x plus minus lie t.body) (list_any (λ (train : Train). strays x plus minus lie train.body) ts) (false_from_ne_true (strays x plus minus lie t.body) (λ h. false≢true (sym parts.0 ∙ strays-has x plus minus lie t.body h))) (each ts plus minus lie parts.1)
+        or_from (strays x plus minus lie t.body)
+        (list_any (λ (train : Train). strays x plus minus lie train.body) ts)
+        (false_from_ne_true (strays x plus minus lie t.body)
+        (λ h. false≢true (sym parts.0 ∙ strays-has x plus minus lie t.body h)))
+        (each ts plus minus lie parts.1)
 
     by_section : (o : Option Section) → slice_get p.sections x ≡ o → is_wrong p (with_trains s ts) x ≡ false
     by_section None e = rw e refl

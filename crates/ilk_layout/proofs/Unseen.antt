@@ -78,7 +78,10 @@ remove-set (x ∷ xs) (suc i) y = ap (λ l. x ∷ l) (remove-set xs i y)
 replaced : (xs ys : List Train) (i j : ℕ) (u v : Train) → EachOnce xs → EachOnce ys → IsPermutation xs ys → slice_get xs i ≡ Some u → slice_get ys j ≡ Some u → IsPermutation (set xs i v) (set ys j v)
 replaced xs ys i j u v once once_too order at also =
     let rest = without xs ys i j u once once_too order at also in
-    IsPermutation-trans (set xs i v) (v ∷ remove xs i) (set ys j v) (front xs i u at) (IsPermutation-trans (v ∷ remove xs i) (v ∷ remove ys j) (set ys j v) (IsPermutation-cons v (remove xs i) (remove ys j) rest) (IsPermutation-sym (set ys j v) (v ∷ remove ys j) (front ys j u also)))
+    IsPermutation-trans (set xs i v) (v ∷ remove xs i) (set ys j v) (front xs i u at)
+    (IsPermutation-trans (v ∷ remove xs i) (v ∷ remove ys j) (set ys j v)
+    (IsPermutation-cons v (remove xs i) (remove ys j) rest)
+    (IsPermutation-sym (set ys j v) (v ∷ remove ys j) (front ys j u also)))
   where
     front : (zs : List Train) (k : ℕ) (w : Train) → slice_get zs k ≡ Some w → IsPermutation (set zs k v) (v ∷ remove zs k)
     front zs k w at =
@@ -188,7 +191,10 @@ module _ (p : PlantLists) (plant : IsPlant p) (never : NeverReturns p) (s : Stat
   same-train x test has = finds-same test s.trains ts order (λ i j u v at also hu hv. alone p plant never s calm.shape calm.no_hazard i j x u v at also (has u hu) (has v hv))
 
   -- a train is found in both orders, and what follows differs in order alone
-  unseen-found : (x : ℕ) (test : Train → Bool) → ((u : Train) → test u ≡ true → has_section x u.body ≡ true) → (f g : ℕ → Train → Option State) → ((i j : ℕ) (u : Train) → slice_get s.trains i ≡ Some u → slice_get ts j ≡ Some u → DifferInOrderIfAny (f i u) (g j u))
+  unseen-found : (x : ℕ) (test : Train → Bool) → ((u : Train) → test u ≡ true → has_section x u.body ≡ true) →
+      (f g : ℕ → Train → Option State) →
+      ((i j : ℕ) (u : Train) → slice_get s.trains i ≡ Some u → slice_get ts j ≡ Some u →
+      DifferInOrderIfAny (f i u) (g j u))
       → DifferInOrderIfAny (position test s.trains >>= λ i. slice_get s.trains i >>= f i) (position test ts >>= λ j. slice_get ts j >>= g j)
   unseen-found x test has f g each =
       elim (same-train x test has) [

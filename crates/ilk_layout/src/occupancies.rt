@@ -59,7 +59,8 @@ fn section_before(body: &[u32], i: usize) -> Option<u32>
 fn after_taking(plant: &Plant, s: &State, train: &Train, i: usize, before: Occupancy) -> Occupancy
     requires within { i < length train.now.body }
     requires known { slice_index train.now.body i < length plant.now.sections }
-    ensures { result ≡ after_taking plant.now s.now train.now (slice_index train.now.body i) i before }
+    ensures { result
+        ≡ after_taking plant.now s.now train.now (slice_index train.now.body i) i before }
 {
     let body = train.body.as_slice();
     let next = body.get(i + 1).copied();
@@ -78,7 +79,8 @@ fn after_taking(plant: &Plant, s: &State, train: &Train, i: usize, before: Occup
 fn put_train(plant: &Plant, s: &State, occupancies: &mut Row<Occupancy>, train: &Train)
     requires body { IsTrue (is_body plant.now train.now) }
     requires sections { length occupancies.old ≡ length plant.now.sections }
-    ensures { AreWithTrainOn plant.now s.now train.now train.now.body occupancies.old occupancies.new }
+    ensures { AreWithTrainOn plant.now s.now train.now train.now.body occupancies.old
+        occupancies.new }
 {
     plant.is_sound();
     plant.is_of_drafts();
@@ -109,7 +111,9 @@ pub(crate) fn occupancies(
     s: &State,
 ) -> Result<Row<Occupancy>, AllocError>
     requires { HasShape plant.now s.now }
-    ensures { IfOk result (λ made. made ≡ map (occupancy_of plant.now s.now) (range_with_len 0 (length plant.now.sections))) }
+    ensures { IfOk result
+        (λ made. made
+        ≡ map (occupancy_of plant.now s.now) (range_with_len 0 (length plant.now.sections))) }
 {
     let mut made = vacant(alloc, plant.sections())?;
     for train in s.trains.as_slice() {

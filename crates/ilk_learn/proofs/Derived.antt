@@ -77,7 +77,10 @@ one-open set (m ∷ c) l d h o f =
           | inr e ↦ e
         ]
 
-pub unit-one : (set d : List Literal) (l : Literal) → vars_differ d ≡ true → has_lit l d ≡ true → has_lit l set ≡ false → has_lit (opposite l) set ≡ false → ((m : Literal) → has_lit m d ≡ true → same_lit l m ≡ false → has_lit (opposite m) set ≡ true) → unit_of set d ≡ Some l
+pub unit-one : (set d : List Literal) (l : Literal) → vars_differ d ≡ true → has_lit l d ≡ true →
+    has_lit l set ≡ false → has_lit (opposite l) set ≡ false →
+    ((m : Literal) → has_lit m d ≡ true → same_lit l m ≡ false → has_lit (opposite m) set ≡ true) →
+    unit_of set d ≡ Some l
 unit-one set d l v h n o f = (let one = one-open set d l v h o f in ap (lone_unset set) one ∙ rw n refl)
 
 -- a clause in hand: it is over different variables of 1 to n; where the entries are set, it is false;
@@ -90,7 +93,10 @@ pub record InHand (n : ℕ) (clauses : List (List Literal)) (es : List Entry) (s
   pub shown : (set : List Literal) → ((m : Literal) → has_lit m s.clause ≡ true → has_lit (opposite m) set ≡ true) → ((m : Literal) → has_lit m set ≡ true → has_lit m (lits_of es) ≡ true) → ends_false clauses set s.hints ≡ true
 
 -- a clause that is false
-pub in_hand-start : (n : ℕ) (clauses : List (List Literal)) (es : List Entry) (i : ℕ) (c : List Literal) → slice_get clauses i ≡ Some c → ((m : Literal) → has_lit m c ≡ true → has_lit (opposite m) (lits_of es) ≡ true) → vars_differ c ≡ true → clause_in n c ≡ true → InHand n clauses es (record { clause = c; hints = (i + 1) ∷ [] })
+pub in_hand-start : (n : ℕ) (clauses : List (List Literal)) (es : List Entry) (i : ℕ) (c : List Literal) →
+    slice_get clauses i ≡ Some c →
+    ((m : Literal) → has_lit m c ≡ true → has_lit (opposite m) (lits_of es) ≡ true) → vars_differ c ≡ true →
+    clause_in n c ≡ true → InHand n clauses es (record { clause = c; hints = (i + 1) ∷ [] })
 in_hand-start n clauses es i c at f d w = record {
   denied = f;
   differ = d;
@@ -117,7 +123,13 @@ other-var : (d : List Literal) (l m : Literal) → vars_differ d ≡ true → ha
 other-var d l m v h k n e = true≢false (sym (same-lit l) ∙ ap (same_lit l) (sym (same-var d m l v k h e)) ∙ n)
 
 -- the resolvent with the reason of an entry
-pub in_hand-resolve : (n : ℕ) (clauses : List (List Literal)) (e : Entry) (es : List Entry) (s : Step) (r : ℕ) (d : List Literal) → InHand n clauses (e ∷ es) s → slice_get clauses r ≡ Some d → has_lit e.lit d ≡ true → is_falsified (lits_of es) (others e.lit d) ≡ true → vars_differ d ≡ true → clause_in n d ≡ true → vars_differ (lits_of es) ≡ true → has_var e.lit.var (lits_of es) ≡ false → InHand n clauses es (record { clause = resolvent e.lit.var s.clause d; hints = (r + 1) ∷ s.hints })
+pub in_hand-resolve :
+    (n : ℕ) (clauses : List (List Literal)) (e : Entry) (es : List Entry) (s : Step) (r : ℕ)
+    (d : List Literal) →
+    InHand n clauses (e ∷ es) s → slice_get clauses r ≡ Some d → has_lit e.lit d ≡ true →
+    is_falsified (lits_of es) (others e.lit d) ≡ true → vars_differ d ≡ true → clause_in n d ≡ true →
+    vars_differ (lits_of es) ≡ true → has_var e.lit.var (lits_of es) ≡ false →
+    InHand n clauses es (record { clause = resolvent e.lit.var s.clause d; hints = (r + 1) ∷ s.hints })
 in_hand-resolve n clauses e es s r d k at has falsified differ within once unset = record {
   denied = λ m h. (let w = from-without e.lit.var (with_each_lit s.clause d) m h in
       elim (joined-from m s.clause d w.0) [
@@ -160,7 +172,11 @@ in_hand-resolve n clauses e es s r d k at has falsified differ within once unset
       | inr x ↦ x
     ]
 
-    reason-false : (set : List Literal) → ((m : Literal) → has_lit m (resolvent e.lit.var s.clause d) ≡ true → has_lit (opposite m) set ≡ true) → ((m : Literal) → has_lit m set ≡ true → has_lit m (lits_of es) ≡ true) → (m : Literal) → has_lit m d ≡ true → same_lit e.lit m ≡ false → has_lit (opposite m) set ≡ true
+    reason-false : (set : List Literal) →
+        ((m : Literal) → has_lit m (resolvent e.lit.var s.clause d) ≡ true → has_lit (opposite m) set ≡ true)
+        →
+        ((m : Literal) → has_lit m set ≡ true → has_lit m (lits_of es) ≡ true) → (m : Literal) →
+        has_lit m d ≡ true → same_lit e.lit m ≡ false → has_lit (opposite m) set ≡ true
     reason-false set f g m a b =
         let x = var-of (with_each_lit s.clause d) m.var (joined-var-right m.var s.clause d (has-var m d a)) in
         let u : x.0.var ≡ e.lit.var → ⊥ = λ q. other-var d e.lit m differ has a b (sym x.1 ∙ q) in
@@ -176,7 +192,11 @@ in_hand-resolve n clauses e es s r d k at has falsified differ within once unset
     ]
 
 -- a clause with the same literals as that in hand, over different variables, is derived
-pub in_hand-derived : (n : ℕ) (clauses : List (List Literal)) (es : List Entry) (s : Step) (c : List Literal) → InHand n clauses es s → ((m : Literal) → has_lit m c ≡ true → has_lit m s.clause ≡ true) → ((m : Literal) → has_lit m s.clause ≡ true → has_lit m c ≡ true) → vars_differ c ≡ true → is_derived n clauses (record s { clause = c }) ≡ true
+pub in_hand-derived :
+    (n : ℕ) (clauses : List (List Literal)) (es : List Entry) (s : Step) (c : List Literal) →
+    InHand n clauses es s → ((m : Literal) → has_lit m c ≡ true → has_lit m s.clause ≡ true) →
+    ((m : Literal) → has_lit m s.clause ≡ true → has_lit m c ≡ true) → vars_differ c ≡ true →
+    is_derived n clauses (record s { clause = c }) ≡ true
 in_hand-derived n clauses es s c k fewer more differ =
     let within : clause_in n c ≡ true = each-within n c s.clause fewer k.within in
     let ends : ends_false clauses (opposites c) s.hints ≡ true =

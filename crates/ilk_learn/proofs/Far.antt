@@ -53,7 +53,10 @@ entry-current f t h c n i e trail k q at =
     eq-eqb _ _ (level-entry t.entries i e trail.once at ∙ walking-level f.vars f.clauses t.entries e (reverse (take i t.entries)) k.step w)
 
 -- where it is no point
-pub far-next : (f : Formula) (t : TrailList) (h new : Hand) (c n i : ℕ) (e : Entry) → IsFormula f → (k : Far f t h c n) → n ≡ suc i → slice_get t.entries i ≡ Some e → is_implication_point t.entries e.lit k.step.clause ≡ false → Keeps t new (resolved f.clauses e k.step) → Far f t new c i
+pub far-next : (f : Formula) (t : TrailList) (h new : Hand) (c n i : ℕ) (e : Entry) → IsFormula f →
+    (k : Far f t h c n) → n ≡ suc i → slice_get t.entries i ≡ Some e →
+    is_implication_point t.entries e.lit k.step.clause ≡ false → Keeps t new (resolved f.clauses e k.step) →
+    Far f t new c i
 far-next f t h new c n i e form k q at p keeps = record {
   step = resolved f.clauses e k.step;
   walking = walking-next f.vars f.clauses t.entries e (reverse (take i t.entries)) k.step (record { within = form.within; differ = form.differ }) (far-walking f t h c n i e k q at) p;
@@ -81,7 +84,9 @@ lower-set f t h es s w k =
     and_from (lit_in t.vars m) (is_set t.entries m.var) (lit_in-clause t.vars s.clause m k.holds.within b) (has-var (opposite m) (lits_of t.entries) (w.within (opposite m) (w.hand.denied m b)))))
 
 -- where it is the point
-pub far-point : (f : Formula) (t : TrailList) (h : Hand) (c n i : ℕ) (e : Entry) → IsTrail t → (k : Far f t h c n) → n ≡ suc i → slice_get t.entries i ≡ Some e → is_implication_point t.entries e.lit k.step.clause ≡ true → Reached t f.clauses c h (Some e.lit)
+pub far-point : (f : Formula) (t : TrailList) (h : Hand) (c n i : ℕ) (e : Entry) → IsTrail t →
+    (k : Far f t h c n) → n ≡ suc i → slice_get t.entries i ≡ Some e →
+    is_implication_point t.entries e.lit k.step.clause ≡ true → Reached t f.clauses c h (Some e.lit)
 far-point f t h c n i e trail k q at p =
     let es = reverse (take i t.entries) in
     let s = k.step in
@@ -101,7 +106,10 @@ far-point f t h c n i e trail k q at p =
           ∙ ap (λ (hs : List ℕ). let r : Step = record { clause = opposite e.lit ∷ highest_first t.entries h.lower.items; hints = hs } in r) k.keeps.hinted;
     }
   where
-    agree : (m : Literal) → has_lit m k.step.clause ≡ true → has_lit (opposite e.lit) k.step.clause ≡ true → is_current t.entries e.lit ≡ true → eqb (length (filter (is_current t.entries) k.step.clause)) 1 ≡ true → eqb m.var e.lit.var ≡ is_current t.entries m
+    agree : (m : Literal) → has_lit m k.step.clause ≡ true → has_lit (opposite e.lit) k.step.clause ≡ true →
+        is_current t.entries e.lit ≡ true →
+        eqb (length (filter (is_current t.entries) k.step.clause)) 1 ≡ true →
+        eqb m.var e.lit.var ≡ is_current t.entries m
     agree m a has current one = elim (cases_Bool (eqb m.var e.lit.var)) [
       | inl y ↦ y ∙ sym (same-level t.entries m e.lit (eqb-true m.var e.lit.var y) ∙ current)
       | inr y ↦ y ∙ sym (elim (cases_Bool (is_current t.entries m)) [

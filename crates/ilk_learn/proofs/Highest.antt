@@ -173,7 +173,9 @@ lone-passes p c a b n h t k u = go (filter p c) n (kept-at p c a h t) (kept-at p
     go (x ∷ (y ∷ xs)) n h k = absurd (let e : length (x ∷ (y ∷ xs)) ≡ 1 = eqb-true (length (x ∷ (y ∷ xs))) 1 n in omega (arith, e))
 
 -- the clause of a literal, with the others after it
-pub front-some : (es : List Entry) (c clause x : List Literal) (l first : Literal) → clause ≡ l ∷ [] → Some first ≡ find (λ m. eqb (level_at es m) (highest_level es c)) c → x ≡ clause ++ (first ∷ without_variable first.var c) → x ≡ l ∷ highest_first es c
+pub front-some : (es : List Entry) (c clause x : List Literal) (l first : Literal) → clause ≡ l ∷ [] →
+    Some first ≡ find (λ m. eqb (level_at es m) (highest_level es c)) c →
+    x ≡ clause ++ (first ∷ without_variable first.var c) → x ≡ l ∷ highest_first es c
 front-some es c clause x l first h f e =
     e ∙ ap (λ (xs : List Literal). xs ++ (first ∷ without_variable first.var c)) h ∙ ap (λ (o : Option Literal). l ∷ in_front o c) f
 

@@ -58,12 +58,22 @@ few t marks current lower c h k =
 pub holds-known : (t : TrailList) (marks : List Bool) (current : ℕ) (lower c : List Literal) (l : Literal) → HoldsClause t marks current lower c → get_or marks l.var false ≡ true → HoldsClause t marks current lower (with_lit c l)
 holds-known t marks current lower c l h m = (let known : has_var l.var c ≡ true = sym (h.marked l.var) ∙ m in rw known h)
 
-holds-push : (t : TrailList) (marks : List Bool) (current more : ℕ) (lower longer c : List Literal) (l : Literal) → HoldsClause t marks current lower c → lit_in t.vars l ≡ true → has_var l.var c ≡ false → more ≡ length (filter (is_current t.entries) (c ++ l ∷ [])) → longer ≡ filter (λ m. not (is_current t.entries m)) (c ++ l ∷ []) → HoldsClause t (set marks l.var true) more longer (c ++ l ∷ [])
+holds-push :
+    (t : TrailList) (marks : List Bool) (current more : ℕ) (lower longer c : List Literal) (l : Literal) →
+    HoldsClause t marks current lower c → lit_in t.vars l ≡ true → has_var l.var c ≡ false →
+    more ≡ length (filter (is_current t.entries) (c ++ l ∷ [])) →
+    longer ≡ filter (λ m. not (is_current t.entries m)) (c ++ l ∷ []) →
+    HoldsClause t (set marks l.var true) more longer (c ++ l ∷ [])
 holds-push t marks current more lower longer c l h w u e f = record {
   sized = simp length-set h.sized;
   marked = λ v. elim (cases_eq v l.var) [
     | inl p ↦ (let P : ℕ → Type 0 = λ j. get_or (set marks l.var true) j false ≡ has_var j (c ++ l ∷ []) in
-        subst P (sym p) (get_or-set_same marks l.var true false (within-marks t marks current lower c l h w) ∙ sym (var-push l.var c l ∙ or_right (has_var l.var c) (eqb l.var l.var || false) (or_left (eqb l.var l.var) false (eq-eqb l.var l.var refl)))))
+        subst P (sym p)
+        (get_or-set_same marks l.var true false (within-marks t marks current lower c l h w)
+        ∙ sym
+        (var-push l.var c l
+        ∙ or_right (has_var l.var c) (eqb l.var l.var || false)
+        (or_left (eqb l.var l.var) false (eq-eqb l.var l.var refl)))))
     | inr p ↦ get_or-set_other marks l.var v true false p ∙ h.marked v ∙ sym (var-push v c l ∙ other (has_var v c) (eqb l.var v) (ne_eqb l.var v (λ q. p (sym q))))
   ];
   counted = e;
@@ -76,7 +86,9 @@ holds-push t marks current more lower longer c l h w u e f = record {
     other true b e = refl
     other false b e = rw e refl
 
-pub holds-current : (t : TrailList) (marks : List Bool) (current : ℕ) (lower c : List Literal) (l : Literal) → HoldsClause t marks current lower c → lit_in t.vars l ≡ true → get_or marks l.var false ≡ false → is_current t.entries l ≡ true → HoldsClause t (set marks l.var true) (current + 1) lower (with_lit c l)
+pub holds-current : (t : TrailList) (marks : List Bool) (current : ℕ) (lower c : List Literal) (l : Literal) →
+    HoldsClause t marks current lower c → lit_in t.vars l ≡ true → get_or marks l.var false ≡ false →
+    is_current t.entries l ≡ true → HoldsClause t (set marks l.var true) (current + 1) lower (with_lit c l)
 holds-current t marks current lower c l h w m k =
     let u : has_var l.var c ≡ false = sym (h.marked l.var) ∙ m in
     let p : Literal → Bool = is_current t.entries in
@@ -86,7 +98,10 @@ holds-current t marks current lower c l h w m k =
     let long : current + 1 ≡ length (filter p (c ++ l ∷ [])) = ap (λ n. n + 1) h.counted ∙ sym (ap length one ∙ length-append (filter p c) (l ∷ [])) in
     rw u (holds-push t marks current (current + 1) lower lower c l h w u long (h.rest ∙ sym (append-nil (filter q c)) ∙ sym none))
 
-pub holds-lower : (t : TrailList) (marks : List Bool) (current : ℕ) (lower c : List Literal) (l : Literal) → HoldsClause t marks current lower c → lit_in t.vars l ≡ true → get_or marks l.var false ≡ false → is_current t.entries l ≡ false → HoldsClause t (set marks l.var true) current (lower ++ l ∷ []) (with_lit c l)
+pub holds-lower : (t : TrailList) (marks : List Bool) (current : ℕ) (lower c : List Literal) (l : Literal) →
+    HoldsClause t marks current lower c → lit_in t.vars l ≡ true → get_or marks l.var false ≡ false →
+    is_current t.entries l ≡ false →
+    HoldsClause t (set marks l.var true) current (lower ++ l ∷ []) (with_lit c l)
 holds-lower t marks current lower c l h w m k =
     let u : has_var l.var c ≡ false = sym (h.marked l.var) ∙ m in
     let p : Literal → Bool = is_current t.entries in
@@ -159,7 +174,10 @@ some-current t marks current lower c l h k u =
     let r = one-less (is_current t.entries) l.var c h.differ k (λ m e. same-level t.entries m l e ∙ u) in
     omega (arith, h.counted, r)
 
-pub holds-drop : (t : TrailList) (marks : List Bool) (current : ℕ) (lower c : List Literal) (l : Literal) → HoldsClause t marks current lower c → lit_in t.vars l ≡ true → has_var l.var c ≡ true → is_current t.entries l ≡ true → HoldsClause t (set marks l.var false) (current - 1) lower (without_variable l.var c)
+pub holds-drop : (t : TrailList) (marks : List Bool) (current : ℕ) (lower c : List Literal) (l : Literal) →
+    HoldsClause t marks current lower c → lit_in t.vars l ≡ true → has_var l.var c ≡ true →
+    is_current t.entries l ≡ true →
+    HoldsClause t (set marks l.var false) (current - 1) lower (without_variable l.var c)
 holds-drop t marks current lower c l h w k u =
     let cur : (m : Literal) → m.var ≡ l.var → is_current t.entries m ≡ true = λ m e. same-level t.entries m l e ∙ u in
     let r = one-less (is_current t.entries) l.var c h.differ k cur in
@@ -177,7 +195,10 @@ holds-drop t marks current lower c l h w k u =
     }
 
 -- the reason of an entry is a clause whose literals are all set
-pub reason-known : (f : Formula) (t : TrailList) (v r : ℕ) → IsFormula f → f.vars ≡ t.vars → HasReasons f.clauses t.entries → is_set t.entries v ≡ true → option_map (λ (e : Entry). e.reason) (entry_of t.entries v) ≡ Some (Some r) → (r < length f.clauses) × (all_set t (clause_at f.clauses r) ≡ true)
+pub reason-known : (f : Formula) (t : TrailList) (v r : ℕ) → IsFormula f → f.vars ≡ t.vars →
+    HasReasons f.clauses t.entries → is_set t.entries v ≡ true →
+    option_map (λ (e : Entry). e.reason) (entry_of t.entries v) ≡ Some (Some r) →
+    (r < length f.clauses) × (all_set t (clause_at f.clauses r) ≡ true)
 reason-known f t v r form same reasons set h =
     let x = found t.entries v set in
     let why : x.entry.reason ≡ Some r = same_Some x.entry.reason (Some r) (sym (ap (option_map (λ (e : Entry). e.reason)) x.first) ∙ h) in
@@ -188,7 +209,11 @@ reason-known f t v r form same reasons set h =
       slice_get_within f.clauses r d at,
       all-from (λ (m : Literal). lit_in t.vars m && is_set t.entries m.var) d (λ m k. and_from (lit_in t.vars m) (is_set t.entries m.var) (lit_in-clause t.vars d m within k) (elim (cases_Bool (same_lit x.entry.lit m)) [
         | inl y ↦ ap (λ (w : ℕ). is_set t.entries w) (sym (ap (λ (l : Literal). l.var) (lit-is x.entry.lit m y)) ∙ x.named) ∙ set
-        | inr y ↦ front-set t.entries x.place m.var (has-var (opposite m) (lits_of (take x.place t.entries)) (false-at (lits_of (take x.place t.entries)) (others x.entry.lit d) m p.1 (kept-at (λ z. not (same_lit x.entry.lit z)) d m k (not_from_false (same_lit x.entry.lit m) y))))
+        | inr y ↦ front-set t.entries x.place m.var
+            (has-var (opposite m) (lits_of (take x.place t.entries))
+            (false-at (lits_of (take x.place t.entries)) (others x.entry.lit d) m p.1
+            (kept-at (λ z. not (same_lit x.entry.lit z)) d m k
+            (not_from_false (same_lit x.entry.lit m) y))))
       ])),
     )
   where
@@ -223,7 +248,14 @@ keeps-same t clauses h e s v at m k =
     subst P (sym (resolved-not clauses e s none)) k
 
 -- one whose variable it has is resolved with
-pub keeps-resolved : (t : TrailList) (clauses : List (List Literal)) (old new : Hand) (e : Entry) (s : Step) (v r : ℕ) → entry_of t.entries v ≡ Some e → option_map (λ (x : Entry). x.reason) (entry_of t.entries v) ≡ Some (Some r) → get_or old.marks.items v false ≡ true → Keeps t old s → ((k : List Literal) → HoldsClause t old.marks.items old.current old.lower.items k → has_var v k ≡ true → HoldsClause t new.marks.items new.current new.lower.items (resolvent v k (clause_at clauses r))) → new.hints.items ≡ old.hints.items ++ (r + 1) ∷ [] → Keeps t new (resolved clauses e s)
+pub keeps-resolved :
+    (t : TrailList) (clauses : List (List Literal)) (old new : Hand) (e : Entry) (s : Step) (v r : ℕ) →
+    entry_of t.entries v ≡ Some e →
+    option_map (λ (x : Entry). x.reason) (entry_of t.entries v) ≡ Some (Some r) →
+    get_or old.marks.items v false ≡ true → Keeps t old s →
+    ((k : List Literal) → HoldsClause t old.marks.items old.current old.lower.items k → has_var v k ≡ true →
+    HoldsClause t new.marks.items new.current new.lower.items (resolvent v k (clause_at clauses r))) →
+    new.hints.items ≡ old.hints.items ++ (r + 1) ∷ [] → Keeps t new (resolved clauses e s)
 keeps-resolved t clauses old new e s v r at why m k f g =
     let q = entry-var t.entries v e at in
     let has : has_var v s.clause ≡ true = sym (k.holds.marked v) ∙ m in
@@ -262,11 +294,15 @@ conflict-set f t c form k =
     let p = and_parts (nat_lt c (length f.clauses)) (is_falsified (lits_of t.entries) d) k.conflict in
     let at = slice_get-get_or f.clauses c [] (ltb-true c (length f.clauses) p.0) in
     let within : clause_in t.vars d ≡ true = ap (λ (n : ℕ). clause_in n d) (sym k.vars) ∙ list_all-slice_get (clause_in f.vars) f.clauses c d form.within at in (
-      all-from (λ (m : Literal). lit_in t.vars m && is_set t.entries m.var) d (λ m a. and_from (lit_in t.vars m) (is_set t.entries m.var) (lit_in-clause t.vars d m within a) (has-var (opposite m) (lits_of t.entries) (false-at (lits_of t.entries) d m p.1 a))),
+      all-from (λ (m : Literal). lit_in t.vars m && is_set t.entries m.var) d
+          (λ m a. and_from (lit_in t.vars m) (is_set t.entries m.var) (lit_in-clause t.vars d m within a)
+          (has-var (opposite m) (lits_of t.entries) (false-at (lits_of t.entries) d m p.1 a))),
       list_all-slice_get vars_differ f.clauses c d form.differ at,
     )
 
-pub started-keeps : (f : Formula) (t : TrailList) (h : Hand) (c : ℕ) → IsFormula f → IsConflict f t c → HoldsClause t h.marks.items h.current h.lower.items (with_each_lit [] (clause_at f.clauses c)) → h.hints.items ≡ (c + 1) ∷ [] → Keeps t h (conflict_step f.clauses c)
+pub started-keeps : (f : Formula) (t : TrailList) (h : Hand) (c : ℕ) → IsFormula f → IsConflict f t c →
+    HoldsClause t h.marks.items h.current h.lower.items (with_each_lit [] (clause_at f.clauses c)) →
+    h.hints.items ≡ (c + 1) ∷ [] → Keeps t h (conflict_step f.clauses c)
 started-keeps f t h c form k holds hints =
     let P : List Literal → Type 0 = λ x. HoldsClause t h.marks.items h.current h.lower.items x in
     record {

@@ -99,7 +99,10 @@ differ-front es zero h = refl
 differ-front [] (suc n) h = refl
 differ-front (e ∷ es) (suc n) h =
     let p = and_parts (not (has_var e.lit.var (lits_of es))) (vars_differ (lits_of es)) h in
-    and_from (not (has_var e.lit.var (lits_of (take n es)))) (vars_differ (lits_of (take n es))) (not_from_false (has_var e.lit.var (lits_of (take n es))) (var-front es n e.lit.var (not-true (has_var e.lit.var (lits_of es)) p.0))) (differ-front es n p.1)
+    and_from (not (has_var e.lit.var (lits_of (take n es)))) (vars_differ (lits_of (take n es)))
+    (not_from_false (has_var e.lit.var (lits_of (take n es)))
+    (var-front es n e.lit.var (not-true (has_var e.lit.var (lits_of es)) p.0)))
+    (differ-front es n p.1)
   where
     var-front : (es : List Entry) (n v : ℕ) → has_var v (lits_of es) ≡ false → has_var v (lits_of (take n es)) ≡ false
     var-front es zero v h = refl

@@ -63,7 +63,10 @@ point-differ all e c d =
     and_from (not (has_var e.lit.var rest)) (vars_differ rest) (not_from_false (has_var e.lit.var rest) apart) (highest_first-differ all (without_variable e.lit.var c) (differ-kept (λ l. not (eqb l.var e.lit.var)) c d))
 
 -- a clause that is false, but not at the levels below the current, has a literal at the current
-pub has-current : (t : TrailList) (c : List Literal) → IsTrail t → is_falsified (lits_of t.entries) c ≡ true → is_falsified (lits_of (up_to (level_of t.entries - 1) t.entries)) c ≡ false → ((m : Literal) → has_lit m (lits_of t.entries) ≡ true → level_at t.entries m ≤ level_of t.entries) → (l : Literal) × (has_lit l c ≡ true) × (level_at t.entries l ≡ level_of t.entries)
+pub has-current : (t : TrailList) (c : List Literal) → IsTrail t → is_falsified (lits_of t.entries) c ≡ true →
+    is_falsified (lits_of (up_to (level_of t.entries - 1) t.entries)) c ≡ false →
+    ((m : Literal) → has_lit m (lits_of t.entries) ≡ true → level_at t.entries m ≤ level_of t.entries) →
+    (l : Literal) × (has_lit l c ≡ true) × (level_at t.entries l ≡ level_of t.entries)
 has-current t c k f n low =
     elim (cases_Bool (list_any (is_current t.entries) c)) [
       | inl x ↦ (let a = list_any-at (is_current t.entries) c x in
@@ -80,7 +83,12 @@ has-current t c k f n low =
         omega (arith, le, ne)
 
 -- where the walk begins
-pub walking-start : (f : Formula) (t : TrailList) (c : ℕ) → IsFormula f → IsTrail t → HasReasons f.clauses t.entries → is_conflict f.clauses (lits_of t.entries) c ≡ true → (0 < level_of t.entries → is_conflict f.clauses (lits_of (up_to (level_of t.entries - 1) t.entries)) c ≡ false) → Walking f.vars f.clauses t.entries (reverse t.entries) (record { clause = clause_at f.clauses c; hints = (c + 1) ∷ [] })
+pub walking-start : (f : Formula) (t : TrailList) (c : ℕ) → IsFormula f → IsTrail t →
+    HasReasons f.clauses t.entries → is_conflict f.clauses (lits_of t.entries) c ≡ true →
+    (0 < level_of t.entries →
+    is_conflict f.clauses (lits_of (up_to (level_of t.entries - 1) t.entries)) c ≡ false) →
+    Walking f.vars f.clauses t.entries (reverse t.entries)
+    (record { clause = clause_at f.clauses c; hints = (c + 1) ∷ [] })
 walking-start f t c form trail reasons conflict below =
     let p = and_parts (nat_lt c (length f.clauses)) (is_falsified (lits_of t.entries) (clause_at f.clauses c)) conflict in
     let i = ltb-true c (length f.clauses) p.0 in
@@ -91,14 +99,23 @@ walking-start f t c form trail reasons conflict below =
     record {
       latest = k;
       low = omega (arith, top-is t.entries);
-      hand = in_hand-start f.vars f.clauses (reverse t.entries) c (clause_at f.clauses c) at (λ m h. has-reverse (opposite m) t.entries ∙ false-at (lits_of t.entries) (clause_at f.clauses c) m p.1 h) (list_all-slice_get vars_differ f.clauses c (clause_at f.clauses c) form.differ at) (list_all-slice_get (clause_in f.vars) f.clauses c (clause_at f.clauses c) form.within at);
+      hand = in_hand-start f.vars f.clauses (reverse t.entries) c (clause_at f.clauses c) at
+          (λ m h. has-reverse (opposite m) t.entries
+          ∙ false-at (lits_of t.entries) (clause_at f.clauses c) m p.1 h)
+          (list_all-slice_get vars_differ f.clauses c (clause_at f.clauses c) form.differ at)
+          (list_all-slice_get (clause_in f.vars) f.clauses c (clause_at f.clauses c) form.within at);
       current = record {
         some = λ pos. has-current t (clause_at f.clauses c) trail p.1 (ap (λ (b : Bool). b && is_falsified (lits_of (up_to (level_of t.entries - 1) t.entries)) (clause_at f.clauses c)) (sym p.0) ∙ below pos) low;
       };
       within = λ m h. sym (has-reverse m t.entries) ∙ h;
     }
 
-pub ends : (f : Formula) (t : TrailList) (c : ℕ) → IsFormula f → IsTrail t → HasReasons f.clauses t.entries → is_conflict f.clauses (lits_of t.entries) c ≡ true → (0 < level_of t.entries → is_conflict f.clauses (lits_of (up_to (level_of t.entries - 1) t.entries)) c ≡ false) → AtPoint f.vars f.clauses t.entries (learned f.clauses t.entries c) ⊎ AtEnd f.vars f.clauses t.entries (learned f.clauses t.entries c)
+pub ends : (f : Formula) (t : TrailList) (c : ℕ) → IsFormula f → IsTrail t → HasReasons f.clauses t.entries →
+    is_conflict f.clauses (lits_of t.entries) c ≡ true →
+    (0 < level_of t.entries →
+    is_conflict f.clauses (lits_of (up_to (level_of t.entries - 1) t.entries)) c ≡ false) →
+    AtPoint f.vars f.clauses t.entries (learned f.clauses t.entries c)
+    ⊎ AtEnd f.vars f.clauses t.entries (learned f.clauses t.entries c)
 ends f t c form trail reasons conflict below =
     walk f.vars f.clauses t.entries (reverse t.entries) _ (record { within = form.within; differ = form.differ }) (walking-start f t c form trail reasons conflict below)
 
@@ -108,14 +125,21 @@ point-derived n clauses all s a =
     let c = a.step.clause in
     let p = and_parts (has_var e.lit.var c) (has_one_current all c) a.point in
     let has = has-point n clauses all e a.before a.step a.walking p.0 in
-    ap (is_derived n clauses) a.is ∙ in_hand-derived n clauses (e ∷ a.before) a.step (point_first all e.lit c) a.walking.hand (λ m h. point-from all e c m has h) (λ m h. point-has all e c m a.walking.hand.differ has h) (point-differ all e c a.walking.hand.differ)
+    ap (is_derived n clauses) a.is
+    ∙ in_hand-derived n clauses (e ∷ a.before) a.step (point_first all e.lit c) a.walking.hand
+    (λ m h. point-from all e c m has h) (λ m h. point-has all e c m a.walking.hand.differ has h)
+    (point-differ all e c a.walking.hand.differ)
 
 end-derived : (n : ℕ) (clauses : List (List Literal)) (all : List Entry) (s : Step) → AtEnd n clauses all s → is_derived n clauses s ≡ true
 end-derived n clauses all s a =
     ap (is_derived n clauses) a.is ∙ in_hand-derived n clauses [] a.step [] a.walking.hand (λ m h. absurd (cc)) (λ m h. absurd (let x = a.walking.hand.denied m h in cc)) refl
 
 -- what is learned is derived
-pub learned-derived : (f : Formula) (t : TrailList) (c : ℕ) → IsFormula f → IsTrail t → HasReasons f.clauses t.entries → is_conflict f.clauses (lits_of t.entries) c ≡ true → (0 < level_of t.entries → is_conflict f.clauses (lits_of (up_to (level_of t.entries - 1) t.entries)) c ≡ false) → is_derived f.vars f.clauses (learned f.clauses t.entries c) ≡ true
+pub learned-derived : (f : Formula) (t : TrailList) (c : ℕ) → IsFormula f → IsTrail t →
+    HasReasons f.clauses t.entries → is_conflict f.clauses (lits_of t.entries) c ≡ true →
+    (0 < level_of t.entries →
+    is_conflict f.clauses (lits_of (up_to (level_of t.entries - 1) t.entries)) c ≡ false) →
+    is_derived f.vars f.clauses (learned f.clauses t.entries c) ≡ true
 learned-derived f t c form trail reasons conflict below =
     elim (ends f t c form trail reasons conflict below) [
       | inl a ↦ point-derived f.vars f.clauses t.entries _ a
@@ -141,10 +165,19 @@ point-asserting n clauses all s a =
     let pos = ltb-true 0 (level_of all) one.0 in
     let lower : highest_level all rest < level_of all = omega (arith, highest-below all rest (level_of all - 1) other, pos) in
     let begins = highest_first-begins all (without_variable e.lit.var c) (differ-kept (λ l. not (eqb l.var e.lit.var)) c w.hand.differ) in
-    ap (λ (x : Step). is_asserting all x.clause) a.is ∙ and_from _ (begins_at all (highest_level all rest) rest) (and_from _ (nat_lt (highest_level all rest) (level_of all)) (and_from (is_falsified (lits_of all) (point_first all e.lit c)) (is_current all (opposite e.lit)) falsified current) (lt-ltb (highest_level all rest) (level_of all) lower)) begins
+    ap (λ (x : Step). is_asserting all x.clause) a.is
+    ∙ and_from _ (begins_at all (highest_level all rest) rest)
+    (and_from _ (nat_lt (highest_level all rest) (level_of all))
+    (and_from (is_falsified (lits_of all) (point_first all e.lit c))
+    (is_current all (opposite e.lit)) falsified current)
+    (lt-ltb (highest_level all rest) (level_of all) lower)) begins
 
 -- above level 0 its clause is asserting
-pub learned-asserting : (f : Formula) (t : TrailList) (c : ℕ) → IsFormula f → IsTrail t → HasReasons f.clauses t.entries → is_conflict f.clauses (lits_of t.entries) c ≡ true → 0 < level_of t.entries → is_conflict f.clauses (lits_of (up_to (level_of t.entries - 1) t.entries)) c ≡ false → is_asserting t.entries (learned f.clauses t.entries c).clause ≡ true
+pub learned-asserting : (f : Formula) (t : TrailList) (c : ℕ) → IsFormula f → IsTrail t →
+    HasReasons f.clauses t.entries → is_conflict f.clauses (lits_of t.entries) c ≡ true →
+    0 < level_of t.entries →
+    is_conflict f.clauses (lits_of (up_to (level_of t.entries - 1) t.entries)) c ≡ false →
+    is_asserting t.entries (learned f.clauses t.entries c).clause ≡ true
 learned-asserting f t c form trail reasons conflict pos below =
     elim (ends f t c form trail reasons conflict (λ _. below)) [
       | inl a ↦ point-asserting f.vars f.clauses t.entries _ a

@@ -145,7 +145,11 @@ pub joined-var-right : (v : ℕ) (c d : List Literal) → has_var v d ≡ true �
 joined-var-right v c [] h = absurd (cc)
 joined-var-right v c (l ∷ d) h =
     elim (or_cases (eqb l.var v) (has_var v d) h) [
-      | inl e ↦ joined-var-left v (with_lit c l) d (with_lit-both (λ x. has_var v x ≡ true) c l (λ t. ap (λ (w : ℕ). has_var w c) (sym (eqb-true l.var v e)) ∙ t) (λ _. var-push v c l ∙ or_right (has_var v c) (eqb l.var v || false) (or_left (eqb l.var v) false e)))
+      | inl e ↦ joined-var-left v (with_lit c l) d
+          (with_lit-both (λ x. has_var v x ≡ true) c l
+          (λ t. ap (λ (w : ℕ). has_var w c) (sym (eqb-true l.var v e)) ∙ t)
+          (λ _. var-push v c l
+          ∙ or_right (has_var v c) (eqb l.var v || false) (or_left (eqb l.var v) false e)))
       | inr r ↦ joined-var-right v (with_lit c l) d r
     ]
 

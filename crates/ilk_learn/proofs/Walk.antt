@@ -64,7 +64,10 @@ resolved-not clauses e s h = rw h (go e.reason)
     go None = refl
     go (Some r) = refl
 
-pub resolved-is : (clauses : List (List Literal)) (e : Entry) (s : Step) (r : ℕ) → has_var e.lit.var s.clause ≡ true → e.reason ≡ Some r → resolved clauses e s ≡ record { clause = resolvent e.lit.var s.clause (clause_at clauses r); hints = (r + 1) ∷ s.hints }
+pub resolved-is : (clauses : List (List Literal)) (e : Entry) (s : Step) (r : ℕ) →
+    has_var e.lit.var s.clause ≡ true → e.reason ≡ Some r →
+    resolved clauses e s
+    ≡ record { clause = resolvent e.lit.var s.clause (clause_at clauses r); hints = (r + 1) ∷ s.hints }
 resolved-is clauses e s r h q = rw (q, h) refl
 
 -- a clause that has a literal stands in the list
@@ -74,7 +77,11 @@ stands (c ∷ clauses) zero l h = refl
 stands (c ∷ clauses) (suc r) l h = stands clauses r l h
 
 -- where another literal of the clause is current, one is left below the entry
-other-left : (n : ℕ) (clauses : List (List Literal)) (all : List Entry) (e : Entry) (es : List Entry) (s : Step) → InHand n clauses (e ∷ es) s → HasCurrent all s.clause → has_one_current all s.clause ≡ false → 0 < level_of all → (m : Literal) × (has_lit m s.clause ≡ true) × (level_at all m ≡ level_of all) × (m.var ≡ e.lit.var → ⊥)
+other-left :
+    (n : ℕ) (clauses : List (List Literal)) (all : List Entry) (e : Entry) (es : List Entry) (s : Step) →
+    InHand n clauses (e ∷ es) s → HasCurrent all s.clause → has_one_current all s.clause ≡ false →
+    0 < level_of all →
+    (m : Literal) × (has_lit m s.clause ≡ true) × (level_at all m ≡ level_of all) × (m.var ≡ e.lit.var → ⊥)
 other-left n clauses all e es s k c h p =
     let l = c.some p in
     let many : eqb (length (filter (is_current all) s.clause)) 1 ≡ false = elim (and_cases (nat_lt 0 (level_of all)) (eqb (length (filter (is_current all) s.clause)) 1) h) [
@@ -85,7 +92,10 @@ other-left n clauses all e es s k c h p =
     (m.0, m.1, eqb-true (level_at all m.0) (level_of all) m.2, m.3)
 
 -- so the entry was no decision
-has-reason : (n : ℕ) (clauses : List (List Literal)) (all : List Entry) (e : Entry) (es : List Entry) (s : Step) → Latest clauses all (e ∷ es) → e.level ≤ level_of all → InHand n clauses (e ∷ es) s → HasCurrent all s.clause → has_one_current all s.clause ≡ false → (r : ℕ) × (e.reason ≡ Some r)
+has-reason :
+    (n : ℕ) (clauses : List (List Literal)) (all : List Entry) (e : Entry) (es : List Entry) (s : Step) →
+    Latest clauses all (e ∷ es) → e.level ≤ level_of all → InHand n clauses (e ∷ es) s →
+    HasCurrent all s.clause → has_one_current all s.clause ≡ false → (r : ℕ) × (e.reason ≡ Some r)
 has-reason n clauses all e es s latest low k c h = go e.reason refl
   where
     opens : e.reason ≡ None → e.level ≡ top_level es + 1
@@ -107,7 +117,10 @@ has-reason n clauses all e es s latest low k c h = go e.reason refl
     go None q = absurd (decided q (cases_lt 0 (level_of all)))
 
 -- an entry that is no point is passed
-pub walking-next : (n : ℕ) (clauses : List (List Literal)) (all : List Entry) (e : Entry) (es : List Entry) (s : Step) → AreClauses n clauses → Walking n clauses all (e ∷ es) s → is_implication_point all e.lit s.clause ≡ false → Walking n clauses all es (resolved clauses e s)
+pub walking-next :
+    (n : ℕ) (clauses : List (List Literal)) (all : List Entry) (e : Entry) (es : List Entry) (s : Step) →
+    AreClauses n clauses → Walking n clauses all (e ∷ es) s →
+    is_implication_point all e.lit s.clause ≡ false → Walking n clauses all es (resolved clauses e s)
 walking-next n clauses all e es s a w p = (let after = next in record {
   latest = w.latest.1;
   low = omega (arith, (next-level (top_level es) e w.latest.0.next).0, w.low);
@@ -137,7 +150,13 @@ walking-next n clauses all e es s a w p = (let after = next in record {
     ]
 
 -- the reason of an entry that is resolved upon
-pub walking-reason : (n : ℕ) (clauses : List (List Literal)) (all : List Entry) (e : Entry) (es : List Entry) (s : Step) → Walking n clauses all (e ∷ es) s → has_var e.lit.var s.clause ≡ true → is_implication_point all e.lit s.clause ≡ false → (r : ℕ) × (e.reason ≡ Some r) × (slice_get clauses r ≡ Some (clause_at clauses r)) × (has_lit e.lit (clause_at clauses r) ≡ true) × (is_falsified (lits_of es) (others e.lit (clause_at clauses r)) ≡ true)
+pub walking-reason :
+    (n : ℕ) (clauses : List (List Literal)) (all : List Entry) (e : Entry) (es : List Entry) (s : Step) →
+    Walking n clauses all (e ∷ es) s → has_var e.lit.var s.clause ≡ true →
+    is_implication_point all e.lit s.clause ≡ false →
+    (r : ℕ) × (e.reason ≡ Some r) × (slice_get clauses r ≡ Some (clause_at clauses r)) ×
+    (has_lit e.lit (clause_at clauses r) ≡ true) ×
+    (is_falsified (lits_of es) (others e.lit (clause_at clauses r)) ≡ true)
 walking-reason n clauses all e es s w u p =
     let many : has_one_current all s.clause ≡ false = elim (and_cases (has_var e.lit.var s.clause) (has_one_current all s.clause) p) [ inl x ↦ absurd (true≢false (sym u ∙ x)) | inr x ↦ x ] in
     let r = has-reason n clauses all e es s w.latest w.low w.hand w.current many in

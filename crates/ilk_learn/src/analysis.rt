@@ -45,14 +45,22 @@ pub fn learn(
 ) -> Result<Learned, AllocError>
     requires vars { clauses.now.vars ≡ trail.now.vars }
     requires reasons { HasReasons clauses.now.clauses trail.now.entries }
-    requires conflict { IsTrue (is_conflict clauses.now.clauses (lits_of trail.now.entries) conflict) }
+    requires conflict { IsTrue
+        (is_conflict clauses.now.clauses (lits_of trail.now.entries) conflict) }
     requires level { 0 < level_of trail.now.entries }
-    requires below { is_conflict clauses.now.clauses (lits_of (up_to (level_of trail.now.entries - 1) trail.now.entries)) conflict ≡ false }
-    ensures step { IfOk result (λ l. l.step ≡ learned clauses.now.clauses trail.now.entries conflict) }
+    requires below { is_conflict clauses.now.clauses
+        (lits_of (up_to (level_of trail.now.entries - 1) trail.now.entries))
+        conflict ≡ false }
+    ensures step { IfOk result
+        (λ l. l.step ≡ learned clauses.now.clauses trail.now.entries conflict) }
     ensures level { IfOk result (λ l. l.level ≡ back_level trail.now.entries l.step.clause) }
-    ensures derived { IfOk result (λ l. IsTrue (is_derived clauses.now.vars clauses.now.clauses l.step)) }
+    ensures derived { IfOk result
+        (λ l. IsTrue (is_derived clauses.now.vars clauses.now.clauses l.step)) }
     ensures asserting { IfOk result (λ l. IsTrue (is_asserting trail.now.entries l.step.clause)) }
-    ensures fresh { IfOk result (λ l. IsTrue (is_closed clauses.now.clauses (lits_of (up_to l.level trail.now.entries))) → IsFresh clauses.now.clauses l.step.clause) }
+    ensures fresh { IfOk result
+        (λ l.
+        IsTrue (is_closed clauses.now.clauses (lits_of (up_to l.level trail.now.entries))) →
+        IsFresh clauses.now.clauses l.step.clause) }
 {
     let _count = clauses.count();
     let _level = trail.level();
@@ -71,10 +79,12 @@ pub fn refute(
 ) -> Result<Step, AllocError>
     requires vars { clauses.now.vars ≡ trail.now.vars }
     requires reasons { HasReasons clauses.now.clauses trail.now.entries }
-    requires conflict { IsTrue (is_conflict clauses.now.clauses (lits_of trail.now.entries) conflict) }
+    requires conflict { IsTrue
+        (is_conflict clauses.now.clauses (lits_of trail.now.entries) conflict) }
     requires level { level_of trail.now.entries ≡ 0 }
     ensures step { IfOk result (λ s. s ≡ learned clauses.now.clauses trail.now.entries conflict) }
-    ensures derived { IfOk result (λ s. IsTrue (is_derived clauses.now.vars clauses.now.clauses s)) }
+    ensures derived { IfOk result
+        (λ s. IsTrue (is_derived clauses.now.vars clauses.now.clauses s)) }
     ensures empty { IfOk result (λ s. s.clause ≡ []) }
 {
     let _count = clauses.count();
@@ -153,7 +163,9 @@ fn with_first(mut clause: Lits, first: Lit, lits: &[Lit]) -> Result<Lits, AllocE
 // The first literal of the highest level.
 fn first_highest(trail: &Trail, lits: &[Lit]) -> Option<Lit>
     requires { IsTrue (all_set trail.now lits.now) }
-    ensures { result ≡ find (λ l. level_at trail.now.entries l == highest_level trail.now.entries lits.now) lits.now }
+    ensures { result
+        ≡ find (λ l. level_at trail.now.entries l == highest_level trail.now.entries lits.now)
+        lits.now }
 {
     let top = top_level(trail, lits);
     for lit in lits {

@@ -57,7 +57,9 @@ impl Hand {
         requires held { (c : List Literal) × HandHolds trail.now self.old c }
         requires within { IsTrue (lit_in trail.now.vars lit) }
         requires set { IsTrue (is_set trail.now.entries lit.var) }
-        ensures holds { OnOk result ((c : List Literal) → HandHolds trail.now self.old c → HandHolds trail.now self.new (with_lit c lit)) }
+        ensures holds { OnOk result
+            ((c : List Literal) → HandHolds trail.now self.old c →
+            HandHolds trail.now self.new (with_lit c lit)) }
         ensures hints { self.new.hints ≡ self.old.hints }
     {
         let var = lit.var() as usize;
@@ -78,7 +80,9 @@ impl Hand {
         requires held { (k : List Literal) × HandHolds trail.now self.old k }
         requires known { c < length clauses.now.clauses }
         requires set { IsTrue (all_set trail.now (clause_at clauses.now.clauses c)) }
-        ensures holds { OnOk result ((k : List Literal) → HandHolds trail.now self.old k → HandHolds trail.now self.new (with_each_lit k (clause_at clauses.now.clauses c))) }
+        ensures holds { OnOk result
+            ((k : List Literal) → HandHolds trail.now self.old k →
+            HandHolds trail.now self.new (with_each_lit k (clause_at clauses.now.clauses c))) }
         ensures hints { self.new.hints ≡ self.old.hints }
     {
         for i in 0..clauses.length(c) {
@@ -95,14 +99,19 @@ impl Hand {
         lit: Lit,
         reason: u64,
     ) -> Result<(), AllocError>
-        requires held { (k : List Literal) × HandHolds trail.now self.old k × IsTrue (has_var lit.var k) }
+        requires held { (k : List Literal) × HandHolds trail.now self.old k ×
+            IsTrue (has_var lit.var k) }
         requires within { IsTrue (lit_in trail.now.vars lit) }
         requires current { IsTrue (is_current trail.now.entries lit) }
         requires known { reason < length clauses.now.clauses }
         requires numbered { reason + 1 < 2 ^ 64 }
         requires set { IsTrue (all_set trail.now (clause_at clauses.now.clauses reason)) }
-        ensures holds { OnOk result ((k : List Literal) → HandHolds trail.now self.old k → IsTrue (has_var lit.var k) → HandHolds trail.now self.new (resolvent lit.var k (clause_at clauses.now.clauses reason))) }
-        ensures hints { OnOk result (self.new.hints.items ≡ self.old.hints.items ++ (reason + 1) ∷ []) }
+        ensures holds { OnOk result
+            ((k : List Literal) → HandHolds trail.now self.old k → IsTrue (has_var lit.var k) →
+            HandHolds trail.now self.new
+            (resolvent lit.var k (clause_at clauses.now.clauses reason))) }
+        ensures hints { OnOk result
+            (self.new.hints.items ≡ self.old.hints.items ++ (reason + 1) ∷ []) }
     {
         self.join(clauses, trail, reason)?;
         self.marks[lit.var() as usize] = false;
@@ -118,8 +127,12 @@ impl Hand {
         requires vars { clauses.now.vars ≡ trail.now.vars }
         requires within { IsTrue (lit_in trail.now.vars lit) }
         requires set { IsTrue (is_set trail.now.entries lit.var) }
-        requires current { slice_index_or self.old.marks.items lit.var false ≡ true → IsTrue (is_current trail.now.entries lit) }
-        ensures { OnOk result ((e : Entry) (s : StepValue) → entry_of trail.now.entries lit.var ≡ Some e → Keeps trail.now self.old s → Keeps trail.now self.new (resolved clauses.now.clauses e s)) }
+        requires current { slice_index_or self.old.marks.items lit.var false ≡ true →
+            IsTrue (is_current trail.now.entries lit) }
+        ensures { OnOk result
+            ((e : Entry) (s : StepValue) → entry_of trail.now.entries lit.var ≡ Some e →
+            Keeps trail.now self.old s →
+            Keeps trail.now self.new (resolved clauses.now.clauses e s)) }
     {
         let _count = clauses.count();
         if self.marks[lit.var() as usize] {
@@ -135,7 +148,8 @@ impl Hand {
     fn is_point(&self, trail: &Trail, lit: Lit) -> bool
         requires held { (c : List Literal) × HandHolds trail.now self.now c }
         requires within { IsTrue (lit_in trail.now.vars lit) }
-        ensures { (c : List Literal) → HandHolds trail.now self.now c → result ≡ is_implication_point trail.now.entries lit c }
+        ensures { (c : List Literal) → HandHolds trail.now self.now c →
+            result ≡ is_implication_point trail.now.entries lit c }
     {
         let marked = self.marks[lit.var() as usize];
         let level = trail.level();
@@ -151,7 +165,8 @@ impl Hand {
     ) -> Result<Option<Lit>, AllocError>
         requires conflict { IsConflict (formula_of clauses.now) trail.now conflict }
         requires held { Keeps trail.now self.old (conflict_step clauses.now.clauses conflict) }
-        ensures { IfOk result (λ point. Reached trail.now clauses.now.clauses conflict self.new point) }
+        ensures { IfOk result
+            (λ point. Reached trail.now clauses.now.clauses conflict self.new point) }
     {
         let _clauses = clauses.count();
         let mut i = trail.count();

@@ -97,7 +97,11 @@ no_values {A = A} x items n lines =
 each_missing : {A T : Type 0} (value : ℕ → Bytes → Option A) (x : ℕ) (items : List ℕ) (n : ℕ) (next : LinesPart A → Bytes → Result T ℕ) (bytes : Bytes) → each_then value (x ∷ items) n next [] bytes ≡ Err (n + 0)
 each_missing {A = A} value x items n next bytes = ap (λ (r : Result (LinesPart A) ℕ). r >>= (λ part. next part bytes)) (no_values x items n [])
 
-each_refuses : {A T : Type 0} (value : ℕ → Bytes → Option A) (x : ℕ) (items : List ℕ) (n : ℕ) (next : LinesPart A → Bytes → Result T ℕ) (line : Bytes) → value x line ≡ None → (more : List Bytes) (bytes : Bytes) → each_then value (x ∷ items) n next (line ∷ more) bytes ≡ Err (n + 0)
+each_refuses :
+    {A T : Type 0} (value : ℕ → Bytes → Option A) (x : ℕ) (items : List ℕ) (n : ℕ)
+    (next : LinesPart A → Bytes → Result T ℕ) (line : Bytes) →
+    value x line ≡ None → (more : List Bytes) (bytes : Bytes) →
+    each_then value (x ∷ items) n next (line ∷ more) bytes ≡ Err (n + 0)
 each_refuses {A = A} value x items n next line none more bytes =
     ap (λ (o : Option A). told_with (x ∷ items) n (line ∷ more) (onto o (values_left value items more)) >>= (λ part. next part bytes)) none
     ∙ ap (λ (r : Result (LinesPart A) ℕ). r >>= (λ part. next part bytes)) (no_values x items n (line ∷ more))
@@ -117,7 +121,12 @@ told_more {A = A} x items n line more v values next bytes = by_count (length val
         let number : n + length (v ∷ values) ≡ n + 1 + length values = omega arith in
         rw (longer, differs) (ap (λ k. Err k) number)
 
-each_goes : {A T : Type 0} (value : ℕ → Bytes → Option A) (x : ℕ) (items : List ℕ) (n : ℕ) (next : LinesPart A → Bytes → Result T ℕ) (line : Bytes) (v : A) → value x line ≡ Some v → (more : List Bytes) (bytes : Bytes) → each_then value (x ∷ items) n next (line ∷ more) bytes ≡ each_then value items (n + 1) (λ part. next (with_value v part)) more bytes
+each_goes :
+    {A T : Type 0} (value : ℕ → Bytes → Option A) (x : ℕ) (items : List ℕ) (n : ℕ)
+    (next : LinesPart A → Bytes → Result T ℕ) (line : Bytes) (v : A) →
+    value x line ≡ Some v → (more : List Bytes) (bytes : Bytes) →
+    each_then value (x ∷ items) n next (line ∷ more) bytes
+    ≡ each_then value items (n + 1) (λ part. next (with_value v part)) more bytes
 each_goes value x items n next line v some more bytes =
     ap (λ o. told_with (x ∷ items) n (line ∷ more) (onto o (values_left value items more)) >>= (λ part. next part bytes)) some
     ∙ told_more x items n line more v (values_left value items more) next bytes
@@ -127,7 +136,12 @@ abbrev pub HasLine : {A : Type 0} → (ℕ → Bytes → Option A) → ℕ → T
 HasLine {A} value x = (line : Bytes) × (v : A) × (value x line ≡ Some v)
 
 -- one more item
-each_more : {A T : Type 0} (value : ℕ → Bytes → Option A) (x : ℕ) (items : List ℕ) (n : ℕ) (next : LinesPart A → Bytes → Result T ℕ) → HasLine value x → ((v : A) → IsByLine (n + 1) (each_then value items (n + 1) (λ part. next (with_value v part)))) → IsByLine n (each_then value (x ∷ items) n next)
+each_more :
+    {A T : Type 0} (value : ℕ → Bytes → Option A) (x : ℕ) (items : List ℕ) (n : ℕ)
+    (next : LinesPart A → Bytes → Result T ℕ) →
+    HasLine value x →
+    ((v : A) → IsByLine (n + 1) (each_then value items (n + 1) (λ part. next (with_value v part)))) →
+    IsByLine n (each_then value (x ∷ items) n next)
 each_more {A = A} value x items n next own rest = record { fills = fills; fails = fails }
   where
     fills : Fills (each_then value (x ∷ items) n next)
@@ -150,7 +164,12 @@ each_more {A = A} value x items n next own rest = record { fills = fills; fails 
     fails (line ∷ lines) bytes m e = by_value line lines bytes m e (value x line) refl
 
 -- a reader of lines for items, and then a next one, goes by line where each item has a line
-pub each_by_line : {A T : Type 0} (value : ℕ → Bytes → Option A) (items : List ℕ) (n : ℕ) (next : LinesPart A → Bytes → Result T ℕ) → ((i x : ℕ) → slice_get items i ≡ Some x → HasLine value x) → ((values : List A) → IsByLine (n + length items) (part_reader next values (n + length items))) → IsByLine n (each_then value items n next)
+pub each_by_line :
+    {A T : Type 0} (value : ℕ → Bytes → Option A) (items : List ℕ) (n : ℕ)
+    (next : LinesPart A → Bytes → Result T ℕ) →
+    ((i x : ℕ) → slice_get items i ≡ Some x → HasLine value x) →
+    ((values : List A) → IsByLine (n + length items) (part_reader next values (n + length items))) →
+    IsByLine n (each_then value items n next)
 each_by_line {A = A} value [] n next has by =
     let P : ℕ → Type 0 = λ k. IsByLine k (part_reader next [] (n + 0)) in
     let same : n + 0 ≡ n = omega arith in
@@ -168,7 +187,12 @@ abbrev pub leading_then : {A T : Type 0} → (Bytes → Option A) → Bytes → 
 leading_then value wanted n next lines bytes = taken_then wanted n next lines bytes (leading value lines)
 
 -- after a line that tells a value
-leading_goes : {A T : Type 0} (value : Bytes → Option A) (wanted : Bytes) (n : ℕ) (next : List A → ℕ → Reader T) (line : Bytes) (v : A) → value line ≡ Some v → (more : List Bytes) (bytes : Bytes) → leading_then value wanted n next (line ∷ more) bytes ≡ leading_then value wanted (n + 1) (λ values. next (v ∷ values)) more bytes
+leading_goes :
+    {A T : Type 0} (value : Bytes → Option A) (wanted : Bytes) (n : ℕ) (next : List A → ℕ → Reader T)
+    (line : Bytes) (v : A) →
+    value line ≡ Some v → (more : List Bytes) (bytes : Bytes) →
+    leading_then value wanted n next (line ∷ more) bytes
+    ≡ leading_then value wanted (n + 1) (λ values. next (v ∷ values)) more bytes
 leading_goes {A = A} value wanted n next line v some more bytes =
     let values : List A = leading value more in
     let number : n + length (v ∷ values) ≡ n + 1 + length values = omega arith in
@@ -176,7 +200,12 @@ leading_goes {A = A} value wanted n next line v some more bytes =
     ∙ ap (λ k. after_line wanted k (drop (length values) more) >>= (λ ls. next (v ∷ values) (k + 1) ls bytes)) number
 
 -- at a line that tells none, the wanted line is asked
-leading_stops : {A T : Type 0} (value : Bytes → Option A) (wanted : Bytes) (n : ℕ) (next : List A → ℕ → Reader T) (line : Bytes) → value line ≡ None → (more : List Bytes) (bytes : Bytes) → leading_then value wanted n next (line ∷ more) bytes ≡ after_then wanted n (next [] (n + 1)) (line ∷ more) bytes
+leading_stops :
+    {A T : Type 0} (value : Bytes → Option A) (wanted : Bytes) (n : ℕ) (next : List A → ℕ → Reader T)
+    (line : Bytes) →
+    value line ≡ None → (more : List Bytes) (bytes : Bytes) →
+    leading_then value wanted n next (line ∷ more) bytes
+    ≡ after_then wanted n (next [] (n + 1)) (line ∷ more) bytes
 leading_stops {A = A} value wanted n next line none more bytes =
     let number : n + 0 ≡ n = omega arith in
     ap (λ (o : Option A). taken_then wanted n next (line ∷ more) bytes (onto o (leading value more))) none
@@ -186,7 +215,11 @@ leading_fills : {A T : Type 0} (value : Bytes → Option A) (wanted : Bytes) (n 
 leading_fills value wanted n next none (more, t, e) =
     (wanted ∷ more, t, leading_stops value wanted n next wanted none more [] ∙ after_passes wanted n (next [] (n + 1)) wanted (same_bytes wanted) more [] ∙ e)
 
-leading_fails : {A T : Type 0} (value : Bytes → Option A) (wanted : Bytes) → value wanted ≡ None → (lines : List Bytes) (n : ℕ) (next : List A → ℕ → Reader T) → ((values : List A) (number : ℕ) → IsByLine number (next values number)) → (bytes : Bytes) (m : ℕ) → leading_then value wanted n next lines bytes ≡ Err m → FailsAt n (leading_then value wanted n next) lines m
+leading_fails : {A T : Type 0} (value : Bytes → Option A) (wanted : Bytes) → value wanted ≡ None →
+    (lines : List Bytes) (n : ℕ) (next : List A → ℕ → Reader T) →
+    ((values : List A) (number : ℕ) → IsByLine number (next values number)) → (bytes : Bytes) (m : ℕ) →
+    leading_then value wanted n next lines bytes ≡ Err m →
+    FailsAt n (leading_then value wanted n next) lines m
 leading_fails value wanted none [] n next by bytes m e =
     let here : n + 0 ≡ m = err_is e in
     fails_first n m (leading_then value wanted n next) [] (omega (arith, here)) (λ some. absurd (omega arith)) (leading_fills value wanted n next none (by [] (n + 1)).fills)
@@ -199,7 +232,10 @@ leading_fails {A = A} value wanted none (line ∷ lines) n next by bytes m e =
         by_passed : (k : ℕ) → m ≡ n + k → k ≤ length (line ∷ lines) → (k < length (line ∷ lines) → (more : List Bytes) (others : Bytes) → after_then wanted n (next [] (n + 1)) (take (suc k) (line ∷ lines) ++ more) others ≡ Err m)
             → Fills (λ more others. after_then wanted n (next [] (n + 1)) (take k (line ∷ lines) ++ more) others) → FailsAt n (leading_then value wanted n next) (line ∷ lines) m
         by_passed zero at within seen before =
-            fails_first n m (leading_then value wanted n next) (line ∷ lines) (omega (arith, at)) (λ some more others. leading_stops value wanted n next line ends more others ∙ seen (omega arith) more others) (leading_fills value wanted n next none (by [] (n + 1)).fills)
+            fails_first n m (leading_then value wanted n next) (line ∷ lines) (omega (arith, at))
+            (λ some more others. leading_stops value wanted n next line ends more others
+            ∙ seen (omega arith) more others)
+            (leading_fills value wanted n next none (by [] (n + 1)).fills)
         by_passed (suc k) at within seen before = record {
           passed = suc k;
           at = at;
@@ -208,7 +244,10 @@ leading_fails {A = A} value wanted none (line ∷ lines) n next by bytes m e =
           before = (before.0, before.1, leading_stops value wanted n next line ends (take k lines ++ before.0) [] ∙ before.2);
         }
 
-    by_value : (o : Option A) → value line ≡ o → ((v : A) → leading_then value wanted (n + 1) (λ values. next (v ∷ values)) lines bytes ≡ Err m → FailsAt (n + 1) (leading_then value wanted (n + 1) (λ values. next (v ∷ values))) lines m) → FailsAt n (leading_then value wanted n next) (line ∷ lines) m
+    by_value : (o : Option A) → value line ≡ o →
+        ((v : A) → leading_then value wanted (n + 1) (λ values. next (v ∷ values)) lines bytes ≡ Err m →
+        FailsAt (n + 1) (leading_then value wanted (n + 1) (λ values. next (v ∷ values))) lines m) →
+        FailsAt n (leading_then value wanted n next) (line ∷ lines) m
     by_value None ends later =
         stop ((after_by_line wanted n (next [] (n + 1)) (by [] (n + 1))).fails (line ∷ lines) bytes m (sym (leading_stops value wanted n next line ends lines bytes) ∙ e)) ends
     by_value (Some v) some later =
@@ -216,7 +255,10 @@ leading_fails {A = A} value wanted none (line ∷ lines) n next by bytes m e =
         (later v (sym (leading_goes value wanted n next line v some lines bytes) ∙ e))
 
 -- a reader of lines as long as they tell values goes by line
-pub leading_by_line : {A T : Type 0} (value : Bytes → Option A) (wanted : Bytes) (n : ℕ) (next : List A → ℕ → Reader T) → value wanted ≡ None → ((values : List A) (number : ℕ) → IsByLine number (next values number)) → IsByLine n (leading_then value wanted n next)
+pub leading_by_line :
+    {A T : Type 0} (value : Bytes → Option A) (wanted : Bytes) (n : ℕ) (next : List A → ℕ → Reader T) →
+    value wanted ≡ None → ((values : List A) (number : ℕ) → IsByLine number (next values number)) →
+    IsByLine n (leading_then value wanted n next)
 leading_by_line value wanted n next none by = record {
   fills = leading_fills value wanted n next none (by [] (n + 1)).fills;
   fails = λ lines bytes m e. leading_fails value wanted none lines n next by bytes m e;

@@ -7,7 +7,10 @@ use Rattle.std.proofs.lemmas.List.Splits.{slice_split_first}
 use Rattle.ilk_lines.specs.Reading.{at_the_end}
 use Rattle.ilk_lines.specs.Lines.{after_lines, last_part, lines_of, parts_at, parts_but_last}
 
-none_by : (b : Bool) (c i x : ℕ) (xs : List ℕ) → (position_from (λ b. b == c) (i + 1) xs ≡ None → parts_at c xs ≡ xs ∷ []) → cond b (Some i) (position_from (λ b. b == c) (i + 1) xs) ≡ None → cond b ([] ∷ parts_at c xs) (onto_first x (parts_at c xs)) ≡ (x ∷ xs) ∷ []
+none_by : (b : Bool) (c i x : ℕ) (xs : List ℕ) →
+    (position_from (λ b. b == c) (i + 1) xs ≡ None → parts_at c xs ≡ xs ∷ []) →
+    cond b (Some i) (position_from (λ b. b == c) (i + 1) xs) ≡ None →
+    cond b ([] ∷ parts_at c xs) (onto_first x (parts_at c xs)) ≡ (x ∷ xs) ∷ []
 none_by true c i x xs f e = cc
 none_by false c i x xs f e = ap (onto_first x) (f e)
 

@@ -11,26 +11,43 @@ use Rattle.ilk_base.proofs.Results.{ok_is}
 use Rattle.ilk_lines.proofs.InOrder.{told_with, values_left}
 
 -- the values that are told are those of the lines, one for each item
-pub each_ok : {A : Type 0} (value : ℕ → Bytes → Option A) (items : List ℕ) (n : ℕ) (lines : List Bytes) (part : LinesPart A) → each_told value items n lines ≡ Ok part → (part.values ≡ values_left value items lines) × (length part.values ≡ length items)
+pub each_ok :
+    {A : Type 0} (value : ℕ → Bytes → Option A) (items : List ℕ) (n : ℕ) (lines : List Bytes)
+    (part : LinesPart A) →
+    each_told value items n lines ≡ Ok part →
+    (part.values ≡ values_left value items lines) × (length part.values ≡ length items)
 each_ok {A = A} value items n lines part e = by_count (length (values_left value items lines) == length items) refl e
   where
     whole : LinesPart A
     whole = record { values = values_left value items lines; number = n + length items; lines = drop (length items) lines }
 
-    by_count : (b : Bool) → (length (values_left value items lines) == length items) ≡ b → cond {A = Result (LinesPart A) ℕ} b (Ok whole) (Err (n + length (values_left value items lines))) ≡ Ok part → (part.values ≡ values_left value items lines) × (length part.values ≡ length items)
+    by_count : (b : Bool) → (length (values_left value items lines) == length items) ≡ b →
+        cond {A = Result (LinesPart A) ℕ} b (Ok whole) (Err (n + length (values_left value items lines)))
+        ≡ Ok part →
+        (part.values ≡ values_left value items lines) × (length part.values ≡ length items)
     by_count true same here =
         let this : whole ≡ part = cc in
         let values : part.values ≡ values_left value items lines = ap (λ (q : LinesPart A). q.values) (sym this) in
         (values, ap length values ∙ (Decides-eqb _ _).0 same)
     by_count false same here = cc
 
-value_first : {A : Type 0} (value : ℕ → Bytes → Option A) (x : ℕ) (items : List ℕ) (line : Bytes) (rest : List A) (o : Option A) → value x line ≡ o → ((j : ℕ) (w : A) → slice_get rest j ≡ Some w → (y : ℕ) × (other : Bytes) × (slice_get items j ≡ Some y) × (value y other ≡ Some w)) → (i : ℕ) (v : A) → slice_get (onto o rest) i ≡ Some v → (y : ℕ) × (other : Bytes) × (slice_get (x ∷ items) i ≡ Some y) × (value y other ≡ Some v)
+value_first :
+    {A : Type 0} (value : ℕ → Bytes → Option A) (x : ℕ) (items : List ℕ) (line : Bytes) (rest : List A)
+    (o : Option A) →
+    value x line ≡ o →
+    ((j : ℕ) (w : A) → slice_get rest j ≡ Some w →
+    (y : ℕ) × (other : Bytes) × (slice_get items j ≡ Some y) × (value y other ≡ Some w)) →
+    (i : ℕ) (v : A) → slice_get (onto o rest) i ≡ Some v →
+    (y : ℕ) × (other : Bytes) × (slice_get (x ∷ items) i ≡ Some y) × (value y other ≡ Some v)
 value_first value x items line rest None this later i v e = cc
 value_first value x items line rest (Some w) this later zero v e = (x, line, refl, this ∙ e)
 value_first value x items line rest (Some w) this later (suc i) v e = later i v e
 
 -- each of these values is told by a line, for the item at its index
-pub value_at : {A : Type 0} (value : ℕ → Bytes → Option A) (items : List ℕ) (lines : List Bytes) (i : ℕ) (v : A) → slice_get (values_left value items lines) i ≡ Some v → (x : ℕ) × (line : Bytes) × (slice_get items i ≡ Some x) × (value x line ≡ Some v)
+pub value_at :
+    {A : Type 0} (value : ℕ → Bytes → Option A) (items : List ℕ) (lines : List Bytes) (i : ℕ) (v : A) →
+    slice_get (values_left value items lines) i ≡ Some v →
+    (x : ℕ) × (line : Bytes) × (slice_get items i ≡ Some x) × (value x line ≡ Some v)
 value_at value [] lines i v e = cc
 value_at value (x ∷ items) [] i v e = cc
 value_at value (x ∷ items) (line ∷ lines) i v e = value_first value x items line (values_left value items lines) (value x line) refl (λ j w. value_at value items lines j w) i v e
@@ -60,7 +77,10 @@ each_back value line_of items values n rest same holds =
     ∙ rw (all, lines_past line_of items values rest same) refl
 
 -- the lines of values that are told in order
-each_lines : {A : Type 0} (value : ℕ → Bytes → Option A) (line_of : ℕ → A → Bytes) → ((x : ℕ) (line : Bytes) (v : A) → value x line ≡ Some v → line ≡ line_of x v) → (items : List ℕ) (lines : List Bytes) → length (values_left value items lines) ≡ length items → lines ≡ each_line line_of items (values_left value items lines) ++ drop (length items) lines
+each_lines : {A : Type 0} (value : ℕ → Bytes → Option A) (line_of : ℕ → A → Bytes) →
+    ((x : ℕ) (line : Bytes) (v : A) → value x line ≡ Some v → line ≡ line_of x v) →
+    (items : List ℕ) (lines : List Bytes) → length (values_left value items lines) ≡ length items →
+    lines ≡ each_line line_of items (values_left value items lines) ++ drop (length items) lines
 each_lines value line_of holds [] lines all = refl
 each_lines value line_of holds (x ∷ items) [] all = cc
 each_lines {A = A} value line_of holds (x ∷ items) (line ∷ lines) all = by_value (value x line) refl all (λ fits. each_lines value line_of holds items lines fits)
@@ -84,7 +104,10 @@ each_rest {A = A} value items n lines part e = by_count (length (values_left val
     by_count false here = cc
 
 -- where each value's line is the one that is written for it, the lines are those that are written for the values
-pub told_lines : {A : Type 0} (value : ℕ → Bytes → Option A) (line_of : ℕ → A → Bytes) → ((x : ℕ) (line : Bytes) (v : A) → value x line ≡ Some v → line ≡ line_of x v) → (items : List ℕ) (n : ℕ) (lines : List Bytes) (part : LinesPart A) → each_told value items n lines ≡ Ok part → lines ≡ each_line line_of items part.values ++ part.lines
+pub told_lines : {A : Type 0} (value : ℕ → Bytes → Option A) (line_of : ℕ → A → Bytes) →
+    ((x : ℕ) (line : Bytes) (v : A) → value x line ≡ Some v → line ≡ line_of x v) →
+    (items : List ℕ) (n : ℕ) (lines : List Bytes) (part : LinesPart A) →
+    each_told value items n lines ≡ Ok part → lines ≡ each_line line_of items part.values ++ part.lines
 told_lines value line_of holds items n lines part e =
     let ok = each_ok value items n lines part e in
     each_lines value line_of holds items lines (ap length (sym ok.0) ∙ ok.1)

@@ -24,7 +24,13 @@ pub record IsAt {A : Type 0} (value : ℕ → Bytes → Option A) (items : List 
   pub number_is : number ≡ n + length taken
 
 -- a line that tells its item's value is taken
-pub at_next : {A : Type 0} (value : ℕ → Bytes → Option A) (items : List ℕ) (n : ℕ) (lines : List Bytes) (taken new : List A) (x : ℕ) (left following : List ℕ) (number next : ℕ) (rest more : List Bytes) (v : A) → IsAt value items n lines taken left number rest → left ≡ x ∷ following → one_told value x rest ≡ Some (v, more) → new ≡ taken ++ v ∷ [] → next ≡ number + 1 → IsAt value items n lines new following next more
+pub at_next :
+    {A : Type 0} (value : ℕ → Bytes → Option A) (items : List ℕ) (n : ℕ) (lines : List Bytes)
+    (taken new : List A) (x : ℕ) (left following : List ℕ) (number next : ℕ) (rest more : List Bytes)
+    (v : A) →
+    IsAt value items n lines taken left number rest → left ≡ x ∷ following →
+    one_told value x rest ≡ Some (v, more) → new ≡ taken ++ v ∷ [] → next ≡ number + 1 →
+    IsAt value items n lines new following next more
 at_next value items n lines taken new x left following number next [] more v at e told f g = cc
 at_next {A = A} value items n lines taken new x left following number next (line ∷ after) more v at e told f g = by_value (value x line) refl told
   where
@@ -57,7 +63,11 @@ nothing_left {A = A} value x following (line ∷ after) none = by_value (value x
     by_value (Some w) that = cc
 
 -- where no line is left, or the next doesn't tell its item's value, that line is bad
-pub at_bad : {A : Type 0} (value : ℕ → Bytes → Option A) (items : List ℕ) (n : ℕ) (lines : List Bytes) (taken : List A) (x : ℕ) (left following : List ℕ) (number : ℕ) (rest : List Bytes) → IsAt value items n lines taken left number rest → left ≡ x ∷ following → one_told value x rest ≡ None → each_told value items n lines ≡ Err number
+pub at_bad :
+    {A : Type 0} (value : ℕ → Bytes → Option A) (items : List ℕ) (n : ℕ) (lines : List Bytes) (taken : List A)
+    (x : ℕ) (left following : List ℕ) (number : ℕ) (rest : List Bytes) →
+    IsAt value items n lines taken left number rest → left ≡ x ∷ following → one_told value x rest ≡ None →
+    each_told value items n lines ≡ Err number
 at_bad value items n lines taken x left following number rest at e refused =
     let none : values_left value left rest ≡ [] = ap (λ xs. values_left value xs rest) e ∙ nothing_left value x following rest refused in
     let d : length left ≡ length following + 1 = ap length e ∙ omega arith in
@@ -67,11 +77,20 @@ at_bad value items n lines taken x left following number rest at e refused =
     ap (told_with items n lines) values ∙ rw fewer (ap Err (sym at.number_is))
 
 -- the same where the items are those of a list, of which those from index i on are left
-pub item_more : {A : Type 0} (value : ℕ → Bytes → Option A) (items : List ℕ) (n : ℕ) (lines : List Bytes) (taken new : List A) (i number next : ℕ) (line : Bytes) (rest more : List Bytes) (v : A) → IsAt value items n lines taken (drop i items) number rest → i < length items → rest ≡ line ∷ more → Some v ≡ value (get_or items i 0) line → new ≡ taken ++ v ∷ [] → next ≡ number + 1 → IsAt value items n lines new (drop (i + 1) items) next more
+pub item_more :
+    {A : Type 0} (value : ℕ → Bytes → Option A) (items : List ℕ) (n : ℕ) (lines : List Bytes)
+    (taken new : List A) (i number next : ℕ) (line : Bytes) (rest more : List Bytes) (v : A) →
+    IsAt value items n lines taken (drop i items) number rest → i < length items → rest ≡ line ∷ more →
+    Some v ≡ value (get_or items i 0) line → new ≡ taken ++ v ∷ [] → next ≡ number + 1 →
+    IsAt value items n lines new (drop (i + 1) items) next more
 item_more value items n lines taken new i number next line rest more v at below first told f g =
     at_next value items n lines taken new (get_or items i 0) (drop i items) (drop (i + 1) items) number next rest more v at (drop_more items i 0 below)
     (ap (one_told value (get_or items i 0)) first ∙ ap (option_map (λ w. (w, more))) (sym told)) f g
 
-pub item_missing : {A : Type 0} (value : ℕ → Bytes → Option A) (items : List ℕ) (n : ℕ) (lines : List Bytes) (taken : List A) (i number : ℕ) (rest : List Bytes) → IsAt value items n lines taken (drop i items) number rest → i < length items → rest ≡ [] → each_told value items n lines ≡ Err number
+pub item_missing :
+    {A : Type 0} (value : ℕ → Bytes → Option A) (items : List ℕ) (n : ℕ) (lines : List Bytes) (taken : List A)
+    (i number : ℕ) (rest : List Bytes) →
+    IsAt value items n lines taken (drop i items) number rest → i < length items → rest ≡ [] →
+    each_told value items n lines ≡ Err number
 item_missing value items n lines taken i number rest at below none =
     at_bad value items n lines taken (get_or items i 0) (drop i items) (drop (i + 1) items) number rest at (drop_more items i 0 below) (ap (one_told value (get_or items i 0)) none)

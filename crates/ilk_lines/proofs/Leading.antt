@@ -20,7 +20,9 @@ leading_all value P holds [] = All-nil P
 leading_all value P holds (line ∷ lines) = onto_all value P line (value line) refl (leading value lines) holds (leading_all value P holds lines)
 
 -- where each value's line is the one that is written for it, the lines are those that are written for the values
-pub leading_lines : {A : Type 0} (value : Bytes → Option A) (line_of : A → Bytes) → ((line : Bytes) (v : A) → value line ≡ Some v → line ≡ line_of v) → (lines : List Bytes) → lines ≡ map line_of (leading value lines) ++ drop (length (leading value lines)) lines
+pub leading_lines : {A : Type 0} (value : Bytes → Option A) (line_of : A → Bytes) →
+    ((line : Bytes) (v : A) → value line ≡ Some v → line ≡ line_of v) → (lines : List Bytes) →
+    lines ≡ map line_of (leading value lines) ++ drop (length (leading value lines)) lines
 leading_lines value line_of holds [] = refl
 leading_lines {A = A} value line_of holds (line ∷ lines) = by_value (value line) refl (leading_lines value line_of holds lines)
   where
@@ -30,7 +32,11 @@ leading_lines {A = A} value line_of holds (line ∷ lines) = by_value (value lin
     by_value (Some v) this rest = ap (λ l. l ∷ lines) (holds line v this) ∙ ap (λ ls. line_of v ∷ ls) rest
 
 -- the lines that are written for values tell these, up to a line that tells none
-pub leading_back : {A : Type 0} (value : Bytes → Option A) (line_of : A → Bytes) (values : List A) (last : Bytes) (rest : List Bytes) → All (λ v. value (line_of v) ≡ Some v) values → value last ≡ None → leading value (map line_of values ++ last ∷ rest) ≡ values
+pub leading_back :
+    {A : Type 0} (value : Bytes → Option A) (line_of : A → Bytes) (values : List A) (last : Bytes)
+    (rest : List Bytes) →
+    All (λ v. value (line_of v) ≡ Some v) values → value last ≡ None →
+    leading value (map line_of values ++ last ∷ rest) ≡ values
 leading_back value line_of [] last rest told none = ap (λ o. onto o (leading value rest)) none
 leading_back value line_of (v ∷ values) last rest told none =
     ap (λ o. onto o (leading value (map line_of values ++ last ∷ rest))) (told zero v (omega arith))

@@ -85,7 +85,10 @@ pub parts-joined : (c : ℕ) (xs : Bytes) → c ∷ xs ≡ flat_map (λ part. c 
 parts-joined c [] = refl
 parts-joined c (x ∷ xs) = join (x == c) refl (parts_follow c xs) (parts-joined c xs)
   where
-    join : (b : Bool) → (x == c) ≡ b → ((part : Bytes) × (parts : List Bytes) × (parts_at c xs ≡ part ∷ parts)) → c ∷ xs ≡ flat_map (λ part. c ∷ part) (parts_at c xs) → c ∷ x ∷ xs ≡ flat_map (λ part. c ∷ part) (cond b ([] ∷ parts_at c xs) (onto_first x (parts_at c xs)))
+    join : (b : Bool) → (x == c) ≡ b →
+        ((part : Bytes) × (parts : List Bytes) × (parts_at c xs ≡ part ∷ parts)) →
+        c ∷ xs ≡ flat_map (λ part. c ∷ part) (parts_at c xs) →
+        c ∷ x ∷ xs ≡ flat_map (λ part. c ∷ part) (cond b ([] ∷ parts_at c xs) (onto_first x (parts_at c xs)))
     join true same follows rest = ap (λ y. c ∷ y ∷ xs) ((Decides-eqb x c).0 same) ∙ ap (λ ys. c ∷ ys) rest
     join false differs (part, parts, follows) rest =
         let whole : c ∷ xs ≡ c ∷ (part ++ flat_map (λ q. c ∷ q) parts) = rest ∙ ap (flat_map (λ q. c ∷ q)) follows in

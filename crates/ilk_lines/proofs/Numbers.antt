@@ -21,7 +21,10 @@ not_both true c n h = rw h refl
 not_both false c n h = refl
 
 -- a number that has passed the limit isn't read
-pub over_limit : (word : List ℕ) (n limit i : ℕ) → digits_value 10 word ≡ digits_value_after 10 n (drop i word) → list_all is_ascii_digit (drop i word) ≡ true → i < length word → limit < n * 10 + (get_or word i 0 - 48) → None ≡ decimal_up_to limit word
+pub over_limit : (word : List ℕ) (n limit i : ℕ) →
+    digits_value 10 word ≡ digits_value_after 10 n (drop i word) →
+    list_all is_ascii_digit (drop i word) ≡ true → i < length word → limit < n * 10 + (get_or word i 0 - 48) →
+    None ≡ decimal_up_to limit word
 over_limit word n limit i value digits within over =
     let more : drop i word ≡ get_or word i 0 ∷ drop (i + 1) word = drop_more word i 0 within in
     let digit : digit_value (get_or word i 0) ≡ get_or word i 0 - 48 = digit_is (get_or word i 0) ((and_parts _ _ (sym (ap (list_all is_ascii_digit) more) ∙ digits)).0) in

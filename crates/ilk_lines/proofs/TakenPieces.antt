@@ -5,12 +5,18 @@ use borrow.Rule.Slice.PartMut.{put_mid, post_of, take_put}
 use Rattle.ilk_lines.specs.Lines.{Bytes}
 
 -- a buffer whose places from count on were lent to take the next piece of a text: k bytes of a token that was made last
-pub token_taken : (whole into piece token new rest : Bytes) (count k : ℕ) → count ≤ length into → length piece ≡ length into - count → whole ≡ take count into ++ (token ++ rest) → k ≡ min (length piece) (length token) → take k piece ≡ take k token → new ≡ drop k token
-    → (whole ≡ take (count + k) (put_mid count (length into - count) into piece) ++ (new ++ rest)) × (count + k ≤ length (put_mid count (length into - count) into piece)) × (count + k < length (put_mid count (length into - count) into piece) → new ≡ [])
+pub token_taken : (whole into piece token new rest : Bytes) (count k : ℕ) → count ≤ length into →
+    length piece ≡ length into - count → whole ≡ take count into ++ (token ++ rest) →
+    k ≡ min (length piece) (length token) → take k piece ≡ take k token → new ≡ drop k token
+    → (whole ≡ take (count + k) (put_mid count (length into - count) into piece) ++ (new ++ rest)) ×
+    (count + k ≤ length (put_mid count (length into - count) into piece)) ×
+    (count + k < length (put_mid count (length into - count) into piece) → new ≡ [])
 token_taken whole into piece token new rest count k within long is few same left =
     let next : Bytes = put_mid count (length into - count) into piece in
     let front : length (take count into) ≡ count = length-take-le count into within in
-    let size : length next ≡ count + (length piece + length (post_of count (length into - count) into)) = length-append (take count into) (piece ++ post_of count (length into - count) into) ∙ (λ i. front i + length-append piece (post_of count (length into - count) into) i) in
+    let size : length next ≡ count + (length piece + length (post_of count (length into - count) into)) =
+    length-append (take count into) (piece ++ post_of count (length into - count) into)
+    ∙ (λ i. front i + length-append piece (post_of count (length into - count) into) i) in
     let below : k ≤ length piece = omega (arith, few) in
     let rest_of : length (post_of count (length into - count) into) ≡ 0 = length-drop (length into - count) (drop count into) ∙ omega (arith, length-drop count into) in
     let split : take (count + k) next ≡ take count into ++ take k token = take-add count k next

@@ -89,10 +89,12 @@ impl<'a> Lines<'a> {
 
     /// Reads the next line, which must be this one, or else it is bad.
     pub fn pass(&mut self, wanted: &[u8]) -> Result<(), LineFault>
-        ensures ok { OnOk result (after_line wanted.now self.old.number self.old.lines ≡ Ok self.new.lines) }
+        ensures ok { OnOk result
+            (after_line wanted.now self.old.number self.old.lines ≡ Ok self.new.lines) }
         ensures after { self.new.after ≡ self.old.after }
         ensures number { OnOk result (self.new.number ≡ self.old.number + 1) }
-        ensures bad { OnErr result (after_line wanted.now self.old.number self.old.lines ≡ Err self.old.number) }
+        ensures bad { OnErr result
+            (after_line wanted.now self.old.number self.old.lines ≡ Err self.old.number) }
         ensures same { OnErr result (self.new ≡ self.old) }
         ensures fault { IfErr result (λ fault. fault ≡ BadLine self.old.number) }
     {
@@ -108,8 +110,10 @@ impl<'a> Lines<'a> {
     /// Nothing is left to read, neither a line nor a byte, or else the next line is bad.
     #[tactic(auto, using(crate::proofs::Cuts::not_at_end))]
     pub fn finish(&self) -> Result<(), LineFault>
-        ensures ok { OnOk result (at_the_end self.now.number self.now.lines self.now.after ≡ Ok tt) }
-        ensures bad { OnErr result (at_the_end self.now.number self.now.lines self.now.after ≡ Err self.now.number) }
+        ensures ok { OnOk result
+            (at_the_end self.now.number self.now.lines self.now.after ≡ Ok tt) }
+        ensures bad { OnErr result
+            (at_the_end self.now.number self.now.lines self.now.after ≡ Err self.now.number) }
         ensures fault { IfErr result (λ fault. fault ≡ BadLine self.now.number) }
     {
         if self.rest.is_empty() {

@@ -20,7 +20,9 @@ pub fn read_each<T: Drop, F: Fn(u32, &[u8]) -> Option<T>>(
     tell: F,
 ) -> Result<Row<T>, LineFault>
     requires { F.IsAlwaysCallable tell }
-    ensures told { (value : ℕ → Bytes → Option T) → ((x : ℕ) (line : _) (v : _) → x < 2 ^ 32 → F.post tell x line v → v ≡ value x line.now) → TellsPart (each_told value items.now lines.old.number lines.old.lines) lines.new result }
+    ensures told { (value : ℕ → Bytes → Option T) →
+        ((x : ℕ) (line : _) (v : _) → x < 2 ^ 32 → F.post tell x line v → v ≡ value x line.now) →
+        TellsPart (each_told value items.now lines.old.number lines.old.lines) lines.new result }
     ensures after { OnOk result (lines.new.after ≡ lines.old.after) }
     ensures left { (n : ℕ) × (n ≤ length items.now) × HasTaken n lines.old lines.new }
 {
@@ -49,7 +51,11 @@ pub fn read_leading<T: Drop, F: Fn(&[u8]) -> Result<Option<T>, AllocError>>(
     tell: F,
 ) -> Result<Row<T>, AllocError>
     requires { F.IsAlwaysCallable tell }
-    ensures told { (value : Bytes → Option T) → ((line : _) (v : _) → F.post tell line (Ok v) → v ≡ value line.now) → IfOk result (λ values. leading_part value lines.old.number lines.old.lines ≡ part_of values lines.new) }
+    ensures told { (value : Bytes → Option T) →
+        ((line : _) (v : _) → F.post tell line (Ok v) → v ≡ value line.now) →
+        IfOk result
+        (λ values. leading_part value lines.old.number lines.old.lines
+        ≡ part_of values lines.new) }
     ensures after { lines.new.after ≡ lines.old.after }
     ensures left { (n : ℕ) × HasTaken n lines.old lines.new × ((value : Bytes → Option T)
         → ((line : _) (v : _) → F.post tell line (Ok v) → v ≡ value line.now)

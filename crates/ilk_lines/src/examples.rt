@@ -30,6 +30,7 @@ fn numbers_of_words()
     ensures led { decimal_up_to 10 (codes "01") ≡ None }
     ensures signed { decimal_up_to 10 (codes "+1") ≡ None }
     ensures empty { decimal_up_to 10 [] ≡ None }
-    ensures greatest { decimal_up_to 18446744073709551615 (codes "18446744073709551615") ≡ Some 18446744073709551615 }
+    ensures greatest { decimal_up_to 18446744073709551615 (codes "18446744073709551615")
+        ≡ Some 18446744073709551615 }
     ensures beyond { decimal_up_to 18446744073709551615 (codes "18446744073709551616") ≡ None }
 {}

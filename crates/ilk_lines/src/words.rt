@@ -33,7 +33,8 @@ pub fn after_word<'a>(line: &'a [u8], word: &[u8]) -> Option<&'a [u8]>
 /// The first of the words of a line, and what has the other words. None beside the word exactly
 /// where it is the last.
 pub fn next_word(line: &[u8]) -> (&[u8], Option<&[u8]>)
-    ensures words { words_of line.now ≡ result.0.now ∷ option_map_or (λ rest. words_of rest.now) result.1 [] }
+    ensures words { words_of line.now
+        ≡ result.0.now ∷ option_map_or (λ rest. words_of rest.now) result.1 [] }
     ensures shorter { IfSome result.1 (λ rest. length rest.now < length line.now) }
 {
     cut(line, b' ')

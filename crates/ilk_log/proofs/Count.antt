@@ -154,7 +154,10 @@ none-open set l (m ∷ c) h f =
     let q : is_false set m ≡ true = f m (or_left (same_lit m m) _ (same-lit m)) p.0 in
     rw q (none-open set l c p.1 (λ x i d. f x (or_right (same_lit x m) _ i) d))
 
-one-open : (set : List Literal) (l : Literal) (c : List Literal) → vars_differ c ≡ true → has_lit l c ≡ true → is_false set l ≡ false → ((m : Literal) → has_lit m c ≡ true → same_lit l m ≡ false → is_false set m ≡ true) → filter (λ m. not (is_false set m)) c ≡ l ∷ []
+one-open : (set : List Literal) (l : Literal) (c : List Literal) → vars_differ c ≡ true → has_lit l c ≡ true →
+    is_false set l ≡ false →
+    ((m : Literal) → has_lit m c ≡ true → same_lit l m ≡ false → is_false set m ≡ true) →
+    filter (λ m. not (is_false set m)) c ≡ l ∷ []
 one-open set l [] d h o f = absurd (cc)
 one-open set l (m ∷ c) d h o f =
     let q = and_parts (not (has_var m.var c)) (vars_differ c) d in
@@ -193,7 +196,11 @@ fresh-new n i clauses c s fr at d ci e =
 abbrev has_literal : Step → Bool
 has_literal s = not (is_empty s.clause)
 
-later-differ : (n i : ℕ) (clauses : List (List Literal)) (c : List Literal) (log : List Step) → each_derived n clauses log ≡ true → EachFresh clauses log → slice_get clauses i ≡ Some c → vars_differ c ≡ true → clause_in n c ≡ true → AllByRecursion (λ y. eqb (code n c) y ≡ false) (map (λ (s : Step). code n s.clause) (filter (λ (s : Step). not (is_empty s.clause)) log))
+later-differ : (n i : ℕ) (clauses : List (List Literal)) (c : List Literal) (log : List Step) →
+    each_derived n clauses log ≡ true → EachFresh clauses log → slice_get clauses i ≡ Some c →
+    vars_differ c ≡ true → clause_in n c ≡ true →
+    AllByRecursion (λ y. eqb (code n c) y ≡ false)
+    (map (λ (s : Step). code n s.clause) (filter (λ (s : Step). not (is_empty s.clause)) log))
 later-differ n i clauses c [] dl fr at d ci = tt
 later-differ n i clauses c (s ∷ log) dl fr at d ci =
     let p = and_parts (is_derived n clauses s) (each_derived n (clauses ++ s.clause ∷ []) log) dl in

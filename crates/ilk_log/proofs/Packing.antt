@@ -26,7 +26,11 @@ high-told bytes ns last way bits h t = record {
 -- the last byte of a number
 pub low-told : (bytes : Bytes) (ns : List ℕ) (last way bits : ℕ) → bits < 128 → Tells bytes ns last way → Tells (bytes ++ bits ∷ []) (ns ++ moved last (longer way bits) ∷ []) (moved last (longer way bits)) 0
 low-told bytes ns last way bits h t = record {
-  told = λ rest. ap (numbers_from 0 0) (append_assoc bytes (bits ∷ []) rest) ∙ t.told (bits ∷ rest) ∙ ap (λ (xs : List ℕ). ns ++ xs) (step rest) ∙ sym (append_assoc ns (moved last (longer way bits) ∷ []) (numbers_from (moved last (longer way bits)) 0 rest));
+  told = λ rest. ap (numbers_from 0 0) (append_assoc bytes (bits ∷ []) rest) ∙ t.told (bits ∷ rest)
+      ∙ ap (λ (xs : List ℕ). ns ++ xs) (step rest)
+      ∙ sym
+      (append_assoc ns (moved last (longer way bits) ∷ [])
+      (numbers_from (moved last (longer way bits)) 0 rest));
 }
   where
     step : (rest : Bytes) → numbers_from last way (bits ∷ rest) ≡ moved last (longer way bits) ∷ numbers_from (moved last (longer way bits)) 0 rest

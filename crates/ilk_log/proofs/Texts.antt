@@ -38,14 +38,22 @@ text_is start s =
     let lits = led-append (map lit_word s.clause) (codes "0" ∷ (map decimal s.hints ++ codes "0" ∷ [])) in
     let hints = led-append (map decimal s.hints) (codes "0" ∷ []) in
     let right : line_of (step_words s) ≡ w ++ (c ++ (z ++ (h ++ z))) =
-    whole ∙ ap (λ (t : Bytes). w ++ t) (lits ∙ ap (λ (t : Bytes). t ++ led (codes "0" ∷ (map decimal s.hints ++ codes "0" ∷ []))) (led-map lit_word s.clause) ∙ ap (λ (t : Bytes). c ++ (z ++ t)) (hints ∙ ap (λ (t : Bytes). t ++ z) (led-map decimal s.hints))) in
+    whole
+    ∙ ap (λ (t : Bytes). w ++ t)
+    (lits
+    ∙ ap (λ (t : Bytes). t ++ led (codes "0" ∷ (map decimal s.hints ++ codes "0" ∷ [])))
+    (led-map lit_word s.clause)
+    ∙ ap (λ (t : Bytes). c ++ (z ++ t))
+    (hints ∙ ap (λ (t : Bytes). t ++ z) (led-map decimal s.hints))) in
     regroup start w c z h z ∙ ap (λ (t : Bytes). start ++ t) (sym right)
   where
     regroup : (t a b c d e : List ℕ) → ((((t ++ a) ++ b) ++ c) ++ d) ++ e ≡ t ++ (a ++ (b ++ (c ++ (d ++ e))))
     regroup t a b c d e = simp append_assoc
 
 -- a text with the first i numbers after it, each after a space, and then number i after a space
-pub numbers-grow : (start now next : Bytes) (ns : List ℕ) (i n : ℕ) → slice_get ns i ≡ Some n → now ≡ start ++ flat_map (λ k. 32 ∷ decimal k) (take i ns) → next ≡ (now ++ 32 ∷ []) ++ decimal n → next ≡ start ++ flat_map (λ k. 32 ∷ decimal k) (take (i + 1) ns)
+pub numbers-grow : (start now next : Bytes) (ns : List ℕ) (i n : ℕ) → slice_get ns i ≡ Some n →
+    now ≡ start ++ flat_map (λ k. 32 ∷ decimal k) (take i ns) → next ≡ (now ++ 32 ∷ []) ++ decimal n →
+    next ≡ start ++ flat_map (λ k. 32 ∷ decimal k) (take (i + 1) ns)
 numbers-grow start now next ns i n at sofar grown =
     let f : ℕ → Bytes = λ k. 32 ∷ decimal k in
     let before : Bytes = flat_map f (take i ns) in

@@ -8,7 +8,10 @@ pub record AtLiterals (whole : List ℕ) (count : ℕ) (read : List Literal) (le
   pub literals : read ++ map literal_told (take more left) ≡ map literal_told (take count whole)
   pub rest : drop more left ≡ drop count whole
 
-pub literals_more : (whole : List ℕ) (count : ℕ) (read : List Literal) (left next : List ℕ) (more now number : ℕ) → now ≡ suc more → left ≡ number ∷ next → AtLiterals whole count read left now → AtLiterals whole count (read ++ literal_told number ∷ []) next more
+pub literals_more :
+    (whole : List ℕ) (count : ℕ) (read : List Literal) (left next : List ℕ) (more now number : ℕ) →
+    now ≡ suc more → left ≡ number ∷ next → AtLiterals whole count read left now →
+    AtLiterals whole count (read ++ literal_told number ∷ []) next more
 literals_more whole count read left next more now number n e b = let a : AtLiterals whole count read left (suc more) = subst (AtLiterals whole count read left) n b in record {
   literals = append_assoc read (literal_told number ∷ []) (map literal_told (take more next)) ∙ ap (λ (xs : List ℕ). read ++ map literal_told (take (suc more) xs)) (sym e) ∙ a.literals;
   rest = ap (drop (suc more)) (sym e) ∙ a.rest;

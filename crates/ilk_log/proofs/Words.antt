@@ -52,7 +52,10 @@ lit-plain (b ∷ word) h = (let p = or_parts (b == 45) (list_any (λ x. x == 45)
 within-numbers : (v : ℕ) (b : Bool) → 0 < v → v ≤ 2 ^ 62 → lit_in (2 ^ 62) (record { var = v; positive = b }) ≡ true
 within-numbers v b p h = and_from (nat_lt 0 v) (nat_le v (2 ^ 62)) (lt-ltb 0 v p) (le-leb v (2 ^ 62) h)
 
-signed : (b : Bool) (word : Bytes) (l : Literal) → option_map (λ (v : ℕ). let r : Literal = record { var = v; positive = b } in r) (count_of (2 ^ 62) word) ≡ Some l → (n : ℕ) × (word ≡ decimal n) × (lit_in (2 ^ 62) l ≡ true) × (l ≡ record { var = n; positive = b })
+signed : (b : Bool) (word : Bytes) (l : Literal) →
+    option_map (λ (v : ℕ). let r : Literal = record { var = v; positive = b } in r) (count_of (2 ^ 62) word)
+    ≡ Some l →
+    (n : ℕ) × (word ≡ decimal n) × (lit_in (2 ^ 62) l ≡ true) × (l ≡ record { var = n; positive = b })
 signed b word l h =
     let f : ℕ → Literal = λ v. record { var = v; positive = b } in
     let m = mapped-Some f (count_of (2 ^ 62) word) l h in
@@ -155,7 +158,12 @@ step-written (word ∷ words) s h =
           let t : Step = record { clause = b.0.0; hints = d.0 } in
           let q : t ≡ s = same_Some t s d.2 in
           let P : Step → Type 0 = λ x. (word ∷ words ≡ step_words x) × (has_numbers x ≡ true) in
-          subst P q (ap (λ (w : Bytes). w ∷ words) (word-is word (codes "step") e) ∙ ap (λ (ws : List Bytes). codes "step" ∷ ws) (l.0 ∙ ap (λ (ws : List Bytes). map lit_word b.0.0 ++ (codes "0" ∷ ws)) i.0), and_from (clause_in (2 ^ 62) b.0.0) _ l.1 i.1))
+          subst P q (
+            ap (λ (w : Bytes). w ∷ words) (word-is word (codes "step") e)
+                ∙ ap (λ (ws : List Bytes). codes "step" ∷ ws)
+                (l.0 ∙ ap (λ (ws : List Bytes). map lit_word b.0.0 ++ (codes "0" ∷ ws)) i.0),
+            and_from (clause_in (2 ^ 62) b.0.0) _ l.1 i.1,
+          ))
       | inr e ↦ absurd (let n : None ≡ Some s = rw e at h in cc)
     ]
 

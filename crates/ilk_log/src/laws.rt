@@ -9,12 +9,14 @@ ghost use Rattle.ilk_log.specs.declared.step.Step.{Step as StepValue};
 /// No assignment satisfies a formula that a log refutes. The call does nothing, and tells a proof.
 #[tactic(auto, using(crate::proofs::Sound::refutation_refutes))]
 pub fn refutations_refute()
-    ensures { (a : List Bool) (f : Formula) (log : List StepValue) → IsTrue (is_refutation f log) → satisfies a f.clauses ≡ false }
+    ensures { (a : List Bool) (f : Formula) (log : List StepValue) →
+        IsTrue (is_refutation f log) → satisfies a f.clauses ≡ false }
 {}
 
 /// Over n variables, a log of derived and fresh steps has fewer than 3^n steps with a literal. The
 /// call does nothing, and tells a proof.
 #[tactic(auto, using(crate::proofs::Count::fresh_few))]
 pub fn fresh_steps_are_few()
-    ensures { (f : Formula) (log : List StepValue) → IsTrue (is_derived_log f log) → EachFresh f.clauses log → conflicts_of log < 3 ^ f.vars }
+    ensures { (f : Formula) (log : List StepValue) → IsTrue (is_derived_log f log) →
+        EachFresh f.clauses log → conflicts_of log < 3 ^ f.vars }
 {}

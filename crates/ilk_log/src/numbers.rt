@@ -26,7 +26,9 @@ fn moved(last: u64, way: u64) -> u64
 
 /// The number whose way begins at byte `at`, and where the next begins. None where no more is told.
 pub fn number_at(bytes: &[u8], at: usize, last: u64) -> Option<(u64, usize)>
-    ensures some { IfSome result (λ r. numbers_from last 0 (drop at bytes.now) ≡ r.0 ∷ numbers_from r.0 0 (drop r.1 bytes.now)) }
+    ensures some { IfSome result
+        (λ r. numbers_from last 0 (drop at bytes.now)
+        ≡ r.0 ∷ numbers_from r.0 0 (drop r.1 bytes.now)) }
     ensures none { IfNone result (numbers_from last 0 (drop at bytes.now) ≡ []) }
 {
     let mut way = 0;

@@ -20,7 +20,9 @@ fn way_to(last: u64, number: u64) -> u64
 #[tactic(auto, using(crate::proofs::Packing::high_told))]
 // Writes the high bits of a way, where there are any.
 fn push_high(bytes: &mut Vec<u8>, high: u64) -> Result<(), AllocError>
-    ensures { OnOk result ((numbers : List ℕ) (last : ℕ) → Tells bytes.old.items numbers last 0 → Tells bytes.new.items numbers last high) }
+    ensures { OnOk result
+        ((numbers : List ℕ) (last : ℕ) → Tells bytes.old.items numbers last 0 →
+        Tells bytes.new.items numbers last high) }
 {
     if high > 0 {
         push_high(bytes, high / 128)?;
@@ -32,7 +34,9 @@ fn push_high(bytes: &mut Vec<u8>, high: u64) -> Result<(), AllocError>
 #[tactic(auto, using(crate::proofs::Packing::number_told))]
 /// Writes a number after the last one.
 pub fn push_number(bytes: &mut Vec<u8>, last: u64, number: u64) -> Result<(), AllocError>
-    ensures { OnOk result ((numbers : List ℕ) → Tells bytes.old.items numbers last 0 → Tells bytes.new.items (numbers ++ number ∷ []) number 0) }
+    ensures { OnOk result
+        ((numbers : List ℕ) → Tells bytes.old.items numbers last 0 →
+        Tells bytes.new.items (numbers ++ number ∷ []) number 0) }
 {
     let way = way_to(last, number);
     push_high(bytes, way / 128)?;

@@ -108,7 +108,9 @@ fn push_literals(bytes: &mut Vec<u8>, lits: &[Lit]) -> Result<u64, AllocError>
 
 // Writes hints after other numbers.
 fn push_hints(bytes: &mut Vec<u8>, last: u64, hints: &Hints) -> Result<(), AllocError>
-    ensures { OnOk result ((numbers : List ℕ) → Tells bytes.old.items numbers last 0 → numbers_from 0 0 bytes.new.items ≡ numbers ++ hints.now) }
+    ensures { OnOk result
+        ((numbers : List ℕ) → Tells bytes.old.items numbers last 0 →
+        numbers_from 0 0 bytes.new.items ≡ numbers ++ hints.now) }
 {
     let mut last = last;
     for i in 0..hints.len() {

@@ -39,7 +39,11 @@ fn read_lits<'a>(
     alloc: Global,
     line: &'a [u8],
 ) -> Result<Option<(Lits, Option<&'a [u8]>)>, AllocError>
-    ensures { IfOk result (λ told. option_map (λ pair. (pair.0, option_map_or (λ rest. words_of rest.now) pair.1 [])) told ≡ lits_of_words (words_of line.now)) }
+    ensures { IfOk result
+        (λ told.
+        option_map (λ pair. (pair.0, option_map_or (λ rest. words_of rest.now) pair.1 []))
+        told
+        ≡ lits_of_words (words_of line.now)) }
 {
     let mut lits = Row::new(alloc);
     let mut left = line;
@@ -111,7 +115,9 @@ fn read_words(alloc: Global, line: &[u8]) -> Result<Option<Step>, AllocError>
 /// The step whose line this is. None exactly where it is the line of no step whose variables are
 /// from 1 to 2^62, and whose hints are from 1 to the greatest `u64`.
 pub fn read_step(alloc: Global, line: &[u8]) -> Result<Option<Step>, AllocError>
-    ensures { IfOk result (λ told. (s : StepValue) → (told ≡ Some s) ↔ ((line.now ≡ step_text s) × IsTrue (has_numbers s))) }
+    ensures { IfOk result
+        (λ told. (s : StepValue) →
+        (told ≡ Some s) ↔ ((line.now ≡ step_text s) × IsTrue (has_numbers s))) }
 {
     read_words(alloc, line)
 }

@@ -42,7 +42,8 @@ impl Model for StepsLeft {
 
     ghost Value = { List ℕ };
 
-    ghost view = { λ left. line_left left.place left.step ++ text_of (map step_text (drop left.next left.steps)) };
+    ghost view = { λ left. line_left left.place left.step
+        ++ text_of (map step_text (drop left.next left.steps)) };
 
     ghost invariant = { λ left. FitsPlace left.place left.step };
 }

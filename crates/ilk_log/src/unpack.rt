@@ -19,8 +19,10 @@ pub fn read_literals(
     bytes: &[u8],
     count: u64,
 ) -> Result<(Lits, usize, u64), AllocError>
-    ensures literals { IfOk result (λ r. r.0 ≡ map literal_told (take count (numbers_from 0 0 bytes.now))) }
-    ensures rest { IfOk result (λ r. numbers_from r.2 0 (drop r.1 bytes.now) ≡ drop count (numbers_from 0 0 bytes.now)) }
+    ensures literals { IfOk result
+        (λ r. r.0 ≡ map literal_told (take count (numbers_from 0 0 bytes.now))) }
+    ensures rest { IfOk result
+        (λ r. numbers_from r.2 0 (drop r.1 bytes.now) ≡ drop count (numbers_from 0 0 bytes.now)) }
 {
     let mut lits = Lits::new(alloc);
     let mut at = 0;

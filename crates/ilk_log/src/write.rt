@@ -19,7 +19,9 @@ fn push_lit(text: &mut String, l: Lit) -> Result<(), AllocError>
 
 // Writes each literal after a space.
 fn push_lits(text: &mut String, lits: &[Lit]) -> Result<(), AllocError>
-    ensures { OnOk result (string_bytes text.new ≡ string_bytes text.old ++ flat_map (λ l. 32 ∷ lit_word l) lits.now) }
+    ensures { OnOk result
+        (string_bytes text.new
+        ≡ string_bytes text.old ++ flat_map (λ l. 32 ∷ lit_word l) lits.now) }
 {
     for lit in lits {
         push_lit(text, *lit)?;
@@ -29,7 +31,9 @@ fn push_lits(text: &mut String, lits: &[Lit]) -> Result<(), AllocError>
 
 // Writes each hint after a space.
 fn push_hints(text: &mut String, hints: &Hints) -> Result<(), AllocError>
-    ensures { OnOk result (string_bytes text.new ≡ string_bytes text.old ++ flat_map (λ n. 32 ∷ decimal n) hints.now) }
+    ensures { OnOk result
+        (string_bytes text.new
+        ≡ string_bytes text.old ++ flat_map (λ n. 32 ∷ decimal n) hints.now) }
 {
     for i in 0..hints.len() {
         text.push_str(" ")?;

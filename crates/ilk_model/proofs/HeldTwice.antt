@@ -148,7 +148,10 @@ module _ (p : PlantLists) (s : State) (shared : SharedSections) (exact : (x : �
   apart : each_below (length p.sections) (λ y. not (is_shared shared y)) ≡ true → (r q : ℕ) → r < length p.routes → q < length p.routes → are_apart r q ≡ true
   apart none r q here there = elim (cases_eq r q) [
     | inl same ↦ or_left (r == q) (hold_nothing_together r q) (let test : (r == q) ≡ true = grind (arith, nat_tests, same) in test)
-    | inr differ ↦ or_right (r == q) (hold_nothing_together r q) (each-below (λ x. not (route_holds p s r x && route_holds p s q x)) (length p.sections) (λ x within. not_both (route_holds p s r x) (route_holds p s q x) (λ first second. clash x within first second differ)))
+    | inr differ ↦ or_right (r == q) (hold_nothing_together r q)
+        (each-below (λ x. not (route_holds p s r x && route_holds p s q x)) (length p.sections)
+        (λ x within. not_both (route_holds p s r x) (route_holds p s q x)
+        (λ first second. clash x within first second differ)))
   ]
     where
       by_order : q ≤ r → (r ≡ q → ⊥) → q < r

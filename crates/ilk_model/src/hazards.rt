@@ -74,7 +74,9 @@ fn is_hazardous(plant: &Plant, s: &State, shared: SharedSections, x: u32) -> boo
 
 // The least section that two trains share, by these bits, or on which some train's body is wrong.
 fn first_hazardous(plant: &Plant, s: &State, shared: SharedSections) -> Option<u32>
-    ensures { result ≡ find (is_hazardous_by_bits plant.now s.now shared) (range_with_len 0 (length plant.now.sections)) }
+    ensures { result
+        ≡ find (is_hazardous_by_bits plant.now s.now shared)
+        (range_with_len 0 (length plant.now.sections)) }
 {
     (0..plant.sections()).find(|x| is_hazardous(plant, s, shared, *x))
 }

@@ -15,7 +15,9 @@ use ilk_plant::{Listed, Plant, Route, RouteState, State};
 
 // The sections of listed points, as bits: bit `x` for section `from` + `x`, for `x` below 128.
 fn sections_of_points(points: &[Listed], from: u32) -> u128
-    ensures { (x : ℕ) → x < 128 → bit_at result x ≡ (if has_section (from + x) (map (λ listed. listed.point) points.now) then 1 else 0) }
+    ensures { (x : ℕ) → x < 128 →
+        bit_at result x
+        ≡ (if has_section (from + x) (map (λ listed. listed.point) points.now) then 1 else 0) }
 {
     let mut bits: u128 = 0;
     for listed in points {
@@ -35,7 +37,8 @@ fn kept_sections(route: &Route, now: RouteState) -> &[u32]
 
 // The sections that a route holds, as bits: bit `x` for section `from` + `x`, for `x` below 128.
 fn held_sections(route: &Route, now: RouteState, from: u32) -> u128
-    ensures { (x : ℕ) → x < 128 → bit_at result x ≡ (if holds_section (from + x) route.now now then 1 else 0) }
+    ensures { (x : ℕ) → x < 128 →
+        bit_at result x ≡ (if holds_section (from + x) route.now now then 1 else 0) }
 {
     if !holds_sections(now) {
         return 0;
@@ -50,7 +53,8 @@ fn held_sections(route: &Route, now: RouteState, from: u32) -> u128
 fn held_by(plant: &Plant, s: &State, r: u32, from: u32) -> u128
     requires shape { HasShape plant.now s.now }
     requires known { r < length plant.now.routes }
-    ensures { (x : ℕ) → x < 128 → bit_at result x ≡ (if route_holds plant.now s.now r (from + x) then 1 else 0) }
+    ensures { (x : ℕ) → x < 128 →
+        bit_at result x ≡ (if route_holds plant.now s.now r (from + x) then 1 else 0) }
 {
     held_sections(plant.route(r), *s.routes.at(r as u64), from)
 }
@@ -59,7 +63,8 @@ fn held_by(plant: &Plant, s: &State, r: u32, from: u32) -> u128
 // below 128.
 fn held_twice_from(plant: &Plant, s: &State, from: u32) -> u128
     requires { HasShape plant.now s.now }
-    ensures { (x : ℕ) → x < 128 → bit_at result x ≡ (if is_held_twice plant.now s.now (from + x) then 1 else 0) }
+    ensures { (x : ℕ) → x < 128 →
+        bit_at result x ≡ (if is_held_twice plant.now s.now (from + x) then 1 else 0) }
 {
     let mut seen: u128 = 0;
     let mut shared: u128 = 0;

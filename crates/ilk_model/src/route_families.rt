@@ -56,7 +56,9 @@ fn lock_on_path(now: RouteState, i: u64) -> Hold
 
 // Whether each section that the route holds on its path has its lock.
 fn path_has_its_locks(s: &State, route: &Route, now: RouteState) -> bool
-    ensures { result ≡ each_place route.now (λ i x. not (nat_le now.rel i) || has_lock s.now x (lock_on_path now i)) }
+    ensures { result
+        ≡ each_place route.now
+        (λ i x. not (nat_le now.rel i) || has_lock s.now x (lock_on_path now i)) }
 {
     route.path.as_slice().iter().enumerate().all(|(i, x)| i < now.rel as usize
         || has_lock(s, *x, lock_on_path(now, i as u64)))
@@ -74,7 +76,8 @@ fn all_locked(s: &State, sections: &Row<u32>) -> bool
 
 // Whether each of the points' sections has lock Locked.
 fn all_points_locked(s: &State, points: &Row<Listed>) -> bool
-    ensures { result ≡ list_all (λ x. has_lock s.now x LockedLock) (map (λ listed. listed.point) points.now) }
+    ensures { result
+        ≡ list_all (λ x. has_lock s.now x LockedLock) (map (λ listed. listed.point) points.now) }
 {
     points
         .as_slice()
@@ -115,7 +118,10 @@ pub(crate) fn keeps_v3(plant: &Plant, s: &State) -> bool
 
 // Whether the path of a route is vacant, where it is Allocating.
 fn is_vacant_while_allocating(s: &State, route: &Route, now: RouteState) -> bool
-    ensures { result ≡ (if same_mode now.mode Allocating then list_all (is_vacant s.now) route.now.path else true) }
+    ensures { result
+        ≡
+        (if same_mode now.mode Allocating then list_all (is_vacant s.now) route.now.path
+        else true) }
 {
     now.mode != Mode::Allocating || all_vacant(s, route.path.as_slice())
 }
@@ -132,7 +138,10 @@ pub(crate) fn keeps_v4(plant: &Plant, s: &State) -> bool
 
 // Whether a route lets board `m` be Open: `m` is its source, it is Locked, and its path is vacant.
 fn lets_open(s: &State, m: u32, route: &Route, now: RouteState) -> bool
-    ensures { result ≡ ((route.now.source == m) && same_mode now.mode Locked && list_all (is_vacant s.now) route.now.path) }
+    ensures { result
+        ≡
+        ((route.now.source == m) && same_mode now.mode Locked
+        && list_all (is_vacant s.now) route.now.path) }
 {
     route.source == m && now.mode == Mode::Locked && all_vacant(s, route.path.as_slice())
 }
@@ -140,7 +149,10 @@ fn lets_open(s: &State, m: u32, route: &Route, now: RouteState) -> bool
 // Whether some route lets board `m` be Open.
 fn may_be_open(plant: &Plant, s: &State, m: u32) -> bool
     requires { HasShape plant.now s.now }
-    ensures { result ≡ some_route plant.now s.now (λ route now. (route.source == m) && same_mode now.mode Locked && list_all (is_vacant s.now) route.path) }
+    ensures { result
+        ≡ some_route plant.now s.now
+        (λ route now. (route.source == m) && same_mode now.mode Locked
+        && list_all (is_vacant s.now) route.path) }
 {
     (0..plant.routes()).any(|r| lets_open(s, m, plant.route(r), *s.routes.at(r as u64)))
 }
@@ -149,7 +161,9 @@ fn may_be_open(plant: &Plant, s: &State, m: u32) -> bool
 fn is_rightly_open(plant: &Plant, s: &State, m: u32) -> bool
     requires { HasShape plant.now s.now }
     ensures { result ≡ (if has_aspect s.now m Open
-        then some_route plant.now s.now (λ route now. (route.source == m) && same_mode now.mode Locked && list_all (is_vacant s.now) route.path)
+        then some_route plant.now s.now
+        (λ route now. (route.source == m) && same_mode now.mode Locked
+        && list_all (is_vacant s.now) route.path)
         else true) }
 {
     !has_aspect(s, m, Aspect::Open) || may_be_open(plant, s, m)
@@ -208,7 +222,10 @@ fn lies_for(plant: &Plant, s: &State, route: &Route, now: RouteState, listed: &L
 
 // Whether the points that a route lists are as its mode wants them.
 fn points_fit_mode(plant: &Plant, s: &State, route: &Route, now: RouteState) -> bool
-    ensures { result ≡ list_all (λ listed. is_commanded_for plant.now s.now route.now now listed && lies_for plant.now s.now route.now now listed) route.now.points }
+    ensures { result
+        ≡ list_all
+        (λ listed. is_commanded_for plant.now s.now route.now now listed
+        && lies_for plant.now s.now route.now now listed) route.now.points }
 {
     route.points.as_slice().iter().all(|listed| {
         is_commanded_for(plant, s, route, now, listed) && lies_for(plant, s, route, now, listed)
@@ -227,7 +244,11 @@ pub(crate) fn keeps_v6(plant: &Plant, s: &State) -> bool
 
 // Whether each protecting board of a route is Closed, where it is Locked.
 fn is_protected(s: &State, route: &Route, now: RouteState) -> bool
-    ensures { result ≡ (if same_mode now.mode Locked then list_all (λ m. has_aspect s.now m Closed) route.now.protecting_boards else true) }
+    ensures { result
+        ≡
+        (if same_mode now.mode Locked
+        then list_all (λ m. has_aspect s.now m Closed) route.now.protecting_boards
+        else true) }
 {
     now.mode != Mode::Locked || all_closed(s, &route.protecting_boards)
 }

@@ -28,7 +28,8 @@ fn place_of(y: u32, from: u32) -> u32
 
 /// These bits, and that of section `y`: bit `x` for section `from` + `x`, for `x` below 128.
 pub(crate) fn with_section(bits: u128, y: u32, from: u32) -> u128
-    ensures { (x : ℕ) → x < 128 → bit_at result x ≡ (if bit_at bits x == 1 || y == from + x then 1 else 0) }
+    ensures { (x : ℕ) → x < 128 →
+        bit_at result x ≡ (if bit_at bits x == 1 || y == from + x then 1 else 0) }
 {
     let place = place_of(y, from);
     if place < 128 { bits | 1 << place } else { bits }
@@ -36,7 +37,8 @@ pub(crate) fn with_section(bits: u128, y: u32, from: u32) -> u128
 
 /// The sections of a list, as bits: bit `x` for section `from` + `x`, for `x` below 128.
 pub(crate) fn sections_of(sections: &[u32], from: u32) -> u128
-    ensures { (x : ℕ) → x < 128 → bit_at result x ≡ (if has_section (from + x) sections.now then 1 else 0) }
+    ensures { (x : ℕ) → x < 128 →
+        bit_at result x ≡ (if has_section (from + x) sections.now then 1 else 0) }
 {
     let mut bits: u128 = 0;
     for y in sections {

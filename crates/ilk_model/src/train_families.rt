@@ -17,7 +17,10 @@ use ilk_routes::has_aspect;
 
 // Whether a route in this state may lead a train: it is Occupied, or Locked with its source Closed.
 fn may_lead(s: &State, route: &Route, now: RouteState) -> bool
-    ensures { result ≡ (same_mode now.mode Occupied || (same_mode now.mode Locked && has_aspect s.now route.now.source Closed)) }
+    ensures { result
+        ≡
+        (same_mode now.mode Occupied
+        || (same_mode now.mode Locked && has_aspect s.now route.now.source Closed)) }
 {
     now.mode == Mode::Occupied
         || now.mode == Mode::Locked && has_aspect(s, route.source, Aspect::Closed)
@@ -27,7 +30,9 @@ fn may_lead(s: &State, route: &Route, now: RouteState) -> bool
 fn leads(plant: &Plant, s: &State, d: Dir, x: u32, route: &Route, now: RouteState) -> bool
     ensures { result ≡ some_place route.now (λ i y. (y == x)
         && runs_in plant.now d route.now
-        && (same_mode now.mode Occupied || (same_mode now.mode Locked && has_aspect s.now route.now.source Closed))
+        &&
+        (same_mode now.mode Occupied
+        || (same_mode now.mode Locked && has_aspect s.now route.now.source Closed))
         && nat_le now.seen (i + 1)
         && list_all (is_vacant s.now) (drop (i + 1) route.now.path)) }
 {
@@ -64,7 +69,10 @@ fn head_of(train: &Train) -> Option<u32>
 // Whether a train's head is led by a route, where its section is plain for it.
 fn head_is_led(plant: &Plant, s: &State, train: &Train) -> bool
     requires { HasShape plant.now s.now }
-    ensures { result ≡ is_some_and (last_of train.now.body) (λ x. if is_plain plant.now train.now.dir x then is_led plant.now s.now train.now.dir x else true) }
+    ensures { result
+        ≡ is_some_and (last_of train.now.body)
+        (λ x. if is_plain plant.now train.now.dir x
+        then is_led plant.now s.now train.now.dir x else true) }
 {
     match head_of(train) {
         Some(x) => !is_plain(plant, train.dir, x) || is_led(plant, s, train.dir, x),
@@ -85,7 +93,10 @@ pub(crate) fn keeps_v7(plant: &Plant, s: &State) -> bool
 
 // Whether a route keeps section `x` for trains in direction `d`.
 fn keeps_for(plant: &Plant, d: Dir, x: u32, route: &Route, now: RouteState) -> bool
-    ensures { result ≡ (runs_in plant.now d route.now && is_locked_or_occupied now && is_kept_on_path route.now now x) }
+    ensures { result
+        ≡
+        (runs_in plant.now d route.now && is_locked_or_occupied now
+        && is_kept_on_path route.now now x) }
 {
     runs_in(plant, d, route) && is_locked_or_occupied(now) && is_kept_on_path(route, now, x)
 }
@@ -109,7 +120,10 @@ fn is_kept_if_plain(plant: &Plant, s: &State, d: Dir, x: u32) -> bool
 // Whether each section of a train's body that is plain for it is kept by a route.
 fn body_is_kept(plant: &Plant, s: &State, train: &Train) -> bool
     requires { HasShape plant.now s.now }
-    ensures { result ≡ list_all (λ x. if is_plain plant.now train.now.dir x then is_kept_for plant.now s.now train.now.dir x else true) train.now.body }
+    ensures { result
+        ≡ list_all
+        (λ x. if is_plain plant.now train.now.dir x
+        then is_kept_for plant.now s.now train.now.dir x else true) train.now.body }
 {
     let d = train.dir;
     train

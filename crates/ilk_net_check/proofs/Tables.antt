@@ -51,7 +51,10 @@ pub record IsJoinedBelow (before t : List Flags) (k i n : ℕ) : Type 0 where
   pub left : (x y : ℕ) → i ≤ x → entry t x y ≡ entry before x y
 
 -- row i is joined too, where onward is row k
-pub join_next : (before t : List Flags) (row onward : Flags) (k i n : ℕ) → i < n → IsJoinedBelow before t k i n → ((y : ℕ) → has_flag onward y ≡ entry before k y) → ((y : ℕ) → has_flag row y ≡ (entry t i y || (entry t i k && has_flag onward y))) → IsJoinedBelow before (set t i row) k (i + 1) n
+pub join_next : (before t : List Flags) (row onward : Flags) (k i n : ℕ) → i < n →
+    IsJoinedBelow before t k i n → ((y : ℕ) → has_flag onward y ≡ entry before k y) →
+    ((y : ℕ) → has_flag row y ≡ (entry t i y || (entry t i k && has_flag onward y))) →
+    IsJoinedBelow before (set t i row) k (i + 1) n
 join_next before t row onward k i n within sofar on is = record {
   rows = length-set t i row ∙ sofar.rows;
   done = λ x y below. by_place x y (eq-or-lt_of_le (omega (arith, below)));

@@ -105,7 +105,8 @@ pub fn all_ends(
     sections: &[SectionDraft],
 ) -> Result<Row<Row<End>>, AllocError>
     ensures { IfOk result
-        (λ made. made ≡ map (λ section. numbered_ends (first_named names.now) section.kind) sections.now) }
+        (λ made. made
+        ≡ map (λ section. numbered_ends (first_named names.now) section.kind) sections.now) }
 {
     let mut made = Row::new(alloc);
     for section in sections {

@@ -15,7 +15,8 @@ fn cut_line_is_refused()
 
 // A name stands for the first section that has it.
 fn repeated_name_is_refused()
-    ensures { network_rules_broken line_cut_with_repeat ≡ at N1 2 ∷ at N5 1 ∷ at N6 0 ∷ at N6 2 ∷ at N8 0 ∷ [] }
+    ensures { network_rules_broken line_cut_with_repeat
+        ≡ at N1 2 ∷ at N5 1 ∷ at N6 0 ∷ at N6 2 ∷ at N8 0 ∷ [] }
 {}
 
 // In a ring every section comes back to itself.

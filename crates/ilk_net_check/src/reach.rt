@@ -67,7 +67,8 @@ fn steps_up(alloc: Global, ends: &Row<Row<End>>, count: u32) -> Result<Row<Flags
 // Where steps lead from section `x` if they may also go by way of section `k`, from where they lead
 // as `onward` has it.
 fn row_by_way_of(leads: &Row<Flags>, onward: Flags, k: u32, x: u32) -> Flags
-    ensures { (y : ℕ) → has_flag result y ≡ (entry leads.now x y || (entry leads.now x k && has_flag onward y)) }
+    ensures { (y : ℕ) →
+        has_flag result y ≡ (entry leads.now x y || (entry leads.now x k && has_flag onward y)) }
 {
     let row = row_at(leads, x);
     if row.has(k) { row.or(onward) } else { row }

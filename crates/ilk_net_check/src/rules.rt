@@ -60,7 +60,8 @@ impl<'a> Network<'a> {
 impl Network<'_> {
     // What section `x` is. None where there is no such section.
     fn kind(&self, x: u32) -> Option<&KindDraft>
-        ensures { option_copied result ≡ option_map (λ section. section.kind) (slice_get self.now.net.now.sections x) }
+        ensures { option_copied result
+            ≡ option_map (λ section. section.kind) (slice_get self.now.net.now.sections x) }
     {
         match self.net.sections.as_slice().get(x as usize) {
             Some(section) => Some(&section.kind),
@@ -160,7 +161,8 @@ fn push_broken(broken: &mut Row<Broken>, network: &Network, rule: Rule) -> Resul
     requires few { length network.now.net.now.sections ≤ MAX_SECTIONS }
     requires numbered { IsNumbered network.now }
     ensures { OnOk result (broken.new ≡ broken.old
-        ++ broken_at rule (count_in_network network.now.net.now (places_of rule)) (breaks_network network.now.net.now rule)) }
+        ++ broken_at rule (count_in_network network.now.net.now (places_of rule))
+        (breaks_network network.now.net.now rule)) }
 {
     for x in 0..network.count(rule.places()) {
         let entry = Broken {

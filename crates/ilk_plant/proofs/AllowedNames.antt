@@ -22,7 +22,11 @@ each-name names h = All-tested is_name IsName (λ name e. e) names h
 
 pub section_names-allowed : (sections : List SectionDraft) → list_all section_has_names sections ≡ true → All IsName (names_of_sections sections)
 section_names-allowed sections h =
-    each-name (names_of_sections sections) (list_all-map is_name (λ section. section.name) sections ∙ list_all-weaken section_has_names (λ section. is_name section.name) (λ section e. (and_parts (is_name section.name) (kind_has_names section.kind) e).0) sections h)
+    each-name (names_of_sections sections)
+    (list_all-map is_name (λ section. section.name) sections
+    ∙ list_all-weaken section_has_names (λ section. is_name section.name)
+    (λ section e. (and_parts (is_name section.name) (kind_has_names section.kind) e).0) sections
+    h)
 
 -- the first of the texts of a route is its name
 route-name : (route : RouteDraft) → route_has_names route ≡ true → is_name route.name ≡ true

@@ -50,7 +50,13 @@ board-own x d (Some name) =
 
 boards-own : (x : ℕ) (kind : KindDraft) → boards_known (names_in (boards_on x kind)) kind ≡ true
 boards-own x (LinearDraft down up board_down board_up) =
-    rw (map-append _ (board_if_named x Down board_down) (board_if_named x Up board_up), known-before (names_in (board_if_named x Down board_down)) (names_in (board_if_named x Up board_up)) board_down (board-own x Down board_down), known-after (names_in (board_if_named x Down board_down)) (names_in (board_if_named x Up board_up)) board_up (board-own x Up board_up)) refl
+    rw (
+      map-append _ (board_if_named x Down board_down) (board_if_named x Up board_up),
+      known-before (names_in (board_if_named x Down board_down))
+          (names_in (board_if_named x Up board_up)) board_down (board-own x Down board_down),
+      known-after (names_in (board_if_named x Down board_down))
+          (names_in (board_if_named x Up board_up)) board_up (board-own x Up board_up),
+    ) refl
 boards-own x (PointDraft stem plus minus faces) = refl
 
 boards-before : (names back : List Name) (kind : KindDraft) → boards_known names kind ≡ true → boards_known (names ++ back) kind ≡ true
@@ -93,11 +99,20 @@ few-boards sections few =
     rw (length-map (boards_from 0 sections) (λ named. named.name)) (omega (arith, length-boards_from 0 sections))
 
 -- the numbered section at x, from the draft
-numbered-at : {P : Type 0} (sections : List SectionDraft) (names boards : List Name) (x : ℕ) (k : Section) → slice_get (map (λ section. numbered_section names boards section.kind) sections) x ≡ Some k → ((section : SectionDraft) → slice_get sections x ≡ Some section → k ≡ numbered_section names boards section.kind → P) → P
+numbered-at : {P : Type 0} (sections : List SectionDraft) (names boards : List Name) (x : ℕ) (k : Section) →
+    slice_get (map (λ section. numbered_section names boards section.kind) sections) x ≡ Some k →
+    ((section : SectionDraft) → slice_get sections x ≡ Some section →
+    k ≡ numbered_section names boards section.kind → P) → P
 numbered-at sections names boards x k e f =
     by_draft sections names boards x k (slice_get sections x) refl (sym (slice_get-map (λ section. numbered_section names boards section.kind) sections x) ∙ e) f
   where
-    by_draft : {P : Type 0} (sections : List SectionDraft) (names boards : List Name) (x : ℕ) (k : Section) (o : Option SectionDraft) → slice_get sections x ≡ o → option_map (λ section. numbered_section names boards section.kind) (slice_get sections x) ≡ Some k → ((section : SectionDraft) → slice_get sections x ≡ Some section → k ≡ numbered_section names boards section.kind → P) → P
+    by_draft :
+        {P : Type 0} (sections : List SectionDraft) (names boards : List Name) (x : ℕ) (k : Section)
+        (o : Option SectionDraft) →
+        slice_get sections x ≡ o →
+        option_map (λ section. numbered_section names boards section.kind) (slice_get sections x) ≡ Some k →
+        ((section : SectionDraft) → slice_get sections x ≡ Some section →
+        k ≡ numbered_section names boards section.kind → P) → P
     by_draft sections names boards x k None at e f = let bad : None ≡ Some k = rw at at e in cc
     by_draft sections names boards x k (Some section) at e f =
         let same : Some (numbered_section names boards section.kind) ≡ Some k = rw at at e in f section at cc
@@ -109,7 +124,9 @@ boards-numbered net table x m d e =
     (option_and_then_some (λ k. board_on k d) (slice_get (numbered net table).sections x) m e (λ k at e1.
     numbered-at net.sections (names_of_sections net.sections) (names_of_boards net.sections) x k at (λ section there same.
     let on_numbered : board_on (numbered_section (names_of_sections net.sections) (names_of_boards net.sections) section.kind) d ≡ Some m = rw same at e1 in
-    board_on-known (names_of_sections net.sections) (names_of_boards net.sections) section.kind d m (list_all-slice_get (λ s. boards_known (names_of_boards net.sections) s.kind) net.sections x section (boards_from-known 0 net.sections) there) on_numbered)))
+    board_on-known (names_of_sections net.sections) (names_of_boards net.sections) section.kind d m
+    (list_all-slice_get (λ s. boards_known (names_of_boards net.sections) s.kind) net.sections x section
+    (boards_from-known 0 net.sections) there) on_numbered)))
 
 -- the name that a section gives its board for direction d
 abbrev board_drafted : KindDraft → Dir → Option Name
@@ -154,7 +171,10 @@ named-drafted x (LinearDraft down up board_down board_up) k named e =
 named-drafted x (PointDraft stem plus minus faces) k named e = cc
 
 -- the boards that the sections name are listed, each on its section
-drafts-listed : (first : ℕ) (sections : List SectionDraft) (x i : ℕ) (section : SectionDraft) (d : Dir) (name : Name) → x ≡ first + i → slice_get sections i ≡ Some section → board_drafted section.kind d ≡ Some name → (k : ℕ) × (slice_get (boards_from first sections) k ≡ Some (named_on x d name))
+drafts-listed :
+    (first : ℕ) (sections : List SectionDraft) (x i : ℕ) (section : SectionDraft) (d : Dir) (name : Name) →
+    x ≡ first + i → slice_get sections i ≡ Some section → board_drafted section.kind d ≡ Some name →
+    (k : ℕ) × (slice_get (boards_from first sections) k ≡ Some (named_on x d name))
 drafts-listed first [] x i section d name n at e = cc
 drafts-listed first (section ∷ rest) x zero other d name n at e =
     let same : section ≡ other = cc in
@@ -168,7 +188,10 @@ drafts-listed first (section ∷ rest) x (suc i) other d name n at e =
     (length (boards_on first section.kind) + there.0, at-past (boards_on first section.kind) (boards_from (first + 1) rest) there.0 (named_on x d name) there.1)
 
 -- and each that is listed is named by its section
-listed-drafts : (first : ℕ) (sections : List SectionDraft) (k : ℕ) (named : NamedBoard) → slice_get (boards_from first sections) k ≡ Some named → (i : ℕ) × (section : SectionDraft) × (slice_get sections i ≡ Some section) × (named.board.section ≡ first + i) × (board_drafted section.kind named.board.dir ≡ Some named.name)
+listed-drafts : (first : ℕ) (sections : List SectionDraft) (k : ℕ) (named : NamedBoard) →
+    slice_get (boards_from first sections) k ≡ Some named →
+    (i : ℕ) × (section : SectionDraft) × (slice_get sections i ≡ Some section) ×
+    (named.board.section ≡ first + i) × (board_drafted section.kind named.board.dir ≡ Some named.name)
 listed-drafts first [] k named e = cc
 listed-drafts first (section ∷ rest) k named e =
     elim (at-either (boards_on first section.kind) (boards_from (first + 1) rest) k named e) [
@@ -185,7 +208,10 @@ board_on-drafted names boards (LinearDraft down up board_down board_up) Up = ref
 board_on-drafted names boards (PointDraft stem plus minus faces) d = refl
 
 -- the section that names the board m of the plant's section x for direction d
-board-drafted : (net : NetDraft) (table : TableDraft) (x m : ℕ) (d : Dir) → board_of (numbered net table) x d ≡ Some m → (section : SectionDraft) × (name : Name) × (slice_get net.sections x ≡ Some section) × (board_drafted section.kind d ≡ Some name) × (number_of (names_of_boards net.sections) name ≡ m)
+board-drafted : (net : NetDraft) (table : TableDraft) (x m : ℕ) (d : Dir) →
+    board_of (numbered net table) x d ≡ Some m →
+    (section : SectionDraft) × (name : Name) × (slice_get net.sections x ≡ Some section) ×
+    (board_drafted section.kind d ≡ Some name) × (number_of (names_of_boards net.sections) name ≡ m)
 board-drafted net table x m d e =
     option_and_then_some (λ k. board_on k d) (slice_get (numbered net table).sections x) m e (λ k at on.
     numbered-at net.sections (names_of_sections net.sections) (names_of_boards net.sections) x k at (λ section there same.
@@ -215,12 +241,29 @@ listed-board net table once x m d e =
     let given : board_drafted drafted.1.kind d ≡ Some listed.0.name = rw direction at drafted.4 in
     let named : slice_get (names_of_boards net.sections) m ≡ Some listed.0.name = slice_get-map (λ n. n.name) (boards_from 0 net.sections) m ∙ ap (option_map (λ n. n.name)) listed.1 in
     let number : number_of (names_of_boards net.sections) listed.0.name ≡ m = number_of-own (names_of_boards net.sections) listed.0.name m once named in
-    let numbered_there : slice_get (numbered net table).sections x ≡ Some (numbered_section (names_of_sections net.sections) (names_of_boards net.sections) drafted.1.kind) = slice_get-map (λ section. numbered_section (names_of_sections net.sections) (names_of_boards net.sections) section.kind) net.sections x ∙ ap (option_map (λ section. numbered_section (names_of_sections net.sections) (names_of_boards net.sections) section.kind)) there in
-    let on : board_on (numbered_section (names_of_sections net.sections) (names_of_boards net.sections) drafted.1.kind) d ≡ Some m = board_on-drafted (names_of_sections net.sections) (names_of_boards net.sections) drafted.1.kind d ∙ ap (option_map (number_of (names_of_boards net.sections))) given ∙ ap Some number in
+    let numbered_there : slice_get (numbered net table).sections x
+    ≡ Some
+    (numbered_section (names_of_sections net.sections) (names_of_boards net.sections) drafted.1.kind) =
+    slice_get-map
+    (λ section. numbered_section (names_of_sections net.sections) (names_of_boards net.sections)
+    section.kind) net.sections x
+    ∙ ap
+    (option_map
+    (λ section. numbered_section (names_of_sections net.sections)
+    (names_of_boards net.sections) section.kind)) there in
+    let on :
+    board_on
+    (numbered_section (names_of_sections net.sections) (names_of_boards net.sections) drafted.1.kind)
+    d ≡ Some m =
+    board_on-drafted (names_of_sections net.sections) (names_of_boards net.sections) drafted.1.kind d
+    ∙ ap (option_map (number_of (names_of_boards net.sections))) given ∙ ap Some number in
     rw numbered_there on
 
 -- the boards of the sections are those that are listed
-pub boards-agree : (net : NetDraft) (table : TableDraft) → EachOnce (names_of_boards net.sections) → (x m : ℕ) (d : Dir) → (board_of (numbered net table) x d ≡ Some m) ↔ (slice_get (numbered net table).boards m ≡ Some (record { section = x; dir = d }))
+pub boards-agree : (net : NetDraft) (table : TableDraft) → EachOnce (names_of_boards net.sections) →
+    (x m : ℕ) (d : Dir) →
+    (board_of (numbered net table) x d ≡ Some m) ↔
+    (slice_get (numbered net table).boards m ≡ Some (record { section = x; dir = d }))
 boards-agree net table once x m d = (board-listed net table once x m d, listed-board net table once x m d)
 
 -- a section with a board has a neighbour in the board's direction
@@ -228,7 +271,16 @@ pub boards-lead : (net : NetDraft) (table : TableDraft) → KeepsNetworkRules ne
 boards-lead net table rules x m d e =
     let drafted = board-drafted net table x m d e in
     let kept = rules 7 N8 refl x (slice_get_within net.sections x drafted.0 drafted.2) in
-    let there : slice_get (numbered net table).sections x ≡ Some (numbered_section (names_of_sections net.sections) (names_of_boards net.sections) drafted.0.kind) = slice_get-map (λ section. numbered_section (names_of_sections net.sections) (names_of_boards net.sections) section.kind) net.sections x ∙ ap (option_map (λ section. numbered_section (names_of_sections net.sections) (names_of_boards net.sections) section.kind)) drafted.2 in
+    let there : slice_get (numbered net table).sections x
+    ≡ Some
+    (numbered_section (names_of_sections net.sections) (names_of_boards net.sections) drafted.0.kind) =
+    slice_get-map
+    (λ section. numbered_section (names_of_sections net.sections) (names_of_boards net.sections)
+    section.kind) net.sections x
+    ∙ ap
+    (option_map
+    (λ section. numbered_section (names_of_sections net.sections)
+    (names_of_boards net.sections) section.kind)) drafted.2 in
     rw there (by_kind drafted.0 drafted.0.kind d drafted.1 drafted.2 refl kept drafted.3)
   where
     end-given : (names : List Name) (o board : Option Name) (name : Name) → board ≡ Some name → has_neighbour_if_board o board ≡ true → 0 < length (option_to_list (option_map (number_of names) o))
@@ -239,7 +291,13 @@ boards-lead net table rules x m d e =
     not-not true h = refl
     not-not false h = cc
 
-    by_kind : (section : SectionDraft) (kind : KindDraft) (d : Dir) (name : Name) → slice_get net.sections x ≡ Some section → section.kind ≡ kind → has_board_at_end net x ≡ false → board_drafted kind d ≡ Some name → 0 < length (beside (numbered_section (names_of_sections net.sections) (names_of_boards net.sections) kind) d)
+    by_kind : (section : SectionDraft) (kind : KindDraft) (d : Dir) (name : Name) →
+        slice_get net.sections x ≡ Some section → section.kind ≡ kind → has_board_at_end net x ≡ false →
+        board_drafted kind d ≡ Some name →
+        0
+        < length
+        (beside
+        (numbered_section (names_of_sections net.sections) (names_of_boards net.sections) kind) d)
     by_kind section (LinearDraft down up board_down board_up) Down name at is h given =
         let kept : not (has_neighbour_if_board down board_down && has_neighbour_if_board up board_up) ≡ false = rw (at, is) at h in
         end-given (names_of_sections net.sections) down board_down name given (and_parts _ _ (not-not _ kept)).0

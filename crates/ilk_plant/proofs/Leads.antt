@@ -47,7 +47,12 @@ module _ (step : ℕ → ℕ → Bool) where
             right (leads_by step n x y) (leads_by step n x n) (leads_by step n n y) (to_last n x (subst P last a)) (from_last n y (subst Q last b))
       ]
     where
-      in_between : ((u v w : ℕ) → u < n → leads_by step n v u ≡ true → leads_by step n u w ≡ true → leads_by step n v w ≡ true) → z < n → (leads_by step n x z ≡ true) ⊎ ((leads_by step n x n && leads_by step n n z) ≡ true) → (leads_by step n z y ≡ true) ⊎ ((leads_by step n z n && leads_by step n n y) ≡ true) → leads_by step (suc n) x y ≡ true
+      in_between :
+          ((u v w : ℕ) → u < n → leads_by step n v u ≡ true → leads_by step n u w ≡ true →
+          leads_by step n v w ≡ true) → z < n →
+          (leads_by step n x z ≡ true) ⊎ ((leads_by step n x n && leads_by step n n z) ≡ true) →
+          (leads_by step n z y ≡ true) ⊎ ((leads_by step n z n && leads_by step n n y) ≡ true) →
+          leads_by step (suc n) x y ≡ true
       in_between ih below (inl p) (inl q) = or_left (leads_by step n x y) (leads_by step n x n && leads_by step n n y) (ih z x y below p q)
       in_between ih below (inl p) (inr q) =
           right (leads_by step n x y) (leads_by step n x n) (leads_by step n n y) (ih z x n below p (and_parts (leads_by step n z n) (leads_by step n n y) q).0) (and_parts (leads_by step n z n) (leads_by step n n y) q).1

@@ -53,10 +53,27 @@ next_to-ends net table x d y = by_section (slice_get net.sections x) refl
   where
     by_section : (o : Option SectionDraft) → slice_get net.sections x ≡ o → has_section y (next_to (numbered net table) x d) ≡ list_any (end_leads_to (names_of_sections net.sections) d y) (ends_of net x)
     by_section None at =
-        let none : slice_get (numbered net table).sections x ≡ None = slice_get-map (λ section. numbered_section (names_of_sections net.sections) (names_of_boards net.sections) section.kind) net.sections x ∙ ap (option_map (λ section. numbered_section (names_of_sections net.sections) (names_of_boards net.sections) section.kind)) at in
+        let none : slice_get (numbered net table).sections x ≡ None =
+        slice_get-map
+        (λ section. numbered_section (names_of_sections net.sections) (names_of_boards net.sections)
+        section.kind) net.sections x
+        ∙ ap
+        (option_map
+        (λ section. numbered_section (names_of_sections net.sections)
+        (names_of_boards net.sections) section.kind)) at in
         rw (none, at) refl
     by_section (Some section) at =
-        let there : slice_get (numbered net table).sections x ≡ Some (numbered_section (names_of_sections net.sections) (names_of_boards net.sections) section.kind) = slice_get-map (λ section. numbered_section (names_of_sections net.sections) (names_of_boards net.sections) section.kind) net.sections x ∙ ap (option_map (λ section. numbered_section (names_of_sections net.sections) (names_of_boards net.sections) section.kind)) at in
+        let there : slice_get (numbered net table).sections x
+        ≡ Some
+        (numbered_section (names_of_sections net.sections) (names_of_boards net.sections)
+        section.kind) =
+        slice_get-map
+        (λ section. numbered_section (names_of_sections net.sections) (names_of_boards net.sections)
+        section.kind) net.sections x
+        ∙ ap
+        (option_map
+        (λ section. numbered_section (names_of_sections net.sections)
+        (names_of_boards net.sections) section.kind)) at in
         rw (there, at) (beside-ends (names_of_sections net.sections) (names_of_boards net.sections) section.kind d y)
 
 -- what has an end is a section
@@ -78,12 +95,18 @@ end-names net rules x k end at =
     not-not false h = cc
 
 -- the end by which a section of the plant is next to another
-pub next-end : (net : NetDraft) (table : TableDraft) (x y : ℕ) (d : Dir) → has_section y (next_to (numbered net table) x d) ≡ true → (k : ℕ) × (end : End) × (slice_get (ends_of net x) k ≡ Some end) × (end_leads_to (names_of_sections net.sections) d y end ≡ true)
+pub next-end : (net : NetDraft) (table : TableDraft) (x y : ℕ) (d : Dir) →
+    has_section y (next_to (numbered net table) x d) ≡ true →
+    (k : ℕ) × (end : End) × (slice_get (ends_of net x) k ≡ Some end) ×
+    (end_leads_to (names_of_sections net.sections) d y end ≡ true)
 next-end net table x y d h =
     list_any-at (end_leads_to (names_of_sections net.sections) d y) (ends_of net x) (sym (next_to-ends net table x d y) ∙ h)
 
 -- the number for which the name at an end stands is that of a section, and of another one
-pub end-number : (net : NetDraft) → KeepsNetworkRules net → (x k y : ℕ) (end : End) → slice_get (ends_of net x) k ≡ Some end → number_of (names_of_sections net.sections) end.name ≡ y → (first_named (names_of_sections net.sections) end.name ≡ Some y) × (y < length (names_of_sections net.sections)) × ((y == x) ≡ false)
+pub end-number : (net : NetDraft) → KeepsNetworkRules net → (x k y : ℕ) (end : End) →
+    slice_get (ends_of net x) k ≡ Some end → number_of (names_of_sections net.sections) end.name ≡ y →
+    (first_named (names_of_sections net.sections) end.name ≡ Some y) ×
+    (y < length (names_of_sections net.sections)) × ((y == x) ≡ false)
 end-number net rules x k y end at number =
     let named : (z : ℕ) × (first_named (names_of_sections net.sections) end.name ≡ Some z) × (not (z == x) ≡ true) = some-and (first_named (names_of_sections net.sections) end.name) (λ z. not (z == x)) (end-names net rules x k end at) in
     let same : named.0 ≡ y = sym (number_of-first (names_of_sections net.sections) end.name named.0 named.1) ∙ number in
@@ -111,7 +134,10 @@ next-other net table rules x d =
     cc)
 
 -- an end of the section next to x that names x
-back-end : (net : NetDraft) → KeepsNetworkRules net → (x k y : ℕ) (end : End) → slice_get (ends_of net x) k ≡ Some end → number_of (names_of_sections net.sections) end.name ≡ y → list_any (λ other. names_section net x other && same_direction other.side (opposite_direction end.side)) (ends_of net y) ≡ true
+back-end : (net : NetDraft) → KeepsNetworkRules net → (x k y : ℕ) (end : End) →
+    slice_get (ends_of net x) k ≡ Some end → number_of (names_of_sections net.sections) end.name ≡ y →
+    list_any (λ other. names_section net x other && same_direction other.side (opposite_direction end.side))
+    (ends_of net y) ≡ true
 back-end net rules x k y end at number =
     let known = end-number net rules x k y end at number in
     let kept = list_any-none (λ e. is_some_and (section_named net e.name) (λ z. not (z == x) && not (names_once net x (opposite_direction e.side) (ends_of net z)))) (ends_of net x) k end (rules 4 N5 refl x (ends-within net x k end at)) at in
@@ -132,7 +158,11 @@ next-back net table rules x y d h =
     let leads = and_parts (same_direction found.1.side d) (number_of names found.1.name == y) found.3 in
     let side : found.1.side ≡ d = one_direction found.1.side d leads.0 in
     let named = back-end net rules x found.0 y found.1 found.2 (eqb-true _ _ leads.1) in
-    let back : (k : ℕ) × (end : End) × (slice_get (ends_of net y) k ≡ Some end) × ((names_section net x end && same_direction end.side (opposite_direction found.1.side)) ≡ true) = list_any-at (λ other. names_section net x other && same_direction other.side (opposite_direction found.1.side)) (ends_of net y) named in
+    let back : (k : ℕ) × (end : End) × (slice_get (ends_of net y) k ≡ Some end) ×
+    ((names_section net x end && same_direction end.side (opposite_direction found.1.side)) ≡ true) =
+    list_any-at
+    (λ other. names_section net x other
+    && same_direction other.side (opposite_direction found.1.side)) (ends_of net y) named in
     let parts = and_parts (names_section net x back.1) (same_direction back.1.side (opposite_direction found.1.side)) back.3 in
     let number = names-number net x back.1 parts.0 in
     let turned : same_direction back.1.side (opposite_direction d) ≡ true = ap (λ e. same_direction back.1.side (opposite_direction e)) (sym side) ∙ parts.1 in
@@ -144,12 +174,17 @@ next-back net table rules x y d h =
         number_of-first (names_of_sections net.sections) end.name named.0 named.1 ∙ eqb-true named.0 x named.2
 
 -- ends with names that differ and are known have numbers that differ
-numbers-once : (names : List Name) (ends : List End) → ((k : ℕ) (end : End) → slice_get ends k ≡ Some end → list_any (bytes_eq end.name) names ≡ true) → all_differ (map (λ end. end.name) ends) ≡ true → none_twice (map (λ end. number_of names end.name) ends) ≡ true
+numbers-once : (names : List Name) (ends : List End) →
+    ((k : ℕ) (end : End) → slice_get ends k ≡ Some end → list_any (bytes_eq end.name) names ≡ true) →
+    all_differ (map (λ end. end.name) ends) ≡ true →
+    none_twice (map (λ end. number_of names end.name) ends) ≡ true
 numbers-once names [] known h = refl
 numbers-once names (end ∷ rest) known h =
     let parts = and_parts (not (list_any (bytes_eq end.name) (map (λ end. end.name) rest))) (all_differ (map (λ end. end.name) rest)) h in
     let none = false_from_ne_true (list_any (λ y. y == number_of names end.name) (map (λ end. number_of names end.name) rest)) (λ twice.
-    let found : (k : ℕ) × (y : ℕ) × (slice_get (map (λ end. number_of names end.name) rest) k ≡ Some y) × ((y == number_of names end.name) ≡ true) = list_any-at (λ y. y == number_of names end.name) (map (λ end. number_of names end.name) rest) twice in
+    let found : (k : ℕ) × (y : ℕ) × (slice_get (map (λ end. number_of names end.name) rest) k ≡ Some y) ×
+    ((y == number_of names end.name) ≡ true) =
+    list_any-at (λ y. y == number_of names end.name) (map (λ end. number_of names end.name) rest) twice in
     let other : (e : End) × (slice_get rest found.0 ≡ Some e) × (number_of names e.name ≡ found.1) = map-at (λ end. number_of names end.name) rest found.0 found.1 found.2 in
     let same : number_of names other.0.name ≡ number_of names end.name = other.2 ∙ eqb-true _ _ found.3 in
     let name_there : slice_get names (number_of names other.0.name) ≡ Some other.0.name = number_of-at names other.0.name (known (suc found.0) other.0 other.1) in
@@ -165,7 +200,11 @@ numbers-once names (end ∷ rest) known h =
     not-both false e f = cc
 
 -- what is beside a section on and_parts sides, in the order of its ends or turned
-beside-once : (names boards : List Name) (kind : KindDraft) → none_twice (map (λ end. number_of names end.name) (ends kind)) ≡ true → none_twice (beside (numbered_section names boards kind) Down ++ beside (numbered_section names boards kind) Up) ≡ true
+beside-once : (names boards : List Name) (kind : KindDraft) →
+    none_twice (map (λ end. number_of names end.name) (ends kind)) ≡ true →
+    none_twice
+    (beside (numbered_section names boards kind) Down ++ beside (numbered_section names boards kind) Up)
+    ≡ true
 beside-once names boards (LinearDraft None None board_down board_up) h = h
 beside-once names boards (LinearDraft None (Some up) board_down board_up) h = h
 beside-once names boards (LinearDraft (Some down) None board_down board_up) h = h
@@ -184,10 +223,27 @@ next-once net table rules x = by_section (slice_get net.sections x) refl
 
     by_section : (o : Option SectionDraft) → slice_get net.sections x ≡ o → none_twice (next_to (numbered net table) x Down ++ next_to (numbered net table) x Up) ≡ true
     by_section None at =
-        let none : slice_get (numbered net table).sections x ≡ None = slice_get-map (λ section. numbered_section (names_of_sections net.sections) (names_of_boards net.sections) section.kind) net.sections x ∙ ap (option_map (λ section. numbered_section (names_of_sections net.sections) (names_of_boards net.sections) section.kind)) at in
+        let none : slice_get (numbered net table).sections x ≡ None =
+        slice_get-map
+        (λ section. numbered_section (names_of_sections net.sections) (names_of_boards net.sections)
+        section.kind) net.sections x
+        ∙ ap
+        (option_map
+        (λ section. numbered_section (names_of_sections net.sections)
+        (names_of_boards net.sections) section.kind)) at in
         rw none refl
     by_section (Some section) at =
-        let there : slice_get (numbered net table).sections x ≡ Some (numbered_section (names_of_sections net.sections) (names_of_boards net.sections) section.kind) = slice_get-map (λ section. numbered_section (names_of_sections net.sections) (names_of_boards net.sections) section.kind) net.sections x ∙ ap (option_map (λ section. numbered_section (names_of_sections net.sections) (names_of_boards net.sections) section.kind)) at in
+        let there : slice_get (numbered net table).sections x
+        ≡ Some
+        (numbered_section (names_of_sections net.sections) (names_of_boards net.sections)
+        section.kind) =
+        slice_get-map
+        (λ section. numbered_section (names_of_sections net.sections) (names_of_boards net.sections)
+        section.kind) net.sections x
+        ∙ ap
+        (option_map
+        (λ section. numbered_section (names_of_sections net.sections)
+        (names_of_boards net.sections) section.kind)) at in
         let kept : not (all_differ (map (λ end. end.name) (ends section.kind))) ≡ false = rw at at (rules 3 N4 refl x (slice_get_within net.sections x section at)) in
         let known : (k : ℕ) (end : End) → slice_get (ends section.kind) k ≡ Some end → list_any (bytes_eq end.name) (names_of_sections net.sections) ≡ true = λ k end e. end-known k end (rw at e) in
         rw there (beside-once (names_of_sections net.sections) (names_of_boards net.sections) section.kind (numbers-once (names_of_sections net.sections) (ends section.kind) known (not-not _ kept)))
@@ -201,7 +257,16 @@ next-once net table rules x = by_section (slice_get net.sections x) refl
 pub next-some : (net : NetDraft) (table : TableDraft) → KeepsNetworkRules net → (x : ℕ) → x < length net.sections → 0 < length (next_to (numbered net table) x Down ++ next_to (numbered net table) x Up)
 next-some net table rules x within = by_section (slice_get net.sections x) refl
   where
-    by_kind : (section : SectionDraft) (kind : KindDraft) → slice_get net.sections x ≡ Some section → section.kind ≡ kind → stands_alone net x ≡ false → 0 < length (beside (numbered_section (names_of_sections net.sections) (names_of_boards net.sections) kind) Down ++ beside (numbered_section (names_of_sections net.sections) (names_of_boards net.sections) kind) Up)
+    by_kind : (section : SectionDraft) (kind : KindDraft) → slice_get net.sections x ≡ Some section →
+        section.kind ≡ kind → stands_alone net x ≡ false →
+        0
+        < length
+        (beside
+        (numbered_section (names_of_sections net.sections) (names_of_boards net.sections) kind)
+        Down
+        ++ beside
+        (numbered_section (names_of_sections net.sections) (names_of_boards net.sections)
+        kind) Up)
     by_kind section (LinearDraft None None board_down board_up) at is h =
         let bad : has_no_neighbour (LinearDraft None None board_down board_up) ≡ false = rw (at, is) at h in cc
     by_kind section (LinearDraft None (Some up) board_down board_up) at is h = omega arith
@@ -218,5 +283,15 @@ next-some net table rules x within = by_section (slice_get net.sections x) refl
         at-within (section ∷ rest) zero h = (section, refl)
         at-within (section ∷ rest) (suc x) h = at-within rest x (omega arith)
     by_section (Some section) at =
-        let there : slice_get (numbered net table).sections x ≡ Some (numbered_section (names_of_sections net.sections) (names_of_boards net.sections) section.kind) = slice_get-map (λ section. numbered_section (names_of_sections net.sections) (names_of_boards net.sections) section.kind) net.sections x ∙ ap (option_map (λ section. numbered_section (names_of_sections net.sections) (names_of_boards net.sections) section.kind)) at in
+        let there : slice_get (numbered net table).sections x
+        ≡ Some
+        (numbered_section (names_of_sections net.sections) (names_of_boards net.sections)
+        section.kind) =
+        slice_get-map
+        (λ section. numbered_section (names_of_sections net.sections) (names_of_boards net.sections)
+        section.kind) net.sections x
+        ∙ ap
+        (option_map
+        (λ section. numbered_section (names_of_sections net.sections)
+        (names_of_boards net.sections) section.kind)) at in
         rw there (by_kind section section.kind at refl (rules 5 N6 refl x within))

@@ -13,7 +13,10 @@ use Rattle.ilk_base.proofs.Options.{IfSome-from, bind_some}
 use Rattle.ilk_base.proofs.Ranges.{range-at}
 use Rattle.ilk_base.proofs.Tested.{count_by-take-lt}
 
-module _ (p : PlantLists) (x : ℕ) (d : Section) (within : x < length p.sections) (numbers new : List (Option ℕ)) (points : ℕ) (so_far : numbers ≡ map (point_number p) (range_with_len 0 x)) (count : points ≡ count_by is_point (take x p.sections)) where
+module _ (p : PlantLists) (x : ℕ) (d : Section) (within : x < length p.sections)
+    (numbers new : List (Option ℕ)) (points : ℕ)
+    (so_far : numbers ≡ map (point_number p) (range_with_len 0 x))
+    (count : points ≡ count_by is_point (take x p.sections)) where
   here : (b : Bool) → is_point (get_or p.sections x d) ≡ b → point_number p x ≡ only_if b (count_by is_point (take x p.sections))
   here b e =
       ap (λ (o : Option Section). o >>= (λ section. only_if (is_point section) (count_by is_point (take x p.sections)))) (slice_get-get_or p.sections x d within)

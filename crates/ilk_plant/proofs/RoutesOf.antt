@@ -43,7 +43,11 @@ point-within p x h = by_section (slice_get p.sections x) refl
     by_section (Some section) at = slice_get_within p.sections x section at
 
 -- a route of the plant is a numbered draft
-pub route-at : (net : NetDraft) (table : TableDraft) (r : ℕ) (route : Route) → slice_get (numbered net table).routes r ≡ Some route → (draft : RouteDraft) × (slice_get table.routes r ≡ Some draft) × (numbered_route (names_of_sections net.sections) (names_of_boards net.sections) (names_of_routes table.routes) draft ≡ route)
+pub route-at : (net : NetDraft) (table : TableDraft) (r : ℕ) (route : Route) →
+    slice_get (numbered net table).routes r ≡ Some route →
+    (draft : RouteDraft) × (slice_get table.routes r ≡ Some draft) ×
+    (numbered_route (names_of_sections net.sections) (names_of_boards net.sections)
+    (names_of_routes table.routes) draft ≡ route)
 route-at net table r route e =
     map-at (numbered_route (names_of_sections net.sections) (names_of_boards net.sections) (names_of_routes table.routes)) table.routes r route e
 
@@ -71,7 +75,11 @@ apart false false h = cc
 apart false true h = cc
 
 -- what the limits of a route say of its lists
-limits-kept : (route : RouteDraft) → route_has_limits route ≡ true → (1 ≤ length route.path) × (length route.path ≤ MAX_PATH) × (length route.overlap ≤ MAX_OVERLAP) × (length route.points ≤ MAX_POINTS) × (length route.conflicts ≤ MAX_CONFLICTS) × (length route.protecting_points ≤ MAX_PROTECTING_POINTS) × (length route.protecting_boards ≤ MAX_PROTECTING_BOARDS)
+limits-kept : (route : RouteDraft) → route_has_limits route ≡ true →
+    (1 ≤ length route.path) × (length route.path ≤ MAX_PATH) × (length route.overlap ≤ MAX_OVERLAP) ×
+    (length route.points ≤ MAX_POINTS) × (length route.conflicts ≤ MAX_CONFLICTS) ×
+    (length route.protecting_points ≤ MAX_PROTECTING_POINTS) ×
+    (length route.protecting_boards ≤ MAX_PROTECTING_BOARDS)
 limits-kept route h =
     let five = and_parts _ (nat_le (length route.protecting_boards) MAX_PROTECTING_BOARDS) h in
     let four = and_parts _ (nat_le (length route.protecting_points) MAX_PROTECTING_POINTS) five.0 in
@@ -82,7 +90,12 @@ limits-kept route h =
     (leb-true _ _ path.0, leb-true _ _ path.1, leb-true _ _ one.1, leb-true _ _ two.1, leb-true _ _ three.1, leb-true _ _ four.1, leb-true _ _ five.1)
 
 -- a route of the plant has the limits of its draft
-route-limits : (net : NetDraft) (table : TableDraft) (r : ℕ) (route : Route) → list_all route_has_limits table.routes ≡ true → slice_get (numbered net table).routes r ≡ Some route → (1 ≤ length route.path) × (length route.path ≤ MAX_PATH) × (length route.overlap ≤ MAX_OVERLAP) × (length route.points ≤ MAX_POINTS) × (length route.conflicts ≤ MAX_CONFLICTS) × (length route.protecting_points ≤ MAX_PROTECTING_POINTS) × (length route.protecting_boards ≤ MAX_PROTECTING_BOARDS)
+route-limits : (net : NetDraft) (table : TableDraft) (r : ℕ) (route : Route) →
+    list_all route_has_limits table.routes ≡ true → slice_get (numbered net table).routes r ≡ Some route →
+    (1 ≤ length route.path) × (length route.path ≤ MAX_PATH) × (length route.overlap ≤ MAX_OVERLAP) ×
+    (length route.points ≤ MAX_POINTS) × (length route.conflicts ≤ MAX_CONFLICTS) ×
+    (length route.protecting_points ≤ MAX_PROTECTING_POINTS) ×
+    (length route.protecting_boards ≤ MAX_PROTECTING_BOARDS)
 route-limits net table r route each e =
     let found : (draft : RouteDraft) × (slice_get table.routes r ≡ Some draft) × (numbered_route (names_of_sections net.sections) (names_of_boards net.sections) (names_of_routes table.routes) draft ≡ route) = route-at net table r route e in
     let limits = limits-kept found.0 (list_all-slice_get route_has_limits table.routes r found.0 each found.1) in
@@ -91,11 +104,20 @@ route-limits net table r route each e =
     let points : length route.points ≡ length found.0.points = ap (λ a. length a.points) (sym found.2) ∙ length-map found.0.points (numbered_point (names_of_sections net.sections)) in
     let conflicts : length route.conflicts ≡ length found.0.conflicts = ap (λ a. length a.conflicts) (sym found.2) ∙ length-map found.0.conflicts (number_of (names_of_routes table.routes)) in
     let protecting_points : length route.protecting_points ≡ length found.0.protecting_points = ap (λ a. length a.protecting_points) (sym found.2) ∙ length-map found.0.protecting_points (numbered_point (names_of_sections net.sections)) in
-    let protecting_boards : length route.protecting_boards ≡ length found.0.protecting_boards = ap (λ a. length a.protecting_boards) (sym found.2) ∙ length-map found.0.protecting_boards (number_of (names_of_boards net.sections)) in
-    (omega (arith, path, limits.0), omega (arith, path, limits.1), omega (arith, overlap, limits.2), omega (arith, points, limits.3), omega (arith, conflicts, limits.4), omega (arith, protecting_points, limits.5), omega (arith, protecting_boards, limits.6))
+    let protecting_boards : length route.protecting_boards ≡ length found.0.protecting_boards = ap (λ a. length a.protecting_boards) (sym found.2) ∙ length-map found.0.protecting_boards (number_of (names_of_boards net.sections)) in (
+      omega (arith, path, limits.0),
+      omega (arith, path, limits.1),
+      omega (arith, overlap, limits.2),
+      omega (arith, points, limits.3),
+      omega (arith, conflicts, limits.4),
+      omega (arith, protecting_points, limits.5),
+      omega (arith, protecting_boards, limits.6),
+    )
 
 -- a route of the plant speaks of what there is
-pub route-known : (net : NetDraft) (table : TableDraft) → KeepsTableRules (numbered net table) → list_all route_has_limits table.routes ≡ true → (r : ℕ) (route : Route) → slice_get (numbered net table).routes r ≡ Some route → IsRouteOf (numbered net table) route
+pub route-known : (net : NetDraft) (table : TableDraft) → KeepsTableRules (numbered net table) →
+    list_all route_has_limits table.routes ≡ true → (r : ℕ) (route : Route) →
+    slice_get (numbered net table).routes r ≡ Some route → IsRouteOf (numbered net table) route
 route-known net table rules each r route e =
     let p : PlantLists = numbered net table in
     let within : r < length p.routes = slice_get_within p.routes r route e in
@@ -103,23 +125,55 @@ route-known net table rules each r route e =
     let sections = and_parts (list_all (is_section p) (sections_of route)) (none_twice (sections_of route)) (route-passes p (has_sections_once p) r route (rules 2 R3 refl r within) e) in
     let each_section = and_parts (list_all (is_section p) route.path) (list_all (is_section p) route.overlap) (sym (list_all-append (is_section p) route.path route.overlap) ∙ sections.0) in
     let points = and_parts (list_all (λ x. is_point_section p x && has_section x (sections_of route)) (points_of route)) (none_twice (points_of route)) (route-passes p (has_points_once p) r route (rules 3 R4 refl r within) e) in
-    let each_point : list_all (λ listed. is_point_section p listed.point && has_section listed.point (sections_of route)) route.points ≡ true = sym (list_all-map (λ x. is_point_section p x && has_section x (sections_of route)) (λ listed. listed.point) route.points) ∙ points.0 in
+    let each_point :
+    list_all (λ listed. is_point_section p listed.point && has_section listed.point (sections_of route))
+    route.points ≡ true =
+    sym
+    (list_all-map (λ x. is_point_section p x && has_section x (sections_of route))
+    (λ listed. listed.point) route.points) ∙ points.0 in
     let destination = route-passes p (λ a. has_destination_or_none p a.destination) r route (rules 4 R5 refl r within) e in
     let conflicts = and_parts (list_all (is_other_route p r) route.conflicts) (none_twice route.conflicts) (route-passes p (has_conflicts_once p r) r route (rules 5 R6 refl r within) e) in
-    let protecting = and_parts (list_all (λ x. is_point_section p x && not (has_section x (sections_of route))) (protecting_points_of route)) (none_twice (protecting_points_of route)) (route-passes p (has_protecting_points_once p) r route (rules 6 R7 refl r within) e) in
-    let each_protecting : list_all (λ listed. is_point_section p listed.point && not (has_section listed.point (sections_of route))) route.protecting_points ≡ true = sym (list_all-map (λ x. is_point_section p x && not (has_section x (sections_of route))) (λ listed. listed.point) route.protecting_points) ∙ protecting.0 in
+    let protecting = and_parts
+    (list_all (λ x. is_point_section p x && not (has_section x (sections_of route)))
+    (protecting_points_of route))
+    (none_twice (protecting_points_of route))
+    (route-passes p (has_protecting_points_once p) r route (rules 6 R7 refl r within) e) in
+    let each_protecting :
+    list_all
+    (λ listed. is_point_section p listed.point && not (has_section listed.point (sections_of route)))
+    route.protecting_points ≡ true =
+    sym
+    (list_all-map (λ x. is_point_section p x && not (has_section x (sections_of route)))
+    (λ listed. listed.point) route.protecting_points)
+    ∙ protecting.0 in
     let boards = and_parts (list_all (λ m. is_board p m && not (m == route.source)) route.protecting_boards) (none_twice route.protecting_boards) (route-passes p (has_protecting_boards_once p) r route (rules 7 R8 refl r within) e) in
     let lengths = route-limits net table r route each e in
     record {
       destination = λ m is. let known : is_board p m ≡ true = rw is at destination in below m (length p.boards) known;
       sections_once = sections.1;
-      points_are_points = All-tested (λ listed. is_point_section p listed.point && has_section listed.point (sections_of route)) (λ listed. IsSome (point_number p listed.point)) (λ listed h. point-numbered p listed.point (and_parts _ _ h).0) route.points each_point;
+      points_are_points = All-tested
+          (λ listed. is_point_section p listed.point && has_section listed.point (sections_of route))
+          (λ listed. IsSome (point_number p listed.point))
+          (λ listed h. point-numbered p listed.point (and_parts _ _ h).0) route.points each_point;
       points_passed = All-tested (λ listed. is_point_section p listed.point && has_section listed.point (sections_of route)) (λ listed. IsTrue (has_section listed.point (sections_of route))) (λ listed h. (and_parts _ _ h).1) route.points each_point;
       points_once = points.1;
       conflicts_once = conflicts.1;
-      protecting_points = All-tested (λ listed. is_point_section p listed.point && not (has_section listed.point (sections_of route))) (λ listed. listed.point < length p.sections) (λ listed h. point-within p listed.point (and_parts _ _ h).0) route.protecting_points each_protecting;
-      protecting_points_are_points = All-tested (λ listed. is_point_section p listed.point && not (has_section listed.point (sections_of route))) (λ listed. IsSome (point_number p listed.point)) (λ listed h. point-numbered p listed.point (and_parts _ _ h).0) route.protecting_points each_protecting;
-      protecting_points_apart = All-tested (λ listed. is_point_section p listed.point && not (has_section listed.point (sections_of route))) (λ listed. has_section listed.point (sections_of route) ≡ false) (λ listed h. apart (is_point_section p listed.point) (has_section listed.point (sections_of route)) h) route.protecting_points each_protecting;
+      protecting_points = All-tested
+          (λ listed. is_point_section p listed.point && not (has_section listed.point (sections_of route)))
+          (λ listed. listed.point < length p.sections)
+          (λ listed h. point-within p listed.point (and_parts _ _ h).0) route.protecting_points
+          each_protecting;
+      protecting_points_are_points = All-tested
+          (λ listed. is_point_section p listed.point && not (has_section listed.point (sections_of route)))
+          (λ listed. IsSome (point_number p listed.point))
+          (λ listed h. point-numbered p listed.point (and_parts _ _ h).0) route.protecting_points
+          each_protecting;
+      protecting_points_apart = All-tested
+          (λ listed. is_point_section p listed.point && not (has_section listed.point (sections_of route)))
+          (λ listed. has_section listed.point (sections_of route) ≡ false)
+          (λ listed h. apart (is_point_section p listed.point) (has_section listed.point (sections_of route))
+          h)
+          route.protecting_points each_protecting;
       protecting_points_once = protecting.1;
       protecting_boards = All-tested (λ m. is_board p m && not (m == route.source)) (λ m. m < length p.boards) (λ m h. (other-board p route.source m h).0) route.protecting_boards boards.0;
       protecting_boards_other = All-tested (λ m. is_board p m && not (m == route.source)) (λ m. m ≢ route.source) (λ m h. (other-board p route.source m h).1) route.protecting_boards boards.0;

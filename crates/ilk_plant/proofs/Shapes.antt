@@ -39,7 +39,10 @@ fits_path-from_counts route now few_seen few_rel =
     rw (seen, rel) refl
 
 -- the counts of each route fit its path exactly where the test of the pairs passes
-counts-true : (routes : List Route) (states : List RouteState) → list_all (λ pair. fits_path pair.0 pair.1) (zip routes states) ≡ true → (r : ℕ) (route : Route) (now : RouteState) → slice_get routes r ≡ Some route → slice_get states r ≡ Some now → fits_path route now ≡ true
+counts-true : (routes : List Route) (states : List RouteState) →
+    list_all (λ pair. fits_path pair.0 pair.1) (zip routes states) ≡ true →
+    (r : ℕ) (route : Route) (now : RouteState) → slice_get routes r ≡ Some route →
+    slice_get states r ≡ Some now → fits_path route now ≡ true
 counts-true [] states h r route now e f = cc
 counts-true (x ∷ routes) [] h r route now e f = cc
 counts-true (x ∷ routes) (y ∷ states) h zero route now e f =
@@ -48,7 +51,10 @@ counts-true (x ∷ routes) (y ∷ states) h zero route now e f =
     rw (same, state) at (and_parts (fits_path x y) (list_all (λ pair. fits_path pair.0 pair.1) (zip routes states)) h).0
 counts-true (x ∷ routes) (y ∷ states) h (suc r) route now e f = counts-true routes states (and_parts _ _ h).1 r route now e f
 
-counts-test : (routes : List Route) (states : List RouteState) → ((r : ℕ) (route : Route) (now : RouteState) → slice_get routes r ≡ Some route → slice_get states r ≡ Some now → fits_path route now ≡ true) → list_all (λ pair. fits_path pair.0 pair.1) (zip routes states) ≡ true
+counts-test : (routes : List Route) (states : List RouteState) →
+    ((r : ℕ) (route : Route) (now : RouteState) → slice_get routes r ≡ Some route →
+    slice_get states r ≡ Some now → fits_path route now ≡ true) →
+    list_all (λ pair. fits_path pair.0 pair.1) (zip routes states) ≡ true
 counts-test [] states h = refl
 counts-test (x ∷ routes) [] h = refl
 counts-test (x ∷ routes) (y ∷ states) h =

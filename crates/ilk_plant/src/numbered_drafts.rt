@@ -40,7 +40,9 @@ impl Model for Numbered {
       route_names = p.route_names;
     } };
 
-    ghost invariant = { λ p. (length p.sections ≤ MAX_SECTIONS) × (length p.boards ≤ MAX_BOARDS) × (length p.routes ≤ MAX_ROUTES) × (length p.route_names ≡ length p.routes) };
+    ghost invariant = { λ p. (length p.sections ≤ MAX_SECTIONS) ×
+        (length p.boards ≤ MAX_BOARDS) × (length p.routes ≤ MAX_ROUTES) ×
+        (length p.route_names ≡ length p.routes) };
 }
 
 // What is made of a table, and of a network whose names are made already: the names of the routes, and

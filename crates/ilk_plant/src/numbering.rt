@@ -48,9 +48,11 @@ fn push_board(
     name: &Option<Text>,
 ) -> Result<(), AllocError>
     ensures names { OnOk result
-        (made.new.names ≡ made.old.names ++ map (λ named. named.name) (board_if_named x dir name.now)) }
+        (made.new.names
+        ≡ made.old.names ++ map (λ named. named.name) (board_if_named x dir name.now)) }
     ensures boards { OnOk result
-        (made.new.boards ≡ made.old.boards ++ map (λ named. named.board) (board_if_named x dir name.now)) }
+        (made.new.boards
+        ≡ made.old.boards ++ map (λ named. named.board) (board_if_named x dir name.now)) }
 {
     if let Some(name) = name {
         made.names.push(name.copy()?)?;
@@ -87,7 +89,8 @@ fn push_boards(
 pub fn named_boards(alloc: Global, sections: &Row<SectionDraft>) -> Result<NamedBoards, AllocError>
     requires { length sections.now ≤ MAX_SECTIONS }
     ensures names { IfOk result (λ made. made.names ≡ names_of_boards sections.now) }
-    ensures boards { IfOk result (λ made. made.boards ≡ map (λ named. named.board) (boards_from 0 sections.now)) }
+    ensures boards { IfOk result
+        (λ made. made.boards ≡ map (λ named. named.board) (boards_from 0 sections.now)) }
     ensures few { IfOk result (λ made. length made.names ≤ MAX_BOARDS) }
 {
     let mut made = NamedBoards {
@@ -149,7 +152,9 @@ pub fn numbered_sections(
     sections: &Row<SectionDraft>,
 ) -> Result<Row<Section>, AllocError>
     ensures { IfOk result
-        (λ made. made ≡ map (λ section. numbered_section section_names.now board_names.now section.kind) sections.now) }
+        (λ made. made
+        ≡ map (λ section. numbered_section section_names.now board_names.now section.kind)
+        sections.now) }
 {
     let mut made = Row::new(alloc);
     for section in sections.as_slice() {
@@ -208,7 +213,8 @@ pub fn numbered_routes(
     routes: &Row<RouteDraft>,
 ) -> Result<Row<Route>, AllocError>
     ensures { IfOk result
-        (λ made. made ≡ map (numbered_route section_names.now board_names.now route_names.now) routes.now) }
+        (λ made. made
+        ≡ map (numbered_route section_names.now board_names.now route_names.now) routes.now) }
 {
     let mut made = Row::new(alloc);
     for route in routes.as_slice() {

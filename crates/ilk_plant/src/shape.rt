@@ -55,7 +55,8 @@ impl Plant {
 
     // Whether the counts of each route are within its path.
     fn counts_fit(&self, s: &State) -> bool
-        ensures { result ≡ list_all (λ pair. fits_path pair.0 pair.1) (zip self.now.routes s.now.routes) }
+        ensures { result
+            ≡ list_all (λ pair. fits_path pair.0 pair.1) (zip self.now.routes s.now.routes) }
     {
         self.routes_as_slice()
             .iter()

@@ -65,7 +65,11 @@ by_leg plus minus y lie differ has =
           ap (λ b. is_some_and lie (same_lie (if b then Plus else Minus))) there ∙ minus_leg plus minus y lie there other)
     ]
 
-section_leads-holds : (p : PlantLists) (values : List ℕ) (x : ℕ) (side : Dir) (y : ℕ) (section : Section) → ((stem plus minus : ℕ) (faces : Dir) → section ≡ Point stem plus minus faces → (minus == plus) ≡ false) → has_section y (beside section side) ≡ true → tree_holds values (section_leads p x side y section) ≡ is_some_and (leads_to section side (lie_by p values x)) (is_at y)
+section_leads-holds : (p : PlantLists) (values : List ℕ) (x : ℕ) (side : Dir) (y : ℕ) (section : Section) →
+    ((stem plus minus : ℕ) (faces : Dir) → section ≡ Point stem plus minus faces → (minus == plus) ≡ false) →
+    has_section y (beside section side) ≡ true →
+    tree_holds values (section_leads p x side y section)
+    ≡ is_some_and (leads_to section side (lie_by p values x)) (is_at y)
 section_leads-holds p values x Down y (Linear None up b c) differ has = absurd (false≢true has)
 section_leads-holds p values x Down y (Linear (Some z) up b c) differ has = sym (only (z == y) has)
 section_leads-holds p values x Up y (Linear down None b c) differ has = absurd (false≢true has)
@@ -78,7 +82,9 @@ section_leads-holds p values x Down y (Point stem plus minus Up) differ has = sy
 section_leads-holds p values x Up y (Point stem plus minus Down) differ has = sym (only (stem == y) has)
 
 -- a section leads to one next to it, by the tree, where it does by where its point lies
-pub leads_by_lie-holds : (p : PlantLists) → IsPlant p → (values : List ℕ) (x : ℕ) (side : Dir) (y : ℕ) → has_section y (next_to p x side) ≡ true → tree_holds values (leads_by_lie p x side y) ≡ is_some_and (ahead_by p (lie_by p values) x side) (is_at y)
+pub leads_by_lie-holds : (p : PlantLists) → IsPlant p → (values : List ℕ) (x : ℕ) (side : Dir) (y : ℕ) →
+    has_section y (next_to p x side) ≡ true →
+    tree_holds values (leads_by_lie p x side y) ≡ is_some_and (ahead_by p (lie_by p values) x side) (is_at y)
 leads_by_lie-holds p plant values x side y has = by_section (slice_get p.sections x) refl
   where
     by_section : (o : Option Section) → slice_get p.sections x ≡ o → tree_holds values (leads_by_lie p x side y) ≡ is_some_and (ahead_by p (lie_by p values) x side) (is_at y)

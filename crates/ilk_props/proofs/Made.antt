@@ -41,7 +41,10 @@ three_made start one two three a b c first second third =
 abbrev pub each_has : ℕ → List ℕ → List Tree
 each_has v values = map (λ place. is place.0 place.1) (enumerate_from v values)
 
-pub value_made : (values : List ℕ) (v value : ℕ) (now next : List Form) (form : Form) (all : List Tree) → slice_get values v ≡ Some value → map tree_of now ++ each_has v (drop v values) ≡ all → next ≡ now ++ form ∷ [] → tree_of form ≡ is v value → map tree_of next ++ each_has (v + 1) (drop (v + 1) values) ≡ all
+pub value_made : (values : List ℕ) (v value : ℕ) (now next : List Form) (form : Form) (all : List Tree) →
+    slice_get values v ≡ Some value → map tree_of now ++ each_has v (drop v values) ≡ all →
+    next ≡ now ++ form ∷ [] → tree_of form ≡ is v value →
+    map tree_of next ++ each_has (v + 1) (drop (v + 1) values) ≡ all
 value_made values v value now next form all at sofar grown made =
     let one : v + 1 ≡ suc v = omega arith in
     let rest : drop v values ≡ value ∷ drop (suc v) values = rest_at values v ∙ ap (λ o. option_to_list o ++ drop (suc v) values) at in

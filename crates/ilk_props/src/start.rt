@@ -21,7 +21,9 @@ fn value_is(v: u64, value: u8) -> Form
 // For each variable, that it has its value among these.
 fn each_is(alloc: Global, values: &Values) -> Result<Vec<Form>, AllocError>
     requires { length values.now < 2 ^ 32 }
-    ensures { IfOk result (λ forms. map tree_of forms.items ≡ map (λ place. is place.0 place.1) (enumerate_from 0 values.now)) }
+    ensures { IfOk result
+        (λ forms. map tree_of forms.items
+        ≡ map (λ place. is place.0 place.1) (enumerate_from 0 values.now)) }
 {
     let mut each = Vec::new(alloc);
     for v in 0..values.len() {
@@ -33,7 +35,9 @@ fn each_is(alloc: Global, values: &Values) -> Result<Vec<Form>, AllocError>
 // All variables have their values among these.
 fn all_are(alloc: Global, values: &Values) -> Result<Form, AllocError>
     requires { length values.now < 2 ^ 32 }
-    ensures { IfOk result (λ form. tree_of form ≡ all_of (trees (map (λ place. is place.0 place.1) (enumerate_from 0 values.now)))) }
+    ensures { IfOk result
+        (λ form. tree_of form
+        ≡ all_of (trees (map (λ place. is place.0 place.1) (enumerate_from 0 values.now)))) }
 {
     Ok(Form::And(each_is(alloc, values)?))
 }

@@ -24,7 +24,8 @@ fn opposite(d: Dir) -> Dir
 
 // Where the first holds, the second does.
 fn implies(alloc: Global, condition: Form, consequence: Form) -> Result<Form, AllocError>
-    ensures { IfOk result (λ made. tree_of made ≡ forms.implies (tree_of condition) (tree_of consequence)) }
+    ensures { IfOk result
+        (λ made. tree_of made ≡ forms.implies (tree_of condition) (tree_of consequence)) }
 {
     let mut either = Vec::new(alloc);
     either.push(negated(alloc, condition)?)?;
@@ -104,7 +105,11 @@ fn push_neighbour_has_train(
     i: u32,
 ) -> Result<(), AllocError>
     requires { x < length plant.now.sections }
-    ensures { OnOk result (map tree_of some.new.items ≡ map tree_of some.old.items ++ map (forms.joined_by_train plant.now x d side) (option_to_list (slice_get (next_to plant.now x side) i))) }
+    ensures { OnOk result
+        (map tree_of some.new.items
+        ≡ map tree_of some.old.items
+        ++ map (forms.joined_by_train plant.now x d side)
+        (option_to_list (slice_get (next_to plant.now x side) i))) }
 {
     if let Some(y) = plant.neighbour(x, side, i) {
         some.push(joined_by_train(alloc, plant, x, d, side, y)?)?;
@@ -121,7 +126,11 @@ fn next_has_train(
     side: Dir,
 ) -> Result<Form, AllocError>
     requires { x < length plant.now.sections }
-    ensures { IfOk result (λ made. tree_of made ≡ any_of (trees (map (forms.joined_by_train plant.now x d side) (next_to plant.now x side)))) }
+    ensures { IfOk result
+        (λ made. tree_of made
+        ≡ any_of
+        (trees
+        (map (forms.joined_by_train plant.now x d side) (next_to plant.now x side)))) }
 {
     let mut some = Vec::new(alloc);
     for i in 0..2 {
@@ -165,7 +174,9 @@ fn push_own_demands(
     x: u32,
 ) -> Result<(), AllocError>
     requires { x < length plant.now.sections }
-    ensures { OnOk result (map tree_of demands.new.items ≡ map tree_of demands.old.items ++ forms.own_demands plant.now x) }
+    ensures { OnOk result
+        (map tree_of demands.new.items
+        ≡ map tree_of demands.old.items ++ forms.own_demands plant.now x) }
 {
     demands.push(negated(alloc, crash_at(plant, x))?)?;
     demands.push(is_still(alloc, plant, x)?)?;
@@ -181,7 +192,9 @@ fn push_train_demands(
     d: Dir,
 ) -> Result<(), AllocError>
     requires { x < length plant.now.sections }
-    ensures { OnOk result (map tree_of demands.new.items ≡ map tree_of demands.old.items ++ forms.train_demands plant.now x d) }
+    ensures { OnOk result
+        (map tree_of demands.new.items
+        ≡ map tree_of demands.old.items ++ forms.train_demands plant.now x d) }
 {
     demands.push(train_is_whole(alloc, plant, x, d, Dir::Up)?)?;
     demands.push(train_is_whole(alloc, plant, x, d, Dir::Down)?)?;
@@ -196,7 +209,9 @@ fn push_section_demands(
     x: u32,
 ) -> Result<(), AllocError>
     requires { x < length plant.now.sections }
-    ensures { OnOk result (map tree_of demands.new.items ≡ map tree_of demands.old.items ++ forms.section_demands plant.now x) }
+    ensures { OnOk result
+        (map tree_of demands.new.items
+        ≡ map tree_of demands.old.items ++ forms.section_demands plant.now x) }
 {
     push_own_demands(alloc, demands, plant, x)?;
     push_train_demands(alloc, demands, plant, x, Dir::Up)?;

@@ -63,7 +63,11 @@ module _ (p : PlantLists) (steps : RulesStep p) (g : GoalTree) (goal : IsGoalOf 
       }
 
   -- the rules of events that lead through safe states are such a run, if their value lists meet what is demanded
-  made : (q : Wanted) (s : State) (events : List Event) (states : List State) → HasShape p s → states_from p s events ≡ Some states → length events ≡ step_count q → list_all (is_safe p) (take (step_count q) states) ≡ true → list_all (met_by (map (image_of p) states)) (demanded g q) ≡ true → (rules : List ℕ) × (is_wanted_run (system_of p) g q (image_of p s) rules ≡ true)
+  made : (q : Wanted) (s : State) (events : List Event) (states : List State) → HasShape p s →
+      states_from p s events ≡ Some states → length events ≡ step_count q →
+      list_all (is_safe p) (take (step_count q) states) ≡ true →
+      list_all (met_by (map (image_of p) states)) (demanded g q) ≡ true →
+      (rules : List ℕ) × (is_wanted_run (system_of p) g q (image_of p s) rules ≡ true)
   made q s events states shape is count safe met =
       let fires = to-rules p steps g goal s events states shape is (ap (λ n. list_all (is_safe p) (take n states)) count ∙ safe) in
       (fires.0, wanted-from (system_of p) g q (image_of p s) fires.0 (record { run = map (image_of p) states; is = fires.2; in_range = goal.in_range s shape; many = fires.1 ∙ count; met = met }))
@@ -165,7 +169,11 @@ module _ (p : PlantLists) (steps : RulesStep p) (g : GoalTree) (goal : IsGoalOf 
       let rest = (and_parts (met_by w.run (holds_in 0 g.start)) (list_all (met_by w.run) (holds_below g.wellformed (n + 1) ++ broken ∷ [])) w.met).1 in
       let well = wellformed-first (n + 1) w.run (broken ∷ []) (omega arith) rest in
       let found = item_at w.run n (omega arith) in
-      let fewer = (and_parts (list_all (has_form g.wellformed) (take n w.run)) (has_form g.wellformed found.0) (sym (ap (list_all (has_form g.wellformed)) (take-next w.run n found.0 found.1) ∙ all-more (has_form g.wellformed) (take n w.run) found.0) ∙ well)).0 in
+      let fewer =
+      (and_parts (list_all (has_form g.wellformed) (take n w.run)) (has_form g.wellformed found.0)
+      (sym
+      (ap (list_all (has_form g.wellformed)) (take-next w.run n found.0 found.1)
+      ∙ all-more (has_form g.wellformed) (take n w.run) found.0) ∙ well)).0 in
       let l = led (Breach n) s rules shape w fewer in
       let many = l.many in
       let end = item_at l.states n (omega arith) in
@@ -222,7 +230,12 @@ module _ (p : PlantLists) (steps : RulesStep p) (g : GoalTree) (goal : IsGoalOf 
       let count = w.many in
       let left : Demanded = fails_in (suc n) (all_of (trees (negation g.hazard ∷ g.families))) in
       let families : List Demanded = flat_map (λ form. holds_below form (suc n)) g.families in
-      let before = (and_parts (list_all (met_by w.run) (holds_below g.wellformed (suc n) ++ families)) (list_all (met_by w.run) (left ∷ [])) (sym (list_all-append (met_by w.run) (holds_below g.wellformed (suc n) ++ families) (left ∷ [])) ∙ w.met)).0 in
+      let before =
+      (and_parts (list_all (met_by w.run) (holds_below g.wellformed (suc n) ++ families))
+      (list_all (met_by w.run) (left ∷ []))
+      (sym
+      (list_all-append (met_by w.run) (holds_below g.wellformed (suc n) ++ families)
+      (left ∷ [])) ∙ w.met)).0 in
       let well = wellformed-first (suc n) w.run families (omega arith) before in
       let begin = run-begins first rules w.run w.is in
       let here : list_all (has_form g.wellformed) (first ∷ take n begin.0) ≡ true = ap (λ (u : List (List ℕ)). list_all (has_form g.wellformed) (take (suc n) u)) (sym begin.1) ∙ well in

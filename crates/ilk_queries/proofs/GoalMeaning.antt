@@ -37,5 +37,7 @@ goal_is p in_range begins wellformed hazards kept =
 all-valid : (p : PlantLists) → ((j : ℕ) → tree_valid (ranges_of_plant p) (family_tree p j) ≡ true) → list_all (tree_valid (ranges_of_plant p)) (family_trees p) ≡ true
 all-valid p valid = rw (valid 1, valid 2, valid 3, valid 4, valid 5, valid 6, valid 7, valid 8, valid 9) refl
 
-pub goal_fits : (p : PlantLists) → IsOverPlant p (start_tree p) → IsOverPlant p (hazard_tree p) → IsOverPlant p (wellformed_tree p) → ((j : ℕ) → tree_valid (ranges_of_plant p) (family_tree p j) ≡ true) → IsTrue (goal_valid (ranges_of_plant p) (goal_of p))
+pub goal_fits : (p : PlantLists) → IsOverPlant p (start_tree p) → IsOverPlant p (hazard_tree p) →
+    IsOverPlant p (wellformed_tree p) → ((j : ℕ) → tree_valid (ranges_of_plant p) (family_tree p j) ≡ true) →
+    IsTrue (goal_valid (ranges_of_plant p) (goal_of p))
 goal_fits p start hazard wellformed families = and_from _ _ (and_from _ _ (and_from _ _ start hazard) wellformed) (all-valid p families)

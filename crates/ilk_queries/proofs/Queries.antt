@@ -30,7 +30,12 @@ shaped-at p (s ∷ states) (suc n) t shaped at = shaped-at p states n t shaped.1
 
 module _ (p : PlantLists) (steps : RulesStep p) (g : GoalTree) (goal : IsGoalOf p g) where
   -- whether value lists meet what each query demands, by the list with number n
-  pub hazard-met : (n : ℕ) (states : List State) (s t : State) → EachShaped p states → slice_get states 0 ≡ Some s → slice_get states n ≡ Some t → n ≤ length states → list_all (met_by (map (image_of p) states)) (demanded g (Hazard n)) ≡ (has_form g.start (image_of p s) && (list_all (is_safe p) (take n states) && is_some (hazard p t)))
+  pub hazard-met : (n : ℕ) (states : List State) (s t : State) → EachShaped p states →
+      slice_get states 0 ≡ Some s → slice_get states n ≡ Some t → n ≤ length states →
+      list_all (met_by (map (image_of p) states)) (demanded g (Hazard n))
+      ≡
+      (has_form g.start (image_of p s)
+      && (list_all (is_safe p) (take n states) && is_some (hazard p t)))
   hazard-met n states s t shaped first last within =
       let lists : List (List ℕ) = map (image_of p) states in
       let at0 : slice_get lists 0 ≡ Some (image_of p s) = slice_get-map (image_of p) states 0 ∙ rw first refl in
@@ -45,10 +50,21 @@ module _ (p : PlantLists) (steps : RulesStep p) (g : GoalTree) (goal : IsGoalOf 
       ∙ ap (λ b. list_all (is_safe p) (take n states) && b) (and-true _ ∙ end))
 
   -- the families' forms hold in the images of safe states exactly where the families are kept
-  families-before : (n : ℕ) (states : List State) → EachShaped p states → (list_all (is_safe p) (take n states) && list_all (λ values. list_all (tree_holds values) g.families) (map (image_of p) (take n states))) ≡ list_all (meets_invariant p) (take n states)
+  families-before : (n : ℕ) (states : List State) → EachShaped p states →
+      (list_all (is_safe p) (take n states)
+      && list_all (λ values. list_all (tree_holds values) g.families) (map (image_of p) (take n states)))
+      ≡ list_all (meets_invariant p) (take n states)
   families-before zero states shaped = refl
   families-before (suc n) [] shaped = refl
-  families-before (suc n) (s ∷ states) shaped = four (is_safe p s) _ _ _ ∙ ap (λ b. b && (list_all (is_safe p) (take n states) && list_all (λ values. list_all (tree_holds values) g.families) (map (image_of p) (take n states)))) (here s shaped.0) ∙ ap (λ b. meets_invariant p s && b) (families-before n states shaped.1)
+  families-before (suc n) (s ∷ states) shaped = four (is_safe p s) _ _ _
+      ∙ ap
+      (λ b. b
+      &&
+      (list_all (is_safe p) (take n states)
+      && list_all (λ values. list_all (tree_holds values) g.families)
+      (map (image_of p) (take n states))))
+      (here s shaped.0)
+      ∙ ap (λ b. meets_invariant p s && b) (families-before n states shaped.1)
     where
       four : (a b c d : Bool) → ((a && b) && (c && d)) ≡ ((a && c) && (b && d))
       four true true c d = refl
@@ -73,7 +89,14 @@ module _ (p : PlantLists) (steps : RulesStep p) (g : GoalTree) (goal : IsGoalOf 
       by_hazard None none = goal.kept t shape none
       by_hazard (Some h) some = refl
 
-  pub breach-met : (n : ℕ) (states : List State) (s t : State) → EachShaped p states → slice_get states 0 ≡ Some s → slice_get states n ≡ Some t → n + 1 ≤ length states → list_all (met_by (map (image_of p) states)) (demanded g (Breach n)) ≡ (has_form g.start (image_of p s) && (list_all (is_safe p) (take (n + 1) states) && not (list_all (tree_holds (image_of p t)) g.families)))
+  pub breach-met : (n : ℕ) (states : List State) (s t : State) → EachShaped p states →
+      slice_get states 0 ≡ Some s → slice_get states n ≡ Some t → n + 1 ≤ length states →
+      list_all (met_by (map (image_of p) states)) (demanded g (Breach n))
+      ≡
+      (has_form g.start (image_of p s)
+      &&
+      (list_all (is_safe p) (take (n + 1) states)
+      && not (list_all (tree_holds (image_of p t)) g.families)))
   breach-met n states s t shaped first last within =
       let lists : List (List ℕ) = map (image_of p) states in
       let broken : Demanded = fails_in n (all_of (trees g.families)) in
@@ -101,5 +124,8 @@ module _ (p : PlantLists) (steps : RulesStep p) (g : GoalTree) (goal : IsGoalOf 
       let end = fails-met lists n (image_of p t) (all_of (trees (negation g.hazard ∷ g.families))) atn ∙ ap not (invariant-form t (shaped-at p states n t shaped last)) in
       let right : leaves_at p n states ≡ (list_all (meets_invariant p) (take n states) && not (meets_invariant p t)) = rw last refl in
       list_all-append (met_by lists) (holds_below g.wellformed n ++ families) (left ∷ [])
-      ∙ ap (λ b. b && (met_by lists left && true)) (list_all-append (met_by lists) (holds_below g.wellformed n) families ∙ ap (λ b. b && list_all (met_by lists) families) below ∙ ap (λ b. list_all (is_safe p) (take n states) && b) kept ∙ families-before n states shaped)
+      ∙ ap (λ b. b && (met_by lists left && true))
+      (list_all-append (met_by lists) (holds_below g.wellformed n) families
+      ∙ ap (λ b. b && list_all (met_by lists) families) below
+      ∙ ap (λ b. list_all (is_safe p) (take n states) && b) kept ∙ families-before n states shaped)
       ∙ ap (λ b. list_all (meets_invariant p) (take n states) && b) (and-true _ ∙ end) ∙ sym right

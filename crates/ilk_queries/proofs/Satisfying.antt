@@ -24,7 +24,13 @@ use Rattle.ilk_queries.proofs.Steps.{rules-step}
 
 pub satisfiable_is : (p : PlantLists) (q : Wanted) → IsPlant p → StepsAs p → IsGoalOf p (goal_of p) → IsTrue (wanted_valid q)
     → ((a : List Bool) → length a ≡ (query_formula (system_of p) (goal_of p) q).vars → IsTrue (satisfies a (query_formula (system_of p) (goal_of p) q).clauses) → IsWantedRun (system_of p) (goal_of p) q a)
-    → ((first rules : List ℕ) → IsTrue (is_wanted_run (system_of p) (goal_of p) q first rules) → (length (run_assignment (system_of p) (goal_of p) q first rules) ≡ (query_formula (system_of p) (goal_of p) q).vars) × IsTrue (satisfies (run_assignment (system_of p) (goal_of p) q first rules) (query_formula (system_of p) (goal_of p) q).clauses))
+    →
+    ((first rules : List ℕ) → IsTrue (is_wanted_run (system_of p) (goal_of p) q first rules) →
+    (length (run_assignment (system_of p) (goal_of p) q first rules)
+    ≡ (query_formula (system_of p) (goal_of p) q).vars) ×
+    IsTrue
+    (satisfies (run_assignment (system_of p) (goal_of p) q first rules)
+    (query_formula (system_of p) (goal_of p) q).clauses))
     → IsSatisfiable (query_formula (system_of p) (goal_of p) q) ↔ HasEvents p q
 satisfiable_is p q plant steps goal valid sound complete =
     let lead = rules-step p plant steps in (
@@ -41,7 +47,11 @@ pub valid_goal : (p : PlantLists) (ranges : List ℕ) (goal : GoalTree) → rang
 valid_goal p ranges goal one two valid = ap (λ r. goal_valid r goal) one ∙ ap (goal_valid (ranges_of_plant p)) two ∙ valid
 
 -- the formula of a system and a goal that are the plant's
-pub formula_is : {E : Type 0} (r : Result Formula E) (p : PlantLists) (q : Wanted) (system : SystemTree) (goal : GoalTree) → system ≡ system_of p → goal ≡ goal_of p → IfOk r (λ cnf. cnf ≡ query_formula system goal q) → IfOk r (λ cnf. cnf ≡ query_formula (system_of p) (goal_of p) q)
+pub formula_is :
+    {E : Type 0} (r : Result Formula E) (p : PlantLists) (q : Wanted) (system : SystemTree) (goal : GoalTree)
+    →
+    system ≡ system_of p → goal ≡ goal_of p → IfOk r (λ cnf. cnf ≡ query_formula system goal q) →
+    IfOk r (λ cnf. cnf ≡ query_formula (system_of p) (goal_of p) q)
 formula_is (Ok cnf) p q system goal one two h = h ∙ ap (λ s. query_formula s goal q) one ∙ ap (λ g. query_formula (system_of p) g q) two
 formula_is (Err e) p q system goal one two h = h
 
@@ -50,9 +60,16 @@ abbrev pub IsSound : SystemTree → GoalTree → Wanted → Type 0
 IsSound system goal q = (a : List Bool) → length a ≡ (query_formula system goal q).vars → IsTrue (satisfies a (query_formula system goal q).clauses) → IsWantedRun system goal q a
 
 abbrev pub IsComplete : SystemTree → GoalTree → Wanted → Type 0
-IsComplete system goal q = (first rules : List ℕ) → IsTrue (is_wanted_run system goal q first rules) → (length (run_assignment system goal q first rules) ≡ (query_formula system goal q).vars) × IsTrue (satisfies (run_assignment system goal q first rules) (query_formula system goal q).clauses)
+IsComplete system goal q = (first rules : List ℕ) → IsTrue (is_wanted_run system goal q first rules) →
+    (length (run_assignment system goal q first rules) ≡ (query_formula system goal q).vars) ×
+    IsTrue (satisfies (run_assignment system goal q first rules) (query_formula system goal q).clauses)
 
-pub satisfiable_on : {E : Type 0} (r : Result Formula E) (p : PlantLists) (q : Wanted) (system : SystemTree) (goal : GoalTree) → system ≡ system_of p → goal ≡ goal_of p → IsPlant p → StepsAs p → IsGoalOf p (goal_of p) → IsTrue (wanted_valid q) → OnOk r (IsSound system goal q) → OnOk r (IsComplete system goal q) → OnOk r (IsSatisfiable (query_formula (system_of p) (goal_of p) q) ↔ HasEvents p q)
+pub satisfiable_on :
+    {E : Type 0} (r : Result Formula E) (p : PlantLists) (q : Wanted) (system : SystemTree) (goal : GoalTree)
+    →
+    system ≡ system_of p → goal ≡ goal_of p → IsPlant p → StepsAs p → IsGoalOf p (goal_of p) →
+    IsTrue (wanted_valid q) → OnOk r (IsSound system goal q) → OnOk r (IsComplete system goal q) →
+    OnOk r (IsSatisfiable (query_formula (system_of p) (goal_of p) q) ↔ HasEvents p q)
 satisfiable_on (Ok cnf) p q system goal one two plant steps means valid sound complete =
     let sound-here : IsSound (system_of p) (goal_of p) q = subst (λ g. IsSound (system_of p) g q) two (subst (λ s. IsSound s goal q) one sound) in
     let complete-here : IsComplete (system_of p) (goal_of p) q = subst (λ g. IsComplete (system_of p) g q) two (subst (λ s. IsComplete s goal q) one complete) in

@@ -43,7 +43,10 @@ states-many p s (event ∷ events) states e =
     ap length (sym outer.2) ∙ ap suc (states-many p inner.0 events outer.0 inner.2)
 
 -- a run is a list of states of which each but the last is safe, and ends in the last
-pub run-states : (p : PlantLists) (s t : State) (events : List Event) → run p s events ≡ Some t → (states : List State) × (states_from p s events ≡ Some states) × (list_all (is_safe p) (take (length events) states) ≡ true) × (slice_get states (length events) ≡ Some t)
+pub run-states : (p : PlantLists) (s t : State) (events : List Event) → run p s events ≡ Some t →
+    (states : List State) × (states_from p s events ≡ Some states) ×
+    (list_all (is_safe p) (take (length events) states) ≡ true) ×
+    (slice_get states (length events) ≡ Some t)
 run-states p s t [] e = (s ∷ [], refl, refl, e)
 run-states p s t (event ∷ events) e =
     let first = bound (step p s event) e in
@@ -111,7 +114,10 @@ module _ (p : PlantLists) (steps : RulesStep p) (g : GoalTree) (goal : IsGoalOf 
       subst (EachShaped p) outer.2 (shape, states-shaped inner.0 events outer.0 (steps.keeps_shape s inner.0 event shape inner.1) inner.2)
 
   -- events that lead through safe states are rules that lead through their images
-  pub to-rules : (s : State) (events : List Event) (states : List State) → HasShape p s → states_from p s events ≡ Some states → list_all (is_safe p) (take (length events) states) ≡ true → (rules : List ℕ) × (length rules ≡ length events) × (run_from (system_of p) (image_of p s) rules ≡ Some (map (image_of p) states))
+  pub to-rules : (s : State) (events : List Event) (states : List State) → HasShape p s →
+      states_from p s events ≡ Some states → list_all (is_safe p) (take (length events) states) ≡ true →
+      (rules : List ℕ) × (length rules ≡ length events) ×
+      (run_from (system_of p) (image_of p s) rules ≡ Some (map (image_of p) states))
   to-rules s [] states shape e safe = ([], refl, ap (λ (u : List State). Some (map (image_of p) u)) (same_Some (s ∷ []) states e))
   to-rules s (event ∷ events) states shape e safe =
       let outer = mapped-Some (λ more. s ∷ more) (option_and_then (λ t. states_from p t events) (next p s event)) states e in
@@ -126,7 +132,12 @@ module _ (p : PlantLists) (steps : RulesStep p) (g : GoalTree) (goal : IsGoalOf 
       (fires.0 ∷ rest.0, ap suc rest.1, these ∙ ap (λ (u : List State). Some (map (image_of p) u)) outer.2)
 
   -- rules that lead through well-formed values are events that lead through states with these images
-  pub to-events : (s : State) (rules : List ℕ) (lists : List (List ℕ)) → HasShape p s → run_from (system_of p) (image_of p s) rules ≡ Some lists → list_all (has_form g.wellformed) (take (length rules) lists) ≡ true → (events : List Event) × (states : List State) × (events_by p rules ≡ Some events) × (length events ≡ length rules) × (states_from p s events ≡ Some states) × (map (image_of p) states ≡ lists)
+  pub to-events : (s : State) (rules : List ℕ) (lists : List (List ℕ)) → HasShape p s →
+      run_from (system_of p) (image_of p s) rules ≡ Some lists →
+      list_all (has_form g.wellformed) (take (length rules) lists) ≡ true →
+      (events : List Event) × (states : List State) × (events_by p rules ≡ Some events) ×
+      (length events ≡ length rules) × (states_from p s events ≡ Some states) ×
+      (map (image_of p) states ≡ lists)
   to-events s [] lists shape e well = ([], s ∷ [], refl, refl, refl, same_Some (image_of p s ∷ []) lists e)
   to-events s (i ∷ rules) lists shape e well =
       let outer = mapped-Some (λ run. image_of p s ∷ run) (option_and_then (λ next. run_from (system_of p) next rules) (fired_at (system_of p) i (image_of p s))) lists e in

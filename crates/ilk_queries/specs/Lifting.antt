@@ -21,7 +21,10 @@ use Rattle.ilk_model.specs.Meets.{keeps_all}
 -- from each state with shape and without hazard, the rules step as the events do
 pub record RulesStep (p : PlantLists) : Type 0 where
   pub enabled : (s t : State) (event : Event) → HasShape p s → hazard p s ≡ None → next p s event ≡ Some t → (i : ℕ) × (event_of_rule p i ≡ Some event) × (fired_at (system_of p) i (image_of p s) ≡ Some (image_of p t))
-  pub fired : (s : State) (i : ℕ) (values : List ℕ) → HasShape p s → hazard p s ≡ None → fired_at (system_of p) i (image_of p s) ≡ Some values → (event : Event) × (t : State) × (event_of_rule p i ≡ Some event) × (next p s event ≡ Some t) × (values ≡ image_of p t)
+  pub fired : (s : State) (i : ℕ) (values : List ℕ) → HasShape p s → hazard p s ≡ None →
+      fired_at (system_of p) i (image_of p s) ≡ Some values →
+      (event : Event) × (t : State) × (event_of_rule p i ≡ Some event) × (next p s event ≡ Some t) ×
+      (values ≡ image_of p t)
   pub keeps_shape : (s t : State) (event : Event) → HasShape p s → next p s event ≡ Some t → HasShape p t
 
 -- the forms of the goal say what they are to

@@ -34,8 +34,11 @@ fn formula_of(
     requires goal_valid { IsTrue (goal_valid (ranges_of_plant plant.now) (goal_of plant.now)) }
     requires means { IsGoalOf plant.now (goal_of plant.now) }
     requires wanted { IsTrue (wanted_valid q) }
-    ensures formula { IfOk result (λ cnf. cnf ≡ query_formula (system_of plant.now) (goal_of plant.now) q) }
-    ensures satisfiable { OnOk result (IsSatisfiable (query_formula (system_of plant.now) (goal_of plant.now) q) ↔ HasEvents plant.now q) }
+    ensures formula { IfOk result
+        (λ cnf. cnf ≡ query_formula (system_of plant.now) (goal_of plant.now) q) }
+    ensures satisfiable { OnOk result
+        (IsSatisfiable (query_formula (system_of plant.now) (goal_of plant.now) q) ↔
+        HasEvents plant.now q) }
 {
     plant.is_sound();
     query(alloc, system, goal, q)
@@ -46,8 +49,11 @@ fn formula_of(
 /// query. The only refusal is want of memory.
 pub fn formula(alloc: Global, plant: &Plant, q: Wanted) -> Result<Cnf, AllocError>
     requires { IsTrue (wanted_valid q) }
-    ensures formula { IfOk result (λ cnf. cnf ≡ query_formula (system_of plant.now) (goal_of plant.now) q) }
-    ensures satisfiable { OnOk result (IsSatisfiable (query_formula (system_of plant.now) (goal_of plant.now) q) ↔ HasEvents plant.now q) }
+    ensures formula { IfOk result
+        (λ cnf. cnf ≡ query_formula (system_of plant.now) (goal_of plant.now) q) }
+    ensures satisfiable { OnOk result
+        (IsSatisfiable (query_formula (system_of plant.now) (goal_of plant.now) q) ↔
+        HasEvents plant.now q) }
 {
     let system = behaviour(alloc, plant)?;
     let goal = goal(alloc, plant)?;

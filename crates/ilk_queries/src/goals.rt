@@ -16,7 +16,8 @@ use std::alloc::{AllocError, Global};
 /// nine families. The only refusal is want of memory.
 pub fn goal(alloc: Global, plant: &Plant) -> Result<Goal, AllocError>
     ensures goal { IfOk result (λ made. goal_tree made ≡ goal_of plant.now) }
-    ensures valid { OnOk result (IsTrue (goal_valid (ranges_of_plant plant.now) (goal_of plant.now))) }
+    ensures valid { OnOk result
+        (IsTrue (goal_valid (ranges_of_plant plant.now) (goal_of plant.now))) }
     ensures means { OnOk result (IsGoalOf plant.now (goal_of plant.now)) }
 {
     images_are_in_range(plant);

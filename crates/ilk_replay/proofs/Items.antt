@@ -31,5 +31,9 @@ pub unnamed : {A : Type 0} (names : List Bytes) (x : ℕ) (told : Bytes → Opti
 unnamed {A = A} names x told past = sym (ap (λ (o : Option Bytes). o >>= told) (slice_get_past names x past))
 
 -- equal items tell the same
-pub same_items : {A : Type 0} (value : ℕ → Bytes → Option A) (items others : List ℕ) (n : ℕ) (lines : List Bytes) (left : LinesLeft) (answer : Result (List A) LineFault) → items ≡ others → TellsPart (each_told value items n lines) left answer → TellsPart (each_told value others n lines) left answer
+pub same_items :
+    {A : Type 0} (value : ℕ → Bytes → Option A) (items others : List ℕ) (n : ℕ) (lines : List Bytes)
+    (left : LinesLeft) (answer : Result (List A) LineFault) → items ≡ others →
+    TellsPart (each_told value items n lines) left answer →
+    TellsPart (each_told value others n lines) left answer
 same_items value items others n lines left answer same told = subst (λ (xs : List ℕ). TellsPart (each_told value xs n lines) left answer) same told

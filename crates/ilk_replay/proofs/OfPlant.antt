@@ -102,7 +102,9 @@ state_told-begins p lines b e =
     let v = bind_ok (after_line (codes "events") (k.0.number + length trains) (drop (length trains) k.0.lines)) _ b k.2 in
     let same : made r.0.values q.0.values m.0.values k.0.values trains (k.0.number + length trains + 1) v.0 ≡ b = ok_is v.2 in
     let shape : HasShape p (record { routes = r.0.values; points = q.0.values; boards = m.0.values; locks = k.0.values; trains = trains }) =
-    shaped p r.0.values q.0.values m.0.values k.0.values trains 3 r.0.number r.0.number q.0.number q.0.number m.0.number m.0.number k.0.number lines r.0.lines r.0.lines q.0.lines q.0.lines m.0.lines m.0.lines k.0.lines k.0.lines r.1 q.1 m.1 k.1 refl in
+    shaped p r.0.values q.0.values m.0.values k.0.values trains 3 r.0.number r.0.number q.0.number q.0.number
+    m.0.number m.0.number k.0.number lines r.0.lines r.0.lines q.0.lines q.0.lines m.0.lines m.0.lines
+    k.0.lines k.0.lines r.1 q.1 m.1 k.1 refl in
     subst (BeginsWell p) same (shape, λ other. from_neither other)
 
 beginning_told-begins : (p : PlantLists) (lines : List Bytes) (b : Beginning) → beginning_told p lines ≡ Ok b → BeginsWell p b

@@ -47,7 +47,9 @@ found_point p x e = by_section (slice_get p.sections x) refl e
     by_section None this that = cc
     by_section (Some section) this that = (section, this, that)
 
-point_back : (p : PlantLists) (word : Bytes) (x : ℕ) (event : Event) → IsPlant p → is_point_section p x ≡ true → ((r : ℕ) → event_with word (Route r) ≡ None) → event_with word (Point x) ≡ Some event → event_told p word (name_of p.section_names x) ≡ Some event
+point_back : (p : PlantLists) (word : Bytes) (x : ℕ) (event : Event) → IsPlant p →
+    is_point_section p x ≡ true → ((r : ℕ) → event_with word (Route r) ≡ None) →
+    event_with word (Point x) ≡ Some event → event_told p word (name_of p.section_names x) ≡ Some event
 point_back p word x event plant at none tells =
     let named = plant.sections_named in
     let name : Bytes = name_of p.section_names x in
@@ -61,7 +63,9 @@ point_back p word x event plant at none tells =
     ∙ ap (λ (o : Option ℕ). option_or (o >>= (λ y. event_with word (Point y))) (of_section p word name)) point
     ∙ ap (λ (o : Option Event). option_or o (of_section p word name)) tells
 
-section_back : (p : PlantLists) (word : Bytes) (x : ℕ) (event : Event) → IsPlant p → x < length p.sections → ((r : ℕ) → event_with word (Route r) ≡ None) → ((y : ℕ) → event_with word (Point y) ≡ None) → event_with word (AtSection x) ≡ Some event → event_told p word (name_of p.section_names x) ≡ Some event
+section_back : (p : PlantLists) (word : Bytes) (x : ℕ) (event : Event) → IsPlant p → x < length p.sections →
+    ((r : ℕ) → event_with word (Route r) ≡ None) → ((y : ℕ) → event_with word (Point y) ≡ None) →
+    event_with word (AtSection x) ≡ Some event → event_told p word (name_of p.section_names x) ≡ Some event
 section_back p word x event plant within none none_point tells =
     let named = plant.sections_named in
     let name : Bytes = name_of p.section_names x in

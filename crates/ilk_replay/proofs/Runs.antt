@@ -27,7 +27,9 @@ run-refused p s t (first ∷ rest) event zero (suc n) ends here refused more =
 run-refused p s t (first ∷ rest) event (suc i) (suc n) ends here refused more =
     refused-after p t (step p s first) (take i rest) (take n rest) (λ u e. run-refused p u t rest event i n e here refused (omega arith)) ends
 
-prefix-after : (p : PlantLists) (t : State) (o : Option State) (events fewer : List Event) → ((u : State) → run p u events ≡ Some t → is_none (run p u fewer) ≡ false) → (o >>= (λ u. run p u events)) ≡ Some t → is_none (o >>= (λ u. run p u fewer)) ≡ false
+prefix-after : (p : PlantLists) (t : State) (o : Option State) (events fewer : List Event) →
+    ((u : State) → run p u events ≡ Some t → is_none (run p u fewer) ≡ false) →
+    (o >>= (λ u. run p u events)) ≡ Some t → is_none (o >>= (λ u. run p u fewer)) ≡ false
 prefix-after p t None events fewer f e = cc
 prefix-after p t (Some u) events fewer f e = f u e
 
@@ -40,7 +42,10 @@ run-prefix p s t (first ∷ rest) zero (suc j) ends below = absurd (omega arith)
 run-prefix p s t (first ∷ rest) (suc i) (suc j) ends below =
     prefix-after p t (step p s first) (take i rest) (take j rest) (λ u e. run-prefix p u t rest i j e (omega arith)) ends
 
-more-after : (p : PlantLists) (t : State) (o : Option State) (events more : List Event) (next : Option State) → ((u : State) → run p u events ≡ Some t → run p u more ≡ next) → (o >>= (λ u. run p u events)) ≡ Some t → (o >>= (λ u. run p u more)) ≡ next
+more-after :
+    (p : PlantLists) (t : State) (o : Option State) (events more : List Event) (next : Option State) →
+    ((u : State) → run p u events ≡ Some t → run p u more ≡ next) → (o >>= (λ u. run p u events)) ≡ Some t →
+    (o >>= (λ u. run p u more)) ≡ next
 more-after p t None events more next f e = cc
 more-after p t (Some u) events more next f e = f u e
 
@@ -72,7 +77,9 @@ run-read p s t u items events d i same within ends next =
     let at : slice_get events i ≡ Some (get_or items i d) = subst (λ (xs : List Event). slice_get xs i ≡ Some (get_or items i d)) same here in
     rw add-one (run-more p s t events (get_or items i d) i ends at ∙ next)
 
-pub seen-refused-read : (p : PlantLists) (s t : State) (items events : List Event) (d : Event) (i : ℕ) → items ≡ events → i < length items → run p s (take i events) ≡ Some t → is_some (step p t (get_or items i d)) ≡ false → NotARun (i + 1) ≡ seen_of p s events
+pub seen-refused-read : (p : PlantLists) (s t : State) (items events : List Event) (d : Event) (i : ℕ) →
+    items ≡ events → i < length items → run p s (take i events) ≡ Some t →
+    is_some (step p t (get_or items i d)) ≡ false → NotARun (i + 1) ≡ seen_of p s events
 seen-refused-read p s t items events d i same within ends refused =
     let here : slice_get items i ≡ Some (get_or items i d) = slice_get-get_or items i d within in
     let at : slice_get events i ≡ Some (get_or items i d) = subst (λ (xs : List Event). slice_get xs i ≡ Some (get_or items i d)) same here in

@@ -74,7 +74,19 @@ train_body p line train e =
     subst (λ (t : Train). is_body p t ≡ true) c.1 c.0
 
 -- the first state that lines tell has the shape
-pub shaped : (p : PlantLists) → (routes : List RouteState) (points : List PointState) (boards : List Aspect) (locks : List Hold) (trains : List Train) (n1 m1 n2 m2 n3 m3 n4 m4 : ℕ) (l1 k1 l2 k2 l3 k3 l4 k4 l5 : List Bytes) → each_told (route_told p) (numbers_of p.routes) n1 l1 ≡ Ok (record { values = routes; number = m1; lines = k1 }) → each_told (point_told p) (point_sections p) n2 l2 ≡ Ok (record { values = points; number = m2; lines = k2 }) → each_told (board_told p) (numbers_of p.boards) n3 l3 ≡ Ok (record { values = boards; number = m3; lines = k3 }) → each_told (lock_told p) (numbers_of p.sections) n4 l4 ≡ Ok (record { values = locks; number = m4; lines = k4 }) → trains ≡ leading (train_told p) l5 → HasShape p (record { routes = routes; points = points; boards = boards; locks = locks; trains = trains })
+pub shaped : (p : PlantLists) →
+    (routes : List RouteState) (points : List PointState) (boards : List Aspect) (locks : List Hold)
+    (trains : List Train) (n1 m1 n2 m2 n3 m3 n4 m4 : ℕ) (l1 k1 l2 k2 l3 k3 l4 k4 l5 : List Bytes) →
+    each_told (route_told p) (numbers_of p.routes) n1 l1
+    ≡ Ok (record { values = routes; number = m1; lines = k1 }) →
+    each_told (point_told p) (point_sections p) n2 l2
+    ≡ Ok (record { values = points; number = m2; lines = k2 }) →
+    each_told (board_told p) (numbers_of p.boards) n3 l3
+    ≡ Ok (record { values = boards; number = m3; lines = k3 }) →
+    each_told (lock_told p) (numbers_of p.sections) n4 l4
+    ≡ Ok (record { values = locks; number = m4; lines = k4 }) →
+    trains ≡ leading (train_told p) l5 →
+    HasShape p (record { routes = routes; points = points; boards = boards; locks = locks; trains = trains })
 shaped p routes points boards locks trains n1 m1 n2 m2 n3 m3 n4 m4 l1 k1 l2 k2 l3 k3 l4 k4 l5 a b c d e =
     let ra = each_ok (route_told p) (numbers_of p.routes) n1 l1 (record { values = routes; number = m1; lines = k1 }) a in
     let rb = each_ok (point_told p) (point_sections p) n2 l2 (record { values = points; number = m2; lines = k2 }) b in

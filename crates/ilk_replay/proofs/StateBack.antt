@@ -40,8 +40,21 @@ said_route_back : (limit : ℕ) (now : RouteState) → limit < 2 ^ 32 → now.se
 said_route_back limit now small seen rel =
     let rest : Bytes = spaced (decimal now.seen) (decimal now.rel) in
     let plain : Lacks 32 (decimal now.seen) = decimal_lacks 32 now.seen refl (omega arith) in
-    ap (λ (o : Option (Bytes × Bytes)). o >>= (λ first. first_word first.1 >>= (λ second. mode_of_word first.0 >>= (λ mode. decimal_up_to limit second.0 >>= (λ s. decimal_up_to limit second.1 >>= (λ r. Some (record { mode = mode; seen = s; rel = r }))))))) (first_back (mode_word now.mode) rest (mode_lacks 32 now.mode refl))
-    ∙ ap (λ (o : Option (Bytes × Bytes)). o >>= (λ second. mode_of_word (mode_word now.mode) >>= (λ mode. decimal_up_to limit second.0 >>= (λ s. decimal_up_to limit second.1 >>= (λ r. Some (record { mode = mode; seen = s; rel = r })))))) (first_back (decimal now.seen) (decimal now.rel) plain)
+    ap
+    (λ (o : Option (Bytes × Bytes)). o >>=
+    (λ first. first_word first.1 >>=
+    (λ second. mode_of_word first.0 >>=
+    (λ mode. decimal_up_to limit second.0 >>=
+    (λ s. decimal_up_to limit second.1 >>=
+    (λ r. Some (record { mode = mode; seen = s; rel = r })))))))
+    (first_back (mode_word now.mode) rest (mode_lacks 32 now.mode refl))
+    ∙ ap
+    (λ (o : Option (Bytes × Bytes)). o >>=
+    (λ second. mode_of_word (mode_word now.mode) >>=
+    (λ mode. decimal_up_to limit second.0 >>=
+    (λ s. decimal_up_to limit second.1 >>=
+    (λ r. Some (record { mode = mode; seen = s; rel = r }))))))
+    (first_back (decimal now.seen) (decimal now.rel) plain)
     ∙ ap (λ (o : Option Mode). o >>= (λ mode. decimal_up_to limit (decimal now.seen) >>= (λ s. decimal_up_to limit (decimal now.rel) >>= (λ r. Some (record { mode = mode; seen = s; rel = r }))))) (mode_back now.mode)
     ∙ ap (λ (o : Option ℕ). o >>= (λ s. decimal_up_to limit (decimal now.rel) >>= (λ r. Some (record { mode = now.mode; seen = s; rel = r })))) (decimal_back limit now.seen (omega arith) seen)
     ∙ ap (λ (o : Option ℕ). o >>= (λ r. Some (record { mode = now.mode; seen = now.seen; rel = r }))) (decimal_back limit now.rel (omega arith) rel)
@@ -92,7 +105,10 @@ name_lacks : (names : List Bytes) (c i : ℕ) → All (Lacks c) names → i < le
 name_lacks names c i plain within = subst (Lacks c) (sym (ap (λ (o : Option Bytes). unwrap_or o []) (slice_get-get_or names i [] within))) (plain i [] within)
 
 -- the words of the names of a body
-body_words : (p : PlantLists) → IsPlant p → HasPlainNames p → (x : ℕ) (rest : List ℕ) → All (λ y. y < length p.sections) (x ∷ rest) → words_of (name_of p.section_names x ++ flat_map (λ y. 32 ∷ name_of p.section_names y) rest) ≡ map (name_of p.section_names) (x ∷ rest)
+body_words : (p : PlantLists) → IsPlant p → HasPlainNames p → (x : ℕ) (rest : List ℕ) →
+    All (λ y. y < length p.sections) (x ∷ rest) →
+    words_of (name_of p.section_names x ++ flat_map (λ y. 32 ∷ name_of p.section_names y) rest)
+    ≡ map (name_of p.section_names) (x ∷ rest)
 body_words p plant plain x [] known =
     let named = plant.sections_named in let first = known zero 0 (omega arith) in
     ap words_of (append-nil (name_of p.section_names x)) ∙ part_alone 32 (name_of p.section_names x) (name_lacks p.section_names 32 x plain.section_words (omega arith))

@@ -25,7 +25,11 @@ abbrev pub lines_from : {A : Type 0} → (ℕ → A → Bytes) → List ℕ → 
 lines_from line items values i = text_of (each_line line (drop i items) (drop i values))
 
 -- where a line is written, and those from the next place on are to come, the whole is as before
-pub line_more : {A : Type 0} (line : ℕ → A → Bytes) (items : List ℕ) (values : List A) (i x : ℕ) (v : A) (whole now next : Bytes) → slice_get items i ≡ Some x → slice_get values i ≡ Some v → now ++ lines_from line items values i ≡ whole → next ≡ now ++ (line x v ++ 10 ∷ []) → next ++ lines_from line items values (i + 1) ≡ whole
+pub line_more :
+    {A : Type 0} (line : ℕ → A → Bytes) (items : List ℕ) (values : List A) (i x : ℕ) (v : A)
+    (whole now next : Bytes) →
+    slice_get items i ≡ Some x → slice_get values i ≡ Some v → now ++ lines_from line items values i ≡ whole →
+    next ≡ now ++ (line x v ++ 10 ∷ []) → next ++ lines_from line items values (i + 1) ≡ whole
 line_more line items values i x v whole now next item value sofar grown =
     let first = drop_from items i x item in
     let second = drop_from values i v value in
@@ -53,7 +57,12 @@ trains-are p (train ∷ trains) = ap (λ (t : Bytes). (train_line p train ++ 10 
 
 -- the lines of all lists, one after another, are those of the state
 pub state_is : (p : PlantLists) (s : State) (start : Bytes) →
-    ((((start ++ text_of (each_line (route_line p) (numbers_of p.routes) s.routes)) ++ text_of (each_line (point_line p) (point_sections p) s.points)) ++ text_of (each_line (board_line p) (numbers_of p.boards) s.boards)) ++ text_of (each_line (section_line p) (numbers_of p.sections) s.locks)) ++ flat_map (λ train. train_line p train ++ 10 ∷ []) s.trains ≡ start ++ text_of (state_lines p s)
+    ((((start ++ text_of (each_line (route_line p) (numbers_of p.routes) s.routes))
+    ++ text_of (each_line (point_line p) (point_sections p) s.points))
+    ++ text_of (each_line (board_line p) (numbers_of p.boards) s.boards))
+    ++ text_of (each_line (section_line p) (numbers_of p.sections) s.locks))
+    ++ flat_map (λ train. train_line p train ++ 10 ∷ []) s.trains
+    ≡ start ++ text_of (state_lines p s)
 state_is p s start =
     let a : List Bytes = each_line (route_line p) (numbers_of p.routes) s.routes in
     let b : List Bytes = each_line (point_line p) (point_sections p) s.points in

@@ -70,7 +70,10 @@ abbrev number_past : PlantLists → State → ℕ
 number_past p s = 3 + length (numbers_of p.routes) + length (point_sections p) + length (numbers_of p.boards) + length (numbers_of p.sections) + length s.trains
 
 -- the state is told by its lines
-state_back : (p : PlantLists) → IsPlant p → HasPlainNames p → (s : State) → HasShape p s → (rest : List Bytes) → state_told p (state_lines p s ++ codes "events" ∷ rest) ≡ Ok (made s.routes s.points s.boards s.locks s.trains (number_past p s + 1) rest)
+state_back : (p : PlantLists) → IsPlant p → HasPlainNames p → (s : State) → HasShape p s →
+    (rest : List Bytes) →
+    state_told p (state_lines p s ++ codes "events" ∷ rest)
+    ≡ Ok (made s.routes s.points s.boards s.locks s.trains (number_past p s + 1) rest)
 state_back p plant plain s shape rest =
     let routes : List Bytes = each_line (route_line p) (numbers_of p.routes) s.routes in
     let points : List Bytes = each_line (point_line p) (point_sections p) s.points in
@@ -91,7 +94,14 @@ state_back p plant plain s shape rest =
     (shape.boards ∙ sym (length-range_with_len 0 (length p.boards))) (λ i x v at here. board_back p plant x v ((range_within (length p.boards) i x at).1)))
     ∙ ap (λ (z : Result (LinesPart Hold) ℕ). z >>= with_locks p s.routes s.points s.boards) (each_back (lock_told p) (section_line p) (numbers_of p.sections) s.locks n3 (trains ++ last)
     (shape.locks ∙ sym (length-range_with_len 0 (length p.sections))) (λ i x v at here. lock_back p plant x v ((range_within (length p.sections) i x at).1)))
-    ∙ ap (λ (ts : List Train). after_line (codes "events") (n4 + length ts) (drop (length ts) (trains ++ last)) >>= (λ more. Ok (made s.routes s.points s.boards s.locks ts (n4 + length ts + 1) more))) (leading_back (train_told p) (train_line p) s.trains (codes "events") rest (λ k d within. train_back p plant plain (get_or s.trains k d) (All-tested (is_body p) (λ t. is_body p t ≡ true) (λ t passes. passes) s.trains shape.bodies k d within)) refl)
+    ∙ ap
+    (λ (ts : List Train). after_line (codes "events") (n4 + length ts)
+    (drop (length ts) (trains ++ last)) >>=
+    (λ more. Ok (made s.routes s.points s.boards s.locks ts (n4 + length ts + 1) more)))
+    (leading_back (train_told p) (train_line p) s.trains (codes "events") rest
+    (λ k d within. train_back p plant plain (get_or s.trains k d)
+    (All-tested (is_body p) (λ t. is_body p t ≡ true) (λ t passes. passes) s.trains
+    shape.bodies k d within)) refl)
     ∙ ap (λ (ls : List Bytes). after_line (codes "events") (n4 + length s.trains) ls >>= (λ more. Ok (made s.routes s.points s.boards s.locks s.trains (n4 + length s.trains + 1) more))) (drop-mapped (train_line p) s.trains last)
 
 body_plain : (p : PlantLists) → HasPlainNames p → (body : List ℕ) → Lacks 10 (flat_map (λ x. 32 ∷ name_of p.section_names x) body)
@@ -150,7 +160,9 @@ resumed_back p plant plain s shape events about =
     let lines : List Bytes = codes "run 1" ∷ codes "state" ∷ (state_lines p s ++ codes "events" ∷ last) in
     let same : run_lines p (resumed s events) ≡ lines = ap (λ ls. codes "run 1" ∷ codes "state" ∷ ls) (row (state_lines p s) (codes "events") (map (event_line p) events) (codes "end" ∷ [])) in
     let all : All (Lacks 10) lines =
-    All-cons (Lacks 10) (codes "run 1") (codes "state" ∷ (state_lines p s ++ codes "events" ∷ last)) refl (All-cons (Lacks 10) (codes "state") (state_lines p s ++ codes "events" ∷ last) refl (All-append (Lacks 10) (state_lines p s) (codes "events" ∷ last) (state_plain p plant plain s shape)
+    All-cons (Lacks 10) (codes "run 1") (codes "state" ∷ (state_lines p s ++ codes "events" ∷ last)) refl
+    (All-cons (Lacks 10) (codes "state") (state_lines p s ++ codes "events" ∷ last) refl (All-append
+    (Lacks 10) (state_lines p s) (codes "events" ∷ last) (state_plain p plant plain s shape)
     (All-cons (Lacks 10) (codes "events") last refl (event_lines-plain p plain events)))) in
     let back = lines_back lines all in
     ap (λ (ls : List Bytes). tale_of p (text_of ls)) same

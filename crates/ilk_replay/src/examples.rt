@@ -11,17 +11,24 @@ ghost use Rattle.ilk_replay.specs.Examples.{one_train_on_both};
 
 // What the runs of two trains on the line of two sections show.
 fn runs_on_two_sections()
-    ensures meet { seen_of two_sections (start two_sections) (Enter 0 ∷ Enter 1 ∷ Head 0 ∷ []) ≡ Hazard (Two 1) }
+    ensures meet { seen_of two_sections (start two_sections) (Enter 0 ∷ Enter 1 ∷ Head 0 ∷ [])
+        ≡ Hazard (Two 1) }
     ensures nowhere { seen_of two_sections (start two_sections) (Head 0 ∷ []) ≡ NotARun 1 }
     ensures alone { seen_of two_sections (start two_sections) (Enter 0 ∷ []) ≡ NoHazard }
     ensures twice { seen_of two_sections (start two_sections) (Enter 0 ∷ Enter 0 ∷ []) ≡ NotARun 2 }
-    ensures past { seen_of two_sections (start two_sections) (Enter 0 ∷ Enter 1 ∷ Head 0 ∷ Tail 0 ∷ []) ≡ NotARun 4 }
+    ensures past { seen_of two_sections (start two_sections)
+        (Enter 0 ∷ Enter 1 ∷ Head 0 ∷ Tail 0 ∷ []) ≡ NotARun 4 }
 {}
 
 // What texts on the line of two sections tell.
 fn texts_on_two_sections()
     ensures three { tale_of two_sections (codes "run 1\nstart\nenter a\nenter b\nhead a\nend\n")
-        ≡ IsTold (record { first = start two_sections; from_start = true; events = Enter 0 ∷ Enter 1 ∷ Head 0 ∷ [] }) }
+        ≡ IsTold
+        (record {
+          first = start two_sections;
+          from_start = true;
+          events = Enter 0 ∷ Enter 1 ∷ Head 0 ∷ [];
+        }) }
     ensures empty { tale_of two_sections [] ≡ Bad 1 }
     ensures unknown { tale_of two_sections (codes "run 1\nstart\nenter z\nend\n") ≡ Bad 3 }
     ensures unended { tale_of two_sections (codes "run 1\nstart\nenter a\n") ≡ Bad 4 }
@@ -33,12 +40,24 @@ fn texts_on_two_sections()
 
 // What texts with a state on the line of two sections tell.
 fn states_on_two_sections()
-    ensures whole { tale_of two_sections (codes "run 1\nstate\nsection a free\nsection b used\ntrain up a b\nevents\ntail a\nend\n")
+    ensures whole { tale_of two_sections
+        (codes "run 1\nstate\nsection a free\nsection b used\ntrain up a b\nevents\ntail a\nend\n")
         ≡ IsTold (record { first = one_train_on_both; from_start = false; events = Tail 0 ∷ [] }) }
     ensures alone { tale_of two_sections (codes "run 1\nstate\nend\n") ≡ Bad 3 }
-    ensures missing { tale_of two_sections (codes "run 1\nstate\nsection a free\nevents\nend\n") ≡ Bad 4 }
-    ensures misnamed { tale_of two_sections (codes "run 1\nstate\nsection b free\nsection a free\nevents\nend\n") ≡ Bad 3 }
-    ensures doubled { tale_of two_sections (codes "run 1\nstate\nsection a free\nsection a free\nevents\nend\n") ≡ Bad 4 }
-    ensures apart { tale_of two_sections (codes "run 1\nstate\nsection a free\nsection b free\ntrain up b a\nevents\nend\n") ≡ Bad 5 }
-    ensures eventless { tale_of two_sections (codes "run 1\nstate\nsection a free\nsection b free\ntrain up a\nend\n") ≡ Bad 6 }
+    ensures missing { tale_of two_sections (codes "run 1\nstate\nsection a free\nevents\nend\n")
+        ≡ Bad 4 }
+    ensures misnamed { tale_of two_sections
+        (codes "run 1\nstate\nsection b free\nsection a free\nevents\nend\n")
+        ≡ Bad 3 }
+    ensures doubled { tale_of two_sections
+        (codes "run 1\nstate\nsection a free\nsection a free\nevents\nend\n")
+        ≡ Bad 4 }
+    ensures apart { tale_of two_sections
+        (codes
+        "run 1\nstate\nsection a free\nsection b free\ntrain up b a\nevents\nend\n")
+        ≡ Bad 5 }
+    ensures eventless { tale_of two_sections
+        (codes
+        "run 1\nstate\nsection a free\nsection b free\ntrain up a\nend\n")
+        ≡ Bad 6 }
 {}

@@ -13,9 +13,11 @@ use ilk_plant::Plant;
 /// lines before it begin the text of some run, and with it they begin none. The call does nothing,
 /// and tells a proof.
 pub fn texts_are_those_written(plant: &Plant, text: &[u8])
-    ensures run { (told : Told) → (tale_of plant.now text.now ≡ IsTold told) ↔ IsTextOf plant.now told text.now }
+    ensures run { (told : Told) →
+        (tale_of plant.now text.now ≡ IsTold told) ↔ IsTextOf plant.now told text.now }
     ensures lines { HasNoBadLine plant.now text.now ↔ IsSomeText plant.now text.now }
-    ensures first { (n : ℕ) → (tale_of plant.now text.now ≡ Bad n) ↔ IsFirstBad plant.now text.now n }
+    ensures first { (n : ℕ) →
+        (tale_of plant.now text.now ≡ Bad n) ↔ IsFirstBad plant.now text.now n }
 {
     plant.is_sound();
 }

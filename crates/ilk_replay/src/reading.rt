@@ -22,7 +22,9 @@ fn read_event_lines(
     plant: &Plant,
     lines: &mut Lines,
 ) -> Result<Row<Event>, AllocError>
-    ensures told { IfOk result (λ events. leading_part (event_of plant.now) lines.old.number lines.old.lines ≡ part_of events lines.new) }
+    ensures told { IfOk result
+        (λ events. leading_part (event_of plant.now) lines.old.number lines.old.lines
+        ≡ part_of events lines.new) }
     ensures after { lines.new.after ≡ lines.old.after }
 {
     read_leading(alloc, lines, |line| Ok(event_of(plant, line)))
@@ -30,7 +32,8 @@ fn read_event_lines(
 
 // The events of the lines that are left: a line for each event, the line `end`, and nothing more.
 fn read_events(alloc: Global, plant: &Plant, lines: &mut Lines) -> Result<Row<Event>, LineFault>
-    ensures { AnswersAsTold (events_told plant.now lines.old.number lines.old.lines lines.old.after) result }
+    ensures { AnswersAsTold
+        (events_told plant.now lines.old.number lines.old.lines lines.old.after) result }
 {
     let events = read_event_lines(alloc, plant, lines)?;
     lines.pass(b"end")?;
@@ -63,7 +66,8 @@ fn read_beginning(
 
 // The run that a text tells.
 fn read_told(alloc: Global, plant: &Plant, text: &[u8]) -> Result<Told, LineFault>
-    ensures told { AnswersAsTold (told plant.now (lines_of text.now) (after_lines text.now)) result }
+    ensures told { AnswersAsTold (told plant.now (lines_of text.now) (after_lines text.now))
+        result }
     ensures shape { IfOk result (λ told. HasShape plant.now told.first) }
 {
     let mut lines = Lines::of(text);

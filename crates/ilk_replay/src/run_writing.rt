@@ -49,7 +49,8 @@ fn subject_name<'a>(plant: &'a Plant, about: Subject) -> &'a str
 // Writes the line of an event at the end of a text.
 fn push_event(text: &mut String, plant: &Plant, event: Event) -> Result<(), AllocError>
     requires { IsAbout plant.now event }
-    ensures { OnOk result (string_bytes text.new ≡ string_bytes text.old ++ (event_line plant.now event ++ 10 ∷ [])) }
+    ensures { OnOk result
+        (string_bytes text.new ≡ string_bytes text.old ++ (event_line plant.now event ++ 10 ∷ [])) }
 {
     let name = subject_name(plant, subject(event));
     write!(text, "{} {}\n", event.word(), name)
@@ -58,7 +59,10 @@ fn push_event(text: &mut String, plant: &Plant, event: Event) -> Result<(), Allo
 // Writes the lines of events.
 fn push_events(text: &mut String, plant: &Plant, events: &Row<Event>) -> Result<(), AllocError>
     requires { All (IsAbout plant.now) events.now }
-    ensures { OnOk result (string_bytes text.new ≡ string_bytes text.old ++ flat_map (λ event. event_line plant.now event ++ 10 ∷ []) events.now) }
+    ensures { OnOk result
+        (string_bytes text.new
+        ≡ string_bytes text.old
+        ++ flat_map (λ event. event_line plant.now event ++ 10 ∷ []) events.now) }
 {
     for event in events.as_slice() {
         push_event(text, plant, *event)?;
@@ -74,7 +78,10 @@ fn push_beginning(
     told: &Told,
 ) -> Result<(), AllocError>
     requires { IsOfPlant plant.now told.now }
-    ensures { OnOk result (string_bytes text.new ≡ string_bytes text.old ++ text_of (beginning_lines plant.now told.now.from_start told.now.first)) }
+    ensures { OnOk result
+        (string_bytes text.new
+        ≡ string_bytes text.old
+        ++ text_of (beginning_lines plant.now told.now.from_start told.now.first)) }
 {
     if told.from_start {
         return text.push_str("start\n");

@@ -22,7 +22,8 @@ pub enum Seen {
 fn advance(alloc: Global, plant: &Plant, s: &mut State, event: Event) -> Result<bool, AllocError>
     requires { HasShape plant.now s.old }
     ensures answer { IfOk result (λ enabled. enabled ≡ is_some (step plant.now s.old event)) }
-    ensures next { IfOk result (λ enabled. IsTrue enabled → step plant.now s.old event ≡ Some s.new) }
+    ensures next { IfOk result
+        (λ enabled. IsTrue enabled → step plant.now s.old event ≡ Some s.new) }
     ensures shape { HasShape plant.now s.new }
 {
     if hazard(plant, s).is_some() {

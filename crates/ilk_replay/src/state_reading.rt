@@ -44,7 +44,9 @@ fn read_routes(
     plant: &Plant,
     lines: &mut Lines,
 ) -> Result<Row<RouteState>, LineFault>
-    ensures told { TellsPart (each_told (route_told plant.now) (numbers_of plant.now.routes) lines.old.number lines.old.lines) lines.new result }
+    ensures told { TellsPart
+        (each_told (route_told plant.now) (numbers_of plant.now.routes) lines.old.number
+        lines.old.lines) lines.new result }
     ensures after { OnOk result (lines.new.after ≡ lines.old.after) }
 {
     let routes = numbers_below(alloc, plant.routes())?;
@@ -62,7 +64,9 @@ fn read_points(
     plant: &Plant,
     lines: &mut Lines,
 ) -> Result<Row<PointState>, LineFault>
-    ensures told { TellsPart (each_told (point_told plant.now) (point_sections plant.now) lines.old.number lines.old.lines) lines.new result }
+    ensures told { TellsPart
+        (each_told (point_told plant.now) (point_sections plant.now) lines.old.number
+        lines.old.lines) lines.new result }
     ensures after { OnOk result (lines.new.after ≡ lines.old.after) }
 {
     let points = point_sections(alloc, plant)?;
@@ -76,7 +80,9 @@ fn read_points(
 
 // The aspects of the boards, a line for each.
 fn read_boards(alloc: Global, plant: &Plant, lines: &mut Lines) -> Result<Row<Aspect>, LineFault>
-    ensures told { TellsPart (each_told (board_told plant.now) (numbers_of plant.now.boards) lines.old.number lines.old.lines) lines.new result }
+    ensures told { TellsPart
+        (each_told (board_told plant.now) (numbers_of plant.now.boards) lines.old.number
+        lines.old.lines) lines.new result }
     ensures after { OnOk result (lines.new.after ≡ lines.old.after) }
 {
     let boards = numbers_below(alloc, plant.boards())?;
@@ -90,7 +96,9 @@ fn read_boards(alloc: Global, plant: &Plant, lines: &mut Lines) -> Result<Row<As
 
 // The locks of the sections, a line for each.
 fn read_locks(alloc: Global, plant: &Plant, lines: &mut Lines) -> Result<Row<Hold>, LineFault>
-    ensures told { TellsPart (each_told (lock_told plant.now) (numbers_of plant.now.sections) lines.old.number lines.old.lines) lines.new result }
+    ensures told { TellsPart
+        (each_told (lock_told plant.now) (numbers_of plant.now.sections) lines.old.number
+        lines.old.lines) lines.new result }
     ensures after { OnOk result (lines.new.after ≡ lines.old.after) }
 {
     let sections = numbers_below(alloc, plant.sections())?;
@@ -104,7 +112,9 @@ fn read_locks(alloc: Global, plant: &Plant, lines: &mut Lines) -> Result<Row<Hol
 
 // The trains of the next lines, as far as each is a train's.
 fn read_trains(alloc: Global, plant: &Plant, lines: &mut Lines) -> Result<Row<Train>, AllocError>
-    ensures told { IfOk result (λ trains. leading_part (train_told plant.now) lines.old.number lines.old.lines ≡ part_of trains lines.new) }
+    ensures told { IfOk result
+        (λ trains. leading_part (train_told plant.now) lines.old.number lines.old.lines
+        ≡ part_of trains lines.new) }
     ensures after { lines.new.after ≡ lines.old.after }
 {
     read_leading(alloc, lines, |line| train_told(alloc, plant, line))

@@ -13,7 +13,9 @@ use std::alloc::{AllocError, Global};
 // Writes the line of route `r` at the end of a text.
 fn push_route(text: &mut String, plant: &Plant, r: u32, now: &RouteState) -> Result<(), AllocError>
     requires { r < length plant.now.routes }
-    ensures { OnOk result (string_bytes text.new ≡ string_bytes text.old ++ (route_line plant.now r now.now ++ 10 ∷ [])) }
+    ensures { OnOk result
+        (string_bytes text.new
+        ≡ string_bytes text.old ++ (route_line plant.now r now.now ++ 10 ∷ [])) }
 {
     let name = plant.route_name(r);
     let mode = now.mode.word();
@@ -23,7 +25,9 @@ fn push_route(text: &mut String, plant: &Plant, r: u32, now: &RouteState) -> Res
 // Writes the line of the point on section `x`.
 fn push_point(text: &mut String, plant: &Plant, x: u32, now: &PointState) -> Result<(), AllocError>
     requires { x < length plant.now.sections }
-    ensures { OnOk result (string_bytes text.new ≡ string_bytes text.old ++ (point_line plant.now x now.now ++ 10 ∷ [])) }
+    ensures { OnOk result
+        (string_bytes text.new
+        ≡ string_bytes text.old ++ (point_line plant.now x now.now ++ 10 ∷ [])) }
 {
     let name = plant.section_name(x);
     write!(text, "point {} {} {}\n", name, now.at.word(), now.to.word())
@@ -32,7 +36,9 @@ fn push_point(text: &mut String, plant: &Plant, x: u32, now: &PointState) -> Res
 // Writes the line of board `m`.
 fn push_board(text: &mut String, plant: &Plant, m: u32, aspect: Aspect) -> Result<(), AllocError>
     requires { m < length plant.now.boards }
-    ensures { OnOk result (string_bytes text.new ≡ string_bytes text.old ++ (board_line plant.now m aspect ++ 10 ∷ [])) }
+    ensures { OnOk result
+        (string_bytes text.new
+        ≡ string_bytes text.old ++ (board_line plant.now m aspect ++ 10 ∷ [])) }
 {
     write!(text, "board {} {}\n", plant.board_name(m), aspect.word())
 }
@@ -40,7 +46,9 @@ fn push_board(text: &mut String, plant: &Plant, m: u32, aspect: Aspect) -> Resul
 // Writes the line of section `x`.
 fn push_section(text: &mut String, plant: &Plant, x: u32, lock: Hold) -> Result<(), AllocError>
     requires { x < length plant.now.sections }
-    ensures { OnOk result (string_bytes text.new ≡ string_bytes text.old ++ (section_line plant.now x lock ++ 10 ∷ [])) }
+    ensures { OnOk result
+        (string_bytes text.new
+        ≡ string_bytes text.old ++ (section_line plant.now x lock ++ 10 ∷ [])) }
 {
     write!(text, "section {} {}\n", plant.section_name(x), lock.word())
 }
@@ -48,7 +56,8 @@ fn push_section(text: &mut String, plant: &Plant, x: u32, lock: Hold) -> Result<
 // Writes the name of section `x` after a space.
 fn push_name(text: &mut String, plant: &Plant, x: u32) -> Result<(), AllocError>
     requires { x < length plant.now.sections }
-    ensures { OnOk result (string_bytes text.new ≡ string_bytes text.old ++ 32 ∷ name_of plant.now.section_names x) }
+    ensures { OnOk result
+        (string_bytes text.new ≡ string_bytes text.old ++ 32 ∷ name_of plant.now.section_names x) }
 {
     write!(text, " {}", plant.section_name(x))
 }
@@ -56,7 +65,10 @@ fn push_name(text: &mut String, plant: &Plant, x: u32) -> Result<(), AllocError>
 // Writes the names of sections, each after a space.
 fn push_names(text: &mut String, plant: &Plant, body: &[u32]) -> Result<(), AllocError>
     requires { All (λ x. x < length plant.now.sections) body.now }
-    ensures { OnOk result (string_bytes text.new ≡ string_bytes text.old ++ flat_map (λ x. 32 ∷ name_of plant.now.section_names x) body.now) }
+    ensures { OnOk result
+        (string_bytes text.new
+        ≡ string_bytes text.old
+        ++ flat_map (λ x. 32 ∷ name_of plant.now.section_names x) body.now) }
 {
     for x in body {
         push_name(text, plant, *x)?;
@@ -68,7 +80,9 @@ fn push_names(text: &mut String, plant: &Plant, body: &[u32]) -> Result<(), Allo
 // Writes the line of a train.
 fn push_train(text: &mut String, plant: &Plant, train: &Train) -> Result<(), AllocError>
     requires { All (λ x. x < length plant.now.sections) train.now.body }
-    ensures { OnOk result (string_bytes text.new ≡ string_bytes text.old ++ (train_line plant.now train.now ++ 10 ∷ [])) }
+    ensures { OnOk result
+        (string_bytes text.new
+        ≡ string_bytes text.old ++ (train_line plant.now train.now ++ 10 ∷ [])) }
 {
     write!(text, "train {}", train.dir.word())?;
     push_names(text, plant, train.body.as_slice())?;
@@ -78,7 +92,11 @@ fn push_train(text: &mut String, plant: &Plant, train: &Train) -> Result<(), All
 // Writes the lines of routes.
 fn push_routes(text: &mut String, plant: &Plant, routes: &Row<RouteState>) -> Result<(), AllocError>
     requires { length routes.now ≡ length plant.now.routes }
-    ensures { OnOk result (string_bytes text.new ≡ string_bytes text.old ++ text_of (each_line (route_line plant.now) (numbers_of plant.now.routes) routes.now)) }
+    ensures { OnOk result
+        (string_bytes text.new
+        ≡ string_bytes text.old
+        ++ text_of
+        (each_line (route_line plant.now) (numbers_of plant.now.routes) routes.now)) }
 {
     for r in 0..plant.routes() {
         push_route(text, plant, r, routes.at(r as u64))?;
@@ -94,7 +112,11 @@ fn push_points(
     points: &Row<PointState>,
 ) -> Result<(), AllocError>
     requires { length points.now ≡ length (point_sections plant.now) }
-    ensures { OnOk result (string_bytes text.new ≡ string_bytes text.old ++ text_of (each_line (point_line plant.now) (point_sections plant.now) points.now)) }
+    ensures { OnOk result
+        (string_bytes text.new
+        ≡ string_bytes text.old
+        ++ text_of
+        (each_line (point_line plant.now) (point_sections plant.now) points.now)) }
 {
     let sections = point_sections(alloc, plant)?;
     for n in 0..sections.len() {
@@ -106,7 +128,11 @@ fn push_points(
 // Writes the lines of boards.
 fn push_boards(text: &mut String, plant: &Plant, boards: &Row<Aspect>) -> Result<(), AllocError>
     requires { length boards.now ≡ length plant.now.boards }
-    ensures { OnOk result (string_bytes text.new ≡ string_bytes text.old ++ text_of (each_line (board_line plant.now) (numbers_of plant.now.boards) boards.now)) }
+    ensures { OnOk result
+        (string_bytes text.new
+        ≡ string_bytes text.old
+        ++ text_of
+        (each_line (board_line plant.now) (numbers_of plant.now.boards) boards.now)) }
 {
     for m in 0..plant.boards() {
         push_board(text, plant, m, *boards.at(m as u64))?;
@@ -117,7 +143,12 @@ fn push_boards(text: &mut String, plant: &Plant, boards: &Row<Aspect>) -> Result
 // Writes the lines of sections.
 fn push_sections(text: &mut String, plant: &Plant, locks: &Row<Hold>) -> Result<(), AllocError>
     requires { length locks.now ≡ length plant.now.sections }
-    ensures { OnOk result (string_bytes text.new ≡ string_bytes text.old ++ text_of (each_line (section_line plant.now) (numbers_of plant.now.sections) locks.now)) }
+    ensures { OnOk result
+        (string_bytes text.new
+        ≡ string_bytes text.old
+        ++ text_of
+        (each_line (section_line plant.now) (numbers_of plant.now.sections)
+        locks.now)) }
 {
     for x in 0..plant.sections() {
         push_section(text, plant, x, *locks.at(x as u64))?;
@@ -128,7 +159,10 @@ fn push_sections(text: &mut String, plant: &Plant, locks: &Row<Hold>) -> Result<
 // Writes the lines of trains.
 fn push_trains(text: &mut String, plant: &Plant, trains: &Row<Train>) -> Result<(), AllocError>
     requires { All (λ train. All (λ x. x < length plant.now.sections) train.body) trains.now }
-    ensures { OnOk result (string_bytes text.new ≡ string_bytes text.old ++ flat_map (λ train. train_line plant.now train ++ 10 ∷ []) trains.now) }
+    ensures { OnOk result
+        (string_bytes text.new
+        ≡ string_bytes text.old
+        ++ flat_map (λ train. train_line plant.now train ++ 10 ∷ []) trains.now) }
 {
     for train in trains.as_slice() {
         push_train(text, plant, train)?;
@@ -145,7 +179,8 @@ pub(crate) fn push_state(
     s: &State,
 ) -> Result<(), AllocError>
     requires { HasShape plant.now s.now }
-    ensures { OnOk result (string_bytes text.new ≡ string_bytes text.old ++ text_of (state_lines plant.now s.now)) }
+    ensures { OnOk result
+        (string_bytes text.new ≡ string_bytes text.old ++ text_of (state_lines plant.now s.now)) }
 {
     plant.is_sound();
     push_routes(text, plant, &s.routes)?;

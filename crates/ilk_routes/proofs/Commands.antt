@@ -30,7 +30,12 @@ passed_over : (p : PlantLists) (listed : Listed) (rest : List Listed) (n : ℕ) 
 passed_over p listed rest n not = rw not (not_listed (listed_position p n rest))
 
 -- the first entry's point is commanded, and then those of the rest
-pub with_commands-first : (p : PlantLists) (points : List PointState) (listed : Listed) (rest : List Listed) (n : ℕ) (point : PointState) → point_number p listed.point ≡ Some n → slice_get points n ≡ Some point → with_commands p (set points n (record point { to = listed.at })) rest ≡ with_commands p points (listed ∷ rest)
+pub with_commands-first :
+    (p : PlantLists) (points : List PointState) (listed : Listed) (rest : List Listed) (n : ℕ)
+    (point : PointState) →
+    point_number p listed.point ≡ Some n → slice_get points n ≡ Some point →
+    with_commands p (set points n (record point { to = listed.at })) rest
+    ≡ with_commands p points (listed ∷ rest)
 with_commands-first p points listed rest n point number at =
     map_numbered-set (λ i q. record q { to = unwrap_or (listed_position p i rest) q.to }) (λ i q. record q { to = unwrap_or (listed_position p i (listed ∷ rest)) q.to }) points n point (record point { to = listed.at }) at here other
   where
@@ -47,12 +52,20 @@ with_commands-first p points listed rest n point number at =
 -- an entry that lists no point changes nothing
 pub with_commands-no_point : (p : PlantLists) (points : List PointState) (listed : Listed) (rest : List Listed) → point_number p listed.point ≡ None → with_commands p points rest ≡ with_commands p points (listed ∷ rest)
 with_commands-no_point p points listed rest none =
-    map_numbered-alike (λ i q. record q { to = unwrap_or (listed_position p i rest) q.to }) (λ i q. record q { to = unwrap_or (listed_position p i (listed ∷ rest)) q.to }) points (λ i q. (let not : lists_point p i listed ≡ false = rw none refl in rw (passed_over p listed rest i not) refl))
+    map_numbered-alike (λ i q. record q { to = unwrap_or (listed_position p i rest) q.to })
+    (λ i q. record q { to = unwrap_or (listed_position p i (listed ∷ rest)) q.to }) points
+    (λ i q.
+    (let not : lists_point p i listed ≡ false = rw none refl in
+    rw (passed_over p listed rest i not) refl))
 
 -- the first entry alone, and then the rest
 pub with_commands-after : (p : PlantLists) (points : List PointState) (listed : Listed) (rest : List Listed) → with_commands p (with_commands p points (listed ∷ [])) rest ≡ with_commands p points (listed ∷ rest)
 with_commands-after p points listed rest =
-    map_numbered-after (λ i q. record q { to = unwrap_or (listed_position p i rest) q.to }) (λ i q. record q { to = unwrap_or (listed_position p i (listed ∷ [])) q.to }) (λ i q. record q { to = unwrap_or (listed_position p i (listed ∷ rest)) q.to }) points (λ i q. ap (λ to. record q { to = to }) (later_first (listed_position p i rest) (only_if (lists_point p i listed) listed.at) q.to))
+    map_numbered-after (λ i q. record q { to = unwrap_or (listed_position p i rest) q.to })
+    (λ i q. record q { to = unwrap_or (listed_position p i (listed ∷ [])) q.to })
+    (λ i q. record q { to = unwrap_or (listed_position p i (listed ∷ rest)) q.to }) points
+    (λ i q. ap (λ to. record q { to = to })
+    (later_first (listed_position p i rest) (only_if (lists_point p i listed) listed.at) q.to))
   where
     later_first : (later first : Option Position) (to : Position) → unwrap_or later (unwrap_or first to) ≡ unwrap_or (option_or later first) to
     later_first None first to = refl

@@ -30,7 +30,12 @@ length-close_if true boards m = length-set boards m Closed
 length-close_if false boards m = refl
 
 -- the shape of a state in which route r is at `now`, and boards, points and locks are as many as before
-reshaped : (p : PlantLists) (s : State) (r : ℕ) (mine : Route) (now : RouteState) (boards : List Aspect) (points : List PointState) (locks : List Hold) → HasShape p s → slice_get p.routes r ≡ Some mine → fits_path mine now ≡ true → length boards ≡ length s.boards → length points ≡ length s.points → length locks ≡ length s.locks → HasShape p (record s { routes = set s.routes r now; boards = boards; points = points; locks = locks })
+reshaped :
+    (p : PlantLists) (s : State) (r : ℕ) (mine : Route) (now : RouteState) (boards : List Aspect)
+    (points : List PointState) (locks : List Hold) → HasShape p s →
+    slice_get p.routes r ≡ Some mine → fits_path mine now ≡ true → length boards ≡ length s.boards →
+    length points ≡ length s.points → length locks ≡ length s.locks →
+    HasShape p (record s { routes = set s.routes r now; boards = boards; points = points; locks = locks })
 reshaped p s r mine now boards points locks shape known within b n l = record {
   routes = length-set s.routes r now ∙ shape.routes;
   points = n ∙ shape.points;
@@ -71,7 +76,12 @@ after_sense-shape p s t r shape e =
     option_and_then_some _ (slice_get route.path now.seen) t e2 (λ x there e3.
     let done = cond_some _ _ t e3 in
     let below = slice_get_within route.path now.seen x there in
-    subst (HasShape p) done.1 (reshaped p s r route _ _ s.points _ shape known (fits_path-from_counts route (record now { mode = Occupied; seen = now.seen + 1 }) (omega (arith, below)) (fits_path-counts route now (shape.counts r route now known here)).1) (length-close_if _ s.boards route.source) refl (length-set s.locks x _)))))
+    subst (HasShape p) done.1
+    (reshaped p s r route _ _ s.points _ shape known
+    (fits_path-from_counts route (record now { mode = Occupied; seen = now.seen + 1 })
+    (omega (arith, below))
+    (fits_path-counts route now (shape.counts r route now known here)).1)
+    (length-close_if _ s.boards route.source) refl (length-set s.locks x _)))))
 
 pub after_release-shape : (p : PlantLists) (s t : State) (r : ℕ) → HasShape p s → after_release p s r ≡ Some t → HasShape p t
 after_release-shape p s t r shape e =
@@ -80,7 +90,12 @@ after_release-shape p s t r shape e =
     option_and_then_some _ (slice_get route.path now.rel) t e2 (λ x there e3.
     let done = cond_some _ _ t e3 in
     let below = slice_get_within route.path now.rel x there in
-    subst (HasShape p) done.1 (reshaped p s r route _ s.boards s.points _ shape known (fits_path-from_counts route (record now { rel = now.rel + 1 }) (fits_path-counts route now (shape.counts r route now known here)).0 (omega (arith, below))) refl refl (length-set s.locks x _)))))
+    subst (HasShape p) done.1
+    (reshaped p s r route _ s.boards s.points _ shape known
+    (fits_path-from_counts route (record now { rel = now.rel + 1 })
+    (fits_path-counts route now (shape.counts r route now known here)).0
+    (omega (arith, below))) refl refl
+    (length-set s.locks x _)))))
 
 pub after_finish-shape : (p : PlantLists) (s t : State) (r : ℕ) → HasShape p s → after_finish p s r ≡ Some t → HasShape p t
 after_finish-shape p s t r shape e =
@@ -88,7 +103,11 @@ after_finish-shape p s t r shape e =
     option_and_then_some _ (slice_get s.routes r) t e1 (λ now here e2.
     option_and_then_some _ (last_or None route.path) t e2 (λ x there e3.
     let done = cond_some _ _ t e3 in
-    subst (HasShape p) done.1 (reshaped p s r route _ s.boards s.points _ shape known (fits_path-from_counts route (record { mode = Free; seen = 0; rel = 0 }) (omega arith) (omega arith)) refl refl (length-with_locks _ (sections_beside route) _ ∙ length-set s.locks x _)))))
+    subst (HasShape p) done.1
+    (reshaped p s r route _ s.boards s.points _ shape known
+    (fits_path-from_counts route (record { mode = Free; seen = 0; rel = 0 }) (omega arith)
+    (omega arith)) refl refl
+    (length-with_locks _ (sections_beside route) _ ∙ length-set s.locks x _)))))
 
 length-give_back_if : (b : Bool) (locks : List Hold) (sections : List ℕ) (hold : Hold) → length (if b then with_locks locks sections hold else locks) ≡ length locks
 length-give_back_if true locks sections hold = length-with_locks locks sections hold
@@ -129,4 +148,8 @@ after_settle-shape p s t x shape e =
 -- a section beside a route is one of the plant
 pub beside-known : (p : PlantLists) (route : Route) → IsRouteOf p route → (i x : ℕ) → slice_get (sections_beside route) i ≡ Some x → x < length p.sections
 beside-known p route of i x at =
-    all-at (λ x. x < length p.sections) (sections_beside route) i x (All-append (λ x. x < length p.sections) route.overlap (map (λ listed. listed.point) route.protecting_points) of.overlap (All-map (λ x. x < length p.sections) (λ (listed : Listed). listed.point) route.protecting_points of.protecting_points)) at
+    all-at (λ x. x < length p.sections) (sections_beside route) i x
+    (All-append (λ x. x < length p.sections) route.overlap
+    (map (λ listed. listed.point) route.protecting_points) of.overlap
+    (All-map (λ x. x < length p.sections) (λ (listed : Listed). listed.point)
+    route.protecting_points of.protecting_points)) at

@@ -22,7 +22,8 @@ pub fn give_locks(locks: &mut Row<Hold>, sections: &Row<u32>, hold: Hold)
 fn give_point_locks(locks: &mut Row<Hold>, points: &Row<Listed>, hold: Hold)
     requires { All (λ listed. listed.point < length locks.old) points.now }
     ensures long { length locks.new ≡ length locks.old }
-    ensures locks { locks.new ≡ with_locks locks.old (map (λ listed. listed.point) points.now) hold }
+    ensures locks { locks.new
+        ≡ with_locks locks.old (map (λ listed. listed.point) points.now) hold }
 {
     for listed in points.as_slice() {
         *locks.at_mut(listed.point as u64) = hold;
@@ -33,7 +34,8 @@ fn give_point_locks(locks: &mut Row<Hold>, points: &Row<Listed>, hold: Hold)
 /// protecting points.
 pub fn give_locks_beside(locks: &mut Row<Hold>, route: &Route, hold: Hold)
     requires overlap { All (λ x. x < length locks.old) route.now.overlap }
-    requires protecting { All (λ listed. listed.point < length locks.old) route.now.protecting_points }
+    requires protecting { All (λ listed. listed.point < length locks.old)
+        route.now.protecting_points }
     ensures long { length locks.new ≡ length locks.old }
     ensures locks { locks.new ≡ with_locks locks.old (sections_beside route.now) hold }
 {
@@ -46,7 +48,8 @@ pub fn give_locks_beside(locks: &mut Row<Hold>, route: &Route, hold: Hold)
 pub fn give_all_locks(locks: &mut Row<Hold>, route: &Route, hold: Hold)
     requires path { All (λ x. x < length locks.old) route.now.path }
     requires overlap { All (λ x. x < length locks.old) route.now.overlap }
-    requires protecting { All (λ listed. listed.point < length locks.old) route.now.protecting_points }
+    requires protecting { All (λ listed. listed.point < length locks.old)
+        route.now.protecting_points }
     ensures long { length locks.new ≡ length locks.old }
     ensures locks { locks.new ≡ with_locks locks.old (sections_locked_for route.now) hold }
 {
@@ -82,7 +85,8 @@ pub fn command(plant: &Plant, points: &mut Row<PointState>, listed_points: &Row<
 /// Commands each point that the route wants, listed or protecting, to its position.
 pub fn command_wanted(plant: &Plant, points: &mut Row<PointState>, route: &Route)
     requires listed { All (λ listed. listed.point < length plant.now.sections) route.now.points }
-    requires protecting { All (λ listed. listed.point < length plant.now.sections) route.now.protecting_points }
+    requires protecting { All (λ listed. listed.point < length plant.now.sections)
+        route.now.protecting_points }
     requires points { length points.old ≡ point_count plant.now }
     ensures { points.new ≡ with_commands plant.now points.old (wanted_points route.now) }
 {

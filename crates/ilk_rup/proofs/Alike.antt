@@ -146,7 +146,9 @@ behind-alone ds i l c at h = record {
 }
 
 -- hints make all of these false, where the opposite of each stands alone
-cleared : (ds : List (List Literal)) (ms all : List Literal) → ((m : Literal) → has_lit m ms ≡ true → (i : ℕ) × (slice_get ds i ≡ Some (opposite m ∷ []))) → ((top : List Literal) → Within all top → is_falsified top ms ≡ true → Ends ds top) → Ends ds all
+cleared : (ds : List (List Literal)) (ms all : List Literal) →
+    ((m : Literal) → has_lit m ms ≡ true → (i : ℕ) × (slice_get ds i ≡ Some (opposite m ∷ []))) →
+    ((top : List Literal) → Within all top → is_falsified top ms ≡ true → Ends ds top) → Ends ds all
 cleared ds [] all b k = k all (λ m h. h) refl
 cleared ds (m ∷ ms) all b k =
     let u = b m (own m ms) in
@@ -155,7 +157,10 @@ cleared ds (m ∷ ms) all b k =
     k next (λ x y. v x (w x y)) (and_from (has_lit (opposite m) next) (is_falsified next ms) (v (opposite m) h) f)))
 
 -- the literal alone that a clause forces, where the opposite of each other one stands alone
-behind-forced : (ds : List (List Literal)) (r : ℕ) (d : List Literal) (l : Literal) → slice_get ds r ≡ Some d → vars_differ d ≡ true → has_lit l d ≡ true → ((m : Literal) → has_lit m (others l d) ≡ true → (i : ℕ) × (slice_get ds i ≡ Some (opposite m ∷ []))) → Behind ds (l ∷ [])
+behind-forced : (ds : List (List Literal)) (r : ℕ) (d : List Literal) (l : Literal) →
+    slice_get ds r ≡ Some d → vars_differ d ≡ true → has_lit l d ≡ true →
+    ((m : Literal) → has_lit m (others l d) ≡ true → (i : ℕ) × (slice_get ds i ≡ Some (opposite m ∷ []))) →
+    Behind ds (l ∷ [])
 behind-forced ds r d l at differ h b = record {
   ends = λ set f. cleared ds (others l d) set b (λ top w o. ends-at ds r d top at (all-false top d l o (w (opposite l) (and_parts (has_lit (opposite l) set) true f).0)));
   forces = λ set all x w u k. cleared ds (others l d) all b (λ top v o. ends-forced ds r d top l at differ h o (λ next y z. k next (λ m q. y m (v m q)) (ap (λ (q : Literal). has_lit q next) (only l x (told set all (l ∷ []) x w u).0) ∙ z)));
@@ -201,7 +206,10 @@ alike-spare cs d f = record {
 }
 
 -- one that the clauses force, or that has a literal which stands alone
-pub alike-forced : (cs : List (List Literal)) (r : ℕ) (d : List Literal) (l : Literal) → slice_get cs r ≡ Some d → vars_differ d ≡ true → has_lit l d ≡ true → ((m : Literal) → has_lit m (others l d) ≡ true → (i : ℕ) × (slice_get cs i ≡ Some (opposite m ∷ []))) → Alike (cs ++ (l ∷ []) ∷ []) cs
+pub alike-forced : (cs : List (List Literal)) (r : ℕ) (d : List Literal) (l : Literal) →
+    slice_get cs r ≡ Some d → vars_differ d ≡ true → has_lit l d ≡ true →
+    ((m : Literal) → has_lit m (others l d) ≡ true → (i : ℕ) × (slice_get cs i ≡ Some (opposite m ∷ []))) →
+    Alike (cs ++ (l ∷ []) ∷ []) cs
 alike-forced cs r d l at differ h b = alike-spare cs (l ∷ []) (λ more. behind-forced (cs ++ more) r d l (at-before cs more r d at) differ h (λ m x. (let u = b m x in (u.0, at-before cs more u.0 (opposite m ∷ []) u.1))))
 
 pub alike-known : (cs : List (List Literal)) (i : ℕ) (l : Literal) (c : List Literal) → slice_get cs i ≡ Some (l ∷ []) → has_lit l c ≡ true → Alike (cs ++ c ∷ []) cs

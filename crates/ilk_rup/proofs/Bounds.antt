@@ -55,10 +55,24 @@ fewer (line ∷ lines) =
       | inr t ↦ same line lines (rw t refl) a b m
     ]
   where
-    fit : (line : Bytes) (lines : List Bytes) → length (line_words line) ≡ 0 → length (line_words line ++ flat_map line_words lines) ≡ length (line_words line) + length (flat_map line_words lines) → length (words_in line ++ flat_map words_in lines) ≡ length (words_in line) + length (flat_map words_in lines) → length (flat_map line_words lines) ≤ length (flat_map words_in lines) → length (line_words line ++ flat_map line_words lines) ≤ length (words_in line ++ flat_map words_in lines)
+    fit : (line : Bytes) (lines : List Bytes) → length (line_words line) ≡ 0 →
+        length (line_words line ++ flat_map line_words lines)
+        ≡ length (line_words line) + length (flat_map line_words lines) →
+        length (words_in line ++ flat_map words_in lines)
+        ≡ length (words_in line) + length (flat_map words_in lines) →
+        length (flat_map line_words lines) ≤ length (flat_map words_in lines) →
+        length (line_words line ++ flat_map line_words lines)
+        ≤ length (words_in line ++ flat_map words_in lines)
     fit line lines z a b m = omega (arith, z, a, b, m)
 
-    same : (line : Bytes) (lines : List Bytes) → length (line_words line) ≡ length (words_in line) → length (line_words line ++ flat_map line_words lines) ≡ length (line_words line) + length (flat_map line_words lines) → length (words_in line ++ flat_map words_in lines) ≡ length (words_in line) + length (flat_map words_in lines) → length (flat_map line_words lines) ≤ length (flat_map words_in lines) → length (line_words line ++ flat_map line_words lines) ≤ length (words_in line ++ flat_map words_in lines)
+    same : (line : Bytes) (lines : List Bytes) → length (line_words line) ≡ length (words_in line) →
+        length (line_words line ++ flat_map line_words lines)
+        ≡ length (line_words line) + length (flat_map line_words lines) →
+        length (words_in line ++ flat_map words_in lines)
+        ≡ length (words_in line) + length (flat_map words_in lines) →
+        length (flat_map line_words lines) ≤ length (flat_map words_in lines) →
+        length (line_words line ++ flat_map line_words lines)
+        ≤ length (words_in line ++ flat_map words_in lines)
     same line lines z a b m = omega (arith, z, a, b, m)
 
 pub words-few : (text : Bytes) → length (text_words text) ≤ length text

@@ -5,7 +5,10 @@ use Rattle.std.proofs.lemmas.Bool.{ltb-true}
 use Rattle.std.proofs.lemmas.Iterator.Adapters.{position_from-zero}
 use Rattle.std.proofs.lemmas.List.Splits.{slice_split_first}
 
-none_by : (p : ℕ → Bool) (b : Bool) (i x : ℕ) (xs : List ℕ) → (position_from p (i + 1) xs ≡ None → slice_split p xs ≡ xs ∷ []) → cond b (Some i) (position_from p (i + 1) xs) ≡ None → cond b ([] ∷ slice_split p xs) (onto_first x (slice_split p xs)) ≡ (x ∷ xs) ∷ []
+none_by : (p : ℕ → Bool) (b : Bool) (i x : ℕ) (xs : List ℕ) →
+    (position_from p (i + 1) xs ≡ None → slice_split p xs ≡ xs ∷ []) →
+    cond b (Some i) (position_from p (i + 1) xs) ≡ None →
+    cond b ([] ∷ slice_split p xs) (onto_first x (slice_split p xs)) ≡ (x ∷ xs) ∷ []
 none_by p true i x xs f e = cc
 none_by p false i x xs f e = ap (onto_first x) (f e)
 

@@ -49,7 +49,10 @@ queue-assumed a es fs h s set k cl all here p =
     }
 
 -- each literal of the set is false then
-assumed-false : (set : List Literal) (es fs : List Entry) (m : Literal) → vars_differ set ≡ true → vars_differ (lits_of fs) ≡ true → ((l : Literal) → has_lit l set ≡ true → has_lit l (lits_of es) ≡ false) → IsAssumed set es fs → has_lit m set ≡ true → has_lit (opposite m) (lits_of fs) ≡ true
+assumed-false : (set : List Literal) (es fs : List Entry) (m : Literal) → vars_differ set ≡ true →
+    vars_differ (lits_of fs) ≡ true →
+    ((l : Literal) → has_lit l set ≡ true → has_lit l (lits_of es) ≡ false) → IsAssumed set es fs →
+    has_lit m set ≡ true → has_lit (opposite m) (lits_of fs) ≡ true
 assumed-false set es fs m differ once untrue p h =
     let x = var-of (lits_of fs) m.var (p.covered m h) in
     let y = entry-of-lit fs x.0 x.2 in
@@ -65,12 +68,18 @@ assumed-false set es fs m differ once untrue p h =
     ]
 
 -- where propagation is at its end, and each literal of the set is false, no hints derive a clause of it
-pub none-follows : (n : ℕ) (cs : List (List Literal)) (es : List Entry) (set : List Literal) → is_closed cs (lits_of es) ≡ true → ((m : Literal) → has_lit m set ≡ true → has_lit (opposite m) (lits_of es) ≡ true) → (c : List Literal) → IsClauseOf n set c → Follows n cs c → ⊥
+pub none-follows : (n : ℕ) (cs : List (List Literal)) (es : List Entry) (set : List Literal) →
+    is_closed cs (lits_of es) ≡ true →
+    ((m : Literal) → has_lit m set ≡ true → has_lit (opposite m) (lits_of es) ≡ true) → (c : List Literal) →
+    IsClauseOf n set c → Follows n cs c → ⊥
 none-follows n cs es set closed false_all c of follows =
     let none = no-false-end cs (opposites c) (lits_of es) follows.0 closed (λ m h. (let o = opposite-of c m h in ap (λ (l : Literal). has_lit l (lits_of es)) o.2 ∙ false_all o.0 (of.fewer o.0 o.1))) in
     true≢false (sym (and_parts (clause_in n c && vars_differ c) (ends_false cs (opposites c) follows.0) follows.1).1 ∙ none)
 
-pub assumed-none : (n : ℕ) (cs : List (List Literal)) (es fs gs : List Entry) (set : List Literal) → is_closed cs (lits_of gs) ≡ true → vars_differ set ≡ true → vars_differ (lits_of fs) ≡ true → take (length fs) gs ≡ fs → ((l : Literal) → has_lit l set ≡ true → has_lit l (lits_of es) ≡ false) → IsAssumed set es fs → (c : List Literal) → IsClauseOf n set c → Follows n cs c → ⊥
+pub assumed-none : (n : ℕ) (cs : List (List Literal)) (es fs gs : List Entry) (set : List Literal) →
+    is_closed cs (lits_of gs) ≡ true → vars_differ set ≡ true → vars_differ (lits_of fs) ≡ true →
+    take (length fs) gs ≡ fs → ((l : Literal) → has_lit l set ≡ true → has_lit l (lits_of es) ≡ false) →
+    IsAssumed set es fs → (c : List Literal) → IsClauseOf n set c → Follows n cs c → ⊥
 assumed-none n cs es fs gs set closed differ once kept untrue p = none-follows n cs gs set closed (λ m h. lit-kept fs gs (opposite m) kept (assumed-false set es fs m differ once untrue p h))
 
 -- entries that stay twice
@@ -78,7 +87,10 @@ pub kept-join : (es fs gs : List Entry) → take (length es) fs ≡ es → take 
 kept-join es fs gs a b = ap (take (length es)) (sym (take-append-drop (length fs) gs) ∙ ap (λ (xs : List Entry). xs ++ drop (length fs) gs) b) ∙ take-append-le (length es) fs (drop (length fs) gs) (length-kept es fs a) ∙ a
 
 -- a conflict after the literals were made false
-pub derive-explains : (cs : List (List Literal)) (es fs gs : List Entry) (set : List Literal) (c : ℕ) → is_conflict cs (lits_of gs) c ≡ true → vars_differ (lits_of gs) ≡ true → ((l : Literal) → has_lit l set ≡ true → has_lit l (lits_of es) ≡ false) → IsAssumed set es fs → IsPropagated cs fs gs → Explains cs gs set c (length fs) (length gs) (length es)
+pub derive-explains : (cs : List (List Literal)) (es fs gs : List Entry) (set : List Literal) (c : ℕ) →
+    is_conflict cs (lits_of gs) c ≡ true → vars_differ (lits_of gs) ≡ true →
+    ((l : Literal) → has_lit l set ≡ true → has_lit l (lits_of es) ≡ false) → IsAssumed set es fs →
+    IsPropagated cs fs gs → Explains cs gs set c (length fs) (length gs) (length es)
 derive-explains cs es fs gs set c h once untrue p q =
     let t = and_parts (nat_lt c (length cs)) (is_falsified (lits_of gs) (clause_at cs c)) h in
     let ef = length-kept es fs p.kept in
@@ -117,7 +129,11 @@ none-up (e ∷ xs) f =
 back-level : (es gs : List Entry) → take (length es) gs ≡ es → climbs 0 es ≡ true → level_of es ≡ 0 → ((i : ℕ) (e : Entry) → length es ≤ i → slice_get gs i ≡ Some e → 0 < e.level) → up_to 0 gs ≡ es
 back-level es gs p climb level f =
     let whole : es ++ drop (length es) gs ≡ gs = ap (λ (xs : List Entry). xs ++ drop (length es) gs) (sym p) ∙ take-append-drop (length es) gs in
-    let rest : up_to 0 (drop (length es) gs) ≡ [] = none-up (drop (length es) gs) (λ i e at. (let P : List Entry → Type 0 = λ xs. slice_get xs (length es + i) ≡ Some e in f (length es + i) e (omega arith) (subst P whole (at-past es (drop (length es) gs) i e at)))) in
+    let rest : up_to 0 (drop (length es) gs) ≡ [] = none-up (drop (length es) gs)
+    (λ i e at.
+    (let P : List Entry → Type 0 = λ xs. slice_get xs (length es + i) ≡ Some e in
+    f (length es + i) e (omega arith) (subst P whole (at-past es (drop (length es) gs) i e at))))
+    in
     ap (up_to 0) (sym whole) ∙ filter-append (λ (e : Entry). nat_le e.level 0) es (drop (length es) gs) ∙ ap (λ (xs : List Entry). up_to 0 es ++ xs) rest ∙ append-nil (up_to 0 es) ∙ up_to-all 0 0 es climb (omega (arith, level))
 
 above-level : (cs : List (List Literal)) (es fs gs : List Entry) (set : List Literal) → length es < length fs → IsAssumed set es fs → IsPropagated cs fs gs → (i : ℕ) (e : Entry) → length es ≤ i → slice_get gs i ≡ Some e → 0 < e.level

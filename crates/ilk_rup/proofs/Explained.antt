@@ -17,12 +17,20 @@ use Rattle.ilk_rup.specs.Needs.{AreHints, Explains, IsKnown, IsNeeded, Shows, un
 use Rattle.ilk_rup.proofs.Explaining.{not-in, shows-start, shows-end}
 use Rattle.ilk_rup.proofs.Passing.{lits-taken, once-taken}
 
-pub shown-first : (f : Formula) (es : List Entry) (set needed : List Literal) (c from top known : ℕ) → IsFormula f → vars_differ (lits_of es) ≡ true → Explains f.clauses es set c from top known → IsNeeded set (clause_at f.clauses c) [] needed → Shows f.clauses (lits_of (take top es)) (lits_of (take top es)) set needed ((c + 1) ∷ [])
+pub shown-first : (f : Formula) (es : List Entry) (set needed : List Literal) (c from top known : ℕ) →
+    IsFormula f → vars_differ (lits_of es) ≡ true → Explains f.clauses es set c from top known →
+    IsNeeded set (clause_at f.clauses c) [] needed →
+    Shows f.clauses (lits_of (take top es)) (lits_of (take top es)) set needed ((c + 1) ∷ [])
 shown-first f es set needed c from top known k once x n =
     let P : ℕ → Type 0 = λ h. Shows f.clauses (lits_of (take top es)) (lits_of (take top es)) set needed (h ∷ []) in
     subst P (sym (add-one c)) (shows-start f.clauses (lits_of (take top es)) set (clause_at f.clauses c) needed c (clause-there f.clauses c x.clause) (once-taken es top once) x.denied n)
 
-pub explained : (cs : List (List Literal)) (es : List Entry) (set needed : List Literal) (units hints : List ℕ) (c from top known n : ℕ) → Explains cs es set c from top known → IsKnown units cs es n known → vars_differ (lits_of es) ≡ true → vars_differ needed ≡ true → Shows cs (lits_of (take top es)) (lits_of (take from es)) set needed hints → AreHints cs set (unit_hints units needed ++ hints)
+pub explained :
+    (cs : List (List Literal)) (es : List Entry) (set needed : List Literal) (units hints : List ℕ)
+    (c from top known n : ℕ) →
+    Explains cs es set c from top known → IsKnown units cs es n known → vars_differ (lits_of es) ≡ true →
+    vars_differ needed ≡ true → Shows cs (lits_of (take top es)) (lits_of (take from es)) set needed hints →
+    AreHints cs set (unit_hints units needed ++ hints)
 explained cs es set needed units hints c from top known n x k once apart s = λ d differ fewer more.
     shows-end cs (lits_of (take top es)) (lits_of (take from es)) set needed units hints d s apart (λ l u h e. named l u h e) (λ l h b. unit l h b) fewer more
   where

@@ -26,7 +26,10 @@ pub not-in : (m : Literal) (xs : List Literal) → (has_lit m xs ≡ true → �
 not-in m xs f = elim (cases_Bool (has_lit m xs)) [ inl t ↦ absurd (f t) | inr t ↦ t ]
 
 -- the clause that is false
-pub shows-start : (cs : List (List Literal)) (all set d needed : List Literal) (i : ℕ) → slice_get cs i ≡ Some d → vars_differ all ≡ true → ((m : Literal) → has_lit m d ≡ true → (has_lit m set ≡ true) ⊎ (has_lit (opposite m) all ≡ true)) → IsNeeded set d [] needed → Shows cs all all set needed (suc i ∷ [])
+pub shows-start : (cs : List (List Literal)) (all set d needed : List Literal) (i : ℕ) →
+    slice_get cs i ≡ Some d → vars_differ all ≡ true →
+    ((m : Literal) → has_lit m d ≡ true → (has_lit m set ≡ true) ⊎ (has_lit (opposite m) all ≡ true)) →
+    IsNeeded set d [] needed → Shows cs all all set needed (suc i ∷ [])
 shows-start cs all set d needed i at differ f n = record {
   apart = λ x h. elim (n.made x h) [ inl y ↦ absurd (true≢false (sym y)) | inr y ↦ y.1 ];
   within = within;
@@ -67,7 +70,14 @@ shows-skip cs all before more set needed l hints n u s = record {
 }
 
 -- an entry whose literal is needed, with its reason
-pub shows-step : (cs : List (List Literal)) (all before more set needed next d : List Literal) (l : Literal) (r : ℕ) (hints : List ℕ) → Next before more l → has_lit l needed ≡ true → slice_get cs r ≡ Some d → vars_differ d ≡ true → has_lit l d ≡ true → is_falsified before (others l d) ≡ true → has_var l.var set ≡ false → vars_differ all ≡ true → ((m : Literal) → has_lit m before ≡ true → has_lit m all ≡ true) → IsNeeded set d needed next → Shows cs all more set needed hints → Shows cs all before set next (suc r ∷ hints)
+pub shows-step :
+    (cs : List (List Literal)) (all before more set needed next d : List Literal) (l : Literal) (r : ℕ)
+    (hints : List ℕ) →
+    Next before more l → has_lit l needed ≡ true → slice_get cs r ≡ Some d → vars_differ d ≡ true →
+    has_lit l d ≡ true → is_falsified before (others l d) ≡ true → has_var l.var set ≡ false →
+    vars_differ all ≡ true → ((m : Literal) → has_lit m before ≡ true → has_lit m all ≡ true) →
+    IsNeeded set d needed next → Shows cs all more set needed hints →
+    Shows cs all before set next (suc r ∷ hints)
 shows-step cs all before more set needed next d l r hints n u at differ own falsified away once inside k s = record {
   apart = λ x h. elim (k.made x h) [ inl y ↦ s.apart x y | inr y ↦ y.1 ];
   within = within;
@@ -102,7 +112,9 @@ shows-step cs all before more set needed next d l r hints n u at differ own fals
       | inr t ↦ no-var set (opposite m) (ap (λ (v : ℕ). has_var v set) e ∙ away) t
     ])
 
-    denied : (now : List Literal) → ((m : Literal) → has_lit m set ≡ true → has_lit (opposite m) now ≡ true) → ((x : Literal) → has_lit x next ≡ true → has_lit x before ≡ true → has_lit x now ≡ true) → (m : Literal) → has_lit m d ≡ true → same_lit l m ≡ false → has_lit (opposite m) now ≡ true
+    denied : (now : List Literal) → ((m : Literal) → has_lit m set ≡ true → has_lit (opposite m) now ≡ true) →
+        ((x : Literal) → has_lit x next ≡ true → has_lit x before ≡ true → has_lit x now ≡ true) →
+        (m : Literal) → has_lit m d ≡ true → same_lit l m ≡ false → has_lit (opposite m) now ≡ true
     denied now b c m h e = elim (k.covered m h) [
       | inl t ↦ b m t
       | inr v ↦ (let q = behind m h e in c (opposite m) (needed-is all next m once within (inside (opposite m) q) v) q)
@@ -128,7 +140,12 @@ pub record Taken (now ls : List Literal) (units : List ℕ) (next : List Literal
   pub only : (m : Literal) → has_lit m next ≡ true → (has_lit m now ≡ true) ⊎ ((has_lit m ls ≡ true) × (k : ℕ) × (get_or units m.var 0 ≡ suc k))
 
 -- the hints of known literals, and then hints that end at a false clause from whatever then stands there
-pub take-units : (cs : List (List Literal)) (units hints : List ℕ) (now ls : List Literal) → vars_differ ls ≡ true → ((x : Literal) (k : ℕ) → has_lit x ls ≡ true → get_or units x.var 0 ≡ suc k → (slice_get cs k ≡ Some (x ∷ [])) × (has_var x.var now ≡ false)) → ((next : List Literal) → Taken now ls units next → ends_false cs next hints ≡ true) → ends_false cs now (unit_hints units ls ++ hints) ≡ true
+pub take-units : (cs : List (List Literal)) (units hints : List ℕ) (now ls : List Literal) →
+    vars_differ ls ≡ true →
+    ((x : Literal) (k : ℕ) → has_lit x ls ≡ true → get_or units x.var 0 ≡ suc k →
+    (slice_get cs k ≡ Some (x ∷ [])) × (has_var x.var now ≡ false)) →
+    ((next : List Literal) → Taken now ls units next → ends_false cs next hints ≡ true) →
+    ends_false cs now (unit_hints units ls ++ hints) ≡ true
 take-units cs units hints now [] d f e = e now (record { kept = λ m h. h; set = λ x k h q. absurd (true≢false (sym h)); only = λ m h. inl h })
 take-units cs units hints now (l ∷ ls) d f e =
     let p = and_parts (not (has_var l.var ls)) (vars_differ ls) d in
@@ -168,7 +185,17 @@ take-units cs units hints now (l ∷ ls) d f e =
     }))))))
 
 -- the hints of the known literals, and then those of the walk
-pub shows-end : (cs : List (List Literal)) (all before set needed : List Literal) (units hints : List ℕ) (c : List Literal) → Shows cs all before set needed hints → vars_differ needed ≡ true → ((x : Literal) (k : ℕ) → has_lit x needed ≡ true → get_or units x.var 0 ≡ suc k → (slice_get cs k ≡ Some (x ∷ [])) × (has_lit x set ≡ false) × (has_lit x before ≡ true)) → ((x : Literal) → has_lit x needed ≡ true → has_lit x before ≡ true → (k : ℕ) × (get_or units x.var 0 ≡ suc k)) → ((m : Literal) → has_lit m c ≡ true → has_lit m set ≡ true) → ((m : Literal) → has_lit m set ≡ true → has_lit m c ≡ true) → ends_false cs (opposites c) (unit_hints units needed ++ hints) ≡ true
+pub shows-end :
+    (cs : List (List Literal)) (all before set needed : List Literal) (units hints : List ℕ)
+    (c : List Literal) →
+    Shows cs all before set needed hints → vars_differ needed ≡ true →
+    ((x : Literal) (k : ℕ) → has_lit x needed ≡ true → get_or units x.var 0 ≡ suc k →
+    (slice_get cs k ≡ Some (x ∷ [])) × (has_lit x set ≡ false) × (has_lit x before ≡ true)) →
+    ((x : Literal) → has_lit x needed ≡ true → has_lit x before ≡ true →
+    (k : ℕ) × (get_or units x.var 0 ≡ suc k)) →
+    ((m : Literal) → has_lit m c ≡ true → has_lit m set ≡ true) →
+    ((m : Literal) → has_lit m set ≡ true → has_lit m c ≡ true) →
+    ends_false cs (opposites c) (unit_hints units needed ++ hints) ≡ true
 shows-end cs all before set needed units hints c s d f g fewer more =
     take-units cs units hints (opposites c) needed d (λ x k h e. (let q = f x k h e in (q.0, free x h q.1))) (λ next t. s.ends next (λ m h. elim (t.only m h) [
       | inl y ↦ (let o = opposite-of c m y in inr (ap (λ (z : Literal). has_lit z set) (ap opposite o.2 ∙ opposite-opposite o.0) ∙ fewer o.0 o.1))

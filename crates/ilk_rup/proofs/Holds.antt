@@ -51,7 +51,12 @@ known-propagated units cs es fs n k p h = record {
   only = λ v u q. (let o = h.only v u q in (o.0, o.1, o.2, at-kept es fs o.0 o.1 p o.3, o.4));
 }
 
-pub held-propagated : (f : Formula) (a b : ArenaLists) (t u : TrailList) (q r : Queue) (units : List ℕ) (named : ℕ) (log : List Step) → Held f a t q units named log → SameClauses a b → u ≡ record t { entries = u.entries } → IsPropagated a.clauses t.entries u.entries → IsQueue b u.entries r.head r.settled → Held f b u r units named log
+pub held-propagated :
+    (f : Formula) (a b : ArenaLists) (t u : TrailList) (q r : Queue) (units : List ℕ) (named : ℕ)
+    (log : List Step) →
+    Held f a t q units named log → SameClauses a b → u ≡ record t { entries = u.entries } →
+    IsPropagated a.clauses t.entries u.entries → IsQueue b u.entries r.head r.settled →
+    Held f b u r units named log
 held-propagated f a b t u q r units named log h same is p queue =
     let cs = sym same.clauses in
     let F : List (List Literal) → Type 0 = λ xs. (i : ℕ) → IsForced xs u.entries i in
@@ -67,7 +72,10 @@ held-propagated f a b t u q r units named log h same is p queue =
       logged = subst L cs h.logged;
     }
 
-pub loose-propagated : (k : Base) (b : ArenaLists) (u : TrailList) (r : Queue) → Loose k → SameClauses k.clauses b → u ≡ record k.trail { entries = u.entries } → IsPropagated k.clauses.clauses k.trail.entries u.entries → IsQueue b u.entries r.head r.settled → Loose (record k { clauses = b; trail = u; queue = r })
+pub loose-propagated : (k : Base) (b : ArenaLists) (u : TrailList) (r : Queue) → Loose k →
+    SameClauses k.clauses b → u ≡ record k.trail { entries = u.entries } →
+    IsPropagated k.clauses.clauses k.trail.entries u.entries → IsQueue b u.entries r.head r.settled →
+    Loose (record k { clauses = b; trail = u; queue = r })
 loose-propagated k b u r h same is p queue = record {
   held = held-propagated k.formula.now k.clauses b k.trail u k.queue r k.explainer.units.items k.explainer.named k.log h.held same is p queue;
   needed_vars = h.needed_vars;
@@ -79,7 +87,15 @@ pub added-clauses : (a b : ArenaLists) (c : List Literal) → IsClauseAdded a c 
 added-clauses a b c k = ap (λ (x : ArenaLists). x.clauses) k.is
 
 -- the literal of an entry has a clause of its own
-pub held-named : (f : Formula) (a b : ArenaLists) (t : TrailList) (q : Queue) (units : List ℕ) (named count : ℕ) (log : List Step) (e : Entry) (hints : List ℕ) → Held f a t q units named log → IsClauses a → IsClauses b → IsClauseAdded a (e.lit ∷ []) b → IsTrail t → slice_get t.entries named ≡ Some e → is_derived f.vars a.clauses (record { clause = e.lit ∷ []; hints = hints }) ≡ true → e.lit.var < length units → count ≡ length b.clauses → Held f b t q (set units e.lit.var count) (named + 1) (log ++ record { clause = e.lit ∷ []; hints = hints } ∷ [])
+pub held-named :
+    (f : Formula) (a b : ArenaLists) (t : TrailList) (q : Queue) (units : List ℕ) (named count : ℕ)
+    (log : List Step) (e : Entry) (hints : List ℕ) →
+    Held f a t q units named log → IsClauses a → IsClauses b → IsClauseAdded a (e.lit ∷ []) b → IsTrail t →
+    slice_get t.entries named ≡ Some e →
+    is_derived f.vars a.clauses (record { clause = e.lit ∷ []; hints = hints }) ≡ true →
+    e.lit.var < length units → count ≡ length b.clauses →
+    Held f b t q (set units e.lit.var count) (named + 1)
+    (log ++ record { clause = e.lit ∷ []; hints = hints } ∷ [])
 held-named f a b t q units named count log e hints h ka kb added trail at derived room size =
     let is = added-clauses a b (e.lit ∷ []) added in
     let cs = sym is in

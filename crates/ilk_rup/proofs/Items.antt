@@ -76,7 +76,10 @@ first-item word rest e = go (items_of rest) refl
     go (item ∷ items) h = (item, items, rw e (ap (in_first word) h))
 
 -- a word that is none of the two
-pub read-bad : (n : ℕ) (words rest : List Bytes) (word : Bytes) (ls : List Literal) → Before n words (word ∷ rest) ls → is_end word ≡ false → literal_of n word ≡ None → (item : List Bytes) × (items : List (List Bytes)) × (items_of words ≡ item ∷ items) × (literals_of n item ≡ None)
+pub read-bad : (n : ℕ) (words rest : List Bytes) (word : Bytes) (ls : List Literal) →
+    Before n words (word ∷ rest) ls → is_end word ≡ false → literal_of n word ≡ None →
+    (item : List Bytes) × (items : List (List Bytes)) × (items_of words ≡ item ∷ items) ×
+    (literals_of n item ≡ None)
 read-bad n words rest word ls b e k =
     let f = first-item word rest e in (
       b.front ++ word ∷ f.0,
@@ -104,7 +107,10 @@ read-cut n words word ls b e =
 taut-push : (ls : List Literal) (l : Literal) → is_tautology (ls ++ l ∷ []) ≡ (is_tautology ls || has_lit (opposite l) ls)
 taut-push [] l = refl
 taut-push (m ∷ ls) l =
-    ap (λ b. b || is_tautology (ls ++ l ∷ [])) (list_any-append (same_lit (opposite m)) ls (l ∷ [])) ∙ ap (λ b. (has_lit (opposite m) ls || has_lit (opposite m) (l ∷ [])) || b) (taut-push ls l) ∙ mix (has_lit (opposite m) ls) (same_lit (opposite m) l) (is_tautology ls) (has_lit (opposite l) ls) ∙ ap (λ b. (has_lit (opposite m) ls || is_tautology ls) || (b || has_lit (opposite l) ls)) (turn m l)
+    ap (λ b. b || is_tautology (ls ++ l ∷ [])) (list_any-append (same_lit (opposite m)) ls (l ∷ []))
+    ∙ ap (λ b. (has_lit (opposite m) ls || has_lit (opposite m) (l ∷ [])) || b) (taut-push ls l)
+    ∙ mix (has_lit (opposite m) ls) (same_lit (opposite m) l) (is_tautology ls) (has_lit (opposite l) ls)
+    ∙ ap (λ b. (has_lit (opposite m) ls || is_tautology ls) || (b || has_lit (opposite l) ls)) (turn m l)
   where
     mix : (a b c d : Bool) → ((a || (b || false)) || (c || d)) ≡ ((a || c) || (b || d))
     mix true b c d = refl
@@ -123,7 +129,10 @@ taut-push (m ∷ ls) l =
     ]
 
 -- where no variable has both, a literal's opposite isn't there with it
-both-split : (xs : List Literal) (l x : Literal) → ((has_lit l xs ≡ true) → (has_lit (opposite l) xs ≡ true) → ⊥) → has_lit (opposite x) xs ≡ false → (same_lit l x ≡ true) ⊎ (has_lit l xs ≡ true) → (same_lit (opposite l) x ≡ true) ⊎ (has_lit (opposite l) xs ≡ true) → ⊥
+both-split : (xs : List Literal) (l x : Literal) →
+    ((has_lit l xs ≡ true) → (has_lit (opposite l) xs ≡ true) → ⊥) → has_lit (opposite x) xs ≡ false →
+    (same_lit l x ≡ true) ⊎ (has_lit l xs ≡ true) →
+    (same_lit (opposite l) x ≡ true) ⊎ (has_lit (opposite l) xs ≡ true) → ⊥
 both-split xs l x rest t (inl a) (inl b) = never l.positive (ap (λ (z : Literal). z.positive) (lit-is (opposite l) x b ∙ sym (lit-is l x a)))
   where
     never : (p : Bool) → not p ≡ p → ⊥
@@ -279,8 +288,16 @@ begins {P} word rest item items e f = elim (cases_Bool (is_end word)) [
 pub plain-none : (n : ℕ) (word : Bytes) (rest : List Bytes) (item : List Bytes) (items : List (List Bytes)) → bytes_eq word (codes "d") ≡ false → items_of (word ∷ rest) ≡ item ∷ items → literals_of n item ≡ None → added_by n item ≡ None
 plain-none n word rest item items d e k = begins word rest item items e (λ tail is. (let P : List Bytes → Type 0 = λ xs. literals_of n xs ≡ None → added_by n xs ≡ None in subst P (sym is) (λ h. rw d (ap (option_map as_clause) h)) k))
 
-pub plain-some : (n : ℕ) (word : Bytes) (rest : List Bytes) (item : List Bytes) (items : List (List Bytes)) (ls : List Literal) → bytes_eq word (codes "d") ≡ false → items_of (word ∷ rest) ≡ item ∷ items → literals_of n item ≡ Some ls → added_by n item ≡ Some (as_clause ls)
-plain-some n word rest item items ls d e k = begins word rest item items e (λ tail is. (let P : List Bytes → Type 0 = λ xs. literals_of n xs ≡ Some ls → added_by n xs ≡ Some (as_clause ls) in subst P (sym is) (λ h. rw d (ap (option_map as_clause) h)) k))
+pub plain-some :
+    (n : ℕ) (word : Bytes) (rest : List Bytes) (item : List Bytes) (items : List (List Bytes))
+    (ls : List Literal) →
+    bytes_eq word (codes "d") ≡ false → items_of (word ∷ rest) ≡ item ∷ items → literals_of n item ≡ Some ls →
+    added_by n item ≡ Some (as_clause ls)
+plain-some n word rest item items ls d e k = begins word rest item items e
+    (λ tail is.
+    (let P : List Bytes → Type 0 = λ xs. literals_of n xs ≡ Some ls →
+    added_by n xs ≡ Some (as_clause ls) in
+    subst P (sym is) (λ h. rw d (ap (option_map as_clause) h)) k))
 
 -- the word d, before the words of an item
 pub kept-items : (word : Bytes) (rest item : List Bytes) (items : List (List Bytes)) → bytes_eq word (codes "d") ≡ true → items_of rest ≡ item ∷ items → items_of (word ∷ rest) ≡ (word ∷ item) ∷ items

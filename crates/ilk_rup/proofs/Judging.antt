@@ -28,7 +28,10 @@ bad-alike n cs ds (item ∷ items) k h = λ r. h (right-alike n ds cs item (alik
 pub step-malformed : (k : CheckerLists) (words item : List Bytes) (items : List (List Bytes)) → items_of words ≡ item ∷ items → added_by k.formula.vars item ≡ None → FirstBad k.formula.vars k.clauses (items_of words) 1
 step-malformed k words item items is none = (let P : List (List Bytes) → Type 0 = λ xs. FirstBad k.formula.vars k.clauses xs 1 in subst P (sym is) (λ right. (let z : None ≡ Some right.0 = sym none ∙ right.1 in cc)))
 
-pub step-unfollowed : (k : CheckerLists) (words item : List Bytes) (items : List (List Bytes)) (c : List Literal) → items_of words ≡ item ∷ items → added_by k.formula.vars item ≡ Some (c ∷ []) → (Follows k.formula.vars k.clauses c → ⊥) → FirstBad k.formula.vars k.clauses (items_of words) 1
+pub step-unfollowed :
+    (k : CheckerLists) (words item : List Bytes) (items : List (List Bytes)) (c : List Literal) →
+    items_of words ≡ item ∷ items → added_by k.formula.vars item ≡ Some (c ∷ []) →
+    (Follows k.formula.vars k.clauses c → ⊥) → FirstBad k.formula.vars k.clauses (items_of words) 1
 step-unfollowed k words item items c is added none =
     let P : List (List Bytes) → Type 0 = λ xs. FirstBad k.formula.vars k.clauses xs 1 in
     let Q : List (List Literal) → Type 0 = λ cs. EachFollows k.formula.vars k.clauses cs in
@@ -40,7 +43,10 @@ step-idle k words left item is added less =
     let N : List (List Literal) → Type 0 = λ cs. Alike cs k.clauses in
     record { item = item; is = is; right = ([], added, tt); formula = refl; alike = subst A (sym added) (subst N (sym (append-nil k.clauses)) (alike-self k.clauses)); shorter = less }
 
-pub step-adds : (k new : CheckerLists) (words left item : List Bytes) (c : List Literal) → items_of words ≡ item ∷ items_of left → added_by k.formula.vars item ≡ Some (c ∷ []) → Follows k.formula.vars k.clauses c → new.formula ≡ k.formula → Alike (k.clauses ++ c ∷ []) new.clauses → length left < length words → IsStep k words left new
+pub step-adds : (k new : CheckerLists) (words left item : List Bytes) (c : List Literal) →
+    items_of words ≡ item ∷ items_of left → added_by k.formula.vars item ≡ Some (c ∷ []) →
+    Follows k.formula.vars k.clauses c → new.formula ≡ k.formula → Alike (k.clauses ++ c ∷ []) new.clauses →
+    length left < length words → IsStep k words left new
 step-adds k new words left item c is added follows same alike less =
     let A : Option (List (List Literal)) → Type 0 = λ o. Alike (k.clauses ++ unwrap_or o []) new.clauses in
     record { item = item; is = is; right = (c ∷ [], added, (follows, tt)); formula = same; alike = subst A (sym added) alike; shorter = less }

@@ -53,7 +53,10 @@ conflict-more cs more set c h =
     let n = length-append cs more in
     and_from (nat_lt c (length (cs ++ more))) (is_falsified set (clause_at (cs ++ more) c)) (le-leb (suc c) (length (cs ++ more)) (omega (arith, b, n))) (ap (is_falsified set) same ∙ p.1)
 
-pub known-more : (units : List ℕ) (cs : List (List Literal)) (es : List Entry) (n k count : ℕ) (e : Entry) → IsKnown units cs es n k → slice_get es k ≡ Some e → vars_differ (lits_of es) ≡ true → e.lit.var < length units → count ≡ length cs + 1 → IsKnown (set units e.lit.var count) (cs ++ (e.lit ∷ []) ∷ []) es n (k + 1)
+pub known-more : (units : List ℕ) (cs : List (List Literal)) (es : List Entry) (n k count : ℕ) (e : Entry) →
+    IsKnown units cs es n k → slice_get es k ≡ Some e → vars_differ (lits_of es) ≡ true →
+    e.lit.var < length units → count ≡ length cs + 1 →
+    IsKnown (set units e.lit.var count) (cs ++ (e.lit ∷ []) ∷ []) es n (k + 1)
 known-more units cs es n k count e h at once room size = record {
   sized = length-set units e.lit.var count ∙ h.sized;
   within = (let w = slice_get_within es k e at in omega (arith, w));
@@ -73,7 +76,9 @@ known-more units cs es n k count e h at once room size = record {
 }
 
 -- the literal alone of an entry adds nothing
-pub entry-alike : (cs : List (List Literal)) (es : List Entry) (units : List ℕ) (n k r : ℕ) (e : Entry) → list_all vars_differ cs ≡ true → IsKnown units cs es n k → slice_get es k ≡ Some e → is_reason cs (lits_of (take k es)) e.lit r ≡ true → Alike (cs ++ (e.lit ∷ []) ∷ []) cs
+pub entry-alike : (cs : List (List Literal)) (es : List Entry) (units : List ℕ) (n k r : ℕ) (e : Entry) →
+    list_all vars_differ cs ≡ true → IsKnown units cs es n k → slice_get es k ≡ Some e →
+    is_reason cs (lits_of (take k es)) e.lit r ≡ true → Alike (cs ++ (e.lit ∷ []) ∷ []) cs
 entry-alike cs es units n k r e differ known at reason =
     let d = clause_at cs r in
     let p = and_parts (has_lit e.lit d) (is_falsified (lits_of (take k es)) (others e.lit d)) reason in
@@ -83,7 +88,9 @@ entry-alike cs es units n k r e differ known at reason =
     let t = known.told y.index y.entry b.0 b.1 in
     (t.0, t.2 ∙ ap (λ (z : Literal). Some (z ∷ [])) y.is)))
 
-pub name-explains : (cs : List (List Literal)) (es : List Entry) (k r : ℕ) (e : Entry) → slice_get es k ≡ Some e → vars_differ (lits_of es) ≡ true → r < length cs → is_reason cs (lits_of (take k es)) e.lit r ≡ true → Explains cs es (e.lit ∷ []) r k k k
+pub name-explains : (cs : List (List Literal)) (es : List Entry) (k r : ℕ) (e : Entry) →
+    slice_get es k ≡ Some e → vars_differ (lits_of es) ≡ true → r < length cs →
+    is_reason cs (lits_of (take k es)) e.lit r ≡ true → Explains cs es (e.lit ∷ []) r k k k
 name-explains cs es k r e at once b reason =
     let d = clause_at cs r in
     let p = and_parts (has_lit e.lit d) (is_falsified (lits_of (take k es)) (others e.lit d)) reason in
@@ -122,4 +129,7 @@ logged-more f cs log s k d e = record {
 }
 
 pub log-refutes : (f : Formula) (cs : List (List Literal)) (log : List Step) (s : Step) → IsLogged f cs log → is_derived f.vars cs s ≡ true → is_empty s.clause ≡ true → is_refutation f (log ++ s ∷ []) ≡ true
-log-refutes f cs log s k d e = and_from (is_derived_log f (log ++ s ∷ [])) (ends_empty (log ++ s ∷ [])) (derived-push f.vars f.clauses log s k.derived (ap (λ (xs : List (List Literal)). is_derived f.vars xs s) (sym k.clauses_are) ∙ d)) (ends-push log s k.unended e)
+log-refutes f cs log s k d e = and_from (is_derived_log f (log ++ s ∷ [])) (ends_empty (log ++ s ∷ []))
+    (derived-push f.vars f.clauses log s k.derived
+    (ap (λ (xs : List (List Literal)). is_derived f.vars xs s) (sym k.clauses_are) ∙ d))
+    (ends-push log s k.unended e)

@@ -85,18 +85,32 @@ once-taken (e ∷ es) (suc top) d =
     ])
 
 -- an entry that isn't needed
-pub passed-skip : (cs : List (List Literal)) (es : List Entry) (set needed : List Literal) (i : ℕ) (e : Entry) (hints : List ℕ) → slice_get es i ≡ Some e → vars_differ (lits_of es) ≡ true → has_lit e.lit needed ≡ false → IsPassed cs es set i needed hints needed hints
+pub passed-skip :
+    (cs : List (List Literal)) (es : List Entry) (set needed : List Literal) (i : ℕ) (e : Entry)
+    (hints : List ℕ) →
+    slice_get es i ≡ Some e → vars_differ (lits_of es) ≡ true → has_lit e.lit needed ≡ false →
+    IsPassed cs es set i needed hints needed hints
 passed-skip cs es set needed i e hints at once u = λ top b le s. shows-skip cs (lits_of (take top es)) (lits_of (take i es)) (lits_of (take (i + 1) es)) set needed e.lit hints (next-at es i e at once) u s
 
 -- an entry that is
-pub passed-step : (f : Formula) (es : List Entry) (set needed next : List Literal) (i r : ℕ) (e : Entry) (reasons : List ℕ) → IsFormula f → slice_get es i ≡ Some e → vars_differ (lits_of es) ≡ true → has_lit e.lit needed ≡ true → is_reason f.clauses (lits_of (take i es)) e.lit r ≡ true → has_var e.lit.var set ≡ false → IsNeeded set (clause_at f.clauses r) needed next → IsPassed f.clauses es set i needed (reverse reasons) next (reverse (reasons ++ (r + 1) ∷ []))
+pub passed-step :
+    (f : Formula) (es : List Entry) (set needed next : List Literal) (i r : ℕ) (e : Entry) (reasons : List ℕ)
+    → IsFormula f →
+    slice_get es i ≡ Some e → vars_differ (lits_of es) ≡ true → has_lit e.lit needed ≡ true →
+    is_reason f.clauses (lits_of (take i es)) e.lit r ≡ true → has_var e.lit.var set ≡ false →
+    IsNeeded set (clause_at f.clauses r) needed next →
+    IsPassed f.clauses es set i needed (reverse reasons) next (reverse (reasons ++ (r + 1) ∷ []))
 passed-step f es set needed next i r e reasons k at once u reason away n = λ top b le s.
     (let cs = f.clauses in
     let p = and_parts (has_lit e.lit (clause_at cs r)) (is_falsified (lits_of (take i es)) (others e.lit (clause_at cs r))) reason in
     let there = stands cs r e.lit p.0 in
     let turned : (r + 1) ∷ reverse reasons ≡ reverse (reasons ++ (r + 1) ∷ []) = sym (reverse-append reasons ((r + 1) ∷ [])) in
     let P : List ℕ → Type 0 = λ hs. Shows cs (lits_of (take top es)) (lits_of (take i es)) set next hs in
-    subst P (ap (λ (h : ℕ). h ∷ reverse reasons) (sym (add-one r)) ∙ turned) (shows-step cs (lits_of (take top es)) (lits_of (take i es)) (lits_of (take (i + 1) es)) set needed next (clause_at cs r) e.lit r (reverse reasons) (next-at es i e at once) u there (list_all-slice_get vars_differ cs r (clause_at cs r) k.differ there) p.0 p.1 away (once-taken es top once) (λ m h. lits-taken es i top m (omega (arith, b)) h) n s))
+    subst P (ap (λ (h : ℕ). h ∷ reverse reasons) (sym (add-one r)) ∙ turned)
+    (shows-step cs (lits_of (take top es)) (lits_of (take i es)) (lits_of (take (i + 1) es)) set needed
+    next (clause_at cs r) e.lit r (reverse reasons) (next-at es i e at once) u there
+    (list_all-slice_get vars_differ cs r (clause_at cs r) k.differ there) p.0 p.1 away
+    (once-taken es top once) (λ m h. lits-taken es i top m (omega (arith, b)) h) n s))
 
 -- the hints of the first needed literals, with one more
 pub units-more : (units : List ℕ) (ls : List Literal) (i : ℕ) (l : Literal) → slice_get ls i ≡ Some l → unit_hints units (take (i + 1) ls) ≡ unit_hints units (take i ls) ++ unit_hints units (l ∷ [])

@@ -79,7 +79,9 @@ first-clause n es set w d =
 filter-each : (p : Literal → Bool) (ls rest : List Literal) (x : Literal) → filter p ls ≡ x ∷ rest → (m : Literal) → has_lit m (x ∷ rest) ≡ true → (p m ≡ true) × (has_lit m ls ≡ true)
 filter-each p ls rest x e m h = (let k = kept-from p ls m (ap (has_lit m) e ∙ h) in (k.1, k.0))
 
-pub first-addable : (es : List Entry) (set : List Literal) (l : Literal) → level_of es ≡ 0 → climbs 0 es ≡ true → ((m : Literal) → has_lit m set ≡ true → has_lit m (lits_of es) ≡ false) → has_lit l set ≡ true → is_set es l.var ≡ false → IsAddable es (unset_first es set)
+pub first-addable : (es : List Entry) (set : List Literal) (l : Literal) → level_of es ≡ 0 →
+    climbs 0 es ≡ true → ((m : Literal) → has_lit m set ≡ true → has_lit m (lits_of es) ≡ false) →
+    has_lit l set ≡ true → is_set es l.var ≡ false → IsAddable es (unset_first es set)
 first-addable es set l level climb untrue h u = go (filter p set) (filter q set) refl refl
   where
     p : Literal → Bool
@@ -130,7 +132,10 @@ taken-clause k s step w d =
     let P : List Literal → Type 0 = λ x. IsClauseOf n k.set.lits x in
     subst P (sym step.clause) (first-clause n k.trail.entries k.set.lits (ap (λ (v : ℕ). clause_in v k.set.lits) (sym step.loose.set_vars) ∙ w) d)
 
-pub loose-taken : (k : Base) (b : ArenaLists) (s : Step) → IsDerivedStep k s → IsClauseOf k.formula.now.vars k.set.lits s.clause → IsClauses k.clauses → IsClauses b → IsClauseAdded k.clauses s.clause b → IsTrail k.trail → Loose (record k { clauses = b; log = k.log ++ s ∷ [] })
+pub loose-taken : (k : Base) (b : ArenaLists) (s : Step) → IsDerivedStep k s →
+    IsClauseOf k.formula.now.vars k.set.lits s.clause → IsClauses k.clauses → IsClauses b →
+    IsClauseAdded k.clauses s.clause b → IsTrail k.trail →
+    Loose (record k { clauses = b; log = k.log ++ s ∷ [] })
 loose-taken k b s step own ka kb added trail =
     let f = k.formula.now in
     let a = k.clauses in
@@ -158,7 +163,11 @@ loose-taken k b s step own ka kb added trail =
       set_vars = l.set_vars;
     }
 
-pub has-taken : (k m a new : Base) (s : Step) → m ≡ record k { clauses = m.clauses; trail = m.trail; queue = m.queue; explainer = m.explainer } → m.clauses.clauses ≡ k.clauses.clauses → IsDerivedStep m s → IsClauseOf m.formula.now.vars m.set.lits s.clause → IsStepAdded m s a → Stands new → IsAlike a new → HasTaken k new
+pub has-taken : (k m a new : Base) (s : Step) →
+    m ≡ record k { clauses = m.clauses; trail = m.trail; queue = m.queue; explainer = m.explainer } →
+    m.clauses.clauses ≡ k.clauses.clauses → IsDerivedStep m s →
+    IsClauseOf m.formula.now.vars m.set.lits s.clause → IsStepAdded m s a → Stands new → IsAlike a new →
+    HasTaken k new
 has-taken k m a new s rest cs step own added stands same =
     let old = k.clauses.clauses in
     let vars = ap (λ (b : Base). b.formula.now.vars) rest in

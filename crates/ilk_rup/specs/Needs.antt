@@ -26,7 +26,11 @@ pub record IsNeeded (set d old new : List Literal) : Type 0 where
 pub record Shows (cs : List (List Literal)) (all before set needed : List Literal) (hints : List ℕ) : Type 0 where
   pub apart : (x : Literal) → has_lit x needed ≡ true → has_lit (opposite x) set ≡ false
   pub within : (x : Literal) → has_lit x needed ≡ true → has_lit x all ≡ true
-  pub ends : (now : List Literal) → ((m : Literal) → has_lit m now ≡ true → (has_lit m before ≡ true) ⊎ (has_lit (opposite m) set ≡ true)) → ((m : Literal) → has_lit m set ≡ true → has_lit (opposite m) now ≡ true) → ((x : Literal) → has_lit x needed ≡ true → has_lit x before ≡ true → has_lit x now ≡ true) → ends_false cs now hints ≡ true
+  pub ends : (now : List Literal) →
+      ((m : Literal) → has_lit m now ≡ true → (has_lit m before ≡ true) ⊎ (has_lit (opposite m) set ≡ true)) →
+      ((m : Literal) → has_lit m set ≡ true → has_lit (opposite m) now ≡ true) →
+      ((x : Literal) → has_lit x needed ≡ true → has_lit x before ≡ true → has_lit x now ≡ true) →
+      ends_false cs now hints ≡ true
 
 -- entry i was passed: hints that are shown with it are shown without it
 abbrev pub IsPassed : List (List Literal) → List Entry → List Literal → ℕ → List Literal → List ℕ → List Literal → List ℕ → Type 0

@@ -81,7 +81,8 @@ fn push_if(clause: &mut Lits, l: Lit, wanted: bool) -> Result<(), AllocError>
 // Adds the literals whose variables are set, or those whose variables aren't.
 fn push_where(clause: &mut Lits, trail: &Trail, set: &LitSet) -> Result<(), AllocError>
     requires { set.now.vars ≡ trail.now.vars }
-    ensures { OnOk result (clause.new ≡ clause.old ++ filter (λ l. is_set trail.now.entries l.var) set.now.lits) }
+    ensures { OnOk result
+        (clause.new ≡ clause.old ++ filter (λ l. is_set trail.now.entries l.var) set.now.lits) }
 {
     for i in 0..set.len() {
         let l = set.at(i);
@@ -92,7 +93,9 @@ fn push_where(clause: &mut Lits, trail: &Trail, set: &LitSet) -> Result<(), Allo
 
 fn push_unset(clause: &mut Lits, trail: &Trail, set: &LitSet) -> Result<(), AllocError>
     requires { set.now.vars ≡ trail.now.vars }
-    ensures { OnOk result (clause.new ≡ clause.old ++ filter (λ l. not (is_set trail.now.entries l.var)) set.now.lits) }
+    ensures { OnOk result
+        (clause.new
+        ≡ clause.old ++ filter (λ l. not (is_set trail.now.entries l.var)) set.now.lits) }
 {
     for i in 0..set.len() {
         let l = set.at(i);

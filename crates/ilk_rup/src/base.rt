@@ -73,7 +73,8 @@ impl<'a> Base<'a> {
     fn add(&mut self, clause: Lits, hints: Hints) -> Result<(), AllocError>
         requires within { IsTrue (clause_in self.old.clauses.vars clause) }
         requires differ { IsTrue (vars_differ clause) }
-        ensures { OnOk result (IsStepAdded self.old (record { clause = clause; hints = hints }) self.new) }
+        ensures { OnOk result
+            (IsStepAdded self.old (record { clause = clause; hints = hints }) self.new) }
     {
         let _ = self.clauses.vars();
         self.clauses.add(clause.as_slice())?;
@@ -152,7 +153,8 @@ impl<'a> Base<'a> {
     fn refute(&mut self, alloc: Global, conflict: u64) -> Result<(), AllocError>
         requires loose { Loose self.old }
         requires named { self.old.explainer.named ≡ length self.old.trail.entries }
-        requires conflict { IsTrue (is_conflict self.old.clauses.clauses (lits_of self.old.trail.entries) conflict) }
+        requires conflict { IsTrue
+            (is_conflict self.old.clauses.clauses (lits_of self.old.trail.entries) conflict) }
         ensures stands { OnOk result (Stands self.new) }
         ensures same { OnOk result (IsAlike self.old self.new) }
     {
@@ -176,8 +178,11 @@ impl<'a> Base<'a> {
     // Whether some literal at hand is true at level 0.
     fn knows(&self) -> bool
         requires { self.now.set.vars ≡ self.now.trail.vars }
-        ensures yes { result ≡ true → (l : Literal) × IsTrue (has_lit l self.now.set.lits) × IsTrue (has_lit l (lits_of self.now.trail.entries)) }
-        ensures no { result ≡ false → (l : Literal) → has_lit l self.now.set.lits ≡ true → has_lit l (lits_of self.now.trail.entries) ≡ false }
+        ensures yes { result ≡ true →
+            (l : Literal) × IsTrue (has_lit l self.now.set.lits) ×
+            IsTrue (has_lit l (lits_of self.now.trail.entries)) }
+        ensures no { result ≡ false → (l : Literal) → has_lit l self.now.set.lits ≡ true →
+            has_lit l (lits_of self.now.trail.entries) ≡ false }
     {
         for i in 0..self.set.len() {
             if is_true(&self.trail, self.set.at(i)) {
@@ -191,11 +196,18 @@ impl<'a> Base<'a> {
     // None exactly where no hints do; the trail is then of no more use.
     fn derive(&mut self, alloc: Global) -> Result<Option<Step>, AllocError>
         requires settled { Settled self.old }
-        requires untrue { (l : Literal) → has_lit l self.old.set.lits ≡ true → has_lit l (lits_of self.old.trail.entries) ≡ false }
+        requires untrue { (l : Literal) → has_lit l self.old.set.lits ≡ true →
+            has_lit l (lits_of self.old.trail.entries) ≡ false }
         ensures none { IfOk result (λ step. IfNone step (NoneFollows self.old)) }
         ensures derived { IfOk result (λ step. IfSome step (λ s. IsDerivedStep self.new s)) }
         ensures clauses { self.new.clauses.clauses ≡ self.old.clauses.clauses }
-        ensures rest { self.new ≡ record self.old { clauses = self.new.clauses; trail = self.new.trail; queue = self.new.queue; explainer = self.new.explainer } }
+        ensures rest { self.new
+            ≡ record self.old {
+              clauses = self.new.clauses;
+              trail = self.new.trail;
+              queue = self.new.queue;
+              explainer = self.new.explainer;
+            } }
     {
         let _ = self.set.len();
         let _ = self.clauses.count();

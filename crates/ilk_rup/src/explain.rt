@@ -33,7 +33,8 @@ fn need(needed: &mut LitSet, clauses: &Clauses, set: &LitSet, c: u64)
     requires known { c < length clauses.now.clauses }
     requires vars { needed.old.vars ≡ clauses.now.vars }
     requires set { set.now.vars ≡ clauses.now.vars }
-    ensures needed { IsNeeded set.now.lits (clause_at clauses.now.clauses c) needed.old.lits needed.new.lits }
+    ensures needed { IsNeeded set.now.lits (clause_at clauses.now.clauses c) needed.old.lits
+        needed.new.lits }
     ensures vars { needed.new.vars ≡ needed.old.vars }
 {
     for i in 0..clauses.length(c) {
@@ -68,7 +69,9 @@ fn pass(
     requires trail { trail.now.vars ≡ clauses.now.vars }
     requires below { i < length trail.now.entries }
     requires walk { CanWalk clauses.now.clauses trail.now.entries set.now.lits i (i + 1) }
-    ensures passed { OnOk result (IsPassed clauses.now.clauses trail.now.entries set.now.lits i needed.old.lits (reverse reasons.old.items) needed.new.lits (reverse reasons.new.items)) }
+    ensures passed { OnOk result
+        (IsPassed clauses.now.clauses trail.now.entries set.now.lits i needed.old.lits
+        (reverse reasons.old.items) needed.new.lits (reverse reasons.new.items)) }
     ensures vars { needed.new.vars ≡ needed.old.vars }
 {
     let _clauses = clauses.count();
@@ -99,8 +102,13 @@ fn walk(
     requires from { from ≤ top }
     requires top { top ≤ length trail.now.entries }
     requires walk { CanWalk clauses.now.clauses trail.now.entries set.now.lits from top }
-    requires shows { Shows clauses.now.clauses (lits_of (take top trail.now.entries)) (lits_of (take top trail.now.entries)) set.now.lits needed.old.lits (reverse reasons.old.items) }
-    ensures shows { OnOk result (Shows clauses.now.clauses (lits_of (take top trail.now.entries)) (lits_of (take from trail.now.entries)) set.now.lits needed.new.lits (reverse reasons.new.items)) }
+    requires shows { Shows clauses.now.clauses (lits_of (take top trail.now.entries))
+        (lits_of (take top trail.now.entries)) set.now.lits needed.old.lits
+        (reverse reasons.old.items) }
+    ensures shows { OnOk result
+        (Shows clauses.now.clauses (lits_of (take top trail.now.entries))
+        (lits_of (take from trail.now.entries)) set.now.lits needed.new.lits
+        (reverse reasons.new.items)) }
     ensures vars { needed.new.vars ≡ needed.old.vars }
 {
     let mut i = top;
@@ -140,7 +148,8 @@ fn gather(
     units: &[u64],
     reasons: &[u64],
 ) -> Result<Hints, AllocError>
-    ensures { IfOk result (λ hints. hints ≡ unit_hints units.now needed.now.lits ++ reverse reasons.now) }
+    ensures { IfOk result
+        (λ hints. hints ≡ unit_hints units.now needed.now.lits ++ reverse reasons.now) }
 {
     let count = count_units(needed, units).saturating_add(reasons.len() as u64);
     let mut hints = Hints::with_capacity(alloc, count)?;
@@ -237,7 +246,8 @@ impl Explainer {
         requires { CanExplain self.old clauses.now trail.now set.now at }
         ensures hints { IfOk result (λ hints. AreHints clauses.now.clauses set.now.lits hints) }
         ensures vars { self.new.needed.vars ≡ self.old.needed.vars }
-        ensures rest { self.new ≡ record self.old { needed = self.new.needed; reasons = self.new.reasons } }
+        ensures rest { self.new
+            ≡ record self.old { needed = self.new.needed; reasons = self.new.reasons } }
     {
         let _ = clauses.count();
         let _ = trail.count();

@@ -57,7 +57,8 @@ fn next_word<'a>(
     line: &'a [u8],
     lines: Option<&'a [u8]>,
 ) -> Option<(&'a [u8], &'a [u8], Option<&'a [u8]>)>
-    ensures { words_left line.now lines.entry ≡ option_map_or (λ next. next.0.now ∷ words_left next.1.now next.2) result [] }
+    ensures { words_left line.now lines.entry
+        ≡ option_map_or (λ next. next.0.now ∷ words_left next.1.now next.2) result [] }
 {
     let mut left = line;
     let mut after = lines;
@@ -75,7 +76,8 @@ fn next_word<'a>(
 // The first line of a text, or nothing in the place of a comment, and what stands after it, if there is
 // a line feed.
 fn next_line(text: &[u8]) -> (&[u8], Option<&[u8]>)
-    ensures words { text_words text.now ≡ words_in result.0.now ++ option_map_or (λ rest. text_words rest.now) result.1 [] }
+    ensures words { text_words text.now
+        ≡ words_in result.0.now ++ option_map_or (λ rest. text_words rest.now) result.1 [] }
     ensures shorter { IfSome result.1 (λ rest. length rest.now < length text.now) }
 {
     let (line, rest) = cut(text, b'\n');
@@ -109,7 +111,8 @@ fn place_of_blank(line: &[u8]) -> Option<usize>
 #[tactic(auto, using(crate::proofs::Cuts::cut_none, crate::proofs::Cuts::cut_some, std::proofs::lemmas::List::take_rest))]
 // What stands before the first blank of a line, and what stands after it, if there is one.
 fn cut_blank(line: &[u8]) -> (&[u8], Option<&[u8]>)
-    ensures parts { slice_split is_blank line.now ≡ result.0.now ∷ option_map_or (λ rest. slice_split is_blank rest.now) result.1 [] }
+    ensures parts { slice_split is_blank line.now
+        ≡ result.0.now ∷ option_map_or (λ rest. slice_split is_blank rest.now) result.1 [] }
     ensures shorter { IfSome result.1 (λ rest. length rest.now < length line.now) }
 {
     match place_of_blank(line) {

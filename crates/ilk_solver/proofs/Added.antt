@@ -20,11 +20,17 @@ use Rattle.ilk_solver.proofs.Searches.{known-closed, known-reasons}
 use Rattle.ilk_log.proofs.Pushed.{clauses-push}
 use Rattle.ilk_solver.proofs.Weights.{count_by-push}
 
-pub held-added : (cs : Formula) (given : ℕ) (log : List Step) (view new : ViewLists) (s : Step) → HoldsSearch cs given log view → LevelsClosed (s.clause ∷ []) view.trail.entries → new.trail ≡ view.trail → ((v : ℕ) → 0 < v → weight_of new v ≡ weight_of view v + cond (has_var v s.clause) 1 0) → HoldsSearch (grown cs cs.vars (s.clause ∷ [])) given (log ++ s ∷ []) new
+pub held-added : (cs : Formula) (given : ℕ) (log : List Step) (view new : ViewLists) (s : Step) →
+    HoldsSearch cs given log view → LevelsClosed (s.clause ∷ []) view.trail.entries → new.trail ≡ view.trail →
+    ((v : ℕ) → 0 < v → weight_of new v ≡ weight_of view v + cond (has_var v s.clause) 1 0) →
+    HoldsSearch (grown cs cs.vars (s.clause ∷ [])) given (log ++ s ∷ []) new
 held-added cs given log view new s h apart same counts =
     let c = s.clause in
     let front : take given (cs.clauses ++ c ∷ []) ≡ take given cs.clauses = take-append-le given cs.clauses (c ∷ []) h.first in
-    let laid : cs.clauses ++ c ∷ [] ≡ take given (cs.clauses ++ c ∷ []) ++ step_clauses (log ++ s ∷ []) = ap (λ xs. xs ++ c ∷ []) h.laid ∙ append_assoc (take given cs.clauses) (step_clauses log) (c ∷ []) ∙ ap (λ xs. take given cs.clauses ++ xs) (sym (clauses-push log s)) ∙ ap (λ xs. xs ++ step_clauses (log ++ s ∷ [])) (sym front) in
+    let laid : cs.clauses ++ c ∷ [] ≡ take given (cs.clauses ++ c ∷ []) ++ step_clauses (log ++ s ∷ []) =
+    ap (λ xs. xs ++ c ∷ []) h.laid ∙ append_assoc (take given cs.clauses) (step_clauses log) (c ∷ [])
+    ∙ ap (λ xs. take given cs.clauses ++ xs) (sym (clauses-push log s))
+    ∙ ap (λ xs. xs ++ step_clauses (log ++ s ∷ [])) (sym front) in
     let reasons = reasons-grown cs.clauses (c ∷ []) view.trail.entries (known-reasons cs given log view h) in
     let closed = closed-added cs.clauses c view.trail.entries (known-closed cs given log view h) apart in
     let R : List (List Literal) → Type 0 = λ xs. HasReasons xs view.trail.entries in

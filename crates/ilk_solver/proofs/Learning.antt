@@ -55,7 +55,11 @@ stuck s step k h p l = record {
 }
 
 -- what a conflict teaches, said of the search
-pub learned-here : (cs : Formula) (given : ℕ) (log : List Step) (view : ViewLists) (step : Step) (k : ℕ) → HoldsSearch cs given log view → is_derived cs.vars cs.clauses step ≡ true → is_asserting view.trail.entries step.clause ≡ true → k ≡ back_level view.trail.entries step.clause → (is_closed cs.clauses (lits_of (up_to k view.trail.entries)) ≡ true → IsFresh cs.clauses step.clause) → IsLearned (search_of cs given log view) step k
+pub learned-here : (cs : Formula) (given : ℕ) (log : List Step) (view : ViewLists) (step : Step) (k : ℕ) →
+    HoldsSearch cs given log view → is_derived cs.vars cs.clauses step ≡ true →
+    is_asserting view.trail.entries step.clause ≡ true → k ≡ back_level view.trail.entries step.clause →
+    (is_closed cs.clauses (lits_of (up_to k view.trail.entries)) ≡ true → IsFresh cs.clauses step.clause) →
+    IsLearned (search_of cs given log view) step k
 learned-here cs given log view step k h d a b fresh =
     let below = back-below view.trail.entries step.clause a in
     let D : List (List Literal) → Type 0 = λ xs. is_derived cs.vars xs step ≡ true in

@@ -25,7 +25,9 @@ fresh-some cs [] h = absurd (true≢false (sym h.1))
 fresh-some cs (l ∷ c) h = refl
 
 -- a step with a literal
-pub log-more : (f : Formula) (budget : ℕ) (log : List Step) (s : Step) → IsLog f budget log → length log < budget → is_derived f.vars (f.clauses ++ step_clauses log) s ≡ true → IsFresh (f.clauses ++ step_clauses log) s.clause → IsLog f budget (log ++ s ∷ [])
+pub log-more : (f : Formula) (budget : ℕ) (log : List Step) (s : Step) → IsLog f budget log →
+    length log < budget → is_derived f.vars (f.clauses ++ step_clauses log) s ≡ true →
+    IsFresh (f.clauses ++ step_clauses log) s.clause → IsLog f budget (log ++ s ∷ [])
 log-more f budget log s h room d fr = record {
   derived = derived-push f.vars f.clauses log s h.derived d;
   fresh = fresh-push f.clauses log s h.fresh (λ _. fr);

@@ -79,7 +79,11 @@ level-between k (x ∷ es) (suc i) (suc j) e f c h s r =
     level-between x.level es i j e f p.1 (omega (arith, h)) s r
 
 -- the entry before place n isn't above the level: then those that are stand from n on
-pub low-above : (t : TrailList) (ws tree : List ℕ) (n level : ℕ) (x : Entry) (l : Literal) (k : ℕ) → IsTrail t → slice_get t.entries (n - 1) ≡ Some x → x.lit ≡ l → option_map (λ (e : Entry). e.level) (entry_of t.entries l.var) ≡ Some k → k ≤ level → ((j : ℕ) (e : Entry) → n ≤ j → slice_get t.entries j ≡ Some e → StandsIn ws tree e.lit.var) → HasAbove t.entries level ws tree
+pub low-above : (t : TrailList) (ws tree : List ℕ) (n level : ℕ) (x : Entry) (l : Literal) (k : ℕ) →
+    IsTrail t → slice_get t.entries (n - 1) ≡ Some x → x.lit ≡ l →
+    option_map (λ (e : Entry). e.level) (entry_of t.entries l.var) ≡ Some k → k ≤ level →
+    ((j : ℕ) (e : Entry) → n ≤ j → slice_get t.entries j ≡ Some e → StandsIn ws tree e.lit.var) →
+    HasAbove t.entries level ws tree
 low-above t ws tree n level x l k h s q r low done = λ i e at above.
     let found : entry_of t.entries l.var ≡ Some x = ap (λ (m : Literal). entry_of t.entries m.var) (sym q) ∙ entry-at t.entries (n - 1) x h.once s in
     let here : Some x.level ≡ Some k = sym (ap (option_map (λ (e : Entry). e.level)) found) ∙ r in
@@ -90,7 +94,10 @@ low-above t ws tree n level x l k h s q r low done = λ i e at above.
     ]
 
 -- the entry before place n is put in
-pub put-done : (t : TrailList) (ws tree : List ℕ) (n : ℕ) (x : Entry) (l : Literal) (v : ℕ) → slice_get t.entries (n - 1) ≡ Some x → x.lit ≡ l → v ≡ l.var → StandsIn ws tree v → ((j : ℕ) (e : Entry) → n ≤ j → slice_get t.entries j ≡ Some e → StandsIn ws tree e.lit.var) → (j : ℕ) (e : Entry) → n - 1 ≤ j → slice_get t.entries j ≡ Some e → StandsIn ws tree e.lit.var
+pub put-done : (t : TrailList) (ws tree : List ℕ) (n : ℕ) (x : Entry) (l : Literal) (v : ℕ) →
+    slice_get t.entries (n - 1) ≡ Some x → x.lit ≡ l → v ≡ l.var → StandsIn ws tree v →
+    ((j : ℕ) (e : Entry) → n ≤ j → slice_get t.entries j ≡ Some e → StandsIn ws tree e.lit.var) →
+    (j : ℕ) (e : Entry) → n - 1 ≤ j → slice_get t.entries j ≡ Some e → StandsIn ws tree e.lit.var
 put-done t ws tree n x l v s q r here done = λ j e h at.
     elim (cases_lt j n) [
       | inl b ↦ (let same : Some x ≡ Some e = sym s ∙ ap (slice_get t.entries) (omega (arith, h, b)) ∙ at in
@@ -150,7 +157,9 @@ holds view t u h w s k e = record {
 }
 
 -- the unset variables after levels are taken off
-pub stands-back : (view : ViewLists) (t u : List ℕ) (k : ℕ) → HoldsView view t → KeepsLeaves view.weights t u → HasAbove view.trail.entries k view.weights u → (v : ℕ) → 0 < v → v ≤ view.trail.vars → is_set (up_to k view.trail.entries) v ≡ false → StandsIn view.weights u v
+pub stands-back : (view : ViewLists) (t u : List ℕ) (k : ℕ) → HoldsView view t →
+    KeepsLeaves view.weights t u → HasAbove view.trail.entries k view.weights u → (v : ℕ) → 0 < v →
+    v ≤ view.trail.vars → is_set (up_to k view.trail.entries) v ≡ false → StandsIn view.weights u v
 stands-back view t u k h kept above v p w e =
     elim (cases_Bool (is_set view.trail.entries v)) [
       | inl s ↦ (let r = above-at k view.trail.entries v s e in
@@ -191,13 +200,19 @@ top-none view t h e = λ v p w.
     ]
 
 -- the view with a clause counted
-pub holds-counted : (view : ViewLists) (ws t u s : List ℕ) → HoldsView view t → length ws ≡ length view.weights → KeepsVariables view.weights t ws u → IsTree ws s → KeepsUnset view.trail.entries ws u s → IsSettled view.trail.entries s → HoldsView (record { trail = view.trail; weights = ws }) s
+pub holds-counted : (view : ViewLists) (ws t u s : List ℕ) → HoldsView view t →
+    length ws ≡ length view.weights → KeepsVariables view.weights t ws u → IsTree ws s →
+    KeepsUnset view.trail.entries ws u s → IsSettled view.trail.entries s →
+    HoldsView (record { trail = view.trail; weights = ws }) s
 holds-counted view ws t u s h n kept w keeps settled =
     let new : ViewLists = record { trail = view.trail; weights = ws } in
     holds new u s (record { trail = h.is.trail; weighed = n ∙ h.is.weighed }) w (λ v q. (let p = unset-parts new v q in kept.kept v p.0 (h.stands v (unset-from view v p.0 p.1 p.2)))) keeps settled
 
 -- the view with a longer trail
-pub holds-longer : (view : ViewLists) (now : TrailList) (t u : List ℕ) → HoldsView view t → IsTrail now → now.vars ≡ view.trail.vars → take (length view.trail.entries) now.entries ≡ view.trail.entries → IsTree view.weights u → KeepsUnset now.entries view.weights t u → IsSettled now.entries u → HoldsView (record { trail = now; weights = view.weights }) u
+pub holds-longer : (view : ViewLists) (now : TrailList) (t u : List ℕ) → HoldsView view t → IsTrail now →
+    now.vars ≡ view.trail.vars → take (length view.trail.entries) now.entries ≡ view.trail.entries →
+    IsTree view.weights u → KeepsUnset now.entries view.weights t u → IsSettled now.entries u →
+    HoldsView (record { trail = now; weights = view.weights }) u
 holds-longer view now t u h k n e w kept settled =
     let new : ViewLists = record { trail = now; weights = view.weights } in
     holds new t u (record { trail = k; weighed = h.is.weighed ∙ sym n }) w
@@ -206,7 +221,11 @@ holds-longer view now t u h k n e w kept settled =
     kept settled
 
 -- the view with levels taken off
-pub holds-back : (view : ViewLists) (now : TrailList) (k : ℕ) (t s u : List ℕ) → HoldsView view t → IsTrail now → now ≡ record { vars = view.trail.vars; entries = up_to k view.trail.entries } → KeepsLeaves view.weights t s → HasAbove view.trail.entries k view.weights s → IsTree view.weights u → KeepsUnset now.entries view.weights s u → IsSettled now.entries u → HoldsView (record { trail = now; weights = view.weights }) u
+pub holds-back : (view : ViewLists) (now : TrailList) (k : ℕ) (t s u : List ℕ) → HoldsView view t →
+    IsTrail now → now ≡ record { vars = view.trail.vars; entries = up_to k view.trail.entries } →
+    KeepsLeaves view.weights t s → HasAbove view.trail.entries k view.weights s → IsTree view.weights u →
+    KeepsUnset now.entries view.weights s u → IsSettled now.entries u →
+    HoldsView (record { trail = now; weights = view.weights }) u
 holds-back view now k t s u h i e kept above w keeps settled =
     let new : ViewLists = record { trail = now; weights = view.weights } in
     let n : now.vars ≡ view.trail.vars = ap (λ (x : TrailList). x.vars) e in

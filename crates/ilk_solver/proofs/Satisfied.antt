@@ -73,7 +73,9 @@ true-clause view (l ∷ c) d s h f =
       | inr a ↦ or_left (is_true (assignment_of view) l) (some_true (assignment_of view) c) (true-literal view l p.0 (not-false (value_of_literal es l) (λ n. true≢false (sym (s l.var within.0 within.1) ∙ value-none es l n)) (sym t.denied ∙ a)))
     ]
 
-pub satisfied : (view : ViewLists) (cs : List (List Literal)) → vars_differ (lits_of view.trail.entries) ≡ true → AllSet view → clauses_in view.trail.vars cs ≡ true → is_closed cs (lits_of view.trail.entries) ≡ true → satisfies (assignment_of view) cs ≡ true
+pub satisfied : (view : ViewLists) (cs : List (List Literal)) →
+    vars_differ (lits_of view.trail.entries) ≡ true → AllSet view → clauses_in view.trail.vars cs ≡ true →
+    is_closed cs (lits_of view.trail.entries) ≡ true → satisfies (assignment_of view) cs ≡ true
 satisfied view [] d s h k = refl
 satisfied view (c ∷ cs) d s h k =
     let set = lits_of view.trail.entries in
@@ -83,7 +85,9 @@ satisfied view (c ∷ cs) d s h k =
     and_from (some_true (assignment_of view) c) (satisfies (assignment_of view) cs) (true-clause view c d s p.0 open_clause) (satisfied view cs d s p.1 q.1)
 
 -- so they are a solution of the first of the clauses
-pub solution : (f : Formula) (n : ℕ) (view : ViewLists) → IsFormula f → IsView view → view.trail.vars ≡ f.vars → AllSet view → is_closed f.clauses (lits_of view.trail.entries) ≡ true → IsSolution (record { vars = f.vars; clauses = take n f.clauses }) (assignment_of view)
+pub solution : (f : Formula) (n : ℕ) (view : ViewLists) → IsFormula f → IsView view →
+    view.trail.vars ≡ f.vars → AllSet view → is_closed f.clauses (lits_of view.trail.entries) ≡ true →
+    IsSolution (record { vars = f.vars; clauses = take n f.clauses }) (assignment_of view)
 solution f n view k w same s h =
     let es = view.trail.entries in
     let g : ℕ → Bool = λ v. unwrap_or (value_of_literal es (plus (v + 1))) false in

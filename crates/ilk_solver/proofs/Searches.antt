@@ -47,11 +47,17 @@ pub held-propagated : (cs : Formula) (given : ℕ) (log : List Step) (view : Vie
 held-propagated cs given log view es h p =
     held-entries cs given log view es h (reasons-propagated cs.clauses view.trail.entries es p (known-reasons cs given log view h)) (closed-propagated cs.clauses view.trail.entries es p (known-closed cs given log view h))
 
-pub held-decided : (cs : Formula) (given : ℕ) (log : List Step) (view : ViewLists) (l : Literal) → HoldsSearch cs given log view → climbs 0 view.trail.entries ≡ true → is_closed cs.clauses (lits_of view.trail.entries) ≡ true → HoldsSearch cs given log (with_entries view (decided view.trail.entries l))
+pub held-decided : (cs : Formula) (given : ℕ) (log : List Step) (view : ViewLists) (l : Literal) →
+    HoldsSearch cs given log view → climbs 0 view.trail.entries ≡ true →
+    is_closed cs.clauses (lits_of view.trail.entries) ≡ true →
+    HoldsSearch cs given log (with_entries view (decided view.trail.entries l))
 held-decided cs given log view l h c k =
     held-entries cs given log view (decided view.trail.entries l) h (reasons-decided cs.clauses view.trail.entries l (known-reasons cs given log view h)) (closed-decided cs.clauses view.trail.entries l c (known-closed cs given log view h) k)
 
-pub held-back : (cs : Formula) (given : ℕ) (log : List Step) (view : ViewLists) (m : ℕ) → HoldsSearch cs given log view → climbs 0 view.trail.entries ≡ true → m ≤ level_of view.trail.entries → level_of (up_to m view.trail.entries) ≡ m → HoldsSearch cs given log (with_entries view (up_to m view.trail.entries))
+pub held-back : (cs : Formula) (given : ℕ) (log : List Step) (view : ViewLists) (m : ℕ) →
+    HoldsSearch cs given log view → climbs 0 view.trail.entries ≡ true → m ≤ level_of view.trail.entries →
+    level_of (up_to m view.trail.entries) ≡ m →
+    HoldsSearch cs given log (with_entries view (up_to m view.trail.entries))
 held-back cs given log view m h c le top =
     held-entries cs given log view (up_to m view.trail.entries) h (reasons-back cs.clauses view.trail.entries m c (known-reasons cs given log view h)) (closed-back cs.clauses view.trail.entries m le top (known-closed cs given log view h))
 

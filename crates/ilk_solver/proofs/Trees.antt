@@ -47,7 +47,9 @@ right-node ws t j h e = record {
 }
 
 -- a leaf is written where the weight of its variable alone may be another one: then the node above it may be wrong
-pub leaf-written : (ws ws2 t : List ℕ) (v x : ℕ) → IsTree ws t → length ws2 ≡ length ws → 0 < v → v ≤ length ws → (x ≡ 0) ⊎ (x ≡ word_of ws2 v) → ((u : ℕ) → 0 < u → u ≢ v → word_of ws2 u ≡ word_of ws u) → IsTreeBut ws2 (set t (length ws + 1 + v) x) ((length ws + 1 + v) / 2)
+pub leaf-written : (ws ws2 t : List ℕ) (v x : ℕ) → IsTree ws t → length ws2 ≡ length ws → 0 < v →
+    v ≤ length ws → (x ≡ 0) ⊎ (x ≡ word_of ws2 v) → ((u : ℕ) → 0 < u → u ≢ v → word_of ws2 u ≡ word_of ws u) →
+    IsTreeBut ws2 (set t (length ws + 1 + v) x) ((length ws + 1 + v) / 2)
 leaf-written ws ws2 t v x h n p q e others =
     let i = length ws + 1 + v in
     let inside : i < length t = (let s = h.size in omega (arith, s, q)) in

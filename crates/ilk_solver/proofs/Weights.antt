@@ -7,7 +7,10 @@ use Rattle.std.proofs.lemmas.List.Sums.{sum_by-cons}
 use Rattle.std.proofs.lemmas.List.{get_or-set_same, get_or-set_other}
 use Rattle.ilk_cnf.specs.Literal.{Literal, has_var, vars_differ}
 
-pub counted-step : (w : List ℕ) (v : ℕ) (l : Literal) (rest : List Literal) → vars_differ (l ∷ rest) ≡ true → 0 < v → 0 < l.var → l.var - 1 < length w → get_or (set w (l.var - 1) (get_or w (l.var - 1) 0 + 1)) (v - 1) 0 + cond (has_var v rest) 1 0 ≡ get_or w (v - 1) 0 + cond (has_var v (l ∷ rest)) 1 0
+pub counted-step : (w : List ℕ) (v : ℕ) (l : Literal) (rest : List Literal) → vars_differ (l ∷ rest) ≡ true →
+    0 < v → 0 < l.var → l.var - 1 < length w →
+    get_or (set w (l.var - 1) (get_or w (l.var - 1) 0 + 1)) (v - 1) 0 + cond (has_var v rest) 1 0
+    ≡ get_or w (v - 1) 0 + cond (has_var v (l ∷ rest)) 1 0
 counted-step w v l rest d v1 l1 in_w =
     let none : has_var l.var rest ≡ false = not-true (has_var l.var rest) (and_parts _ _ d).0 in
     elim (eqb_tells l.var v) [

@@ -13,7 +13,8 @@ use std::alloc::{AllocError, Global};
 pub fn filled(alloc: Global, weights: &[u32]) -> Result<Vec<u64>, AllocError>
     requires { length weights.now ≤ 2 ^ 31 }
     ensures tree { IfOk result (λ tree. IsTree weights.now tree.items) }
-    ensures each { IfOk result (λ tree. (v : ℕ) → 0 < v → v ≤ length weights.now → StandsIn weights.now tree.items v) }
+    ensures each { IfOk result
+        (λ tree. (v : ℕ) → 0 < v → v ≤ length weights.now → StandsIn weights.now tree.items v) }
 {
     let mut tree = vec![in alloc; 0; 2 * weights.len() + 2]?;
     for v in 0..weights.len() as u64 {

@@ -12,15 +12,19 @@ use ilk_cnf::Lit;
 #[derive(Drop)]
 pub struct Picker {
     picks: Box<dyn Fn(&View) -> Lit>,
-    ghost callable: { (view : Bor ViewLists) (v : ℕ) → IsView view.now → IsTrue (is_unset view.now v) → pre picks view },
-    ghost unset: { (view : Bor ViewLists) (v : ℕ) (l : Literal) → IsView view.now → IsTrue (is_unset view.now v) → post picks view l → IsTrue (is_unset view.now l.var) },
+    ghost callable: { (view : Bor ViewLists) (v : ℕ) → IsView view.now →
+        IsTrue (is_unset view.now v) → pre picks view },
+    ghost unset: { (view : Bor ViewLists) (v : ℕ) (l : Literal) → IsView view.now →
+        IsTrue (is_unset view.now v) → post picks view l → IsTrue (is_unset view.now l.var) },
 }
 
 impl Picker {
     /// Decides by the closure.
     pub fn new(picks: Box<dyn Fn(&View) -> Lit>) -> Picker
-        requires callable { (view : Bor ViewLists) (v : ℕ) → IsView view.now → IsTrue (is_unset view.now v) → pre picks view }
-        requires unset { (view : Bor ViewLists) (v : ℕ) (l : Literal) → IsView view.now → IsTrue (is_unset view.now v) → post picks view l → IsTrue (is_unset view.now l.var) }
+        requires callable { (view : Bor ViewLists) (v : ℕ) → IsView view.now →
+            IsTrue (is_unset view.now v) → pre picks view }
+        requires unset { (view : Bor ViewLists) (v : ℕ) (l : Literal) → IsView view.now →
+            IsTrue (is_unset view.now v) → post picks view l → IsTrue (is_unset view.now l.var) }
         ensures { result.picks ≡ picks }
     {
         Picker { picks }

@@ -20,7 +20,8 @@ impl Restart {
 
     // The level to go back to after so many steps: the start where a restart is due, and else `level`.
     pub(crate) fn level_after(&self, steps: u64, level: u64) -> u64
-        ensures answered { (due : Bool) × post self.now.asks steps due × result ≡ (if due then 0 else level) }
+        ensures answered { (due : Bool) × post self.now.asks steps due ×
+            result ≡ (if due then 0 else level) }
         ensures level { result ≤ level }
     {
         if self.is_due(steps) { 0 } else { level }

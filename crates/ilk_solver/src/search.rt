@@ -46,7 +46,8 @@ impl Model for Search {
 
     ghost view = { λ s. search_of (formula_of s.clauses) s.given s.log s.view };
 
-    ghost invariant = { λ s. HoldsWatched s.clauses s.queue.head s.queue.settled s.given s.log s.view };
+    ghost invariant = { λ s. HoldsWatched s.clauses s.queue.head s.queue.settled s.given s.log
+        s.view };
 }
 
 impl Search {
@@ -81,10 +82,14 @@ impl Search {
     // Sets what the clauses force until nothing is left to set, or answers a clause that is false. It
     // takes no memory.
     pub fn propagate(&mut self) -> Option<u64>
-        ensures conflict { IfSome result (λ c. IsTrue (is_conflict (all_clauses self.old) (lits_of self.new.view.trail.entries) c)) }
-        ensures closed { IfNone result (IsTrue (is_closed (all_clauses self.old) (lits_of self.new.view.trail.entries))) }
+        ensures conflict { IfSome result
+            (λ c. IsTrue
+            (is_conflict (all_clauses self.old) (lits_of self.new.view.trail.entries) c)) }
+        ensures closed { IfNone result
+            (IsTrue (is_closed (all_clauses self.old) (lits_of self.new.view.trail.entries))) }
         ensures same { self.new ≡ with_trail self.old self.new.view.trail.entries }
-        ensures propagated { IsPropagated (all_clauses self.old) self.old.view.trail.entries self.new.view.trail.entries }
+        ensures propagated { IsPropagated (all_clauses self.old) self.old.view.trail.entries
+            self.new.view.trail.entries }
     {
         let _ = self.view.vars();
         self.view.propagate(&mut self.queue, &mut self.clauses)
@@ -94,7 +99,8 @@ impl Search {
     pub fn decide(&mut self, l: Lit)
         requires within { IsTrue (lit_in self.old.formula.vars l) }
         requires unset { is_set self.old.view.trail.entries l.var ≡ false }
-        requires closed { IsTrue (is_closed (all_clauses self.old) (lits_of self.old.view.trail.entries)) }
+        requires closed { IsTrue
+            (is_closed (all_clauses self.old) (lits_of self.old.view.trail.entries)) }
         ensures { self.new ≡ with_trail self.old (decided self.old.view.trail.entries l) }
     {
         let _ = self.view.vars();
@@ -168,7 +174,8 @@ impl Search {
     // end.
     pub fn assignment(&self, alloc: Global) -> Result<Assignment, AllocError>
         requires set { AllSet self.now.view }
-        requires closed { IsTrue (is_closed (all_clauses self.now) (lits_of self.now.view.trail.entries)) }
+        requires closed { IsTrue
+            (is_closed (all_clauses self.now) (lits_of self.now.view.trail.entries)) }
         ensures { IfOk result (λ a. IsSolution self.now.formula a) }
     {
         let _ = self.view.vars();
@@ -178,7 +185,8 @@ impl Search {
 
     // What clause `conflict` teaches, whose literals are all false above level 0.
     pub fn learn(&self, alloc: Global, conflict: u64) -> Result<Learned, AllocError>
-        requires conflict { IsTrue (is_conflict (all_clauses self.now) (lits_of self.now.view.trail.entries) conflict) }
+        requires conflict { IsTrue
+            (is_conflict (all_clauses self.now) (lits_of self.now.view.trail.entries) conflict) }
         requires level { 0 < level_of self.now.view.trail.entries }
         ensures { IfOk result (λ l. IsLearned self.now l.step l.level) }
     {
@@ -188,9 +196,11 @@ impl Search {
 
     // The empty clause, where all literals of clause `conflict` are false at level 0.
     pub fn refute(&self, alloc: Global, conflict: u64) -> Result<Step, AllocError>
-        requires conflict { IsTrue (is_conflict (all_clauses self.now) (lits_of self.now.view.trail.entries) conflict) }
+        requires conflict { IsTrue
+            (is_conflict (all_clauses self.now) (lits_of self.now.view.trail.entries) conflict) }
         requires level { level_of self.now.view.trail.entries ≡ 0 }
-        ensures derived { IfOk result (λ s. IsTrue (is_derived self.now.formula.vars (all_clauses self.now) s)) }
+        ensures derived { IfOk result
+            (λ s. IsTrue (is_derived self.now.formula.vars (all_clauses self.now) s)) }
         ensures empty { IfOk result (λ s. s.clause ≡ []) }
     {
         let _ = self.view.vars();

@@ -46,12 +46,20 @@ impl Solver {
     /// Sets what the clauses force until nothing is left to set, or answers the number of a clause
     /// that is false, counted from 0. It takes no memory.
     pub fn propagate(&mut self) -> Option<u64>
-        ensures conflict { IfSome result (λ c. IsTrue (is_conflict (all_clauses self.old.search) (lits_of self.new.search.view.trail.entries) c)) }
-        ensures closed { IfNone result (IsTrue (is_closed (all_clauses self.old.search) (lits_of self.new.search.view.trail.entries))) }
-        ensures search { self.new.search ≡ with_trail self.old.search self.new.search.view.trail.entries }
+        ensures conflict { IfSome result
+            (λ c. IsTrue
+            (is_conflict (all_clauses self.old.search)
+            (lits_of self.new.search.view.trail.entries) c)) }
+        ensures closed { IfNone result
+            (IsTrue
+            (is_closed (all_clauses self.old.search)
+            (lits_of self.new.search.view.trail.entries))) }
+        ensures search { self.new.search
+            ≡ with_trail self.old.search self.new.search.view.trail.entries }
         ensures picker { self.new.picker ≡ self.old.picker }
         ensures restart { self.new.restart ≡ self.old.restart }
-        ensures propagated { IsPropagated (all_clauses self.old.search) self.old.search.view.trail.entries self.new.search.view.trail.entries }
+        ensures propagated { IsPropagated (all_clauses self.old.search)
+            self.old.search.view.trail.entries self.new.search.view.trail.entries }
     {
         self.search.propagate()
     }

@@ -29,7 +29,8 @@ pub fn write_leaf(weights: &[u32], tree: &mut [u64], v: u64, entry: u64)
     requires entry { (entry ≡ 0) ⊎ (entry ≡ word_of weights.now v) }
     requires tree { IsTree weights.now tree.old }
     ensures tree { IsTree weights.now tree.new }
-    ensures leaves { leaves_of weights.now tree.new ≡ slice_set (leaves_of weights.now tree.old) v entry }
+    ensures leaves { leaves_of weights.now tree.new
+        ≡ slice_set (leaves_of weights.now tree.old) v entry }
 {
     let leaf = weights.len() + 1 + v as usize;
     if tree[leaf] == entry {
@@ -64,7 +65,8 @@ pub fn count_one(weights: &mut [u32], tree: &mut [u64], v: u64)
     requires tree { IsTree weights.old tree.old }
     ensures tree { IsTree weights.new tree.new }
     ensures leaves { KeepsVariables weights.old tree.old weights.new tree.new }
-    ensures weights { weights.new ≡ slice_set weights.old (v - 1) (slice_index weights.old (v - 1) + 1) }
+    ensures weights { weights.new
+        ≡ slice_set weights.old (v - 1) (slice_index weights.old (v - 1) + 1) }
 {
     weights[v as usize - 1] += 1;
     let leaf = weights.len() + 1 + v as usize;

@@ -41,7 +41,8 @@ impl Model for View {
 
     ghost view = { λ v. record { trail = v.trail; weights = v.weights.items } };
 
-    ghost invariant = { λ v. HoldsView (record { trail = v.trail; weights = v.weights.items }) v.tree.items };
+    ghost invariant = { λ v. HoldsView (record { trail = v.trail; weights = v.weights.items })
+        v.tree.items };
 }
 
 impl View {
@@ -49,7 +50,10 @@ impl View {
     // them: half a word has no room for their numbers.
     pub(crate) fn new(alloc: Global, vars: u64) -> Result<View, AllocError>
         requires { vars ≤ 2 ^ 62 }
-        ensures { IfOk result (λ view. view ≡ record { trail = record { vars = vars; entries = [] }; weights = replicate vars 0 }) }
+        ensures { IfOk result
+            (λ view. view
+            ≡ record
+            { trail = record { vars = vars; entries = [] }; weights = replicate vars 0 }) }
     {
         if vars > MOST_VARIABLES {
             return Err(AllocError);
@@ -128,12 +132,17 @@ impl View {
     // takes no memory.
     pub(crate) fn propagate(&mut self, queue: &mut Queue, clauses: &mut Clauses) -> Option<u64>
         requires vars { self.old.trail.vars ≡ clauses.old.vars }
-        requires queued { IsQueue clauses.old self.old.trail.entries queue.old.head queue.old.settled }
-        ensures conflict { IfSome result (λ c. IsTrue (is_conflict clauses.old.clauses (lits_of self.new.trail.entries) c)) }
-        ensures closed { IfNone result (IsTrue (is_closed clauses.old.clauses (lits_of self.new.trail.entries))) }
+        requires queued { IsQueue clauses.old self.old.trail.entries queue.old.head
+            queue.old.settled }
+        ensures conflict { IfSome result
+            (λ c. IsTrue (is_conflict clauses.old.clauses (lits_of self.new.trail.entries) c)) }
+        ensures closed { IfNone result
+            (IsTrue (is_closed clauses.old.clauses (lits_of self.new.trail.entries))) }
         ensures entries { self.new ≡ with_entries self.old self.new.trail.entries }
-        ensures propagated { IsPropagated clauses.old.clauses self.old.trail.entries self.new.trail.entries }
-        ensures queued { IsQueue clauses.new self.new.trail.entries queue.new.head queue.new.settled }
+        ensures propagated { IsPropagated clauses.old.clauses self.old.trail.entries
+            self.new.trail.entries }
+        ensures queued { IsQueue clauses.new self.new.trail.entries queue.new.head
+            queue.new.settled }
         ensures same { SameClauses clauses.old clauses.new }
     {
         let found = queue.propagate(clauses, &mut self.trail);
@@ -145,12 +154,14 @@ impl View {
     // Opens the next level with `l`, where propagation is at its end.
     pub(crate) fn decide(&mut self, queue: &mut Queue, clauses: &mut Clauses, l: Lit)
         requires vars { self.old.trail.vars ≡ clauses.old.vars }
-        requires queued { IsQueue clauses.old self.old.trail.entries queue.old.head queue.old.settled }
+        requires queued { IsQueue clauses.old self.old.trail.entries queue.old.head
+            queue.old.settled }
         requires within { IsTrue (lit_in self.old.trail.vars l) }
         requires unset { is_set self.old.trail.entries l.var ≡ false }
         requires closed { IsTrue (is_closed clauses.old.clauses (lits_of self.old.trail.entries)) }
         ensures entries { self.new ≡ with_entries self.old (decided self.old.trail.entries l) }
-        ensures queued { IsQueue clauses.new self.new.trail.entries queue.new.head queue.new.settled }
+        ensures queued { IsQueue clauses.new self.new.trail.entries queue.new.head
+            queue.new.settled }
         ensures same { SameClauses clauses.old clauses.new }
     {
         queue.decide(clauses, &mut self.trail, l);
@@ -176,7 +187,8 @@ impl View {
         requires differ { IsTrue (vars_differ clause.now) }
         requires room { (i : ℕ) → slice_index self.old.weights i + 1 < 2 ^ 32 }
         ensures trail { self.new.trail ≡ self.old.trail }
-        ensures weights { (v : ℕ) → 0 < v → weight_of self.new v ≡ weight_of self.old v + (if has_var v clause.now then 1 else 0) }
+        ensures weights { (v : ℕ) → 0 < v →
+            weight_of self.new v ≡ weight_of self.old v + (if has_var v clause.now then 1 else 0) }
     {
         count_in(&mut self.weights, &mut self.tree, clause);
         settle(&self.trail, &self.weights, &mut self.tree);
@@ -190,7 +202,9 @@ fn count_in(weights: &mut [u32], tree: &mut [u64], clause: &[Lit])
     requires differ { IsTrue (vars_differ clause.now) }
     requires room { (i : ℕ) → slice_index weights.old i + 1 < 2 ^ 32 }
     requires tree { IsTree weights.old tree.old }
-    ensures weights { (v : ℕ) → 0 < v → slice_index weights.new (v - 1) ≡ slice_index weights.old (v - 1) + (if has_var v clause.now then 1 else 0) }
+    ensures weights { (v : ℕ) → 0 < v →
+        slice_index weights.new (v - 1)
+        ≡ slice_index weights.old (v - 1) + (if has_var v clause.now then 1 else 0) }
     ensures tree { IsTree weights.new tree.new }
     ensures leaves { KeepsVariables weights.old tree.old weights.new tree.new }
 {

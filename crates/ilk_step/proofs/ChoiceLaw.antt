@@ -104,7 +104,9 @@ any_values a n m size = record {
 
 pub choice-law : (a : List Bool) (m n : ℕ) → length a ≡ n → Extends a (choice_part m n).vars (choice_part m n).clauses (IsChoice m)
 choice-law a m n size =
-    in_words a (choice_part m n).vars (choice_part m n).clauses _ (IsChoice m) to from (in_turn a (n + m) (choice_part m n).vars [] (choice_part m n).clauses (λ b. length b ≡ m) one (omega (arith, size)) (choice-low m n) refl (any_values a n m size) next)
+    in_words a (choice_part m n).vars (choice_part m n).clauses _ (IsChoice m) to from
+    (in_turn a (n + m) (choice_part m n).vars [] (choice_part m n).clauses (λ b. length b ≡ m) one
+    (omega (arith, size)) (choice-low m n) refl (any_values a n m size) next)
   where
     one : (b : List Bool) → length b ≡ m → List Bool → Type 0
     one b _ = OnlyIf (one_true (map not b)) (one_of_bits (map not b))
@@ -113,8 +115,15 @@ choice-law a m n size =
     next b long =
         let here : length (a ++ b) ≡ n + m = omega (arith, length-append a b, size, long) in
         let bare : a ++ (b ++ []) ≡ a ++ b = simp append-nil in
-        let say : map (is_true (a ++ b)) (chosen_lits (n + 1) m) ≡ map not b = subst (λ (u : List Bool). map (is_true u) (chosen_lits (n + 1) m) ≡ map not b) bare (subst (λ (k : ℕ). map (is_true (a ++ (b ++ []))) (chosen_lits (n + 1) k) ≡ map not b) long (chosen_lits-say b a [] (n + 1) (ap (λ (k : ℕ). k + 1) size))) in
-        subst (λ (u : List Bool). Extends (a ++ b) (choice_part m n).vars (choice_part m n).clauses (OnlyIf (one_true u) (one_of_bits u))) say (one_of-law (chosen_lits (n + 1) m) (a ++ b) (n + m) here (chosen_lits-in m (n + 1) (n + m) (omega arith) (omega arith)))
+        let say : map (is_true (a ++ b)) (chosen_lits (n + 1) m) ≡ map not b = subst
+        (λ (u : List Bool). map (is_true u) (chosen_lits (n + 1) m) ≡ map not b) bare
+        (subst (λ (k : ℕ). map (is_true (a ++ (b ++ []))) (chosen_lits (n + 1) k) ≡ map not b) long
+        (chosen_lits-say b a [] (n + 1) (ap (λ (k : ℕ). k + 1) size))) in
+        subst
+        (λ (u : List Bool). Extends (a ++ b) (choice_part m n).vars (choice_part m n).clauses
+        (OnlyIf (one_true u) (one_of_bits u))) say
+        (one_of-law (chosen_lits (n + 1) m) (a ++ b) (n + m) here
+        (chosen_lits-in m (n + 1) (n + m) (omega arith) (omega arith)))
 
     to : (d : List Bool) → Then (λ b. length b ≡ m) one d → IsChoice m d
     to d h =

@@ -79,7 +79,10 @@ frames-few (c ∷ now) (d ∷ next) rs k v =
     let all : length ((values ++ bounds) ++ rest) ≡ length (values ++ bounds) + length rest = length-append (values ++ bounds) rest in
     omega arith
 
-pub step-few : (rs : List RuleTree) (now next : List Column) (n : ℕ) → ((step_part rs now next n).vars ≤ n + 2 * length rs + guards_size rs) × (length (step_part rs now next n).clauses ≤ 4 * length rs + 1 + 2 * guards_size rs + settings_count rs + 2 * literals_count now)
+pub step-few : (rs : List RuleTree) (now next : List Column) (n : ℕ) →
+    ((step_part rs now next n).vars ≤ n + 2 * length rs + guards_size rs) ×
+    (length (step_part rs now next n).clauses
+    ≤ 4 * length rs + 1 + 2 * guards_size rs + settings_count rs + 2 * literals_count now)
 step-few rs now next n =
     let p = choice_part (length rs) n in
     let q = rules_part now next (n + 1) rs p.vars in

@@ -76,7 +76,10 @@ has_value-at xs v c h = by_case (slice_get xs v) refl h
     by_case (Some x) is k = is ∙ ap Some (eqb-true x c k)
 
 -- where other values meet the settings, a variable that is set has what they have
-met-at : (sets : List Setting) (ws xs : List ℕ) (v : ℕ) → length ws ≡ length xs → list_all (λ s. has_value xs s.var s.value) sets ≡ true → (sets_variable v sets ≡ false → slice_get ws v ≡ slice_get xs v) → slice_get (set_all ws sets) v ≡ slice_get xs v
+met-at : (sets : List Setting) (ws xs : List ℕ) (v : ℕ) → length ws ≡ length xs →
+    list_all (λ s. has_value xs s.var s.value) sets ≡ true →
+    (sets_variable v sets ≡ false → slice_get ws v ≡ slice_get xs v) →
+    slice_get (set_all ws sets) v ≡ slice_get xs v
 met-at [] ws xs v long met same = same refl
 met-at (s ∷ sets) ws xs v long met same =
     let parts = and_parts _ _ met in
@@ -116,7 +119,10 @@ pub met-fired : (r : RuleTree) (ws xs ranges : List ℕ) → in_ranges ws ranges
 met-fired r ws xs ranges now next met keeps =
     let parts = and_parts (tree_holds ws r.guard) (list_all (λ (s : Setting). has_value xs s.var s.value) r.sets) met in
     let long : length ws ≡ length xs = in_ranges-length ws ranges now ∙ sym (in_ranges-length xs ranges next) in
-    let same : set_all ws r.sets ≡ xs = same_by_slice_get (set_all ws r.sets) xs (λ i. met-at r.sets ws xs i long parts.1 (λ none. kept-at (λ v. sets_variable v r.sets) 0 ws xs i keeps (let z : 0 + i ≡ i = omega arith in ap (λ (u : ℕ). sets_variable u r.sets) z ∙ none))) in
+    let same : set_all ws r.sets ≡ xs = same_by_slice_get (set_all ws r.sets) xs
+    (λ i. met-at r.sets ws xs i long parts.1
+    (λ none. kept-at (λ v. sets_variable v r.sets) 0 ws xs i keeps
+    (let z : 0 + i ≡ i = omega arith in ap (λ (u : ℕ). sets_variable u r.sets) z ∙ none))) in
     ap (λ (b : Bool). only_if b (set_all ws r.sets)) parts.0 ∙ ap Some same
 
 pub fired-met : (r : RuleTree) (ws xs ranges : List ℕ) → in_ranges ws ranges ≡ true → rule_valid ranges r ≡ true → fired r ws ≡ Some xs → (rule_met ws xs r ≡ true) × (kept (λ v. sets_variable v r.sets) 0 ws xs ≡ true)
@@ -129,7 +135,10 @@ fired-met r ws xs ranges now valid is = by_case (tree_holds ws r.guard) refl is
         let sets_valid = (and_parts (tree_valid ranges r.guard) (list_all (λ (s : Setting). value_valid ranges s.var s.value) r.sets) parts.0).1 in
         let same : set_all ws r.sets ≡ xs = cc in
         let met = settings-met r.sets ws ranges (in_ranges-length ws ranges now) sets_valid parts.1 in
-        let keeps : kept (λ v. sets_variable v r.sets) 0 ws (set_all ws r.sets) ≡ true = kept-from (λ v. sets_variable v r.sets) 0 ws (set_all ws r.sets) (sym (length-set_all r.sets ws)) (λ i none. let z : 0 + i ≡ i = omega arith in sym (unset-at r.sets ws i (ap (λ (u : ℕ). sets_variable u r.sets) (sym z) ∙ none))) in (
+        let keeps : kept (λ v. sets_variable v r.sets) 0 ws (set_all ws r.sets) ≡ true = kept-from
+        (λ v. sets_variable v r.sets) 0 ws (set_all ws r.sets) (sym (length-set_all r.sets ws))
+        (λ i none. let z : 0 + i ≡ i = omega arith in
+        sym (unset-at r.sets ws i (ap (λ (u : ℕ). sets_variable u r.sets) (sym z) ∙ none))) in (
           and_from _ _ holds (subst (λ (ys : List ℕ). list_all (λ s. has_value ys s.var s.value) r.sets ≡ true) same met),
           subst (λ (ys : List ℕ). kept (λ v. sets_variable v r.sets) 0 ws ys ≡ true) same keeps,
         )

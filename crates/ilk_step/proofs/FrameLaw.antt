@@ -32,8 +32,14 @@ carry_over-say a first [] [] long = sym (or-true (some_true a first))
 carry_over-say a first [] (m ∷ ms) long = absurd (omega arith)
 carry_over-say a first (l ∷ ls) [] long = absurd (omega arith)
 carry_over-say a first (l ∷ ls) (m ∷ ms) long =
-    let one : some_true a (first ++ opposite l ∷ m ∷ []) ≡ (some_true a first || (not (is_true a l) || (is_true a m || false))) = list_any-append (is_true a) first (opposite l ∷ m ∷ []) ∙ ap (λ (p : Bool). some_true a first || (p || (is_true a m || false))) (is_true-opposite a l) in
-    let two : some_true a (first ++ l ∷ opposite m ∷ []) ≡ (some_true a first || (is_true a l || (not (is_true a m) || false))) = list_any-append (is_true a) first (l ∷ opposite m ∷ []) ∙ ap (λ (p : Bool). some_true a first || (is_true a l || (p || false))) (is_true-opposite a m) in
+    let one : some_true a (first ++ opposite l ∷ m ∷ [])
+    ≡ (some_true a first || (not (is_true a l) || (is_true a m || false))) =
+    list_any-append (is_true a) first (opposite l ∷ m ∷ [])
+    ∙ ap (λ (p : Bool). some_true a first || (p || (is_true a m || false))) (is_true-opposite a l) in
+    let two : some_true a (first ++ l ∷ opposite m ∷ [])
+    ≡ (some_true a first || (is_true a l || (not (is_true a m) || false))) =
+    list_any-append (is_true a) first (l ∷ opposite m ∷ [])
+    ∙ ap (λ (p : Bool). some_true a first || (is_true a l || (p || false))) (is_true-opposite a m) in
     let rest = carry_over-say a first ls ms (omega arith) in
     rw (one, two, rest) (pair_says (some_true a first) (is_true a l) (is_true a m) (same_bits (map (is_true a) ls) (map (is_true a) ms)))
 
@@ -106,19 +112,37 @@ same_length : (a : List Bool) (ls ms : List Literal) (ps qs : List Bool) → map
 same_length a ls ms ps qs one two long = sym (length-map ls (is_true a)) ∙ ap length one ∙ long ∙ sym (ap length two) ∙ length-map ms (is_true a)
 
 -- one variable is set by a chosen rule, or has one value in both copies
-frame-say : (a : List Bool) (first : List Literal) (c d : Column) (range w x : ℕ) → w < range → x < range → map (is_true a) c.values ≡ value_bits w 0 range → map (is_true a) c.bounds ≡ bound_bits w 1 (bound_count range) → map (is_true a) d.values ≡ value_bits x 0 range → map (is_true a) d.bounds ≡ bound_bits x 1 (bound_count range) → satisfies a (frame first c d) ≡ (some_true a first || w == x)
+frame-say : (a : List Bool) (first : List Literal) (c d : Column) (range w x : ℕ) → w < range → x < range →
+    map (is_true a) c.values ≡ value_bits w 0 range →
+    map (is_true a) c.bounds ≡ bound_bits w 1 (bound_count range) →
+    map (is_true a) d.values ≡ value_bits x 0 range →
+    map (is_true a) d.bounds ≡ bound_bits x 1 (bound_count range) →
+    satisfies a (frame first c d) ≡ (some_true a first || w == x)
 frame-say a first c d range w x hw hx cv cb dv db =
     let one = carried-say a c.values range w cv in
     let two = carried-say a d.values range x dv in
     let n = bound_count range in
     let values : satisfies a (carry_over first (carried c.values) (carried d.values)) ≡ (some_true a first || eqb w x) =
-    carry_over-say a first (carried c.values) (carried d.values) (same_length a (carried c.values) (carried d.values) _ _ one two (length-carried_bits (eqb range 2) range w x)) ∙ ap (λ (b : Bool). some_true a first || b) (rw (one, two) (carried-same range w x hw hx)) in
+    carry_over-say a first (carried c.values) (carried d.values)
+    (same_length a (carried c.values) (carried d.values) _ _ one two
+    (length-carried_bits (eqb range 2) range w x))
+    ∙ ap (λ (b : Bool). some_true a first || b) (rw (one, two) (carried-same range w x hw hx)) in
     let bounds : satisfies a (carry_over first c.bounds d.bounds) ≡ (some_true a first || same_bits (bound_bits w 1 n) (bound_bits x 1 n)) =
     carry_over-say a first c.bounds d.bounds (same_length a c.bounds d.bounds _ _ cb db (length-bound_bits n w 1 ∙ sym (length-bound_bits n x 1))) ∙ rw (cb, db) refl in
-    list_all-append (some_true a) (carry_over first (carried c.values) (carried d.values)) (carry_over first c.bounds d.bounds) ∙ rw (values, bounds) (sym (or-and_distrib_left (some_true a first) (eqb w x) (same_bits (bound_bits w 1 n) (bound_bits x 1 n))) ∙ ap (λ (b : Bool). some_true a first || b) (bounds-same range w x))
+    list_all-append (some_true a) (carry_over first (carried c.values) (carried d.values))
+    (carry_over first c.bounds d.bounds)
+    ∙ rw (values, bounds)
+    (sym
+    (or-and_distrib_left (some_true a first) (eqb w x)
+    (same_bits (bound_bits w 1 n) (bound_bits x 1 n)))
+    ∙ ap (λ (b : Bool). some_true a first || b) (bounds-same range w x))
 
 -- every variable is
-pub frames-say : (now next : List Column) (ranges ws xs : List ℕ) (a : List Bool) (rs : List RuleTree) (k v : ℕ) → length now ≡ length ranges → length next ≡ length ranges → in_ranges ws ranges ≡ true → in_ranges xs ranges ≡ true → LiteralsSay a now ranges ws → LiteralsSay a next ranges xs → satisfies a (frames rs k v now next) ≡ kept (λ u. some_true a (setters u k rs)) v ws xs
+pub frames-say :
+    (now next : List Column) (ranges ws xs : List ℕ) (a : List Bool) (rs : List RuleTree) (k v : ℕ) →
+    length now ≡ length ranges → length next ≡ length ranges → in_ranges ws ranges ≡ true →
+    in_ranges xs ranges ≡ true → LiteralsSay a now ranges ws → LiteralsSay a next ranges xs →
+    satisfies a (frames rs k v now next) ≡ kept (λ u. some_true a (setters u k rs)) v ws xs
 frames-say [] next [] [] [] a rs k v m n hw hx sw sx = refl
 frames-say [] next [] [] (x ∷ xs) a rs k v m n hw hx sw sx = absurd (false≢true hx)
 frames-say [] next [] (w ∷ ws) xs a rs k v m n hw hx sw sx = absurd (false≢true hw)
@@ -152,7 +176,9 @@ setters-none (rule ∷ rs) a v k r u h less =
     by_case true one rest = rw (one, rest) refl
     by_case false one rest = rest
 
-pub setters-say : (rs : List RuleTree) (a : List Bool) (v k i u : ℕ) (rule : RuleTree) → map (is_true a) (chosen_lits k (length rs)) ≡ value_bits (u + i) u (length rs) → slice_get rs i ≡ Some rule → some_true a (setters v k rs) ≡ sets_variable v rule.sets
+pub setters-say : (rs : List RuleTree) (a : List Bool) (v k i u : ℕ) (rule : RuleTree) →
+    map (is_true a) (chosen_lits k (length rs)) ≡ value_bits (u + i) u (length rs) →
+    slice_get rs i ≡ Some rule → some_true a (setters v k rs) ≡ sets_variable v rule.sets
 setters-say [] a v k i u rule h is = absurd cc
 setters-say (r ∷ rs) a v k zero u rule h is =
     let here : is_true a (minus k) ≡ eqb (u + 0) u = cc in

@@ -36,7 +36,10 @@ carry_over-in (l ∷ ls) [] first n f h k = refl
 carry_over-in (l ∷ ls) (m ∷ ms) first n f h k =
     let one = and_parts (lit_in n l) (clause_in n ls) h in
     let two = and_parts (lit_in n m) (clause_in n ms) k in
-    and_from _ _ (joined-in first (opposite l ∷ m ∷ []) n f (and_from _ _ one.0 (and_from _ _ two.0 refl))) (and_from _ _ (joined-in first (l ∷ opposite m ∷ []) n f (and_from _ _ one.0 (and_from _ _ two.0 refl))) (carry_over-in ls ms first n f one.1 two.1))
+    and_from _ _ (joined-in first (opposite l ∷ m ∷ []) n f (and_from _ _ one.0 (and_from _ _ two.0 refl)))
+    (and_from _ _
+    (joined-in first (l ∷ opposite m ∷ []) n f (and_from _ _ one.0 (and_from _ _ two.0 refl)))
+    (carry_over-in ls ms first n f one.1 two.1))
 
 frame-in : (first : List Literal) (c d : Column) (n : ℕ) → clause_in n first ≡ true → (clause_in n c.values && clause_in n c.bounds) ≡ true → (clause_in n d.values && clause_in n d.bounds) ≡ true → clauses_in n (frame first c d) ≡ true
 frame-in first c d n f h k =
@@ -73,16 +76,30 @@ pub as_grown : (f g : Formula) (cs : List (List Literal)) → g.vars ≡ f.vars 
 as_grown f g cs vars clauses =
     ap (λ (n : ℕ). let h : Formula = record { vars = n; clauses = g.clauses } in h) vars ∙ ap (λ (ds : List (List Literal)). let h : Formula = record { vars = f.vars; clauses = ds } in h) clauses
 
-pub carried_all : (f g : Formula) (i : ℕ) (first ls ms : List Literal) → (length ls ≤ i) ⊎ (length ms ≤ i) → g.vars ≡ f.vars → g.clauses ++ as_clauses (carry_over first (drop i ls) (drop i ms)) ≡ f.clauses ++ as_clauses (carry_over first ls ms) → g ≡ grown f f.vars (as_clauses (carry_over first ls ms))
+pub carried_all : (f g : Formula) (i : ℕ) (first ls ms : List Literal) → (length ls ≤ i) ⊎ (length ms ≤ i) →
+    g.vars ≡ f.vars →
+    g.clauses ++ as_clauses (carry_over first (drop i ls) (drop i ms))
+    ≡ f.clauses ++ as_clauses (carry_over first ls ms) →
+    g ≡ grown f f.vars (as_clauses (carry_over first ls ms))
 carried_all f g i first ls ms past vars rest =
     as_grown f g (as_clauses (carry_over first ls ms)) vars (sym (append-nil g.clauses) ∙ sym (ap (λ (cs : List (List Literal)). g.clauses ++ as_clauses cs) (carry_over-end i first ls ms past)) ∙ rest)
 
-pub frame_made : (f g h : Formula) (first ls ms ks js : List Literal) (c d : Column) → ls ≡ carried c.values → ms ≡ carried d.values → ks ≡ c.bounds → js ≡ d.bounds → g ≡ grown f f.vars (as_clauses (carry_over first ls ms)) → h ≡ grown g g.vars (as_clauses (carry_over first ks js)) → h ≡ grown f f.vars (as_clauses (frame first c d))
+pub frame_made : (f g h : Formula) (first ls ms ks js : List Literal) (c d : Column) → ls ≡ carried c.values →
+    ms ≡ carried d.values → ks ≡ c.bounds → js ≡ d.bounds →
+    g ≡ grown f f.vars (as_clauses (carry_over first ls ms)) →
+    h ≡ grown g g.vars (as_clauses (carry_over first ks js)) →
+    h ≡ grown f f.vars (as_clauses (frame first c d))
 frame_made f g h first ls ms ks js c d one two three four made more =
     grown_more f g h (carry_over first (carried c.values) (carried d.values)) (carry_over first c.bounds d.bounds) (made ∙ rw (one, two) refl) (more ∙ rw (three, four) refl)
 
 -- one more variable
-pub frames_step : (f g : Formula) (rs : List RuleTree) (k v : ℕ) (now next later after : List Column) (c d : Column) (ls : List Literal) (whole : List (List Literal)) → now ≡ c ∷ later → next ≡ d ∷ after → ls ≡ setters v k rs → g ≡ grown f f.vars (as_clauses (frame ls c d)) → f.clauses ++ as_clauses (frames rs k v now next) ≡ whole → g.clauses ++ as_clauses (frames rs k (v + 1) later after) ≡ whole
+pub frames_step :
+    (f g : Formula) (rs : List RuleTree) (k v : ℕ) (now next later after : List Column) (c d : Column)
+    (ls : List Literal) (whole : List (List Literal)) →
+    now ≡ c ∷ later → next ≡ d ∷ after → ls ≡ setters v k rs →
+    g ≡ grown f f.vars (as_clauses (frame ls c d)) →
+    f.clauses ++ as_clauses (frames rs k v now next) ≡ whole →
+    g.clauses ++ as_clauses (frames rs k (v + 1) later after) ≡ whole
 frames_step f g rs k v now next later after c d ls whole one two three made h =
     let first : frame (setters v k rs) c d ≡ frame ls c d = ap (λ (ks : List Literal). frame ks c d) (sym three) in
     let split : frames rs k v now next ≡ frame ls c d ++ frames rs k (v + 1) later after =

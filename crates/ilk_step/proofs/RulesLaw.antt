@@ -40,7 +40,10 @@ then-fits n p q one two =
       inside = list_all-append (clause_in (q p.vars).vars) p.clauses (q p.vars).clauses ∙ and_from _ _ (clauses_in-more p.vars (q p.vars).vars p.clauses next one.inside) two.inside;
     }
 
-pub then-law : (a e d : List Bool) (o ok : Bool) (n : ℕ) (p : Part) (q : ℕ → Part) → length a ≡ n → PartFits n p → PartFits p.vars (q p.vars) → Extends a p.vars p.clauses (OnlyIf o e) → (length (a ++ e) ≡ p.vars → Extends (a ++ e) (q p.vars).vars (q p.vars).clauses (OnlyIf ok d)) → Extends a (and_then p q).vars (and_then p q).clauses (OnlyIf (o && ok) (e ++ d))
+pub then-law : (a e d : List Bool) (o ok : Bool) (n : ℕ) (p : Part) (q : ℕ → Part) → length a ≡ n →
+    PartFits n p → PartFits p.vars (q p.vars) → Extends a p.vars p.clauses (OnlyIf o e) →
+    (length (a ++ e) ≡ p.vars → Extends (a ++ e) (q p.vars).vars (q p.vars).clauses (OnlyIf ok d)) →
+    Extends a (and_then p q).vars (and_then p q).clauses (OnlyIf (o && ok) (e ++ d))
 then-law a e d o ok n p q size one two first next =
     if_then_if a e d o ok p.vars (q p.vars).vars p.clauses (q p.vars).clauses (rw size one.low) two.low one.inside first (λ yes. next (first.sized e (yes, refl)))
 
@@ -65,7 +68,9 @@ settings-fits (s ∷ sets) next skip n h f k =
     let parts = and_parts (value_valid (ranges_of next) s.var s.value) (settings_valid (ranges_of next) sets) k in
     then-fits n (demand_part next (skip ∷ []) (is s.var s.value) n) (settings_part next skip sets) (demand_of-fits (is s.var s.value) next (skip ∷ []) true n h f parts.0) (settings-fits sets next skip n h f parts.1)
 
-pub rule-fits : (r : RuleTree) (now next : List Column) (skip : Literal) (n : ℕ) → columns_in n now ≡ true → columns_in n next ≡ true → ranges_of next ≡ ranges_of now → clause_in n (skip ∷ []) ≡ true → rule_valid (ranges_of now) r ≡ true → PartFits n (rule_part now next skip r n)
+pub rule-fits : (r : RuleTree) (now next : List Column) (skip : Literal) (n : ℕ) → columns_in n now ≡ true →
+    columns_in n next ≡ true → ranges_of next ≡ ranges_of now → clause_in n (skip ∷ []) ≡ true →
+    rule_valid (ranges_of now) r ≡ true → PartFits n (rule_part now next skip r n)
 rule-fits r now next skip n hn hx same_ranges f k =
     let p = demand_part now (skip ∷ []) r.guard n in
     let one = demand_of-fits r.guard now (skip ∷ []) true n hn f (rule_valid-guard (ranges_of now) r k) in
@@ -75,7 +80,9 @@ rule-fits r now next skip n hn hx same_ranges f k =
 pub skip-in : (k n : ℕ) → 0 < k → k ≤ n → clause_in n (plus k ∷ []) ≡ true
 skip-in k n low high = and_from _ _ (and_from _ _ (lt-ltb 0 k low) (le-leb k n high)) refl
 
-pub rules-fits : (rs : List RuleTree) (now next : List Column) (k n : ℕ) → columns_in n now ≡ true → columns_in n next ≡ true → ranges_of next ≡ ranges_of now → 0 < k → k + length rs ≤ n + 1 → list_all (rule_valid (ranges_of now)) rs ≡ true → PartFits n (rules_part now next k rs n)
+pub rules-fits : (rs : List RuleTree) (now next : List Column) (k n : ℕ) → columns_in n now ≡ true →
+    columns_in n next ≡ true → ranges_of next ≡ ranges_of now → 0 < k → k + length rs ≤ n + 1 →
+    list_all (rule_valid (ranges_of now)) rs ≡ true → PartFits n (rules_part now next k rs n)
 rules-fits [] now next k n hn hx same_ranges low high valid = record { low = same n; inside = refl }
 rules-fits (r ∷ rs) now next k n hn hx same_ranges low high valid =
     let parts = and_parts (rule_valid (ranges_of now) r) (list_all (rule_valid (ranges_of now)) rs) valid in
@@ -90,7 +97,12 @@ also : (x h rest : Bool) → (((x || false) || h) && (x || rest)) ≡ (x || (h &
 also true h rest = refl
 also false h rest = refl
 
-pub settings-law : (sets : List Setting) (next : List Column) (ranges xs : List ℕ) (skip : Literal) (a : List Bool) (n : ℕ) → length a ≡ n → Reads a next ranges xs → columns_in n next ≡ true → clause_in n (skip ∷ []) ≡ true → settings_valid (ranges_of next) sets ≡ true → Extends a (settings_part next skip sets n).vars (settings_part next skip sets n).clauses (OnlyIf (is_true a skip || list_all (λ s. has_value xs s.var s.value) sets) [])
+pub settings-law :
+    (sets : List Setting) (next : List Column) (ranges xs : List ℕ) (skip : Literal) (a : List Bool) (n : ℕ) →
+    length a ≡ n → Reads a next ranges xs → columns_in n next ≡ true → clause_in n (skip ∷ []) ≡ true →
+    settings_valid (ranges_of next) sets ≡ true →
+    Extends a (settings_part next skip sets n).vars (settings_part next skip sets n).clauses
+    (OnlyIf (is_true a skip || list_all (λ s. has_value xs s.var s.value) sets) [])
 settings-law [] next ranges xs skip a n size r h f k = no_more_if a n [] (is_true a skip || true) size (sym (or-true (is_true a skip)))
 settings-law (s ∷ sets) next ranges xs skip a n size r h f k =
     let parts = and_parts (value_valid (ranges_of next) s.var s.value) (settings_valid (ranges_of next) sets) k in
@@ -101,9 +113,20 @@ settings-law (s ∷ sets) next ranges xs skip a n size r h f k =
     let others = list_all (λ (t : Setting). has_value xs t.var t.value) sets in
     let law = settings-law sets next ranges xs skip a n size r h f parts.1 in
     let moved : Extends (a ++ []) rest.vars rest.clauses (OnlyIf (x || others) []) = subst (λ (u : List Bool). Extends u rest.vars rest.clauses (OnlyIf (x || others) [])) (sym (append-nil a)) law in
-    subst (λ (b : Bool). Extends a rest.vars (p.clauses ++ rest.clauses) (OnlyIf b [])) (also x here others) (then-law a [] [] ((x || false) || here) (x || others) n p (settings_part next skip sets) size (demand_of-fits (is s.var s.value) next (skip ∷ []) true n h f parts.0) (settings-fits sets next skip n h f parts.1) (demand_of-law (is s.var s.value) next ranges xs (skip ∷ []) true a n size r f parts.0) (λ _. moved))
+    subst (λ (b : Bool). Extends a rest.vars (p.clauses ++ rest.clauses) (OnlyIf b [])) (also x here others)
+    (then-law a [] [] ((x || false) || here) (x || others) n p (settings_part next skip sets) size
+    (demand_of-fits (is s.var s.value) next (skip ∷ []) true n h f parts.0)
+    (settings-fits sets next skip n h f parts.1)
+    (demand_of-law (is s.var s.value) next ranges xs (skip ∷ []) true a n size r f parts.0)
+    (λ _. moved))
 
-pub rule-law : (r : RuleTree) (now next : List Column) (ws xs : List ℕ) (skip : Literal) (a : List Bool) (n : ℕ) → length a ≡ n → Reads a now (ranges_of now) ws → Reads a next (ranges_of now) xs → columns_in n now ≡ true → columns_in n next ≡ true → ranges_of next ≡ ranges_of now → clause_in n (skip ∷ []) ≡ true → rule_valid (ranges_of now) r ≡ true → Extends a (rule_part now next skip r n).vars (rule_part now next skip r n).clauses (OnlyIf (is_true a skip || rule_met ws xs r) (demand_bits (ranges_of now) ws r.guard))
+pub rule-law :
+    (r : RuleTree) (now next : List Column) (ws xs : List ℕ) (skip : Literal) (a : List Bool) (n : ℕ) →
+    length a ≡ n → Reads a now (ranges_of now) ws → Reads a next (ranges_of now) xs →
+    columns_in n now ≡ true → columns_in n next ≡ true → ranges_of next ≡ ranges_of now →
+    clause_in n (skip ∷ []) ≡ true → rule_valid (ranges_of now) r ≡ true →
+    Extends a (rule_part now next skip r n).vars (rule_part now next skip r n).clauses
+    (OnlyIf (is_true a skip || rule_met ws xs r) (demand_bits (ranges_of now) ws r.guard))
 rule-law r now next ws xs skip a n size rn rx hn hx same_ranges f k =
     let p = demand_part now (skip ∷ []) r.guard n in
     let e = demand_bits (ranges_of now) ws r.guard in
@@ -121,7 +144,9 @@ rule-law r now next ws xs skip a n size rn rx hn hx same_ranges f k =
     let old : is_true (a ++ e) skip ≡ x = is_true-left a e skip skip_var in
     let second : length (a ++ e) ≡ m → Extends (a ++ e) rest.vars rest.clauses (OnlyIf (x || met) []) = λ long.
     subst (λ (b : Bool). Extends (a ++ e) rest.vars rest.clauses (OnlyIf (b || met) [])) old (settings-law r.sets next (ranges_of now) xs skip (a ++ e) m long (reads-more a e next (ranges_of now) xs (longer a e) rx) next_in skip_in sets) in
-    let both = then-law a e [] ((x || false) || rule_guard) (x || met) n p (settings_part next skip r.sets) size one (settings-fits r.sets next skip m next_in skip_in sets) (demand_of-law r.guard now (ranges_of now) ws (skip ∷ []) true a n size rn f guard_valid) second in
+    let both = then-law a e [] ((x || false) || rule_guard) (x || met) n p (settings_part next skip r.sets)
+    size one (settings-fits r.sets next skip m next_in skip_in sets)
+    (demand_of-law r.guard now (ranges_of now) ws (skip ∷ []) true a n size rn f guard_valid) second in
     let said = subst (λ (b : Bool). Extends a rest.vars (p.clauses ++ rest.clauses) (OnlyIf b (e ++ []))) (also x rule_guard met) both in
     subst (λ (d : List Bool). Extends a rest.vars (p.clauses ++ rest.clauses) (OnlyIf (x || rule_met ws xs r) d)) (append-nil e) said
   where
@@ -140,7 +165,13 @@ all_met-left (r ∷ rs) a e k ws xs h =
     let rest = all_met-left rs a e (k + 1) ws xs (omega arith) in
     rw (here, rest) refl
 
-pub rules-law : (rs : List RuleTree) (now next : List Column) (ws xs : List ℕ) (k : ℕ) (a : List Bool) (n : ℕ) → length a ≡ n → Reads a now (ranges_of now) ws → Reads a next (ranges_of now) xs → columns_in n now ≡ true → columns_in n next ≡ true → ranges_of next ≡ ranges_of now → 0 < k → k + length rs ≤ n + 1 → list_all (rule_valid (ranges_of now)) rs ≡ true → Extends a (rules_part now next k rs n).vars (rules_part now next k rs n).clauses (OnlyIf (all_met a k ws xs rs) (rules_bits (ranges_of now) ws rs))
+pub rules-law :
+    (rs : List RuleTree) (now next : List Column) (ws xs : List ℕ) (k : ℕ) (a : List Bool) (n : ℕ) →
+    length a ≡ n → Reads a now (ranges_of now) ws → Reads a next (ranges_of now) xs →
+    columns_in n now ≡ true → columns_in n next ≡ true → ranges_of next ≡ ranges_of now → 0 < k →
+    k + length rs ≤ n + 1 → list_all (rule_valid (ranges_of now)) rs ≡ true →
+    Extends a (rules_part now next k rs n).vars (rules_part now next k rs n).clauses
+    (OnlyIf (all_met a k ws xs rs) (rules_bits (ranges_of now) ws rs))
 rules-law [] now next ws xs k a n size rn rx hn hx same_ranges low high valid = no_more_if a n [] true size refl
 rules-law (r ∷ rs) now next ws xs k a n size rn rx hn hx same_ranges low high valid =
     let parts = and_parts (rule_valid (ranges_of now) r) (list_all (rule_valid (ranges_of now)) rs) valid in
@@ -157,8 +188,17 @@ rules-law (r ∷ rs) now next ws xs k a n size rn rx hn hx same_ranges low high 
     let more : 0 < k + 1 = omega arith in
     let old : all_met (a ++ e) (k + 1) ws xs rs ≡ all_met a (k + 1) ws xs rs = all_met-left rs a e (k + 1) ws xs (rw size (omega arith)) in
     let second : length (a ++ e) ≡ m → Extends (a ++ e) rest.vars rest.clauses (OnlyIf (all_met a (k + 1) ws xs rs) (rules_bits (ranges_of now) ws rs)) = λ long.
-    subst (λ (b : Bool). Extends (a ++ e) rest.vars rest.clauses (OnlyIf b (rules_bits (ranges_of now) ws rs))) old (rules-law rs now next ws xs (k + 1) (a ++ e) m long (reads-more a e now (ranges_of now) ws (longer a e) rn) (reads-more a e next (ranges_of now) xs (longer a e) rx) now_in next_in same_ranges more fits parts.1) in
-    then-law a e (rules_bits (ranges_of now) ws rs) (value a k || rule_met ws xs r) (all_met a (k + 1) ws xs rs) n p (rules_part now next (k + 1) rs) size one (rules-fits rs now next (k + 1) m now_in next_in same_ranges more fits parts.1) (rule-law r now next ws xs (plus k) a n size rn rx hn hx same_ranges skip_in parts.0) second
+    subst
+    (λ (b : Bool). Extends (a ++ e) rest.vars rest.clauses (OnlyIf b (rules_bits (ranges_of now) ws rs)))
+    old
+    (rules-law rs now next ws xs (k + 1) (a ++ e) m long
+    (reads-more a e now (ranges_of now) ws (longer a e) rn)
+    (reads-more a e next (ranges_of now) xs (longer a e) rx) now_in next_in same_ranges more fits
+    parts.1) in
+    then-law a e (rules_bits (ranges_of now) ws rs) (value a k || rule_met ws xs r)
+    (all_met a (k + 1) ws xs rs) n p (rules_part now next (k + 1) rs) size one
+    (rules-fits rs now next (k + 1) m now_in next_in same_ranges more fits parts.1)
+    (rule-law r now next ws xs (plus k) a n size rn rx hn hx same_ranges skip_in parts.0) second
 
 -- where one rule is chosen, only that rule has to be met
 
@@ -172,7 +212,9 @@ none_met (rule ∷ rs) a k r u ws xs h less =
     let rest = none_met rs a (k + 1) r (u + 1) ws xs others (omega arith) in
     rw (skipped, rest) refl
 
-pub one_met : (rs : List RuleTree) (a : List Bool) (k i u : ℕ) (rule : RuleTree) (ws xs : List ℕ) → map (is_true a) (chosen_lits k (length rs)) ≡ value_bits (u + i) u (length rs) → slice_get rs i ≡ Some rule → all_met a k ws xs rs ≡ rule_met ws xs rule
+pub one_met : (rs : List RuleTree) (a : List Bool) (k i u : ℕ) (rule : RuleTree) (ws xs : List ℕ) →
+    map (is_true a) (chosen_lits k (length rs)) ≡ value_bits (u + i) u (length rs) →
+    slice_get rs i ≡ Some rule → all_met a k ws xs rs ≡ rule_met ws xs rule
 one_met [] a k i u rule ws xs h at = absurd cc
 one_met (r ∷ rs) a k zero u rule ws xs h at =
     let here : not (value a k) ≡ eqb (u + 0) u = cc in

@@ -25,34 +25,52 @@ use Rattle.ilk_step.proofs.RulesLaw.{rules-fits}
 pub next_part : (f g h : Formula) (p : Part) (q : ℕ → Part) → g ≡ with_part f p → h ≡ with_part g (q g.vars) → h ≡ with_part f (and_then p q)
 next_part f g h p q first next = next ∙ ap (λ (k : Formula). with_part k (q k.vars)) first ∙ with_part-and_then f p q
 
-pub settings_step : (f g : Formula) (next : List Column) (skip : Literal) (s : Setting) (all rest : List Setting) → all ≡ s ∷ rest → g ≡ with_part f (demand_part next (skip ∷ []) (is s.var s.value) f.vars) → with_part g (settings_part next skip rest g.vars) ≡ with_part f (settings_part next skip all f.vars)
+pub settings_step :
+    (f g : Formula) (next : List Column) (skip : Literal) (s : Setting) (all rest : List Setting) →
+    all ≡ s ∷ rest → g ≡ with_part f (demand_part next (skip ∷ []) (is s.var s.value) f.vars) →
+    with_part g (settings_part next skip rest g.vars) ≡ with_part f (settings_part next skip all f.vars)
 settings_step f g next skip s all rest split made =
     ap (λ (k : Formula). with_part k (settings_part next skip rest k.vars)) made
     ∙ with_part-and_then f (demand_part next (skip ∷ []) (is s.var s.value) f.vars) (settings_part next skip rest)
     ∙ ap (λ (ss : List Setting). with_part f (settings_part next skip ss f.vars)) (sym split)
 
-pub rules_step : (f g : Formula) (now next : List Column) (k : ℕ) (r : RuleTree) (all rest : List RuleTree) → all ≡ r ∷ rest → g ≡ with_part f (rule_part now next (plus k) r f.vars) → with_part g (rules_part now next (k + 1) rest g.vars) ≡ with_part f (rules_part now next k all f.vars)
+pub rules_step : (f g : Formula) (now next : List Column) (k : ℕ) (r : RuleTree) (all rest : List RuleTree) →
+    all ≡ r ∷ rest → g ≡ with_part f (rule_part now next (plus k) r f.vars) →
+    with_part g (rules_part now next (k + 1) rest g.vars) ≡ with_part f (rules_part now next k all f.vars)
 rules_step f g now next k r all rest split made =
     ap (λ (u : Formula). with_part u (rules_part now next (k + 1) rest u.vars)) made
     ∙ with_part-and_then f (rule_part now next (plus k) r f.vars) (rules_part now next (k + 1) rest)
     ∙ ap (λ (rs : List RuleTree). with_part f (rules_part now next k rs f.vars)) (sym split)
 
 -- the choice, the rules and the frames are a step
-pub step_made : (f g h e : Formula) (rs : List RuleTree) (now next : List Column) → g ≡ with_part f (choice_part (length rs) f.vars) → h ≡ with_part g (rules_part now next (f.vars + 1) rs g.vars) → e ≡ with_part h (frames_part rs (f.vars + 1) now next h.vars) → e ≡ with_part f (step_part rs now next f.vars)
+pub step_made : (f g h e : Formula) (rs : List RuleTree) (now next : List Column) →
+    g ≡ with_part f (choice_part (length rs) f.vars) →
+    h ≡ with_part g (rules_part now next (f.vars + 1) rs g.vars) →
+    e ≡ with_part h (frames_part rs (f.vars + 1) now next h.vars) →
+    e ≡ with_part f (step_part rs now next f.vars)
 step_made f g h e rs now next choice asked carried =
-    next_part f g e (choice_part (length rs) f.vars) (λ m. and_then (rules_part now next (f.vars + 1) rs m) (frames_part rs (f.vars + 1) now next)) choice (next_part g h e (rules_part now next (f.vars + 1) rs g.vars) (frames_part rs (f.vars + 1) now next) asked carried)
+    next_part f g e (choice_part (length rs) f.vars)
+    (λ m. and_then (rules_part now next (f.vars + 1) rs m) (frames_part rs (f.vars + 1) now next)) choice
+    (next_part g h e (rules_part now next (f.vars + 1) rs g.vars) (frames_part rs (f.vars + 1) now next)
+    asked carried)
 
 -- in the words of the calls that add them
 pub choice_made : (f g : Formula) (rules : List Rule) (m : ℕ) → m ≡ length rules → g ≡ with_part f (choice_part m f.vars) → g ≡ with_part f (choice_part (length (map rule_tree rules)) f.vars)
 choice_made f g rules m count made = made ∙ ap (λ (k : ℕ). with_part f (choice_part k f.vars)) (count ∙ sym (length-map rules rule_tree))
 
-pub rules_made : (f g h : Formula) (now next : List Column) (rules us : List Rule) (first : ℕ) → first ≡ f.vars → us ≡ rules → h ≡ with_part g (rules_part now next (first + 1) (map rule_tree us) g.vars) → h ≡ with_part g (rules_part now next (f.vars + 1) (map rule_tree rules) g.vars)
+pub rules_made : (f g h : Formula) (now next : List Column) (rules us : List Rule) (first : ℕ) →
+    first ≡ f.vars → us ≡ rules →
+    h ≡ with_part g (rules_part now next (first + 1) (map rule_tree us) g.vars) →
+    h ≡ with_part g (rules_part now next (f.vars + 1) (map rule_tree rules) g.vars)
 rules_made f g h now next rules us first begins same made =
     made
     ∙ ap (λ (k : ℕ). with_part g (rules_part now next (k + 1) (map rule_tree us) g.vars)) begins
     ∙ ap (λ (vs : List Rule). with_part g (rules_part now next (f.vars + 1) (map rule_tree vs) g.vars)) same
 
-pub frames_made : (f h e : Formula) (now next : List Column) (rules us : List Rule) (first : ℕ) → first ≡ f.vars → us ≡ rules → e ≡ with_part h (frames_part (map rule_tree us) (first + 1) now next h.vars) → e ≡ with_part h (frames_part (map rule_tree rules) (f.vars + 1) now next h.vars)
+pub frames_made : (f h e : Formula) (now next : List Column) (rules us : List Rule) (first : ℕ) →
+    first ≡ f.vars → us ≡ rules →
+    e ≡ with_part h (frames_part (map rule_tree us) (first + 1) now next h.vars) →
+    e ≡ with_part h (frames_part (map rule_tree rules) (f.vars + 1) now next h.vars)
 frames_made f h e now next rules us first begins same made =
     made
     ∙ ap (λ (k : ℕ). with_part h (frames_part (map rule_tree us) (k + 1) now next h.vars)) begins
@@ -63,7 +81,11 @@ pub choice_room : (f g : Formula) (rs : List RuleTree) → g ≡ with_part f (ch
 choice_room f g rs made = let vars = ap (λ (u : Formula). u.vars) made in let low = choice-low (length rs) f.vars in omega (arith, vars, low)
 
 -- no variable is taken away
-pub rules_room : (f g h : Formula) (rs : List RuleTree) (now next : List Column) → g ≡ with_part f (choice_part (length rs) f.vars) → h ≡ with_part g (rules_part now next (f.vars + 1) rs g.vars) → columns_in f.vars now ≡ true → columns_in f.vars next ≡ true → ranges_of next ≡ ranges_of now → list_all (rule_valid (ranges_of now)) rs ≡ true → g.vars ≤ h.vars
+pub rules_room : (f g h : Formula) (rs : List RuleTree) (now next : List Column) →
+    g ≡ with_part f (choice_part (length rs) f.vars) →
+    h ≡ with_part g (rules_part now next (f.vars + 1) rs g.vars) → columns_in f.vars now ≡ true →
+    columns_in f.vars next ≡ true → ranges_of next ≡ ranges_of now →
+    list_all (rule_valid (ranges_of now)) rs ≡ true → g.vars ≤ h.vars
 rules_room f g h rs now next choice asked hn hx same valid =
     let room = choice_room f g rs choice in
     let more : f.vars ≤ g.vars = omega arith in

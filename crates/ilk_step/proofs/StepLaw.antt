@@ -75,7 +75,9 @@ after_choice rs now next k m = and_then (rules_part now next k rs m) (frames_par
 abbrev pub leads : List ℕ → List ℕ → RuleTree → Bool
 leads ws xs rule = rule_met ws xs rule && kept (λ v. sets_variable v rule.sets) 0 ws xs
 
-after-fits : (rs : List RuleTree) (now next : List Column) (k m : ℕ) → columns_in m now ≡ true → columns_in m next ≡ true → ranges_of next ≡ ranges_of now → 0 < k → k + length rs ≤ m + 1 → list_all (rule_valid (ranges_of now)) rs ≡ true → PartFits m (after_choice rs now next k m)
+after-fits : (rs : List RuleTree) (now next : List Column) (k m : ℕ) → columns_in m now ≡ true →
+    columns_in m next ≡ true → ranges_of next ≡ ranges_of now → 0 < k → k + length rs ≤ m + 1 →
+    list_all (rule_valid (ranges_of now)) rs ≡ true → PartFits m (after_choice rs now next k m)
 after-fits rs now next k m hn hx same low high valid =
     let p = rules_part now next k rs m in
     let one = rules-fits rs now next k m hn hx same low high valid in
@@ -83,7 +85,15 @@ after-fits rs now next k m hn hx same low high valid =
     let fits : k + length rs ≤ p.vars + 1 = omega arith in
     then-fits m p (frames_part rs k now next) one (frames-fits rs now next k p.vars low fits (columns_in-more m p.vars now grows hn) (columns_in-more m p.vars next grows hx))
 
-after-law : (rs : List RuleTree) (now next : List Column) (ws xs : List ℕ) (a : List Bool) (k m r : ℕ) (rule : RuleTree) → Copies a m now next ws xs → 0 < k → k + length rs ≤ m + 1 → list_all (rule_valid (ranges_of now)) rs ≡ true → in_ranges ws (ranges_of now) ≡ true → in_ranges xs (ranges_of now) ≡ true → map (is_true a) (chosen_lits k (length rs)) ≡ value_bits r 0 (length rs) → slice_get rs r ≡ Some rule → Extends a (after_choice rs now next k m).vars (after_choice rs now next k m).clauses (OnlyIf (leads ws xs rule) (rules_bits (ranges_of now) ws rs))
+after-law :
+    (rs : List RuleTree) (now next : List Column) (ws xs : List ℕ) (a : List Bool) (k m r : ℕ)
+    (rule : RuleTree) →
+    Copies a m now next ws xs → 0 < k → k + length rs ≤ m + 1 →
+    list_all (rule_valid (ranges_of now)) rs ≡ true → in_ranges ws (ranges_of now) ≡ true →
+    in_ranges xs (ranges_of now) ≡ true →
+    map (is_true a) (chosen_lits k (length rs)) ≡ value_bits r 0 (length rs) → slice_get rs r ≡ Some rule →
+    Extends a (after_choice rs now next k m).vars (after_choice rs now next k m).clauses
+    (OnlyIf (leads ws xs rule) (rules_bits (ranges_of now) ws rs))
 after-law rs now next ws xs a k m r rule c low high valid hw hx chosen at =
     let p = rules_part now next k rs m in
     let e = rules_bits (ranges_of now) ws rs in
@@ -96,7 +106,9 @@ after-law rs now next ws xs a k m r rule c low high valid hw hx chosen at =
     let rx : Reads a next (ranges_of now) xs = reads a next (ranges_of now) xs m c.size c.next_in c.next_say hx in
     let place : r ≡ 0 + r = omega arith in
     let here : map (is_true a) (chosen_lits k (length rs)) ≡ value_bits (0 + r) 0 (length rs) = chosen ∙ ap (λ (i : ℕ). value_bits i 0 (length rs)) place in
-    let first : Extends a p.vars p.clauses (OnlyIf met e) = subst (λ (b : Bool). Extends a p.vars p.clauses (OnlyIf b e)) (one_met rs a k r 0 rule ws xs here at) (rules-law rs now next ws xs k a m c.size rn rx c.now_in c.next_in c.same low high valid) in
+    let first : Extends a p.vars p.clauses (OnlyIf met e) = subst
+    (λ (b : Bool). Extends a p.vars p.clauses (OnlyIf b e)) (one_met rs a k r 0 rule ws xs here at)
+    (rules-law rs now next ws xs k a m c.size rn rx c.now_in c.next_in c.same low high valid) in
     let second : length (a ++ e) ≡ p.vars → Extends (a ++ e) p.vars (frames rs k 0 now next) (OnlyIf keeps []) = λ long.
     let d = copies-left a e m p.vars now next ws xs grows long c in
     let inside : clause_in m (chosen_lits k (length rs)) ≡ true = chosen_lits-in (length rs) k m low high in
@@ -104,14 +116,20 @@ after-law rs now next ws xs a k m r rule c low high valid hw hx chosen at =
     let still : map (is_true (a ++ e)) (chosen_lits k (length rs)) ≡ value_bits (0 + r) 0 (length rs) = map-left a e (chosen_lits k (length rs)) (rw size inside) ∙ here in
     let now_long : length now ≡ length (ranges_of now) = sym (length-map now (λ (column : Column). length column.values)) in
     let next_long : length next ≡ length (ranges_of now) = sym (length-map next (λ (column : Column). length column.values)) ∙ ap length c.same in
-    let says : satisfies (a ++ e) (frames rs k 0 now next) ≡ keeps = frames-say now next (ranges_of now) ws xs (a ++ e) rs k 0 now_long next_long hw hx d.now_say d.next_say ∙ kept-congr (λ u. some_true (a ++ e) (setters u k rs)) (λ u. sets_variable u rule.sets) 0 ws xs (λ u. setters-say rs (a ++ e) u k r 0 rule still at) in
+    let says : satisfies (a ++ e) (frames rs k 0 now next) ≡ keeps =
+    frames-say now next (ranges_of now) ws xs (a ++ e) rs k 0 now_long next_long hw hx d.now_say
+    d.next_say
+    ∙ kept-congr (λ u. some_true (a ++ e) (setters u k rs)) (λ u. sets_variable u rule.sets) 0 ws xs
+    (λ u. setters-say rs (a ++ e) u k r 0 rule still at) in
     no_more_if (a ++ e) p.vars (frames rs k 0 now next) keeps long says in
     let both = then-law a e [] met keeps m p (frames_part rs k now next) c.size one (frames-fits rs now next k p.vars low fits (columns_in-more m p.vars now grows c.now_in) (columns_in-more m p.vars next grows c.next_in)) first second in
     subst (λ (d : List Bool). Extends a p.vars (p.clauses ++ frames rs k 0 now next) (OnlyIf (met && keeps) d)) (append-nil e) both
 
 -- the whole step
 
-pub step-fits : (rules : List RuleTree) (now next : List Column) (n : ℕ) → columns_in n now ≡ true → columns_in n next ≡ true → ranges_of next ≡ ranges_of now → list_all (rule_valid (ranges_of now)) rules ≡ true → PartFits n (step_part rules now next n)
+pub step-fits : (rules : List RuleTree) (now next : List Column) (n : ℕ) → columns_in n now ≡ true →
+    columns_in n next ≡ true → ranges_of next ≡ ranges_of now →
+    list_all (rule_valid (ranges_of now)) rules ≡ true → PartFits n (step_part rules now next n)
 step-fits rules now next n hn hx same valid =
     let count = length rules in
     let p = choice_part count n in
@@ -120,7 +138,11 @@ step-fits rules now next n hn hx same valid =
     let more = first.low in
     then-fits n p (after_choice rules now next (n + 1)) first (after-fits rules now next (n + 1) p.vars (columns_in-more n p.vars now more hn) (columns_in-more n p.vars next more hx) same (omega arith) (omega (arith, grows)) valid)
 
-pub step-law : (rules : List RuleTree) (now next : List Column) (ws xs : List ℕ) (a : List Bool) (n : ℕ) → Copies a n now next ws xs → list_all (rule_valid (ranges_of now)) rules ≡ true → in_ranges ws (ranges_of now) ≡ true → in_ranges xs (ranges_of now) ≡ true → Extends a (step_part rules now next n).vars (step_part rules now next n).clauses (IsStep (ranges_of now) rules ws xs)
+pub step-law : (rules : List RuleTree) (now next : List Column) (ws xs : List ℕ) (a : List Bool) (n : ℕ) →
+    Copies a n now next ws xs → list_all (rule_valid (ranges_of now)) rules ≡ true →
+    in_ranges ws (ranges_of now) ≡ true → in_ranges xs (ranges_of now) ≡ true →
+    Extends a (step_part rules now next n).vars (step_part rules now next n).clauses
+    (IsStep (ranges_of now) rules ws xs)
 step-law rules now next ws xs a n c valid hw hx =
     in_words a q.vars (p.clauses ++ q.clauses) _ (IsStep (ranges_of now) rules ws xs) to from (in_turn a p.vars q.vars p.clauses q.clauses (IsChoice count) after (omega (arith, c.size, grows)) fits.low (choice-in count n) first next_law)
   where

@@ -32,7 +32,9 @@ fn add_variables(alloc: Global, cnf: &mut Cnf, rules: u64) -> Result<Clause, All
 // exactly one rule is chosen.
 pub fn add_choice(alloc: Global, cnf: &mut Cnf, rules: u64) -> Result<(), AllocError>
     ensures made { OnOk result (cnf.new ≡ with_part cnf.old (choice_part rules cnf.old.vars)) }
-    ensures law { OnOk result ((a : List Bool) → length a ≡ cnf.old.vars → PartExtends a (choice_part rules cnf.old.vars) (IsChoice rules)) }
+    ensures law { OnOk result
+        ((a : List Bool) → length a ≡ cnf.old.vars →
+        PartExtends a (choice_part rules cnf.old.vars) (IsChoice rules)) }
 {
     let chosen = add_variables(alloc, cnf, rules)?;
     one_of(alloc, cnf, &chosen)?;

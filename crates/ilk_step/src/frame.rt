@@ -37,7 +37,8 @@ fn setters(alloc: Global, v: u64, first: u64, rules: &[Rule]) -> Result<Lits, Al
 fn add_pair(alloc: Global, cnf: &mut Cnf, first: &Lits, l: Lit, m: Lit) -> Result<(), AllocError>
     requires first { IsTrue (clause_in cnf.old.vars first.now) }
     requires pair { IsTrue (clause_in cnf.old.vars (l ∷ m ∷ [])) }
-    ensures { OnOk result (cnf.new ≡ grown cnf.old cnf.old.vars (as_clause (first.now ++ l ∷ m ∷ []))) }
+    ensures { OnOk result
+        (cnf.new ≡ grown cnf.old cnf.old.vars (as_clause (first.now ++ l ∷ m ∷ []))) }
 {
     let mut lits = first.copy()?;
     lits.push(l)?;
@@ -50,7 +51,9 @@ fn add_pair(alloc: Global, cnf: &mut Cnf, first: &Lits, l: Lit, m: Lit) -> Resul
 fn add_same(alloc: Global, cnf: &mut Cnf, first: &Lits, l: Lit, m: Lit) -> Result<(), AllocError>
     requires first { IsTrue (clause_in cnf.old.vars first.now) }
     requires pair { IsTrue (clause_in cnf.old.vars (l ∷ m ∷ [])) }
-    ensures { OnOk result (cnf.new ≡ grown cnf.old cnf.old.vars (as_clauses (carry_over first.now (l ∷ []) (m ∷ [])))) }
+    ensures { OnOk result
+        (cnf.new
+        ≡ grown cnf.old cnf.old.vars (as_clauses (carry_over first.now (l ∷ []) (m ∷ [])))) }
 {
     add_pair(alloc, cnf, first, l.negated(), m)?;
     add_pair(alloc, cnf, first, l, m.negated())?;
@@ -69,7 +72,9 @@ fn carry_over(
     requires first { IsTrue (clause_in cnf.old.vars first.now) }
     requires now { IsTrue (clause_in cnf.old.vars now.now) }
     requires next { IsTrue (clause_in cnf.old.vars next.now) }
-    ensures { OnOk result (cnf.new ≡ grown cnf.old cnf.old.vars (as_clauses (carry_over first.now now.now next.now))) }
+    ensures { OnOk result
+        (cnf.new
+        ≡ grown cnf.old cnf.old.vars (as_clauses (carry_over first.now now.now next.now))) }
 {
     for i in 0..now.len().min(next.len()) {
         add_same(alloc, cnf, first, now[i], next[i])?;
@@ -98,7 +103,8 @@ fn add_frame(
 ) -> Result<(), AllocError>
     requires first { IsTrue (clause_in cnf.old.vars first.now) }
     requires columns { IsTrue (columns_in cnf.old.vars (now.now ∷ next.now ∷ [])) }
-    ensures { OnOk result (cnf.new ≡ grown cnf.old cnf.old.vars (as_clauses (frame first.now now.now next.now))) }
+    ensures { OnOk result
+        (cnf.new ≡ grown cnf.old cnf.old.vars (as_clauses (frame first.now now.now next.now))) }
 {
     carry_over(
         alloc,
@@ -132,7 +138,10 @@ pub fn add_frames(
     requires same { ranges_of next.now ≡ ranges_of now.now }
     requires from_1 { 0 < first }
     requires numbered { first + length rules.now ≤ cnf.old.vars + 1 }
-    ensures { OnOk result (cnf.new ≡ with_part cnf.old (frames_part (map rule_tree rules.now) first now.now next.now cnf.old.vars)) }
+    ensures { OnOk result
+        (cnf.new
+        ≡ with_part cnf.old
+        (frames_part (map rule_tree rules.now) first now.now next.now cnf.old.vars)) }
 {
     for (v, column) in now.as_slice().iter().enumerate() {
         let _ = cnf.vars();

@@ -31,8 +31,10 @@ fn add_settings(
 ) -> Result<(), AllocError>
     requires next { IsTrue (columns_in cnf.old.vars next.now) }
     requires skip { IsTrue (clause_in cnf.old.vars (skip ∷ [])) }
-    requires valid { IsTrue (list_all (λ s. value_valid (ranges_of next.now) s.var s.value) sets.now) }
-    ensures { OnOk result (cnf.new ≡ with_part cnf.old (settings_part next.now skip sets.now cnf.old.vars)) }
+    requires valid { IsTrue
+        (list_all (λ s. value_valid (ranges_of next.now) s.var s.value) sets.now) }
+    ensures { OnOk result
+        (cnf.new ≡ with_part cnf.old (settings_part next.now skip sets.now cnf.old.vars)) }
 {
     for s in sets {
         demand(alloc, cnf, next, &[skip], &set_form(*s))?;
@@ -55,7 +57,10 @@ fn add_rule(
     requires same { ranges_of next.now ≡ ranges_of now.now }
     requires skip { IsTrue (clause_in cnf.old.vars (skip ∷ [])) }
     requires valid { IsTrue (rule_valid (ranges_of now.now) (rule_tree rule.now)) }
-    ensures { OnOk result (cnf.new ≡ with_part cnf.old (rule_part now.now next.now skip (rule_tree rule.now) cnf.old.vars)) }
+    ensures { OnOk result
+        (cnf.new
+        ≡ with_part cnf.old
+        (rule_part now.now next.now skip (rule_tree rule.now) cnf.old.vars)) }
 {
     demand(alloc, cnf, now, &[skip], &rule.guard)?;
     add_settings(alloc, cnf, next, skip, rule.sets.as_slice())?;
@@ -78,7 +83,10 @@ pub fn add_rules(
     requires from_1 { 0 < first }
     requires numbered { first + length rules.now ≤ cnf.old.vars + 1 }
     requires valid { IsTrue (list_all (rule_valid (ranges_of now.now)) (map rule_tree rules.now)) }
-    ensures { OnOk result (cnf.new ≡ with_part cnf.old (rules_part now.now next.now first (map rule_tree rules.now) cnf.old.vars)) }
+    ensures { OnOk result
+        (cnf.new
+        ≡ with_part cnf.old
+        (rules_part now.now next.now first (map rule_tree rules.now) cnf.old.vars)) }
 {
     let mut k = first;
     for rule in rules {

@@ -34,21 +34,42 @@ pub fn add_step(
     requires same { ranges_of next.now ≡ ranges_of now.now }
     requires few { length rules.now < 2 ^ 32 }
     requires valid { IsTrue (list_all (rule_valid (ranges_of now.now)) (map rule_tree rules.now)) }
-    ensures choice { IfOk result (λ choice. choice ≡ record { first = cnf.old.vars + 1; rules = length rules.now }) }
-    ensures made { OnOk result (cnf.new ≡ with_part cnf.old (step_part (map rule_tree rules.now) now.now next.now cnf.old.vars)) }
+    ensures choice { IfOk result
+        (λ choice. choice ≡ record { first = cnf.old.vars + 1; rules = length rules.now }) }
+    ensures made { OnOk result
+        (cnf.new
+        ≡ with_part cnf.old
+        (step_part (map rule_tree rules.now) now.now next.now cnf.old.vars)) }
 
     // Where the one copy has the values ws and the next the values xs, in exactly one way for each
     // rule that leads from ws to xs.
-    ensures law { OnOk result ((a : List Bool) (ws xs : List ℕ) → length a ≡ cnf.old.vars → LiteralsSay a now.now (ranges_of now.now) ws → LiteralsSay a next.now (ranges_of now.now) xs → IsTrue (in_ranges ws (ranges_of now.now)) → IsTrue (in_ranges xs (ranges_of now.now)) → PartExtends a (step_part (map rule_tree rules.now) now.now next.now cnf.old.vars) (IsStep (ranges_of now.now) (map rule_tree rules.now) ws xs)) }
+    ensures law { OnOk result
+        ((a : List Bool) (ws xs : List ℕ) → length a ≡ cnf.old.vars →
+        LiteralsSay a now.now (ranges_of now.now) ws →
+        LiteralsSay a next.now (ranges_of now.now) xs →
+        IsTrue (in_ranges ws (ranges_of now.now)) →
+        IsTrue (in_ranges xs (ranges_of now.now)) →
+        PartExtends a (step_part (map rule_tree rules.now) now.now next.now cnf.old.vars)
+        (IsStep (ranges_of now.now) (map rule_tree rules.now) ws xs)) }
 
     // There the variables of the choice say that it is that rule, whatever follows the step.
-    ensures exact { OnOk result ((a c : List Bool) (ws xs : List ℕ) (r : ℕ) → length a ≡ cnf.old.vars → step_values (map rule_tree rules.now) ws r ≡ Some xs → Chooses (a ++ (step_bits (ranges_of now.now) (map rule_tree rules.now) ws r ++ c)) (cnf.old.vars + 1) (length rules.now) r) }
+    ensures exact { OnOk result
+        ((a c : List Bool) (ws xs : List ℕ) (r : ℕ) → length a ≡ cnf.old.vars →
+        step_values (map rule_tree rules.now) ws r ≡ Some xs →
+        Chooses (a ++ (step_bits (ranges_of now.now) (map rule_tree rules.now) ws r ++ c))
+        (cnf.old.vars + 1) (length rules.now) r) }
 
     // At most two variables and four clauses for each rule and one clause more, a variable and two
     // clauses for each constructor of a guard, a clause for each setting, two for each literal of a
     // copy.
-    ensures vars { OnOk result (cnf.new.vars ≤ cnf.old.vars + 2 * length rules.now + guards_size (map rule_tree rules.now)) }
-    ensures clauses { OnOk result (length cnf.new.clauses ≤ length cnf.old.clauses + (4 * length rules.now + 1 + 2 * guards_size (map rule_tree rules.now) + settings_count (map rule_tree rules.now) + 2 * literals_count now.now)) }
+    ensures vars { OnOk result
+        (cnf.new.vars
+        ≤ cnf.old.vars + 2 * length rules.now + guards_size (map rule_tree rules.now)) }
+    ensures clauses { OnOk result
+        (length cnf.new.clauses
+        ≤ length cnf.old.clauses +
+        (4 * length rules.now + 1 + 2 * guards_size (map rule_tree rules.now) +
+        settings_count (map rule_tree rules.now) + 2 * literals_count now.now)) }
 {
     let first = cnf.vars() + 1;
     add_choice(alloc, cnf, rules.len())?;

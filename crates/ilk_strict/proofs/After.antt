@@ -45,7 +45,9 @@ other-stays p s t r route now new changes q one its apart it = record {
   state = ap (λ (routes : List RouteState). slice_get routes q) changes.routes ∙ slice_get-set_other s.routes r q new (λ e. apart (sym e)) ∙ it.state;
 }
 
-pub after-cases : (p : PlantLists) (s t : State) (r : ℕ) (route : Route) (now new : RouteState) → ChangesRoute p s t r route now new → (q : ℕ) (one : Route) (its : RouteState) → RouteIn p t q one its → ((q ≡ r) × (one ≡ route) × (its ≡ new)) ⊎ ((q ≡ r → ⊥) × RouteIn p s q one its)
+pub after-cases : (p : PlantLists) (s t : State) (r : ℕ) (route : Route) (now new : RouteState) →
+    ChangesRoute p s t r route now new → (q : ℕ) (one : Route) (its : RouteState) → RouteIn p t q one its →
+    ((q ≡ r) × (one ≡ route) × (its ≡ new)) ⊎ ((q ≡ r → ⊥) × RouteIn p s q one its)
 after-cases p s t r route now new changes q one its it =
     elim (set-cases s.routes r q now new its changes.state (sym (ap (λ (routes : List RouteState). slice_get routes q) changes.routes) ∙ it.state)) [
       | inl here ↦ inl (here.0, same_Some one route (sym it.known ∙ ap (slice_get p.routes) here.0 ∙ changes.known), here.1)

@@ -21,7 +21,15 @@ still-closed boards k m at = elim (cases_eq m k) [
 pub open-before : (boards : List Aspect) (k m : ℕ) → slice_get (set boards k Closed) m ≡ Some Open → (slice_get boards m ≡ Some Open) × (m ≡ k → ⊥)
 open-before boards k m at = elim (slice_get_set boards k m Closed Open at) [
   | inl same ↦ cc
-  | inr was ↦ (was, λ e. (let now : slice_get (set boards k Closed) m ≡ Some Closed = ap (slice_get (set boards k Closed)) e ∙ slice_get-set_same boards k Closed (slice_get_within boards k Open (ap (slice_get boards) (sym e) ∙ was)) in let bad : Some Closed ≡ Some Open = sym now ∙ at in absurd (cc)))
+  | inr was ↦ (
+    was,
+    λ e.
+        (let now : slice_get (set boards k Closed) m ≡ Some Closed =
+        ap (slice_get (set boards k Closed)) e
+        ∙ slice_get-set_same boards k Closed
+        (slice_get_within boards k Open (ap (slice_get boards) (sym e) ∙ was)) in
+        let bad : Some Closed ≡ Some Open = sym now ∙ at in absurd (cc)),
+  )
 ]
 
 -- another board isn't

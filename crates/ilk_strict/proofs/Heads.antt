@@ -55,7 +55,13 @@ pub record GoesOn (p : PlantLists) (s : State) (x : ℕ) (d : Dir) (y : ℕ) : T
   pub vacant : (j z : ℕ) → k ≤ j → slice_get route.path j ≡ Some z → is_occupied s z ≡ false
   -- a train at the board passes it while it is Open, and it is that of the route, which is Locked; without a board the
   -- route is Occupied, or Locked with its source Closed
-  pub board : ((board_of p x d ≡ Some route.source) × (now.mode ≡ Locked) × (k ≡ 0) × (slice_get s.boards route.source ≡ Some Open)) ⊎ ((board_of p x d ≡ None) × ((now.mode ≡ Occupied) ⊎ ((now.mode ≡ Locked) × (slice_get s.boards route.source ≡ Some Closed))))
+  pub board :
+      ((board_of p x d ≡ Some route.source) × (now.mode ≡ Locked) × (k ≡ 0) ×
+      (slice_get s.boards route.source ≡ Some Open))
+      ⊎
+      ((board_of p x d ≡ None) ×
+      ((now.mode ≡ Occupied)
+      ⊎ ((now.mode ≡ Locked) × (slice_get s.boards route.source ≡ Some Closed))))
 
 open-is : (aspect : Option Aspect) → is_some_and aspect is_open ≡ true → aspect ≡ Some Open
 open-is None h = cc
@@ -113,7 +119,10 @@ module _ (p : PlantLists) (plant : IsPlant p) (strict : IsStrict p) (s : State) 
       open-for x y m d board shown leads open_for first.0 first.1
 
   -- a point that faces ahead on a path leads to the next section of the path
-  facing-set : (r : ℕ) (route : Route) (source : Board) → IsFrom p r route source → (before i x y z : ℕ) → slice_get (source.section ∷ route.path) i ≡ Some before → slice_get route.path i ≡ Some x → slice_get route.path (suc i) ≡ Some z → (to_leg : LeadsToLeg p s x source.dir y) → IsSet p s route before i x → y ≡ z
+  facing-set : (r : ℕ) (route : Route) (source : Board) → IsFrom p r route source → (before i x y z : ℕ) →
+      slice_get (source.section ∷ route.path) i ≡ Some before → slice_get route.path i ≡ Some x →
+      slice_get route.path (suc i) ≡ Some z → (to_leg : LeadsToLeg p s x source.dir y) →
+      IsSet p s route before i x → y ≡ z
   facing-set r route source from before i x y z earlier at next to_leg set_to =
       let plus = to_leg.plus in
       let minus = to_leg.minus in
@@ -126,7 +135,10 @@ module _ (p : PlantLists) (plant : IsPlant p) (strict : IsStrict p) (s : State) 
         | inr forth ↦ sym goes ∙ leads_to ∙ same_Some set_to.w z (sym forth ∙ next)
       ]
 
-  facing-next : (r : ℕ) (route : Route) (now : RouteState) → RouteIn p s r route now → (source : Board) → IsFrom p r route source → is_locked_or_occupied now ≡ true → (i x y z : ℕ) → now.rel ≤ i → slice_get route.path i ≡ Some x → slice_get route.path (suc i) ≡ Some z → LeadsToLeg p s x source.dir y → y ≡ z
+  facing-next : (r : ℕ) (route : Route) (now : RouteState) → RouteIn p s r route now → (source : Board) →
+      IsFrom p r route source → is_locked_or_occupied now ≡ true → (i x y z : ℕ) → now.rel ≤ i →
+      slice_get route.path i ≡ Some x → slice_get route.path (suc i) ≡ Some z →
+      LeadsToLeg p s x source.dir y → y ≡ z
   facing-next r route now it source from mode i x y z least at next to_leg =
       let within = slice_get_within route.path i x at in
       let earlier = item_at (source.section ∷ route.path) i (omega (arith, within)) in
@@ -170,13 +182,18 @@ module _ (p : PlantLists) (plant : IsPlant p) (strict : IsStrict p) (s : State) 
       }
 
 -- the lemma on heads
-pub goes-on : (p : PlantLists) → IsPlant p → IsStrict p → (s : State) → Keeps p s → (i : ℕ) (train : Train) (x y : ℕ) → slice_get s.trains i ≡ Some train → last_or None train.body ≡ Some x → ahead p s x train.dir ≡ Some y → may_pass s (board_of p x train.dir) ≡ true → GoesOn p s x train.dir y
+pub goes-on : (p : PlantLists) → IsPlant p → IsStrict p → (s : State) → Keeps p s →
+    (i : ℕ) (train : Train) (x y : ℕ) → slice_get s.trains i ≡ Some train → last_or None train.body ≡ Some x →
+    ahead p s x train.dir ≡ Some y → may_pass s (board_of p x train.dir) ≡ true → GoesOn p s x train.dir y
 goes-on p plant strict s keeps i train x y at last leads passes = by_board (board_of p x train.dir) refl
   where
     by_board : (o : Option ℕ) → board_of p x train.dir ≡ o → GoesOn p s x train.dir y
     by_board (Some m) board = from-board p plant strict s keeps x y m train.dir board passes leads
     by_board None board =
-        let plain : is_plain p train.dir x ≡ true = and_from (has_no_board p train.dir x) (nat_lt 0 (length (next_to p x train.dir))) (rw board refl) (more-than_none (length (next_to p x train.dir)) (some-length y (next_to p x train.dir) (ahead-next_to p s x y train.dir leads))) in
+        let plain : is_plain p train.dir x ≡ true = and_from (has_no_board p train.dir x)
+        (nat_lt 0 (length (next_to p x train.dir))) (rw board refl)
+        (more-than_none (length (next_to p x train.dir))
+        (some-length y (next_to p x train.dir) (ahead-next_to p s x y train.dir leads))) in
         without-board p plant strict s keeps x y train.dir board plain leads (head-led p s keeps.v7 i train x at last plain)
 
 -- the section ahead, where it is a point: it lies at a position, and the section before it is on no other leg
@@ -185,7 +202,9 @@ pub record LiesAhead (p : PlantLists) (s : State) (x y plus minus : ℕ) : Type 
   pub lies : lie_of p s y ≡ Some (lie_in to)
   pub apart : x ≡ other_leg plus minus to → ⊥
 
-pub lies-ahead : (p : PlantLists) → IsPlant p → IsStrict p → (s : State) → Keeps p s → (x y : ℕ) (d : Dir) → GoesOn p s x d y → (stem plus minus : ℕ) (faces : Dir) → slice_get p.sections y ≡ Some (Point stem plus minus faces) → LiesAhead p s x y plus minus
+pub lies-ahead : (p : PlantLists) → IsPlant p → IsStrict p → (s : State) → Keeps p s → (x y : ℕ) (d : Dir) →
+    GoesOn p s x d y → (stem plus minus : ℕ) (faces : Dir) →
+    slice_get p.sections y ≡ Some (Point stem plus minus faces) → LiesAhead p s x y plus minus
 lies-ahead p plant strict s keeps x y d on stem plus minus faces section =
     let from : IsFrom p on.r on.route on.source = record { known = on.it.known; begins = on.begins } in
     let set_to = held-point p strict s keeps.v6 on.r on.route on.now on.it on.mode on.source from x on.k y on.least on.before on.at (rw section refl) in
@@ -198,7 +217,10 @@ lies-ahead p plant strict s keeps x y d on stem plus minus faces section =
       apart = λ other. by_side set_to.to set_to.w leads_to differ other beside set_to.towards from (same_direction faces on.source.dir) refl;
     }
   where
-    by_side : (to : Position) (w : ℕ) → leg plus minus to ≡ w → LegsDiffer stem plus minus → x ≡ other_leg plus minus to → has_section y (next_to p x on.source.dir) ≡ true → (x ≡ w) ⊎ (slice_get on.route.path (suc on.k) ≡ Some w) → IsFrom p on.r on.route on.source → (b : Bool) → same_direction faces on.source.dir ≡ b → ⊥
+    by_side : (to : Position) (w : ℕ) → leg plus minus to ≡ w → LegsDiffer stem plus minus →
+        x ≡ other_leg plus minus to → has_section y (next_to p x on.source.dir) ≡ true →
+        (x ≡ w) ⊎ (slice_get on.route.path (suc on.k) ≡ Some w) → IsFrom p on.r on.route on.source →
+        (b : Bool) → same_direction faces on.source.dir ≡ b → ⊥
     by_side to w leads_to differ other beside to_which from true facing =
         let stem_is = stem-before p plant x y stem plus minus faces on.source.dir section (one_direction faces on.source.dir facing) beside in
         stem-no_other stem plus minus to differ (stem_is ∙ other)

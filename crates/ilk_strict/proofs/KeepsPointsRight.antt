@@ -83,7 +83,10 @@ point-plain p x stem plus minus faces d section = rw section (by_side (same_dire
     by_side false = refl
 
 -- a point that lies at a position leads ahead to no other leg
-ahead-no_other : (p : PlantLists) → IsPlant p → (s : State) → (x y stem plus minus : ℕ) (faces d : Dir) (to : Position) → slice_get p.sections x ≡ Some (Point stem plus minus faces) → lie_of p s x ≡ Some (lie_in to) → ahead p s x d ≡ Some y → y ≡ other_leg plus minus to → ⊥
+ahead-no_other : (p : PlantLists) → IsPlant p → (s : State) →
+    (x y stem plus minus : ℕ) (faces d : Dir) (to : Position) →
+    slice_get p.sections x ≡ Some (Point stem plus minus faces) → lie_of p s x ≡ Some (lie_in to) →
+    ahead p s x d ≡ Some y → y ≡ other_leg plus minus to → ⊥
 ahead-no_other p plant s x y stem plus minus faces d to section lie leads other =
     let here = bind_some (slice_get p.sections x) (λ it. leads_to it d (lie_of p s x)) y leads in
     let same : here.0 ≡ Point stem plus minus faces = same_Some here.0 (Point stem plus minus faces) (sym here.1 ∙ section) in
@@ -130,7 +133,10 @@ module _ (p : PlantLists) (plant : IsPlant p) (strict : IsStrict p) (s t : State
   same-points points trains x within = wrong-reads p s t x points trains (keeps.right_point x within)
 
   -- where points lie as before, it is enough that no train strays as points lay
-  lie-as_before : ((x : ℕ) → lie_of p t x ≡ lie_of p s x) → ((z stem plus minus : ℕ) (faces : Dir) → slice_get p.sections z ≡ Some (Point stem plus minus faces) → (i : ℕ) (train : Train) → slice_get t.trains i ≡ Some train → strays z plus minus (lie_of p s z) train.body ≡ false) → AreRight p t
+  lie-as_before : ((x : ℕ) → lie_of p t x ≡ lie_of p s x) →
+      ((z stem plus minus : ℕ) (faces : Dir) → slice_get p.sections z ≡ Some (Point stem plus minus faces) →
+      (i : ℕ) (train : Train) → slice_get t.trains i ≡ Some train →
+      strays z plus minus (lie_of p s z) train.body ≡ false) → AreRight p t
   lie-as_before lies each z within =
       wrong-from p t z (λ stem plus minus faces section i train at. rw (lies z) (each z stem plus minus faces section i train at))
 
@@ -158,7 +164,10 @@ module _ (p : PlantLists) (plant : IsPlant p) (strict : IsStrict p) (s t : State
   finish-keeps_right it = same-points it.points it.trains
 
   -- one point changes how it lies, and no train that stands on it strays
-  point-changes : (x m : ℕ) (point new : PointState) → point_number p x ≡ Some m → slice_get s.points m ≡ Some point → t.points ≡ set s.points m new → t.trains ≡ s.trains → ((i : ℕ) (train : Train) → slice_get s.trains i ≡ Some train → has_section x train.body ≡ true → ⊥) → AreRight p t
+  point-changes : (x m : ℕ) (point new : PointState) → point_number p x ≡ Some m →
+      slice_get s.points m ≡ Some point → t.points ≡ set s.points m new → t.trains ≡ s.trains →
+      ((i : ℕ) (train : Train) → slice_get s.trains i ≡ Some train → has_section x train.body ≡ true → ⊥) →
+      AreRight p t
   point-changes x m point new number at points trains free z within =
       wrong-from p t z (λ stem plus minus faces section i train there.
       let was : slice_get s.trains i ≡ Some train = sym (ap (λ (l : List Train). slice_get l i) trains) ∙ there in
@@ -230,7 +239,10 @@ module _ (p : PlantLists) (plant : IsPlant p) (strict : IsStrict p) (s t : State
   pub head-keeps_right : IsHeaded p s t n → AreRight p t
   head-keeps_right it =
       lie-as_before (points-lie it.points) (λ z stem plus minus faces section i train at. elim (head-trains p s t n it i train at) [
-        | inl moved ↦ subst (λ (one : Train). strays z plus minus (lie_of p s z) one.body ≡ false) (sym moved.1) (false_from_ne_true (strays z plus minus (lie_of p s z) (it.train.body ++ it.y ∷ [])) (strayed z stem plus minus faces section (lie_of p s z) refl))
+        | inl moved ↦ subst (λ (one : Train). strays z plus minus (lie_of p s z) one.body ≡ false)
+            (sym moved.1)
+            (false_from_ne_true (strays z plus minus (lie_of p s z) (it.train.body ++ it.y ∷ []))
+            (strayed z stem plus minus faces section (lie_of p s z) refl))
         | inr other ↦ no-strays z stem plus minus faces section i train other.1
       ])
     where

@@ -87,7 +87,9 @@ module _ (p : PlantLists) (s t : State) (keeps : Keeps p s) (n : ℕ) where
       taken q one its that x theirs mine =
           held-not_free p s keeps.v3 q one its that x theirs (cleared s it.route it.clear x (held-locked_for it.route new x mine)).0
 
-      of : (q : ℕ) (one : Route) (its : RouteState) → RouteIn p t q one its → (r : ℕ) (other : Route) (their : RouteState) → RouteIn p t r other their → (x : ℕ) → x < length p.sections → holds_section x one its ≡ true → holds_section x other their ≡ true → q ≡ r
+      of : (q : ℕ) (one : Route) (its : RouteState) → RouteIn p t q one its →
+          (r : ℕ) (other : Route) (their : RouteState) → RouteIn p t r other their → (x : ℕ) →
+          x < length p.sections → holds_section x one its ≡ true → holds_section x other their ≡ true → q ≡ r
       of q one its here r other their there x within first second =
           elim (after-cases p s t n it.route it.now new it.changes q one its here) [
             | inl mine ↦ elim (after-cases p s t n it.route it.now new it.changes r other their there) [

@@ -40,10 +40,20 @@ pub record HasItsLocks (t : State) (route : Route) (new : RouteState) : Type 0 w
 
 module _ (p : PlantLists) (plant : IsPlant p) (s t : State) (keeps : Keeps p s) (shape : HasShape p t) (n : ℕ) where
   -- one route changes, and locks where no other route holds a section
-  changed : (route : Route) (now new : RouteState) → ChangesRoute p s t n route now new → (Touched : ℕ → Type 0) → ((x : ℕ) → (Touched x → ⊥) → slice_get t.locks x ≡ slice_get s.locks x) → ((q : ℕ) (one : Route) (its : RouteState) → (q ≡ n → ⊥) → RouteIn p s q one its → (x : ℕ) → holds_section x one its ≡ true → Touched x → ⊥) → (holds_sections new ≡ true → HasItsLocks t route new) → keeps_v3 p t ≡ true
+  changed : (route : Route) (now new : RouteState) → ChangesRoute p s t n route now new →
+      (Touched : ℕ → Type 0) → ((x : ℕ) → (Touched x → ⊥) → slice_get t.locks x ≡ slice_get s.locks x) →
+      ((q : ℕ) (one : Route) (its : RouteState) → (q ≡ n → ⊥) → RouteIn p s q one its → (x : ℕ) →
+      holds_section x one its ≡ true → Touched x → ⊥) →
+      (holds_sections new ≡ true → HasItsLocks t route new) → keeps_v3 p t ≡ true
   changed route now new changes Touched same apart mine =
       locks-from p t shape.routes (λ q one its it holds. elim (after-cases p s t n route now new changes q one its it) [
-        | inl here ↦ same-here (λ u v. holds_sections v ≡ true → ((i x : ℕ) → v.rel ≤ i → slice_get u.path i ≡ Some x → slice_get t.locks x ≡ Some (lock_on_path v i)) × ((x : ℕ) → has_section x (sections_beside u) ≡ true → slice_get t.locks x ≡ Some LockedLock)) one route its new here.1 here.2 (λ h. let all = mine h in (all.on_path, all.beside)) holds
+        | inl here ↦ same-here
+            (λ u v. holds_sections v ≡ true →
+            ((i x : ℕ) → v.rel ≤ i → slice_get u.path i ≡ Some x →
+            slice_get t.locks x ≡ Some (lock_on_path v i)) ×
+            ((x : ℕ) → has_section x (sections_beside u) ≡ true →
+            slice_get t.locks x ≡ Some LockedLock)) one route its new here.1 here.2
+            (λ h. let all = mine h in (all.on_path, all.beside)) holds
         | inr other ↦ (
           λ i x least at. same x (apart q one its other.0 other.1 x (holds-path one its i x holds least at)) ∙ lock-path p s keeps.v3 q one its other.1 holds i x least at,
           λ x beside. same x (apart q one its other.0 other.1 x (holds-beside one its x holds beside)) ∙ lock-beside p s keeps.v3 q one its other.1 holds x beside,
@@ -56,7 +66,9 @@ module _ (p : PlantLists) (plant : IsPlant p) (s t : State) (keeps : Keeps p s) 
       changed route now new changes (λ x. ⊥) (λ x none. ap (λ (l : List Hold). slice_get l x) locks) (λ q one its apart it x held none. none) mine
 
   -- what route n holds no other holds
-  not-others : (route : Route) (now : RouteState) → RouteIn p s n route now → (x : ℕ) → x < length p.sections → holds_section x route now ≡ true → (q : ℕ) (one : Route) (its : RouteState) → (q ≡ n → ⊥) → RouteIn p s q one its → holds_section x one its ≡ true → ⊥
+  not-others : (route : Route) (now : RouteState) → RouteIn p s n route now → (x : ℕ) →
+      x < length p.sections → holds_section x route now ≡ true → (q : ℕ) (one : Route) (its : RouteState) →
+      (q ≡ n → ⊥) → RouteIn p s q one its → holds_section x one its ≡ true → ⊥
   not-others route now it x within mine q one its apart that theirs = apart (alone p s keeps.v2 q one its that n route now it x within theirs mine)
 
   pub mark-keeps_v3 : IsMarked p s t n → keeps_v3 p t ≡ true
@@ -108,7 +120,11 @@ module _ (p : PlantLists) (plant : IsPlant p) (s t : State) (keeps : Keeps p s) 
       (λ q one its apart that y held is. not-others it.route it.now was it.x (path-section p it.route of it.now.seen it.x it.next) mine q one its apart that (subst (λ z. holds_section z one its ≡ true) is held))
       (λ holds. record {
         on_path = on_path;
-        beside = λ y beside. away y (λ is. path-apart p it.route of it.now.seen it.x it.next (subst (λ z. has_section z (sections_beside it.route) ≡ true) is beside)) ∙ lock-beside p s keeps.v3 n it.route it.now was (locked-holds it.now it.was) y beside;
+        beside =
+            λ y beside. away y
+            (λ is. path-apart p it.route of it.now.seen it.x it.next
+            (subst (λ z. has_section z (sections_beside it.route) ≡ true) is beside))
+            ∙ lock-beside p s keeps.v3 n it.route it.now was (locked-holds it.now it.was) y beside;
       })
     where
       new : RouteState
@@ -151,7 +167,10 @@ module _ (p : PlantLists) (plant : IsPlant p) (s t : State) (keeps : Keeps p s) 
   pub release-keeps_v3 : IsReleased p s t n → keeps_v3 p t ≡ true
   release-keeps_v3 it =
       changed it.route it.now new it.changes (λ y. y ≡ it.x) away
-      (λ q one its apart that y held is. not-others it.route it.now was it.x (path-section p it.route of it.now.rel it.x it.first) (holds-path it.route it.now it.now.rel it.x holds_now (omega arith) it.first) q one its apart that (subst (λ z. holds_section z one its ≡ true) is held))
+      (λ q one its apart that y held is. not-others it.route it.now was it.x
+      (path-section p it.route of it.now.rel it.x it.first)
+      (holds-path it.route it.now it.now.rel it.x holds_now (omega arith) it.first) q one its apart that
+      (subst (λ z. holds_section z one its ≡ true) is held))
       (λ holds. record {
         on_path = λ i y least at.
             away y (λ is. let here = path-once p it.route of i it.now.rel y at (it.first ∙ ap Some (sym is)) in absurd (omega (arith, here, least)))

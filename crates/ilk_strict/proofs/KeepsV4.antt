@@ -36,7 +36,10 @@ module _ (p : PlantLists) (plant : IsPlant p) (strict : IsStrict p) (s t : State
       ])
 
   -- routes stay, and the sections that Allocating routes hold stay vacant
-  trains-come : t.routes ≡ s.routes → ((q : ℕ) (one : Route) (its : RouteState) → RouteIn p s q one its → its.mode ≡ Allocating → (i x : ℕ) → its.rel ≤ i → slice_get one.path i ≡ Some x → is_occupied s x ≡ false → is_occupied t x ≡ false) → keeps_v4 p t ≡ true
+  trains-come : t.routes ≡ s.routes →
+      ((q : ℕ) (one : Route) (its : RouteState) → RouteIn p s q one its → its.mode ≡ Allocating → (i x : ℕ) →
+      its.rel ≤ i → slice_get one.path i ≡ Some x → is_occupied s x ≡ false → is_occupied t x ≡ false) →
+      keeps_v4 p t ≡ true
   trains-come routes stay =
       vacant-from p t shape.routes (λ q one its it mode i x at.
       let was = same-route p s t routes q one its it in

@@ -144,7 +144,11 @@ module _ (p : PlantLists) (plant : IsPlant p) (strict : IsStrict p) (s t : State
       clash m shown elsewhere open_for i x at same =
           let on = headed-goes_on p plant strict s t keeps n it in
           let mine = holds-path on.route on.now on.k x (locked-holds on.now on.mode) on.least (on.at ∙ ap Some (sym same)) in
-          let one_route = alone p s keeps.v2 open_for.r open_for.route open_for.now open_for.it on.r on.route on.now on.it x (path-section p open_for.route (plant.routes_known open_for.r open_for.route open_for.it.known) i x at) (holds-whole m open_for i x at) mine in
+          let one_route = alone p s keeps.v2 open_for.r open_for.route open_for.now open_for.it on.r on.route
+          on.now on.it x
+          (path-section p open_for.route (plant.routes_known open_for.r open_for.route open_for.it.known)
+          i x at)
+          (holds-whole m open_for i x at) mine in
           let is = one-state p s open_for.r on.r open_for.route on.route open_for.now on.now open_for.it on.it one_route in
           let source : on.route.source ≡ m = ap (λ (route : Route). route.source) (sym is.0) ∙ open_for.source in
           let mode : on.now.mode ≡ Locked = ap (λ (v : RouteState). v.mode) (sym is.1) ∙ open_for.mode in

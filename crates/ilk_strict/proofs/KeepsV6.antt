@@ -48,7 +48,13 @@ pub record PointFits (p : PlantLists) (s : State) (route : Route) (now : RouteSt
 
 module _ (p : PlantLists) (plant : IsPlant p) (s t : State) (keeps : Keeps p s) (shape : HasShape p t) (n : ℕ) where
   -- a point of another route fits as before, where it is commanded and lies as before
-  fits-still : (q : ℕ) (one : Route) (its : RouteState) → RouteIn p s q one its → (k : ℕ) (listed : Listed) → slice_get one.points k ≡ Some listed → (holds_section listed.point one its ≡ true → commanded_position p t listed.point ≡ commanded_position p s listed.point) → (is_locked_or_occupied its ≡ true → is_kept_on_path one its listed.point ≡ true → lie_of p t listed.point ≡ lie_of p s listed.point) → PointFits p t one its listed
+  fits-still : (q : ℕ) (one : Route) (its : RouteState) → RouteIn p s q one its → (k : ℕ) (listed : Listed) →
+      slice_get one.points k ≡ Some listed →
+      (holds_section listed.point one its ≡ true →
+      commanded_position p t listed.point ≡ commanded_position p s listed.point) →
+      (is_locked_or_occupied its ≡ true → is_kept_on_path one its listed.point ≡ true →
+      lie_of p t listed.point ≡ lie_of p s listed.point) →
+      PointFits p t one its listed
   fits-still q one its it k listed at same_command same_lie = record {
     commanded = λ mode on.
         (let found = section-at listed.point one.path on in
@@ -127,12 +133,17 @@ module _ (p : PlantLists) (plant : IsPlant p) (s t : State) (keeps : Keeps p s) 
           some-is (point_number p listed.point) (all-at (λ one. IsSome (point_number p one.point)) route.points k listed of_plant.points_are_points at)
 
       -- all entries of the route that list a point list it at one position
-      alike : (k : ℕ) (listed : Listed) → slice_get it.route.points k ≡ Some listed → (m : ℕ) → point_number p listed.point ≡ Some m → (j : ℕ) (one : Listed) → slice_get (wanted_points it.route) j ≡ Some one → lists_point p m one ≡ true → one.at ≡ listed.at
+      alike : (k : ℕ) (listed : Listed) → slice_get it.route.points k ≡ Some listed → (m : ℕ) →
+          point_number p listed.point ≡ Some m → (j : ℕ) (one : Listed) →
+          slice_get (wanted_points it.route) j ≡ Some one → lists_point p m one ≡ true → one.at ≡ listed.at
       alike k listed at m number j one there lists =
           let same = lists-named p one listed.point m number lists in
           elim (at-either it.route.points it.route.protecting_points j one there) [
             | inl first ↦
-                (let place : first.0 ≡ k = none_twice-places (map (λ (one : Listed). one.point) it.route.points) of.points_once first.0 k listed.point (listed-mapped it.route.points first.0 one first.1 ∙ ap Some same) (listed-mapped it.route.points k listed at) in
+                (let place : first.0 ≡ k = none_twice-places
+                (map (λ (one : Listed). one.point) it.route.points) of.points_once first.0 k listed.point
+                (listed-mapped it.route.points first.0 one first.1 ∙ ap Some same)
+                (listed-mapped it.route.points k listed at) in
                 let is : one ≡ listed = same_Some one listed (sym first.1 ∙ ap (slice_get it.route.points) place ∙ at) in
                 ap (λ (v : Listed). v.at) is)
             | inr second ↦
@@ -154,7 +165,9 @@ module _ (p : PlantLists) (plant : IsPlant p) (s t : State) (keeps : Keeps p s) 
       }
 
       -- no point of what another route holds is commanded
-      others : (q : ℕ) (one : Route) (its : RouteState) → RouteIn p s q one its → (k : ℕ) (listed : Listed) → slice_get one.points k ≡ Some listed → holds_section listed.point one its ≡ true → commanded_position p t listed.point ≡ commanded_position p s listed.point
+      others : (q : ℕ) (one : Route) (its : RouteState) → RouteIn p s q one its → (k : ℕ) (listed : Listed) →
+          slice_get one.points k ≡ Some listed → holds_section listed.point one its ≡ true →
+          commanded_position p t listed.point ≡ commanded_position p s listed.point
       others q one its that k listed at held =
           let number = numbered one (plant.routes_known q one that.known) k listed at in
           let none = listed-none p number.0 (wanted_points it.route) (λ j entry there lists.
@@ -171,8 +184,18 @@ module _ (p : PlantLists) (plant : IsPlant p) (s t : State) (keeps : Keeps p s) 
       changed it.route now new it.changes it.points (λ k listed at. record {
         commanded = λ mode on. cc;
         lies = λ mode kept. (
-          commanded-from p t listed (commanded-alike p s t listed.point (λ m number. ap (λ (l : List PointState). slice_get l m) it.points) ∙ commanded-at_listed p s listed (commanded-at p s keeps.v6 n it.route now was k listed at it.was (kept-on_path it.route new listed.point kept))),
-          lies-from p t listed (lie-alike p s t listed.point (λ m number. ap (λ (l : List PointState). slice_get l m) it.points) ∙ lies-listed p s listed listed.point (list_all-slice_get (lies_as_listed p s) (wanted_points it.route) k listed it.lie (at-before it.route.points it.route.protecting_points k listed at)) refl),
+          commanded-from p t listed
+              (commanded-alike p s t listed.point
+              (λ m number. ap (λ (l : List PointState). slice_get l m) it.points)
+              ∙ commanded-at_listed p s listed
+              (commanded-at p s keeps.v6 n it.route now was k listed at it.was
+              (kept-on_path it.route new listed.point kept))),
+          lies-from p t listed
+              (lie-alike p s t listed.point
+              (λ m number. ap (λ (l : List PointState). slice_get l m) it.points)
+              ∙ lies-listed p s listed listed.point
+              (list_all-slice_get (lies_as_listed p s) (wanted_points it.route) k listed it.lie
+              (at-before it.route.points it.route.protecting_points k listed at)) refl),
         );
       })
 
@@ -186,11 +209,16 @@ module _ (p : PlantLists) (plant : IsPlant p) (s t : State) (keeps : Keeps p s) 
   finish-keeps_v6 it = drops it.route it.now (record { mode = Free; seen = 0; rel = 0 }) it.changes it.points (λ e. cc) refl
 
   -- one point changes how it lies, which isn't as a route that keeps it needs it
-  point-changes : (x m : ℕ) (point new : PointState) → point_number p x ≡ Some m → slice_get s.points m ≡ Some point → t.points ≡ set s.points m new → t.routes ≡ s.routes → new.to ≡ point.to → ((at : Position) → point.to ≡ at → point.at ≡ lie_in at → ⊥) → keeps_v6 p t ≡ true
+  point-changes : (x m : ℕ) (point new : PointState) → point_number p x ≡ Some m →
+      slice_get s.points m ≡ Some point → t.points ≡ set s.points m new → t.routes ≡ s.routes →
+      new.to ≡ point.to → ((at : Position) → point.to ≡ at → point.at ≡ lie_in at → ⊥) → keeps_v6 p t ≡ true
   point-changes x m point new number at points routes same elsewhere =
       from-fits (λ q one its it k listed there.
       let was = same-route p s t routes q one its it in
-      fits-still q one its was k listed there (λ held. commanded-same p s t x m point new number at points same listed.point) (λ mode kept. lie-other p s t x m point new number at points listed.point (λ here. needed q one its was k listed there mode kept here)))
+      fits-still q one its was k listed there
+      (λ held. commanded-same p s t x m point new number at points same listed.point)
+      (λ mode kept. lie-other p s t x m point new number at points listed.point
+      (λ here. needed q one its was k listed there mode kept here)))
     where
       needed : (q : ℕ) (one : Route) (its : RouteState) → RouteIn p s q one its → (k : ℕ) (listed : Listed) → slice_get one.points k ≡ Some listed → is_locked_or_occupied its ≡ true → is_kept_on_path one its listed.point ≡ true → listed.point ≡ x → ⊥
       needed q one its was k listed there mode kept here =

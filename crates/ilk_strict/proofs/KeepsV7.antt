@@ -60,7 +60,10 @@ module _ (p : PlantLists) (plant : IsPlant p) (strict : IsStrict p) (s t : State
       both_ways (is_locked_or_occupied now) idle (subst (λ (v : RouteState). is_locked_or_occupied v ≡ true) is.1 leading)
 
   -- another route leads on, where its source stays Closed
-  other-leads : (route : Route) (now new : RouteState) → ChangesRoute p s t n route now new → t.trains ≡ s.trains → (d : Dir) (x : ℕ) → (led : IsLedBy p s d x) → (led.r ≡ n → ⊥) → (led.now.mode ≡ Locked → slice_get s.boards led.route.source ≡ Some Closed → slice_get t.boards led.route.source ≡ Some Closed) → IsLedBy p t d x
+  other-leads : (route : Route) (now new : RouteState) → ChangesRoute p s t n route now new →
+      t.trains ≡ s.trains → (d : Dir) (x : ℕ) → (led : IsLedBy p s d x) → (led.r ≡ n → ⊥) →
+      (led.now.mode ≡ Locked → slice_get s.boards led.route.source ≡ Some Closed →
+      slice_get t.boards led.route.source ≡ Some Closed) → IsLedBy p t d x
   other-leads route now new changes trains d x led apart stay = record {
     r = led.r;
     route = led.route;
@@ -75,7 +78,13 @@ module _ (p : PlantLists) (plant : IsPlant p) (strict : IsStrict p) (s t : State
   }
 
   -- one route changes, and trains stay
-  changed : (route : Route) (now new : RouteState) → ChangesRoute p s t n route now new → t.trains ≡ s.trains → ((d : Dir) (x : ℕ) → (led : IsLedBy p s d x) → (led.r ≡ n → ⊥) → led.now.mode ≡ Locked → slice_get s.boards led.route.source ≡ Some Closed → slice_get t.boards led.route.source ≡ Some Closed) → ((d : Dir) (x : ℕ) → is_plain p d x ≡ true → (led : IsLedBy p s d x) → led.r ≡ n → IsLedBy p t d x) → keeps_v7 p t ≡ true
+  changed : (route : Route) (now new : RouteState) → ChangesRoute p s t n route now new →
+      t.trains ≡ s.trains →
+      ((d : Dir) (x : ℕ) → (led : IsLedBy p s d x) → (led.r ≡ n → ⊥) → led.now.mode ≡ Locked →
+      slice_get s.boards led.route.source ≡ Some Closed →
+      slice_get t.boards led.route.source ≡ Some Closed) →
+      ((d : Dir) (x : ℕ) → is_plain p d x ≡ true → (led : IsLedBy p s d x) → led.r ≡ n → IsLedBy p t d x) →
+      keeps_v7 p t ≡ true
   changed route now new changes trains stay mine =
       heads-from p t shape (λ i train x at last plain.
       let led = head-led p s keeps.v7 i train x (sym (ap (λ (l : List Train). slice_get l i) trains) ∙ at) last plain in
@@ -210,7 +219,11 @@ module _ (p : PlantLists) (plant : IsPlant p) (strict : IsStrict p) (s t : State
   settle-keeps_v7 it = v7-reads p s t it.routes it.boards it.trains keeps.v7
 
   -- routes stay, closed boards stay so, and the sections that the route has later on its path stay vacant
-  still-led : t.routes ≡ s.routes → ((m : ℕ) → slice_get s.boards m ≡ Some Closed → slice_get t.boards m ≡ Some Closed) → (d : Dir) (x : ℕ) → (led : IsLedBy p s d x) → ((j y : ℕ) → led.i < j → slice_get led.route.path j ≡ Some y → is_occupied s y ≡ false → is_occupied t y ≡ false) → IsLedBy p t d x
+  still-led : t.routes ≡ s.routes →
+      ((m : ℕ) → slice_get s.boards m ≡ Some Closed → slice_get t.boards m ≡ Some Closed) →
+      (d : Dir) (x : ℕ) → (led : IsLedBy p s d x) →
+      ((j y : ℕ) → led.i < j → slice_get led.route.path j ≡ Some y → is_occupied s y ≡ false →
+      is_occupied t y ≡ false) → IsLedBy p t d x
   still-led routes closed d x led stay = record {
     r = led.r;
     route = led.route;

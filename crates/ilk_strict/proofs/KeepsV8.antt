@@ -31,7 +31,11 @@ use Rattle.ilk_strict.proofs.Trains.{enter-trains, head-trains, leave-trains, sh
 
 module _ (p : PlantLists) (plant : IsPlant p) (strict : IsStrict p) (s t : State) (keeps : Keeps p s) (n : ℕ) where
   -- one route changes, and trains stay
-  changed : (route : Route) (now new : RouteState) → ChangesRoute p s t n route now new → t.trains ≡ s.trains → ((d : Dir) (x : ℕ) → is_plain p d x ≡ true → is_occupied s x ≡ true → (kept : IsKeptBy p s d x) → kept.r ≡ n → IsKeptBy p t d x) → keeps_v8 p t ≡ true
+  changed : (route : Route) (now new : RouteState) → ChangesRoute p s t n route now new →
+      t.trains ≡ s.trains →
+      ((d : Dir) (x : ℕ) → is_plain p d x ≡ true → is_occupied s x ≡ true → (kept : IsKeptBy p s d x) →
+      kept.r ≡ n → IsKeptBy p t d x) →
+      keeps_v8 p t ≡ true
   changed route now new changes trains mine =
       bodies-from p t (λ i train at k x place plain.
       let was : slice_get s.trains i ≡ Some train = sym (ap (λ (l : List Train). slice_get l i) trains) ∙ at in
@@ -59,7 +63,9 @@ module _ (p : PlantLists) (plant : IsPlant p) (strict : IsStrict p) (s t : State
       absurd (both_ways (is_locked_or_occupied now) idle (subst (λ (v : RouteState). is_locked_or_occupied v ≡ true) is.1 kept.mode)))
 
   -- the route goes on keeping the section
-  keeps-on : (route : Route) (now new : RouteState) → ChangesRoute p s t n route now new → is_locked_or_occupied new ≡ true → (d : Dir) (x : ℕ) → (kept : IsKeptBy p s d x) → kept.r ≡ n → (kept.now ≡ now → kept.route ≡ route → new.rel ≤ kept.i) → IsKeptBy p t d x
+  keeps-on : (route : Route) (now new : RouteState) → ChangesRoute p s t n route now new →
+      is_locked_or_occupied new ≡ true → (d : Dir) (x : ℕ) → (kept : IsKeptBy p s d x) → kept.r ≡ n →
+      (kept.now ≡ now → kept.route ≡ route → new.rel ≤ kept.i) → IsKeptBy p t d x
   keeps-on route now new changes mode d x kept same least =
       let is = one-state p s kept.r n kept.route route kept.now now kept.it (before-change p s t n route now new changes) same in
       record {

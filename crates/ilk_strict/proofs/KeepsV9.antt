@@ -26,7 +26,13 @@ use Rattle.ilk_strict.proofs.TrainFacts.{Keeps}
 
 module _ (p : PlantLists) (plant : IsPlant p) (s t : State) (keeps : Keeps p s) (shape : HasShape p t) (n : ℕ) where
   -- one route changes, and boards so that those of the Locked routes stay Closed
-  changed : (route : Route) (now new : RouteState) → ChangesRoute p s t n route now new → ((q : ℕ) (one : Route) (its : RouteState) → RouteIn p s q one its → its.mode ≡ Locked → (k m : ℕ) → slice_get one.protecting_boards k ≡ Some m → slice_get s.boards m ≡ Some Closed → slice_get t.boards m ≡ Some Closed) → (new.mode ≡ Locked → (k m : ℕ) → slice_get route.protecting_boards k ≡ Some m → slice_get t.boards m ≡ Some Closed) → keeps_v9 p t ≡ true
+  changed : (route : Route) (now new : RouteState) → ChangesRoute p s t n route now new →
+      ((q : ℕ) (one : Route) (its : RouteState) → RouteIn p s q one its → its.mode ≡ Locked → (k m : ℕ) →
+      slice_get one.protecting_boards k ≡ Some m → slice_get s.boards m ≡ Some Closed →
+      slice_get t.boards m ≡ Some Closed) →
+      (new.mode ≡ Locked → (k m : ℕ) → slice_get route.protecting_boards k ≡ Some m →
+      slice_get t.boards m ≡ Some Closed) →
+      keeps_v9 p t ≡ true
   changed route now new changes stay mine =
       protected-from p t shape.routes (λ q one its it mode k m at. elim (after-cases p s t n route now new changes q one its it) [
         | inl here ↦ same-here (λ u v. v.mode ≡ Locked → (k m : ℕ) → slice_get u.protecting_boards k ≡ Some m → slice_get t.boards m ≡ Some Closed) one route its new here.1 here.2 mine mode k m at
@@ -48,7 +54,11 @@ module _ (p : PlantLists) (plant : IsPlant p) (s t : State) (keeps : Keeps p s) 
   lock-keeps_v9 it =
       changed it.route it.now new it.changes
       (λ q one its that mode k m at closed. elsewhere m (λ same. unprotected q one its that mode k m at same) closed)
-      (λ mode k m at. elsewhere m (all-at (λ m. m ≡ it.route.source → ⊥) it.route.protecting_boards k m (plant.routes_known n it.route it.changes.known).protecting_boards_other at) (has_aspect-at s m Closed (list_all-slice_get (λ m. has_aspect s m Closed) it.route.protecting_boards k m it.closed at)))
+      (λ mode k m at. elsewhere m
+      (all-at (λ m. m ≡ it.route.source → ⊥) it.route.protecting_boards k m
+      (plant.routes_known n it.route it.changes.known).protecting_boards_other at)
+      (has_aspect-at s m Closed
+      (list_all-slice_get (λ m. has_aspect s m Closed) it.route.protecting_boards k m it.closed at)))
     where
       new : RouteState
       new = let now = it.now in record now { mode = Locked }

@@ -123,7 +123,9 @@ module _ (p : PlantLists) (s : State) where
   ]
 
   -- V2
-  pub alone : keeps_v2 p s ≡ true → (r : ℕ) (route : Route) (now : RouteState) → RouteIn p s r route now → (q : ℕ) (other : Route) (its : RouteState) → RouteIn p s q other its → (x : ℕ) → x < length p.sections → holds_section x route now ≡ true → holds_section x other its ≡ true → r ≡ q
+  pub alone : keeps_v2 p s ≡ true → (r : ℕ) (route : Route) (now : RouteState) → RouteIn p s r route now →
+      (q : ℕ) (other : Route) (its : RouteState) → RouteIn p s q other its → (x : ℕ) → x < length p.sections →
+      holds_section x route now ≡ true → holds_section x other its ≡ true → r ≡ q
   alone kept r route now it q other its that x within here there =
       let row = each_below-at (length p.routes) (λ a. each_below (length p.routes) (λ b. a == b || each_below (length p.sections) (λ y. not (route_holds p s a y && route_holds p s b y)))) kept r (slice_get_within p.routes r route it.known) in
       let cell = each_below-at (length p.routes) (λ b. r == b || each_below (length p.sections) (λ y. not (route_holds p s r y && route_holds p s b y))) row q (slice_get_within p.routes q other that.known) in
@@ -135,7 +137,12 @@ module _ (p : PlantLists) (s : State) where
             absurd (both_ways (route_holds p s r x && route_holds p s q x) (fails (route_holds p s r x && route_holds p s q x) none) both))
       ]
 
-  pub alone-from : ((r : ℕ) (route : Route) (now : RouteState) → RouteIn p s r route now → (q : ℕ) (other : Route) (its : RouteState) → RouteIn p s q other its → (x : ℕ) → x < length p.sections → holds_section x route now ≡ true → holds_section x other its ≡ true → r ≡ q) → keeps_v2 p s ≡ true
+  pub alone-from :
+      ((r : ℕ) (route : Route) (now : RouteState) → RouteIn p s r route now →
+      (q : ℕ) (other : Route) (its : RouteState) → RouteIn p s q other its → (x : ℕ) →
+      x < length p.sections → holds_section x route now ≡ true → holds_section x other its ≡ true → r ≡ q)
+      →
+      keeps_v2 p s ≡ true
   alone-from each =
       each_below-from (length p.routes) (λ a. each_below (length p.routes) (λ b. a == b || each_below (length p.sections) (λ y. not (route_holds p s a y && route_holds p s b y)))) (λ r less.
       each_below-from (length p.routes) (λ b. r == b || each_below (length p.sections) (λ y. not (route_holds p s r y && route_holds p s b y))) (λ q fewer. pair r q))
@@ -174,7 +181,13 @@ module _ (p : PlantLists) (s : State) where
       let found = section-at x (sections_beside route) beside in
       has_lock-at s x LockedLock (list_all-slice_get (λ x. has_lock s x LockedLock) (sections_beside route) found.0 x others found.1)
 
-  pub locks-from : length s.routes ≡ length p.routes → ((r : ℕ) (route : Route) (now : RouteState) → RouteIn p s r route now → holds_sections now ≡ true → ((i x : ℕ) → now.rel ≤ i → slice_get route.path i ≡ Some x → slice_get s.locks x ≡ Some (lock_on_path now i)) × ((x : ℕ) → has_section x (sections_beside route) ≡ true → slice_get s.locks x ≡ Some LockedLock)) → keeps_v3 p s ≡ true
+  pub locks-from : length s.routes ≡ length p.routes →
+      ((r : ℕ) (route : Route) (now : RouteState) → RouteIn p s r route now → holds_sections now ≡ true →
+      ((i x : ℕ) → now.rel ≤ i → slice_get route.path i ≡ Some x →
+      slice_get s.locks x ≡ Some (lock_on_path now i)) ×
+      ((x : ℕ) → has_section x (sections_beside route) ≡ true →
+      slice_get s.locks x ≡ Some LockedLock)) →
+      keeps_v3 p s ≡ true
   locks-from count each =
       each_route-from p s (λ route now. if holds_sections now then has_its_locks s route now else true) count (λ r route now it.
       passes-if (holds_sections now) (has_its_locks s route now) (λ holds.
@@ -205,7 +218,11 @@ module _ (p : PlantLists) (s : State) where
   -- V4
   pub vacant-path : keeps_v4 p s ≡ true → (r : ℕ) (route : Route) (now : RouteState) → RouteIn p s r route now → now.mode ≡ Allocating → (i x : ℕ) → slice_get route.path i ≡ Some x → is_occupied s x ≡ false
   vacant-path kept r route now it mode i x at =
-      all_vacant-at s route.path (if-passes (same_mode now.mode Allocating) (list_all (is_vacant s) route.path) (each_route-at p s (λ route now. if same_mode now.mode Allocating then list_all (is_vacant s) route.path else true) kept r route now it) (rw mode refl)) i x at
+      all_vacant-at s route.path
+      (if-passes (same_mode now.mode Allocating) (list_all (is_vacant s) route.path)
+      (each_route-at p s
+      (λ route now. if same_mode now.mode Allocating then list_all (is_vacant s) route.path
+      else true) kept r route now it) (rw mode refl)) i x at
 
   pub vacant-from : length s.routes ≡ length p.routes → ((r : ℕ) (route : Route) (now : RouteState) → RouteIn p s r route now → now.mode ≡ Allocating → (i x : ℕ) → slice_get route.path i ≡ Some x → is_occupied s x ≡ false) → keeps_v4 p s ≡ true
   vacant-from count each =
@@ -246,23 +263,50 @@ module _ (p : PlantLists) (s : State) where
       each_below-from (length p.boards) _ (λ m within. passes-if (has_aspect s m Open) _ (λ shown.
       let one = each m within (has_aspect-at s m Open shown) in
       let mode : same_mode one.now.mode Locked ≡ true = rw one.mode refl in
-      some_route-from p s (opens m) one.r one.route one.now one.it (and_from ((one.route.source == m) && same_mode one.now.mode Locked) (list_all (is_vacant s) one.route.path) (and_from (one.route.source == m) (same_mode one.now.mode Locked) (eq-eqb one.route.source m one.source) mode) (all_vacant-from s one.route.path one.vacant))))
+      some_route-from p s (opens m) one.r one.route one.now one.it
+      (and_from ((one.route.source == m) && same_mode one.now.mode Locked)
+      (list_all (is_vacant s) one.route.path)
+      (and_from (one.route.source == m) (same_mode one.now.mode Locked)
+      (eq-eqb one.route.source m one.source) mode)
+      (all_vacant-from s one.route.path one.vacant))))
 
   -- V6
   abbrev points_fit : Route → RouteState → Bool
   points_fit route now = list_all (λ listed. is_commanded_for p s route now listed && lies_for p s route now listed) route.points
 
-  pub commanded-at : keeps_v6 p s ≡ true → (r : ℕ) (route : Route) (now : RouteState) → RouteIn p s r route now → (k : ℕ) (listed : Listed) → slice_get route.points k ≡ Some listed → now.mode ≡ Allocating → has_section listed.point route.path ≡ true → is_commanded_as_listed p s listed ≡ true
+  pub commanded-at : keeps_v6 p s ≡ true → (r : ℕ) (route : Route) (now : RouteState) →
+      RouteIn p s r route now → (k : ℕ) (listed : Listed) → slice_get route.points k ≡ Some listed →
+      now.mode ≡ Allocating → has_section listed.point route.path ≡ true →
+      is_commanded_as_listed p s listed ≡ true
   commanded-at kept r route now it k listed at mode on =
-      let both = and_parts (is_commanded_for p s route now listed) (lies_for p s route now listed) (list_all-slice_get (λ listed. is_commanded_for p s route now listed && lies_for p s route now listed) route.points k listed (each_route-at p s points_fit kept r route now it) at) in
+      let both = and_parts (is_commanded_for p s route now listed) (lies_for p s route now listed)
+      (list_all-slice_get
+      (λ listed. is_commanded_for p s route now listed && lies_for p s route now listed) route.points
+      k listed (each_route-at p s points_fit kept r route now it) at) in
       if-passes (same_mode now.mode Allocating && has_section listed.point route.path) (is_commanded_as_listed p s listed) both.0 (and_from (same_mode now.mode Allocating) (has_section listed.point route.path) (rw mode refl) on)
 
-  pub lies-at : keeps_v6 p s ≡ true → (r : ℕ) (route : Route) (now : RouteState) → RouteIn p s r route now → (k : ℕ) (listed : Listed) → slice_get route.points k ≡ Some listed → is_locked_or_occupied now ≡ true → is_kept_on_path route now listed.point ≡ true → (is_commanded_as_listed p s listed ≡ true) × (lies_as_listed p s listed ≡ true)
+  pub lies-at : keeps_v6 p s ≡ true → (r : ℕ) (route : Route) (now : RouteState) → RouteIn p s r route now →
+      (k : ℕ) (listed : Listed) → slice_get route.points k ≡ Some listed → is_locked_or_occupied now ≡ true →
+      is_kept_on_path route now listed.point ≡ true →
+      (is_commanded_as_listed p s listed ≡ true) × (lies_as_listed p s listed ≡ true)
   lies-at kept r route now it k listed at mode on =
-      let both = and_parts (is_commanded_for p s route now listed) (lies_for p s route now listed) (list_all-slice_get (λ listed. is_commanded_for p s route now listed && lies_for p s route now listed) route.points k listed (each_route-at p s points_fit kept r route now it) at) in
-      and_parts (is_commanded_as_listed p s listed) (lies_as_listed p s listed) (if-passes (is_locked_or_occupied now && is_kept_on_path route now listed.point) (is_commanded_as_listed p s listed && lies_as_listed p s listed) both.1 (and_from (is_locked_or_occupied now) (is_kept_on_path route now listed.point) mode on))
+      let both = and_parts (is_commanded_for p s route now listed) (lies_for p s route now listed)
+      (list_all-slice_get
+      (λ listed. is_commanded_for p s route now listed && lies_for p s route now listed) route.points
+      k listed (each_route-at p s points_fit kept r route now it) at) in
+      and_parts (is_commanded_as_listed p s listed) (lies_as_listed p s listed)
+      (if-passes (is_locked_or_occupied now && is_kept_on_path route now listed.point)
+      (is_commanded_as_listed p s listed && lies_as_listed p s listed) both.1
+      (and_from (is_locked_or_occupied now) (is_kept_on_path route now listed.point) mode on))
 
-  pub points-from : length s.routes ≡ length p.routes → ((r : ℕ) (route : Route) (now : RouteState) → RouteIn p s r route now → (k : ℕ) (listed : Listed) → slice_get route.points k ≡ Some listed → (now.mode ≡ Allocating → has_section listed.point route.path ≡ true → is_commanded_as_listed p s listed ≡ true) × (is_locked_or_occupied now ≡ true → is_kept_on_path route now listed.point ≡ true → (is_commanded_as_listed p s listed ≡ true) × (lies_as_listed p s listed ≡ true))) → keeps_v6 p s ≡ true
+  pub points-from : length s.routes ≡ length p.routes →
+      ((r : ℕ) (route : Route) (now : RouteState) → RouteIn p s r route now → (k : ℕ) (listed : Listed) →
+      slice_get route.points k ≡ Some listed →
+      (now.mode ≡ Allocating → has_section listed.point route.path ≡ true →
+      is_commanded_as_listed p s listed ≡ true) ×
+      (is_locked_or_occupied now ≡ true → is_kept_on_path route now listed.point ≡ true →
+      (is_commanded_as_listed p s listed ≡ true) × (lies_as_listed p s listed ≡ true))) →
+      keeps_v6 p s ≡ true
   points-from count each =
       each_route-from p s points_fit count (λ r route now it.
       all-pass (λ listed. is_commanded_for p s route now listed && lies_for p s route now listed) route.points (λ k listed at.
@@ -282,9 +326,16 @@ module _ (p : PlantLists) (s : State) where
 
   pub protected-at : keeps_v9 p s ≡ true → (r : ℕ) (route : Route) (now : RouteState) → RouteIn p s r route now → now.mode ≡ Locked → (k m : ℕ) → slice_get route.protecting_boards k ≡ Some m → slice_get s.boards m ≡ Some Closed
   protected-at kept r route now it mode k m at =
-      has_aspect-at s m Closed (list_all-slice_get (λ m. has_aspect s m Closed) route.protecting_boards k m (if-passes (same_mode now.mode Locked) (list_all (λ m. has_aspect s m Closed) route.protecting_boards) (each_route-at p s is_protected kept r route now it) (rw mode refl)) at)
+      has_aspect-at s m Closed
+      (list_all-slice_get (λ m. has_aspect s m Closed) route.protecting_boards k m
+      (if-passes (same_mode now.mode Locked)
+      (list_all (λ m. has_aspect s m Closed) route.protecting_boards)
+      (each_route-at p s is_protected kept r route now it) (rw mode refl)) at)
 
-  pub protected-from : length s.routes ≡ length p.routes → ((r : ℕ) (route : Route) (now : RouteState) → RouteIn p s r route now → now.mode ≡ Locked → (k m : ℕ) → slice_get route.protecting_boards k ≡ Some m → slice_get s.boards m ≡ Some Closed) → keeps_v9 p s ≡ true
+  pub protected-from : length s.routes ≡ length p.routes →
+      ((r : ℕ) (route : Route) (now : RouteState) → RouteIn p s r route now → now.mode ≡ Locked → (k m : ℕ) →
+      slice_get route.protecting_boards k ≡ Some m → slice_get s.boards m ≡ Some Closed) →
+      keeps_v9 p s ≡ true
   protected-from count each =
       each_route-from p s is_protected count (λ r route now it.
       passes-if (same_mode now.mode Locked) (list_all (λ m. has_aspect s m Closed) route.protecting_boards) (λ mode.

@@ -42,7 +42,10 @@ listed_if : (a b : Bool) → a ≡ true → (not a || b) ≡ true → b ≡ true
 listed_if a b e h = rw e at h
 
 -- the points of a path that lead along it, by place
-points-at : (p : PlantLists) (points : List Listed) (before : ℕ) (path : List ℕ) → points_lead_along p points before path ≡ true → (k b x : ℕ) → slice_get (before ∷ path) k ≡ Some b → slice_get path k ≡ Some x → is_point_section p x ≡ true → is_listed_towards p points (b ∷ take 1 (drop (suc k) path)) x ≡ true
+points-at : (p : PlantLists) (points : List Listed) (before : ℕ) (path : List ℕ) →
+    points_lead_along p points before path ≡ true → (k b x : ℕ) → slice_get (before ∷ path) k ≡ Some b →
+    slice_get path k ≡ Some x → is_point_section p x ≡ true →
+    is_listed_towards p points (b ∷ take 1 (drop (suc k) path)) x ≡ true
 points-at p points before [] h k b x at also is_point = cc
 points-at p points before (y ∷ path) h zero b x at also is_point =
     let here : before ≡ b = same_Some before b at in
@@ -84,13 +87,26 @@ border-has_board p x d h at = rw at at h
 pub strict_from_rules : (p : PlantLists) → KeepsPathRules p → IsStrict p
 strict_from_rules p rules = record {
   leads = λ r route source it k x y at also.
-      leads-at p source.dir source.section route.path (source-passes p r route source (λ b. leads_on p b.dir b.section route.path) it (route-passes p (path_leads_on p) r route (rules.c1 r (slice_get_within p.routes r route it.known)) it.known)) k x y at also;
+      leads-at p source.dir source.section route.path
+      (source-passes p r route source (λ b. leads_on p b.dir b.section route.path) it
+      (route-passes p (path_leads_on p) r route
+      (rules.c1 r (slice_get_within p.routes r route it.known)) it.known)) k x y at also;
   ends = λ r route source it k x at last.
-      last-not_plain p source.dir route.path (source-passes p r route source (λ b. is_some_and (last_of route.path) (λ y. not (is_plain p b.dir y))) it (route-passes p (path_end_is_not_plain p) r route (rules.c2 r (slice_get_within p.routes r route it.known)) it.known)) k x at last;
+      last-not_plain p source.dir route.path
+      (source-passes p r route source
+      (λ b. is_some_and (last_of route.path) (λ y. not (is_plain p b.dir y))) it
+      (route-passes p (path_end_is_not_plain p) r route
+      (rules.c2 r (slice_get_within p.routes r route it.known)) it.known)) k x at last;
   points = λ r route source it k before x at also is_point.
       let Next : ℕ → Type 0 = λ n. is_listed_towards p route.points (before ∷ take 1 (drop n route.path)) x ≡ true in
       let next : suc k ≡ k + 1 = omega arith in
-      subst Next next (points-at p route.points source.section route.path (source-passes p r route source (λ b. points_lead_along p route.points b.section route.path) it (route-passes p (path_points_are_set p) r route (rules.c3 r (slice_get_within p.routes r route it.known)) it.known)) k before x at also is_point);
+      subst Next next
+      (points-at p route.points source.section route.path
+      (source-passes p r route source (λ b. points_lead_along p route.points b.section route.path)
+      it
+      (route-passes p (path_points_are_set p) r route
+      (rules.c3 r (slice_get_within p.routes r route it.known)) it.known)) k before x at
+      also is_point);
   borders = λ x d at. border-has_board p x d (rules.c7 x (border-known p x d at)) at;
 }
 

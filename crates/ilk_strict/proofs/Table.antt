@@ -63,8 +63,14 @@ module _ (p : PlantLists) (route : Route) (of : IsRouteOf p route) where
   -- a wanted point is one of the sections that are locked for the route
   pub wanted-locked : (k : ℕ) (listed : Listed) → slice_get (wanted_points route) k ≡ Some listed → has_section listed.point (sections_locked_for route) ≡ true
   wanted-locked k listed here = elim (at-either route.points route.protecting_points k listed here) [
-    | inl first ↦ list_any-append (λ y. y == listed.point) (sections_of route) (protecting_points_of route) ∙ or_left (has_section listed.point (sections_of route)) (has_section listed.point (protecting_points_of route)) (listed-passed first.0 listed first.1)
-    | inr second ↦ list_any-append (λ y. y == listed.point) (sections_of route) (protecting_points_of route) ∙ or_right (has_section listed.point (sections_of route)) (has_section listed.point (protecting_points_of route)) (section-from (protecting_points_of route) second.0 listed.point (listed-mapped route.protecting_points second.0 listed second.1))
+    | inl first ↦ list_any-append (λ y. y == listed.point) (sections_of route) (protecting_points_of route)
+        ∙ or_left (has_section listed.point (sections_of route))
+        (has_section listed.point (protecting_points_of route)) (listed-passed first.0 listed first.1)
+    | inr second ↦ list_any-append (λ y. y == listed.point) (sections_of route) (protecting_points_of route)
+        ∙ or_right (has_section listed.point (sections_of route))
+        (has_section listed.point (protecting_points_of route))
+        (section-from (protecting_points_of route) second.0 listed.point
+        (listed-mapped route.protecting_points second.0 listed second.1))
   ]
 
 -- a section of the path, or beside it, is one of those that are locked for the route
@@ -115,7 +121,10 @@ counts-some p n (one ∷ rest) (suc k) listed at lists =
     let later = counts-some p n rest k listed at lists in (later.0, rw later.1 refl)
 
 -- where entries list a point, each of them at one position, that counts
-pub listed-position : (p : PlantLists) (n : ℕ) (to : Position) (entries : List Listed) → ((j : ℕ) (one : Listed) → slice_get entries j ≡ Some one → lists_point p n one ≡ true → one.at ≡ to) → (k : ℕ) (listed : Listed) → slice_get entries k ≡ Some listed → lists_point p n listed ≡ true → listed_position p n entries ≡ Some to
+pub listed-position : (p : PlantLists) (n : ℕ) (to : Position) (entries : List Listed) →
+    ((j : ℕ) (one : Listed) → slice_get entries j ≡ Some one → lists_point p n one ≡ true → one.at ≡ to) →
+    (k : ℕ) (listed : Listed) → slice_get entries k ≡ Some listed → lists_point p n listed ≡ true →
+    listed_position p n entries ≡ Some to
 listed-position p n to entries alike k listed at lists =
     let some = counts-some p n entries k listed at lists in
     let from = counts-at p n entries some.0 some.1 in

@@ -120,7 +120,9 @@ module _ (p : PlantLists) (s : State) where
 
   led-from : (d : Dir) (x : ℕ) → IsLedBy p s d x → is_led p s d x ≡ true
   led-from d x led =
-      some_route-from p s (λ route now. some_place route (leads d x route now)) led.r led.route led.now led.it (some_place-from led.route (leads d x led.route led.now) led.i x led.at (all_of (may led.mode) (at_most led.now.seen (led.i + 1) led.seen) later))
+      some_route-from p s (λ route now. some_place route (leads d x route now)) led.r led.route led.now led.it
+      (some_place-from led.route (leads d x led.route led.now) led.i x led.at
+      (all_of (may led.mode) (at_most led.now.seen (led.i + 1) led.seen) later))
     where
       at_most : (n m : ℕ) → n ≤ m → nat_le n m ≡ true
       at_most n m h = grind (arith, nat_tests)
@@ -137,7 +139,11 @@ module _ (p : PlantLists) (s : State) where
 
   pub head-led : keeps_v7 p s ≡ true → (i : ℕ) (train : Train) (x : ℕ) → slice_get s.trains i ≡ Some train → last_or None train.body ≡ Some x → is_plain p train.dir x ≡ true → IsLedBy p s train.dir x
   head-led kept i train x at last plain =
-      let here : (if is_plain p train.dir x then is_led p s train.dir x else true) ≡ true = rw last at (list_all-slice_get (λ train. is_some_and (last_or None train.body) (λ x. if is_plain p train.dir x then is_led p s train.dir x else true)) s.trains i train kept at) in
+      let here : (if is_plain p train.dir x then is_led p s train.dir x else true) ≡ true = rw last at
+      (list_all-slice_get
+      (λ train. is_some_and (last_or None train.body)
+      (λ x. if is_plain p train.dir x then is_led p s train.dir x else true)) s.trains i train
+      kept at) in
       led-at train.dir x (if-passes (is_plain p train.dir x) (is_led p s train.dir x) here plain)
 
   pub heads-from : HasShape p s → ((i : ℕ) (train : Train) (x : ℕ) → slice_get s.trains i ≡ Some train → last_or None train.body ≡ Some x → is_plain p train.dir x ≡ true → IsLedBy p s train.dir x) → keeps_v7 p s ≡ true
@@ -170,7 +176,11 @@ module _ (p : PlantLists) (s : State) where
 
   kept_for-from : (d : Dir) (x : ℕ) → IsKeptBy p s d x → is_kept_for p s d x ≡ true
   kept_for-from d x kept =
-      some_route-from p s (keeps_for d x) kept.r kept.route kept.now kept.it (and_from (runs_in p d kept.route && is_locked_or_occupied kept.now) (is_kept_on_path kept.route kept.now x) (and_from (runs_in p d kept.route) (is_locked_or_occupied kept.now) kept.runs kept.mode) (kept-from kept.route kept.now kept.i x kept.least kept.at))
+      some_route-from p s (keeps_for d x) kept.r kept.route kept.now kept.it
+      (and_from (runs_in p d kept.route && is_locked_or_occupied kept.now)
+      (is_kept_on_path kept.route kept.now x)
+      (and_from (runs_in p d kept.route) (is_locked_or_occupied kept.now) kept.runs kept.mode)
+      (kept-from kept.route kept.now kept.i x kept.least kept.at))
 
   abbrev is_kept_if_plain : Dir → ℕ → Bool
   is_kept_if_plain d x = if is_plain p d x then is_kept_for p s d x else true
@@ -201,12 +211,18 @@ module _ (p : PlantLists) (s : State) where
       not_more n few = grind (arith, nat_tests)
 
   -- a train on a wrong point
-  pub wrong-at : (x : ℕ) → is_wrong p s x ≡ false → (stem plus minus : ℕ) (faces : Dir) → slice_get p.sections x ≡ Some (Point stem plus minus faces) → (i : ℕ) (train : Train) → slice_get s.trains i ≡ Some train → strays x plus minus (lie_of p s x) train.body ≡ false
+  pub wrong-at : (x : ℕ) → is_wrong p s x ≡ false → (stem plus minus : ℕ) (faces : Dir) →
+      slice_get p.sections x ≡ Some (Point stem plus minus faces) → (i : ℕ) (train : Train) →
+      slice_get s.trains i ≡ Some train → strays x plus minus (lie_of p s x) train.body ≡ false
   wrong-at x none stem plus minus faces section i train at =
       let each : list_any (λ train. strays x plus minus (lie_of p s x) train.body) s.trains ≡ false = rw section at none in
       list_any-none (λ train. strays x plus minus (lie_of p s x) train.body) s.trains i train each at
 
-  pub wrong-from : (x : ℕ) → ((stem plus minus : ℕ) (faces : Dir) → slice_get p.sections x ≡ Some (Point stem plus minus faces) → (i : ℕ) (train : Train) → slice_get s.trains i ≡ Some train → strays x plus minus (lie_of p s x) train.body ≡ false) → is_wrong p s x ≡ false
+  pub wrong-from : (x : ℕ) →
+      ((stem plus minus : ℕ) (faces : Dir) → slice_get p.sections x ≡ Some (Point stem plus minus faces) →
+      (i : ℕ) (train : Train) → slice_get s.trains i ≡ Some train →
+      strays x plus minus (lie_of p s x) train.body ≡ false) →
+      is_wrong p s x ≡ false
   wrong-from x each = by_section (slice_get p.sections x) refl
     where
       by_section : (o : Option Section) → slice_get p.sections x ≡ o → is_wrong p s x ≡ false
@@ -261,6 +277,10 @@ keeps-of p s meets =
 pub meets-from : (p : PlantLists) (s : State) → Keeps p s → Meets p s
 meets-from p s keeps = record {
   shape = keeps.shape;
-  no_hazard = ap (option_map _) (find-none-from (is_hazardous p s) (range_with_len 0 (length p.sections)) (λ i x at. let within = range_within (length p.sections) i x at in or_from (is_two s x) (is_wrong p s x) (keeps.one_train x within.1) (keeps.right_point x within.1)));
+  no_hazard = ap (option_map _)
+      (find-none-from (is_hazardous p s) (range_with_len 0 (length p.sections))
+      (λ i x at. let within = range_within (length p.sections) i x at in
+      or_from (is_two s x) (is_wrong p s x) (keeps.one_train x within.1)
+      (keeps.right_point x within.1)));
   families_kept = and_from _ _ keeps.v1 (and_from _ _ keeps.v2 (and_from _ _ keeps.v3 (and_from _ _ keeps.v4 (and_from _ _ keeps.v5 (and_from _ _ keeps.v6 (and_from _ _ keeps.v7 (and_from _ _ keeps.v8 (and_from _ _ keeps.v9 refl))))))));
 }

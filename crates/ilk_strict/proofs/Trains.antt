@@ -65,7 +65,10 @@ enter-trains p s t x it i train at =
       | inr new ↦ inr (new.0, sym new.1)
     ]
 
-pub head-trains : (p : PlantLists) (s t : State) (x : ℕ) → (it : IsHeaded p s t x) → (i : ℕ) (train : Train) → slice_get t.trains i ≡ Some train → ((i ≡ it.i) × (train ≡ with_new_head it.y it.train)) ⊎ ((i ≡ it.i → ⊥) × (slice_get s.trains i ≡ Some train))
+pub head-trains : (p : PlantLists) (s t : State) (x : ℕ) → (it : IsHeaded p s t x) → (i : ℕ) (train : Train) →
+    slice_get t.trains i ≡ Some train →
+    ((i ≡ it.i) × (train ≡ with_new_head it.y it.train))
+    ⊎ ((i ≡ it.i → ⊥) × (slice_get s.trains i ≡ Some train))
 head-trains p s t x it i train at =
     set-cases s.trains it.i i it.train (with_new_head it.y it.train) train it.at (sym (ap (λ (trains : List Train). slice_get trains i) it.trains) ∙ at)
 

@@ -43,6 +43,9 @@ pub record IsStrict (p : PlantLists) : Type 0 where
   -- C2: the last section of a path isn't plain in the route's direction: it has a board, or no neighbour
   pub ends : (r : ℕ) (route : Route) (source : Board) → IsFrom p r route source → (k x : ℕ) → slice_get route.path k ≡ Some x → k + 1 ≡ length route.path → is_plain p source.dir x ≡ false
   -- C3: each point x of a path is listed towards the section before it or the one after it
-  pub points : (r : ℕ) (route : Route) (source : Board) → IsFrom p r route source → (k before x : ℕ) → slice_get (source.section ∷ route.path) k ≡ Some before → slice_get route.path k ≡ Some x → IsTrue (is_point_section p x) → IsTrue (is_listed_towards p route.points (before ∷ take 1 (drop (k + 1) route.path)) x)
+  pub points : (r : ℕ) (route : Route) (source : Board) → IsFrom p r route source → (k before x : ℕ) →
+      slice_get (source.section ∷ route.path) k ≡ Some before → slice_get route.path k ≡ Some x →
+      IsTrue (is_point_section p x) →
+      IsTrue (is_listed_towards p route.points (before ∷ take 1 (drop (k + 1) route.path)) x)
   -- C7: a border has a board in its inward direction
   pub borders : (x : ℕ) (d : Dir) → border p x ≡ Some d → has_no_board p d x ≡ false

@@ -34,8 +34,10 @@ pub fn clean_is_strict(plant: &Plant)
 pub fn strict_is_safe(plant: &Plant)
     requires { IsStrict plant.now }
     ensures start { Meets plant.now (start plant.now) }
-    ensures step { (s t : State) (event : Event) → Meets plant.now s → next plant.now s event ≡ Some t → Meets plant.now t }
-    ensures runs { (events : List Event) (t : State) → run plant.now (start plant.now) events ≡ Some t → Meets plant.now t }
+    ensures step { (s t : State) (event : Event) → Meets plant.now s →
+        next plant.now s event ≡ Some t → Meets plant.now t }
+    ensures runs { (events : List Event) (t : State) →
+        run plant.now (start plant.now) events ≡ Some t → Meets plant.now t }
 {
     plant.is_sound();
 }

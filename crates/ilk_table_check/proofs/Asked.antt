@@ -28,7 +28,10 @@ adds_none rule n i test found none =
     rw (none_pass test 0 n (λ j below. none j (omega (arith, below)))) (sym (append-nil found))
 
 -- C5: each route that route i lists lists it
-pub none_alone : (p : PlantLists) (listed : List (List Bool)) (conflicts : List ℕ) (i : ℕ) (route : Route) → listed ≡ all_conflict_flags p → conflicts ≡ route.conflicts → i < length p.routes → slice_get p.routes i ≡ Some route → list_any (λ j. not (lists_by_flags listed j i)) conflicts ≡ false → (j : ℕ) → j < length p.routes → lists_alone p i j ≡ false
+pub none_alone : (p : PlantLists) (listed : List (List Bool)) (conflicts : List ℕ) (i : ℕ) (route : Route) →
+    listed ≡ all_conflict_flags p → conflicts ≡ route.conflicts → i < length p.routes →
+    slice_get p.routes i ≡ Some route → list_any (λ j. not (lists_by_flags listed j i)) conflicts ≡ false →
+    (j : ℕ) → j < length p.routes → lists_alone p i j ≡ false
 none_alone p listed conflicts i route is own first at none j second =
     rw at (by_test (list_any (λ r. r == j) route.conflicts) refl)
   where
@@ -85,7 +88,11 @@ none_kept p i j route at bare =
     by_route (Some other) = ap (list_any (λ m. m == other.source)) bare
 
 -- C8: route i has no protecting board or lists each other route, and its own source is none of its boards
-pub none_protected : (p : PlantLists) (listed : List (List Bool)) (i : ℕ) (route : Route) → listed ≡ all_conflict_flags p → i < length p.routes → slice_get p.routes i ≡ Some route → (list_any (λ m. m == route.source) route.protecting_boards || (nat_lt 0 (length route.protecting_boards) && any_other_unlisted listed i)) ≡ false → (j : ℕ) → j < length p.routes → protects_unlisted p i j ≡ false
+pub none_protected : (p : PlantLists) (listed : List (List Bool)) (i : ℕ) (route : Route) →
+    listed ≡ all_conflict_flags p → i < length p.routes → slice_get p.routes i ≡ Some route →
+    (list_any (λ m. m == route.source) route.protecting_boards
+    || (nat_lt 0 (length route.protecting_boards) && any_other_unlisted listed i)) ≡ false → (j : ℕ) →
+    j < length p.routes → protects_unlisted p i j ≡ false
 none_protected p listed i route is first at none j second =
     by_boards route.protecting_boards refl
   where
@@ -94,10 +101,20 @@ none_protected p listed i route is first at none j second =
 
     by_place : (b c : Bool) → nat_lt i j ≡ b → nat_lt j i ≡ c → any_other_unlisted listed i ≡ false → protects_unlisted p i j ≡ false
     by_place true c later e set =
-        let flags = or_parts (list_any not (take i (conflict_flags p i))) (list_any not (drop (i + 1) (conflict_flags p i))) (ap (λ found. is_some_and found (λ row. list_any not (take i row) || list_any not (drop (i + 1) row))) (sym (row-flagged p listed i is first)) ∙ set) in
+        let flags = or_parts (list_any not (take i (conflict_flags p i)))
+        (list_any not (drop (i + 1) (conflict_flags p i)))
+        (ap
+        (λ found. is_some_and found
+        (λ row. list_any not (take i row) || list_any not (drop (i + 1) row)))
+        (sym (row-flagged p listed i is first)) ∙ set) in
         neither (is_kept_closed_by p i j) (not (lists p i j)) (listed_after p i j second (grind (arith, nat_tests, later)) flags.1)
     by_place false true e earlier set =
-        let flags = or_parts (list_any not (take i (conflict_flags p i))) (list_any not (drop (i + 1) (conflict_flags p i))) (ap (λ found. is_some_and found (λ row. list_any not (take i row) || list_any not (drop (i + 1) row))) (sym (row-flagged p listed i is first)) ∙ set) in
+        let flags = or_parts (list_any not (take i (conflict_flags p i)))
+        (list_any not (drop (i + 1) (conflict_flags p i)))
+        (ap
+        (λ found. is_some_and found
+        (λ row. list_any not (take i row) || list_any not (drop (i + 1) row)))
+        (sym (row-flagged p listed i is first)) ∙ set) in
         neither (is_kept_closed_by p i j) (not (lists p i j)) (listed_before p i j second (grind (arith, nat_tests, earlier)) flags.0)
     by_place false false up down set =
         let same : i ≡ j = grind (arith, nat_tests, up, down) in

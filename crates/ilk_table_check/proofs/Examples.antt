@@ -136,22 +136,39 @@ unfolding station station_table linear route plus minus at_pair
 station-alone = refl
 
 -- a route that lists itself, a route that is not there and one twice
-station-conflicts : table_rules_broken station (station_table (plus (codes "p1")) (codes "r1" ∷ [])) ++ table_rules_broken station (station_table (plus (codes "p1")) (codes "r9" ∷ [])) ++ table_rules_broken station (station_table (plus (codes "p1")) (codes "r2" ∷ codes "r2" ∷ [])) ≡ at R6 0 ∷ at R6 0 ∷ at R6 0 ∷ []
+station-conflicts :
+    table_rules_broken station (station_table (plus (codes "p1")) (codes "r1" ∷ []))
+    ++ table_rules_broken station (station_table (plus (codes "p1")) (codes "r9" ∷ []))
+    ++ table_rules_broken station (station_table (plus (codes "p1")) (codes "r2" ∷ codes "r2" ∷ []))
+    ≡ at R6 0 ∷ at R6 0 ∷ at R6 0 ∷ []
 unfolding station station_table linear route plus minus at
 station-conflicts = refl
 
 -- a listed point that is no point section, one that is not in the path, and one twice
-station-points : table_rules_broken station (station_table (plus (codes "t1")) first_conflicts) ++ table_rules_broken station (station_table (plus (codes "p2")) first_conflicts) ++ table_rules_broken station (station_table (plus (codes "p1") ++ minus (codes "p1")) first_conflicts) ≡ at R4 0 ∷ at R4 0 ∷ at R4 0 ∷ []
+station-points :
+    table_rules_broken station (station_table (plus (codes "t1")) first_conflicts)
+    ++ table_rules_broken station (station_table (plus (codes "p2")) first_conflicts)
+    ++ table_rules_broken station
+    (station_table (plus (codes "p1") ++ minus (codes "p1")) first_conflicts)
+    ≡ at R4 0 ∷ at R4 0 ∷ at R4 0 ∷ []
 unfolding station station_table linear route plus minus first_conflicts at
 station-points = refl
 
 -- a protecting point of the path, one that is no point section, and one twice
-station-protecting_points : table_rules_broken station (protected_table (plus (codes "p1")) []) ++ table_rules_broken station (protected_table (plus (codes "t1")) []) ++ table_rules_broken station (protected_table (minus (codes "p2") ++ minus (codes "p2")) []) ≡ at R7 0 ∷ at R7 0 ∷ at R7 0 ∷ []
+station-protecting_points :
+    table_rules_broken station (protected_table (plus (codes "p1")) [])
+    ++ table_rules_broken station (protected_table (plus (codes "t1")) [])
+    ++ table_rules_broken station (protected_table (minus (codes "p2") ++ minus (codes "p2")) [])
+    ≡ at R7 0 ∷ at R7 0 ∷ at R7 0 ∷ []
 unfolding station station_table protected_table linear route plus minus first_conflicts at
 station-protecting_points = refl
 
 -- a protecting board that is the source, one that is not there, and one twice
-station-protecting_boards : table_rules_broken station (protected_table [] (codes "m1" ∷ [])) ++ table_rules_broken station (protected_table [] (codes "m9" ∷ [])) ++ table_rules_broken station (protected_table [] (codes "m3" ∷ codes "m3" ∷ [])) ≡ at R8 0 ∷ at R8 0 ∷ at R8 0 ∷ []
+station-protecting_boards :
+    table_rules_broken station (protected_table [] (codes "m1" ∷ []))
+    ++ table_rules_broken station (protected_table [] (codes "m9" ∷ []))
+    ++ table_rules_broken station (protected_table [] (codes "m3" ∷ codes "m3" ∷ []))
+    ≡ at R8 0 ∷ at R8 0 ∷ at R8 0 ∷ []
 unfolding station station_table protected_table linear route plus minus first_conflicts at
 station-protecting_boards = refl
 

@@ -35,20 +35,35 @@ flags_more numbers i d y a b c within before after =
         ∙ ap (λ t. has_section y (take i numbers) || t) (or-false (get_or numbers i d == y))
 
 -- the flags of the points of a list, as it grows by one
-pub points_more : (points : List Listed) (i : ℕ) (d : Listed) (y : ℕ) (a b c : Bool) → i < length points → b ≡ (a || has_section y (take i (map (λ listed. listed.point) points))) → c ≡ (b || ((get_or points i d).point == y)) → c ≡ (a || has_section y (take (i + 1) (map (λ listed. listed.point) points)))
+pub points_more : (points : List Listed) (i : ℕ) (d : Listed) (y : ℕ) (a b c : Bool) → i < length points →
+    b ≡ (a || has_section y (take i (map (λ listed. listed.point) points))) →
+    c ≡ (b || ((get_or points i d).point == y)) →
+    c ≡ (a || has_section y (take (i + 1) (map (λ listed. listed.point) points)))
 points_more points i d y a b c within before after =
     let point : Listed → ℕ = λ listed. listed.point in
     let item : get_or (map point points) i d.point ≡ (get_or points i d).point = get_or-map point points i d d.point within in
     flags_more (map point points) i d.point y a b c (omega (arith, within, length-map points point)) before (after ∙ ap (λ n. b || (n == y)) (sym item))
 
 -- the routes that a route lists
-pub listed-row : (p : PlantLists) (i n : ℕ) (route : Route) (flags : List Bool) (numbers : List ℕ) → n ≡ length p.routes → length flags ≡ n → numbers ≡ route.conflicts → slice_get p.routes i ≡ Some route → ((y : ℕ) → y < n → get_or flags y false ≡ has_section y numbers) → flags ≡ conflict_flags p i
+pub listed-row : (p : PlantLists) (i n : ℕ) (route : Route) (flags : List Bool) (numbers : List ℕ) →
+    n ≡ length p.routes → length flags ≡ n → numbers ≡ route.conflicts → slice_get p.routes i ≡ Some route →
+    ((y : ℕ) → y < n → get_or flags y false ≡ has_section y numbers) → flags ≡ conflict_flags p i
 listed-row p i n route flags numbers whole count own at tell =
     fill_by_all (lists p i) flags n false count (λ y below. tell y below ∙ ap (has_section y) own ∙ rw at refl)
     ∙ ap (λ m. map (lists p i) (range_with_len 0 m)) whole
 
 -- the sections that are locked for a route
-pub locked-row : (p : PlantLists) (i n : ℕ) (route : Route) (first second third : List Bool) (path overlap : List ℕ) (points : List Listed) → n ≡ length p.sections → path ≡ route.path → overlap ≡ route.overlap → points ≡ route.protecting_points → slice_get p.routes i ≡ Some route → length first ≡ n → length second ≡ length first → length third ≡ length second → ((y : ℕ) → y < n → get_or first y false ≡ has_section y path) → ((y : ℕ) → y < length first → get_or second y false ≡ (get_or first y false || has_section y overlap)) → ((y : ℕ) → y < length second → get_or third y false ≡ (get_or second y false || has_section y (map (λ listed. listed.point) points))) → third ≡ locked_flags p i
+pub locked-row :
+    (p : PlantLists) (i n : ℕ) (route : Route) (first second third : List Bool) (path overlap : List ℕ)
+    (points : List Listed) →
+    n ≡ length p.sections → path ≡ route.path → overlap ≡ route.overlap → points ≡ route.protecting_points →
+    slice_get p.routes i ≡ Some route → length first ≡ n → length second ≡ length first →
+    length third ≡ length second → ((y : ℕ) → y < n → get_or first y false ≡ has_section y path) →
+    ((y : ℕ) → y < length first → get_or second y false ≡ (get_or first y false || has_section y overlap)) →
+    ((y : ℕ) → y < length second →
+    get_or third y false ≡ (get_or second y false || has_section y (map (λ listed. listed.point) points)))
+    →
+    third ≡ locked_flags p i
 locked-row p i n route first second third path overlap points whole own_path own_overlap own_points at one two three by_path by_overlap by_points =
     fill_by_all test third n false (three ∙ two ∙ one) (λ y below. tell y below ∙ sym (joined y) ∙ rw at refl)
     ∙ ap (λ m. map test (range_with_len 0 m)) whole

@@ -32,7 +32,9 @@ none_twice_last (y ∷ ys) x =
     (λ i. not (here i) && later i) ∙ both (has_section y ys) (none_twice ys) (has_section x ys) (y == x)
 
 -- the test of a list, with its next number
-pub once_more : (numbers : List ℕ) (i d : ℕ) (before seen now : Bool) → i < length numbers → before ≡ none_twice (take i numbers) → seen ≡ has_section (get_or numbers i d) (take i numbers) → now ≡ (before && not seen) → now ≡ none_twice (take (i + 1) numbers)
+pub once_more : (numbers : List ℕ) (i d : ℕ) (before seen now : Bool) → i < length numbers →
+    before ≡ none_twice (take i numbers) → seen ≡ has_section (get_or numbers i d) (take i numbers) →
+    now ≡ (before && not seen) → now ≡ none_twice (take (i + 1) numbers)
 once_more numbers i d before seen now within sofar has is =
     is ∙ (λ j. sofar j && not (has j)) ∙ sym (none_twice_last (take i numbers) (get_or numbers i d)) ∙ ap none_twice (sym (take_more numbers i d within))
 
@@ -45,7 +47,10 @@ number_below n numbers i d all within = by_test (nat_lt (get_or numbers i d) n) 
     by_test false e = let none = list_all_at (λ x. nat_lt x n) numbers i d within e in absurd (cc)
 
 -- the same by flags of the numbers before, all of which are below n
-pub once_next : (numbers : List ℕ) (i d n : ℕ) (flags slice : List Bool) (before now : Bool) → slice ≡ flags → i < length numbers → list_all (λ x. nat_lt x n) numbers ≡ true → before ≡ none_twice (take i numbers) → ((y : ℕ) → y < n → get_or flags y false ≡ has_section y (take i numbers)) → now ≡ (before && not (get_or slice (get_or numbers i d) false)) → now ≡ none_twice (take (i + 1) numbers)
+pub once_next : (numbers : List ℕ) (i d n : ℕ) (flags slice : List Bool) (before now : Bool) → slice ≡ flags →
+    i < length numbers → list_all (λ x. nat_lt x n) numbers ≡ true → before ≡ none_twice (take i numbers) →
+    ((y : ℕ) → y < n → get_or flags y false ≡ has_section y (take i numbers)) →
+    now ≡ (before && not (get_or slice (get_or numbers i d) false)) → now ≡ none_twice (take (i + 1) numbers)
 once_next numbers i d n flags slice before now same within all sofar tell is =
     once_more numbers i d before (get_or slice (get_or numbers i d) false) now within sofar (ap (λ l. get_or l (get_or numbers i d) false) same ∙ tell (get_or numbers i d) (number_below n numbers i d all within)) is
 

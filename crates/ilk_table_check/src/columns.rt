@@ -65,7 +65,8 @@ fn breaks(plant: &Plant, rule: Rule, i: u32) -> bool
 // Adds the places at which a rule of one place is broken.
 fn push_places(found: &mut Row<Broken>, plant: &Plant, rule: Rule) -> Result<(), AllocError>
     ensures { OnOk result (found.new ≡ found.old
-        ++ broken_at rule (count_in_plant plant.now (places_of rule)) (breaks_columns plant.now rule)) }
+        ++ broken_at rule (count_in_plant plant.now (places_of rule))
+        (breaks_columns plant.now rule)) }
 {
     for i in 0..count(plant, rule.places()) {
         let entry = Broken {
@@ -89,7 +90,11 @@ fn push_pairs_of(
 ) -> Result<(), AllocError>
     requires first { i < length plant.now.routes }
     requires listed { listed.now ≡ all_conflict_flags plant.now }
-    ensures { OnOk result (found.new ≡ found.old ++ pairs_of rule (length plant.now.routes) i (breaks_columns_at_pair plant.now rule i)) }
+    ensures { OnOk result
+        (found.new
+        ≡ found.old
+        ++ pairs_of rule (length plant.now.routes) i
+        (breaks_columns_at_pair plant.now rule i)) }
 {
     if !is_to_be_asked(plant, listed, rule, i) {
         return Ok(());
@@ -119,7 +124,11 @@ fn push_pairs(
     rule: Rule,
 ) -> Result<(), AllocError>
     requires { listed.now ≡ all_conflict_flags plant.now }
-    ensures { OnOk result (found.new ≡ found.old ++ broken_at_pairs rule (length plant.now.routes) (breaks_columns_at_pair plant.now rule)) }
+    ensures { OnOk result
+        (found.new
+        ≡ found.old
+        ++ broken_at_pairs rule (length plant.now.routes)
+        (breaks_columns_at_pair plant.now rule)) }
 {
     for i in 0..plant.routes() {
         push_pairs_of(alloc, found, plant, listed, rule, i)?;

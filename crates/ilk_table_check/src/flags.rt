@@ -26,7 +26,8 @@ impl Flags {
     /// So many flags, none of which is set.
     pub fn new(alloc: Global, count: u32) -> Result<Flags, AllocError>
         ensures count { IfOk result (λ flags. length flags ≡ count) }
-        ensures flags { IfOk result (λ flags. (y : ℕ) → y < count → slice_index_or flags y false ≡ false) }
+        ensures flags { IfOk result
+            (λ flags. (y : ℕ) → y < count → slice_index_or flags y false ≡ false) }
     {
         Ok(Flags {
             flags: vec![in alloc; false; count as usize]?,
@@ -36,7 +37,9 @@ impl Flags {
     /// So many flags: whether a number is among these.
     pub fn of(alloc: Global, count: u32, numbers: &[u32]) -> Result<Flags, AllocError>
         ensures count { IfOk result (λ flags. length flags ≡ count) }
-        ensures flags { IfOk result (λ flags. (y : ℕ) → y < count → slice_index_or flags y false ≡ has_number y numbers.now) }
+        ensures flags { IfOk result
+            (λ flags. (y : ℕ) → y < count →
+            slice_index_or flags y false ≡ has_number y numbers.now) }
     {
         let mut flags = Flags::new(alloc, count)?;
         flags.set_all(numbers);
@@ -75,7 +78,8 @@ impl Flags {
     pub fn set_all(&mut self, numbers: &[u32])
         ensures count { length self.new ≡ length self.old }
         ensures flags { (y : ℕ) → y < length self.old →
-            slice_index_or self.new y false ≡ (slice_index_or self.old y false || has_number y numbers.now) }
+            slice_index_or self.new y false
+            ≡ (slice_index_or self.old y false || has_number y numbers.now) }
     {
         for x in numbers {
             self.set(*x);
@@ -86,7 +90,10 @@ impl Flags {
     pub fn set_points(&mut self, points: &[Listed])
         ensures count { length self.new ≡ length self.old }
         ensures flags { (y : ℕ) → y < length self.old →
-            slice_index_or self.new y false ≡ (slice_index_or self.old y false || has_section y (map (λ listed. listed.point) points.now)) }
+            slice_index_or self.new y false
+            ≡
+            (slice_index_or self.old y false
+            || has_section y (map (λ listed. listed.point) points.now)) }
     {
         for listed in points {
             self.set(listed.point);

@@ -33,7 +33,9 @@ fn any_flagged(flags: &Flags, sections: &[u32]) -> bool
 
 // Whether one of these points has its flag.
 fn any_point_flagged(flags: &Flags, points: &[Listed]) -> bool
-    ensures { result ≡ list_any (λ x. slice_index_or flags.now x false) (map (λ listed. listed.point) points.now) }
+    ensures { result
+        ≡ list_any (λ x. slice_index_or flags.now x false)
+        (map (λ listed. listed.point) points.now) }
 {
     points
         .iter()

@@ -91,7 +91,9 @@ fn is_point_of(plant: &Numbered, route: &Route, x: u32) -> bool
 
 // Whether each listed point is a point section of path or overlap.
 fn are_points_of(plant: &Numbered, route: &Route) -> bool
-    ensures { result ≡ list_all (λ x. is_point_section plant.now x && has_section x (sections_of route.now)) (points_of route.now) }
+    ensures { result
+        ≡ list_all (λ x. is_point_section plant.now x && has_section x (sections_of route.now))
+        (points_of route.now) }
 {
     let points = route.points.as_slice();
     points
@@ -161,14 +163,18 @@ fn has_conflicts_once(
 
 // Whether `x` is a point section in neither path nor overlap of a route.
 fn is_point_apart(plant: &Numbered, route: &Route, x: u32) -> bool
-    ensures { result ≡ (is_point_section plant.now x && not (has_section x (sections_of route.now))) }
+    ensures { result
+        ≡ (is_point_section plant.now x && not (has_section x (sections_of route.now))) }
 {
     plant.is_point_section(x) && !is_among_both(x, route.path.as_slice(), route.overlap.as_slice())
 }
 
 // Whether each protecting point is a point section in neither path nor overlap.
 fn are_points_apart(plant: &Numbered, route: &Route) -> bool
-    ensures { result ≡ list_all (λ x. is_point_section plant.now x && not (has_section x (sections_of route.now))) (protecting_points_of route.now) }
+    ensures { result
+        ≡ list_all
+        (λ x. is_point_section plant.now x && not (has_section x (sections_of route.now)))
+        (protecting_points_of route.now) }
 {
     let points = route.protecting_points.as_slice();
     points
@@ -194,7 +200,9 @@ fn is_other_board(plant: &Numbered, source: u32, m: u32) -> bool
 
 // Whether each protecting board is a board other than the source.
 fn are_other_boards(plant: &Numbered, route: &Route) -> bool
-    ensures { result ≡ list_all (λ m. is_board plant.now m && not (m == route.now.source)) route.now.protecting_boards }
+    ensures { result
+        ≡ list_all (λ m. is_board plant.now m && not (m == route.now.source))
+        route.now.protecting_boards }
 {
     let boards = route.protecting_boards.as_slice();
     boards

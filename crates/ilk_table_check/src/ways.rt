@@ -106,7 +106,9 @@ fn is_point_section(plant: &Plant, x: u32) -> bool
 
 // Whether the leg of section `x` at a position is the section before it or the first after it.
 fn leads_along(plant: &Plant, x: u32, at: Position, before: u32, rest: &[u32]) -> bool
-    ensures { result ≡ list_any (λ y. is_some_and (slice_get plant.now.sections x) (is_leg at y)) (before ∷ take 1 rest.now) }
+    ensures { result
+        ≡ list_any (λ y. is_some_and (slice_get plant.now.sections x) (is_leg at y))
+        (before ∷ take 1 rest.now) }
 {
     is_leg(plant, x, at, before)
         || match rest {
@@ -125,7 +127,10 @@ fn is_listed_towards(plant: &Plant, points: &Row<Listed>, before: u32, rest: &[u
 
 // Whether section `x` is no point, or is listed towards the section before it or the first after it.
 fn leads_through(plant: &Plant, points: &Row<Listed>, before: u32, rest: &[u32], x: u32) -> bool
-    ensures { result ≡ (not (is_point_section plant.now x) || is_listed_towards plant.now points.now (before ∷ take 1 rest.now) x) }
+    ensures { result
+        ≡
+        (not (is_point_section plant.now x)
+        || is_listed_towards plant.now points.now (before ∷ take 1 rest.now) x) }
 {
     !is_point_section(plant, x) || is_listed_towards(plant, points, before, rest, x)
 }
@@ -154,7 +159,10 @@ fn is_listed_if_point(plant: &Plant, route: &Route, x: u32) -> bool
 
 // Whether each point of an overlap is listed.
 fn overlap_points_are_listed(plant: &Plant, route: &Route) -> bool
-    ensures { result ≡ list_all (λ x. not (is_point_section plant.now x) || has_section x (points_of route.now)) route.now.overlap }
+    ensures { result
+        ≡ list_all
+        (λ x. not (is_point_section plant.now x) || has_section x (points_of route.now))
+        route.now.overlap }
 {
     let overlap = route.overlap.as_slice();
     overlap.iter().all(|x| is_listed_if_point(plant, route, *x))

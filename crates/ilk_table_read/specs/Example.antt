@@ -21,12 +21,25 @@ document_value sections routes =
 -- a linear section of this name, neighbours down and up, and boards for down and up
 abbrev pub linear_value : Name → Option Name → Option Name → Option Name → Option Name → Data
 linear_value name down up board_down board_up =
-    object (member (codes "board_down") (optional_value board_down) (member (codes "board_up") (optional_value board_up) (member (codes "down") (optional_value down) (member (codes "kind") (string (codes "linear")) (member (codes "name") (string name) (member (codes "up") (optional_value up) no_members))))))
+    object
+    (member (codes "board_down") (optional_value board_down)
+    (member (codes "board_up") (optional_value board_up)
+    (member (codes "down") (optional_value down)
+    (member (codes "kind") (string (codes "linear"))
+    (member (codes "name") (string name)
+    (member (codes "up") (optional_value up) no_members))))))
 
 -- a route of this name from this board over one section, which ends at no board
 abbrev pub route_value : Name → Name → Name → Data
 route_value name source section =
-    object (member (codes "conflicts") (array no_items) (member (codes "destination") null (member (codes "name") (string name) (member (codes "overlap") (array no_items) (member (codes "path") (array (item (string section) no_items)) (member (codes "points") (array no_items) (member (codes "source") (string source) no_members)))))))
+    object
+    (member (codes "conflicts") (array no_items)
+    (member (codes "destination") null
+    (member (codes "name") (string name)
+    (member (codes "overlap") (array no_items)
+    (member (codes "path") (array (item (string section) no_items))
+    (member (codes "points") (array no_items)
+    (member (codes "source") (string source) no_members)))))))
 
 abbrev pub linear : Name → Option Name → Option Name → Option Name → Option Name → SectionDraft
 linear name down up board_down board_up = record { name = name; kind = Linear down up board_down board_up }
@@ -48,7 +61,11 @@ bare_table = record { routes = [] }
 -- the line with the board m1 on a for up, the board m2 on b for down, and a route from each board
 abbrev pub boarded_value : Data
 boarded_value =
-    document_value (item (linear_value (codes "a") None (Some (codes "b")) None (Some (codes "m1"))) (item (linear_value (codes "b") (Some (codes "a")) None (Some (codes "m2")) None) no_items)) (item (route_value (codes "r1") (codes "m1") (codes "b")) (item (route_value (codes "r2") (codes "m2") (codes "a")) no_items))
+    document_value
+    (item (linear_value (codes "a") None (Some (codes "b")) None (Some (codes "m1")))
+    (item (linear_value (codes "b") (Some (codes "a")) None (Some (codes "m2")) None) no_items))
+    (item (route_value (codes "r1") (codes "m1") (codes "b"))
+    (item (route_value (codes "r2") (codes "m2") (codes "a")) no_items))
 
 abbrev pub boarded_net : NetDraft
 boarded_net = record { sections = linear (codes "a") None (Some (codes "b")) None (Some (codes "m1")) ∷ linear (codes "b") (Some (codes "a")) None (Some (codes "m2")) None ∷ [] }
@@ -58,8 +75,10 @@ boarded_table = record { routes = route (codes "r1") (codes "m1") (codes "b") �
 
 -- the text of the line with no board and no route
 abbrev pub bare_text : List ℕ
-bare_text = codes "{\"version\":1,\"sections\":[{\"name\":\"a\",\"kind\":\"linear\",\"down\":null,\"up\":\"b\",\"board_down\":null,\"board_up\":null},{\"name\":\"b\",\"kind\":\"linear\",\"down\":\"a\",\"up\":null,\"board_down\":null,\"board_up\":null}],\"routes\":[]}"
+bare_text = codes
+    "{\"version\":1,\"sections\":[{\"name\":\"a\",\"kind\":\"linear\",\"down\":null,\"up\":\"b\",\"board_down\":null,\"board_up\":null},{\"name\":\"b\",\"kind\":\"linear\",\"down\":\"a\",\"up\":null,\"board_down\":null,\"board_up\":null}],\"routes\":[]}"
 
 -- the text of the line with its boards and its routes
 abbrev pub boarded_text : List ℕ
-boarded_text = codes "{\"version\":1,\"sections\":[{\"name\":\"a\",\"kind\":\"linear\",\"down\":null,\"up\":\"b\",\"board_down\":null,\"board_up\":\"m1\"},{\"name\":\"b\",\"kind\":\"linear\",\"down\":\"a\",\"up\":null,\"board_down\":\"m2\",\"board_up\":null}],\"routes\":[{\"name\":\"r1\",\"source\":\"m1\",\"destination\":null,\"path\":[\"b\"],\"overlap\":[],\"points\":[],\"conflicts\":[]},{\"name\":\"r2\",\"source\":\"m2\",\"destination\":null,\"path\":[\"a\"],\"overlap\":[],\"points\":[],\"conflicts\":[]}]}"
+boarded_text = codes
+    "{\"version\":1,\"sections\":[{\"name\":\"a\",\"kind\":\"linear\",\"down\":null,\"up\":\"b\",\"board_down\":null,\"board_up\":\"m1\"},{\"name\":\"b\",\"kind\":\"linear\",\"down\":\"a\",\"up\":null,\"board_down\":\"m2\",\"board_up\":null}],\"routes\":[{\"name\":\"r1\",\"source\":\"m1\",\"destination\":null,\"path\":[\"b\"],\"overlap\":[],\"points\":[],\"conflicts\":[]},{\"name\":\"r2\",\"source\":\"m2\",\"destination\":null,\"path\":[\"a\"],\"overlap\":[],\"points\":[],\"conflicts\":[]}]}"

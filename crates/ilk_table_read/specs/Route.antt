@@ -51,4 +51,15 @@ as_route version d = do
   conflicts ← texts_at (codes "conflicts") d
   protecting_points ← since_second version (points_at (codes "protecting_points") d)
   protecting_boards ← since_second version (texts_at (codes "protecting_boards") d)
-  only_if (has_members (route_members version) d) (record { name = name; source = source; destination = destination; path = path; overlap = overlap; points = points; conflicts = conflicts; protecting_points = protecting_points; protecting_boards = protecting_boards })
+  only_if (has_members (route_members version) d)
+      (record {
+        name = name;
+        source = source;
+        destination = destination;
+        path = path;
+        overlap = overlap;
+        points = points;
+        conflicts = conflicts;
+        protecting_points = protecting_points;
+        protecting_boards = protecting_boards;
+      })

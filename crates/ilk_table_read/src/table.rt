@@ -18,7 +18,8 @@ use std::alloc::Global;
 
 fn routes(alloc: Global, version: Version, values: &[Value]) -> Result<Row<RouteDraft>, FormError>
     requires { length values.now ≤ MAX_ROUTES }
-    ensures exact { Gives result (in_order (route_of version) 0 (entries_of (items_view values.now))) }
+    ensures exact { Gives result
+        (in_order (route_of version) 0 (entries_of (items_view values.now))) }
     ensures count { IfOk result (λ routes. length routes ≡ length values.now) }
     ensures limits { IfOk result (λ routes. list_all route_has_limits routes ≡ true) }
     ensures named { IfOk result (λ routes. list_all route_has_names routes ≡ true) }

@@ -128,10 +128,17 @@ module _ (p : PlantLists) (d : Dir) where
       by_test false k e = let found : (rest : List ℕ) × (slice_get (ways p d n y) k ≡ Some rest) × (y ∷ rest ≡ path) = map-at (λ way. y ∷ way) (ways p d n y) k path e in (found.0, found.2)
 
   -- two ways over one section
-  over-one : (n x y : ℕ) → ((i j : ℕ) (first second : List ℕ) → i < j → slice_get (ways p d n y) i ≡ Some first → slice_get (ways p d n y) j ≡ Some second → PartsByPlus p d y first second) → (i j : ℕ) (first second : List ℕ) → i < j → slice_get (over n y) i ≡ Some first → slice_get (over n y) j ≡ Some second → PartsByPlus p d x first second
+  over-one : (n x y : ℕ) →
+      ((i j : ℕ) (first second : List ℕ) → i < j → slice_get (ways p d n y) i ≡ Some first →
+      slice_get (ways p d n y) j ≡ Some second → PartsByPlus p d y first second) →
+      (i j : ℕ) (first second : List ℕ) → i < j → slice_get (over n y) i ≡ Some first →
+      slice_get (over n y) j ≡ Some second → PartsByPlus p d x first second
   over-one n x y onward i j first second less at also = by_test (ends_way p d y) j less at also
     where
-      by_test : (b : Bool) (m : ℕ) → i < m → slice_get (if b then (y ∷ []) ∷ [] else map (λ way. y ∷ way) (ways p d n y)) i ≡ Some first → slice_get (if b then (y ∷ []) ∷ [] else map (λ way. y ∷ way) (ways p d n y)) m ≡ Some second → PartsByPlus p d x first second
+      by_test : (b : Bool) (m : ℕ) → i < m →
+          slice_get (if b then (y ∷ []) ∷ [] else map (λ way. y ∷ way) (ways p d n y)) i ≡ Some first →
+          slice_get (if b then (y ∷ []) ∷ [] else map (λ way. y ∷ way) (ways p d n y)) m ≡ Some second →
+          PartsByPlus p d x first second
       by_test true zero low e f = absurd (omega (arith, low))
       by_test true (suc m) low e f = absurd (cc)
       by_test false m low e f =
@@ -148,7 +155,11 @@ module _ (p : PlantLists) (d : Dir) where
       let parts : PartsByPlus p d x (y ∷ one.0) (z ∷ two.0) = inl are in
       subst (λ a. PartsByPlus p d x a second) one.1 (subst (λ b. PartsByPlus p d x (y ∷ one.0) b) two.1 parts)
 
-  in-order-of : (n x : ℕ) (next : List ℕ) → next_to p x d ≡ next → length next ≤ 2 → ((y i j : ℕ) (first second : List ℕ) → i < j → slice_get (ways p d n y) i ≡ Some first → slice_get (ways p d n y) j ≡ Some second → PartsByPlus p d y first second) → (i j : ℕ) (first second : List ℕ) → i < j → slice_get (flat_map (over n) next) i ≡ Some first → slice_get (flat_map (over n) next) j ≡ Some second → PartsByPlus p d x first second
+  in-order-of : (n x : ℕ) (next : List ℕ) → next_to p x d ≡ next → length next ≤ 2 →
+      ((y i j : ℕ) (first second : List ℕ) → i < j → slice_get (ways p d n y) i ≡ Some first →
+      slice_get (ways p d n y) j ≡ Some second → PartsByPlus p d y first second) →
+      (i j : ℕ) (first second : List ℕ) → i < j → slice_get (flat_map (over n) next) i ≡ Some first →
+      slice_get (flat_map (over n) next) j ≡ Some second → PartsByPlus p d x first second
   in-order-of n x [] are few onward i j first second less at also = absurd (cc)
   in-order-of n x (y ∷ []) are few onward i j first second less at also =
       elim (split-at (over n y) [] i first at) [

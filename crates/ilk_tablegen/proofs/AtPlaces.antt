@@ -140,5 +140,10 @@ module _ (p : PlantLists) (names : List (List ℕ)) where
   none-unprotected i j less other_less =
       let at = at-route p i less in
       let other = at-route p j other_less in
-      let open_ : is_kept_closed_by q i j ≡ false = ap (λ o. is_some_and o (λ route. is_some_and (slice_get (network_routes p) j) (λ r. list_any (λ m. m == r.source) route.protecting_boards))) at.here ∙ ap (λ o. is_some_and o (λ (r : Route). false)) other.here in
+      let open_ : is_kept_closed_by q i j ≡ false =
+      ap
+      (λ o. is_some_and o
+      (λ route. is_some_and (slice_get (network_routes p) j)
+      (λ r. list_any (λ m. m == r.source) route.protecting_boards))) at.here
+      ∙ ap (λ o. is_some_and o (λ (r : Route). false)) other.here in
       ap (λ b. b && not (lists q i j)) open_

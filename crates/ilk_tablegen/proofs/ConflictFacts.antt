@@ -71,7 +71,11 @@ pub passing-once : (test : ℕ → Bool) (a m : ℕ) → none_twice (filter test
 passing-once test a zero = refl
 passing-once test a (suc m) = by_test (test a) (none-low test a (a + 1) m (omega arith)) (passing-once test (a + 1) m)
   where
-    by_test : (c : Bool) → has_section a (filter test (range_with_len (a + 1) m)) ≡ false → none_twice (filter test (range_with_len (a + 1) m)) ≡ true → none_twice (cond c (a ∷ filter test (range_with_len (a + 1) m)) (filter test (range_with_len (a + 1) m))) ≡ true
+    by_test : (c : Bool) → has_section a (filter test (range_with_len (a + 1) m)) ≡ false →
+        none_twice (filter test (range_with_len (a + 1) m)) ≡ true →
+        none_twice
+        (cond c (a ∷ filter test (range_with_len (a + 1) m)) (filter test (range_with_len (a + 1) m)))
+        ≡ true
     by_test true fresh later = both_true (ap not fresh) later
     by_test false fresh later = later
 
@@ -94,7 +98,10 @@ conflicts-few paths n path =
 
 pub conflicts-other : (paths : List (List ℕ)) (n : ℕ) (path : List ℕ) (m : ℕ) → m ≡ length paths → list_all (λ k. nat_lt k m && not (k == n)) (conflicts_of paths n path) ≡ true
 conflicts-other paths n path m count =
-    all-pass (λ k. nat_lt k m && not (k == n)) (conflicts_of paths n path) (λ i k at. both_true (below k i at) (and_parts (not (k == n)) (share_section path (get_or paths k [])) (filter-passes (conflicts_with paths n path) (range_with_len 0 (length paths)) i k at)).0)
+    all-pass (λ k. nat_lt k m && not (k == n)) (conflicts_of paths n path)
+    (λ i k at. both_true (below k i at)
+    (and_parts (not (k == n)) (share_section path (get_or paths k []))
+    (filter-passes (conflicts_with paths n path) (range_with_len 0 (length paths)) i k at)).0)
   where
     below : (k i : ℕ) → slice_get (conflicts_of paths n path) i ≡ Some k → nat_lt k m ≡ true
     below k i at =

@@ -12,7 +12,9 @@ enumerate_from-push k (y ∷ xs) x =
     ap (λ rest. (k, y) ∷ rest) (enumerate_from-push (k + 1) xs x ∙ ap (λ n. enumerate_from (k + 1) xs ++ (n, x) ∷ []) same)
 
 -- what is made of the first items, and of one more
-pub made-more : {X Y : Type 0} (f : ℕ × X → Y) (xs : List X) (i : ℕ) (d : X) (made next : List Y) → i < length xs → made ≡ map f (enumerate_from 0 (take i xs)) → next ≡ made ++ f (i, get_or xs i d) ∷ [] → next ≡ map f (enumerate_from 0 (take (i + 1) xs))
+pub made-more : {X Y : Type 0} (f : ℕ × X → Y) (xs : List X) (i : ℕ) (d : X) (made next : List Y) →
+    i < length xs → made ≡ map f (enumerate_from 0 (take i xs)) → next ≡ made ++ f (i, get_or xs i d) ∷ [] →
+    next ≡ map f (enumerate_from 0 (take (i + 1) xs))
 made-more f xs i d made next within before after =
     let count : 0 + length (take i xs) ≡ i = omega (arith, within, length-take i xs) in
     after
@@ -23,7 +25,9 @@ made-more f xs i d made next within before after =
     ∙ ap (λ l. map f (enumerate_from 0 l)) (sym (take_more xs i d within))
 
 -- the same by what stands at the place
-pub made-more_at : {X Y : Type 0} (f : ℕ × X → Y) (xs : List X) (i : ℕ) (x : X) (made next : List Y) → slice_get xs i ≡ Some x → made ≡ map f (enumerate_from 0 (take i xs)) → next ≡ made ++ f (i, x) ∷ [] → next ≡ map f (enumerate_from 0 (take (i + 1) xs))
+pub made-more_at : {X Y : Type 0} (f : ℕ × X → Y) (xs : List X) (i : ℕ) (x : X) (made next : List Y) →
+    slice_get xs i ≡ Some x → made ≡ map f (enumerate_from 0 (take i xs)) → next ≡ made ++ f (i, x) ∷ [] →
+    next ≡ map f (enumerate_from 0 (take (i + 1) xs))
 made-more_at f xs i x made next at before after =
     made-more f xs i x made next (slice_get_within xs i x at) before (after ∙ ap (λ y. made ++ f (i, y) ∷ []) (sym (get_or_from_slice_get xs i x x at)))
 

@@ -198,7 +198,12 @@ all-ended p (way ∷ found) go =
 abbrev begun : ℕ × Board → Way
 begun numbered = record { source = numbered.0; from = numbered.1; path = [] }
 
-begun-become : (p : PlantLists) (n : ℕ) → flat_map (completed p n) (begun_ways p) ≡ flat_map (λ numbered. map (λ path. record { source = numbered.0; from = numbered.1; path = path }) (ways p numbered.1.dir n numbered.1.section)) (enumerate_from 0 p.boards)
+begun-become : (p : PlantLists) (n : ℕ) →
+    flat_map (completed p n) (begun_ways p)
+    ≡ flat_map
+    (λ numbered. map (λ path. record { source = numbered.0; from = numbered.1; path = path })
+    (ways p numbered.1.dir n numbered.1.section))
+    (enumerate_from 0 p.boards)
 begun-become p n = flat_map-map (completed p n) begun (enumerate_from 0 p.boards)
 
 begun-whole : (p : PlantLists) → flat_map (completed p MAX_PATH) (begun_ways p) ≡ all_ways p

@@ -80,7 +80,10 @@ all-are p = numbered 0 p.boards (λ i board at. let place : 0 + i ≡ i = omega 
         let first : slice_get p.boards k ≡ Some board = ap (slice_get p.boards) (sym here) ∙ stand 0 board refl in
         All-append (IsWayOf p) (ways_from p k board) (flat_map (λ place. ways_from p place.0 place.1) (enumerate_from (k + 1) boards))
         (All-map (IsWayOf p) (λ path. record { source = k; from = board; path = path }) (ways p board.dir MAX_PATH board.section)
-        (All-implied (IsWay p board.dir MAX_PATH board.section) (λ path. IsWayOf p (record { source = k; from = board; path = path })) (λ path way. record { board = first; walk = way }) (ways p board.dir MAX_PATH board.section) (ways-are p board.dir MAX_PATH board.section)))
+        (All-implied (IsWay p board.dir MAX_PATH board.section)
+        (λ path. IsWayOf p (record { source = k; from = board; path = path }))
+        (λ path way. record { board = first; walk = way }) (ways p board.dir MAX_PATH board.section)
+        (ways-are p board.dir MAX_PATH board.section)))
         (numbered (k + 1) boards (λ i other at. let place : k + 1 + i ≡ k + suc i = omega arith in ap (slice_get p.boards) place ∙ stand (suc i) other at))
 
 -- the sections of a way are sections

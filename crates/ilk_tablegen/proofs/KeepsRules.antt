@@ -65,7 +65,11 @@ module _ (p : PlantLists) (plant : IsPlant p) (n : ℕ) (way : Way) (of : IsWayO
   points-within : All (λ (listed : Listed). listed.point < length p.section_names) (points_along p way.from.section way.path)
   points-within =
       All-tested (λ (listed : Listed). nat_lt listed.point (length p.section_names)) (λ (listed : Listed). listed.point < length p.section_names) (λ listed h. below listed.point (length p.section_names) h) (points_along p way.from.section way.path)
-      (sym (list_all-map (λ x. nat_lt x (length p.section_names)) (λ (listed : Listed). listed.point) (points_along p way.from.section way.path)) ∙ listed-pass p (λ x. nat_lt x (length p.section_names)) way.from.section way.path (λ x is on. on-path x on))
+      (sym
+      (list_all-map (λ x. nat_lt x (length p.section_names)) (λ (listed : Listed). listed.point)
+      (points_along p way.from.section way.path))
+      ∙ listed-pass p (λ x. nat_lt x (length p.section_names)) way.from.section way.path
+      (λ x is on. on-path x on))
 
   ends-at : (m : ℕ) → destination_of p way ≡ Some m → m < length p.board_names
   ends-at m e =
@@ -81,7 +85,11 @@ module _ (p : PlantLists) (plant : IsPlant p) (n : ℕ) (way : Way) (of : IsWayO
     path = let count = plant.sections_named in All-implied (λ y. y < length p.sections) (λ y. y < length p.section_names) (λ y less. omega (arith, less, count)) way.path within;
     overlap = refl;
     points = points-within;
-    conflicts = All-from_places (λ k. k < length (all_paths p)) (route_of_way p (all_paths p) n way).conflicts (λ i k at. let less : k < 0 + length (all_paths p) = passing_within (conflicts_with (all_paths p) n way.path) 0 (length (all_paths p)) i k at in omega (arith, less));
+    conflicts = All-from_places (λ k. k < length (all_paths p)) (route_of_way p (all_paths p) n way).conflicts
+        (λ i k at. let less : k
+        < 0 + length (all_paths p) = passing_within (conflicts_with (all_paths p) n way.path) 0
+        (length (all_paths p)) i k at in
+        omega (arith, less));
     protecting_points = refl;
     protecting_boards = refl;
   }
@@ -148,12 +156,20 @@ module _ (p : PlantLists) (plant : IsPlant p) (n : ℕ) (way : Way) (of : IsWayO
       points : list_all (λ (listed : ListedDraft). is_name listed.point) (map (named_point p) (points_along p way.from.section way.path)) ≡ true
       points =
           list_all-map (λ (listed : ListedDraft). is_name listed.point) (named_point p) (points_along p way.from.section way.path)
-          ∙ all-pass (λ (listed : Listed). is_name (name_of p.section_names listed.point)) (points_along p way.from.section way.path) (λ i listed at. section-named listed.point (all-at (λ (l : Listed). l.point < length p.section_names) (points_along p way.from.section way.path) i listed points-within at))
+          ∙ all-pass (λ (listed : Listed). is_name (name_of p.section_names listed.point))
+          (points_along p way.from.section way.path)
+          (λ i listed at. section-named listed.point
+          (all-at (λ (l : Listed). l.point < length p.section_names)
+          (points_along p way.from.section way.path) i listed points-within at))
 
       conflicts : list_all is_name (map route_name (route_of_way p (all_paths p) n way).conflicts) ≡ true
       conflicts =
           list_all-map is_name route_name (route_of_way p (all_paths p) n way).conflicts
-          ∙ all-pass (λ k. is_name (route_name k)) (route_of_way p (all_paths p) n way).conflicts (λ i k at. route_name-is k (let low : k < length (all_paths p) = all-at (λ j. j < length (all_paths p)) (route_of_way p (all_paths p) n way).conflicts i k known-way.conflicts at in omega (arith, low, few)))
+          ∙ all-pass (λ k. is_name (route_name k)) (route_of_way p (all_paths p) n way).conflicts
+          (λ i k at. route_name-is k
+          (let low : k < length (all_paths p) = all-at (λ j. j < length (all_paths p))
+          (route_of_way p (all_paths p) n way).conflicts i k known-way.conflicts at in
+          omega (arith, low, few)))
 
 -- the rules of the table, and of the columns
 module _ (p : PlantLists) (plant : IsPlant p) (never : NeverReturns p) (few : length (network_routes p) ≤ MAX_ROUTES) where
@@ -229,7 +245,16 @@ module _ (p : PlantLists) (plant : IsPlant p) (never : NeverReturns p) (few : le
   table-limits = record {
     few = let count = length-map (enumerate_from 0 (network_routes p)) (λ numbered. named_route p numbered.0 numbered.1) in omega (arith, few, count, length-enumerate_from 0 (network_routes p));
     each = all-pass route_has_limits (network_table p).routes (λ i draft e. let found = draft-at i draft e in let at = found.0 in ap route_has_limits (sym found.1) ∙ limits-way p plant i at.way at.of (omega (arith, few, count-paths p)));
-    named = all-pass route_has_names (network_table p).routes (λ i draft e. let found = draft-at i draft e in let at = found.0 in ap route_has_names (sym found.1) ∙ names-way p plant i at.way at.of (omega (arith, few, count-paths p)) (omega (arith, count-paths p, slice_get_within (network_routes p) i (route_of_way p (all_paths p) i at.way) at.here)));
+    named = all-pass route_has_names (network_table p).routes
+        (λ i draft e. let found = draft-at i draft e in let at = found.0 in
+        ap route_has_names (sym found.1)
+        ∙ names-way p plant i at.way at.of (omega (arith, few, count-paths p))
+        (omega (
+          arith,
+          count-paths p,
+          slice_get_within (network_routes p) i (route_of_way p (all_paths p) i at.way)
+              at.here,
+        )));
   }
     where
       draft-at : (i : ℕ) (draft : RouteDraft) → slice_get (network_table p).routes i ≡ Some draft → (at : At p i) × (named_route p i (route_of_way p (all_paths p) i at.way) ≡ draft)

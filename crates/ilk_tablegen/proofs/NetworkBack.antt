@@ -69,7 +69,12 @@ module _ (net : NetDraft) (table : TableDraft) (rules : KeepsNetworkRules net) w
       known-back boards name (omega (arith, less, count, named))
 
   -- a kind whose names come back
-  kind-back : (kind : KindDraft) → ((k : ℕ) (end : End) → slice_get (ends kind) k ≡ Some end → ComesBack sections end.name) → ((d : Dir) (name : Name) → board_on (numbered_section sections boards kind) d ≡ Some (number_of boards name) → ComesBack boards name) → named_kind q (numbered_section sections boards kind) ≡ kind
+  kind-back : (kind : KindDraft) →
+      ((k : ℕ) (end : End) → slice_get (ends kind) k ≡ Some end → ComesBack sections end.name) →
+      ((d : Dir) (name : Name) →
+      board_on (numbered_section sections boards kind) d ≡ Some (number_of boards name) →
+      ComesBack boards name) →
+      named_kind q (numbered_section sections boards kind) ≡ kind
   kind-back (LinearDraft down up board_down board_up) end-named board-named =
       λ i. LinearDraft (option-back sections down at-down i) (option-back sections up at-up i) (option-back boards board_down (on Down board_down refl) i) (option-back boards board_up (on Up board_up refl) i)
     where
@@ -97,7 +102,10 @@ module _ (net : NetDraft) (table : TableDraft) (rules : KeepsNetworkRules net) w
       name-at =
           get_or_from_slice_get sections x section.name [] (slice_get-map (λ (s : SectionDraft). s.name) net.sections x ∙ ap (option_map (λ (s : SectionDraft). s.name)) at)
 
-  sections-back : (k : ℕ) (rest : List SectionDraft) → ((i : ℕ) (section : SectionDraft) → slice_get rest i ≡ Some section → slice_get net.sections (k + i) ≡ Some section) → map (λ place. named_section q place.0 place.1) (enumerate_from k (map number rest)) ≡ rest
+  sections-back : (k : ℕ) (rest : List SectionDraft) →
+      ((i : ℕ) (section : SectionDraft) → slice_get rest i ≡ Some section →
+      slice_get net.sections (k + i) ≡ Some section) →
+      map (λ place. named_section q place.0 place.1) (enumerate_from k (map number rest)) ≡ rest
   sections-back k [] stand = refl
   sections-back k (section ∷ rest) stand =
       let here : k ≡ k + 0 = omega arith in

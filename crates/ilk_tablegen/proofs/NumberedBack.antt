@@ -108,8 +108,15 @@ back-route p names are n route known = λ i. record {
     protecting_boards = ap (λ l. map (number_of p.board_names) (map (name_of p.board_names) l)) known.protecting_boards ∙ sym known.protecting_boards
 
 -- and so all
-pub back-routes : (p : PlantLists) (names : List Name) → AreNames p names → (k : ℕ) (routes : List Route) → All (IsKnown p (length names)) routes → map (numbered_route p.section_names p.board_names names) (map (λ numbered. named_route p numbered.0 numbered.1) (enumerate_from k routes)) ≡ routes
+pub back-routes : (p : PlantLists) (names : List Name) → AreNames p names → (k : ℕ) (routes : List Route) →
+    All (IsKnown p (length names)) routes →
+    map (numbered_route p.section_names p.board_names names)
+    (map (λ numbered. named_route p numbered.0 numbered.1) (enumerate_from k routes)) ≡ routes
 back-routes p names are k [] known = refl
 back-routes p names are k (route ∷ routes) known =
-    ap (λ r. r ∷ map (numbered_route p.section_names p.board_names names) (map (λ numbered. named_route p numbered.0 numbered.1) (enumerate_from (k + 1) routes))) (back-route p names are k route (All-head (IsKnown p (length names)) route routes known))
+    ap
+    (λ r. r
+    ∷ map (numbered_route p.section_names p.board_names names)
+    (map (λ numbered. named_route p numbered.0 numbered.1) (enumerate_from (k + 1) routes)))
+    (back-route p names are k route (All-head (IsKnown p (length names)) route routes known))
     ∙ ap (λ l. route ∷ l) (back-routes p names are (k + 1) routes (All-tail (IsKnown p (length names)) route routes known))

@@ -85,7 +85,11 @@ listed-once p before (x ∷ rest) h =
     not-true true e = absurd (cc)
     not-true false e = refl
 
-    first : (o : Option Position) → has_section x (numbers (points_along p x rest)) ≡ false → none_twice (numbers (points_along p x rest)) ≡ true → none_twice (numbers (option_to_list (option_map (λ at. record { point = x; at = at }) o)) ++ numbers (points_along p x rest)) ≡ true
+    first : (o : Option Position) → has_section x (numbers (points_along p x rest)) ≡ false →
+        none_twice (numbers (points_along p x rest)) ≡ true →
+        none_twice
+        (numbers (option_to_list (option_map (λ at. record { point = x; at = at }) o))
+        ++ numbers (points_along p x rest)) ≡ true
     first None fresh later = later
     first (Some at) fresh later = both_true (ap not fresh) later
 
@@ -123,15 +127,23 @@ listed-few p before (x ∷ rest) =
 right-true : (a b : Bool) → b ≡ true → (a || b) ≡ true
 right-true a b e = ap (λ c. a || c) e ∙ or-true a
 
-leg-in : (p : PlantLists) (x stem plus minus : ℕ) (faces : Dir) (sections : List ℕ) (k y : ℕ) → slice_get p.sections x ≡ Some (Point stem plus minus faces) → slice_get sections k ≡ Some y → has_section y (plus ∷ minus ∷ []) ≡ true → (towards p sections x Plus || towards p sections x Minus) ≡ true
+leg-in : (p : PlantLists) (x stem plus minus : ℕ) (faces : Dir) (sections : List ℕ) (k y : ℕ) →
+    slice_get p.sections x ≡ Some (Point stem plus minus faces) → slice_get sections k ≡ Some y →
+    has_section y (plus ∷ minus ∷ []) ≡ true →
+    (towards p sections x Plus || towards p sections x Minus) ≡ true
 leg-in p x stem plus minus faces sections k y is here leg =
     elim (either (plus == y) ((minus == y) || false) leg) [
       | inl e ↦ or_left (towards p sections x Plus) (towards p sections x Minus) (list_any-from (λ z. is_some_and (slice_get p.sections x) (is_leg Plus z)) sections k y here (ap (λ o. is_some_and o (is_leg Plus y)) is ∙ e))
-      | inr e ↦ right-true (towards p sections x Plus) (towards p sections x Minus) (list_any-from (λ z. is_some_and (slice_get p.sections x) (is_leg Minus z)) sections k y here (ap (λ o. is_some_and o (is_leg Minus y)) is ∙ sym (or-false (minus == y)) ∙ e))
+      | inr e ↦ right-true (towards p sections x Plus) (towards p sections x Minus)
+          (list_any-from (λ z. is_some_and (slice_get p.sections x) (is_leg Minus z)) sections k y here
+          (ap (λ o. is_some_and o (is_leg Minus y)) is ∙ sym (or-false (minus == y)) ∙ e))
     ]
 
 -- a way that comes from the stem leads on over a leg
-leg-ahead : (p : PlantLists) (d : Dir) (before x stem plus minus : ℕ) (faces : Dir) (rest : List ℕ) → is_way p d before (x ∷ rest) ≡ true → slice_get p.sections x ≡ Some (Point stem plus minus faces) → same_direction faces d ≡ true → (towards p (before ∷ take 1 rest) x Plus || towards p (before ∷ take 1 rest) x Minus) ≡ true
+leg-ahead : (p : PlantLists) (d : Dir) (before x stem plus minus : ℕ) (faces : Dir) (rest : List ℕ) →
+    is_way p d before (x ∷ rest) ≡ true → slice_get p.sections x ≡ Some (Point stem plus minus faces) →
+    same_direction faces d ≡ true →
+    (towards p (before ∷ take 1 rest) x Plus || towards p (before ∷ take 1 rest) x Minus) ≡ true
 leg-ahead p d before x stem plus minus faces [] way is e =
     let ends : ends_way p d x ≡ true = (and_parts (has_section x (next_to p before d)) (ends_way p d x) way).1 in
     let none : (length (beside (Point stem plus minus faces) d) == 0) ≡ true = rw is at ends in
@@ -144,7 +156,11 @@ leg-ahead p d before x stem plus minus faces (z ∷ rest) way is e =
     leg-in p x stem plus minus faces (before ∷ take 1 (z ∷ rest)) 1 z is refl (ap (λ c. has_section z (if c then plus ∷ minus ∷ [] else stem ∷ [])) (sym e) ∙ beyond)
 
 -- and else comes over one
-leg-behind : (p : PlantLists) → IsPlant p → (d : Dir) (before x stem plus minus : ℕ) (faces : Dir) (rest : List ℕ) → is_way p d before (x ∷ rest) ≡ true → slice_get p.sections x ≡ Some (Point stem plus minus faces) → same_direction faces (opposite_direction d) ≡ true → (towards p (before ∷ take 1 rest) x Plus || towards p (before ∷ take 1 rest) x Minus) ≡ true
+leg-behind : (p : PlantLists) → IsPlant p →
+    (d : Dir) (before x stem plus minus : ℕ) (faces : Dir) (rest : List ℕ) →
+    is_way p d before (x ∷ rest) ≡ true → slice_get p.sections x ≡ Some (Point stem plus minus faces) →
+    same_direction faces (opposite_direction d) ≡ true →
+    (towards p (before ∷ take 1 rest) x Plus || towards p (before ∷ take 1 rest) x Minus) ≡ true
 leg-behind p plant d before x stem plus minus faces rest way is e =
     let back : has_section before (next_to p x (opposite_direction d)) ≡ true = back-opposite p plant before x d (first-next p d before x rest way) in
     let behind : has_section before (beside (Point stem plus minus faces) (opposite_direction d)) ≡ true = rw is at back in
@@ -181,7 +197,11 @@ listed-here p before x rest legs = by_plus (towards p sections x Plus) refl legs
     mine : (at : Position) → towards p sections x at ≡ true → (((x == x) && towards p sections x at) || false) ≡ true
     mine at e = or_left ((x == x) && towards p sections x at) false (both_true (eq-eqb x x refl) e)
 
-    by_plus : (b : Bool) → towards p sections x Plus ≡ b → (b || towards p sections x Minus) ≡ true → list_any (is_one p sections x) (option_to_list (option_map (λ at. record { point = x; at = at }) (cond b (Some Plus) (cond (towards p sections x Minus) (Some Minus) None)))) ≡ true
+    by_plus : (b : Bool) → towards p sections x Plus ≡ b → (b || towards p sections x Minus) ≡ true →
+        list_any (is_one p sections x)
+        (option_to_list
+        (option_map (λ at. record { point = x; at = at })
+        (cond b (Some Plus) (cond (towards p sections x Minus) (Some Minus) None)))) ≡ true
     by_plus true e h = mine Plus e
     by_plus false e h = ap (λ c. list_any (is_one p sections x) (option_to_list (option_map (λ at. record { point = x; at = at }) (cond c (Some Minus) None)))) h ∙ mine Minus h
 
@@ -198,7 +218,11 @@ listed-along p plant d front before (x ∷ rest) way =
         (list_any-append (is_one p (before ∷ take 1 rest) x) (listed_between p before x rest) (points_along p x rest)
         ∙ or_left (list_any (is_one p (before ∷ take 1 rest) x) (listed_between p before x rest)) (list_any (is_one p (before ∷ take 1 rest) x) (points_along p x rest)) (listed-here p before x rest (leg-along p plant d before x rest way e)))
 
-    later : (r : List ℕ) → (is_way p d x r ≡ true → points_lead_along p ((front ++ listed_between p before x r) ++ points_along p x r) x r ≡ true) → is_way p d before (x ∷ r) ≡ true → points_lead_along p (front ++ (listed_between p before x r ++ points_along p x r)) x r ≡ true
+    later : (r : List ℕ) →
+        (is_way p d x r ≡ true →
+        points_lead_along p ((front ++ listed_between p before x r) ++ points_along p x r) x r ≡ true) →
+        is_way p d before (x ∷ r) ≡ true →
+        points_lead_along p (front ++ (listed_between p before x r ++ points_along p x r)) x r ≡ true
     later [] onward h = refl
     later (z ∷ r) onward h =
         ap (λ (points : List Listed). points_lead_along p points x (z ∷ r)) (sym (append_assoc front (listed_between p before x (z ∷ r)) (points_along p x (z ∷ r))))

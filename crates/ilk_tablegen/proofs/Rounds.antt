@@ -53,7 +53,10 @@ board-within p plant m board at =
     slice_get_within p.sections board.section found.0 found.1
 
 -- the flag of a board's section
-pub flag-of_board : (p : PlantLists) → IsPlant p → (m : ℕ) (board : Board) (d : Dir) (flags : List Bool) (b : Bool) → slice_get p.boards m ≡ Some board → board.dir ≡ d → flags ≡ going_on p d MAX_PATH → b ≡ get_or flags board.section false → b ≡ is_some_and (slice_get p.boards m) (has_no_end p)
+pub flag-of_board : (p : PlantLists) → IsPlant p →
+    (m : ℕ) (board : Board) (d : Dir) (flags : List Bool) (b : Bool) → slice_get p.boards m ≡ Some board →
+    board.dir ≡ d → flags ≡ going_on p d MAX_PATH → b ≡ get_or flags board.section false →
+    b ≡ is_some_and (slice_get p.boards m) (has_no_end p)
 flag-of_board p plant m board d flags b at towards are tells =
     tells
     ∙ ap (λ l. get_or l board.section false) are

@@ -26,7 +26,11 @@ with_conflicts p way conflicts = record {
   protecting_boards = [];
 }
 
-each-told : (p : PlantLists) (paths : List (List ℕ)) (k : ℕ) (found : List Way) → All (λ (way : Way). All (λ y. y < length p.sections) way.path) found → map (λ numbered. route_by_flags p (map (flags_of (length p.sections)) paths) numbered.0 numbered.1) (enumerate_from k found) ≡ map (λ numbered. route_of_way p paths numbered.0 numbered.1) (enumerate_from k found)
+each-told : (p : PlantLists) (paths : List (List ℕ)) (k : ℕ) (found : List Way) →
+    All (λ (way : Way). All (λ y. y < length p.sections) way.path) found →
+    map (λ numbered. route_by_flags p (map (flags_of (length p.sections)) paths) numbered.0 numbered.1)
+    (enumerate_from k found)
+    ≡ map (λ numbered. route_of_way p paths numbered.0 numbered.1) (enumerate_from k found)
 each-told p paths k [] within = refl
 each-told p paths k (way ∷ found) within =
     let P : Way → Type 0 = λ w. All (λ y. y < length p.sections) w.path in
@@ -35,7 +39,12 @@ each-told p paths k (way ∷ found) within =
     ∙ ap (λ l. route_of_way p paths k way ∷ l) (each-told p paths (k + 1) found (All-tail P way found within))
 
 -- the routes that the code makes are those of the network
-pub routes-told : (p : PlantLists) → IsPlant p → (count : ℕ) (found items : List Way) (flags : List (List Bool)) (routes : List Route) → count ≡ length p.sections → found ≡ all_ways p → items ≡ found → flags ≡ map (flags_of count) (paths_of found) → routes ≡ map (λ numbered. route_by_flags p flags numbered.0 numbered.1) (enumerate_from 0 items) → routes ≡ network_routes p
+pub routes-told : (p : PlantLists) → IsPlant p →
+    (count : ℕ) (found items : List Way) (flags : List (List Bool)) (routes : List Route) →
+    count ≡ length p.sections → found ≡ all_ways p → items ≡ found →
+    flags ≡ map (flags_of count) (paths_of found) →
+    routes ≡ map (λ numbered. route_by_flags p flags numbered.0 numbered.1) (enumerate_from 0 items) →
+    routes ≡ network_routes p
 routes-told p plant count found items flags routes whole all same flagged made =
     made
     ∙ (λ i. map (λ numbered. route_by_flags p (flagged i) numbered.0 numbered.1) (enumerate_from 0 (same i)))

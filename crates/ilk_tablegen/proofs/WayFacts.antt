@@ -75,6 +75,8 @@ at-end p d z h = by_board (board_of p z d) refl h
     by_board None is e = e
     by_board (Some m) is e = ap (λ b. is_some_and b (λ n. n == m)) is ∙ eq-eqb m m refl
 
-pub way-between : (p : PlantLists) (d : Dir) (x : ℕ) (path : List ℕ) (destination : Option ℕ) (z : ℕ) → is_way p d x path ≡ true → last_of path ≡ Some z → ends_way p d z ≡ true → destination ≡ board_of p z d → is_between_boards p d destination path ≡ true
+pub way-between : (p : PlantLists) (d : Dir) (x : ℕ) (path : List ℕ) (destination : Option ℕ) (z : ℕ) →
+    is_way p d x path ≡ true → last_of path ≡ Some z → ends_way p d z ≡ true → destination ≡ board_of p z d →
+    is_between_boards p d destination path ≡ true
 way-between p d x path destination z h last ends is =
     both_true (way-free p d x path h) (ap (λ o. is_some_and o (ends_path p d destination)) last ∙ ap (λ o. ends_path p d o z) is ∙ at-end p d z ends)

@@ -14,7 +14,8 @@ use std::alloc::{AllocError, Global};
 // Whether there is a section, no way in direction `d` ends at it, and it has its flag.
 fn is_flagged(plant: &Plant, d: Dir, flags: &[bool], next: Option<u32>) -> bool
     requires { IfSome next (λ y. y < length plant.now.sections) }
-    ensures { result ≡ is_some_and next (λ y. not (ends_way plant.now d y) && slice_index_or flags.now y false) }
+    ensures { result
+        ≡ is_some_and next (λ y. not (ends_way plant.now d y) && slice_index_or flags.now y false) }
 {
     match next {
         Some(y) => !ends_way(plant, d, y) && flag_at(flags, y),
@@ -39,7 +40,10 @@ fn one_longer(
     d: Dir,
     flags: &Row<bool>,
 ) -> Result<Row<bool>, AllocError>
-    ensures { IfOk result (λ made. made ≡ map (leads_to_flagged plant.now d flags.now) (range_with_len 0 (length plant.now.sections))) }
+    ensures { IfOk result
+        (λ made. made
+        ≡ map (leads_to_flagged plant.now d flags.now)
+        (range_with_len 0 (length plant.now.sections))) }
 {
     let mut made = Row::new(alloc);
     for x in 0..plant.sections() {

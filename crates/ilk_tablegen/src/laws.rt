@@ -22,7 +22,8 @@ use ilk_plant::Plant;
 /// the columns none but C7, at just the sections at which the network breaks it. So where no border
 /// lacks its board the table breaks no rule at all. It does nothing, and tells a proof.
 pub fn table_keeps_rules(plant: &Plant)
-    ensures { (net : NetDraft) (other table : TableDraft) → plant.now ≡ numbered net other → walks plant.now ≡ Routes table → KeepsAllButC7 plant.now net table }
+    ensures { (net : NetDraft) (other table : TableDraft) → plant.now ≡ numbered net other →
+        walks plant.now ≡ Routes table → KeepsAllButC7 plant.now net table }
 {
     plant.is_sound();
     plant.is_of_drafts();
@@ -31,7 +32,8 @@ pub fn table_keeps_rules(plant: &Plant)
 /// A network that is within the limits and breaks no rule is sound with a table without routes, so
 /// that there is a plant of it. It does nothing, and tells a proof.
 pub fn bare_network_is_sound()
-    ensures { (net : NetDraft) → NetworkHasLimits net → network_rules_broken net ≡ [] → AreSound net no_routes }
+    ensures { (net : NetDraft) → NetworkHasLimits net → network_rules_broken net ≡ [] →
+        AreSound net no_routes }
 {}
 
 /// Where a network breaks no rule, the draft of its plant is the network that the plant was made of,
@@ -61,9 +63,16 @@ pub fn network_and_table_keep_rules(plant: &Plant)
 /// listed twice. A section goes on for so many sections exactly where so many lead on at none of which
 /// a way ends. It does nothing, and tells a proof.
 pub fn ways_are_all(_plant: &Plant)
-    ensures each { (d : Dir) (n x : ℕ) (path : List ℕ) → Contains (ways _plant.now d n x) path ↔ ((length path ≤ n) × IsWayFrom _plant.now d x path) }
-    ensures order { (d : Dir) (n x i j : ℕ) (first second : List ℕ) → i < j → slice_get (ways _plant.now d n x) i ≡ Some first → slice_get (ways _plant.now d n x) j ≡ Some second → PartsByPlus _plant.now d x first second }
-    ensures on { (d : Dir) (n x : ℕ) → IsTrue (goes_on _plant.now d n x) ↔ ((path : List ℕ) × (length path ≡ n) × GoesOnOver _plant.now d x path) }
+    ensures each { (d : Dir) (n x : ℕ) (path : List ℕ) →
+        Contains (ways _plant.now d n x) path ↔
+        ((length path ≤ n) × IsWayFrom _plant.now d x path) }
+    ensures order { (d : Dir) (n x i j : ℕ) (first second : List ℕ) → i < j →
+        slice_get (ways _plant.now d n x) i ≡ Some first →
+        slice_get (ways _plant.now d n x) j ≡ Some second →
+        PartsByPlus _plant.now d x first second }
+    ensures on { (d : Dir) (n x : ℕ) →
+        IsTrue (goes_on _plant.now d n x) ↔
+        ((path : List ℕ) × (length path ≡ n) × GoesOnOver _plant.now d x path) }
 {}
 
 /// Of the rules of the columns a plant without routes can break C7 alone. It does nothing, and tells a

@@ -9,7 +9,9 @@ use std::alloc::{AllocError, Global};
 
 // Whether the leg of section `x` at a position is the section before it or the first after it.
 fn leads_along(plant: &Plant, x: u32, at: Position, before: u32, after: &[u32]) -> bool
-    ensures { result ≡ list_any (λ y. is_some_and (slice_get plant.now.sections x) (is_leg at y)) (before ∷ take 1 after.now) }
+    ensures { result
+        ≡ list_any (λ y. is_some_and (slice_get plant.now.sections x) (is_leg at y))
+        (before ∷ take 1 after.now) }
 {
     is_leg(plant, x, at, before)
         || match after {

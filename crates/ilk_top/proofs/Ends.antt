@@ -12,7 +12,11 @@ adds-nothing None = refl
 adds-nothing (Some all) = ap Some (sym (append-nil all))
 
 -- words that give no command are answered with a usage error, and nothing is written
-pub Tells-usage : {L O : Type 0} (cert_written : L → Option (List ℕ)) (cert_faults : L → ℕ) (out_written : O → Option (List ℕ)) (out_faults : O → ℕ) (left extra : Option (List ℕ)) (cert : L) (out : O) → Tells (IsAnswerTo None left extra) cert_written cert_faults out_written out_faults Usage cert cert out out
+pub Tells-usage :
+    {L O : Type 0} (cert_written : L → Option (List ℕ)) (cert_faults : L → ℕ)
+    (out_written : O → Option (List ℕ)) (out_faults : O → ℕ) (left extra : Option (List ℕ)) (cert : L)
+    (out : O) →
+    Tells (IsAnswerTo None left extra) cert_written cert_faults out_written out_faults Usage cert cert out out
 Tells-usage cert_written cert_faults out_written out_faults left extra cert out = record {
   whole = λ h. (
     reply Usage [],

@@ -22,7 +22,11 @@ pub record Fed (old new : Option (List ℕ)) (before reader : Reader) (count : �
   pub counted : length done ≡ count
 
 -- the next piece was taken too, and fed to the reader
-pub Fed-more : (old new after : Option (List ℕ)) (before reader more : Reader) (count : ℕ) (piece given : List ℕ) (n : ℕ) → Fed old new before reader count → Takes new after piece → length piece ≡ n → given ≡ piece → WasFed reader more given → Fed old after before more (count + n)
+pub Fed-more :
+    (old new after : Option (List ℕ)) (before reader more : Reader) (count : ℕ) (piece given : List ℕ) (n : ℕ)
+    →
+    Fed old new before reader count → Takes new after piece → length piece ≡ n → given ≡ piece →
+    WasFed reader more given → Fed old after before more (count + n)
 Fed-more old new after before reader more count piece given n so_far takes same whole fed = record {
   done = so_far.done ++ piece;
   takes = Takes-then old new after so_far.done piece so_far.takes takes;

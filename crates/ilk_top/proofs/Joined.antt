@@ -72,7 +72,11 @@ comes-maybe plan stages (Some c) plant s k e =
     let told : Some true ≡ Some false = sym (comes-told plan stages (Some c) (Ok plant) s k) ∙ e in absurd (cc)
 
 -- what answers what was found answers the configuration
-pub answer-told : {E : Type 0} (command : Command) (stages : Stages) (left extra : Option (List ℕ)) (found : Result PlantLists Refusals) (made : Result Reply E) → (plan_of command).stages ≡ Some stages → IfSome left (λ c. found ≡ plant_of stages c) → IfOk made (AnswersSome command found extra) → IfOk made (IsAnswerTo (Some command) left extra)
+pub answer-told :
+    {E : Type 0} (command : Command) (stages : Stages) (left extra : Option (List ℕ))
+    (found : Result PlantLists Refusals) (made : Result Reply E) →
+    (plan_of command).stages ≡ Some stages → IfSome left (λ c. found ≡ plant_of stages c) →
+    IfOk made (AnswersSome command found extra) → IfOk made (IsAnswerTo (Some command) left extra)
 answer-told command stages left extra found (Err e) s k some = tt
 answer-told command stages None extra found (Ok made) s k some =
     let Told : Option Stages → Type 0 = λ o. AnswersConf o command None extra made in subst Told (sym s) tt
@@ -91,7 +95,13 @@ module _ {C D : Type 0} (conf_left : C → Option (List ℕ)) (conf_faults : C �
       subst Read (sym planned) r
 
   -- it did, and the second source was handled, or wasn't needed
-  pub conf-first : (fault told : Type 0) (came : Bool) (extra_old extra_new : D) → ¬ told → SourceHandled conf_left conf_faults (Some true) (Some MAX_CONFIGURATION) told true conf_old conf_new → ReadByPlan extra_left (comes_to_extra plan (conf_left conf_old)) plan.extra came extra_old extra_new → (fault → RoseByOne (extra_faults extra_old) (extra_faults extra_new)) → RisesOnlyAt fault (extra_faults extra_old) (extra_faults extra_new) → SourcesHandled conf_left conf_faults extra_left extra_faults plan fault came conf_old conf_new extra_old extra_new
+  pub conf-first : (fault told : Type 0) (came : Bool) (extra_old extra_new : D) → ¬ told →
+      SourceHandled conf_left conf_faults (Some true) (Some MAX_CONFIGURATION) told true conf_old conf_new →
+      ReadByPlan extra_left (comes_to_extra plan (conf_left conf_old)) plan.extra came extra_old extra_new →
+      (fault → RoseByOne (extra_faults extra_old) (extra_faults extra_new)) →
+      RisesOnlyAt fault (extra_faults extra_old) (extra_faults extra_new) →
+      SourcesHandled conf_left conf_faults extra_left extra_faults plan fault came conf_old conf_new extra_old
+      extra_new
   conf-first fault told came extra_old extra_new never h read failed rises = record {
     read_fault = λ f. inr (h.rises.unraised never, failed f);
     conf_rises = record { counted = h.rises.counted; unraised = λ n. h.rises.unraised never };

@@ -16,7 +16,10 @@ Written-front old new after text rest piece left w front adds = record {
 pub Written-cut : (old new after : Option (List ℕ)) (text rest piece left : List ℕ) → Written old new text rest → rest ≡ piece ++ left → AddsPrefix new after piece → AddsPrefix old after text
 Written-cut old new after text rest piece left w front cut =
     let part : List ℕ = take cut.0 piece in
-    let more : Written old after text (drop cut.0 piece ++ left) = Written-front old new after text rest part (drop cut.0 piece ++ left) w (front ∙ ap (λ all. all ++ left) (sym (take-append-drop cut.0 piece)) ∙ append_assoc part (drop cut.0 piece) left) cut.2 in
+    let more : Written old after text (drop cut.0 piece ++ left) = Written-front old new after text rest part
+    (drop cut.0 piece ++ left) w
+    (front ∙ ap (λ all. all ++ left) (sym (take-append-drop cut.0 piece))
+    ∙ append_assoc part (drop cut.0 piece) left) cut.2 in
     Written-prefix old after text (drop cut.0 piece ++ left) more
 
 -- what was taken of the rest is its front, with what is left behind it

@@ -14,28 +14,49 @@ use Rattle.ilk_top.specs.Outside.{Tells}
 
 module _ {L O : Type 0} (cert_written : L → Option (List ℕ)) (cert_faults : L → ℕ) (out_written : O → Option (List ℕ)) (out_faults : O → ℕ) (status : Status) (cert_old cert_new : L) (out_old out_new : O) where
   -- what is told of answers is told of what they lead to
-  Tells-as : (IsMade IsToo : Reply → Type 0) → ((made : Reply) → IsMade made → IsToo made) → Tells IsMade cert_written cert_faults out_written out_faults status cert_old cert_new out_old out_new → Tells IsToo cert_written cert_faults out_written out_faults status cert_old cert_new out_old out_new
+  Tells-as : (IsMade IsToo : Reply → Type 0) → ((made : Reply) → IsMade made → IsToo made) →
+      Tells IsMade cert_written cert_faults out_written out_faults status cert_old cert_new out_old out_new →
+      Tells IsToo cert_written cert_faults out_written out_faults status cert_old cert_new out_old out_new
   Tells-as IsMade IsToo leads told = record {
     whole = λ h. (let t = told.whole h in (t.0, leads t.0 t.1, t.2, t.3));
     cut = λ h. (let t = told.cut h in (t.0, leads t.0 t.1, t.2));
   }
 
   -- check is good only where the configuration is safe for ever
-  pub check-told : (asked : Option Command) (conf extra : Option (List ℕ)) → Tells (IsStrictlyRight asked conf extra) cert_written cert_faults out_written out_faults status cert_old cert_new out_old out_new → asked ≡ Some (Check Strict) → status ≡ Good → IfSome conf IsCleanAndSafe
+  pub check-told : (asked : Option Command) (conf extra : Option (List ℕ)) →
+      Tells (IsStrictlyRight asked conf extra) cert_written cert_faults out_written out_faults status cert_old
+      cert_new out_old out_new →
+      asked ≡ Some (Check Strict) → status ≡ Good → IfSome conf IsCleanAndSafe
   check-told asked conf extra told is good =
       let t = told.whole (subst (λ s. is_answer s ≡ true) (sym good) refl) in t.1.check is (sym t.2 ∙ good)
 
   -- verify tells of what breaks no rule that it is safe, or that all conflicts are spent
-  pub verify-told : (asked : Option Command) (conf extra : Option (List ℕ)) → Tells (IsStrictlyRight asked conf extra) cert_written cert_faults out_written out_faults status cert_old cert_new out_old out_new → (depth conflicts : ℕ) (name bytes : List ℕ) (p : PlantLists) → asked ≡ Some (Verify Strict depth conflicts name) → conf ≡ Some bytes → IsCleanFor bytes p → Tells (SaysSafeAtOneOrSpent p depth conflicts) cert_written cert_faults out_written out_faults status cert_old cert_new out_old out_new
+  pub verify-told : (asked : Option Command) (conf extra : Option (List ℕ)) →
+      Tells (IsStrictlyRight asked conf extra) cert_written cert_faults out_written out_faults status cert_old
+      cert_new out_old out_new →
+      (depth conflicts : ℕ) (name bytes : List ℕ) (p : PlantLists) →
+      asked ≡ Some (Verify Strict depth conflicts name) → conf ≡ Some bytes → IsCleanFor bytes p →
+      Tells (SaysSafeAtOneOrSpent p depth conflicts) cert_written cert_faults out_written out_faults status
+      cert_old cert_new out_old out_new
   verify-told asked conf extra told depth conflicts name bytes p is at clean =
       Tells-as (IsStrictlyRight asked conf extra) (SaysSafeAtOneOrSpent p depth conflicts) (λ made right. right.verify depth conflicts name is bytes p at clean) told
 
   -- table tells of what was read the table of its network
-  pub table-told : (asked : Option Command) (conf extra : Option (List ℕ)) → Tells (IsStrictlyRight asked conf extra) cert_written cert_faults out_written out_faults status cert_old cert_new out_old out_new → (columns : Columns) → asked ≡ Some (Table columns) → Tells (λ made. made.status ≡ Good → IfSome conf (λ bytes. HasTableOf columns bytes made)) cert_written cert_faults out_written out_faults status cert_old cert_new out_old out_new
+  pub table-told : (asked : Option Command) (conf extra : Option (List ℕ)) →
+      Tells (IsStrictlyRight asked conf extra) cert_written cert_faults out_written out_faults status cert_old
+      cert_new out_old out_new →
+      (columns : Columns) → asked ≡ Some (Table columns) →
+      Tells (λ made. made.status ≡ Good → IfSome conf (λ bytes. HasTableOf columns bytes made)) cert_written
+      cert_faults out_written out_faults status cert_old cert_new out_old out_new
   table-told asked conf extra told columns is =
       Tells-as (IsStrictlyRight asked conf extra) (λ made. made.status ≡ Good → IfSome conf (λ bytes. HasTableOf columns bytes made)) (λ made right. right.table columns is) told
 
   -- drive tells no hazard
-  pub drive-told : (asked : Option Command) (conf extra : Option (List ℕ)) → Tells (IsStrictlyRight asked conf extra) cert_written cert_faults out_written out_faults status cert_old cert_new out_old out_new → (name bytes : List ℕ) → asked ≡ Some (Drive Strict name) → conf ≡ Some bytes → Tells (TellsNoHazard name bytes extra) cert_written cert_faults out_written out_faults status cert_old cert_new out_old out_new
+  pub drive-told : (asked : Option Command) (conf extra : Option (List ℕ)) →
+      Tells (IsStrictlyRight asked conf extra) cert_written cert_faults out_written out_faults status cert_old
+      cert_new out_old out_new →
+      (name bytes : List ℕ) → asked ≡ Some (Drive Strict name) → conf ≡ Some bytes →
+      Tells (TellsNoHazard name bytes extra) cert_written cert_faults out_written out_faults status cert_old
+      cert_new out_old out_new
   drive-told asked conf extra told name bytes is at =
       Tells-as (IsStrictlyRight asked conf extra) (TellsNoHazard name bytes extra) (λ made right. right.drive name bytes is at) told

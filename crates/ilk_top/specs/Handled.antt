@@ -16,7 +16,9 @@ pub record SourceHandled {S : Type 0} (left : S → Option (List ℕ)) (faults :
   pub rises : RisesOnlyAt fault (faults old) (faults new)
 
 -- of both sources: with a fault exactly one call of one of them failed, and that of the configuration is read first
-pub record SourcesHandled {C D : Type 0} (conf_left : C → Option (List ℕ)) (conf_faults : C → ℕ) (extra_left : D → Option (List ℕ)) (extra_faults : D → ℕ) (plan : Plan) (fault : Type 0) (came : Bool) (conf_old conf_new : C) (extra_old extra_new : D) : Type 0 where
+pub record SourcesHandled {C D : Type 0} (conf_left : C → Option (List ℕ)) (conf_faults : C → ℕ)
+    (extra_left : D → Option (List ℕ)) (extra_faults : D → ℕ) (plan : Plan) (fault : Type 0) (came : Bool)
+    (conf_old conf_new : C) (extra_old extra_new : D) : Type 0 where
   pub read_fault : fault → (RoseByOne (conf_faults conf_old) (conf_faults conf_new) × (extra_new ≡ extra_old)) ⊎ ((conf_faults conf_new ≡ conf_faults conf_old) × RoseByOne (extra_faults extra_old) (extra_faults extra_new))
   pub conf_rises : RisesOnlyAt fault (conf_faults conf_old) (conf_faults conf_new)
   pub extra_rises : RisesOnlyAt fault (extra_faults extra_old) (extra_faults extra_new)
@@ -31,6 +33,9 @@ pub record SinksHandled {O L : Type 0} (out_faults : O → ℕ) (cert_faults : L
   pub uncertified : none → cert_new ≡ cert_old
 
 -- of all that `run` is handed, by the plan of what is asked and the status with which it ended
-pub record Handled {C D O L : Type 0} (conf_left : C → Option (List ℕ)) (conf_faults : C → ℕ) (extra_left : D → Option (List ℕ)) (extra_faults : D → ℕ) (out_faults : O → ℕ) (cert_faults : L → ℕ) (plan : Plan) (status : Status) (conf_old conf_new : C) (extra_old extra_new : D) (out_old out_new : O) (cert_old cert_new : L) : Type 0 where
+pub record Handled {C D O L : Type 0} (conf_left : C → Option (List ℕ)) (conf_faults : C → ℕ)
+    (extra_left : D → Option (List ℕ)) (extra_faults : D → ℕ) (out_faults : O → ℕ) (cert_faults : L → ℕ)
+    (plan : Plan) (status : Status) (conf_old conf_new : C) (extra_old extra_new : D) (out_old out_new : O)
+    (cert_old cert_new : L) : Type 0 where
   pub sources : SourcesHandled conf_left conf_faults extra_left extra_faults plan (status ≡ ReadFault) (came_to_writing status) conf_old conf_new extra_old extra_new
   pub sinks : SinksHandled out_faults cert_faults (plan.certifies ≡ false) status out_old out_new cert_old cert_new

@@ -52,6 +52,12 @@ pub record IsCutInReport {L O : Type 0} (cert_written : L → Option (List ℕ))
   pub fault : RoseByOne (out_faults out_old) (out_faults out_new)
 
 -- where a call ended with this status, the two sinks gained the whole of a reply that is an answer; after a write fault they gained it up to the fault
-pub record Tells {L O : Type 0} (IsAnswerTo : Reply → Type 0) (cert_written : L → Option (List ℕ)) (cert_faults : L → ℕ) (out_written : O → Option (List ℕ)) (out_faults : O → ℕ) (status : Status) (cert_old cert_new : L) (out_old out_new : O) : Type 0 where
+pub record Tells {L O : Type 0} (IsAnswerTo : Reply → Type 0) (cert_written : L → Option (List ℕ))
+    (cert_faults : L → ℕ) (out_written : O → Option (List ℕ)) (out_faults : O → ℕ) (status : Status)
+    (cert_old cert_new : L) (out_old out_new : O) : Type 0 where
   pub whole : IsTrue (is_answer status) → (made : Reply) × IsAnswerTo made × (status ≡ made.status) × IsWritten cert_written out_written made cert_old cert_new out_old out_new
-  pub cut : status ≡ WriteFault → (made : Reply) × IsAnswerTo made × (IsCutInCertificate cert_written cert_faults made cert_old cert_new out_old out_new ⊎ IsCutInReport cert_written cert_faults out_written out_faults made cert_old cert_new out_old out_new)
+  pub cut : status ≡ WriteFault →
+      (made : Reply) × IsAnswerTo made ×
+      (IsCutInCertificate cert_written cert_faults made cert_old cert_new out_old out_new
+      ⊎ IsCutInReport cert_written cert_faults out_written out_faults made cert_old cert_new out_old
+      out_new)

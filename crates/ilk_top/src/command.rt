@@ -27,10 +27,13 @@ fn conf_reply<C: Source, D: Source>(
 ) -> Result<Reply, NoReply>
     requires options { IsTrue (has_option_limits command.now) }
     requires stages { (plan_of command.now).stages ≡ Some stages }
-    ensures reply { IfOk result (IsAnswerTo (Some command.now) (C.left conf.old) (D.left extra.old)) }
-    ensures strict { IfOk result (IsStrictlyRight (Some command.now) (C.left conf.old) (D.left extra.old)) }
+    ensures reply { IfOk result
+        (IsAnswerTo (Some command.now) (C.left conf.old) (D.left extra.old)) }
+    ensures strict { IfOk result
+        (IsStrictlyRight (Some command.now) (C.left conf.old) (D.left extra.old)) }
     ensures planned { IfOk result (IsPlanned (plan_of command.now)) }
-    ensures handled { SourcesHandled C.left C.faults D.left D.faults (plan_of command.now) (result ≡ Err NoReply.ReadFault) (is_ok result) conf.old conf.new extra.old extra.new }
+    ensures handled { SourcesHandled C.left C.faults D.left D.faults (plan_of command.now)
+        (result ≡ Err NoReply.ReadFault) (is_ok result) conf.old conf.new extra.old extra.new }
 {
     match read_plant(alloc, stages, conf)? {
         Ok(plant) => {
@@ -56,10 +59,13 @@ fn command_reply<C: Source, D: Source>(
     extra: &mut D,
 ) -> Result<Reply, NoReply>
     requires { IsTrue (has_option_limits command.now) }
-    ensures reply { IfOk result (IsAnswerTo (Some command.now) (C.left conf.old) (D.left extra.old)) }
-    ensures strict { IfOk result (IsStrictlyRight (Some command.now) (C.left conf.old) (D.left extra.old)) }
+    ensures reply { IfOk result
+        (IsAnswerTo (Some command.now) (C.left conf.old) (D.left extra.old)) }
+    ensures strict { IfOk result
+        (IsStrictlyRight (Some command.now) (C.left conf.old) (D.left extra.old)) }
     ensures planned { IfOk result (IsPlanned (plan_of command.now)) }
-    ensures handled { SourcesHandled C.left C.faults D.left D.faults (plan_of command.now) (result ≡ Err NoReply.ReadFault) (is_ok result) conf.old conf.new extra.old extra.new }
+    ensures handled { SourcesHandled C.left C.faults D.left D.faults (plan_of command.now)
+        (result ≡ Err NoReply.ReadFault) (is_ok result) conf.old conf.new extra.old extra.new }
 {
     match command.plan().stages {
         Some(stages) => conf_reply(alloc, command, stages, conf, extra),
@@ -71,9 +77,11 @@ fn command_reply<C: Source, D: Source>(
 // then gained a prefix.
 fn tell<O: Sink, L: Sink>(reply: Reply, out: &mut O, cert: &mut L) -> Status
     requires { IsTrue (is_reply reply.status) }
-    ensures answer { Tells (λ made. made ≡ reply) L.written L.faults O.written O.faults result cert.old cert.new out.old out.new }
+    ensures answer { Tells (λ made. made ≡ reply) L.written L.faults O.written O.faults result
+        cert.old cert.new out.old out.new }
     ensures told { IsTrue (came_to_writing result) }
-    ensures handled { SinksHandled O.faults L.faults (reply.certificate ≡ []) result out.old out.new cert.old cert.new }
+    ensures handled { SinksHandled O.faults L.faults (reply.certificate ≡ []) result out.old
+        out.new cert.old cert.new }
 {
     let Reply {
         status,
@@ -104,9 +112,14 @@ pub fn perform<C: Source, D: Source, O: Sink, L: Sink>(
     cert: &mut L,
 ) -> Status
     requires { IsTrue (has_option_limits command.now) }
-    ensures answer { Tells (IsAnswerTo (Some command.now) (C.left conf.old) (D.left extra.old)) L.written L.faults O.written O.faults result cert.old cert.new out.old out.new }
-    ensures strict { Tells (IsStrictlyRight (Some command.now) (C.left conf.old) (D.left extra.old)) L.written L.faults O.written O.faults result cert.old cert.new out.old out.new }
-    ensures handled { Handled C.left C.faults D.left D.faults O.faults L.faults (plan_of command.now) result conf.old conf.new extra.old extra.new out.old out.new cert.old cert.new }
+    ensures answer { Tells (IsAnswerTo (Some command.now) (C.left conf.old) (D.left extra.old))
+        L.written L.faults O.written O.faults result cert.old cert.new out.old out.new }
+    ensures strict { Tells
+        (IsStrictlyRight (Some command.now) (C.left conf.old) (D.left extra.old)) L.written
+        L.faults O.written O.faults result cert.old cert.new out.old out.new }
+    ensures handled { Handled C.left C.faults D.left D.faults O.faults L.faults
+        (plan_of command.now) result conf.old conf.new extra.old extra.new out.old out.new
+        cert.old cert.new }
     ensures no_usage { result ≢ Status.Usage }
 {
     match command_reply(alloc, command, conf, extra) {

@@ -17,8 +17,10 @@ pub fn read_plant<C: Source>(
     stages: Stages,
     conf: &mut C,
 ) -> Result<Result<Plant, Refusals>, NoReply>
-    ensures found { IfOk result (λ found. IfSome (C.left conf.old) (λ c. found ≡ plant_of stages c)) }
-    ensures handled { SourceHandled C.left C.faults (Some true) (Some MAX_CONFIGURATION) (result ≡ Err NoReply.ReadFault) (is_ok result) conf.old conf.new }
+    ensures found { IfOk result
+        (λ found. IfSome (C.left conf.old) (λ c. found ≡ plant_of stages c)) }
+    ensures handled { SourceHandled C.left C.faults (Some true) (Some MAX_CONFIGURATION)
+        (result ≡ Err NoReply.ReadFault) (is_ok result) conf.old conf.new }
 {
     match read_all(alloc, conf, MAX_CONFIGURATION) {
         Ok(text) => Ok(plant_of(alloc, stages, text.as_slice())?),

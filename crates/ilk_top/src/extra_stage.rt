@@ -39,7 +39,8 @@ fn reply_to_extra<D: Source>(
     requires small { limit < 2 ^ 40 }
     ensures reply { IfOk result (AnswersSome command.now (Ok plant.now) (D.left extra.old)) }
     ensures planned { IfOk result (IsPlanned (plan_of command.now)) }
-    ensures handled { SourceHandled D.left D.faults (Some true) (plan_of command.now).extra (result ≡ Err NoReply.ReadFault) (is_ok result) extra.old extra.new }
+    ensures handled { SourceHandled D.left D.faults (Some true) (plan_of command.now).extra
+        (result ≡ Err NoReply.ReadFault) (is_ok result) extra.old extra.new }
 {
     let mut reader = Reader::new(alloc, command, plant)?;
     let read = read_pieces(extra, limit, &mut reader);
@@ -63,7 +64,8 @@ pub fn plant_reply<D: Source>(
     requires over { is_some (plan_of command.now).stages ≡ true }
     ensures reply { IfOk result (AnswersSome command.now (Ok plant.now) (D.left extra.old)) }
     ensures planned { IfOk result (IsPlanned (plan_of command.now)) }
-    ensures handled { SourceHandled D.left D.faults (Some true) (plan_of command.now).extra (result ≡ Err NoReply.ReadFault) (is_ok result) extra.old extra.new }
+    ensures handled { SourceHandled D.left D.faults (Some true) (plan_of command.now).extra
+        (result ≡ Err NoReply.ReadFault) (is_ok result) extra.old extra.new }
 {
     match command.plan().extra {
         Some(limit) => reply_to_extra(alloc, command, plant, limit, extra),

@@ -24,7 +24,8 @@ pub fn read_pieces<S: Source>(
     requires limit { limit < 2 ^ 40 }
     ensures whole { IfOk result (λ _. WasFedWhole (S.left source.old) limit reader.old reader.new) }
     ensures end { IfOk result (λ _. IsAtEnd (S.left source.new)) }
-    ensures cause { IfErr result (λ e. HasCause e limit (S.left source.old) (S.faults source.old) (S.faults source.new)) }
+    ensures cause { IfErr result
+        (λ e. HasCause e limit (S.left source.old) (S.faults source.old) (S.faults source.new)) }
     ensures taken { TakesAtMost (limit + 1) (S.left source.old) (S.left source.new) }
     ensures unraised { result ≢ Err ReadError.Failed → S.faults source.new ≡ S.faults source.old }
     ensures counted { S.faults source.old ≤ S.faults source.new }

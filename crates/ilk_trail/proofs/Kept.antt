@@ -25,7 +25,9 @@ abbrev truth : Literal → Entry → Bool
 truth m e = beq e.lit.positive m.positive
 
 -- the trail with one more entry
-pub trail-add : (n : ℕ) (es : List Entry) (e : Entry) → IsTrail (record { vars = n; entries = es }) → lit_in n e.lit ≡ true → is_set es e.lit.var ≡ false → is_level_next (last_level 0 es) e ≡ true → IsTrail (record { vars = n; entries = es ++ e ∷ [] })
+pub trail-add : (n : ℕ) (es : List Entry) (e : Entry) → IsTrail (record { vars = n; entries = es }) →
+    lit_in n e.lit ≡ true → is_set es e.lit.var ≡ false → is_level_next (last_level 0 es) e ≡ true →
+    IsTrail (record { vars = n; entries = es ++ e ∷ [] })
 trail-add n es e t h u k = record {
   few = t.few;
   within = rw (lits_of-push es e) (clause_in-push n (lits_of es) e.lit t.within h);
@@ -48,7 +50,12 @@ room-for n es l t h u =
     omega (arith, c, m)
 
 -- the fields after an entry was added
-pub stored-add : (values : List (Option Bool)) (places : List ℕ) (n : ℕ) (es : List Entry) (e : Entry) (size more : ℕ) → Stored values places (record { vars = n; entries = es }) size → size ≤ more → lit_in n e.lit ≡ true → is_set es e.lit.var ≡ false → is_level_next (last_level 0 es) e ≡ true → Stored (set_both values e.lit (λ b. Some b)) (set places e.lit.var (length es)) (record { vars = n; entries = es ++ e ∷ [] }) more
+pub stored-add :
+    (values : List (Option Bool)) (places : List ℕ) (n : ℕ) (es : List Entry) (e : Entry) (size more : ℕ) →
+    Stored values places (record { vars = n; entries = es }) size → size ≤ more → lit_in n e.lit ≡ true →
+    is_set es e.lit.var ≡ false → is_level_next (last_level 0 es) e ≡ true →
+    Stored (set_both values e.lit (λ b. Some b)) (set places e.lit.var (length es))
+    (record { vars = n; entries = es ++ e ∷ [] }) more
 stored-add values places n es e size more k le h u c = let w : e.lit.var ≤ n = (lit_in-parts n e.lit h).1 in record {
   values_long = length-set_both values e.lit (λ b. Some b) ∙ k.values_long;
   places_long = simp length-set k.places_long;
@@ -67,7 +74,10 @@ stored-add values places n es e size more k le h u c = let w : e.lit.var ≤ n =
 }
 
 -- the fields after the last entry was taken off
-pub stored-take : (values : List (Option Bool)) (places : List ℕ) (n : ℕ) (es : List Entry) (e : Entry) (size more : ℕ) → Stored values places (record { vars = n; entries = es ++ e ∷ [] }) size → size ≤ more → Stored (set_both values e.lit (λ b. None)) places (record { vars = n; entries = es }) more
+pub stored-take :
+    (values : List (Option Bool)) (places : List ℕ) (n : ℕ) (es : List Entry) (e : Entry) (size more : ℕ) →
+    Stored values places (record { vars = n; entries = es ++ e ∷ [] }) size → size ≤ more →
+    Stored (set_both values e.lit (λ b. None)) places (record { vars = n; entries = es }) more
 stored-take values places n es e size more k le =
     let t = trail-take n es e k.is_trail in
     let w : e.lit.var ≤ n = (lit_in-parts n e.lit t.1).1 in
@@ -85,7 +95,9 @@ stored-take values places n es e size more k le =
     }
 
 -- the entry of a set variable stands at its place
-pub stands-at-place : (values : List (Option Bool)) (places : List ℕ) (t : TrailList) (size v : ℕ) → Stored values places t size → is_set t.entries v ≡ true → (slice_get t.entries (get_or places v 0) ≡ entry_of t.entries v) × (get_or places v 0 < length t.entries)
+pub stands-at-place : (values : List (Option Bool)) (places : List ℕ) (t : TrailList) (size v : ℕ) →
+    Stored values places t size → is_set t.entries v ≡ true →
+    (slice_get t.entries (get_or places v 0) ≡ entry_of t.entries v) × (get_or places v 0 < length t.entries)
 stands-at-place values places t size v k s =
     let f = found t.entries v s in
     let q : get_or places v 0 ≡ f.place = (let P : ℕ → Type 0 = λ j. get_or places j 0 ≡ f.place in subst P f.named (k.place f.place f.entry f.stands)) in

@@ -28,7 +28,9 @@ impl Model for Trail {
 
     ghost view = { λ t. record { vars = length t.places.items - 1; entries = t.entries.items } };
 
-    ghost invariant = { λ t. Stored t.values.items t.places.items (record { vars = length t.places.items - 1; entries = t.entries.items }) (vec_capacity t.entries) };
+    ghost invariant = { λ t. Stored t.values.items t.places.items
+        (record { vars = length t.places.items - 1; entries = t.entries.items })
+        (vec_capacity t.entries) };
 }
 
 impl Trail {

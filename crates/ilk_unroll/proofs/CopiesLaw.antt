@@ -101,7 +101,13 @@ copies-law zero ranges a n size fit = in_words a n [] (Only []) (AreCopies zero 
     none b (values ∷ run) h e = absurd (omega arith)
 copies-law (suc count) ranges a n size fit =
     let first = copies-law count ranges a n size fit in
-    in_words a (copies_part ranges (suc count) n).part.vars (copies_part ranges (suc count) n).part.clauses _ (AreCopies (suc count) ranges) to (λ b h. split b h.0 h.1 h.2 h.3) (in_order a one.vars later.clauses one.clauses _ (in_turn a later.vars one.vars later.clauses one.clauses (AreCopies count ranges) (λ b _. IsCopy ranges) (omega (arith, size, copies-low count ranges n)) (copy-low ranges later.vars) (copies-in count ranges n fit) first (λ b h. copy-law ranges (a ++ b) later.vars (first.sized b h) fit)))
+    in_words a (copies_part ranges (suc count) n).part.vars (copies_part ranges (suc count) n).part.clauses _
+    (AreCopies (suc count) ranges) to (λ b h. split b h.0 h.1 h.2 h.3)
+    (in_order a one.vars later.clauses one.clauses _
+    (in_turn a later.vars one.vars later.clauses one.clauses (AreCopies count ranges)
+    (λ b _. IsCopy ranges) (omega (arith, size, copies-low count ranges n))
+    (copy-low ranges later.vars) (copies-in count ranges n fit) first
+    (λ b h. copy-law ranges (a ++ b) later.vars (first.sized b h) fit)))
   where
     later : Part
     later = (copies_part ranges count n).part
@@ -148,7 +154,10 @@ tables_say-more (table ∷ tables) [] a e n m ranges size le h = h
 tables_say-more (table ∷ tables) (values ∷ run) a e n m ranges size le h =
     (table_says-more a e n m ranges table values size le h.0, tables_say-more tables run a e n m ranges size le h.1)
 
-pub copies-say : (count : ℕ) (ranges : List ℕ) (run : List (List ℕ)) (a : List Bool) (n : ℕ) → length a ≡ n → ranges_fit ranges ≡ true → length run ≡ count → all_in_ranges ranges run ≡ true → TablesSay (a ++ copies_bits ranges run) (copies_part ranges count n).part.vars ranges (copies_part ranges count n).tables run
+pub copies-say : (count : ℕ) (ranges : List ℕ) (run : List (List ℕ)) (a : List Bool) (n : ℕ) → length a ≡ n →
+    ranges_fit ranges ≡ true → length run ≡ count → all_in_ranges ranges run ≡ true →
+    TablesSay (a ++ copies_bits ranges run) (copies_part ranges count n).part.vars ranges
+    (copies_part ranges count n).tables run
 copies-say zero ranges [] a n size fit l h = tt
 copies-say zero ranges (values ∷ run) a n size fit l h = absurd (omega arith)
 copies-say (suc count) ranges [] a n size fit l h = absurd (omega arith)
@@ -173,7 +182,10 @@ copies-say (suc count) ranges (values ∷ run) a n size fit l h =
     (first, subst (λ (u : List Bool). TablesSay u p.part.vars ranges later.tables run) whole rest)
 
 -- the copy with a number
-pub table-at : (tables : List (List Column)) (run : List (List ℕ)) (a : List Bool) (n : ℕ) (ranges : List ℕ) (j : ℕ) → TablesSay a n ranges tables run → j < length tables → TableSays a n ranges (get_or tables j []) (get_or run j []) × (slice_get run j ≡ Some (get_or run j []))
+pub table-at :
+    (tables : List (List Column)) (run : List (List ℕ)) (a : List Bool) (n : ℕ) (ranges : List ℕ) (j : ℕ) →
+    TablesSay a n ranges tables run → j < length tables →
+    TableSays a n ranges (get_or tables j []) (get_or run j []) × (slice_get run j ≡ Some (get_or run j []))
 table-at [] run a n ranges j h less = absurd (omega arith)
 table-at (table ∷ tables) [] a n ranges j h less = absurd h
 table-at (table ∷ tables) (values ∷ run) a n ranges zero h less = (h.0, refl)
@@ -203,7 +215,15 @@ copies-few (suc count) ranges n =
     omega (arith, later, one, more)
 
 -- the clauses of one copy more
-pub copies-step : (f g : Formula) (ranges : List ℕ) (tables whole : List (List Column)) (table : List Column) (i rest before : ℕ) → rest ≡ suc i → before ≡ i * copy_width ranges → tables ++ (copies_part ranges rest 0).tables ≡ whole → table ≡ (copy_part ranges before).columns → g ≡ grown f f.vars (as_clauses (copy_part ranges before).part.clauses) → ((tables ++ table ∷ []) ++ (copies_part ranges i 0).tables ≡ whole) × (grown g g.vars (as_clauses (copies_part ranges i 0).part.clauses) ≡ grown f f.vars (as_clauses (copies_part ranges rest 0).part.clauses))
+pub copies-step :
+    (f g : Formula) (ranges : List ℕ) (tables whole : List (List Column)) (table : List Column)
+    (i rest before : ℕ) → rest ≡ suc i →
+    before ≡ i * copy_width ranges → tables ++ (copies_part ranges rest 0).tables ≡ whole →
+    table ≡ (copy_part ranges before).columns →
+    g ≡ grown f f.vars (as_clauses (copy_part ranges before).part.clauses) →
+    ((tables ++ table ∷ []) ++ (copies_part ranges i 0).tables ≡ whole) ×
+    (grown g g.vars (as_clauses (copies_part ranges i 0).part.clauses)
+    ≡ grown f f.vars (as_clauses (copies_part ranges rest 0).part.clauses))
 copies-step f g ranges tables whole table i rest before left begins seen is made =
     let later = copies_part ranges i 0 in
     let at : before ≡ later.part.vars = omega (arith, begins, copies-end i ranges 0) in

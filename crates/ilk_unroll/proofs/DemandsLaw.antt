@@ -64,7 +64,9 @@ demanded-fits tables ranges d n h r valid =
     let less : d.copy < length tables = ltb-true d.copy (length tables) parts.0 in
     holds-fits d.holds (table_at tables d.copy) d.form n (table-in tables n d.copy h less) (ap (λ (rs : List ℕ). tree_valid rs d.form) (table-ranges tables ranges d.copy r less) ∙ parts.1)
 
-pub demands-fits : (ds : List Demanded) (tables : List (List Column)) (ranges : List ℕ) (n : ℕ) → tables_in n tables ≡ true → HaveRanges ranges tables → list_all (demanded_valid ranges (length tables)) ds ≡ true → PartFits n (demands_part tables ds n)
+pub demands-fits : (ds : List Demanded) (tables : List (List Column)) (ranges : List ℕ) (n : ℕ) →
+    tables_in n tables ≡ true → HaveRanges ranges tables →
+    list_all (demanded_valid ranges (length tables)) ds ≡ true → PartFits n (demands_part tables ds n)
 demands-fits [] tables ranges n h r valid = record { low = same n; inside = refl }
 demands-fits (d ∷ ds) tables ranges n h r valid =
     let parts = and_parts (demanded_valid ranges (length tables) d) (list_all (demanded_valid ranges (length tables)) ds) valid in
@@ -74,11 +76,22 @@ demands-fits (d ∷ ds) tables ranges n h r valid =
 
 -- the laws
 
-holds-law : (holds : Bool) (columns : List Column) (ranges values : List ℕ) (t : Tree) (a : List Bool) (n : ℕ) → length a ≡ n → Reads a columns ranges values → tree_valid (ranges_of columns) t ≡ true → Extends a (cond holds (demand_part columns [] t n) (violated_part columns t n)).vars (cond holds (demand_part columns [] t n) (violated_part columns t n)).clauses (OnlyIf (same_truth holds (tree_holds values t)) (cond holds (demand_bits ranges values t) (violated_bits ranges values t)))
+holds-law :
+    (holds : Bool) (columns : List Column) (ranges values : List ℕ) (t : Tree) (a : List Bool) (n : ℕ) →
+    length a ≡ n → Reads a columns ranges values → tree_valid (ranges_of columns) t ≡ true →
+    Extends a (cond holds (demand_part columns [] t n) (violated_part columns t n)).vars
+    (cond holds (demand_part columns [] t n) (violated_part columns t n)).clauses
+    (OnlyIf (same_truth holds (tree_holds values t))
+    (cond holds (demand_bits ranges values t) (violated_bits ranges values t)))
 holds-law true columns ranges values t a n size r k = demand_of-law t columns ranges values [] true a n size r refl k
 holds-law false columns ranges values t a n size r k = violated-law t columns ranges values a n size r k
 
-demanded-law : (tables : List (List Column)) (run : List (List ℕ)) (ranges : List ℕ) (d : Demanded) (a : List Bool) (n : ℕ) → length a ≡ n → TablesSay a n ranges tables run → demanded_valid ranges (length tables) d ≡ true → Extends a (demanded_part tables d n).vars (demanded_part tables d n).clauses (OnlyIf (met_by run d) (demanded_bits ranges run d))
+demanded-law :
+    (tables : List (List Column)) (run : List (List ℕ)) (ranges : List ℕ) (d : Demanded) (a : List Bool)
+    (n : ℕ) → length a ≡ n →
+    TablesSay a n ranges tables run → demanded_valid ranges (length tables) d ≡ true →
+    Extends a (demanded_part tables d n).vars (demanded_part tables d n).clauses
+    (OnlyIf (met_by run d) (demanded_bits ranges run d))
 demanded-law tables run ranges d a n size h valid =
     let parts = and_parts (nat_lt d.copy (length tables)) (tree_valid ranges d.form) valid in
     let less : d.copy < length tables = ltb-true d.copy (length tables) parts.0 in
@@ -91,7 +104,13 @@ demanded-law tables run ranges d a n size h valid =
     let met : same_truth d.holds (tree_holds values d.form) ≡ met_by run d = ap (λ (o : Option (List ℕ)). is_some_and o (λ ws. same_truth d.holds (tree_holds ws d.form))) (sym at.1) in
     subst (λ (b : Bool). Extends a p.vars p.clauses (OnlyIf b (demanded_bits ranges run d))) met law
 
-pub demands-law : (ds : List Demanded) (tables : List (List Column)) (run : List (List ℕ)) (ranges : List ℕ) (a : List Bool) (n : ℕ) → length a ≡ n → tables_in n tables ≡ true → HaveRanges ranges tables → TablesSay a n ranges tables run → list_all (demanded_valid ranges (length tables)) ds ≡ true → Extends a (demands_part tables ds n).vars (demands_part tables ds n).clauses (OnlyIf (list_all (met_by run) ds) (demands_bits ranges run ds))
+pub demands-law :
+    (ds : List Demanded) (tables : List (List Column)) (run : List (List ℕ)) (ranges : List ℕ) (a : List Bool)
+    (n : ℕ) → length a ≡ n →
+    tables_in n tables ≡ true → HaveRanges ranges tables → TablesSay a n ranges tables run →
+    list_all (demanded_valid ranges (length tables)) ds ≡ true →
+    Extends a (demands_part tables ds n).vars (demands_part tables ds n).clauses
+    (OnlyIf (list_all (met_by run) ds) (demands_bits ranges run ds))
 demands-law [] tables run ranges a n size inside r h valid = no_more_if a n [] true size refl
 demands-law (d ∷ ds) tables run ranges a n size inside r h valid =
     let parts = and_parts (demanded_valid ranges (length tables) d) (list_all (demanded_valid ranges (length tables)) ds) valid in
@@ -99,7 +118,11 @@ demands-law (d ∷ ds) tables run ranges a n size inside r h valid =
     let e = demanded_bits ranges run d in
     let one = demanded-fits tables ranges d n inside r parts.0 in
     let more = tables_in-more n p.vars tables one.low inside in
-    then-law a e (demands_bits ranges run ds) (met_by run d) (list_all (met_by run) ds) n p (demands_part tables ds) size one (demands-fits ds tables ranges p.vars more r parts.1) (demanded-law tables run ranges d a n size h parts.0) (λ long. demands-law ds tables run ranges (a ++ e) p.vars long more r (tables_say-more tables run a e n p.vars ranges size one.low h) parts.1)
+    then-law a e (demands_bits ranges run ds) (met_by run d) (list_all (met_by run) ds) n p
+    (demands_part tables ds) size one (demands-fits ds tables ranges p.vars more r parts.1)
+    (demanded-law tables run ranges d a n size h parts.0)
+    (λ long. demands-law ds tables run ranges (a ++ e) p.vars long more r
+    (tables_say-more tables run a e n p.vars ranges size one.low h) parts.1)
 
 -- what a query demands is valid
 
@@ -135,17 +158,32 @@ one-valid ranges count j t holds less h = and_from _ _ (lt-ltb j count less) h
 pub demanded-valid : (ranges : List ℕ) (g : GoalTree) (q : Wanted) → goal_valid ranges g ≡ true → list_all (demanded_valid ranges (suc (step_count q))) (demanded g q) ≡ true
 demanded-valid ranges g (Hazard n) h =
     let k = goal-valid ranges g h in
-    and_from _ _ (one-valid ranges (suc n) 0 g.start true (omega arith) k.start) (list_all-append (demanded_valid ranges (suc n)) (holds_below g.wellformed n) (holds_in n g.hazard ∷ []) ∙ and_from _ _ (below-valid ranges (suc n) g.wellformed n 0 (omega arith) k.wellformed) (and_from _ _ (one-valid ranges (suc n) n g.hazard true (omega arith) k.hazard) refl))
+    and_from _ _ (one-valid ranges (suc n) 0 g.start true (omega arith) k.start)
+    (list_all-append (demanded_valid ranges (suc n)) (holds_below g.wellformed n)
+    (holds_in n g.hazard ∷ [])
+    ∙ and_from _ _ (below-valid ranges (suc n) g.wellformed n 0 (omega arith) k.wellformed)
+    (and_from _ _ (one-valid ranges (suc n) n g.hazard true (omega arith) k.hazard) refl))
 demanded-valid ranges g (Breach n) h =
     let k = goal-valid ranges g h in
-    and_from _ _ (one-valid ranges (suc n) 0 g.start true (omega arith) k.start) (list_all-append (demanded_valid ranges (suc n)) (holds_below g.wellformed (n + 1)) (fails_in n (all_of (trees g.families)) ∷ []) ∙ and_from _ _ (below-valid ranges (suc n) g.wellformed (n + 1) 0 (omega arith) k.wellformed) (and_from _ _ (one-valid ranges (suc n) n (all_of (trees g.families)) false (omega arith) k.kept) refl))
+    and_from _ _ (one-valid ranges (suc n) 0 g.start true (omega arith) k.start)
+    (list_all-append (demanded_valid ranges (suc n)) (holds_below g.wellformed (n + 1))
+    (fails_in n (all_of (trees g.families)) ∷ [])
+    ∙ and_from _ _ (below-valid ranges (suc n) g.wellformed (n + 1) 0 (omega arith) k.wellformed)
+    (and_from _ _
+    (one-valid ranges (suc n) n (all_of (trees g.families)) false (omega arith) k.kept) refl))
 demanded-valid ranges g (Step n) h =
     let k = goal-valid ranges g h in
     let test = demanded_valid ranges (suc n) in
     let last = fails_in n (all_of (trees (negation g.hazard ∷ g.families))) ∷ [] in
     let families = flat_map (λ t. holds_below t n) g.families in
     list_all-append test (holds_below g.wellformed n ++ families) last
-    ∙ and_from _ _ (list_all-append test (holds_below g.wellformed n) families ∙ and_from _ _ (below-valid ranges (suc n) g.wellformed n 0 (omega arith) k.wellformed) (each-below-valid ranges (suc n) g.families n (omega arith) k.families)) (and_from _ _ (one-valid ranges (suc n) n (all_of (trees (negation g.hazard ∷ g.families))) false (omega arith) k.safe) refl)
+    ∙ and_from _ _
+    (list_all-append test (holds_below g.wellformed n) families
+    ∙ and_from _ _ (below-valid ranges (suc n) g.wellformed n 0 (omega arith) k.wellformed)
+    (each-below-valid ranges (suc n) g.families n (omega arith) k.families))
+    (and_from _ _
+    (one-valid ranges (suc n) n (all_of (trees (negation g.hazard ∷ g.families))) false
+    (omega arith) k.safe) refl)
 
 -- one demand after another
 
@@ -166,7 +204,9 @@ demands-then xs ys tables f g h one two =
     ∙ ap (with_part f) (sym (demands-append xs ys tables f.vars))
 
 -- where zs begins with xs, what is left of it
-pub demands-rest : (xs ys zs : List Demanded) (tables : List (List Column)) (f g end : Formula) → zs ≡ xs ++ ys → g ≡ with_part f (demands_part tables xs f.vars) → with_part f (demands_part tables zs f.vars) ≡ end → with_part g (demands_part tables ys g.vars) ≡ end
+pub demands-rest : (xs ys zs : List Demanded) (tables : List (List Column)) (f g end : Formula) →
+    zs ≡ xs ++ ys → g ≡ with_part f (demands_part tables xs f.vars) →
+    with_part f (demands_part tables zs f.vars) ≡ end → with_part g (demands_part tables ys g.vars) ≡ end
 demands-rest xs ys zs tables f g end split one h =
     ap (λ (k : Formula). with_part k (demands_part tables ys k.vars)) one
     ∙ with_part-and_then f (demands_part tables xs f.vars) (demands_part tables ys)

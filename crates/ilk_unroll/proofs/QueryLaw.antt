@@ -59,7 +59,10 @@ assignment-is s g q first rules run is = ap (λ (o : Option (List (List ℕ))). 
 
 pub query-law : (s : SystemTree) (g : GoalTree) (q : Wanted) → system_valid s ≡ true → ranges_fit s.ranges ≡ true → goal_valid s.ranges g ≡ true → Extends [] (query_part s g q).vars (query_part s g q).clauses (IsWantedRun s g q)
 query-law s g q valid fit goal_ok =
-    in_words [] d.vars (c.part.clauses ++ (t.clauses ++ d.clauses)) _ (IsWantedRun s g q) to from (in_turn [] m d.vars c.part.clauses (t.clauses ++ d.clauses) (AreCopies count ranges) inner (omega arith) (omega (arith, steps_fit.low, demands_fit.low)) (copies-in count ranges 0 fit) first part)
+    in_words [] d.vars (c.part.clauses ++ (t.clauses ++ d.clauses)) _ (IsWantedRun s g q) to from
+    (in_turn [] m d.vars c.part.clauses (t.clauses ++ d.clauses) (AreCopies count ranges) inner
+    (omega arith) (omega (arith, steps_fit.low, demands_fit.low)) (copies-in count ranges 0 fit)
+    first part)
   where
     count : ℕ
     count = suc (step_count q)
@@ -111,7 +114,11 @@ query-law s g q valid fit goal_ok =
         let long : length b ≡ m = first.sized b h in
         let says : TablesSay b m ranges c.tables h.0 = subst (λ (u : List Bool). TablesSay u m ranges c.tables h.0) (sym h.3) (copies-say count ranges h.0 [] 0 refl fit h.1 h.2) in
         let next = steps-law c.tables h.0 b m ranges s.rules long says (rules-valid s valid) in
-        in_turn b t.vars d.vars t.clauses d.clauses (AreSteps s.ranges s.rules h.0) (λ e _. OnlyIf (list_all (met_by h.0) ds) (demands_bits s.ranges h.0 ds)) (omega (arith, long, steps_fit.low)) demands_fit.low steps_fit.inside next (λ e k. demands-law ds c.tables h.0 ranges (b ++ e) t.vars (next.sized e k) more have (tables_say-more c.tables h.0 b e m t.vars ranges long steps_fit.low says) ds_valid)
+        in_turn b t.vars d.vars t.clauses d.clauses (AreSteps s.ranges s.rules h.0)
+        (λ e _. OnlyIf (list_all (met_by h.0) ds) (demands_bits s.ranges h.0 ds))
+        (omega (arith, long, steps_fit.low)) demands_fit.low steps_fit.inside next
+        (λ e k. demands-law ds c.tables h.0 ranges (b ++ e) t.vars (next.sized e k) more have
+        (tables_say-more c.tables h.0 b e m t.vars ranges long steps_fit.low says) ds_valid)
 
     a_run : (b : List Bool) (run : List (List ℕ)) (rules : List ℕ) → length run ≡ count → all_in_ranges ranges run ≡ true → Joined s.rules run rules → list_all (met_by run) ds ≡ true → b ≡ run_bits s g q run rules → IsWantedRun s g q b
     a_run b [] rules many h j met e = absurd (omega arith)
@@ -124,22 +131,42 @@ query-law s g q valid fit goal_ok =
     to : (b : List Bool) → Then (AreCopies count ranges) inner b → IsWantedRun s g q b
     to b h =
         let r = h.4 in
-        a_run b h.3.0 r.3.0 h.3.1 h.3.2 r.3.1 r.4.0 (h.2 ∙ ap (λ (u : List Bool). u ++ h.1) h.3.3 ∙ ap (λ (u : List Bool). copies_bits ranges h.3.0 ++ u) (r.2 ∙ ap (λ (u : List Bool). u ++ r.1) r.3.2 ∙ ap (λ (u : List Bool). steps_bits s.ranges s.rules h.3.0 r.3.0 ++ u) r.4.1))
+        a_run b h.3.0 r.3.0 h.3.1 h.3.2 r.3.1 r.4.0
+        (h.2 ∙ ap (λ (u : List Bool). u ++ h.1) h.3.3
+        ∙ ap (λ (u : List Bool). copies_bits ranges h.3.0 ++ u)
+        (r.2 ∙ ap (λ (u : List Bool). u ++ r.1) r.3.2
+        ∙ ap (λ (u : List Bool). steps_bits s.ranges s.rules h.3.0 r.3.0 ++ u) r.4.1))
 
     from : (b : List Bool) → IsWantedRun s g q b → Then (AreCopies count ranges) inner b
     from b h =
         let w = wants s g q h.0 h.1 h.2 in
         let r = run-is s h.1 h.0 w.run (rules-valid s valid) w.in_range w.is in
         let run = w.run in
-        let e : b ≡ run_bits s g q run h.1 = h.3 ∙ assignment-is s g q h.0 h.1 run w.is in
-        (copies_bits ranges run, steps_bits s.ranges s.rules run h.1 ++ demands_bits s.ranges run ds, e, (run, r.many ∙ ap suc w.many, r.in_range, refl), (steps_bits s.ranges s.rules run h.1, demands_bits s.ranges run ds, refl, (h.1, r.joined, refl), (w.met, refl)))
+        let e : b ≡ run_bits s g q run h.1 = h.3 ∙ assignment-is s g q h.0 h.1 run w.is in (
+          copies_bits ranges run,
+          steps_bits s.ranges s.rules run h.1 ++ demands_bits s.ranges run ds,
+          e,
+          (run, r.many ∙ ap suc w.many, r.in_range, refl),
+          (
+            steps_bits s.ranges s.rules run h.1,
+            demands_bits s.ranges run ds,
+            refl,
+            (h.1, r.joined, refl),
+            (w.met, refl),
+          ),
+        )
 
 -- where the variables of the first values' copy begin
 abbrev pub first_variable : List ℕ → ℕ → ℕ
 first_variable ranges steps = (copies_part ranges steps 0).part.vars + 1
 
 -- the assignment of a run has the bits of its first values, and its rules are chosen
-pub run-says : (s : SystemTree) (g : GoalTree) (q : Wanted) (first rules : List ℕ) → system_valid s ≡ true → ranges_fit s.ranges ≡ true → Wants s g q first rules → HaveBits (run_assignment s g q first rules) (first_variable s.ranges (step_count q)) s.ranges first × AllChosen (run_assignment s g q first rules) (step_choices s.rules (copies_part s.ranges (suc (step_count q)) 0).tables (copies_part s.ranges (suc (step_count q)) 0).part.vars) rules
+pub run-says : (s : SystemTree) (g : GoalTree) (q : Wanted) (first rules : List ℕ) → system_valid s ≡ true →
+    ranges_fit s.ranges ≡ true → Wants s g q first rules →
+    HaveBits (run_assignment s g q first rules) (first_variable s.ranges (step_count q)) s.ranges first ×
+    AllChosen (run_assignment s g q first rules)
+    (step_choices s.rules (copies_part s.ranges (suc (step_count q)) 0).tables
+    (copies_part s.ranges (suc (step_count q)) 0).part.vars) rules
 run-says s g q first rules valid fit w =
     let ranges = s.ranges in
     let count = suc (step_count q) in
@@ -157,8 +184,13 @@ run-says s g q first rules valid fit w =
     let reach : length later ≡ (copies_part ranges (step_count q) 0).part.vars = (copies-law (step_count q) ranges [] 0 refl fit).sized later (r.rest, followed, rest_in, refl) in
     let begins : copies_bits ranges run ++ end ≡ later ++ (numbers_bits ranges first ++ (columns_bits ranges first ++ end)) =
     ap (λ (u : List (List ℕ)). copies_bits ranges u ++ end) r.begins ∙ append_assoc later (copy_bits ranges first) end ∙ ap (λ (u : List Bool). later ++ u) (append_assoc (numbers_bits ranges first) (columns_bits ranges first) end) in (
-      subst (λ (u : List Bool). HaveBits u (first_variable ranges (step_count q)) ranges first) (sym (e ∙ begins)) (HaveBits-new ranges first later (columns_bits ranges first ++ end) (first_variable ranges (step_count q)) (ap (λ (k : ℕ). k + 1) reach) w.in_range),
-      subst (λ (u : List Bool). AllChosen u (step_choices s.rules c.tables c.part.vars) rules) (sym e) (steps-say c.tables run rules (copies_bits ranges run) (demands_bits s.ranges run (demanded g q)) c.part.vars ranges s.rules long says (rules-valid s valid) r.joined),
+      subst (λ (u : List Bool). HaveBits u (first_variable ranges (step_count q)) ranges first)
+          (sym (e ∙ begins))
+          (HaveBits-new ranges first later (columns_bits ranges first ++ end)
+          (first_variable ranges (step_count q)) (ap (λ (k : ℕ). k + 1) reach) w.in_range),
+      subst (λ (u : List Bool). AllChosen u (step_choices s.rules c.tables c.part.vars) rules) (sym e)
+          (steps-say c.tables run rules (copies_bits ranges run) (demands_bits s.ranges run (demanded g q))
+          c.part.vars ranges s.rules long says (rules-valid s valid) r.joined),
     )
   where
     suc-same : {m n : ℕ} → suc m ≡ suc n → m ≡ n
@@ -170,7 +202,10 @@ abbrev pub no_formula : Formula
 no_formula = record { vars = 0; clauses = [] }
 
 -- copies in an empty formula, whose variables were taken before
-pub copies_made : (ranges : List ℕ) (steps count : ℕ) (f e d g : Formula) → f ≡ no_formula → e ≡ with_vars f (f.vars + steps * copy_width ranges) → d ≡ with_vars e (e.vars + copy_width ranges) → count ≡ suc steps → g ≡ grown d d.vars (as_clauses (copies_part ranges count 0).part.clauses) → g ≡ with_part no_formula (copies_part ranges (suc steps) 0).part
+pub copies_made : (ranges : List ℕ) (steps count : ℕ) (f e d g : Formula) → f ≡ no_formula →
+    e ≡ with_vars f (f.vars + steps * copy_width ranges) → d ≡ with_vars e (e.vars + copy_width ranges) →
+    count ≡ suc steps → g ≡ grown d d.vars (as_clauses (copies_part ranges count 0).part.clauses) →
+    g ≡ with_part no_formula (copies_part ranges (suc steps) 0).part
 copies_made ranges steps count f e d g empty later first many made =
     let w = copy_width ranges in
     let p = copies_part ranges (suc steps) 0 in
@@ -187,7 +222,15 @@ copies_made ranges steps count f e d g empty later first many made =
 pub first_copies : (ranges : List ℕ) (steps before : ℕ) (f e : Formula) → f ≡ no_formula → e ≡ with_vars f (f.vars + steps * copy_width ranges) → before ≡ e.vars → before ≡ (copies_part ranges steps 0).part.vars
 first_copies ranges steps before f e empty later is = omega (arith, copies-end steps ranges 0, ap (λ (k : Formula). k.vars) later, ap (λ (k : Formula). k.vars) empty, is)
 
-pub unrolled_made : (ranges : List ℕ) (rules : List RuleTree) (steps : ℕ) (g h : Formula) (tables : List (List Column)) → tables ≡ (copies_part ranges (suc steps) 0).tables → g ≡ with_part no_formula (copies_part ranges (suc steps) 0).part → h ≡ with_part g (steps_part rules tables g.vars) → h ≡ with_part no_formula (and_then (copies_part ranges (suc steps) 0).part (steps_part rules (copies_part ranges (suc steps) 0).tables))
+pub unrolled_made :
+    (ranges : List ℕ) (rules : List RuleTree) (steps : ℕ) (g h : Formula) (tables : List (List Column)) →
+    tables ≡ (copies_part ranges (suc steps) 0).tables →
+    g ≡ with_part no_formula (copies_part ranges (suc steps) 0).part →
+    h ≡ with_part g (steps_part rules tables g.vars) →
+    h
+    ≡ with_part no_formula
+    (and_then (copies_part ranges (suc steps) 0).part
+    (steps_part rules (copies_part ranges (suc steps) 0).tables))
 unrolled_made ranges rules steps g h tables seen made last =
     let c = copies_part ranges (suc steps) 0 in
     last
@@ -196,7 +239,10 @@ unrolled_made ranges rules steps g h tables seen made last =
     ∙ with_part-and_then no_formula c.part (steps_part rules c.tables)
 
 -- what unrolling leaves, where the copies were made
-pub unrolled-inside : (ranges : List ℕ) (steps : ℕ) (g : Formula) (tables : List (List Column)) → ranges_fit ranges ≡ true → tables ≡ (copies_part ranges (suc steps) 0).tables → g ≡ with_part no_formula (copies_part ranges (suc steps) 0).part → (tables_in g.vars tables ≡ true) × HaveRanges ranges tables
+pub unrolled-inside : (ranges : List ℕ) (steps : ℕ) (g : Formula) (tables : List (List Column)) →
+    ranges_fit ranges ≡ true → tables ≡ (copies_part ranges (suc steps) 0).tables →
+    g ≡ with_part no_formula (copies_part ranges (suc steps) 0).part →
+    (tables_in g.vars tables ≡ true) × HaveRanges ranges tables
 unrolled-inside ranges steps g tables fit seen made =
     let p = copies_part ranges (suc steps) 0 in (
       ap (λ (k : Formula). tables_in k.vars tables) made ∙ ap (tables_in p.part.vars) seen ∙ copies-tables_in (suc steps) ranges 0 fit,
@@ -204,7 +250,9 @@ unrolled-inside ranges steps g tables fit seen made =
     )
 
 -- and where the steps were
-pub unrolled-within : (s : SystemTree) (g h : Formula) (tables : List (List Column)) → system_valid s ≡ true → tables_in g.vars tables ≡ true → HaveRanges s.ranges tables → h ≡ with_part g (steps_part s.rules tables g.vars) → (tables_in h.vars tables ≡ true) × (g.vars ≤ h.vars)
+pub unrolled-within : (s : SystemTree) (g h : Formula) (tables : List (List Column)) → system_valid s ≡ true →
+    tables_in g.vars tables ≡ true → HaveRanges s.ranges tables →
+    h ≡ with_part g (steps_part s.rules tables g.vars) → (tables_in h.vars tables ≡ true) × (g.vars ≤ h.vars)
 unrolled-within s g h tables valid inside have made =
     let fits = steps-fits tables s.ranges s.rules g.vars inside have (rules-valid s valid) in
     let vars : h.vars ≡ (steps_part s.rules tables g.vars).vars = ap (λ (k : Formula). k.vars) made in
@@ -219,7 +267,12 @@ copies-reach ranges steps =
     let end = numbers-end ranges n in
     omega arith
 
-pub unrolled-reach : (s : SystemTree) (steps : ℕ) (g h : Formula) (tables : List (List Column)) → system_valid s ≡ true → ranges_fit s.ranges ≡ true → tables ≡ (copies_part s.ranges (suc steps) 0).tables → g ≡ with_part no_formula (copies_part s.ranges (suc steps) 0).part → h ≡ with_part g (steps_part s.rules tables g.vars) → first_variable s.ranges steps + total_bits s.ranges ≤ h.vars + 1
+pub unrolled-reach : (s : SystemTree) (steps : ℕ) (g h : Formula) (tables : List (List Column)) →
+    system_valid s ≡ true → ranges_fit s.ranges ≡ true →
+    tables ≡ (copies_part s.ranges (suc steps) 0).tables →
+    g ≡ with_part no_formula (copies_part s.ranges (suc steps) 0).part →
+    h ≡ with_part g (steps_part s.rules tables g.vars) →
+    first_variable s.ranges steps + total_bits s.ranges ≤ h.vars + 1
 unrolled-reach s steps g h tables valid fit seen made last =
     let inside = unrolled-inside s.ranges steps g tables fit seen made in
     let within = unrolled-within s g h tables valid inside.0 inside.1 last in
@@ -229,7 +282,14 @@ unrolled-reach s steps g h tables valid fit seen made last =
     omega arith
 
 -- the whole formula
-pub query_made : (s : SystemTree) (g : GoalTree) (q : Wanted) (steps : ℕ) (f h : Formula) (tables : List (List Column)) → steps ≡ step_count q → tables ≡ (copies_part s.ranges (suc steps) 0).tables → f ≡ with_part no_formula (and_then (copies_part s.ranges (suc steps) 0).part (steps_part s.rules (copies_part s.ranges (suc steps) 0).tables)) → h ≡ with_part f (demands_part tables (demanded g q) f.vars) → h ≡ query_formula s g q
+pub query_made :
+    (s : SystemTree) (g : GoalTree) (q : Wanted) (steps : ℕ) (f h : Formula) (tables : List (List Column)) →
+    steps ≡ step_count q → tables ≡ (copies_part s.ranges (suc steps) 0).tables →
+    f
+    ≡ with_part no_formula
+    (and_then (copies_part s.ranges (suc steps) 0).part
+    (steps_part s.rules (copies_part s.ranges (suc steps) 0).tables)) →
+    h ≡ with_part f (demands_part tables (demanded g q) f.vars) → h ≡ query_formula s g q
 query_made s g q steps f h tables count seen made last = last ∙ moved tables seen ∙ with_made made ∙ by_count count
   where
     c : ℕ → CopyTables
@@ -241,11 +301,21 @@ query_made s g q steps f h tables count seen made last = last ∙ moved tables s
     p : Part
     p = and_then (c steps).part (steps_part s.rules (c steps).tables)
 
-    with_made : f ≡ with_part no_formula p → with_part f (demands_part (c steps).tables (demanded g q) f.vars) ≡ with_part no_formula (and_then (c steps).part (λ m. and_then (steps_part s.rules (c steps).tables m) (demands_part (c steps).tables (demanded g q))))
+    with_made : f ≡ with_part no_formula p →
+        with_part f (demands_part (c steps).tables (demanded g q) f.vars)
+        ≡ with_part no_formula
+        (and_then (c steps).part
+        (λ m. and_then (steps_part s.rules (c steps).tables m)
+        (demands_part (c steps).tables (demanded g q))))
     with_made e =
         ap (λ (k : Formula). with_part k (demands_part (c steps).tables (demanded g q) k.vars)) e
         ∙ with_part-and_then no_formula p (demands_part (c steps).tables (demanded g q))
-        ∙ ap (λ (cs : List (List Literal)). with_part no_formula (record { vars = (demands_part (c steps).tables (demanded g q) p.vars).vars; clauses = cs })) (append_assoc (c steps).part.clauses (steps_part s.rules (c steps).tables (c steps).part.vars).clauses (demands_part (c steps).tables (demanded g q) p.vars).clauses)
+        ∙ ap
+        (λ (cs : List (List Literal)). with_part no_formula
+        (record { vars = (demands_part (c steps).tables (demanded g q) p.vars).vars; clauses = cs }))
+        (append_assoc (c steps).part.clauses
+        (steps_part s.rules (c steps).tables (c steps).part.vars).clauses
+        (demands_part (c steps).tables (demanded g q) p.vars).clauses)
 
     by_count : steps ≡ step_count q → with_part no_formula (and_then (c steps).part (λ m. and_then (steps_part s.rules (c steps).tables m) (demands_part (c steps).tables (demanded g q)))) ≡ query_formula s g q
     by_count e = ap (λ (k : ℕ). with_part no_formula (and_then (c k).part (λ m. and_then (steps_part s.rules (c k).tables m) (demands_part (c k).tables (demanded g q))))) e
@@ -296,16 +366,36 @@ pub record ReadsAs (s : SystemTree) (g : GoalTree) (q : Wanted) (a : List Bool) 
   pub chosen : AllChosen a choices rules
   pub reached : from + total_bits s.ranges ≤ length a + 1
 
-pub reads_as : (s : SystemTree) (g : GoalTree) (q : Wanted) (a : List Bool) (steps from : ℕ) (choices : List Choice) → system_valid s ≡ true → ranges_fit s.ranges ≡ true → goal_valid s.ranges g ≡ true → length a ≡ (query_formula s g q).vars → satisfies a (query_formula s g q).clauses ≡ true → steps ≡ step_count q → from ≡ first_variable s.ranges steps → choices ≡ step_choices s.rules (copies_part s.ranges (suc steps) 0).tables (copies_part s.ranges (suc steps) 0).part.vars → ReadsAs s g q a from choices
+pub reads_as :
+    (s : SystemTree) (g : GoalTree) (q : Wanted) (a : List Bool) (steps from : ℕ) (choices : List Choice) →
+    system_valid s ≡ true → ranges_fit s.ranges ≡ true → goal_valid s.ranges g ≡ true →
+    length a ≡ (query_formula s g q).vars → satisfies a (query_formula s g q).clauses ≡ true →
+    steps ≡ step_count q → from ≡ first_variable s.ranges steps →
+    choices
+    ≡ step_choices s.rules (copies_part s.ranges (suc steps) 0).tables
+    (copies_part s.ranges (suc steps) 0).part.vars →
+    ReadsAs s g q a from choices
 reads_as s g q a steps from choices valid fit goal_ok size sat count begins seen =
     let p = query_part s g q in
     let run = (extends-as_clauses [] p.vars p.clauses (IsWantedRun s g q) (query-law s g q valid fit goal_ok)).only a size sat in
     let w = wants s g q run.0 run.1 run.2 in
     let says = run-says s g q run.0 run.1 valid fit w in
-    let same : choices ≡ step_choices s.rules (copies_part s.ranges (suc (step_count q)) 0).tables (copies_part s.ranges (suc (step_count q)) 0).part.vars = seen ∙ ap (λ (k : ℕ). step_choices s.rules (copies_part s.ranges (suc k) 0).tables (copies_part s.ranges (suc k) 0).part.vars) count in
+    let same : choices
+    ≡ step_choices s.rules (copies_part s.ranges (suc (step_count q)) 0).tables
+    (copies_part s.ranges (suc (step_count q)) 0).part.vars =
+    seen
+    ∙ ap
+    (λ (k : ℕ). step_choices s.rules (copies_part s.ranges (suc k) 0).tables
+    (copies_part s.ranges (suc k) 0).part.vars) count in
     let at : from ≡ first_variable s.ranges (step_count q) = begins ∙ ap (first_variable s.ranges) count in
     let have : HaveBits a (first_variable s.ranges (step_count q)) s.ranges run.0 = subst (λ (u : List Bool). HaveBits u (first_variable s.ranges (step_count q)) s.ranges run.0) (sym run.3) says.0 in
-    let chosen : AllChosen a (step_choices s.rules (copies_part s.ranges (suc (step_count q)) 0).tables (copies_part s.ranges (suc (step_count q)) 0).part.vars) run.1 = subst (λ (u : List Bool). AllChosen u (step_choices s.rules (copies_part s.ranges (suc (step_count q)) 0).tables (copies_part s.ranges (suc (step_count q)) 0).part.vars) run.1) (sym run.3) says.1 in
+    let chosen : AllChosen a
+    (step_choices s.rules (copies_part s.ranges (suc (step_count q)) 0).tables
+    (copies_part s.ranges (suc (step_count q)) 0).part.vars) run.1 =
+    subst
+    (λ (u : List Bool). AllChosen u
+    (step_choices s.rules (copies_part s.ranges (suc (step_count q)) 0).tables
+    (copies_part s.ranges (suc (step_count q)) 0).part.vars) run.1) (sym run.3) says.1 in
     let low = query-reach s g q valid fit goal_ok in
     record {
       first = run.0;

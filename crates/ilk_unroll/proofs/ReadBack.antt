@@ -56,7 +56,10 @@ pub record Left (a : List Bool) (first : ℕ) (ranges done values : List ℕ) : 
   pub in_range : in_ranges rest ranges ≡ true
   pub have : HaveBits a first ranges rest
 
-pub left-next : (a : List Bool) (first range count v : ℕ) (all others done longer values : List ℕ) → all ≡ range ∷ others → count ≡ bit_count range → range ≤ 2 ^ bit_count range → bits_at a first (bit_count range) ≡ bits_of (bit_count range) v → v < range → longer ≡ done ++ v ∷ [] → Left a first all done values → Left a (first + count) others longer values
+pub left-next : (a : List Bool) (first range count v : ℕ) (all others done longer values : List ℕ) →
+    all ≡ range ∷ others → count ≡ bit_count range → range ≤ 2 ^ bit_count range →
+    bits_at a first (bit_count range) ≡ bits_of (bit_count range) v → v < range → longer ≡ done ++ v ∷ [] →
+    Left a first all done values → Left a (first + count) others longer values
 left-next a first range count v all others done longer values split counted enough is less pushed h =
     let t = told a first range all others h.rest split h.in_range h.have in
     let same : v ≡ t.value = told-read a first range v others h.rest enough t is less in
@@ -109,7 +112,10 @@ head-parts a choice others (rule ∷ rules) h = record { rule = rule; rest = rul
 pub head : (a : List Bool) (choice : Choice) (all others : List Choice) (rules : List ℕ) → all ≡ choice ∷ others → AllChosen a all rules → Head a choice others rules
 head a choice all others rules split h = head-parts a choice others rules (subst (λ (cs : List Choice). AllChosen a cs rules) split h)
 
-pub rules-next : (a : List Bool) (choice : Choice) (all others : List Choice) (r : ℕ) (done longer rules : List ℕ) → all ≡ choice ∷ others → ((s : ℕ) → Chooses a choice.first choice.rules s → s ≡ r) → longer ≡ done ++ r ∷ [] → RulesLeft a all done rules → RulesLeft a others longer rules
+pub rules-next :
+    (a : List Bool) (choice : Choice) (all others : List Choice) (r : ℕ) (done longer rules : List ℕ) →
+    all ≡ choice ∷ others → ((s : ℕ) → Chooses a choice.first choice.rules s → s ≡ r) →
+    longer ≡ done ++ r ∷ [] → RulesLeft a all done rules → RulesLeft a others longer rules
 rules-next a choice all others r done longer rules split only pushed h =
     let k = head a choice all others h.rest split h.chosen in
     record {

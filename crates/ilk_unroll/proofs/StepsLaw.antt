@@ -30,7 +30,9 @@ same n = omega arith
 rules_valid-at : (ranges other : List ℕ) (rules : List RuleTree) → other ≡ ranges → list_all (rule_valid ranges) rules ≡ true → list_all (rule_valid other) rules ≡ true
 rules_valid-at ranges other rules e h = ap (λ (rs : List ℕ). list_all (rule_valid rs) rules) e ∙ h
 
-pub one-fits : (now next : List Column) (ranges : List ℕ) (rules : List RuleTree) (n : ℕ) → columns_in n now ≡ true → columns_in n next ≡ true → ranges_of now ≡ ranges → ranges_of next ≡ ranges → list_all (rule_valid ranges) rules ≡ true → PartFits n (step_part rules now next n)
+pub one-fits : (now next : List Column) (ranges : List ℕ) (rules : List RuleTree) (n : ℕ) →
+    columns_in n now ≡ true → columns_in n next ≡ true → ranges_of now ≡ ranges → ranges_of next ≡ ranges →
+    list_all (rule_valid ranges) rules ≡ true → PartFits n (step_part rules now next n)
 one-fits now next ranges rules n hn hx rn rx valid = step-fits rules now next n hn hx (rx ∙ sym rn) (rules_valid-at ranges (ranges_of now) rules rn valid)
 
 pub steps-fits : (tables : List (List Column)) (ranges : List ℕ) (rules : List RuleTree) (n : ℕ) → tables_in n tables ≡ true → HaveRanges ranges tables → list_all (rule_valid ranges) rules ≡ true → PartFits n (steps_part rules tables n)
@@ -64,11 +66,18 @@ tables-ranges [] run a n ranges h = tt
 tables-ranges (table ∷ tables) [] a n ranges h = absurd h
 tables-ranges (table ∷ tables) (values ∷ run) a n ranges h = (h.0.has_ranges, tables-ranges tables run a n ranges h.1)
 
-nothing-law : (a : List Bool) (n : ℕ) (ranges : List ℕ) (rules : List RuleTree) (run : List (List ℕ)) → length a ≡ n → Joined rules run [] → steps_bits ranges rules run [] ≡ [] → ((chosen : List ℕ) → Joined rules run chosen → chosen ≡ []) → Extends a n [] (AreSteps ranges rules run)
+nothing-law : (a : List Bool) (n : ℕ) (ranges : List ℕ) (rules : List RuleTree) (run : List (List ℕ)) →
+    length a ≡ n → Joined rules run [] → steps_bits ranges rules run [] ≡ [] →
+    ((chosen : List ℕ) → Joined rules run chosen → chosen ≡ []) → Extends a n [] (AreSteps ranges rules run)
 nothing-law a n ranges rules run size none empty only =
     in_words a n [] (Only []) (AreSteps ranges rules run) (λ b h. ([], none, h ∙ sym empty)) (λ b h. h.2 ∙ ap (steps_bits ranges rules run) (only h.0 h.1) ∙ empty) (only_from_if a n [] [] (no_more_if a n [] true size refl))
 
-one-law : (now next : List Column) (ws xs : List ℕ) (a : List Bool) (n : ℕ) (ranges : List ℕ) (rules : List RuleTree) → length a ≡ n → TableSays a n ranges now ws → TableSays a n ranges next xs → list_all (rule_valid ranges) rules ≡ true → Extends a (step_part rules now next n).vars (step_part rules now next n).clauses (IsStep ranges rules ws xs)
+one-law :
+    (now next : List Column) (ws xs : List ℕ) (a : List Bool) (n : ℕ) (ranges : List ℕ)
+    (rules : List RuleTree) → length a ≡ n →
+    TableSays a n ranges now ws → TableSays a n ranges next xs → list_all (rule_valid ranges) rules ≡ true →
+    Extends a (step_part rules now next n).vars (step_part rules now next n).clauses
+    (IsStep ranges rules ws xs)
 one-law now next ws xs a n ranges rules size hn hx valid =
     let back : ranges ≡ ranges_of now = sym hn.has_ranges in
     let p = step_part rules now next n in
@@ -81,7 +90,11 @@ one-law now next ws xs a n ranges rules size hn hx valid =
       next_say = subst (λ (rs : List ℕ). LiteralsSay a next rs xs) back hx.says;
     }) (rules_valid-at ranges (ranges_of now) rules hn.has_ranges valid) (ap (in_ranges ws) hn.has_ranges ∙ hn.in_range) (ap (in_ranges xs) hn.has_ranges ∙ hx.in_range))
 
-pub steps-law : (tables : List (List Column)) (run : List (List ℕ)) (a : List Bool) (n : ℕ) (ranges : List ℕ) (rules : List RuleTree) → length a ≡ n → TablesSay a n ranges tables run → list_all (rule_valid ranges) rules ≡ true → Extends a (steps_part rules tables n).vars (steps_part rules tables n).clauses (AreSteps ranges rules run)
+pub steps-law :
+    (tables : List (List Column)) (run : List (List ℕ)) (a : List Bool) (n : ℕ) (ranges : List ℕ)
+    (rules : List RuleTree) → length a ≡ n →
+    TablesSay a n ranges tables run → list_all (rule_valid ranges) rules ≡ true →
+    Extends a (steps_part rules tables n).vars (steps_part rules tables n).clauses (AreSteps ranges rules run)
 steps-law [] [] a n ranges rules size h valid = nothing-law a n ranges rules [] size refl refl (λ chosen k. k)
 steps-law [] (values ∷ run) a n ranges rules size h valid = absurd h
 steps-law (now ∷ tables) [] a n ranges rules size h valid = absurd h
@@ -89,7 +102,13 @@ steps-law (now ∷ []) (values ∷ []) a n ranges rules size h valid = nothing-l
 steps-law (now ∷ []) (values ∷ next ∷ run) a n ranges rules size h valid = absurd h.1
 steps-law (now ∷ next ∷ tables) (values ∷ []) a n ranges rules size h valid = absurd h.1
 steps-law (now ∷ next ∷ tables) (ws ∷ xs ∷ run) a n ranges rules size h valid =
-    in_words a rest.vars (p.clauses ++ rest.clauses) _ (AreSteps ranges rules (ws ∷ xs ∷ run)) to (λ b k. split b k.0 k.1 k.2) (in_turn a p.vars rest.vars p.clauses rest.clauses (IsStep ranges rules ws xs) (λ b _. AreSteps ranges rules (xs ∷ run)) (omega (arith, size, fits.low)) rest_fits.low fits.inside first (λ b k. steps-law (next ∷ tables) (xs ∷ run) (a ++ b) p.vars ranges rules (first.sized b k) (tables_say-more (next ∷ tables) (xs ∷ run) a b n p.vars ranges size fits.low h.1) valid))
+    in_words a rest.vars (p.clauses ++ rest.clauses) _ (AreSteps ranges rules (ws ∷ xs ∷ run)) to
+    (λ b k. split b k.0 k.1 k.2)
+    (in_turn a p.vars rest.vars p.clauses rest.clauses (IsStep ranges rules ws xs)
+    (λ b _. AreSteps ranges rules (xs ∷ run)) (omega (arith, size, fits.low)) rest_fits.low
+    fits.inside first
+    (λ b k. steps-law (next ∷ tables) (xs ∷ run) (a ++ b) p.vars ranges rules (first.sized b k)
+    (tables_say-more (next ∷ tables) (xs ∷ run) a b n p.vars ranges size fits.low h.1) valid))
   where
     p : Part
     p = step_part rules now next n
@@ -115,7 +134,11 @@ steps-law (now ∷ next ∷ tables) (ws ∷ xs ∷ run) a n ranges rules size h 
     split b (rule ∷ chosen) j e = (step_bits ranges rules ws rule, steps_bits ranges rules (xs ∷ run) chosen, e, (rule, j.0, refl), (chosen, j.1, refl))
 
 -- the variables of the choices say which rules are chosen, whatever follows
-pub steps-say : (tables : List (List Column)) (run : List (List ℕ)) (chosen : List ℕ) (a c : List Bool) (n : ℕ) (ranges : List ℕ) (rules : List RuleTree) → length a ≡ n → TablesSay a n ranges tables run → list_all (rule_valid ranges) rules ≡ true → Joined rules run chosen → AllChosen (a ++ (steps_bits ranges rules run chosen ++ c)) (step_choices rules tables n) chosen
+pub steps-say :
+    (tables : List (List Column)) (run : List (List ℕ)) (chosen : List ℕ) (a c : List Bool) (n : ℕ)
+    (ranges : List ℕ) (rules : List RuleTree) → length a ≡ n →
+    TablesSay a n ranges tables run → list_all (rule_valid ranges) rules ≡ true → Joined rules run chosen →
+    AllChosen (a ++ (steps_bits ranges rules run chosen ++ c)) (step_choices rules tables n) chosen
 steps-say [] [] chosen a c n ranges rules size h valid j = j
 steps-say [] (values ∷ run) chosen a c n ranges rules size h valid j = absurd h
 steps-say (now ∷ tables) [] chosen a c n ranges rules size h valid j = absurd h
@@ -138,7 +161,9 @@ steps-say (now ∷ next ∷ tables) (ws ∷ xs ∷ run) (rule ∷ chosen) a c n 
     )
 
 -- the choices are of variables of the formula
-pub choices-numbered : (tables : List (List Column)) (ranges : List ℕ) (rules : List RuleTree) (n m : ℕ) → tables_in n tables ≡ true → HaveRanges ranges tables → list_all (rule_valid ranges) rules ≡ true → (steps_part rules tables n).vars ≤ m → choices_numbered m (step_choices rules tables n) ≡ true
+pub choices-numbered : (tables : List (List Column)) (ranges : List ℕ) (rules : List RuleTree) (n m : ℕ) →
+    tables_in n tables ≡ true → HaveRanges ranges tables → list_all (rule_valid ranges) rules ≡ true →
+    (steps_part rules tables n).vars ≤ m → choices_numbered m (step_choices rules tables n) ≡ true
 choices-numbered [] ranges rules n m h r valid high = refl
 choices-numbered (now ∷ []) ranges rules n m h r valid high = refl
 choices-numbered (now ∷ next ∷ tables) ranges rules n m h r valid high =
@@ -153,7 +178,14 @@ choices-numbered (now ∷ next ∷ tables) ranges rules n m h r valid high =
 
 -- one step more
 
-pub steps-next : (f g : Formula) (rules : List RuleTree) (choices whole : List Choice) (choice : Choice) (end : Formula) (all : List (List Column)) (now next : List Column) (tables : List (List Column)) (k : ℕ) → all ≡ now ∷ next ∷ tables → k ≡ length rules → choice ≡ record { first = f.vars + 1; rules = k } → g ≡ with_part f (step_part rules now next f.vars) → choices ++ step_choices rules all f.vars ≡ whole → with_part f (steps_part rules all f.vars) ≡ end → ((choices ++ choice ∷ []) ++ step_choices rules (next ∷ tables) g.vars ≡ whole) × (with_part g (steps_part rules (next ∷ tables) g.vars) ≡ end)
+pub steps-next :
+    (f g : Formula) (rules : List RuleTree) (choices whole : List Choice) (choice : Choice) (end : Formula)
+    (all : List (List Column)) (now next : List Column) (tables : List (List Column)) (k : ℕ) →
+    all ≡ now ∷ next ∷ tables → k ≡ length rules → choice ≡ record { first = f.vars + 1; rules = k } →
+    g ≡ with_part f (step_part rules now next f.vars) → choices ++ step_choices rules all f.vars ≡ whole →
+    with_part f (steps_part rules all f.vars) ≡ end →
+    ((choices ++ choice ∷ []) ++ step_choices rules (next ∷ tables) g.vars ≡ whole) ×
+    (with_part g (steps_part rules (next ∷ tables) g.vars) ≡ end)
 steps-next f g rules choices whole choice end all now next tables k split count is made seen h =
     let p = step_part rules now next f.vars in (
       append_assoc choices (choice ∷ []) (step_choices rules (next ∷ tables) g.vars)

@@ -25,7 +25,10 @@ fn demand_in(
     requires copy { copy < length tables.now }
     requires within { IsTrue (tables_in cnf.old.vars tables.now) }
     requires valid { IsTrue (valid_in tables.now (tree_of form.now)) }
-    ensures made { OnOk result (cnf.new ≡ with_part cnf.old (demands_part tables.now (holds_in copy (tree_of form.now) ∷ []) cnf.old.vars)) }
+    ensures made { OnOk result
+        (cnf.new
+        ≡ with_part cnf.old
+        (demands_part tables.now (holds_in copy (tree_of form.now) ∷ []) cnf.old.vars)) }
     ensures within { OnOk result (IsTrue (tables_in cnf.new.vars tables.now)) }
 {
     demand(alloc, cnf, tables.at(u64::from(copy)), &[], form)?;
@@ -43,7 +46,10 @@ fn demand_below(
     requires count { count ≤ length tables.now }
     requires within { IsTrue (tables_in cnf.old.vars tables.now) }
     requires valid { IsTrue (valid_in tables.now (tree_of form.now)) }
-    ensures made { OnOk result (cnf.new ≡ with_part cnf.old (demands_part tables.now (holds_below (tree_of form.now) count) cnf.old.vars)) }
+    ensures made { OnOk result
+        (cnf.new
+        ≡ with_part cnf.old
+        (demands_part tables.now (holds_below (tree_of form.now) count) cnf.old.vars)) }
     ensures within { OnOk result (IsTrue (tables_in cnf.new.vars tables.now)) }
 {
     for copy in 0..count {
@@ -63,7 +69,11 @@ fn demand_each_below(
     requires count { count ≤ length tables.now }
     requires within { IsTrue (tables_in cnf.old.vars tables.now) }
     requires valid { IsTrue (list_all (valid_in tables.now) (map tree_of forms.now)) }
-    ensures made { OnOk result (cnf.new ≡ with_part cnf.old (demands_part tables.now (flat_map (λ t. holds_below t count) (map tree_of forms.now)) cnf.old.vars)) }
+    ensures made { OnOk result
+        (cnf.new
+        ≡ with_part cnf.old
+        (demands_part tables.now
+        (flat_map (λ t. holds_below t count) (map tree_of forms.now)) cnf.old.vars)) }
     ensures within { OnOk result (IsTrue (tables_in cnf.new.vars tables.now)) }
 {
     for form in forms {
@@ -83,7 +93,11 @@ fn demand_violated(
     requires copy { copy < length tables.now }
     requires within { IsTrue (tables_in cnf.old.vars tables.now) }
     requires valid { IsTrue (valid_in tables.now (all_of (trees_of forms.now))) }
-    ensures { OnOk result (cnf.new ≡ with_part cnf.old (demands_part tables.now (fails_in copy (all_of (trees_of forms.now)) ∷ []) cnf.old.vars)) }
+    ensures { OnOk result
+        (cnf.new
+        ≡ with_part cnf.old
+        (demands_part tables.now (fails_in copy (all_of (trees_of forms.now)) ∷ [])
+        cnf.old.vars)) }
 {
     some_fails(alloc, cnf, tables.at(u64::from(copy)), forms.as_slice())?;
     Ok(())
@@ -100,8 +114,15 @@ fn demand_or_violated(
 ) -> Result<(), AllocError>
     requires copy { copy < length tables.now }
     requires within { IsTrue (tables_in cnf.old.vars tables.now) }
-    requires valid { IsTrue (valid_in tables.now (all_of (more (negation (tree_of form.now)) (trees_of forms.now)))) }
-    ensures { OnOk result (cnf.new ≡ with_part cnf.old (demands_part tables.now (fails_in copy (all_of (more (negation (tree_of form.now)) (trees_of forms.now))) ∷ []) cnf.old.vars)) }
+    requires valid { IsTrue
+        (valid_in tables.now (all_of (more (negation (tree_of form.now)) (trees_of forms.now)))) }
+    ensures { OnOk result
+        (cnf.new
+        ≡ with_part cnf.old
+        (demands_part tables.now
+        (fails_in copy
+        (all_of (more (negation (tree_of form.now)) (trees_of forms.now)))
+        ∷ []) cnf.old.vars)) }
 {
     let table = tables.at(u64::from(copy));
     holds_or_some_fails(alloc, cnf, table, form, forms.as_slice())?;
@@ -121,7 +142,11 @@ fn add_hazard(
     requires start { IsTrue (valid_in tables.now (tree_of goal.now.start)) }
     requires hazard { IsTrue (valid_in tables.now (tree_of goal.now.hazard)) }
     requires wellformed { IsTrue (valid_in tables.now (tree_of goal.now.wellformed)) }
-    ensures { OnOk result (cnf.new ≡ with_part cnf.old (demands_part tables.now (demanded (goal_tree goal.now) (Wanted.Hazard steps)) cnf.old.vars)) }
+    ensures { OnOk result
+        (cnf.new
+        ≡ with_part cnf.old
+        (demands_part tables.now (demanded (goal_tree goal.now) (Wanted.Hazard steps))
+        cnf.old.vars)) }
 {
     demand_in(alloc, cnf, tables, &goal.start, 0)?;
     demand_below(alloc, cnf, tables, &goal.wellformed, steps)?;
@@ -143,7 +168,11 @@ fn add_breach(
     requires start { IsTrue (valid_in tables.now (tree_of goal.now.start)) }
     requires wellformed { IsTrue (valid_in tables.now (tree_of goal.now.wellformed)) }
     requires families { IsTrue (valid_in tables.now (all_of (trees_of goal.now.families))) }
-    ensures { OnOk result (cnf.new ≡ with_part cnf.old (demands_part tables.now (demanded (goal_tree goal.now) (Wanted.Breach steps)) cnf.old.vars)) }
+    ensures { OnOk result
+        (cnf.new
+        ≡ with_part cnf.old
+        (demands_part tables.now (demanded (goal_tree goal.now) (Wanted.Breach steps))
+        cnf.old.vars)) }
 {
     demand_in(alloc, cnf, tables, &goal.start, 0)?;
     demand_below(alloc, cnf, tables, &goal.wellformed, steps + 1)?;
@@ -163,8 +192,14 @@ fn add_step_query(
     requires within { IsTrue (tables_in cnf.old.vars tables.now) }
     requires wellformed { IsTrue (valid_in tables.now (tree_of goal.now.wellformed)) }
     requires each { IsTrue (list_all (valid_in tables.now) (map tree_of goal.now.families)) }
-    requires last { IsTrue (valid_in tables.now (all_of (more (negation (tree_of goal.now.hazard)) (trees_of goal.now.families)))) }
-    ensures { OnOk result (cnf.new ≡ with_part cnf.old (demands_part tables.now (demanded (goal_tree goal.now) (Wanted.Step steps)) cnf.old.vars)) }
+    requires last { IsTrue
+        (valid_in tables.now
+        (all_of (more (negation (tree_of goal.now.hazard)) (trees_of goal.now.families)))) }
+    ensures { OnOk result
+        (cnf.new
+        ≡ with_part cnf.old
+        (demands_part tables.now (demanded (goal_tree goal.now) (Wanted.Step steps))
+        cnf.old.vars)) }
 {
     demand_below(alloc, cnf, tables, &goal.wellformed, steps)?;
     demand_each_below(alloc, cnf, tables, goal.families.as_slice(), steps)?;
@@ -189,8 +224,13 @@ pub fn add_demands(
     requires wellformed { IsTrue (valid_in tables.now (tree_of goal.now.wellformed)) }
     requires each { IsTrue (list_all (valid_in tables.now) (map tree_of goal.now.families)) }
     requires families { IsTrue (valid_in tables.now (all_of (trees_of goal.now.families))) }
-    requires last { IsTrue (valid_in tables.now (all_of (more (negation (tree_of goal.now.hazard)) (trees_of goal.now.families)))) }
-    ensures { OnOk result (cnf.new ≡ with_part cnf.old (demands_part tables.now (demanded (goal_tree goal.now) q) cnf.old.vars)) }
+    requires last { IsTrue
+        (valid_in tables.now
+        (all_of (more (negation (tree_of goal.now.hazard)) (trees_of goal.now.families)))) }
+    ensures { OnOk result
+        (cnf.new
+        ≡ with_part cnf.old
+        (demands_part tables.now (demanded (goal_tree goal.now) q) cnf.old.vars)) }
 {
     match q {
         Wanted::Hazard(steps) => add_hazard(alloc, cnf, tables, goal, steps),

@@ -22,16 +22,34 @@ pub fn query(alloc: Global, system: &System, goal: &Goal, q: Wanted) -> Result<C
     requires system { IsTrue (system_valid (system_tree system.now)) }
     requires goal { IsTrue (goal_valid system.now.ranges (goal_tree goal.now)) }
     requires wanted { IsTrue (wanted_valid q) }
-    ensures formula { IfOk result (λ cnf. cnf ≡ query_formula (system_tree system.now) (goal_tree goal.now) q) }
+    ensures formula { IfOk result
+        (λ cnf. cnf ≡ query_formula (system_tree system.now) (goal_tree goal.now) q) }
 
     // The copies have at most two variables for each value of a variable.
-    ensures copies { OnOk result ((copies_part system.now.ranges (suc (step_count q)) 0).part.vars ≤ 2 * (suc (step_count q) * sum system.now.ranges)) }
+    ensures copies { OnOk result
+        ((copies_part system.now.ranges (suc (step_count q)) 0).part.vars
+        ≤ 2 * (suc (step_count q) * sum system.now.ranges)) }
 
     // An assignment that satisfies the formula is that of a run that the query asks for.
-    ensures sound { OnOk result ((a : List Bool) → length a ≡ (query_formula (system_tree system.now) (goal_tree goal.now) q).vars → IsTrue (satisfies a (query_formula (system_tree system.now) (goal_tree goal.now) q).clauses) → IsWantedRun (system_tree system.now) (goal_tree goal.now) q a) }
+    ensures sound { OnOk result
+        ((a : List Bool) →
+        length a ≡ (query_formula (system_tree system.now) (goal_tree goal.now) q).vars →
+        IsTrue
+        (satisfies a
+        (query_formula (system_tree system.now) (goal_tree goal.now) q).clauses) →
+        IsWantedRun (system_tree system.now) (goal_tree goal.now) q a) }
 
     // The assignment of each such run satisfies the formula.
-    ensures complete { OnOk result ((first rules : List ℕ) → IsTrue (is_wanted_run (system_tree system.now) (goal_tree goal.now) q first rules) → (length (run_assignment (system_tree system.now) (goal_tree goal.now) q first rules) ≡ (query_formula (system_tree system.now) (goal_tree goal.now) q).vars) × IsTrue (satisfies (run_assignment (system_tree system.now) (goal_tree goal.now) q first rules) (query_formula (system_tree system.now) (goal_tree goal.now) q).clauses)) }
+    ensures complete { OnOk result
+        ((first rules : List ℕ) →
+        IsTrue (is_wanted_run (system_tree system.now) (goal_tree goal.now) q first rules) →
+        (length (run_assignment (system_tree system.now) (goal_tree goal.now) q first rules)
+        ≡ (query_formula (system_tree system.now) (goal_tree goal.now) q).vars) ×
+        IsTrue
+        (satisfies
+        (run_assignment (system_tree system.now) (goal_tree goal.now) q first
+        rules)
+        (query_formula (system_tree system.now) (goal_tree goal.now) q).clauses)) }
 {
     let mut cnf = Cnf::new(alloc);
     let unrolled = unroll(alloc, &mut cnf, system, q.steps())?;

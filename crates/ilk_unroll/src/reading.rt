@@ -37,8 +37,11 @@ fn read_values(
     requires from_1 { 0 < from }
     requires numbered { from + total_bits ranges.now ≤ 2 ^ 62 + 1 }
     requires reached { from + total_bits ranges.now ≤ length a.now + 1 }
-    requires told { (values : List ℕ) × IsTrue (in_ranges values ranges.now) × HaveBits a.now from ranges.now values }
-    ensures { IfOk result (λ read. (values : List ℕ) → IsTrue (in_ranges values ranges.now) → HaveBits a.now from ranges.now values → read ≡ values) }
+    requires told { (values : List ℕ) × IsTrue (in_ranges values ranges.now) ×
+        HaveBits a.now from ranges.now values }
+    ensures { IfOk result
+        (λ read. (values : List ℕ) → IsTrue (in_ranges values ranges.now) →
+        HaveBits a.now from ranges.now values → read ≡ values) }
 {
     let mut values = Values::new(alloc);
     let mut first = from;
@@ -59,7 +62,8 @@ fn read_values(
 fn read_rules(alloc: Global, choices: &Choices, a: &Assignment) -> Result<Rows, AllocError>
     requires numbered { IsTrue (choices_numbered (2 ^ 62) choices.now) }
     requires chosen { (rules : List ℕ) × AllChosen a.now choices.now rules }
-    ensures { IfOk result (λ read. (rules : List ℕ) → AllChosen a.now choices.now rules → read ≡ rules) }
+    ensures { IfOk result
+        (λ read. (rules : List ℕ) → AllChosen a.now choices.now rules → read ≡ rules) }
 {
     let mut rules = Rows::new(alloc);
     for choice in choices.as_slice() {
@@ -82,10 +86,18 @@ pub fn read_back(
     requires system { IsTrue (system_valid (system_tree system.now)) }
     requires goal { IsTrue (goal_valid system.now.ranges (goal_tree goal.now)) }
     requires wanted { IsTrue (wanted_valid q) }
-    requires sized { length a.now ≡ (query_formula (system_tree system.now) (goal_tree goal.now) q).vars }
-    requires satisfied { IsTrue (satisfies a.now (query_formula (system_tree system.now) (goal_tree goal.now) q).clauses) }
-    ensures run { IfOk result (λ trace. IsTrue (is_wanted_run (system_tree system.now) (goal_tree goal.now) q trace.first trace.rules)) }
-    ensures assignment { IfOk result (λ trace. a.now ≡ run_assignment (system_tree system.now) (goal_tree goal.now) q trace.first trace.rules) }
+    requires sized { length a.now
+        ≡ (query_formula (system_tree system.now) (goal_tree goal.now) q).vars }
+    requires satisfied { IsTrue
+        (satisfies a.now (query_formula (system_tree system.now) (goal_tree goal.now) q).clauses) }
+    ensures run { IfOk result
+        (λ trace. IsTrue
+        (is_wanted_run (system_tree system.now) (goal_tree goal.now) q trace.first
+        trace.rules)) }
+    ensures assignment { IfOk result
+        (λ trace. a.now
+        ≡ run_assignment (system_tree system.now) (goal_tree goal.now) q trace.first
+        trace.rules) }
 {
     let mut cnf = Cnf::new(alloc);
     let unrolled = unroll(alloc, &mut cnf, system, q.steps())?;

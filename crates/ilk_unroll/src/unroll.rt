@@ -31,7 +31,8 @@ pub struct Unrolled {
 
 // Adds the variables of so many copies, and no clause.
 fn take_copies(cnf: &mut Cnf, ranges: &Ranges, count: u32) -> Result<(), AllocError>
-    ensures { OnOk result (cnf.new ≡ with_vars cnf.old (cnf.old.vars + count * copy_width ranges.now)) }
+    ensures { OnOk result
+        (cnf.new ≡ with_vars cnf.old (cnf.old.vars + count * copy_width ranges.now)) }
 {
     for _ in 0..count {
         take_copy(cnf, ranges)?;
@@ -51,7 +52,10 @@ fn add_copies(
     requires width { width ≡ copy_width ranges.now }
     requires there { cnf.old.vars ≡ count * copy_width ranges.now }
     ensures tables { IfOk result (λ tables. tables ≡ (copies_part ranges.now count 0).tables) }
-    ensures made { OnOk result (cnf.new ≡ grown cnf.old cnf.old.vars (as_clauses (copies_part ranges.now count 0).part.clauses)) }
+    ensures made { OnOk result
+        (cnf.new
+        ≡ grown cnf.old cnf.old.vars
+        (as_clauses (copies_part ranges.now count 0).part.clauses)) }
 {
     let mut tables = Tables::new(alloc);
     let mut before = cnf.vars();
@@ -72,8 +76,13 @@ fn add_steps(
     requires within { IsTrue (tables_in cnf.old.vars tables.now) }
     requires ranges { HaveRanges system.now.ranges tables.now }
     requires valid { IsTrue (system_valid (system_tree system.now)) }
-    ensures choices { IfOk result (λ choices. choices ≡ step_choices (map rule_tree system.now.rules) tables.now cnf.old.vars) }
-    ensures made { OnOk result (cnf.new ≡ with_part cnf.old (steps_part (map rule_tree system.now.rules) tables.now cnf.old.vars)) }
+    ensures choices { IfOk result
+        (λ choices. choices
+        ≡ step_choices (map rule_tree system.now.rules) tables.now cnf.old.vars) }
+    ensures made { OnOk result
+        (cnf.new
+        ≡ with_part cnf.old
+        (steps_part (map rule_tree system.now.rules) tables.now cnf.old.vars)) }
 {
     let mut choices = Choices::new(alloc);
     for i in 1..tables.len() {
@@ -103,14 +112,27 @@ pub fn unroll(
     requires empty { cnf.old ≡ record { vars = 0; clauses = [] } }
     requires steps { steps < 2 ^ 31 }
     requires valid { IsTrue (system_valid (system_tree system.now)) }
-    ensures tables { IfOk result (λ unrolled. unrolled.tables ≡ (copies_part system.now.ranges (suc steps) 0).tables) }
-    ensures first { IfOk result (λ unrolled. unrolled.first ≡ (copies_part system.now.ranges steps 0).part.vars + 1) }
-    ensures choices { IfOk result (λ unrolled. unrolled.choices ≡ step_choices (map rule_tree system.now.rules) (copies_part system.now.ranges (suc steps) 0).tables (copies_part system.now.ranges (suc steps) 0).part.vars) }
-    ensures made { OnOk result (cnf.new ≡ with_part (record { vars = 0; clauses = [] }) (and_then (copies_part system.now.ranges (suc steps) 0).part (steps_part (map rule_tree system.now.rules) (copies_part system.now.ranges (suc steps) 0).tables))) }
+    ensures tables { IfOk result
+        (λ unrolled. unrolled.tables ≡ (copies_part system.now.ranges (suc steps) 0).tables) }
+    ensures first { IfOk result
+        (λ unrolled. unrolled.first ≡ (copies_part system.now.ranges steps 0).part.vars + 1) }
+    ensures choices { IfOk result
+        (λ unrolled. unrolled.choices
+        ≡ step_choices (map rule_tree system.now.rules)
+        (copies_part system.now.ranges (suc steps) 0).tables
+        (copies_part system.now.ranges (suc steps) 0).part.vars) }
+    ensures made { OnOk result
+        (cnf.new
+        ≡ with_part (record { vars = 0; clauses = [] })
+        (and_then (copies_part system.now.ranges (suc steps) 0).part
+        (steps_part (map rule_tree system.now.rules)
+        (copies_part system.now.ranges (suc steps) 0).tables))) }
     ensures within { IfOk result (λ unrolled. IsTrue (tables_in cnf.new.vars unrolled.tables)) }
     ensures ranges { IfOk result (λ unrolled. HaveRanges system.now.ranges unrolled.tables) }
-    ensures numbered { IfOk result (λ unrolled. IsTrue (choices_numbered (2 ^ 62) unrolled.choices)) }
-    ensures reach { IfOk result (λ unrolled. unrolled.first + total_bits system.now.ranges ≤ 2 ^ 62 + 1) }
+    ensures numbered { IfOk result
+        (λ unrolled. IsTrue (choices_numbered (2 ^ 62) unrolled.choices)) }
+    ensures reach { IfOk result
+        (λ unrolled. unrolled.first + total_bits system.now.ranges ≤ 2 ^ 62 + 1) }
     ensures bytes { OnOk result (IsTrue (list_all (λ range. nat_lt range 256) system.now.ranges)) }
 {
     let _ranges = bytes_of(system.ranges.as_slice());

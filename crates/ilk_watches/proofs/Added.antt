@@ -78,7 +78,13 @@ new-watches a l m ls r s p k fresh h =
     ]
 
 -- it is covered, or may force its first literal
-new-covered : (a : ArenaLists) (es : List Entry) (h s r sp : ℕ) (clause : List Literal) → IsClauses a → IsClauses (added a clause r sp) → stands_in r a.references ≡ false → stands_in r (added a clause r sp).references ≡ true → s ≤ length a.clauses → IsAddable es clause → IsCovered (added a clause r sp) es h r ⊎ ((s < number_of_clause (added a clause r sp) r) × ((x y : Literal) × MayForce (added a clause r sp) es h r x y))
+new-covered : (a : ArenaLists) (es : List Entry) (h s r sp : ℕ) (clause : List Literal) → IsClauses a →
+    IsClauses (added a clause r sp) → stands_in r a.references ≡ false →
+    stands_in r (added a clause r sp).references ≡ true → s ≤ length a.clauses → IsAddable es clause →
+    IsCovered (added a clause r sp) es h r
+    ⊎
+    ((s < number_of_clause (added a clause r sp) r) ×
+    ((x y : Literal) × MayForce (added a clause r sp) es h r x y))
 new-covered a es h s r sp [] ka kb fresh known le ok =
     let new = new-is a [] r sp ka kb in
     inl (λ i e l b t w1 w2 ne. absurd (true≢false (sym w1 ∙ kb.arena.short r known (omega (arith, ap length new.literals)) (opposite e.lit))))
@@ -110,7 +116,12 @@ new-covered a es h s r sp (l ∷ (m ∷ ls)) ka kb fresh known le ok =
     ]
 
 -- an old clause
-old-covered : (a : ArenaLists) (es : List Entry) (h s r sp c : ℕ) (clause : List Literal) → IsQueue a es h s → IsClauses a → IsClauses (added a clause r sp) → stands_in c a.references ≡ true → c ≢ r → IsCovered (added a clause r sp) es h c ⊎ ((s < number_of_clause (added a clause r sp) c) × ((x y : Literal) × MayForce (added a clause r sp) es h c x y))
+old-covered : (a : ArenaLists) (es : List Entry) (h s r sp c : ℕ) (clause : List Literal) → IsQueue a es h s →
+    IsClauses a → IsClauses (added a clause r sp) → stands_in c a.references ≡ true → c ≢ r →
+    IsCovered (added a clause r sp) es h c
+    ⊎
+    ((s < number_of_clause (added a clause r sp) c) ×
+    ((x y : Literal) × MayForce (added a clause r sp) es h c x y))
 old-covered a es h s r sp c clause q ka kb known ne =
     let same = old-same a clause r sp c ka kb known in
     elim (q.watched c known) [

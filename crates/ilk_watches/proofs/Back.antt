@@ -36,7 +36,9 @@ forced-back a es h n k c x y climb le low m = λ i e l b s w1 w2 ne.
       | inr q ↦ absurd (let now = m.recent i e old (sym (opposite-opposite e.lit) ∙ ap opposite q) in omega (arith, now, level, low))
     ]
 
-lower : (a : ArenaLists) (es : List Entry) (h s k n : ℕ) → IsQueue a es h s → IsClauses a → climbs 0 es ≡ true → k < level_of es → is_closed a.clauses (lits_of (up_to k es)) ≡ true → n ≤ h → n ≤ length (up_to k es) → (n < length (up_to k es) → n ≡ h) → IsQueue a (up_to k es) n s
+lower : (a : ArenaLists) (es : List Entry) (h s k n : ℕ) → IsQueue a es h s → IsClauses a →
+    climbs 0 es ≡ true → k < level_of es → is_closed a.clauses (lits_of (up_to k es)) ≡ true → n ≤ h →
+    n ≤ length (up_to k es) → (n < length (up_to k es) → n ≡ h) → IsQueue a (up_to k es) n s
 lower a es h s k n q cl climb low closed le fits same = record {
   head_in = fits;
   settled_in = q.settled_in;

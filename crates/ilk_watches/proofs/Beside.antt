@@ -35,7 +35,11 @@ chain-beside a b es fs f g s fg n = elim s.chains [
 ]
 
 -- a literal that stays true beside a false one
-still-true : (a b : ArenaLists) (es fs : List Entry) (f g : Literal) (c : ℕ) (l : Literal) → StepAt a b es fs f → ((m : Literal) → stands_in c (chain_of a m) ≡ true → m ≢ g → Rattle.ilk_cnf.specs.Literal.has_lit m (lits_of es) ≡ true) → g ≢ f → stands_in c (chain_of b l) ≡ true → l ≢ g → Rattle.ilk_cnf.specs.Literal.has_lit l (lits_of fs) ≡ true
+still-true : (a b : ArenaLists) (es fs : List Entry) (f g : Literal) (c : ℕ) (l : Literal) →
+    StepAt a b es fs f →
+    ((m : Literal) → stands_in c (chain_of a m) ≡ true → m ≢ g →
+    Rattle.ilk_cnf.specs.Literal.has_lit m (lits_of es) ≡ true) → g ≢ f →
+    stands_in c (chain_of b l) ≡ true → l ≢ g → Rattle.ilk_cnf.specs.Literal.has_lit l (lits_of fs) ≡ true
 still-true a b es fs f g c l s h n st ne = elim s.chains [
   | inl e ↦ lit-kept es fs l s.kept (h l (ap (λ (ch : List (List ℕ)). stands_in c (get_or ch (place l) [])) (sym e) ∙ st) ne)
   | inr m ↦ (let r : stands_in c (chain_of (rewatched a m.clause f m.to) l) ≡ true = ap (λ (ch : List (List ℕ)). stands_in c (get_or ch (place l) [])) (sym m.chains) ∙ st in

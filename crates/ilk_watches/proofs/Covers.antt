@@ -28,11 +28,16 @@ but-more a es fs n f g p w h = λ c known i e l b s nf ng w1 w2 d.
 
 pub but-chains : (a b : ArenaLists) (es : List Entry) (n : ℕ) (f g : Literal) → b.references ≡ a.references → b.chains ≡ a.chains → CoveredBut a es n f g → CoveredBut b es n f g
 but-chains a b es n f g r e h = λ c known.
-    (let P : List (List ℕ) → Type 0 = λ ch. (i : ℕ) (x : Entry) (l : Literal) → i < n → slice_get es i ≡ Some x → opposite x.lit ≢ f → opposite x.lit ≢ g → stands_in c (get_or ch (place (opposite x.lit)) []) ≡ true → stands_in c (get_or ch (place l) []) ≡ true → l ≢ opposite x.lit → is_true_at es x.level l ≡ true in
+    (let P : List (List ℕ) → Type 0 = λ ch. (i : ℕ) (x : Entry) (l : Literal) → i < n →
+    slice_get es i ≡ Some x → opposite x.lit ≢ f → opposite x.lit ≢ g →
+    stands_in c (get_or ch (place (opposite x.lit)) []) ≡ true →
+    stands_in c (get_or ch (place l) []) ≡ true → l ≢ opposite x.lit → is_true_at es x.level l ≡ true in
     subst P (sym e) (h c (ap (stands_in c) (sym r) ∙ known)))
 
 -- a watch that moves from the false literal f to one that isn't false
-pub but-rewatched : (a : ArenaLists) (es : List Entry) (n c : ℕ) (f g t : Literal) → vars_differ (lits_of es) ≡ true → is_false (lits_of es) f ≡ true → is_false (lits_of es) t ≡ false → stands_in c (chain_of a f) ≡ true → CoveredBut a es n f g → CoveredBut (rewatched a c f t) es n f g
+pub but-rewatched : (a : ArenaLists) (es : List Entry) (n c : ℕ) (f g t : Literal) →
+    vars_differ (lits_of es) ≡ true → is_false (lits_of es) f ≡ true → is_false (lits_of es) t ≡ false →
+    stands_in c (chain_of a f) ≡ true → CoveredBut a es n f g → CoveredBut (rewatched a c f t) es n f g
 but-rewatched a es n c f g t d ff tf sf h = λ k known i e l b s nf ng w1 w2 ne.
     elim (stands-rewatched a c f t k (opposite e.lit) w1) [
       | inl o1 ↦ elim (stands-rewatched a c f t k l w2) [
@@ -71,7 +76,10 @@ pub walk-start : (a : ArenaLists) (es : List Entry) (f : Literal) → IsWalk a e
 walk-start a es f = record { split = refl; done = λ c s. absurd (true≢false (sym s)) }
 
 -- the clause at hand keeps its watch
-pub walk-stays : (a b : ArenaLists) (es fs : List Entry) (f : Literal) (passed : List ℕ) (c : ℕ) (rest : List ℕ) → IsWalk a es f passed (c ∷ rest) → b.chains ≡ a.chains → take (length es) fs ≡ es → OtherTrue a fs c f → IsWalk b fs f (passed ++ c ∷ []) rest
+pub walk-stays :
+    (a b : ArenaLists) (es fs : List Entry) (f : Literal) (passed : List ℕ) (c : ℕ) (rest : List ℕ) →
+    IsWalk a es f passed (c ∷ rest) → b.chains ≡ a.chains → take (length es) fs ≡ es → OtherTrue a fs c f →
+    IsWalk b fs f (passed ++ c ∷ []) rest
 walk-stays a b es fs f passed c rest w e p o =
     let back : (d : ℕ) (l : Literal) → stands_in d (chain_of b l) ≡ true → stands_in d (chain_of a l) ≡ true = λ d l s. ap (λ (ch : List (List ℕ)). stands_in d (get_or ch (place l) [])) (sym e) ∙ s in
     record {
@@ -83,7 +91,11 @@ walk-stays a b es fs f passed c rest w e p o =
     }
 
 -- it takes another watch
-pub walk-moves : (a b : ArenaLists) (es fs : List Entry) (f t : Literal) (passed : List ℕ) (c : ℕ) (rest : List ℕ) → IsWalk a es f passed (c ∷ rest) → b.chains ≡ (rewatched a c f t).chains → take (length es) fs ≡ es → IsDistinct eqb (chain_of a f) → is_false (lits_of es) f ≡ true → is_false (lits_of es) t ≡ false → IsWalk b fs f passed rest
+pub walk-moves :
+    (a b : ArenaLists) (es fs : List Entry) (f t : Literal) (passed : List ℕ) (c : ℕ) (rest : List ℕ) →
+    IsWalk a es f passed (c ∷ rest) → b.chains ≡ (rewatched a c f t).chains → take (length es) fs ≡ es →
+    IsDistinct eqb (chain_of a f) → is_false (lits_of es) f ≡ true → is_false (lits_of es) t ≡ false →
+    IsWalk b fs f passed rest
 walk-moves a b es fs f t passed c rest w e p once ff tf =
     let r = rewatched a c f t in
     let apart : f ≢ t = λ q. true≢false (sym ff ∙ ap (is_false (lits_of es)) q ∙ tf) in
@@ -100,7 +112,10 @@ walk-moves a b es fs f t passed c rest w e p once ff tf =
 
 -- where a walk along the chain of f is at its end, each clause is covered where an entry of the current
 -- level makes f false
-pub walk-end : (a : ArenaLists) (es : List Entry) (f : Literal) (passed : List ℕ) → IsWalk a es f passed [] → climbs 0 es ≡ true → (c : ℕ) (e : Entry) (l : Literal) → opposite e.lit ≡ f → e.level ≡ level_of es → stands_in c (chain_of a (opposite e.lit)) ≡ true → stands_in c (chain_of a l) ≡ true → l ≢ opposite e.lit → is_true_at es e.level l ≡ true
+pub walk-end : (a : ArenaLists) (es : List Entry) (f : Literal) (passed : List ℕ) → IsWalk a es f passed [] →
+    climbs 0 es ≡ true → (c : ℕ) (e : Entry) (l : Literal) → opposite e.lit ≡ f → e.level ≡ level_of es →
+    stands_in c (chain_of a (opposite e.lit)) ≡ true → stands_in c (chain_of a l) ≡ true →
+    l ≢ opposite e.lit → is_true_at es e.level l ≡ true
 walk-end a es f passed w climb c e l is level w1 w2 ne =
     let inside : stands_in c passed ≡ true = ap (stands_in c) (sym (append-nil passed)) ∙ ap (stands_in c) (sym w.split) ∙ ap (λ (x : Literal). stands_in c (chain_of a x)) (sym is) ∙ w1 in
     let true_now = w.done c inside l w2 (λ x. ne (x ∙ sym is)) in

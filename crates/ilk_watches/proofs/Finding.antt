@@ -98,7 +98,11 @@ unit-unset es c l d u =
     let t = value-tells es l d in
     value-none es l (no-value (value_of_literal es l) (sym t.stands ∙ lone.0) (sym t.denied ∙ left-open set c l lone.1))
 
-pub forced-is : (f : Formula) (es : List Entry) (c : ℕ) (l : Literal) → IsFormula f → vars_differ (lits_of es) ≡ true → c < length f.clauses → look_of (lits_of es) (clause_at f.clauses c) ≡ Unit l → (is_reason f.clauses (lits_of es) l c ≡ true) × ((lit_in f.vars (plus l.var) && not (is_set es l.var)) ≡ true)
+pub forced-is : (f : Formula) (es : List Entry) (c : ℕ) (l : Literal) → IsFormula f →
+    vars_differ (lits_of es) ≡ true → c < length f.clauses →
+    look_of (lits_of es) (clause_at f.clauses c) ≡ Unit l →
+    (is_reason f.clauses (lits_of es) l c ≡ true) ×
+    ((lit_in f.vars (plus l.var) && not (is_set es l.var)) ≡ true)
 forced-is f es c l k d w h =
     let clause = clause_at f.clauses c in
     let u = unit-told (lits_of es) clause l h in

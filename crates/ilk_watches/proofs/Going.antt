@@ -40,7 +40,9 @@ sofar-more {a0} {a} {b} {t0} {t} {u} s same e p = record {
 }
 
 -- an entry that was queued at the beginning, or was added since, is of the current level
-pub at-level : {a0 a : ArenaLists} {t0 t : TrailList} (head : ℕ) → Sofar a0 a t0 t → ((i : ℕ) (e : Entry) → head ≤ i → slice_get t0.entries i ≡ Some e → e.level ≡ level_of t0.entries) → (i : ℕ) (e : Entry) → head ≤ i → slice_get t.entries i ≡ Some e → e.level ≡ level_of t.entries
+pub at-level : {a0 a : ArenaLists} {t0 t : TrailList} (head : ℕ) → Sofar a0 a t0 t →
+    ((i : ℕ) (e : Entry) → head ≤ i → slice_get t0.entries i ≡ Some e → e.level ≡ level_of t0.entries) →
+    (i : ℕ) (e : Entry) → head ≤ i → slice_get t.entries i ≡ Some e → e.level ≡ level_of t.entries
 at-level {a0} {a} {t0} {t} head s queued i e low st =
     let p = s.propagated in
     elim (below_or_past i (length t0.entries)) [
@@ -80,7 +82,9 @@ both-turned {a} {es} {head} {next} {v} {w} b = record {
 }
 
 -- walks begin
-going-start : (a : ArenaLists) (es : List Entry) (head n : ℕ) (w : Walk) → MadeFalse a.vars es n w.f → ((e : Entry) → slice_get es n ≡ Some e → e.level ≡ level_of es) → head ≤ n → w.before ≡ None → w.next ≡ first_of (chain_of a w.f) → Going a es head (n + 1) w
+going-start : (a : ArenaLists) (es : List Entry) (head n : ℕ) (w : Walk) → MadeFalse a.vars es n w.f →
+    ((e : Entry) → slice_get es n ≡ Some e → e.level ≡ level_of es) → head ≤ n → w.before ≡ None →
+    w.next ≡ first_of (chain_of a w.f) → Going a es head (n + 1) w
 going-start a es head n w m level low before next = record {
   index = n;
   made = m;
@@ -90,7 +94,9 @@ going-start a es head n w m level low before next = record {
   walking = record { passed = []; rest = chain_of a w.f; before_is = before; next_is = next; is = walk-start a es w.f };
 }
 
-pub alone-start : (a : ArenaLists) (es : List Entry) (head : ℕ) (w : Walk) → AllCovered a es head → MadeFalse a.vars es head w.f → ((e : Entry) → slice_get es head ≡ Some e → e.level ≡ level_of es) → w.before ≡ None → w.next ≡ first_of (chain_of a w.f) → Alone a es head (head + 1) w
+pub alone-start : (a : ArenaLists) (es : List Entry) (head : ℕ) (w : Walk) → AllCovered a es head →
+    MadeFalse a.vars es head w.f → ((e : Entry) → slice_get es head ≡ Some e → e.level ≡ level_of es) →
+    w.before ≡ None → w.next ≡ first_of (chain_of a w.f) → Alone a es head (head + 1) w
 alone-start a es head w all m level before next = record {
   going = going-start a es head head w m level (omega arith) before next;
   covered = λ c known i e l b s nf ng w1 w2 ne. elim (below_or_past i head) [
@@ -109,7 +115,10 @@ one-index vars n k es f e d m s q =
     let same : e.lit ≡ m.entry.lit = sym (opposite-opposite e.lit) ∙ ap opposite (q ∙ sym m.is) ∙ opposite-opposite m.entry.lit in
     one-entry es k n e m.entry d s m.stands (ap (λ (l : Literal). l.var) same)
 
-pub both-start : (a : ArenaLists) (es : List Entry) (head next : ℕ) (v w : Walk) → Alone a es head next v → vars_differ (lits_of es) ≡ true → MadeFalse a.vars es next w.f → ((e : Entry) → slice_get es next ≡ Some e → e.level ≡ level_of es) → head ≤ next → w.before ≡ None → w.next ≡ first_of (chain_of a w.f) → Both a es head (next + 1) v w
+pub both-start : (a : ArenaLists) (es : List Entry) (head next : ℕ) (v w : Walk) → Alone a es head next v →
+    vars_differ (lits_of es) ≡ true → MadeFalse a.vars es next w.f →
+    ((e : Entry) → slice_get es next ≡ Some e → e.level ≡ level_of es) → head ≤ next → w.before ≡ None →
+    w.next ≡ first_of (chain_of a w.f) → Both a es head (next + 1) v w
 both-start a es head next v w o d m level low before first =
     let g = o.going in
     record {
@@ -134,7 +143,14 @@ going-own {a} {b} {es} {fs} {head} {next} {v} {w} g s level f walking =
     let made = still-false {a = a} {b = b} {es = es} {fs = fs} g.made s.same s.kept in
     record {
       index = g.index;
-      made = record { entry = made.entry; stands = made.stands; is = made.is ∙ sym f; within = ap (Rattle.ilk_cnf.specs.Formula.lit_in b.vars) f ∙ made.within; denied = ap (Rattle.ilk_log.specs.Propagation.is_false (lits_of fs)) f ∙ made.denied; below = made.below };
+      made = record {
+        entry = made.entry;
+        stands = made.stands;
+        is = made.is ∙ sym f;
+        within = ap (Rattle.ilk_cnf.specs.Formula.lit_in b.vars) f ∙ made.within;
+        denied = ap (Rattle.ilk_log.specs.Propagation.is_false (lits_of fs)) f ∙ made.denied;
+        below = made.below;
+      };
       level = λ e st. g.level e (at-old es fs g.index e s.kept g.made.below st) ∙ sym level;
       low = g.low;
       high = g.high;
@@ -180,7 +196,11 @@ same-or-not f g = elim (cases_Bool (same_lit f g)) [
   | inr n ↦ inr (λ e. true≢false (sym (ap (same_lit f) (sym e) ∙ same-lit f) ∙ n))
 ]
 
-ended : (a : ArenaLists) (es : List Entry) (head next : ℕ) (w : Walk) → Going a es head next w → w.next ≡ None → vars_differ (lits_of es) ≡ true → climbs 0 es ≡ true → (c i : ℕ) (e : Entry) (l : Literal) → slice_get es i ≡ Some e → opposite e.lit ≡ w.f → stands_in c (chain_of a (opposite e.lit)) ≡ true → stands_in c (chain_of a l) ≡ true → l ≢ opposite e.lit → is_true_at es e.level l ≡ true
+ended : (a : ArenaLists) (es : List Entry) (head next : ℕ) (w : Walk) → Going a es head next w →
+    w.next ≡ None → vars_differ (lits_of es) ≡ true → climbs 0 es ≡ true →
+    (c i : ℕ) (e : Entry) (l : Literal) → slice_get es i ≡ Some e → opposite e.lit ≡ w.f →
+    stands_in c (chain_of a (opposite e.lit)) ≡ true → stands_in c (chain_of a l) ≡ true →
+    l ≢ opposite e.lit → is_true_at es e.level l ≡ true
 ended a es head next w g none d climb c i e l s is w1 w2 ne =
     let k = one-index a.vars g.index i es w.f e d g.made s is in
     let level : e.level ≡ level_of es = g.level e (ap (slice_get es) (sym k) ∙ s) in

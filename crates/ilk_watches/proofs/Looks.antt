@@ -73,7 +73,10 @@ pub record Looked (a : ArenaLists) (fs : List Entry) (h c : ℕ) : Type 0 where
   pub covered : IsCovered a fs h c
   pub short : length (literals_of a c) < 2 → is_satisfied fs (literals_of a c) ≡ true
 
-pub queue-next : (a : ArenaLists) (es fs : List Entry) (h s : ℕ) → IsQueue a es h s → s < length a.clauses → IsPropagated a.clauses es fs → ((c : ℕ) → stands_in c a.references ≡ true → number_of_clause a c ≡ s + 1 → Looked a fs h c) → IsQueue a fs h (s + 1)
+pub queue-next : (a : ArenaLists) (es fs : List Entry) (h s : ℕ) → IsQueue a es h s → s < length a.clauses →
+    IsPropagated a.clauses es fs →
+    ((c : ℕ) → stands_in c a.references ≡ true → number_of_clause a c ≡ s + 1 → Looked a fs h c) →
+    IsQueue a fs h (s + 1)
 queue-next a es fs h s k w p here = record {
   head_in = (let m = length-kept es fs p.kept in omega (arith, m, k.head_in));
   settled_in = omega (arith, w);
@@ -105,7 +108,9 @@ pub differ-at : (a : ArenaLists) (s : ℕ) → IsClauses a → s < length a.clau
 differ-at a s k w = list_all-slice_get vars_differ a.clauses s (clause_at a.clauses s) k.formula.differ (clause-there a.clauses s w)
 
 -- the clause is a unit, and its literal was assigned
-pub queue-unit : (a : ArenaLists) (es : List Entry) (h s : ℕ) (l : Literal) → IsQueue a es h s → IsClauses a → vars_differ (lits_of es) ≡ true → s < length a.clauses → look_of (lits_of es) (clause_at a.clauses s) ≡ Unit l → IsQueue a (assigned es l s) h (s + 1)
+pub queue-unit : (a : ArenaLists) (es : List Entry) (h s : ℕ) (l : Literal) → IsQueue a es h s → IsClauses a →
+    vars_differ (lits_of es) ≡ true → s < length a.clauses →
+    look_of (lits_of es) (clause_at a.clauses s) ≡ Unit l → IsQueue a (assigned es l s) h (s + 1)
 queue-unit a es h s l k cl d w look =
     let set = lits_of es in
     let clause = clause_at a.clauses s in

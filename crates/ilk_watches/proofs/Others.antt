@@ -86,7 +86,10 @@ pub other-within : (a : ArenaLists) (c : ℕ) (f m : Literal) → IsClauses a �
 other-within a c f m k o = lit_in-clause a.vars (literals_of a c) m (clause-within a c k o.known) o.has
 
 -- the numbers of what it forces, and of what is false
-pub reason-of : (a : ArenaLists) (c : ℕ) (set : List Literal) (m : Literal) → IsClauses a → stands_in c a.references ≡ true → has_lit m (literals_of a c) ≡ true → is_falsified set (others m (literals_of a c)) ≡ true → is_reason a.clauses set m (number_of_clause a c - 1) ≡ true
+pub reason-of : (a : ArenaLists) (c : ℕ) (set : List Literal) (m : Literal) → IsClauses a →
+    stands_in c a.references ≡ true → has_lit m (literals_of a c) ≡ true →
+    is_falsified set (others m (literals_of a c)) ≡ true →
+    is_reason a.clauses set m (number_of_clause a c - 1) ≡ true
 reason-of a c set m k s h o =
     let b = by-reference a c k s in
     let n : number_of_clause a c - 1 ≡ b.index = omega (arith, b.number) in
@@ -101,11 +104,16 @@ falsified-whole set m (l ∷ c) h f =
       | inr t ↦ (let p = and_parts (is_false set l) (is_falsified set (others m c)) (rw t at h) in and_from (is_false set l) (is_falsified set c) p.0 (falsified-whole set m c p.1 f))
     ]
 
-pub conflict-of : (a : ArenaLists) (c : ℕ) (set : List Literal) (m : Literal) → IsClauses a → stands_in c a.references ≡ true → is_falsified set (others m (literals_of a c)) ≡ true → is_false set m ≡ true → is_conflict a.clauses set (number_of_clause a c - 1) ≡ true
+pub conflict-of : (a : ArenaLists) (c : ℕ) (set : List Literal) (m : Literal) → IsClauses a →
+    stands_in c a.references ≡ true → is_falsified set (others m (literals_of a c)) ≡ true →
+    is_false set m ≡ true → is_conflict a.clauses set (number_of_clause a c - 1) ≡ true
 conflict-of a c set m k s o f =
     let b = by-reference a c k s in
     let n : number_of_clause a c - 1 ≡ b.index = omega (arith, b.number) in
-    ap (is_conflict a.clauses set) n ∙ and_from (nat_lt b.index (length a.clauses)) (is_falsified set (clause_at a.clauses b.index)) (lt-ltb b.index (length a.clauses) b.within) (ap (is_falsified set) b.literals ∙ falsified-whole set m (literals_of a c) o f)
+    ap (is_conflict a.clauses set) n
+    ∙ and_from (nat_lt b.index (length a.clauses)) (is_falsified set (clause_at a.clauses b.index))
+    (lt-ltb b.index (length a.clauses) b.within)
+    (ap (is_falsified set) b.literals ∙ falsified-whole set m (literals_of a c) o f)
 
 -- where no literal may be watched, all but the other watch are false
 pub none-open : (set : List Literal) (other : Literal) (ls : List Literal) → ((i : ℕ) (l : Literal) → slice_get ls i ≡ Some l → may_watch set other l ≡ false) → is_falsified set (others other ls) ≡ true

@@ -72,7 +72,11 @@ one-left set (x ∷ c) l m h k f =
 pub open-by : (set c : List Literal) (m : Literal) → has_lit m c ≡ true → is_false set m ≡ false → ((l : Literal) → has_lit l set ≡ false → ((n : Literal) → has_lit n c ≡ true → is_false set n ≡ false → n ≡ l) → ⊥) → is_open set c ≡ true
 open-by set c m h f never =
     let left = filter (λ x. not (is_false set x)) c in
-    and_from (not (is_falsified set c)) (is_none (unit_of set c)) (not_from_false (is_falsified set c) (elim (cases_Bool (is_falsified set c)) [ inl t ↦ absurd (true≢false (sym (falsified-at set c m t h) ∙ f)) | inr t ↦ t ])) (go (unit_of set c) refl)
+    and_from (not (is_falsified set c)) (is_none (unit_of set c))
+    (not_from_false (is_falsified set c)
+    (elim (cases_Bool (is_falsified set c))
+    [ inl t ↦ absurd (true≢false (sym (falsified-at set c m t h) ∙ f)) | inr t ↦ t ]))
+    (go (unit_of set c) refl)
   where
     go : (o : Option Literal) → unit_of set c ≡ o → is_none o ≡ true
     go None e = refl
@@ -117,7 +121,11 @@ short-satisfied es (l ∷ []) n h =
 short-satisfied es (l ∷ (m ∷ c)) n h = absurd (omega arith)
 
 -- a clause whose watches aren't false, or of which one is true
-pub watched-open : (a : ArenaLists) (es : List Entry) (c : ℕ) (x y : Literal) → vars_differ (lits_of es) ≡ true → WatchesTwo a c x y → (is_false (lits_of es) x ≡ true → has_lit y (lits_of es) ≡ true) → (is_false (lits_of es) y ≡ true → has_lit x (lits_of es) ≡ true) → is_open (lits_of es) (literals_of a c) ≡ true
+pub watched-open : (a : ArenaLists) (es : List Entry) (c : ℕ) (x y : Literal) →
+    vars_differ (lits_of es) ≡ true → WatchesTwo a c x y →
+    (is_false (lits_of es) x ≡ true → has_lit y (lits_of es) ≡ true) →
+    (is_false (lits_of es) y ≡ true → has_lit x (lits_of es) ≡ true) →
+    is_open (lits_of es) (literals_of a c) ≡ true
 watched-open a es c x y d w fx fy =
     let set = lits_of es in
     let ls = literals_of a c in
@@ -130,14 +138,20 @@ watched-open a es c x y d w fx fy =
     ]
 
 -- where all entries are propagated, a false watch has a true one beside it
-pub other-holds : (a : ArenaLists) (es : List Entry) (c : ℕ) (x y : Literal) → stands_in c a.references ≡ true → AllCovered a es (length es) → stands_in c (chain_of a x) ≡ true → stands_in c (chain_of a y) ≡ true → y ≢ x → is_false (lits_of es) x ≡ true → has_lit y (lits_of es) ≡ true
+pub other-holds : (a : ArenaLists) (es : List Entry) (c : ℕ) (x y : Literal) →
+    stands_in c a.references ≡ true → AllCovered a es (length es) → stands_in c (chain_of a x) ≡ true →
+    stands_in c (chain_of a y) ≡ true → y ≢ x → is_false (lits_of es) x ≡ true → has_lit y (lits_of es) ≡ true
 other-holds a es c x y known h sx sy ne f =
     let e = entry-of-lit es (opposite x) f in
     let same : opposite e.entry.lit ≡ x = ap opposite e.is ∙ opposite-opposite x in
     true-somewhere es e.entry.level y (h c known e.index e.entry y (slice_get_within es e.index e.entry e.stands) e.stands (ap (λ (l : Literal). stands_in c (chain_of a l)) same ∙ sx) sy (λ q. ne (q ∙ same)))
 
 -- propagation is at its end where all entries are propagated, and the short clauses are satisfied
-pub closed-all : (a : ArenaLists) (es : List Entry) → IsClauses a → vars_differ (lits_of es) ≡ true → AllCovered a es (length es) → ((c : ℕ) → stands_in c a.references ≡ true → length (literals_of a c) < 2 → is_satisfied es (literals_of a c) ≡ true) → is_closed a.clauses (lits_of es) ≡ true
+pub closed-all : (a : ArenaLists) (es : List Entry) → IsClauses a → vars_differ (lits_of es) ≡ true →
+    AllCovered a es (length es) →
+    ((c : ℕ) → stands_in c a.references ≡ true → length (literals_of a c) < 2 →
+    is_satisfied es (literals_of a c) ≡ true) →
+    is_closed a.clauses (lits_of es) ≡ true
 closed-all a es k d h short = all-pass (is_open (lits_of es)) a.clauses (λ i x s.
     (let r = referred a i k (slice_get_within a.clauses i x s) in
     let same : literals_of a r.reference ≡ x = r.is.literals ∙ get_or_from_slice_get a.clauses i x [] s in

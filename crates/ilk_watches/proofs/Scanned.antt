@@ -29,7 +29,10 @@ abbrev pub scan : List Entry → Option Literal → List Literal → Look
 scan es first [] = option_map_or Unit first Conflict
 scan es first (l ∷ ls) = after_literal first l (value_of_literal es l) (λ next. scan es next ls)
 
-pub scan-next : (es : List Entry) (first : Option Literal) (clause : List Literal) (i : ℕ) (l : Literal) → slice_get clause i ≡ Some l → scan es first (drop i clause) ≡ after_literal first l (value_of_literal es l) (λ next. scan es next (drop (i + 1) clause))
+pub scan-next : (es : List Entry) (first : Option Literal) (clause : List Literal) (i : ℕ) (l : Literal) →
+    slice_get clause i ≡ Some l →
+    scan es first (drop i clause)
+    ≡ after_literal first l (value_of_literal es l) (λ next. scan es next (drop (i + 1) clause))
 scan-next es first clause i l e =
     ap (scan es first) (drop_at clause i l (slice_get_within clause i l e) (sym (get_or_from_slice_get clause i l l e)))
 
@@ -113,7 +116,9 @@ pub scan-second : (es : List Entry) (first : Option Literal) (clause : List Lite
 scan-second es None clause i l e v s = absurd (cc)
 scan-second es (Some k) clause i l e v s = scan-next es (Some k) clause i l e ∙ rw v refl
 
-pub scan-first : (es : List Entry) (first : Option Literal) (clause : List Literal) (i : ℕ) (l : Literal) → slice_get clause i ≡ Some l → value_of_literal es l ≡ None → is_some first ≡ false → scan es first (drop i clause) ≡ scan es (Some l) (drop (i + 1) clause)
+pub scan-first : (es : List Entry) (first : Option Literal) (clause : List Literal) (i : ℕ) (l : Literal) →
+    slice_get clause i ≡ Some l → value_of_literal es l ≡ None → is_some first ≡ false →
+    scan es first (drop i clause) ≡ scan es (Some l) (drop (i + 1) clause)
 scan-first es None clause i l e v s = scan-next es None clause i l e ∙ rw v refl
 scan-first es (Some k) clause i l e v s = absurd (cc)
 

@@ -109,7 +109,10 @@ distinct-of a es f passed rest k w = (let D : List ℕ → Type 0 = λ xs. IsDis
 left-is : (a : ArenaLists) (es : List Entry) (f : Literal) (passed rest : List ℕ) → IsWalk a es f passed rest → IsDistinct eqb (passed ++ rest) → rest_from (first_of rest) (chain_of a f) ≡ rest
 left-is a es f passed rest w d = ap (rest_from (first_of rest)) w.split ∙ rest-is passed rest d
 
-pub step-stays : (a b : ArenaLists) (es fs : List Entry) (f : Literal) (before now : Option ℕ) (c : ℕ) (next : Option ℕ) → AtHand a es f before c → now ≡ Some c → next ≡ after c (chain_of a f) → IsArena a → IsVisited a es b fs c f Stays → take (length es) fs ≡ es → Stepped a b fs f now (Some c) next
+pub step-stays :
+    (a b : ArenaLists) (es fs : List Entry) (f : Literal) (before now : Option ℕ) (c : ℕ) (next : Option ℕ) →
+    AtHand a es f before c → now ≡ Some c → next ≡ after c (chain_of a f) → IsArena a →
+    IsVisited a es b fs c f Stays → take (length es) fs ≡ es → Stepped a b fs f now (Some c) next
 step-stays a b es fs f before now c next h at e k v p =
     let d = distinct-of a es f h.passed (c ∷ h.rest) k h.is in
     let w = walk-stays a b es fs f h.passed c h.rest h.is v.0 p v.1 in
@@ -124,7 +127,11 @@ step-stays a b es fs f before now c next h at e k v p =
       smaller = omega (arith, left_a, left_b, na, nb);
     }
 
-pub step-moves : (a b : ArenaLists) (es fs : List Entry) (f : Literal) (before now : Option ℕ) (c : ℕ) (next : Option ℕ) → AtHand a es f before c → now ≡ Some c → next ≡ after c (chain_of a f) → IsArena a → IsVisited a es b fs c f Moves → take (length es) fs ≡ es → is_false (lits_of es) f ≡ true → Stepped a b fs f now before next
+pub step-moves :
+    (a b : ArenaLists) (es fs : List Entry) (f : Literal) (before now : Option ℕ) (c : ℕ) (next : Option ℕ) →
+    AtHand a es f before c → now ≡ Some c → next ≡ after c (chain_of a f) → IsArena a →
+    IsVisited a es b fs c f Moves → take (length es) fs ≡ es → is_false (lits_of es) f ≡ true →
+    Stepped a b fs f now before next
 step-moves a b es fs f before now c next h at e k v p denied =
     let d = distinct-of a es f h.passed (c ∷ h.rest) k h.is in
     let w = walk-moves a b es fs f v.0 h.passed c h.rest h.is v.2 p (k.once f) denied v.1 in

@@ -78,7 +78,10 @@ ChainsAfter a es b f = (b.chains ≡ a.chains) ⊎ HasMoved a es b f
 -- each clause is covered where one of the first n entries makes a watch false other than f and g, whose
 -- chains are walked
 abbrev pub CoveredBut : ArenaLists → List Entry → ℕ → Literal → Literal → Type 0
-CoveredBut a es n f g = (c : ℕ) → IsTrue (stands_in c a.references) → (i : ℕ) (e : Entry) (l : Literal) → i < n → slice_get es i ≡ Some e → opposite e.lit ≢ f → opposite e.lit ≢ g → IsTrue (stands_in c (chain_of a (opposite e.lit))) → IsTrue (stands_in c (chain_of a l)) → l ≢ opposite e.lit → IsTrue (is_true_at es e.level l)
+CoveredBut a es n f g = (c : ℕ) → IsTrue (stands_in c a.references) → (i : ℕ) (e : Entry) (l : Literal) →
+    i < n → slice_get es i ≡ Some e → opposite e.lit ≢ f → opposite e.lit ≢ g →
+    IsTrue (stands_in c (chain_of a (opposite e.lit))) → IsTrue (stands_in c (chain_of a l)) →
+    l ≢ opposite e.lit → IsTrue (is_true_at es e.level l)
 
 -- what is left of a chain from a clause on
 abbrev pub from_reference : ℕ → List ℕ → List ℕ

@@ -38,9 +38,13 @@ impl Queue {
     pub fn propagate(&mut self, clauses: &mut Clauses, trail: &mut Trail) -> Option<u64>
         requires vars { trail.old.vars ≡ clauses.old.vars }
         requires queue { IsQueue clauses.old trail.old.entries self.old.head self.old.settled }
-        ensures conflict { IfSome result (λ c. IsTrue (is_conflict clauses.old.clauses (lits_of trail.new.entries) c)) }
-        ensures closed { IfNone result (IsTrue (is_closed clauses.old.clauses (lits_of trail.new.entries))) }
-        ensures ended { IfNone result ((self.new.head ≡ length trail.new.entries) × (self.new.settled ≡ length clauses.old.clauses)) }
+        ensures conflict { IfSome result
+            (λ c. IsTrue (is_conflict clauses.old.clauses (lits_of trail.new.entries) c)) }
+        ensures closed { IfNone result
+            (IsTrue (is_closed clauses.old.clauses (lits_of trail.new.entries))) }
+        ensures ended { IfNone result
+            ((self.new.head ≡ length trail.new.entries) ×
+            (self.new.settled ≡ length clauses.old.clauses)) }
         ensures queue { IsQueue clauses.new trail.new.entries self.new.head self.new.settled }
         ensures clauses { SameClauses clauses.old clauses.new }
         ensures trail { trail.new ≡ record trail.old { entries = trail.new.entries } }
@@ -56,7 +60,8 @@ impl Queue {
     fn settle(&mut self, clauses: &Clauses, trail: &mut Trail) -> Option<u64>
         requires vars { trail.old.vars ≡ clauses.now.vars }
         requires queue { IsQueue clauses.now trail.old.entries self.old.head self.old.settled }
-        ensures conflict { IfSome result (λ c. IsTrue (is_conflict clauses.now.clauses (lits_of trail.new.entries) c)) }
+        ensures conflict { IfSome result
+            (λ c. IsTrue (is_conflict clauses.now.clauses (lits_of trail.new.entries) c)) }
         ensures settled { IfNone result (self.new.settled ≡ length clauses.now.clauses) }
         ensures queue { IsQueue clauses.now trail.new.entries self.new.head self.new.settled }
         ensures trail { trail.new ≡ record trail.old { entries = trail.new.entries } }
@@ -78,8 +83,10 @@ impl Queue {
         requires vars { trail.old.vars ≡ clauses.old.vars }
         requires queue { IsQueue clauses.old trail.old.entries self.old.head self.old.settled }
         requires settled { self.old.settled ≡ length clauses.old.clauses }
-        ensures conflict { IfSome result (λ c. IsTrue (is_conflict clauses.old.clauses (lits_of trail.new.entries) c)) }
-        ensures closed { IfNone result (IsTrue (is_closed clauses.old.clauses (lits_of trail.new.entries))) }
+        ensures conflict { IfSome result
+            (λ c. IsTrue (is_conflict clauses.old.clauses (lits_of trail.new.entries) c)) }
+        ensures closed { IfNone result
+            (IsTrue (is_closed clauses.old.clauses (lits_of trail.new.entries))) }
         ensures ended { IfNone result (self.new.head ≡ length trail.new.entries) }
         ensures settled { self.new.settled ≡ self.old.settled }
         ensures queue { IsQueue clauses.new trail.new.entries self.new.head self.new.settled }
@@ -108,7 +115,8 @@ impl Queue {
         requires closed { IsTrue (is_closed clauses.old.clauses (lits_of trail.old.entries)) }
         ensures trail { trail.new ≡ record trail.old { entries = decided trail.old.entries l } }
         ensures clauses { SameClauses clauses.old clauses.new }
-        ensures ended { (self.new.head ≡ length trail.old.entries) × (self.new.settled ≡ length clauses.old.clauses) }
+        ensures ended { (self.new.head ≡ length trail.old.entries) ×
+            (self.new.settled ≡ length clauses.old.clauses) }
         ensures queue { IsQueue clauses.new trail.new.entries self.new.head self.new.settled }
     {
         let _ = self.propagate(clauses, trail);
@@ -119,7 +127,8 @@ impl Queue {
 
     /// The queue after levels were taken off the trail.
     pub fn back_to(&mut self, trail: &Trail)
-        ensures { self.new ≡ record self.old { head = min self.old.head (length trail.now.entries) } }
+        ensures { self.new
+            ≡ record self.old { head = min self.old.head (length trail.now.entries) } }
     {
         self.head = self.head.min(trail.count());
     }

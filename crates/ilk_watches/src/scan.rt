@@ -38,8 +38,10 @@ fn find(clauses: &Clauses, trail: &Trail) -> Found
 /// What `Queue::propagate` does, by a scan of all clauses for each literal: for tests beside it.
 pub fn propagate_by_scan(clauses: &Clauses, trail: &mut Trail) -> Option<u64>
     requires { trail.old.vars ≡ clauses.now.vars }
-    ensures conflict { IfSome result (λ c. IsTrue (is_conflict clauses.now.clauses (lits_of trail.new.entries) c)) }
-    ensures closed { IfNone result (IsTrue (is_closed clauses.now.clauses (lits_of trail.new.entries))) }
+    ensures conflict { IfSome result
+        (λ c. IsTrue (is_conflict clauses.now.clauses (lits_of trail.new.entries) c)) }
+    ensures closed { IfNone result
+        (IsTrue (is_closed clauses.now.clauses (lits_of trail.new.entries))) }
     ensures trail { trail.new ≡ record trail.old { entries = trail.new.entries } }
     ensures propagated { IsPropagated clauses.now.clauses trail.old.entries trail.new.entries }
 {

@@ -56,8 +56,10 @@ fn find_between(
     requires vars { trail.now.vars ≡ clauses.now.vars }
     requires trail { IsTrail trail.now }
     requires to { to ≤ length (literals_of clauses.now c) }
-    ensures found { IfSome result (λ i. MayWatchAt (lits_of trail.now.entries) other (literals_of clauses.now c) i) }
-    ensures none { IfNone result (NoneMayWatch (lits_of trail.now.entries) other (literals_of clauses.now c) from to) }
+    ensures found { IfSome result
+        (λ i. MayWatchAt (lits_of trail.now.entries) other (literals_of clauses.now c) i) }
+    ensures none { IfNone result
+        (NoneMayWatch (lits_of trail.now.entries) other (literals_of clauses.now c) from to) }
 {
     let arena = clauses.arena();
     for i in from..to {
@@ -75,8 +77,11 @@ fn find_around(clauses: &Clauses, trail: &Trail, c: u64, other: Lit, start: u64)
     requires vars { trail.now.vars ≡ clauses.now.vars }
     requires trail { IsTrail trail.now }
     requires start { start ≤ length (literals_of clauses.now c) }
-    ensures found { IfSome result (λ i. MayWatchAt (lits_of trail.now.entries) other (literals_of clauses.now c) i) }
-    ensures none { IfNone result (IsTrue (is_falsified (lits_of trail.now.entries) (others other (literals_of clauses.now c)))) }
+    ensures found { IfSome result
+        (λ i. MayWatchAt (lits_of trail.now.entries) other (literals_of clauses.now c) i) }
+    ensures none { IfNone result
+        (IsTrue
+        (is_falsified (lits_of trail.now.entries) (others other (literals_of clauses.now c)))) }
 {
     let length = clauses.arena().length(c);
     match find_between(clauses, trail, c, other, start, length) {
@@ -91,8 +96,11 @@ fn find_watch(clauses: &mut Clauses, trail: &Trail, c: u64, other: Lit) -> Optio
     requires vars { trail.now.vars ≡ clauses.old.vars }
     requires trail { IsTrail trail.now }
     ensures clauses { clauses.new ≡ record clauses.old { cursors = clauses.new.cursors } }
-    ensures found { IfSome result (λ i. MayWatchAt (lits_of trail.now.entries) other (literals_of clauses.old c) i) }
-    ensures none { IfNone result (IsTrue (is_falsified (lits_of trail.now.entries) (others other (literals_of clauses.old c)))) }
+    ensures found { IfSome result
+        (λ i. MayWatchAt (lits_of trail.now.entries) other (literals_of clauses.old c) i) }
+    ensures none { IfNone result
+        (IsTrue
+        (is_falsified (lits_of trail.now.entries) (others other (literals_of clauses.old c)))) }
 {
     if clauses.arena().length(c) <= SHORT {
         return find_around(clauses, trail, c, other, 0);
@@ -122,7 +130,8 @@ fn replace_watch(
     requires stands { IsTrue (stands_in c (chain_of clauses.old f)) }
     requires follows { IsTrue (follows before c (chain_of clauses.old f)) }
     requires other { other_watch_of clauses.old c f ≡ Some other }
-    ensures replaced { IsReplaced clauses.old (lits_of trail.now.entries) clauses.new c f other result }
+    ensures replaced { IsReplaced clauses.old (lits_of trail.now.entries) clauses.new c f other
+        result }
     ensures clauses { SameClauses clauses.old clauses.new }
 {
     let _ = clauses.count();
@@ -150,7 +159,8 @@ pub fn visit(
     requires denied { IsTrue (is_false_by (lits_of trail.old.entries) f) }
     requires stands { IsTrue (stands_in c (chain_of clauses.old f)) }
     requires follows { IsTrue (follows before c (chain_of clauses.old f)) }
-    ensures visited { IsVisited clauses.old trail.old.entries clauses.new trail.new.entries c f result }
+    ensures visited { IsVisited clauses.old trail.old.entries clauses.new trail.new.entries c f
+        result }
     ensures clauses { SameClauses clauses.old clauses.new }
     ensures trail { trail.new ≡ record trail.old { entries = trail.new.entries } }
     ensures propagated { IsPropagated clauses.old.clauses trail.old.entries trail.new.entries }

@@ -48,11 +48,17 @@ fn step(clauses: &mut Clauses, trail: &mut Trail, walk: &mut Walk) -> Option<u64
     requires vars { trail.old.vars ≡ clauses.old.vars }
     requires within { IsTrue (lit_in clauses.old.vars walk.old.f) }
     requires denied { IsTrue (is_false_by (lits_of trail.old.entries) walk.old.f) }
-    requires walking { Walking clauses.old trail.old.entries walk.old.f walk.old.before walk.old.next }
-    ensures conflict { IfSome result (λ c. IsTrue (is_conflict clauses.old.clauses (lits_of trail.new.entries) c)) }
+    requires walking { Walking clauses.old trail.old.entries walk.old.f walk.old.before
+        walk.old.next }
+    ensures conflict { IfSome result
+        (λ c. IsTrue (is_conflict clauses.old.clauses (lits_of trail.new.entries) c)) }
     ensures literal { walk.new.f ≡ walk.old.f }
-    ensures walking { IfNone result (Walking clauses.new trail.new.entries walk.old.f walk.new.before walk.new.next) }
-    ensures shorter { IfNone result (walk.old.next ≢ None → left_of clauses.new walk.old.f walk.new.next < left_of clauses.old walk.old.f walk.old.next) }
+    ensures walking { IfNone result
+        (Walking clauses.new trail.new.entries walk.old.f walk.new.before walk.new.next) }
+    ensures shorter { IfNone result
+        (walk.old.next ≢ None →
+        left_of clauses.new walk.old.f walk.new.next
+        < left_of clauses.old walk.old.f walk.old.next) }
     ensures chains { ChainsAfter clauses.old trail.old.entries clauses.new walk.old.f }
     ensures clauses { SameClauses clauses.old clauses.new }
     ensures trail { trail.new ≡ record trail.old { entries = trail.new.entries } }
@@ -82,10 +88,13 @@ fn step(clauses: &mut Clauses, trail: &mut Trail, walk: &mut Walk) -> Option<u64
 pub fn walk_from(clauses: &mut Clauses, trail: &mut Trail, head: u64) -> Option<u64>
     requires vars { trail.old.vars ≡ clauses.old.vars }
     requires head { head < length trail.old.entries }
-    requires queued { (i : ℕ) (e : Entry) → head ≤ i → slice_get trail.old.entries i ≡ Some e → e.level ≡ level_of trail.old.entries }
+    requires queued { (i : ℕ) (e : Entry) → head ≤ i → slice_get trail.old.entries i ≡ Some e →
+        e.level ≡ level_of trail.old.entries }
     requires covered { AllCovered clauses.old trail.old.entries head }
-    ensures conflict { IfSome result (λ c. IsTrue (is_conflict clauses.old.clauses (lits_of trail.new.entries) c)) }
-    ensures walked { IfNone result (AllCovered clauses.new trail.new.entries (length trail.new.entries)) }
+    ensures conflict { IfSome result
+        (λ c. IsTrue (is_conflict clauses.old.clauses (lits_of trail.new.entries) c)) }
+    ensures walked { IfNone result
+        (AllCovered clauses.new trail.new.entries (length trail.new.entries)) }
     ensures covered { AllCovered clauses.new trail.new.entries head }
     ensures clauses { SameClauses clauses.old clauses.new }
     ensures trail { trail.new ≡ record trail.old { entries = trail.new.entries } }

@@ -110,7 +110,10 @@ demo_keeps line command e =
     let depth = bind_some (number_of_option line depth_option) _ command stations.2 in
     let conflicts = bind_some (number_of_option line conflicts_option) _ command depth.2 in
     let cert = bind_some (value_of_option line cert_option) _ command conflicts.2 in
-    let limits : HasLimits (Demo stations.0 depth.0 conflicts.0 cert.0) = and_from (has_station_limits stations.0) (has_search_limits depth.0 conflicts.0) (stations_within line stations.0 stations.1) (search_within line depth.0 conflicts.0 depth.1 conflicts.1) in
+    let limits : HasLimits (Demo stations.0 depth.0 conflicts.0 cert.0) = and_from
+    (has_station_limits stations.0) (has_search_limits depth.0 conflicts.0)
+    (stations_within line stations.0 stations.1)
+    (search_within line depth.0 conflicts.0 depth.1 conflicts.1) in
     subst HasLimits (same_Some _ _ cert.2) limits
 
 table_keeps : KeepsLimits table_command

@@ -48,5 +48,7 @@ given a words m like free rows =
     ap command_on line ∙ sym (passed (fault_of app words) words (command_on (λ id. first_of id (matches_of app words))) (sym (faults_like_ours a words like) ∙ free))
 
 -- where it succeeds, they give the command that the matches have
-pub accepted : {E : Type 0} (r : Result (Option Command) E) (a : App) (words : List Text) (m : ArgMatches) → moved_app a ≡ app → fault_of a words ≡ [] → rows_of (found_of m) ≡ matches_of a words → IfOk r (λ o. o ≡ command_on (first_value (found_of m))) → IfOk r (λ o. o ≡ command_of words)
+pub accepted : {E : Type 0} (r : Result (Option Command) E) (a : App) (words : List Text) (m : ArgMatches) →
+    moved_app a ≡ app → fault_of a words ≡ [] → rows_of (found_of m) ≡ matches_of a words →
+    IfOk r (λ o. o ≡ command_on (first_value (found_of m))) → IfOk r (λ o. o ≡ command_of words)
 accepted r a words m like free rows h = IfOk-weaker r _ _ (λ o e. e ∙ given a words m like free rows) h

@@ -110,7 +110,11 @@ short_meets c None rest h f g same = refl
 short_meets c (Some a) rest h f g same = ap₂ (λ (x y : Held × Outcome). if takes_values a then x else y) (option_meets c a (attached_value rest) h)
     (same (reacted (moved_rules c) (moved_rule a) [] h) ∙ ap g (reacts c a [] h))
 
-bundle_steps : (c : List Rule) (x : Option ℕ) (flags : Text) (skip : ℕ) (so_far : Outcome) (h : Held) (f g : Text → ℕ → Outcome → Held → Held × Outcome) → ((t : Text) (k : ℕ) (o : Outcome) (y : Held) → f t k o y ≡ g t k o y) → bundle_step (moved_rules c) x flags skip so_far h f ≡ bundle_step c x flags skip so_far h g
+bundle_steps :
+    (c : List Rule) (x : Option ℕ) (flags : Text) (skip : ℕ) (so_far : Outcome) (h : Held)
+    (f g : Text → ℕ → Outcome → Held → Held × Outcome) →
+    ((t : Text) (k : ℕ) (o : Outcome) (y : Held) → f t k o y ≡ g t k o y) →
+    bundle_step (moved_rules c) x flags skip so_far h f ≡ bundle_step c x flags skip so_far h g
 bundle_steps c None flags skip so_far h f g same = refl
 bundle_steps c (Some x) flags zero so_far h f g same =
     let rest = drop (length (encode_utf8 x)) flags in
@@ -241,7 +245,13 @@ faults_of_found : (again : Bool) (o : Option Rule) (values : List Text) (rows : 
 faults_of_found again None values rows = refl
 faults_of_found again (Some a) values rows = faults_of_use again a values rows
 
-faults_of_pending : (c : List Rule) (again : Bool) (rows : List Row) (o : Option (Text × List Text)) → option_map_or (λ (p : Text × List Text). option_map_or (λ (a : Rule). use_fault again a p.1 rows) (arg_by_id (moved_rules c) p.0) []) o [] ≡ option_map_or (λ (p : Text × List Text). option_map_or (λ (a : Rule). use_fault again a p.1 rows) (arg_by_id c p.0) []) o []
+faults_of_pending : (c : List Rule) (again : Bool) (rows : List Row) (o : Option (Text × List Text)) →
+    option_map_or
+    (λ (p : Text × List Text). option_map_or (λ (a : Rule). use_fault again a p.1 rows)
+    (arg_by_id (moved_rules c) p.0) []) o []
+    ≡ option_map_or
+    (λ (p : Text × List Text). option_map_or (λ (a : Rule). use_fault again a p.1 rows)
+    (arg_by_id c p.0) []) o []
 faults_of_pending c again rows None = refl
 faults_of_pending c again rows (Some p) = ap (λ (o : Option Rule). option_map_or (λ (a : Rule). use_fault again a p.1 rows) o []) (by_id c p.0) ∙ faults_of_found again (arg_by_id c p.0) p.1 rows
 
@@ -265,7 +275,11 @@ faults_of_short c again None rest h f g same = refl
 faults_of_short c again (Some a) rest h f g same = ap₂ (λ (x y : Kinds). if takes_values a then x else y) (faults_of_option c again a (attached_value rest) h)
     (ap₂ or_else (faults_of_reacting c again a [] h) (same (reacted (moved_rules c) (moved_rule a) [] h) ∙ ap g (reacts c a [] h)))
 
-faults_of_step : (c : List Rule) (again : Bool) (x : Option ℕ) (flags : Text) (skip : ℕ) (h : Held) (f g : Text → ℕ → Held → Kinds) → ((t : Text) (k : ℕ) (y : Held) → f t k y ≡ g t k y) → bundle_step_fault (moved_rules c) again x flags skip h f ≡ bundle_step_fault c again x flags skip h g
+faults_of_step :
+    (c : List Rule) (again : Bool) (x : Option ℕ) (flags : Text) (skip : ℕ) (h : Held)
+    (f g : Text → ℕ → Held → Kinds) →
+    ((t : Text) (k : ℕ) (y : Held) → f t k y ≡ g t k y) →
+    bundle_step_fault (moved_rules c) again x flags skip h f ≡ bundle_step_fault c again x flags skip h g
 faults_of_step c again None flags skip h f g same = refl
 faults_of_step c again (Some x) flags zero h f g same =
     let rest = drop (length (encode_utf8 x)) flags in
@@ -299,7 +313,9 @@ faults_of_word s names is_trailing waiting word h = ap (λ (x : Kinds). if is_tr
 faults_of_positional : (c : List Rule) (again : Bool) (a : Rule) (h : Held) → positional_fault (moved_rules c) again (moved_rule a) h ≡ positional_fault c again a h
 faults_of_positional c again a h = ap (λ (x : Kinds). if is_pending a h.pending && takes_several a then [] else x) (faults_of_settling c again h)
 
-faults_of_place : (c : List Rule) (again : Bool) (o : Option Rule) (h : Held) (stray : Kinds) → option_map_or (λ (a : Rule). positional_fault (moved_rules c) again a h) (option_map moved_rule o) stray ≡ option_map_or (λ (a : Rule). positional_fault c again a h) o stray
+faults_of_place : (c : List Rule) (again : Bool) (o : Option Rule) (h : Held) (stray : Kinds) →
+    option_map_or (λ (a : Rule). positional_fault (moved_rules c) again a h) (option_map moved_rule o) stray
+    ≡ option_map_or (λ (a : Rule). positional_fault c again a h) o stray
 faults_of_place c again None h stray = refl
 faults_of_place c again (Some a) h stray = faults_of_positional c again a h
 
@@ -427,7 +443,11 @@ with_argument old new a line given adds local same e = ap moved_app (adds.shape 
     ∙ ap₂ with_rule e same
 
 -- an option more
-pub with_option : (old new : Command) (a : Arg) (line : App) (o : LineOption) (values : ValueParser) → AddsArg old a new → a.global ≡ false → moved_rule (rule_of a) ≡ rule_of_option o.name (with_held_texts values) → with_held_texts values ≡ o.values → moved_app (app_of old) ≡ line → moved_app (app_of new) ≡ with_rule line (option_rule o)
+pub with_option : (old new : Command) (a : Arg) (line : App) (o : LineOption) (values : ValueParser) →
+    AddsArg old a new → a.global ≡ false →
+    moved_rule (rule_of a) ≡ rule_of_option o.name (with_held_texts values) →
+    with_held_texts values ≡ o.values → moved_app (app_of old) ≡ line →
+    moved_app (app_of new) ≡ with_rule line (option_rule o)
 with_option old new a line o values adds local rule same e = with_argument old new a line (option_rule o) adds local (rule ∙ ap (rule_of_option o.name) same) e
 
 ready_as : (s : Shape) → is_ready (moved_shape s) ≡ is_ready s

@@ -89,7 +89,8 @@ fn command_argument<'a>(alloc: Global) -> Arg<'a>
 
 // An option of this name, which is taken once, with one value of these.
 fn option_argument<'a>(alloc: Global, name: &'a str, values: ValueParser<'a>) -> Arg<'a>
-    ensures rule { moved_rule (rule_of result) ≡ rule_of_option name.entry.now (with_held_texts values.entry) }
+    ensures rule { moved_rule (rule_of result)
+        ≡ rule_of_option name.entry.now (with_held_texts values.entry) }
     ensures local { result.global ≡ false }
 {
     Arg::new(alloc, name)

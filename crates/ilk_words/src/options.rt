@@ -19,14 +19,19 @@ use ilk_base::Worded;
 
 /// Whether no option is on the line but these.
 pub(crate) fn has_only(matches: &ArgMatches<'_>, own: &[&str]) -> bool
-    ensures { result ≡ has_only (first_value (found_of matches.now)) (λ name. list_any (λ o. bytes_eq name o.now) own.now) }
+    ensures { result
+        ≡ has_only (first_value (found_of matches.now))
+        (λ name. list_any (λ o. bytes_eq name o.now) own.now) }
 {
     each_allowed(matches, OPTIONS.as_slice(), own)
 }
 
 // Whether each of these options isn't on the line, or is one of a command's own.
 fn each_allowed(matches: &ArgMatches<'_>, options: &[&str], own: &[&str]) -> bool
-    ensures { result ≡ list_all (λ name. is_none (first_value (found_of matches.now) name.now) || list_any (λ o. bytes_eq name.now o.now) own.now) options.now }
+    ensures { result
+        ≡ list_all
+        (λ name. is_none (first_value (found_of matches.now) name.now)
+        || list_any (λ o. bytes_eq name.now o.now) own.now) options.now }
 {
     options
         .iter()
@@ -35,7 +40,10 @@ fn each_allowed(matches: &ArgMatches<'_>, options: &[&str], own: &[&str]) -> boo
 
 // Whether an option isn't on the line, or is one of these.
 fn is_allowed(matches: &ArgMatches<'_>, own: &[&str], option: &str) -> bool
-    ensures { result ≡ (is_none (first_value (found_of matches.now) option.now) || list_any (λ o. bytes_eq option.now o.now) own.now) }
+    ensures { result
+        ≡
+        (is_none (first_value (found_of matches.now) option.now)
+        || list_any (λ o. bytes_eq option.now o.now) own.now) }
 {
     matches.get_str(option).is_none() || is_among(own, option)
 }

@@ -53,7 +53,8 @@ impl Plan {
 
     // A plan that asks all stages, and reads so many bytes besides at most.
     fn beside(columns: Columns, limit: u64) -> Plan
-        ensures { result ≡ record { stages = Some (Stages.All columns); extra = Some limit; certifies = false } }
+        ensures { result
+            ≡ record { stages = Some (Stages.All columns); extra = Some limit; certifies = false } }
     {
         Plan {
             extra: Some(limit),

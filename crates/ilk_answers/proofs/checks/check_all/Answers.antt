@@ -9,6 +9,11 @@ use Rattle.ilk_answers.proofs.checks.check_all.Goals as goal
 -- the names are those of the network
 pub check_routes-requires-clause-named : goal.check_routes-requires-clause-named
 check_routes-requires-clause-named c =
-    let asked : (refusals_of (network_rules_broken c.args.net.now) ≡ None) × (c.in-Ok.names ≡ c.in_ok-names.names) = let-through c.check_named_network-found.result (network_rules_broken c.args.net.now) c.in_ok-names.names c.in-Ok.names c.unless_broken.result c.check_named_network-found.ensures.rules c.unless_broken.ensures.answered c.unless_broken.ensures.wanting (c.in_ok-names-2.was ∙ ap Ok c.in-Ok.is) in
+    let asked : (refusals_of (network_rules_broken c.args.net.now) ≡ None) ×
+    (c.in-Ok.names ≡ c.in_ok-names.names) =
+    let-through c.check_named_network-found.result (network_rules_broken c.args.net.now)
+    c.in_ok-names.names c.in-Ok.names c.unless_broken.result c.check_named_network-found.ensures.rules
+    c.unless_broken.ensures.answered c.unless_broken.ensures.wanting
+    (c.in_ok-names-2.was ∙ ap Ok c.in-Ok.is) in
     let Named : NetNames → Type 0 = λ names. IsNamedAs names c.args.net.now in
     subst Named (sym asked.1) c.in_ok-names.ensures

@@ -6,7 +6,11 @@ use Rattle.ilk_answers.proofs.checks.check_routes.Goals as goal
 
 pub of_numbered-requires : goal.of_numbered-requires
 of_numbered-requires c =
-    let asked : (refusals_of (routes_broken c.in_ok-drafts.drafts) ≡ None) × (c.in-Ok.drafts ≡ c.in_ok-drafts.drafts) = let-through c.check_numbered_table-found.result _ _ _ c.unless_broken.result c.check_numbered_table-found.ensures c.unless_broken.ensures.answered c.unless_broken.ensures.wanting (c.in_ok-drafts-2.was ∙ ap Ok c.in-Ok.is) in
+    let asked : (refusals_of (routes_broken c.in_ok-drafts.drafts) ≡ None) ×
+    (c.in-Ok.drafts ≡ c.in_ok-drafts.drafts) =
+    let-through c.check_numbered_table-found.result _ _ _ c.unless_broken.result
+    c.check_numbered_table-found.ensures c.unless_broken.ensures.answered
+    c.unless_broken.ensures.wanting (c.in_ok-drafts-2.was ∙ ap Ok c.in-Ok.is) in
     record {
       net = c.args.net.now;
       table = c.args.table.now;
@@ -20,5 +24,11 @@ of_numbered-requires c =
 
 pub returns-in_ok-of_numbered-in-Ok : goal.returns-in_ok-of_numbered-in-Ok
 returns-in_ok-of_numbered-in-Ok c =
-    let asked : (refusals_of (routes_broken c.in_ok-drafts.drafts) ≡ None) × (c.in-Ok.drafts ≡ c.in_ok-drafts.drafts) = let-through c.check_numbered_table-found.result _ _ _ c.unless_broken.result c.check_numbered_table-found.ensures c.unless_broken.ensures.answered c.unless_broken.ensures.wanting (c.in_ok-drafts-2.was ∙ ap Ok c.in-Ok.is) in
-    columns-alone c.args.columns (routes_broken c.in_ok-drafts.drafts) _ c.in_ok-of_numbered-in-Ok.field-0 _ c.check_plant.result (ap routes_broken c.in_ok-drafts.ensures) asked.0 (c.in_ok-of_numbered-in-Ok.ensures ∙ asked.1 ∙ c.in_ok-drafts.ensures) c.check_plant.ensures
+    let asked : (refusals_of (routes_broken c.in_ok-drafts.drafts) ≡ None) ×
+    (c.in-Ok.drafts ≡ c.in_ok-drafts.drafts) =
+    let-through c.check_numbered_table-found.result _ _ _ c.unless_broken.result
+    c.check_numbered_table-found.ensures c.unless_broken.ensures.answered
+    c.unless_broken.ensures.wanting (c.in_ok-drafts-2.was ∙ ap Ok c.in-Ok.is) in
+    columns-alone c.args.columns (routes_broken c.in_ok-drafts.drafts) _ c.in_ok-of_numbered-in-Ok.field-0 _
+    c.check_plant.result (ap routes_broken c.in_ok-drafts.ensures) asked.0
+    (c.in_ok-of_numbered-in-Ok.ensures ∙ asked.1 ∙ c.in_ok-drafts.ensures) c.check_plant.ensures

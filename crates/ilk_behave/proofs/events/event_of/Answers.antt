@@ -13,7 +13,10 @@ returns-in-Ok c =
 
 pub loop-r-preserved : goal.loop-r-preserved
 loop-r-preserved c =
-    past-more c.args.plant.now (events_before_route c.loop-r.r) c.events_of_route.result (events_before_route (c.loop-r.r + 1)) c.args.rule c.loop-r.left c.in-Err.rest (routes-more c.loop-r.r c.events_of_route.result c.events_of_route.ensures) c.loop-r.invariant c.in-Err.ensures.past
+    past-more c.args.plant.now (events_before_route c.loop-r.r) c.events_of_route.result
+    (events_before_route (c.loop-r.r + 1)) c.args.rule c.loop-r.left c.in-Err.rest
+    (routes-more c.loop-r.r c.events_of_route.result c.events_of_route.ensures) c.loop-r.invariant
+    c.in-Err.ensures.past
 
 pub loop-x-init : goal.loop-x-init
 loop-x-init c = past-routes c.args.plant.now c.loop-r.r c.args.rule c.loop-r.left (omega arith) c.loop-r.invariant
@@ -28,7 +31,11 @@ returns-in-Ok-find_event c =
 
 pub loop-x-preserved : goal.loop-x-preserved
 loop-x-preserved c =
-    past-more c.args.plant.now (events_before_section c.args.plant.now c.loop-x.x) c.events_of_section.result (events_before_section c.args.plant.now (c.loop-x.x + 1)) c.args.rule c.loop-x.left c.in-Err-find_event.rest (sections-more c.args.plant.now c.loop-x.x c.events_of_section.result c.events_of_section.ensures) c.loop-x.invariant c.in-Err-find_event.ensures.past
+    past-more c.args.plant.now (events_before_section c.args.plant.now c.loop-x.x) c.events_of_section.result
+    (events_before_section c.args.plant.now (c.loop-x.x + 1)) c.args.rule c.loop-x.left
+    c.in-Err-find_event.rest
+    (sections-more c.args.plant.now c.loop-x.x c.events_of_section.result c.events_of_section.ensures)
+    c.loop-x.invariant c.in-Err-find_event.ensures.past
 
 pub returns : goal.returns
 returns c =

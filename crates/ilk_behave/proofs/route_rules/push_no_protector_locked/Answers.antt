@@ -9,4 +9,7 @@ use Rattle.ilk_behave.proofs.route_rules.push_no_protector_locked.Goals as goal
 
 pub loop-q-preserved : goal.loop-q-preserved
 loop-q-preserved c =
-    grows_if (λ q. negation (mode_is q Locked)) (λ q. protects_by c.args.plant.now q c.args.m) c.loop-q.q c.protects_by.result (map tree_of c.args.forms.now.items) (map tree_of c.loop-q.forms.items) (map tree_of c.push_not_locked_if.new.forms.items) c.protects_by.ensures c.loop-q.invariant c.in_ok-push_not_locked_if.ensures
+    grows_if (λ q. negation (mode_is q Locked)) (λ q. protects_by c.args.plant.now q c.args.m) c.loop-q.q
+    c.protects_by.result (map tree_of c.args.forms.now.items) (map tree_of c.loop-q.forms.items)
+    (map tree_of c.push_not_locked_if.new.forms.items) c.protects_by.ensures c.loop-q.invariant
+    c.in_ok-push_not_locked_if.ensures

@@ -14,14 +14,22 @@ push_rules_of_all-requires-in-loop-x c = section-numbered c.args.plant.now c.loo
 
 pub loop-r-preserved : goal.loop-r-preserved
 loop-r-preserved c =
-    made_next (rules_of c.args.plant.now) (events_before_route c.loop-r.r) c.events_of_route.result (events_before_route (c.loop-r.r + 1)) (map rule_tree c.loop-r.rules) (map rule_tree c.push_rules_of_all.new.rules) (routes-more c.loop-r.r c.events_of_route.result c.events_of_route.ensures) c.loop-r.invariant c.in_ok-push_rules_of_all.ensures
+    made_next (rules_of c.args.plant.now) (events_before_route c.loop-r.r) c.events_of_route.result
+    (events_before_route (c.loop-r.r + 1)) (map rule_tree c.loop-r.rules)
+    (map rule_tree c.push_rules_of_all.new.rules)
+    (routes-more c.loop-r.r c.events_of_route.result c.events_of_route.ensures) c.loop-r.invariant
+    c.in_ok-push_rules_of_all.ensures
 
 pub loop-x-init : goal.loop-x-init
 loop-x-init c = c.loop-r.invariant ∙ ap (flat_map (rules_of c.args.plant.now)) (sections-start c.args.plant.now c.loop-r.r (omega arith))
 
 pub loop-x-preserved : goal.loop-x-preserved
 loop-x-preserved c =
-    made_next (rules_of c.args.plant.now) (events_before_section c.args.plant.now c.loop-x.x) c.events_of_section.result (events_before_section c.args.plant.now (c.loop-x.x + 1)) (map rule_tree c.loop-x.rules) (map rule_tree c.push_rules_of_all-in-loop-x.new.rules) (sections-more c.args.plant.now c.loop-x.x c.events_of_section.result c.events_of_section.ensures) c.loop-x.invariant c.in_ok-push_rules_of_all-2.ensures
+    made_next (rules_of c.args.plant.now) (events_before_section c.args.plant.now c.loop-x.x)
+    c.events_of_section.result (events_before_section c.args.plant.now (c.loop-x.x + 1))
+    (map rule_tree c.loop-x.rules) (map rule_tree c.push_rules_of_all-in-loop-x.new.rules)
+    (sections-more c.args.plant.now c.loop-x.x c.events_of_section.result c.events_of_section.ensures)
+    c.loop-x.invariant c.in_ok-push_rules_of_all-2.ensures
 
 pub returns : goal.returns
 returns c =

@@ -6,4 +6,7 @@ use Rattle.ilk_behave.proofs.system.push_rules_of_all.Goals as goal
 
 pub loop-event-preserved : goal.loop-event-preserved
 loop-event-preserved c =
-    made_more (rules_of c.args.plant.now) c.args.events.now c.loop-event.event-index _ (map rule_tree c.args.rules.now) (map rule_tree c.loop-event.rules) (map rule_tree c.push_rules_of.new.rules) c.loop-event-test.true c.loop-event.invariant c.in_ok-push_rules_of.ensures
+    made_more (rules_of c.args.plant.now) c.args.events.now c.loop-event.event-index _
+    (map rule_tree c.args.rules.now) (map rule_tree c.loop-event.rules)
+    (map rule_tree c.push_rules_of.new.rules) c.loop-event-test.true c.loop-event.invariant
+    c.in_ok-push_rules_of.ensures

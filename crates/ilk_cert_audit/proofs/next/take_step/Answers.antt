@@ -20,7 +20,17 @@ returns-in-Good c =
     let t : LogStep = record { clause = c.read_step.new.step.clause.items; hints = c.read_step.new.step.hints.items } in
     let few : IsFew a = record { vars = c.closed.ensures.formula.numbered; clauses = c.closed.ensures.few } in
     let read = read-is c.in_ok-read_step.field-0 t line c.if-not-branch.false (c.in_ok-read_step.ensures {u = tt}) in
-    let same : (let x : LogStep = record { clause = c.as_slice.result.now; hints = c.as_slice-2.result.now } in x) ≡ t = ap (λ (ls : List Literal). let x : LogStep = record { clause = ls; hints = c.as_slice-2.result.now } in x) c.as_slice.ensures.value ∙ ap (λ (hs : List ℕ). let x : LogStep = record { clause = c.read_step.new.step.clause.items; hints = hs } in x) c.as_slice-2.ensures.value in
+    let same :
+    (let x : LogStep = record { clause = c.as_slice.result.now; hints = c.as_slice-2.result.now } in x)
+    ≡ t =
+    ap
+    (λ (ls : List Literal).
+    let x : LogStep = record { clause = ls; hints = c.as_slice-2.result.now } in x)
+    c.as_slice.ensures.value
+    ∙ ap
+    (λ (hs : List ℕ).
+    let x : LogStep = record { clause = c.read_step.new.step.clause.items; hints = hs } in x)
+    c.as_slice-2.ensures.value in
     let ok = c.in_ok-take_parts.ensures {u = tt} in
     let answer = sym c.in-Good.is ∙ ok.taken ∙ ap (taken_of a) same in
     let after = ok.after ∙ ap (after_step a) same in
@@ -33,7 +43,17 @@ returns-in-Closed c =
     let t : LogStep = record { clause = c.read_step.new.step.clause.items; hints = c.read_step.new.step.hints.items } in
     let few : IsFew a = record { vars = c.closed.ensures.formula.numbered; clauses = c.closed.ensures.few } in
     let read = read-is c.in_ok-read_step.field-0 t line c.if-not-branch.false (c.in_ok-read_step.ensures {u = tt}) in
-    let same : (let x : LogStep = record { clause = c.as_slice.result.now; hints = c.as_slice-2.result.now } in x) ≡ t = ap (λ (ls : List Literal). let x : LogStep = record { clause = ls; hints = c.as_slice-2.result.now } in x) c.as_slice.ensures.value ∙ ap (λ (hs : List ℕ). let x : LogStep = record { clause = c.read_step.new.step.clause.items; hints = hs } in x) c.as_slice-2.ensures.value in
+    let same :
+    (let x : LogStep = record { clause = c.as_slice.result.now; hints = c.as_slice-2.result.now } in x)
+    ≡ t =
+    ap
+    (λ (ls : List Literal).
+    let x : LogStep = record { clause = ls; hints = c.as_slice-2.result.now } in x)
+    c.as_slice.ensures.value
+    ∙ ap
+    (λ (hs : List ℕ).
+    let x : LogStep = record { clause = c.read_step.new.step.clause.items; hints = hs } in x)
+    c.as_slice-2.ensures.value in
     let ok = c.in_ok-take_parts.ensures {u = tt} in
     let answer = sym c.in-Closed.is ∙ ok.taken ∙ ap (taken_of a) same in
     let after = ok.after ∙ ap (after_step a) same in
@@ -46,7 +66,17 @@ returns-in-Bad c =
     let t : LogStep = record { clause = c.read_step.new.step.clause.items; hints = c.read_step.new.step.hints.items } in
     let few : IsFew a = record { vars = c.closed.ensures.formula.numbered; clauses = c.closed.ensures.few } in
     let read = read-is c.in_ok-read_step.field-0 t line c.if-not-branch.false (c.in_ok-read_step.ensures {u = tt}) in
-    let same : (let x : LogStep = record { clause = c.as_slice.result.now; hints = c.as_slice-2.result.now } in x) ≡ t = ap (λ (ls : List Literal). let x : LogStep = record { clause = ls; hints = c.as_slice-2.result.now } in x) c.as_slice.ensures.value ∙ ap (λ (hs : List ℕ). let x : LogStep = record { clause = c.read_step.new.step.clause.items; hints = hs } in x) c.as_slice-2.ensures.value in
+    let same :
+    (let x : LogStep = record { clause = c.as_slice.result.now; hints = c.as_slice-2.result.now } in x)
+    ≡ t =
+    ap
+    (λ (ls : List Literal).
+    let x : LogStep = record { clause = ls; hints = c.as_slice-2.result.now } in x)
+    c.as_slice.ensures.value
+    ∙ ap
+    (λ (hs : List ℕ).
+    let x : LogStep = record { clause = c.read_step.new.step.clause.items; hints = hs } in x)
+    c.as_slice-2.ensures.value in
     let ok = c.in_ok-take_parts.ensures {u = tt} in
     let answer = sym c.in-Bad.is ∙ ok.taken ∙ ap (taken_of a) same in
     let after = ok.after ∙ ap (after_step a) same in

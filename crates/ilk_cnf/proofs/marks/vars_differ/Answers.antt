@@ -14,7 +14,10 @@ loop-lit-preserved c =
     sym (c.loop-lit.invariant.marks c.var.result low among) ∙ sym c.is_marked.ensures ∙ c.if-is_marked.false in
     record {
       count = c.set_mark.ensures.count ∙ c.loop-lit.invariant.count;
-      marks = λ v from_1 met. marked-more c.args.lits.now c.loop-lit.lit-index c.lit-item.result v c.var-in-loop-lit.result (is_marked c.loop-lit.marks v) _ c.loop-lit-test.true same (c.set_mark.ensures.marks v from_1) (c.loop-lit.invariant.marks v from_1 met);
+      marks =
+          λ v from_1 met. marked-more c.args.lits.now c.loop-lit.lit-index c.lit-item.result v
+          c.var-in-loop-lit.result (is_marked c.loop-lit.marks v) _ c.loop-lit-test.true same
+          (c.set_mark.ensures.marks v from_1) (c.loop-lit.invariant.marks v from_1 met);
       differ = differ-more c.args.lits.now c.loop-lit.lit-index c.lit-item.result c.var.result c.loop-lit-test.true is c.loop-lit.invariant.differ away;
     }
 

@@ -24,7 +24,12 @@ loop-range-preserved c =
     let i = c.loop-range.range-index in
     let rest = drop (i + 1) all in
     let before = c.loop-range.invariant in
-    let next = columns_step_counted (with_vars c.loop-range.cnf c.loop-range.used) (with_vars c.add_column.new.cnf c.add_column.new.used) c.loop-range.table (columns_part all c.args.first c.args.used.now).columns c.in_ok-add_column.field-0 c.loop-range.first (get_or all i 0) c.bits.result (drop i all) rest c.bits.ensures.count (drop_more all i 0 c.loop-range-test.true) before.within c.in_ok-add_column.ensures.column c.in_ok-add_column.ensures.made before.table in
+    let next = columns_step_counted (with_vars c.loop-range.cnf c.loop-range.used)
+    (with_vars c.add_column.new.cnf c.add_column.new.used) c.loop-range.table
+    (columns_part all c.args.first c.args.used.now).columns c.in_ok-add_column.field-0 c.loop-range.first
+    (get_or all i 0) c.bits.result (drop i all) rest c.bits.ensures.count
+    (drop_more all i 0 c.loop-range-test.true) before.within c.in_ok-add_column.ensures.column
+    c.in_ok-add_column.ensures.made before.table in
     let split = ap total_named (drop_more all i 0 c.loop-range-test.true) in
     let used = ap (λ (f : Formula). f.vars) c.in_ok-add_column.ensures.made in
     let end = named-end c.loop-range.first (get_or all i 0) c.loop-range.used in

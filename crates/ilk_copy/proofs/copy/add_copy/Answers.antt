@@ -25,7 +25,9 @@ returns-clause-made c =
     let ranges = c.args.ranges.now in
     let last = c.add_columns.new.cnf in
     let used = c.add_columns.new.used in
-    let made = copy_made (with_vars c.args.cnf.now n) (with_vars c.add_numbers.new.cnf c.add_numbers.new.used) (with_vars last used) ranges c.as_slice.result.now c.as_slice-2.result.now n refl c.as_slice.ensures c.as_slice-2.ensures c.in_ok-add_numbers.ensures.made c.in_ok-table.ensures.made in
+    let made = copy_made (with_vars c.args.cnf.now n) (with_vars c.add_numbers.new.cnf c.add_numbers.new.used)
+    (with_vars last used) ranges c.as_slice.result.now c.as_slice-2.result.now n refl c.as_slice.ensures
+    c.as_slice-2.ensures c.in_ok-add_numbers.ensures.made c.in_ok-table.ensures.made in
     added-there c.args.cnf.now last n used (copy_part ranges n).part (c.in_ok-table.ensures.vars ∙ c.in_ok-add_numbers.ensures.vars) made
 
 pub returns-clause-law : goal.returns-clause-law

@@ -21,5 +21,11 @@ loop-range-preserved c =
     record {
       vars = ap (λ (f : Formula). f.vars) added ∙ c.loop-range.invariant.vars;
       there = omega (arith, bits, c.bits.ensures.count, c.loop-range.invariant.there);
-      made = numbers_step (with_vars c.loop-range.cnf used) (with_vars c.add_number.new.cnf (used + c.bits.result)) (get_or all i 0) (drop i all) (drop (i + 1) all) split (number_there c.loop-range.cnf c.add_number.new.cnf used (get_or all i 0) c.bits.result c.bits.ensures.count added) ∙ c.loop-range.invariant.made;
+      made =
+          numbers_step (with_vars c.loop-range.cnf used)
+          (with_vars c.add_number.new.cnf (used + c.bits.result)) (get_or all i 0) (drop i all)
+          (drop (i + 1) all) split
+          (number_there c.loop-range.cnf c.add_number.new.cnf used (get_or all i 0) c.bits.result
+          c.bits.ensures.count added)
+          ∙ c.loop-range.invariant.made;
     }

@@ -9,7 +9,11 @@ use Rattle.ilk_drive.proofs.automatic.woken_by_each.Goals as goal
 pub loop-event-preserved : goal.loop-event-preserved
 loop-event-preserved c =
     let event : Event = get_or c.as_slice-event-items.result.now c.loop-event.event-index (Mark 0) in
-    let here : slice_get c.args.events.now c.loop-event.event-index ≡ Some event = subst (λ (xs : List Event). slice_get xs c.loop-event.event-index ≡ Some event) c.as_slice-event-items.ensures (slice_get-get_or c.as_slice-event-items.result.now c.loop-event.event-index (Mark 0) (omega arith)) in
+    let here : slice_get c.args.events.now c.loop-event.event-index ≡ Some event = subst
+    (λ (xs : List Event). slice_get xs c.loop-event.event-index ≡ Some event)
+    c.as_slice-event-items.ensures
+    (slice_get-get_or c.as_slice-event-items.result.now c.loop-event.event-index (Mark 0) (omega arith))
+    in
     let grown = c.in_ok-push.ensures.ok in
     let more = ap (λ (l : List (List ℕ)). length l) grown in
     let both = length-append c.loop-event.woken (c.in_ok-places_woken.field-0 ∷ []) in

@@ -11,9 +11,13 @@ use Rattle.ilk_drive.proofs.driving.give_command.Goals as goal
 
 pub returns-then-not-branch-clause-given : goal.returns-then-not-branch-clause-given
 returns-then-not-branch-clause-given c =
-    let there : slice_get c.args.scene.now c.args.now.now.given ≡ Some c.in-Some.command.now = got-at c.as_slice.result.now c.args.scene.now c.args.now.now.given c.in-Some.command.now c.as_slice.ensures c.in-Some.ensures.lookup.3.0 c.in-Some.ensures.lookup.1 in
+    let there : slice_get c.args.scene.now c.args.now.now.given ≡ Some c.in-Some.command.now = got-at
+    c.as_slice.result.now c.args.scene.now c.args.now.now.given c.in-Some.command.now c.as_slice.ensures
+    c.in-Some.ensures.lookup.3.0 c.in-Some.ensures.lookup.1 in
     let none : is_some (next c.args.plant.now c.args.now.now.state c.in-Some.command.now) ≡ false = sym c.in_ok-apply.ensures.answer ∙ c.if-not-branch.true in (
-      command-refused c.args.plant.now (moment_of c.args.scene.now c.args.now.now.state c.args.now.now.given) c.in-Some.command.now (drop (c.args.now.now.given + 1) c.args.scene.now) (drop_from c.args.scene.now c.args.now.now.given c.in-Some.command.now there) none,
+      command-refused c.args.plant.now (moment_of c.args.scene.now c.args.now.now.state c.args.now.now.given)
+          c.in-Some.command.now (drop (c.args.now.now.given + 1) c.args.scene.now)
+          (drop_from c.args.scene.now c.args.now.now.given c.in-Some.command.now there) none,
       ap (λ (u : State). moment_of c.args.scene.now u c.args.now.now.given) (left-alone c.args.plant.now c.args.now.now.state c.apply.new.s c.in-Some.command.now none c.in_ok-apply.ensures.next),
     )
 

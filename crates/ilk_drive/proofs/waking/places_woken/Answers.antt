@@ -8,8 +8,12 @@ use Rattle.ilk_drive.proofs.waking.places_woken.Goals as goal
 pub loop-place-preserved : goal.loop-place-preserved
 loop-place-preserved c =
     let other : Event = get_or c.as_slice-other-items.result.now c.loop-place.place (Mark 0) in
-    let here : slice_get c.args.automatic.now c.loop-place.place ≡ Some other = subst (λ (xs : List Event). slice_get xs c.loop-place.place ≡ Some other) c.as_slice-other-items.ensures (slice_get-get_or c.as_slice-other-items.result.now c.loop-place.place (Mark 0) (omega arith)) in
-    woken-more c.args.plant.now c.args.event other c.args.automatic.now c.loop-place.place c.may_enable.result c.loop-place.places c.push_if.new.places here c.may_enable.ensures c.loop-place.invariant c.in_ok-push_if.ensures.kept c.in_ok-push_if.ensures.added
+    let here : slice_get c.args.automatic.now c.loop-place.place ≡ Some other = subst
+    (λ (xs : List Event). slice_get xs c.loop-place.place ≡ Some other) c.as_slice-other-items.ensures
+    (slice_get-get_or c.as_slice-other-items.result.now c.loop-place.place (Mark 0) (omega arith)) in
+    woken-more c.args.plant.now c.args.event other c.args.automatic.now c.loop-place.place c.may_enable.result
+    c.loop-place.places c.push_if.new.places here c.may_enable.ensures c.loop-place.invariant
+    c.in_ok-push_if.ensures.kept c.in_ok-push_if.ensures.added
 
 pub returns : goal.returns
 returns c j other at may =

@@ -12,4 +12,6 @@ events_of_rules-requires c = out-fires c.args.plant.now c.is_sound.ensures c.req
 
 pub returns : goal.returns
 returns c =
-    out-made c.args.plant.now c.is_sound.ensures c.requires.steps c.requires.goal c.args.depth c.args.trace.now c.in_ok-first.first c.in_ok-events.events c.requires.depth c.in_ok-first.ensures.calm c.in_ok-first.ensures.image c.requires.right c.in_ok-events.ensures
+    out-made c.args.plant.now c.is_sound.ensures c.requires.steps c.requires.goal c.args.depth
+    c.args.trace.now c.in_ok-first.first c.in_ok-events.events c.requires.depth c.in_ok-first.ensures.calm
+    c.in_ok-first.ensures.image c.requires.right c.in_ok-events.ensures

@@ -17,7 +17,11 @@ demand_each-loop-form-preserved t c =
     let n = c.args.cnf.now.vars in
     let form = c.form-item.result in
     let split = ap trees_of (drop_at forms i form c.loop-form-test.true c.form-item.is) in
-    demand-step c.args.table.now c.args.first.now c.args.positive c.loop-form.cnf c.demand_of.new.cnf (with_part c.args.cnf.now (demand_each c.args.table.now c.args.first.now c.args.positive (trees_of forms) n)) (tree_of form) (trees_of (drop (i + 1) forms)) (trees_of (drop i forms)) split c.in_ok-demand_of.ensures c.loop-form.invariant
+    demand-step c.args.table.now c.args.first.now c.args.positive c.loop-form.cnf c.demand_of.new.cnf
+    (with_part c.args.cnf.now
+    (demand_each c.args.table.now c.args.first.now c.args.positive (trees_of forms) n)) (tree_of form)
+    (trees_of (drop (i + 1) forms)) (trees_of (drop i forms)) split c.in_ok-demand_of.ensures
+    c.loop-form.invariant
 
 pub demand_of-add_some-requires-clause-others : goal.demand_of-add_some-requires-clause-others
 demand_of-add_some-requires-clause-others t c =

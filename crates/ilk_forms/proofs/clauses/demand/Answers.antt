@@ -20,7 +20,10 @@ returns-clause-law c =
     let first = c.args.first.now in
     let t = tree_of c.args.form.now in
     let part = demand_part columns first t n in
-    extends-as_clauses a part.vars part.clauses (OnlyIf (some_true a first || tree_holds ws t) (demand_bits ranges ws t)) (demand_of-law t columns ranges ws first true a n size (reads a columns ranges ws n size c.requires.within says fit) c.requires.first c.requires.valid)
+    extends-as_clauses a part.vars part.clauses
+    (OnlyIf (some_true a first || tree_holds ws t) (demand_bits ranges ws t))
+    (demand_of-law t columns ranges ws first true a n size
+    (reads a columns ranges ws n size c.requires.within says fit) c.requires.first c.requires.valid)
 
 pub returns-clause-vars : goal.returns-clause-vars
 returns-clause-vars c =

@@ -34,4 +34,8 @@ gather_each-loop-form-preserved t c =
     let whole = gathered_each c.args.table.now c.args.all c.args.positive (trees_of forms) n in
     let form = c.form-item.result in
     let split = ap trees_of (drop_at forms i form c.loop-form-test.true c.form-item.is) in
-    gathered-step c.args.table.now c.args.all c.args.positive c.loop-form.cnf c.gather.new.cnf c.loop-form.lits c.as_slice.result.now c.in_ok-more.more c.push_all.new.lits whole.lits (with_part c.args.cnf.now whole.part) (tree_of form) (trees_of (drop (i + 1) forms)) (trees_of (drop i forms)) split c.as_slice.ensures c.in_ok-more.ensures.lits c.in_ok-more.ensures.made c.in_ok-push_all.ensures c.loop-form.invariant
+    gathered-step c.args.table.now c.args.all c.args.positive c.loop-form.cnf c.gather.new.cnf
+    c.loop-form.lits c.as_slice.result.now c.in_ok-more.more c.push_all.new.lits whole.lits
+    (with_part c.args.cnf.now whole.part) (tree_of form) (trees_of (drop (i + 1) forms))
+    (trees_of (drop i forms)) split c.as_slice.ensures c.in_ok-more.ensures.lits c.in_ok-more.ensures.made
+    c.in_ok-push_all.ensures c.loop-form.invariant

@@ -7,4 +7,6 @@ use Rattle.ilk_forms.proofs.literals.+gather.Given as goal
 
 abbrev pub invariant-gather_each-loop-form : goal.invariant-gather_each-loop-form
 invariant-gather_each-loop-form l =
-    Gathering l.table l.all l.positive l.cnf l.lits (trees_of (drop l.form-index l.forms)) (gathered_each l.table l.all l.positive (trees_of l.forms) l.fn.cnf.vars).lits (with_part l.fn.cnf (gathered_each l.table l.all l.positive (trees_of l.forms) l.fn.cnf.vars).part)
+    Gathering l.table l.all l.positive l.cnf l.lits (trees_of (drop l.form-index l.forms))
+    (gathered_each l.table l.all l.positive (trees_of l.forms) l.fn.cnf.vars).lits
+    (with_part l.fn.cnf (gathered_each l.table l.all l.positive (trees_of l.forms) l.fn.cnf.vars).part)

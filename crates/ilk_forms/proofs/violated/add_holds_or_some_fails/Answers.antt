@@ -32,7 +32,11 @@ first_violated-requires c =
     let rest = gathered_each columns true true (trees_of c.args.forms.now) in
     let lits = more-lits c.args.cnf.now c.gather.new.cnf first rest c.in_ok-kept.kept c.in_ok-others.others c.in_ok-kept.ensures.made c.in_ok-kept.ensures.lits c.in_ok-others.ensures.lits in
     let seen = c.as_slice-2.ensures ∙ c.in_ok-push_all.ensures ∙ ap (λ (ls : List Literal). c.in_ok-kept.kept ++ ls) c.as_slice.ensures ∙ lits in
-    lits-in n c.args.cnf.now c.gather_each.new.cnf (gathered columns true true t n) c.as_slice-2.result.now (gathered-fits t columns true true n c.requires.within (and_from _ _ c.requires.form c.requires.valid)) (more-made c.args.cnf.now c.gather.new.cnf c.gather_each.new.cnf first rest c.in_ok-kept.ensures.made c.in_ok-others.ensures.made) seen
+    lits-in n c.args.cnf.now c.gather_each.new.cnf (gathered columns true true t n) c.as_slice-2.result.now
+    (gathered-fits t columns true true n c.requires.within
+    (and_from _ _ c.requires.form c.requires.valid))
+    (more-made c.args.cnf.now c.gather.new.cnf c.gather_each.new.cnf first rest c.in_ok-kept.ensures.made
+    c.in_ok-others.ensures.made) seen
 
 pub returns : goal.returns
 returns c =
@@ -43,4 +47,8 @@ returns c =
     let rest = gathered_each columns true true (trees_of c.args.forms.now) in
     let lits = more-lits c.args.cnf.now c.gather.new.cnf first rest c.in_ok-kept.kept c.in_ok-others.others c.in_ok-kept.ensures.made c.in_ok-kept.ensures.lits c.in_ok-others.ensures.lits in
     let seen = c.as_slice-2.ensures ∙ c.in_ok-push_all.ensures ∙ ap (λ (ls : List Literal). c.in_ok-kept.kept ++ ls) c.as_slice.ensures ∙ lits in
-    violated-made c.args.cnf.now c.gather_each.new.cnf c.first_violated.new.cnf t columns c.as_slice-2.result.now (sym c.either_never.ensures ∙ c.if-either_never.false) (more-made c.args.cnf.now c.gather.new.cnf c.gather_each.new.cnf first rest c.in_ok-kept.ensures.made c.in_ok-others.ensures.made) seen c.in_ok-first_violated.ensures.made
+    violated-made c.args.cnf.now c.gather_each.new.cnf c.first_violated.new.cnf t columns
+    c.as_slice-2.result.now (sym c.either_never.ensures ∙ c.if-either_never.false)
+    (more-made c.args.cnf.now c.gather.new.cnf c.gather_each.new.cnf first rest c.in_ok-kept.ensures.made
+    c.in_ok-others.ensures.made) seen
+    c.in_ok-first_violated.ensures.made

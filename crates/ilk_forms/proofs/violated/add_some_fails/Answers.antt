@@ -15,7 +15,12 @@ first_violated-requires c =
     let n = c.args.cnf.now.vars in
     let ts = trees_of c.args.forms.now in
     let columns = c.args.table.now in
-    lits-in n c.args.cnf.now c.gather_each.new.cnf (gathered_each columns true true ts n) c.as_slice.result.now (gathered_each-fits ts columns true true n c.requires.within c.requires.valid) c.in_ok-kept.ensures.made (c.as_slice.ensures ∙ c.in_ok-kept.ensures.lits)
+    lits-in n c.args.cnf.now c.gather_each.new.cnf (gathered_each columns true true ts n)
+    c.as_slice.result.now (gathered_each-fits ts columns true true n c.requires.within c.requires.valid)
+    c.in_ok-kept.ensures.made (c.as_slice.ensures ∙ c.in_ok-kept.ensures.lits)
 
 pub returns : goal.returns
-returns c = violated-made c.args.cnf.now c.gather_each.new.cnf c.first_violated.new.cnf (all_of (trees_of c.args.forms.now)) c.args.table.now c.as_slice.result.now (sym c.some_never.ensures ∙ c.if-some_never.false) c.in_ok-kept.ensures.made (c.as_slice.ensures ∙ c.in_ok-kept.ensures.lits) c.in_ok-first_violated.ensures.made
+returns c = violated-made c.args.cnf.now c.gather_each.new.cnf c.first_violated.new.cnf
+    (all_of (trees_of c.args.forms.now)) c.args.table.now c.as_slice.result.now
+    (sym c.some_never.ensures ∙ c.if-some_never.false) c.in_ok-kept.ensures.made
+    (c.as_slice.ensures ∙ c.in_ok-kept.ensures.lits) c.in_ok-first_violated.ensures.made

@@ -17,7 +17,10 @@ returns-clause-law c =
     let columns = c.args.table.now in
     let t = all_of (more (negation (tree_of c.args.form.now)) (trees_of c.args.forms.now)) in
     let part = violated_part columns t n in
-    extends-as_clauses a part.vars part.clauses (OnlyIf (not (tree_holds ws t)) (violated_bits ranges ws t)) (violated-law t columns ranges ws a n size (reads a columns ranges ws n size c.requires.within says fit) (and_from _ _ c.requires.form c.requires.valid))
+    extends-as_clauses a part.vars part.clauses (OnlyIf (not (tree_holds ws t)) (violated_bits ranges ws t))
+    (violated-law t columns ranges ws a n size
+    (reads a columns ranges ws n size c.requires.within says fit)
+    (and_from _ _ c.requires.form c.requires.valid))
 
 pub returns-clause-more : goal.returns-clause-more
 returns-clause-more c =

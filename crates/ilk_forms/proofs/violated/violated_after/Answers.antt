@@ -14,7 +14,10 @@ loop-kept-preserved c =
     let here = drop_at all i c.kept-item.result c.loop-kept-test.true c.kept-item.is in
     let whole = violated_after c.args.before all c.args.cnf.now.vars in
     let next = c.in_ok-next.next in
-    let step = after-step c.loop-kept.cnf c.add_next.new.cnf c.loop-kept.before c.kept-item.result next.before next.first c.loop-kept.lits whole.lits (with_part c.args.cnf.now whole.part) (drop i all) rest here c.loop-kept.invariant.within c.in_ok-next.ensures.first c.in_ok-next.ensures.before c.in_ok-next.ensures.made c.loop-kept.invariant.lits c.loop-kept.invariant.made in
+    let step = after-step c.loop-kept.cnf c.add_next.new.cnf c.loop-kept.before c.kept-item.result next.before
+    next.first c.loop-kept.lits whole.lits (with_part c.args.cnf.now whole.part) (drop i all) rest here
+    c.loop-kept.invariant.within c.in_ok-next.ensures.first c.in_ok-next.ensures.before
+    c.in_ok-next.ensures.made c.loop-kept.invariant.lits c.loop-kept.invariant.made in
     record {
       within = step.0;
       lits = ap (λ (ls : List Literal). ls ++ (violated_after next.before rest c.add_next.new.cnf.vars).lits) c.in_ok-push.ensures.ok ∙ step.1;

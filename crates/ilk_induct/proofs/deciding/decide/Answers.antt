@@ -21,7 +21,12 @@ loop-due-preserved c =
     let s = system_tree c.args.system.now in
     let g = goal_tree c.args.goal.now in
     let rest = c.loop-due.left - c.conflicts_in-left.result in
-    let next = turned s g c.args.depth c.args.conflicts c.loop-due.due c.query-query.result c.in_ok-response.field-0.response c.in_ok-response.field-0.log c.loop-due.asked c.push.new.self c.loop-due.left c.conflicts_in-left.result rest c.what_follows.result c.requires.system c.requires.some_depth c.requires.depth c.loop-due.invariant c.query-query.ensures c.in_ok-response.ensures.log c.in_ok-response.ensures.response c.conflicts_in-left.ensures refl c.in_ok-push.ensures.ok c.what_follows.ensures in
+    let next = turned s g c.args.depth c.args.conflicts c.loop-due.due c.query-query.result
+    c.in_ok-response.field-0.response c.in_ok-response.field-0.log c.loop-due.asked c.push.new.self
+    c.loop-due.left c.conflicts_in-left.result rest c.what_follows.result c.requires.system
+    c.requires.some_depth c.requires.depth c.loop-due.invariant c.query-query.ensures
+    c.in_ok-response.ensures.log c.in_ok-response.ensures.response c.conflicts_in-left.ensures refl
+    c.in_ok-push.ensures.ok c.what_follows.ensures in
     (subst (λ (n : Next). IsNext s g c.args.depth c.args.conflicts (still_due c.args.depth c.loop-due.due) n c.push.new.self rest) c.in-Ask.is next).0
 
 pub returns-in-End-clause-right : goal.returns-in-End-clause-right
@@ -29,7 +34,12 @@ returns-in-End-clause-right c =
     let s = system_tree c.args.system.now in
     let g = goal_tree c.args.goal.now in
     let rest = c.loop-due.left - c.conflicts_in-left.result in
-    let next = turned s g c.args.depth c.args.conflicts c.loop-due.due c.query-query.result c.in_ok-response.field-0.response c.in_ok-response.field-0.log c.loop-due.asked c.push.new.self c.loop-due.left c.conflicts_in-left.result rest c.what_follows.result c.requires.system c.requires.some_depth c.requires.depth c.loop-due.invariant c.query-query.ensures c.in_ok-response.ensures.log c.in_ok-response.ensures.response c.conflicts_in-left.ensures refl c.in_ok-push.ensures.ok c.what_follows.ensures in
+    let next = turned s g c.args.depth c.args.conflicts c.loop-due.due c.query-query.result
+    c.in_ok-response.field-0.response c.in_ok-response.field-0.log c.loop-due.asked c.push.new.self
+    c.loop-due.left c.conflicts_in-left.result rest c.what_follows.result c.requires.system
+    c.requires.some_depth c.requires.depth c.loop-due.invariant c.query-query.ensures
+    c.in_ok-response.ensures.log c.in_ok-response.ensures.response c.conflicts_in-left.ensures refl
+    c.in_ok-push.ensures.ok c.what_follows.ensures in
     (subst (λ (n : Next). IsNext s g c.args.depth c.args.conflicts (still_due c.args.depth c.loop-due.due) n c.push.new.self rest) c.in-End.is next).right
 
 pub returns-in-End-clause-lasts : goal.returns-in-End-clause-lasts
@@ -37,7 +47,12 @@ returns-in-End-clause-lasts c =
     let s = system_tree c.args.system.now in
     let g = goal_tree c.args.goal.now in
     let rest = c.loop-due.left - c.conflicts_in-left.result in
-    let next = turned s g c.args.depth c.args.conflicts c.loop-due.due c.query-query.result c.in_ok-response.field-0.response c.in_ok-response.field-0.log c.loop-due.asked c.push.new.self c.loop-due.left c.conflicts_in-left.result rest c.what_follows.result c.requires.system c.requires.some_depth c.requires.depth c.loop-due.invariant c.query-query.ensures c.in_ok-response.ensures.log c.in_ok-response.ensures.response c.conflicts_in-left.ensures refl c.in_ok-push.ensures.ok c.what_follows.ensures in
+    let next = turned s g c.args.depth c.args.conflicts c.loop-due.due c.query-query.result
+    c.in_ok-response.field-0.response c.in_ok-response.field-0.log c.loop-due.asked c.push.new.self
+    c.loop-due.left c.conflicts_in-left.result rest c.what_follows.result c.requires.system
+    c.requires.some_depth c.requires.depth c.loop-due.invariant c.query-query.ensures
+    c.in_ok-response.ensures.log c.in_ok-response.ensures.response c.conflicts_in-left.ensures refl
+    c.in_ok-push.ensures.ok c.what_follows.ensures in
     (subst (λ (n : Next). IsNext s g c.args.depth c.args.conflicts (still_due c.args.depth c.loop-due.due) n c.push.new.self rest) c.in-End.is next).lasts
 
 pub returns-in-End-clause-asked : goal.returns-in-End-clause-asked
@@ -45,7 +60,12 @@ returns-in-End-clause-asked c =
     let s = system_tree c.args.system.now in
     let g = goal_tree c.args.goal.now in
     let rest = c.loop-due.left - c.conflicts_in-left.result in
-    let next = turned s g c.args.depth c.args.conflicts c.loop-due.due c.query-query.result c.in_ok-response.field-0.response c.in_ok-response.field-0.log c.loop-due.asked c.push.new.self c.loop-due.left c.conflicts_in-left.result rest c.what_follows.result c.requires.system c.requires.some_depth c.requires.depth c.loop-due.invariant c.query-query.ensures c.in_ok-response.ensures.log c.in_ok-response.ensures.response c.conflicts_in-left.ensures refl c.in_ok-push.ensures.ok c.what_follows.ensures in
+    let next = turned s g c.args.depth c.args.conflicts c.loop-due.due c.query-query.result
+    c.in_ok-response.field-0.response c.in_ok-response.field-0.log c.loop-due.asked c.push.new.self
+    c.loop-due.left c.conflicts_in-left.result rest c.what_follows.result c.requires.system
+    c.requires.some_depth c.requires.depth c.loop-due.invariant c.query-query.ensures
+    c.in_ok-response.ensures.log c.in_ok-response.ensures.response c.conflicts_in-left.ensures refl
+    c.in_ok-push.ensures.ok c.what_follows.ensures in
     (subst (λ (n : Next). IsNext s g c.args.depth c.args.conflicts (still_due c.args.depth c.loop-due.due) n c.push.new.self rest) c.in-End.is next).queries
 
 pub returns-in-End-clause-certified : goal.returns-in-End-clause-certified
@@ -53,6 +73,11 @@ returns-in-End-clause-certified c =
     let s = system_tree c.args.system.now in
     let g = goal_tree c.args.goal.now in
     let rest = c.loop-due.left - c.conflicts_in-left.result in
-    let next = turned s g c.args.depth c.args.conflicts c.loop-due.due c.query-query.result c.in_ok-response.field-0.response c.in_ok-response.field-0.log c.loop-due.asked c.push.new.self c.loop-due.left c.conflicts_in-left.result rest c.what_follows.result c.requires.system c.requires.some_depth c.requires.depth c.loop-due.invariant c.query-query.ensures c.in_ok-response.ensures.log c.in_ok-response.ensures.response c.conflicts_in-left.ensures refl c.in_ok-push.ensures.ok c.what_follows.ensures in
+    let next = turned s g c.args.depth c.args.conflicts c.loop-due.due c.query-query.result
+    c.in_ok-response.field-0.response c.in_ok-response.field-0.log c.loop-due.asked c.push.new.self
+    c.loop-due.left c.conflicts_in-left.result rest c.what_follows.result c.requires.system
+    c.requires.some_depth c.requires.depth c.loop-due.invariant c.query-query.ensures
+    c.in_ok-response.ensures.log c.in_ok-response.ensures.response c.conflicts_in-left.ensures refl
+    c.in_ok-push.ensures.ok c.what_follows.ensures in
     let end = subst (λ (n : Next). IsNext s g c.args.depth c.args.conflicts (still_due c.args.depth c.loop-due.due) n c.push.new.self rest) c.in-End.is next in
     certifies s g c.args.depth c.args.conflicts c.in-End.verdict c.push.new.self end.queries

@@ -35,7 +35,11 @@ loop-equal-preserved c =
     let enough : range ≤ 2 ^ bit_count range = subst (λ (b : ℕ). range ≤ 2 ^ b) c.bits.ensures.count c.bits.ensures.enough in
     let some = bits_some range (bit_count range) c.requires.range enough in
     let before = c.loop-equal.invariant in
-    let next = bounds_step (with_vars c.loop-equal.cnf c.loop-equal.used) (with_vars c.at_most.new.cnf c.at_most.new.used) c.loop-equal.lits (bounds_from first range c.args.below 1 all c.args.used.now).lits first range c.loop-equal.k c.loop-equal.below c.in_ok-below.below c.equal-item.result (drop i all) rest here c.requires.from_1 some before.within before.inside c.in_ok-below.ensures.lit c.in_ok-below.ensures.made before.lits in
+    let next = bounds_step (with_vars c.loop-equal.cnf c.loop-equal.used)
+    (with_vars c.at_most.new.cnf c.at_most.new.used) c.loop-equal.lits
+    (bounds_from first range c.args.below 1 all c.args.used.now).lits first range c.loop-equal.k
+    c.loop-equal.below c.in_ok-below.below c.equal-item.result (drop i all) rest here c.requires.from_1
+    some before.within before.inside c.in_ok-below.ensures.lit c.in_ok-below.ensures.made before.lits in
     record {
       vars = c.in_ok-below.ensures.vars ∙ before.vars;
       place = omega (arith, before.place);

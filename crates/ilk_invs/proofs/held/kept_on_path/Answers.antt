@@ -13,4 +13,8 @@ loop-count-preserved c =
     let count = c.loop-count.count in
     let rest = ap (has_section c.args.x) (take_all (length path - count) (drop count path) (omega (arith, length-drop count path))) in
     let before = map tree_of c.loop-count.forms.items in
-    grows_all (λ k. if has_section c.args.x (drop k path) then rel_is c.args.r k ∷ [] else []) count [] before (map tree_of c.push_if_kept.new.forms.items) c.loop-count.invariant (c.in_ok-push_if_kept.ensures ∙ ap (λ b. before ++ (if b then rel_is c.args.r count ∷ [] else [])) (c.has_number.ensures ∙ rest))
+    grows_all (λ k. if has_section c.args.x (drop k path) then rel_is c.args.r k ∷ [] else []) count [] before
+    (map tree_of c.push_if_kept.new.forms.items) c.loop-count.invariant
+    (c.in_ok-push_if_kept.ensures
+    ∙ ap (λ b. before ++ (if b then rel_is c.args.r count ∷ [] else []))
+    (c.has_number.ensures ∙ rest))

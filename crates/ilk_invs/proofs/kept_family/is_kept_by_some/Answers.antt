@@ -8,4 +8,8 @@ use Rattle.ilk_invs.proofs.kept_family.is_kept_by_some.Goals as goal
 
 pub loop-r-preserved : goal.loop-r-preserved
 loop-r-preserved c =
-    grows_all (λ q. conditions_for (slice_get c.args.plant.now.routes q) (keeps_at c.args.plant.now c.args.d c.args.x q)) c.loop-r.r (negation (body_at c.args.plant.now c.args.d c.args.x) ∷ []) (map tree_of c.loop-r.forms.items) (map tree_of c.push_keeps_at.new.forms.items) c.loop-r.invariant c.in_ok-push_keeps_at.ensures
+    grows_all
+    (λ q. conditions_for (slice_get c.args.plant.now.routes q)
+    (keeps_at c.args.plant.now c.args.d c.args.x q)) c.loop-r.r
+    (negation (body_at c.args.plant.now c.args.d c.args.x) ∷ []) (map tree_of c.loop-r.forms.items)
+    (map tree_of c.push_keeps_at.new.forms.items) c.loop-r.invariant c.in_ok-push_keeps_at.ensures

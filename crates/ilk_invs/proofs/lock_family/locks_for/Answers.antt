@@ -9,7 +9,11 @@ use Rattle.ilk_invs.proofs.lock_family.locks_for.Goals as goal
 
 pub returns : goal.returns
 returns c =
-    three_pushed (λ x. lock_is c.args.plant.now x LockedLock) (map tree_of c.new-forms.result.items) (map tree_of c.push_locks_on_path.new.forms.items) (map tree_of c.push_locked.new.forms.items) (map tree_of c.push_points_locked.new.forms.items) (of_each_place c.args.route.now (lock_at_place c.args.plant.now c.args.r)) c.args.route.now.overlap (map (λ listed. listed.point) c.args.route.now.protecting_points)
+    three_pushed (λ x. lock_is c.args.plant.now x LockedLock) (map tree_of c.new-forms.result.items)
+    (map tree_of c.push_locks_on_path.new.forms.items) (map tree_of c.push_locked.new.forms.items)
+    (map tree_of c.push_points_locked.new.forms.items)
+    (of_each_place c.args.route.now (lock_at_place c.args.plant.now c.args.r)) c.args.route.now.overlap
+    (map (λ listed. listed.point) c.args.route.now.protecting_points)
     (ap (map tree_of) c.new-forms.ensures.items)
     c.in_ok-push_locks_on_path.ensures
     (c.in_ok-push_locked.ensures ∙ ap (λ xs. map tree_of c.push_locks_on_path.new.forms.items ++ map (λ x. lock_is c.args.plant.now x LockedLock) xs) c.as_slice.ensures)

@@ -6,4 +6,6 @@ use Rattle.ilk_invs.proofs.point_family.v6_form.Goals as goal
 
 pub loop-r-preserved : goal.loop-r-preserved
 loop-r-preserved c =
-    route_more c.args.plant.now (λ q route. map (set_for c.args.plant.now q route) (points_of_path route)) c.loop-r.r _ [] (map tree_of c.loop-r.forms.items) (map tree_of c.push_points_set.new.forms.items) c.route.ensures.route c.loop-r.invariant c.in_ok-push_points_set.ensures
+    route_more c.args.plant.now (λ q route. map (set_for c.args.plant.now q route) (points_of_path route))
+    c.loop-r.r _ [] (map tree_of c.loop-r.forms.items) (map tree_of c.push_points_set.new.forms.items)
+    c.route.ensures.route c.loop-r.invariant c.in_ok-push_points_set.ensures

@@ -12,4 +12,9 @@ use Rattle.ilk_invs.proofs.route_families.opened_for.Goals as goal
 
 pub loop-r-preserved : goal.loop-r-preserved
 loop-r-preserved c =
-    grows_all (λ q. conditions_for (slice_get c.args.plant.now.routes q) (λ route. if route.source == c.args.m then each_of (mode_is q Locked ∷ path_vacant c.args.plant.now route) ∷ [] else [])) c.loop-r.r (negation (board_is c.args.plant.now c.args.m Open) ∷ []) (map tree_of c.loop-r.forms.items) (map tree_of c.push_ready_from.new.forms.items) c.loop-r.invariant c.in_ok-push_ready_from.ensures
+    grows_all
+    (λ q. conditions_for (slice_get c.args.plant.now.routes q)
+    (λ route. if route.source == c.args.m
+    then each_of (mode_is q Locked ∷ path_vacant c.args.plant.now route) ∷ [] else [])) c.loop-r.r
+    (negation (board_is c.args.plant.now c.args.m Open) ∷ []) (map tree_of c.loop-r.forms.items)
+    (map tree_of c.push_ready_from.new.forms.items) c.loop-r.invariant c.in_ok-push_ready_from.ensures

@@ -12,4 +12,10 @@ use Rattle.ilk_invs.proofs.route_families.opened_for.Given as goal
 
 abbrev pub invariant-loop-r : goal.invariant-loop-r
 invariant-loop-r l =
-    map tree_of l.forms.items ≡ negation (board_is l.plant l.m Open) ∷ flat_map (λ q. conditions_for (slice_get l.plant.routes q) (λ route. if route.source == l.m then each_of (mode_is q Locked ∷ path_vacant l.plant route) ∷ [] else [])) (range_with_len 0 l.r)
+    map tree_of l.forms.items
+    ≡ negation (board_is l.plant l.m Open)
+    ∷ flat_map
+    (λ q. conditions_for (slice_get l.plant.routes q)
+    (λ route. if route.source == l.m
+    then each_of (mode_is q Locked ∷ path_vacant l.plant route) ∷ [] else []))
+    (range_with_len 0 l.r)

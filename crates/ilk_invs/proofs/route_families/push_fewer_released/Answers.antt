@@ -10,4 +10,9 @@ use Rattle.ilk_invs.proofs.route_families.push_fewer_released.Goals as goal
 
 pub loop-k-preserved : goal.loop-k-preserved
 loop-k-preserved c =
-    one_form_more (λ k. some_of (negation (mode_is c.args.r Occupied) ∷ negation (seen_is c.args.r k) ∷ rel_below c.args.r k ∷ [])) c.loop-k.k (map tree_of c.args.forms.now.items) c.loop-k.forms.items c.push.new.self.items _ c.loop-k.invariant c.in_ok-push.ensures.items c.in_ok-fewer_released.ensures
+    one_form_more
+    (λ k. some_of
+    (negation (mode_is c.args.r Occupied) ∷ negation (seen_is c.args.r k) ∷ rel_below c.args.r k
+    ∷ [])) c.loop-k.k
+    (map tree_of c.args.forms.now.items) c.loop-k.forms.items c.push.new.self.items _ c.loop-k.invariant
+    c.in_ok-push.ensures.items c.in_ok-fewer_released.ensures

@@ -8,4 +8,7 @@ use Rattle.ilk_invs.proofs.route_families.v4_form.Goals as goal
 
 pub loop-r-preserved : goal.loop-r-preserved
 loop-r-preserved c =
-    route_form_more c.args.plant.now (λ r route. where_holds (mode_is r Allocating) (each_of (path_vacant c.args.plant.now route))) c.loop-r.r _ [] c.loop-r.forms.items c.push.new.self.items _ c.route.ensures.route c.loop-r.invariant c.in_ok-push.ensures.items c.in_ok-vacant_while_allocating.ensures
+    route_form_more c.args.plant.now
+    (λ r route. where_holds (mode_is r Allocating) (each_of (path_vacant c.args.plant.now route)))
+    c.loop-r.r _ [] c.loop-r.forms.items c.push.new.self.items _ c.route.ensures.route c.loop-r.invariant
+    c.in_ok-push.ensures.items c.in_ok-vacant_while_allocating.ensures

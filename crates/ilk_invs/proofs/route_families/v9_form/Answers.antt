@@ -9,4 +9,15 @@ use Rattle.ilk_invs.proofs.route_families.v9_form.Goals as goal
 
 pub loop-r-preserved : goal.loop-r-preserved
 loop-r-preserved c =
-    route_more c.args.plant.now (λ q route. map (λ m. where_holds (mode_is q Locked) (board_is c.args.plant.now m Closed)) route.protecting_boards) c.loop-r.r _ [] (map tree_of c.loop-r.forms.items) (map tree_of c.push_closed_while_locked.new.forms.items) c.route.ensures.route c.loop-r.invariant (c.in_ok-push_closed_while_locked.ensures ∙ ap (λ boards. map tree_of c.loop-r.forms.items ++ map (λ m. where_holds (mode_is c.loop-r.r Locked) (board_is c.args.plant.now m Closed)) boards) c.as_slice-boards.ensures)
+    route_more c.args.plant.now
+    (λ q route. map (λ m. where_holds (mode_is q Locked) (board_is c.args.plant.now m Closed))
+    route.protecting_boards) c.loop-r.r _ []
+    (map tree_of c.loop-r.forms.items) (map tree_of c.push_closed_while_locked.new.forms.items)
+    c.route.ensures.route c.loop-r.invariant
+    (c.in_ok-push_closed_while_locked.ensures
+    ∙ ap
+    (λ boards. map tree_of c.loop-r.forms.items
+    ++ map
+    (λ m. where_holds (mode_is c.loop-r.r Locked) (board_is c.args.plant.now m Closed))
+    boards)
+    c.as_slice-boards.ensures)

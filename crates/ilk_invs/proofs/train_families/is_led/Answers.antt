@@ -8,4 +8,8 @@ use Rattle.ilk_invs.proofs.train_families.is_led.Goals as goal
 
 pub loop-r-preserved : goal.loop-r-preserved
 loop-r-preserved c =
-    grows_all (λ q. conditions_for (slice_get c.args.plant.now.routes q) (leads_at c.args.plant.now c.args.d c.args.x q)) c.loop-r.r (negation (head_at c.args.plant.now c.args.d c.args.x) ∷ []) (map tree_of c.loop-r.forms.items) (map tree_of c.push_leads_at.new.forms.items) c.loop-r.invariant c.in_ok-push_leads_at.ensures
+    grows_all
+    (λ q. conditions_for (slice_get c.args.plant.now.routes q)
+    (leads_at c.args.plant.now c.args.d c.args.x q)) c.loop-r.r
+    (negation (head_at c.args.plant.now c.args.d c.args.x) ∷ []) (map tree_of c.loop-r.forms.items)
+    (map tree_of c.push_leads_at.new.forms.items) c.loop-r.invariant c.in_ok-push_leads_at.ensures

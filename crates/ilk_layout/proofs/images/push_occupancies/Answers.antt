@@ -8,4 +8,7 @@ use Rattle.std.proofs.Common.{◌∙◌}
 
 pub returns : goal.returns
 returns c =
-    map-pushed occupancy_value (occupancy_of c.args.plant.now c.args.s.now) c.as_slice-occupancy-items.result.now (range_with_len 0 (length c.args.plant.now.sections)) c.loop-occupancy.occupancy-index c.args.values.now c.loop-occupancy.values c.loop-occupancy.invariant (omega arith) (c.as_slice-occupancy-items.ensures ∙ c.in_ok-made.ensures)
+    map-pushed occupancy_value (occupancy_of c.args.plant.now c.args.s.now)
+    c.as_slice-occupancy-items.result.now (range_with_len 0 (length c.args.plant.now.sections))
+    c.loop-occupancy.occupancy-index c.args.values.now c.loop-occupancy.values c.loop-occupancy.invariant
+    (omega arith) (c.as_slice-occupancy-items.ensures ∙ c.in_ok-made.ensures)

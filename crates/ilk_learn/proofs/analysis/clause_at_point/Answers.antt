@@ -11,7 +11,12 @@ returns-in-Some c =
     let es = c.args.trail.now.entries in
     let lower = c.args.lower.now in
     let one : c.push.new.self ≡ opposite c.args.lit ∷ [] = c.in_ok-push.ensures.ok ∙ ap (λ (xs : List Literal). xs ++ c.negated.result ∷ []) c.new-clause.ensures ∙ ap (λ (l : Literal). l ∷ []) c.negated.ensures in
-    IfOk-weaker c.with_first.result (λ x. x ≡ c.push.new.self ++ (c.in-Some.first ∷ without_variable c.in-Some.first.var lower)) (λ x. x ≡ opposite c.args.lit ∷ highest_first es lower) (λ x e. front-some es lower c.push.new.self x (opposite c.args.lit) c.in-Some.first one c.in-Some.ensures e) c.with_first.ensures
+    IfOk-weaker c.with_first.result
+    (λ x. x ≡ c.push.new.self ++ (c.in-Some.first ∷ without_variable c.in-Some.first.var lower))
+    (λ x. x ≡ opposite c.args.lit ∷ highest_first es lower)
+    (λ x e. front-some es lower c.push.new.self x (opposite c.args.lit) c.in-Some.first one
+    c.in-Some.ensures e)
+    c.with_first.ensures
 
 pub returns-in-None : goal.returns-in-None
 returns-in-None c =

@@ -17,13 +17,18 @@ pub level_below-level-requires-clause-within : goal.level_below-level-requires-c
 level_below-level-requires-clause-within c =
     let f = (formula_of c.args.clauses.now) in
     let s = c.in_ok-step.step in
-    let derived : is_derived f.vars f.clauses s ≡ true = ap (is_derived f.vars f.clauses) c.in_ok-step.ensures ∙ learned-derived f c.args.trail.now c.args.conflict c.count-count.ensures.formula c.level-level.ensures.is_trail c.requires.reasons c.requires.conflict (λ _. c.requires.below) in
+    let derived : is_derived f.vars f.clauses s ≡ true = ap (is_derived f.vars f.clauses) c.in_ok-step.ensures
+    ∙ learned-derived f c.args.trail.now c.args.conflict c.count-count.ensures.formula
+    c.level-level.ensures.is_trail c.requires.reasons c.requires.conflict (λ _. c.requires.below) in
     let p = and_parts (clause_in f.vars s.clause && vars_differ s.clause) (ends_false f.clauses (opposites s.clause) s.hints) derived in
     ap (λ (n : ℕ). clause_in n s.clause) (sym c.requires.vars) ∙ (and_parts (clause_in f.vars s.clause) (vars_differ s.clause) p.0).0
 
 pub level_below-level-requires-clause-asserting : goal.level_below-level-requires-clause-asserting
 level_below-level-requires-clause-asserting c =
-    ap (λ (s : Step). is_asserting c.args.trail.now.entries s.clause) c.in_ok-step.ensures ∙ learned-asserting (formula_of c.args.clauses.now) c.args.trail.now c.args.conflict c.count-count.ensures.formula c.level-level.ensures.is_trail c.requires.reasons c.requires.conflict c.requires.level c.requires.below
+    ap (λ (s : Step). is_asserting c.args.trail.now.entries s.clause) c.in_ok-step.ensures
+    ∙ learned-asserting (formula_of c.args.clauses.now) c.args.trail.now c.args.conflict
+    c.count-count.ensures.formula c.level-level.ensures.is_trail c.requires.reasons
+    c.requires.conflict c.requires.level c.requires.below
 
 pub returns-clause-derived : goal.returns-clause-derived
 returns-clause-derived c =
@@ -32,11 +37,17 @@ returns-clause-derived c =
 
 pub returns-clause-asserting : goal.returns-clause-asserting
 returns-clause-asserting c =
-    ap (λ (s : Step). is_asserting c.args.trail.now.entries s.clause) c.in_ok-step.ensures ∙ learned-asserting (formula_of c.args.clauses.now) c.args.trail.now c.args.conflict c.count-count.ensures.formula c.level-level.ensures.is_trail c.requires.reasons c.requires.conflict c.requires.level c.requires.below
+    ap (λ (s : Step). is_asserting c.args.trail.now.entries s.clause) c.in_ok-step.ensures
+    ∙ learned-asserting (formula_of c.args.clauses.now) c.args.trail.now c.args.conflict
+    c.count-count.ensures.formula c.level-level.ensures.is_trail c.requires.reasons
+    c.requires.conflict c.requires.level c.requires.below
 
 pub returns-clause-fresh : goal.returns-clause-fresh
 returns-clause-fresh c closed =
     let f = (formula_of c.args.clauses.now) in
     let t = c.args.trail.now in
-    let asserting : is_asserting t.entries c.in_ok-step.step.clause ≡ true = ap (λ (s : Step). is_asserting t.entries s.clause) c.in_ok-step.ensures ∙ learned-asserting f t c.args.conflict c.count-count.ensures.formula c.level-level.ensures.is_trail c.requires.reasons c.requires.conflict c.requires.level c.requires.below in
+    let asserting : is_asserting t.entries c.in_ok-step.step.clause ≡ true =
+    ap (λ (s : Step). is_asserting t.entries s.clause) c.in_ok-step.ensures
+    ∙ learned-asserting f t c.args.conflict c.count-count.ensures.formula c.level-level.ensures.is_trail
+    c.requires.reasons c.requires.conflict c.requires.level c.requires.below in
     fresh f.clauses t.entries c.in_ok-step.step.clause c.level-level.ensures.is_trail.once asserting (ap (λ (k : ℕ). is_closed f.clauses (lits_of (up_to k t.entries))) (sym c.level_below-level.ensures) ∙ closed)

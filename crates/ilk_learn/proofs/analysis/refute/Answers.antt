@@ -12,10 +12,20 @@ returns-clause-derived c =
     let f = (formula_of c.args.clauses.now) in
     let t = c.args.trail.now in
     let none = c.requires.level in
-    IfOk-weaker c.analysed.result (λ s. s ≡ learned f.clauses t.entries c.args.conflict) (λ s. is_derived f.vars f.clauses s ≡ true) (λ s e. ap (is_derived f.vars f.clauses) e ∙ learned-derived f t c.args.conflict c.count-count.ensures.formula c.level-level.ensures.is_trail c.requires.reasons c.requires.conflict (λ pos. absurd (omega (arith, pos, none)))) c.analysed.ensures
+    IfOk-weaker c.analysed.result (λ s. s ≡ learned f.clauses t.entries c.args.conflict)
+    (λ s. is_derived f.vars f.clauses s ≡ true)
+    (λ s e. ap (is_derived f.vars f.clauses) e
+    ∙ learned-derived f t c.args.conflict c.count-count.ensures.formula
+    c.level-level.ensures.is_trail c.requires.reasons c.requires.conflict
+    (λ pos. absurd (omega (arith, pos, none))))
+    c.analysed.ensures
 
 pub returns-clause-empty : goal.returns-clause-empty
 returns-clause-empty c =
     let f = (formula_of c.args.clauses.now) in
     let t = c.args.trail.now in
-    IfOk-weaker c.analysed.result (λ s. s ≡ learned f.clauses t.entries c.args.conflict) (λ s. s.clause ≡ []) (λ s e. ap (λ (x : Step). x.clause) e ∙ learned-empty f t c.args.conflict c.count-count.ensures.formula c.level-level.ensures.is_trail c.requires.reasons c.requires.conflict c.requires.level) c.analysed.ensures
+    IfOk-weaker c.analysed.result (λ s. s ≡ learned f.clauses t.entries c.args.conflict) (λ s. s.clause ≡ [])
+    (λ s e. ap (λ (x : Step). x.clause) e
+    ∙ learned-empty f t c.args.conflict c.count-count.ensures.formula c.level-level.ensures.is_trail
+    c.requires.reasons c.requires.conflict c.requires.level)
+    c.analysed.ensures

@@ -14,6 +14,12 @@ loop-train-preserved c =
     let own : (x : ℕ) → x < 128 → bit_at c.sections_of-body.result x ≡ bit (has_section (from + x) (get_or trains i train).body) =
     λ x below. c.sections_of-body.ensures x below ∙ ap (λ sections. bit (has_section (from + x) sections)) c.as_slice.ensures ∙ ap (λ (t : Train). bit (has_section (from + x) t.body)) c.train-item.is in
     record {
-      seen = λ x below. seen_after (λ (t : Train). has_section (from + x) t.body) trains i train c.loop-train-test.true x c.loop-train.seen c.loop-train.shared c.sections_of-body.result (c.loop-train.invariant.seen x below) (c.loop-train.invariant.shared x below) (own x below);
-      shared = λ x below. shared_after (λ (t : Train). has_section (from + x) t.body) trains i train c.loop-train-test.true x c.loop-train.seen c.loop-train.shared c.sections_of-body.result (c.loop-train.invariant.seen x below) (c.loop-train.invariant.shared x below) (own x below);
+      seen =
+          λ x below. seen_after (λ (t : Train). has_section (from + x) t.body) trains i train
+          c.loop-train-test.true x c.loop-train.seen c.loop-train.shared c.sections_of-body.result
+          (c.loop-train.invariant.seen x below) (c.loop-train.invariant.shared x below) (own x below);
+      shared =
+          λ x below. shared_after (λ (t : Train). has_section (from + x) t.body) trains i train
+          c.loop-train-test.true x c.loop-train.seen c.loop-train.shared c.sections_of-body.result
+          (c.loop-train.invariant.seen x below) (c.loop-train.invariant.shared x below) (own x below);
     }

@@ -8,7 +8,11 @@ use Rattle.ilk_net_check.proofs.rules.check_named_network.Goals as goal
 
 pub loop-rule-preserved : goal.loop-rule-preserved
 loop-rule-preserved c =
-    flat_map-grows (λ rule. broken_at rule (count_in_network c.args.net.now (places_of rule)) (breaks_network c.args.net.now rule)) network_rules c.loop-rule.rule-index _ c.loop-rule.broken c.push_broken.new.broken c.loop-rule-test.true c.loop-rule.invariant (rw c.in_ok-network.ensures.net at c.in_ok-push_broken.ensures)
+    flat_map-grows
+    (λ rule. broken_at rule (count_in_network c.args.net.now (places_of rule))
+    (breaks_network c.args.net.now rule)) network_rules
+    c.loop-rule.rule-index _ c.loop-rule.broken c.push_broken.new.broken c.loop-rule-test.true
+    c.loop-rule.invariant (rw c.in_ok-network.ensures.net at c.in_ok-push_broken.ensures)
 
 pub returns-clause-walks : goal.returns-clause-walks
 returns-clause-walks c x =

@@ -10,7 +10,14 @@ use Rattle.ilk_base.proofs.Tested.{list_all-more}
 
 pub loop-i-preserved : goal.loop-i-preserved
 loop-i-preserved c = record {
-  rest = rw c.in_ok-push.ensures.ok (sym (in_order-more section_of c.loop-i.sections _ _ c.loop-i.i (view c.index-values-i.result) c.in_ok-section.section (entries-left c.args.values.now c.loop-i.i c.index-values-i.result c.loop-i-test.true c.index-values-i.is) c.in_ok-section.ensures.exact) ∙ c.loop-i.invariant.rest);
+  rest = rw c.in_ok-push.ensures.ok
+      (sym
+      (in_order-more section_of c.loop-i.sections _ _ c.loop-i.i (view c.index-values-i.result)
+      c.in_ok-section.section
+      (entries-left c.args.values.now c.loop-i.i c.index-values-i.result c.loop-i-test.true
+      c.index-values-i.is)
+      c.in_ok-section.ensures.exact)
+      ∙ c.loop-i.invariant.rest);
   named = rw c.in_ok-push.ensures.ok (list_all-more section_has_names c.loop-i.sections c.in_ok-section.section c.loop-i.invariant.named c.in_ok-section.ensures.named);
   count = omega (arith, simp length-append at (ap length c.in_ok-push.ensures.ok));
 }

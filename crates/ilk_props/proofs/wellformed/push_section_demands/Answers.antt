@@ -7,4 +7,9 @@ use Rattle.ilk_props.proofs.wellformed.push_section_demands.Goals as goal
 
 pub returns : goal.returns
 returns c =
-    three_made (map tree_of c.args.demands.now.items) (map tree_of c.push_own_demands.new.demands.items) (map tree_of c.push_train_demands.new.demands.items) (map tree_of c.push_train_demands-2.new.demands.items) (own_demands c.args.plant.now c.args.x) (train_demands c.args.plant.now c.args.x Up) (train_demands c.args.plant.now c.args.x Down) c.in_ok-push_own_demands.ensures c.in_ok-push_train_demands.ensures c.in_ok-push_train_demands-2.ensures
+    three_made (map tree_of c.args.demands.now.items) (map tree_of c.push_own_demands.new.demands.items)
+    (map tree_of c.push_train_demands.new.demands.items)
+    (map tree_of c.push_train_demands-2.new.demands.items) (own_demands c.args.plant.now c.args.x)
+    (train_demands c.args.plant.now c.args.x Up) (train_demands c.args.plant.now c.args.x Down)
+    c.in_ok-push_own_demands.ensures c.in_ok-push_train_demands.ensures
+    c.in_ok-push_train_demands-2.ensures

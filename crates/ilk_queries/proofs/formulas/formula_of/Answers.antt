@@ -9,4 +9,6 @@ returns-clause-formula c =
 
 pub returns-clause-satisfiable : goal.returns-clause-satisfiable
 returns-clause-satisfiable c =
-    satisfiable_on c.query.result c.args.plant.now c.args.q (system_tree c.args.system.now) (goal_tree c.args.goal.now) c.requires.system c.requires.goal c.is_sound.ensures c.requires.steps c.requires.means c.requires.wanted c.query.ensures.sound c.query.ensures.complete
+    satisfiable_on c.query.result c.args.plant.now c.args.q (system_tree c.args.system.now)
+    (goal_tree c.args.goal.now) c.requires.system c.requires.goal c.is_sound.ensures c.requires.steps
+    c.requires.means c.requires.wanted c.query.ensures.sound c.query.ensures.complete

@@ -7,4 +7,9 @@ use Rattle.ilk_replay.specs.RunText.{event_line}
 pub returns : goal.returns
 returns c =
     c.loop-event.invariant
-    ∙ ap (λ events. string_bytes c.args.text.now ++ flat_map (λ event. event_line c.args.plant.now event ++ 10 ∷ []) events) (take_all c.loop-event.event-index c.as_slice-event-items.result.now (omega (arith, c.loop-event-test.false)) ∙ c.as_slice-event-items.ensures)
+    ∙ ap
+    (λ events. string_bytes c.args.text.now
+    ++ flat_map (λ event. event_line c.args.plant.now event ++ 10 ∷ []) events)
+    (take_all c.loop-event.event-index c.as_slice-event-items.result.now
+    (omega (arith, c.loop-event-test.false))
+    ∙ c.as_slice-event-items.ensures)

@@ -12,4 +12,6 @@ pub loop-n-preserved : goal.loop-n-preserved
 loop-n-preserved c =
     let p = c.args.plant.now in
     let i = c.loop-n.n in
-    line_more (point_line p) (point_sections p) c.args.points.now i c.at.result.now c.at-in-loop-n.result.now _ _ _ (ap (λ xs. slice_get xs i) (sym c.in_ok-sections.ensures) ∙ c.at.ensures) c.at-in-loop-n.ensures c.loop-n.invariant c.in_ok-push_point.ensures
+    line_more (point_line p) (point_sections p) c.args.points.now i c.at.result.now c.at-in-loop-n.result.now
+    _ _ _ (ap (λ xs. slice_get xs i) (sym c.in_ok-sections.ensures) ∙ c.at.ensures) c.at-in-loop-n.ensures
+    c.loop-n.invariant c.in_ok-push_point.ensures

@@ -17,5 +17,11 @@ returns c =
     let locks : Bytes = text_of (each_line (section_line p) (numbers_of p.sections) s.locks) in
     let trains : Bytes = flat_map (λ train. train_line p train ++ 10 ∷ []) s.trains in
     c.in_ok-push_trains.ensures
-    ∙ ap (λ (t : Bytes). t ++ trains) (c.in_ok-push_sections.ensures ∙ ap (λ (t : Bytes). t ++ locks) (c.in_ok-push_boards.ensures ∙ ap (λ (t : Bytes). t ++ boards) (c.in_ok-push_points.ensures ∙ ap (λ (t : Bytes). t ++ points) c.in_ok-push_routes.ensures)))
+    ∙ ap (λ (t : Bytes). t ++ trains)
+    (c.in_ok-push_sections.ensures
+    ∙ ap (λ (t : Bytes). t ++ locks)
+    (c.in_ok-push_boards.ensures
+    ∙ ap (λ (t : Bytes). t ++ boards)
+    (c.in_ok-push_points.ensures
+    ∙ ap (λ (t : Bytes). t ++ points) c.in_ok-push_routes.ensures)))
     ∙ state_is p s (string_bytes c.args.text.now)

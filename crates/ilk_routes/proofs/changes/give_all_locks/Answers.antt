@@ -11,5 +11,8 @@ returns-clause-locks c =
     let locks = c.args.locks.now in
     let hold = c.args.hold in
     c.give_point_locks.ensures.locks
-    ∙ ap (λ (left : List Hold). with_locks left (protecting_points_of route) hold) (c.give_locks-2.ensures.locks ∙ ap (λ (left : List Hold). with_locks left route.overlap hold) c.give_locks.ensures.locks ∙ with_locks-append locks route.path route.overlap hold)
+    ∙ ap (λ (left : List Hold). with_locks left (protecting_points_of route) hold)
+    (c.give_locks-2.ensures.locks
+    ∙ ap (λ (left : List Hold). with_locks left route.overlap hold) c.give_locks.ensures.locks
+    ∙ with_locks-append locks route.path route.overlap hold)
     ∙ with_locks-append locks (route.path ++ route.overlap) (protecting_points_of route) hold

@@ -18,7 +18,11 @@ loop-listed-preserved c =
     let split : drop i xs ≡ listed ∷ drop (i + 1) xs = drop_more xs i default (grind (arith, common_steps)) in
     record {
       long = length-set locks listed.point hold ∙ c.loop-listed.invariant.long;
-      rest = with_locks-first locks listed.point (map (λ (l : Listed). l.point) (drop (i + 1) xs)) hold c.at_mut.result.now c.at_mut.ensures.value ∙ ap (λ (left : _). with_locks locks (map (λ (l : Listed). l.point) left) hold) (sym split) ∙ c.loop-listed.invariant.rest;
+      rest =
+          with_locks-first locks listed.point (map (λ (l : Listed). l.point) (drop (i + 1) xs)) hold
+          c.at_mut.result.now c.at_mut.ensures.value
+          ∙ ap (λ (left : _). with_locks locks (map (λ (l : Listed). l.point) left) hold) (sym split)
+          ∙ c.loop-listed.invariant.rest;
     }
 
 pub returns-clause-locks : goal.returns-clause-locks

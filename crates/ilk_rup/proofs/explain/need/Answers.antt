@@ -12,7 +12,10 @@ loop-i-preserved c =
     let P : List Literal → Type 0 = λ ls. IsNeeded c.args.set.now.lits ls c.args.needed.now.lits c.need_one.new.needed.lits in
     record {
       vars = c.need_one.ensures.vars ∙ c.loop-i.invariant.vars;
-      needed = one-more P d i c.literal.result c.literal.ensures.literal (needed-next c.args.set.now.lits (take i d) c.args.needed.now.lits c.loop-i.needed.lits c.need_one.new.needed.lits c.literal.result c.loop-i.invariant.needed c.need_one.ensures.needed);
+      needed = one-more P d i c.literal.result c.literal.ensures.literal
+          (needed-next c.args.set.now.lits (take i d) c.args.needed.now.lits c.loop-i.needed.lits
+          c.need_one.new.needed.lits c.literal.result c.loop-i.invariant.needed
+          c.need_one.ensures.needed);
     }
 
 pub returns-clause-needed : goal.returns-clause-needed

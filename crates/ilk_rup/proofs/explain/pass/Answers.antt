@@ -21,7 +21,9 @@ returns-then-not-has-clause-passed c =
     let t = c.args.trail.now in
     let x = mapped-Some (λ (e : Entry). e.lit) (slice_get t.entries c.args.i) c.at.result c.at.ensures in
     let needed = c.args.needed.now.lits in
-    passed-skip c.args.clauses.now.clauses t.entries c.args.set.now.lits needed c.args.i x.0 (reverse c.args.reasons.now.items) x.1 c.count-trail.ensures.is_trail.once (ap (λ (l : Literal). has_lit l needed) x.2 ∙ sym c.has.ensures ∙ c.if-not-has.true)
+    passed-skip c.args.clauses.now.clauses t.entries c.args.set.now.lits needed c.args.i x.0
+    (reverse c.args.reasons.now.items) x.1 c.count-trail.ensures.is_trail.once
+    (ap (λ (l : Literal). has_lit l needed) x.2 ∙ sym c.has.ensures ∙ c.if-not-has.true)
 
 pub returns-clause-passed : goal.returns-clause-passed
 returns-clause-passed c =
@@ -32,4 +34,9 @@ returns-clause-passed c =
     let next = c.need.new.needed.lits in
     let r = c.reason_of-reason.result in
     let P : List ℕ → Type 0 = λ items. IsPassed c.args.clauses.now.clauses t.entries set c.args.i needed (reverse c.args.reasons.now.items) next (reverse items) in
-    subst P (sym c.in_ok-push.ensures.items) (passed-step (formula_of c.args.clauses.now) t.entries set needed next c.args.i r x.0 c.args.reasons.now.items c.count-clauses.ensures.formula x.1 c.count-trail.ensures.is_trail.once (ap (λ (l : Literal). has_lit l needed) x.2 ∙ sym c.has.ensures ∙ c.if-not-has.false) (c.reason_of-reason.ensures.reason x.0 x.1) (c.requires.walk c.args.i x.0 (omega arith) (omega arith) x.1).1 c.need.ensures.needed)
+    subst P (sym c.in_ok-push.ensures.items)
+    (passed-step (formula_of c.args.clauses.now) t.entries set needed next c.args.i r x.0
+    c.args.reasons.now.items c.count-clauses.ensures.formula x.1 c.count-trail.ensures.is_trail.once
+    (ap (λ (l : Literal). has_lit l needed) x.2 ∙ sym c.has.ensures ∙ c.if-not-has.false)
+    (c.reason_of-reason.ensures.reason x.0 x.1)
+    (c.requires.walk c.args.i x.0 (omega arith) (omega arith) x.1).1 c.need.ensures.needed)

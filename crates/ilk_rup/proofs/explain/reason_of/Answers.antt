@@ -26,17 +26,32 @@ pub unwrap-requires : goal.unwrap-requires
 unwrap-requires c =
     let t = c.args.trail.now in
     let x = mapped-Some (λ (e : Entry). e.lit) (slice_get t.entries c.args.i) c.at.result c.at.ensures in
-    some-reason x.0.reason c.reason.result (λ r. is_reason c.args.clauses.now.clauses (lits_of (take c.args.i t.entries)) x.0.lit r ≡ true) (reason-at t.entries c.args.i x.0 c.at.result c.reason.result c.count-trail.ensures.is_trail.once x.1 x.2 c.reason.ensures) (c.requires.forced x.0 x.1)
+    some-reason x.0.reason c.reason.result
+    (λ r. is_reason c.args.clauses.now.clauses (lits_of (take c.args.i t.entries)) x.0.lit r ≡ true)
+    (reason-at t.entries c.args.i x.0 c.at.result c.reason.result c.count-trail.ensures.is_trail.once x.1
+    x.2 c.reason.ensures)
+    (c.requires.forced x.0 x.1)
 
 pub returns-clause-reason : goal.returns-clause-reason
 returns-clause-reason c = λ e at.
     let t = c.args.trail.now in
     let x = mapped-Some (λ (e : Entry). e.lit) (slice_get t.entries c.args.i) c.at.result c.at.ensures in
     let same : x.0 ≡ e = (let z : Some x.0 ≡ Some e = sym x.1 ∙ at in cc) in
-    that-reason e.reason c.unwrap.result (λ r. is_reason c.args.clauses.now.clauses (lits_of (take c.args.i t.entries)) e.lit r ≡ true) (reason-at t.entries c.args.i e c.at.result c.reason.result c.count-trail.ensures.is_trail.once at (ap (λ (y : Entry). y.lit) (sym same) ∙ x.2) c.reason.ensures ∙ c.unwrap.ensures) (c.requires.forced e at)
+    that-reason e.reason c.unwrap.result
+    (λ r. is_reason c.args.clauses.now.clauses (lits_of (take c.args.i t.entries)) e.lit r ≡ true)
+    (reason-at t.entries c.args.i e c.at.result c.reason.result c.count-trail.ensures.is_trail.once at
+    (ap (λ (y : Entry). y.lit) (sym same) ∙ x.2) c.reason.ensures
+    ∙ c.unwrap.ensures)
+    (c.requires.forced e at)
 
 pub returns-clause-known : goal.returns-clause-known
 returns-clause-known c =
     let t = c.args.trail.now in
     let x = mapped-Some (λ (e : Entry). e.lit) (slice_get t.entries c.args.i) c.at.result c.at.ensures in
-    reason-in c.args.clauses.now.clauses (lits_of (take c.args.i t.entries)) x.0.lit c.unwrap.result (that-reason x.0.reason c.unwrap.result (λ r. is_reason c.args.clauses.now.clauses (lits_of (take c.args.i t.entries)) x.0.lit r ≡ true) (reason-at t.entries c.args.i x.0 c.at.result c.reason.result c.count-trail.ensures.is_trail.once x.1 x.2 c.reason.ensures ∙ c.unwrap.ensures) (c.requires.forced x.0 x.1))
+    reason-in c.args.clauses.now.clauses (lits_of (take c.args.i t.entries)) x.0.lit c.unwrap.result
+    (that-reason x.0.reason c.unwrap.result
+    (λ r. is_reason c.args.clauses.now.clauses (lits_of (take c.args.i t.entries)) x.0.lit r ≡ true)
+    (reason-at t.entries c.args.i x.0 c.at.result c.reason.result
+    c.count-trail.ensures.is_trail.once x.1 x.2 c.reason.ensures
+    ∙ c.unwrap.ensures)
+    (c.requires.forced x.0 x.1))

@@ -21,7 +21,11 @@ pub add_frame-requires-clause-columns : goal.add_frame-requires-clause-columns
 add_frame-requires-clause-columns c =
     let v = c.loop-v.v in
     let n = c.loop-v.cnf.vars in
-    let here : drop v c.args.now.now ≡ c.column-item.result ∷ drop (v + 1) c.args.now.now = subst (λ (cs : List Column). drop v cs ≡ c.column-item.result ∷ drop (v + 1) cs) c.as_slice-column-items.ensures (drop_at c.as_slice-column-items.result.now v c.column-item.result c.loop-v-test.true c.column-item.is) in
+    let here : drop v c.args.now.now ≡ c.column-item.result ∷ drop (v + 1) c.args.now.now = subst
+    (λ (cs : List Column). drop v cs ≡ c.column-item.result ∷ drop (v + 1) cs)
+    c.as_slice-column-items.ensures
+    (drop_at c.as_slice-column-items.result.now v c.column-item.result c.loop-v-test.true
+    c.column-item.is) in
     let there : drop v c.args.next.now ≡ c.at.result.now ∷ drop (v + 1) c.args.next.now = drop_from c.args.next.now v c.at.result.now c.at.ensures in
     let one = (and_parts _ _ (sym (ap (columns_in n) here) ∙ c.loop-v.invariant.now)).0 in
     let two = (and_parts _ _ (sym (ap (columns_in n) there) ∙ c.loop-v.invariant.next)).0 in
@@ -33,7 +37,11 @@ loop-v-preserved c =
     let n = c.loop-v.cnf.vars in
     let made = c.in_ok-add_frame.ensures in
     let same : c.add_frame.new.cnf.vars ≡ n = ap (λ (f : Formula). f.vars) made in
-    let here : drop v c.args.now.now ≡ c.column-item.result ∷ drop (v + 1) c.args.now.now = subst (λ (cs : List Column). drop v cs ≡ c.column-item.result ∷ drop (v + 1) cs) c.as_slice-column-items.ensures (drop_at c.as_slice-column-items.result.now v c.column-item.result c.loop-v-test.true c.column-item.is) in
+    let here : drop v c.args.now.now ≡ c.column-item.result ∷ drop (v + 1) c.args.now.now = subst
+    (λ (cs : List Column). drop v cs ≡ c.column-item.result ∷ drop (v + 1) cs)
+    c.as_slice-column-items.ensures
+    (drop_at c.as_slice-column-items.result.now v c.column-item.result c.loop-v-test.true
+    c.column-item.is) in
     let there : drop v c.args.next.now ≡ c.at.result.now ∷ drop (v + 1) c.args.next.now = drop_from c.args.next.now v c.at.result.now c.at.ensures in
     record {
       vars = same ∙ c.loop-v.invariant.vars;

@@ -43,4 +43,6 @@ returns c =
     let n = c.args.cnf.now.vars in
     let r = rule_tree c.args.rule.now in
     let skip = c.args.skip ∷ [] in
-    next_part c.args.cnf.now c.demand.new.cnf c.add_settings.new.cnf (demand_part c.args.now.now skip r.guard n) (settings_part c.args.next.now c.args.skip r.sets) c.in_ok-demand.ensures.made (c.in_ok-add_settings.ensures ∙ rw c.as_slice.ensures refl)
+    next_part c.args.cnf.now c.demand.new.cnf c.add_settings.new.cnf
+    (demand_part c.args.now.now skip r.guard n) (settings_part c.args.next.now c.args.skip r.sets)
+    c.in_ok-demand.ensures.made (c.in_ok-add_settings.ensures ∙ rw c.as_slice.ensures refl)

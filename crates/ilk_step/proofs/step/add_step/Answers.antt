@@ -88,7 +88,12 @@ returns-clause-made c =
     let next = c.args.next.now in
     let rules = c.args.rules.now in
     let count = c.vars-first.ensures.count in
-    step_made f g h e (map rule_tree rules) now next (choice_made f g rules c.len.result c.len.ensures c.in_ok-add_choice.ensures.made) (rules_made f g h now next rules c.as_slice.result.now c.vars-first.result count c.as_slice.ensures c.in_ok-add_rules.ensures) (frames_made f h e now next rules c.as_slice-2.result.now c.vars-first.result count c.as_slice-2.ensures c.in_ok-add_frames.ensures)
+    step_made f g h e (map rule_tree rules) now next
+    (choice_made f g rules c.len.result c.len.ensures c.in_ok-add_choice.ensures.made)
+    (rules_made f g h now next rules c.as_slice.result.now c.vars-first.result count c.as_slice.ensures
+    c.in_ok-add_rules.ensures)
+    (frames_made f h e now next rules c.as_slice-2.result.now c.vars-first.result count
+    c.as_slice-2.ensures c.in_ok-add_frames.ensures)
 
 pub returns-clause-law : goal.returns-clause-law
 returns-clause-law c =
@@ -98,7 +103,16 @@ returns-clause-law c =
     let next = c.args.next.now in
     let rs = map rule_tree c.args.rules.now in
     let p = step_part rs now next n in
-    extends-as_clauses a p.vars p.clauses (IsStep (ranges_of now) rs ws xs) (step-law rs now next ws xs a n (record { size = size; now_in = c.requires.now; next_in = c.requires.next; same = c.requires.same; now_say = now_say; next_say = next_say }) c.requires.valid hw hx)
+    extends-as_clauses a p.vars p.clauses (IsStep (ranges_of now) rs ws xs)
+    (step-law rs now next ws xs a n
+    (record {
+      size = size;
+      now_in = c.requires.now;
+      next_in = c.requires.next;
+      same = c.requires.same;
+      now_say = now_say;
+      next_say = next_say;
+    }) c.requires.valid hw hx)
 
 pub returns-clause-exact : goal.returns-clause-exact
 returns-clause-exact c =

@@ -6,7 +6,10 @@ use Rattle.ilk_base.proofs.Ranges.{grows_if}
 
 pub loop-j-preserved : goal.loop-j-preserved
 loop-j-preserved c =
-    grows_if (λ j. record { rule = c.args.rule; first = c.args.i; second = Some j }) (breaks_columns_at_pair c.args.plant.now c.args.rule c.args.i) c.loop-j.j c.breaks_at_pair.result c.args.found.now c.loop-j.found c.push_if.new.found c.breaks_at_pair.ensures c.loop-j.invariant c.in_ok-push_if.ensures.ok
+    grows_if (λ j. record { rule = c.args.rule; first = c.args.i; second = Some j })
+    (breaks_columns_at_pair c.args.plant.now c.args.rule c.args.i) c.loop-j.j c.breaks_at_pair.result
+    c.args.found.now c.loop-j.found c.push_if.new.found c.breaks_at_pair.ensures c.loop-j.invariant
+    c.in_ok-push_if.ensures.ok
 
 pub returns-then-not-is_to_be_asked : goal.returns-then-not-is_to_be_asked
 returns-then-not-is_to_be_asked c =

@@ -5,4 +5,8 @@ use Rattle.ilk_table_check.proofs.table.check_numbered_table.Goals as goal
 
 pub loop-rule-preserved : goal.loop-rule-preserved
 loop-rule-preserved c =
-    flat_map-grows (λ rule. broken_at rule (count_in_plant c.args.plant.now (places_of rule)) (breaks_table c.args.plant.now rule)) table_rules c.loop-rule.rule-index _ c.loop-rule.found c.push_rule.new.found c.loop-rule-test.true c.loop-rule.invariant c.in_ok-push_rule.ensures
+    flat_map-grows
+    (λ rule. broken_at rule (count_in_plant c.args.plant.now (places_of rule))
+    (breaks_table c.args.plant.now rule)) table_rules
+    c.loop-rule.rule-index _ c.loop-rule.found c.push_rule.new.found c.loop-rule-test.true
+    c.loop-rule.invariant c.in_ok-push_rule.ensures

@@ -10,7 +10,14 @@ use Rattle.ilk_base.proofs.Tested.{list_all-more}
 
 pub loop-i-preserved : goal.loop-i-preserved
 loop-i-preserved c = record {
-  rest = rw c.in_ok-push.ensures.ok (sym (in_order-more (route_of c.args.version) c.loop-i.routes _ _ c.loop-i.i (view c.index-values-i.result) c.in_ok-route.route (entries-left c.args.values.now c.loop-i.i c.index-values-i.result c.loop-i-test.true c.index-values-i.is) c.in_ok-route.ensures.exact) ∙ c.loop-i.invariant.rest);
+  rest = rw c.in_ok-push.ensures.ok
+      (sym
+      (in_order-more (route_of c.args.version) c.loop-i.routes _ _ c.loop-i.i
+      (view c.index-values-i.result) c.in_ok-route.route
+      (entries-left c.args.values.now c.loop-i.i c.index-values-i.result c.loop-i-test.true
+      c.index-values-i.is)
+      c.in_ok-route.ensures.exact)
+      ∙ c.loop-i.invariant.rest);
   count = omega (arith, simp length-append at (ap length c.in_ok-push.ensures.ok));
   named = rw c.in_ok-push.ensures.ok (list_all-more route_has_names c.loop-i.routes c.in_ok-route.route c.loop-i.invariant.named c.in_ok-route.ensures.named);
   limits = rw c.in_ok-push.ensures.ok (list_all-more route_has_limits c.loop-i.routes c.in_ok-route.route c.loop-i.invariant.limits c.in_ok-route.ensures.limits);

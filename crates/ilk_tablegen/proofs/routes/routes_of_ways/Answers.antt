@@ -7,11 +7,22 @@ use Rattle.ilk_tablegen.proofs.routes.routes_of_ways.Goals as goal
 
 pub loop-n-preserved : goal.loop-n-preserved
 loop-n-preserved c =
-    made-more (λ numbered. route_by_flags c.args.plant.now c.in_ok-flags.flags numbered.0 numbered.1) c.as_slice-way-items.result.now c.loop-n.n c.way-item.result c.loop-n.routes c.push.new.self c.loop-n-test.true c.loop-n.invariant (c.in_ok-push.ensures.ok ∙ ap (λ r. c.loop-n.routes ++ r ∷ []) (c.in_ok-route_of_way.ensures ∙ ap (route_by_flags c.args.plant.now c.in_ok-flags.flags c.loop-n.n) c.way-item.is))
+    made-more (λ numbered. route_by_flags c.args.plant.now c.in_ok-flags.flags numbered.0 numbered.1)
+    c.as_slice-way-items.result.now c.loop-n.n c.way-item.result c.loop-n.routes c.push.new.self
+    c.loop-n-test.true c.loop-n.invariant
+    (c.in_ok-push.ensures.ok
+    ∙ ap (λ r. c.loop-n.routes ++ r ∷ [])
+    (c.in_ok-route_of_way.ensures
+    ∙ ap (route_by_flags c.args.plant.now c.in_ok-flags.flags c.loop-n.n) c.way-item.is))
 
 pub returns-clause-exact : goal.returns-clause-exact
 returns-clause-exact c =
-    routes-told c.args.plant.now c.is_sound.ensures c.sections.result c.args.ways.now c.as_slice-way-items.result.now c.in_ok-flags.flags c.loop-n.routes c.sections.ensures c.requires.all c.as_slice-way-items.ensures c.in_ok-flags.ensures (taken-all (λ numbered. route_by_flags c.args.plant.now c.in_ok-flags.flags numbered.0 numbered.1) c.as_slice-way-items.result.now c.loop-n.n c.loop-n.routes (omega (arith, c.loop-n-test.false)) c.loop-n.invariant)
+    routes-told c.args.plant.now c.is_sound.ensures c.sections.result c.args.ways.now
+    c.as_slice-way-items.result.now c.in_ok-flags.flags c.loop-n.routes c.sections.ensures c.requires.all
+    c.as_slice-way-items.ensures c.in_ok-flags.ensures
+    (taken-all (λ numbered. route_by_flags c.args.plant.now c.in_ok-flags.flags numbered.0 numbered.1)
+    c.as_slice-way-items.result.now c.loop-n.n c.loop-n.routes (omega (arith, c.loop-n-test.false))
+    c.loop-n.invariant)
 
 pub returns-clause-few : goal.returns-clause-few
 returns-clause-few c =

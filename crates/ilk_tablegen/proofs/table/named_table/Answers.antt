@@ -5,4 +5,9 @@ use Rattle.ilk_tablegen.proofs.table.named_table.Goals as goal
 
 pub loop-n-preserved : goal.loop-n-preserved
 loop-n-preserved c =
-    made-more (λ numbered. named_route c.args.plant.now numbered.0 numbered.1) c.as_slice-route-items.result.now c.loop-n.n c.route-item.result c.loop-n.drafts c.push.new.self c.loop-n-test.true c.loop-n.invariant (c.in_ok-push.ensures.ok ∙ ap (λ r. c.loop-n.drafts ++ r ∷ []) (c.in_ok-named_route.ensures ∙ ap (named_route c.args.plant.now c.loop-n.n) c.route-item.is))
+    made-more (λ numbered. named_route c.args.plant.now numbered.0 numbered.1)
+    c.as_slice-route-items.result.now c.loop-n.n c.route-item.result c.loop-n.drafts c.push.new.self
+    c.loop-n-test.true c.loop-n.invariant
+    (c.in_ok-push.ensures.ok
+    ∙ ap (λ r. c.loop-n.drafts ++ r ∷ [])
+    (c.in_ok-named_route.ensures ∙ ap (named_route c.args.plant.now c.loop-n.n) c.route-item.is))

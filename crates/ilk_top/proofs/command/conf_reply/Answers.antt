@@ -12,25 +12,50 @@ use Rattle.ilk_top.proofs.command.conf_reply.Goals as goal
 pub returns-in-Ok-clause-reply : goal.returns-in-Ok-clause-reply
 returns-in-Ok-clause-reply g c =
     let Found : Result PlantLists Refusals → Type 0 = λ found. IfSome (g.C.Source.left c.args.conf.now) (λ x. found ≡ plant_of c.args.stages x) in
-    answer-told c.args.command.now c.args.stages (g.C.Source.left c.args.conf.now) (g.D.Source.left c.args.extra.now) (Ok c.in-Ok.plant) c.plant_reply-reply.result c.requires.stages (subst Found c.in-Ok.is c.in_ok-plant.ensures.found) c.plant_reply-reply.ensures.reply
+    answer-told c.args.command.now c.args.stages (g.C.Source.left c.args.conf.now)
+    (g.D.Source.left c.args.extra.now) (Ok c.in-Ok.plant) c.plant_reply-reply.result c.requires.stages
+    (subst Found c.in-Ok.is c.in_ok-plant.ensures.found) c.plant_reply-reply.ensures.reply
 
 pub returns-in-Ok-clause-strict : goal.returns-in-Ok-clause-strict
 returns-in-Ok-clause-strict g c =
     let Found : Result PlantLists Refusals → Type 0 = λ found. IfSome (g.C.Source.left c.args.conf.now) (λ x. found ≡ plant_of c.args.stages x) in
-    strictly-right c.args.command.now c.args.stages (g.C.Source.left c.args.conf.now) (g.D.Source.left c.args.extra.now) (Ok c.in-Ok.plant) c.plant_reply-reply.result c.requires.stages c.requires.options (subst Found c.in-Ok.is c.in_ok-plant.ensures.found) (record { plant = c.is_sound.ensures; walks = c.is_of_drafts.ensures.walks; drafts = c.is_of_drafts.ensures.drafts }) c.plant_reply-reply.ensures.reply
+    strictly-right c.args.command.now c.args.stages (g.C.Source.left c.args.conf.now)
+    (g.D.Source.left c.args.extra.now) (Ok c.in-Ok.plant) c.plant_reply-reply.result c.requires.stages
+    c.requires.options (subst Found c.in-Ok.is c.in_ok-plant.ensures.found)
+    (record {
+      plant = c.is_sound.ensures;
+      walks = c.is_of_drafts.ensures.walks;
+      drafts = c.is_of_drafts.ensures.drafts;
+    })
+    c.plant_reply-reply.ensures.reply
 
 pub returns-in-Ok-clause-handled : goal.returns-in-Ok-clause-handled
 returns-in-Ok-clause-handled g c =
     let Found : Result PlantLists Refusals → Type 0 = λ found. IfSome (g.C.Source.left c.args.conf.now) (λ x. found ≡ plant_of c.args.stages x) in
-    conf-first _ _ g.D.Source.left g.D.Source.faults (plan_of c.args.command.now) c.args.stages _ _ c.requires.stages _ _ (is_ok c.plant_reply-reply.result) _ _ (λ e. cc) c.in_ok-plant.ensures.handled (read-needed g.D.Source.left _ _ _ _ _ (comes-maybe (plan_of c.args.command.now) c.args.stages (g.C.Source.left c.args.conf.now) c.in-Ok.plant c.requires.stages (subst Found c.in-Ok.is c.in_ok-plant.ensures.found)) c.plant_reply-reply.ensures.handled.read) c.plant_reply-reply.ensures.handled.failed c.plant_reply-reply.ensures.handled.rises
+    conf-first _ _ g.D.Source.left g.D.Source.faults (plan_of c.args.command.now) c.args.stages _ _
+    c.requires.stages _ _ (is_ok c.plant_reply-reply.result) _ _ (λ e. cc) c.in_ok-plant.ensures.handled
+    (read-needed g.D.Source.left _ _ _ _ _
+    (comes-maybe (plan_of c.args.command.now) c.args.stages (g.C.Source.left c.args.conf.now)
+    c.in-Ok.plant c.requires.stages (subst Found c.in-Ok.is c.in_ok-plant.ensures.found))
+    c.plant_reply-reply.ensures.handled.read)
+    c.plant_reply-reply.ensures.handled.failed c.plant_reply-reply.ensures.handled.rises
 
 -- a refusal keeps the second source from being read
 pub returns-in_ok-reply-in-Err-clause-handled : goal.returns-in_ok-reply-in-Err-clause-handled
 returns-in_ok-reply-in-Err-clause-handled g c =
     let Found : Result PlantLists Refusals → Type 0 = λ found. IfSome (g.C.Source.left c.args.conf.now) (λ x. found ≡ plant_of c.args.stages x) in
-    conf-first _ _ g.D.Source.left g.D.Source.faults (plan_of c.args.command.now) c.args.stages _ _ c.requires.stages _ _ true _ _ (λ e. cc) c.in_ok-plant.ensures.handled (untouched g.D.Source.left _ _ true c.args.extra.now (λ e. comes-not (plan_of c.args.command.now) c.args.stages (g.C.Source.left c.args.conf.now) c.in-Err.refusals c.requires.stages (subst Found c.in-Err.is c.in_ok-plant.ensures.found))) (λ f. cc) (rises-not _ _)
+    conf-first _ _ g.D.Source.left g.D.Source.faults (plan_of c.args.command.now) c.args.stages _ _
+    c.requires.stages _ _ true _ _ (λ e. cc) c.in_ok-plant.ensures.handled
+    (untouched g.D.Source.left _ _ true c.args.extra.now
+    (λ e. comes-not (plan_of c.args.command.now) c.args.stages (g.C.Source.left c.args.conf.now)
+    c.in-Err.refusals c.requires.stages (subst Found c.in-Err.is c.in_ok-plant.ensures.found)))
+    (λ f. cc) (rises-not _ _)
 
 pub returns-in_ok-reply-in-Err-clause-strict : goal.returns-in_ok-reply-in-Err-clause-strict
 returns-in_ok-reply-in-Err-clause-strict g c =
     let Found : Result PlantLists Refusals → Type 0 = λ found. IfSome (g.C.Source.left c.args.conf.now) (λ x. found ≡ plant_of c.args.stages x) in
-    strictly-right {E = NoReply} c.args.command.now c.args.stages (g.C.Source.left c.args.conf.now) (g.D.Source.left c.args.extra.now) (Err c.in-Err.refusals) (Ok c.in_ok-reply-in-Err.field-0) c.requires.stages c.requires.options (subst Found c.in-Err.is c.in_ok-plant.ensures.found) tt (some-refused c.args.command.now c.in-Err.refusals (g.D.Source.left c.args.extra.now) c.in_ok-reply-in-Err.field-0 c.in_ok-reply-in-Err.ensures.reply)
+    strictly-right {E = NoReply} c.args.command.now c.args.stages (g.C.Source.left c.args.conf.now)
+    (g.D.Source.left c.args.extra.now) (Err c.in-Err.refusals) (Ok c.in_ok-reply-in-Err.field-0)
+    c.requires.stages c.requires.options (subst Found c.in-Err.is c.in_ok-plant.ensures.found) tt
+    (some-refused c.args.command.now c.in-Err.refusals (g.D.Source.left c.args.extra.now)
+    c.in_ok-reply-in-Err.field-0 c.in_ok-reply-in-Err.ensures.reply)

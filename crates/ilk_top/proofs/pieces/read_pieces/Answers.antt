@@ -14,7 +14,9 @@ returns-then-count-limit-clause-taken g c =
 
 pub loop-n-preserved : goal.loop-n-preserved
 loop-n-preserved g c = record {
-  fed = Fed-more _ _ _ _ _ _ c.loop-n.count _ _ c.in-Ok.n c.loop-n.invariant.fed c.in-Ok.ensures.taken (length-take-le c.in-Ok.n _ c.in-Ok.ensures.within) (take-append-le c.in-Ok.n _ _ c.in-Ok.ensures.within) (went-well _ c.feed.result (cc) c.feed.ensures);
+  fed = Fed-more _ _ _ _ _ _ c.loop-n.count _ _ c.in-Ok.n c.loop-n.invariant.fed c.in-Ok.ensures.taken
+      (length-take-le c.in-Ok.n _ c.in-Ok.ensures.within)
+      (take-append-le c.in-Ok.n _ _ c.in-Ok.ensures.within) (went-well _ c.feed.result (cc) c.feed.ensures);
   within = grind arith;
   unraised = c.in-Ok.ensures.unraised ∙ c.loop-n.invariant.unraised;
 }

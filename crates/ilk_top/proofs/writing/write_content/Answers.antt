@@ -9,7 +9,12 @@ returns-then-is_err-clause-prefix g c =
 
 pub loop-piece-preserved : goal.loop-piece-preserved
 loop-piece-preserved g c =
-    let more : Written (g.K.Sink.written c.args.sink.now) (g.K.Sink.written c.write_all.new.sink) c.args.content.now c.take-count.new.self = Written-front _ _ _ _ _ _ _ c.loop-piece.invariant.written (front-taken c.take-count.result c.loop-piece.content _ _ c.take-count.ensures.bytes c.take-count.ensures.rest) (went-well _ c.write_all.result (cc) c.write_all.ensures.whole) in record {
+    let more : Written (g.K.Sink.written c.args.sink.now) (g.K.Sink.written c.write_all.new.sink)
+    c.args.content.now c.take-count.new.self =
+    Written-front _ _ _ _ _ _ _ c.loop-piece.invariant.written
+    (front-taken c.take-count.result c.loop-piece.content _ _ c.take-count.ensures.bytes
+    c.take-count.ensures.rest)
+    (went-well _ c.write_all.result (cc) c.write_all.ensures.whole) in record {
       written = more;
       prefix = Written-prefix _ _ _ _ more;
       unraised = went-well _ c.write_all.result (cc) c.write_all.ensures.unraised ∙ c.loop-piece.invariant.unraised;

@@ -12,4 +12,8 @@ returns c =
     let n = c.args.steps in
     let below = holds_below (tree_of c.args.goal.now.wellformed) (n + 1) in
     let f = c.args.cnf.now in
-    demands-then (start ∷ below) (fails_in n (all_of (trees_of c.args.goal.now.families)) ∷ []) tables f c.demand_below.new.cnf c.demand_violated.new.cnf (demands-then (start ∷ []) below tables f c.demand_in.new.cnf c.demand_below.new.cnf c.in_ok-demand_in.ensures.made c.in_ok-demand_below.ensures.made) c.in_ok-demand_violated.ensures
+    demands-then (start ∷ below) (fails_in n (all_of (trees_of c.args.goal.now.families)) ∷ []) tables f
+    c.demand_below.new.cnf c.demand_violated.new.cnf
+    (demands-then (start ∷ []) below tables f c.demand_in.new.cnf c.demand_below.new.cnf
+    c.in_ok-demand_in.ensures.made c.in_ok-demand_below.ensures.made)
+    c.in_ok-demand_violated.ensures

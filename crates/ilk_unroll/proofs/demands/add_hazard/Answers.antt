@@ -11,4 +11,8 @@ returns c =
     let n = c.args.steps in
     let below = holds_below (tree_of c.args.goal.now.wellformed) n in
     let f = c.args.cnf.now in
-    demands-then (start ∷ below) (holds_in n (tree_of c.args.goal.now.hazard) ∷ []) tables f c.demand_below.new.cnf c.demand_in-2.new.cnf (demands-then (start ∷ []) below tables f c.demand_in.new.cnf c.demand_below.new.cnf c.in_ok-demand_in.ensures.made c.in_ok-demand_below.ensures.made) c.in_ok-demand_in-2.ensures.made
+    demands-then (start ∷ below) (holds_in n (tree_of c.args.goal.now.hazard) ∷ []) tables f
+    c.demand_below.new.cnf c.demand_in-2.new.cnf
+    (demands-then (start ∷ []) below tables f c.demand_in.new.cnf c.demand_below.new.cnf
+    c.in_ok-demand_in.ensures.made c.in_ok-demand_below.ensures.made)
+    c.in_ok-demand_in-2.ensures.made

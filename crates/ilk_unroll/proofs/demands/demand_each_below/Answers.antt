@@ -34,5 +34,10 @@ loop-form-preserved c =
     record {
       within = c.in_ok-demand_below.ensures.within;
       valid = (and_parts (valid_in tables (tree_of form)) (list_all (valid_in tables) (map tree_of rest)) (sym (ap (λ (fs : List Form). list_all (valid_in tables) (map tree_of fs)) split) ∙ c.loop-form.invariant.valid)).1;
-      made = demands-rest (holds_below (tree_of form) count) (flat_map (λ t. holds_below t count) (map tree_of rest)) (flat_map (λ t. holds_below t count) (map tree_of (drop i all))) tables c.loop-form.cnf c.demand_below.new.cnf end (ap (λ (fs : List Form). flat_map (λ t. holds_below t count) (map tree_of fs)) split) c.in_ok-demand_below.ensures.made c.loop-form.invariant.made;
+      made = demands-rest (holds_below (tree_of form) count)
+          (flat_map (λ t. holds_below t count) (map tree_of rest))
+          (flat_map (λ t. holds_below t count) (map tree_of (drop i all))) tables c.loop-form.cnf
+          c.demand_below.new.cnf end
+          (ap (λ (fs : List Form). flat_map (λ t. holds_below t count) (map tree_of fs)) split)
+          c.in_ok-demand_below.ensures.made c.loop-form.invariant.made;
     }

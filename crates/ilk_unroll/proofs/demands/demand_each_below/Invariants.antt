@@ -12,5 +12,12 @@ invariant-loop-form l =
     record {
       within : tables_in l.cnf.vars l.tables ≡ true;
       valid : list_all (valid_in l.tables) (map tree_of (drop l.form-index l.forms)) ≡ true;
-      made : with_part l.cnf (demands_part l.tables (flat_map (λ t. holds_below t l.count) (map tree_of (drop l.form-index l.forms))) l.cnf.vars) ≡ with_part l.fn.cnf (demands_part l.tables (flat_map (λ t. holds_below t l.count) (map tree_of l.forms)) l.fn.cnf.vars);
+      made :
+          with_part l.cnf
+          (demands_part l.tables
+          (flat_map (λ t. holds_below t l.count) (map tree_of (drop l.form-index l.forms)))
+          l.cnf.vars)
+          ≡ with_part l.fn.cnf
+          (demands_part l.tables (flat_map (λ t. holds_below t l.count) (map tree_of l.forms))
+          l.fn.cnf.vars);
     }

@@ -39,4 +39,12 @@ returns c =
     let t = all_of (more (negation first) (trees_of c.args.forms.now)) in
     let f = c.args.cnf.now in
     let at : slice_get tables c.args.copy ≡ Some c.at-table.result.now = ap (λ (i : ℕ). slice_get tables i) (sym c.from.ensures) ∙ c.at-table.ensures in
-    one-made tables (fails_in c.args.copy t) f c.holds_or_some_fails.new.cnf (c.in_ok-holds_or_some_fails.ensures.made ∙ ap (λ (fs : List Form). with_part f (violated_part c.at-table.result.now (all_of (more (negation first) (trees_of fs))) f.vars)) c.as_slice.ensures ∙ ap (λ (table : List Column). with_part f (violated_part table t f.vars)) (sym (table-is tables c.args.copy c.at-table.result.now at)))
+    one-made tables (fails_in c.args.copy t) f c.holds_or_some_fails.new.cnf
+    (c.in_ok-holds_or_some_fails.ensures.made
+    ∙ ap
+    (λ (fs : List Form). with_part f
+    (violated_part c.at-table.result.now (all_of (more (negation first) (trees_of fs)))
+    f.vars))
+    c.as_slice.ensures
+    ∙ ap (λ (table : List Column). with_part f (violated_part table t f.vars))
+    (sym (table-is tables c.args.copy c.at-table.result.now at)))

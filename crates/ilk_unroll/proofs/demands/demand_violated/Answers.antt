@@ -26,4 +26,11 @@ returns c =
     let t = all_of (trees_of c.args.forms.now) in
     let f = c.args.cnf.now in
     let at : slice_get tables c.args.copy ≡ Some c.at.result.now = ap (λ (i : ℕ). slice_get tables i) (sym c.from.ensures) ∙ c.at.ensures in
-    one-made tables (fails_in c.args.copy t) f c.some_fails.new.cnf (c.in_ok-some_fails.ensures.made ∙ ap (λ (fs : List Form). with_part f (violated_part c.at.result.now (all_of (trees_of fs)) f.vars)) c.as_slice.ensures ∙ ap (λ (table : List Column). with_part f (violated_part table t f.vars)) (sym (table-is tables c.args.copy c.at.result.now at)))
+    one-made tables (fails_in c.args.copy t) f c.some_fails.new.cnf
+    (c.in_ok-some_fails.ensures.made
+    ∙ ap
+    (λ (fs : List Form). with_part f
+    (violated_part c.at.result.now (all_of (trees_of fs)) f.vars))
+    c.as_slice.ensures
+    ∙ ap (λ (table : List Column). with_part f (violated_part table t f.vars))
+    (sym (table-is tables c.args.copy c.at.result.now at)))

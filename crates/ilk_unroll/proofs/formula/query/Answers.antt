@@ -53,7 +53,9 @@ add_demands-requires-clause-last c =
 
 pub returns-clause-formula : goal.returns-clause-formula
 returns-clause-formula c =
-    query_made (system_tree c.args.system.now) (goal_tree c.args.goal.now) c.args.q c.steps.result c.unroll.new.cnf c.add_demands.new.cnf c.in_ok-unrolled.unrolled.tables c.steps.ensures c.in_ok-unrolled.ensures.tables c.in_ok-unrolled.ensures.made c.in_ok-add_demands.ensures
+    query_made (system_tree c.args.system.now) (goal_tree c.args.goal.now) c.args.q c.steps.result
+    c.unroll.new.cnf c.add_demands.new.cnf c.in_ok-unrolled.unrolled.tables c.steps.ensures
+    c.in_ok-unrolled.ensures.tables c.in_ok-unrolled.ensures.made c.in_ok-add_demands.ensures
 
 pub returns-clause-sound : goal.returns-clause-sound
 returns-clause-sound c =

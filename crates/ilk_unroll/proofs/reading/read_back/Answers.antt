@@ -11,25 +11,41 @@ unroll-requires-clause-steps c = let few = few-wanted c.args.q c.requires.wanted
 pub read_values-requires-clause-reached : goal.read_values-requires-clause-reached
 read_values-requires-clause-reached c =
     let s = system_tree c.args.system.now in
-    (reads_as s (goal_tree c.args.goal.now) c.args.q c.args.a.now c.steps.result c.in_ok-unrolled.unrolled.first c.in_ok-unrolled.unrolled.choices c.requires.system (ranges_fit-small s.ranges c.in_ok-unrolled.ensures.bytes) c.requires.goal c.requires.sized c.requires.satisfied c.steps.ensures c.in_ok-unrolled.ensures.first c.in_ok-unrolled.ensures.choices).reached
+    (reads_as s (goal_tree c.args.goal.now) c.args.q c.args.a.now c.steps.result
+    c.in_ok-unrolled.unrolled.first c.in_ok-unrolled.unrolled.choices c.requires.system
+    (ranges_fit-small s.ranges c.in_ok-unrolled.ensures.bytes) c.requires.goal c.requires.sized
+    c.requires.satisfied c.steps.ensures c.in_ok-unrolled.ensures.first
+    c.in_ok-unrolled.ensures.choices).reached
 
 pub read_values-requires-clause-told : goal.read_values-requires-clause-told
 read_values-requires-clause-told c =
     let s = system_tree c.args.system.now in
-    let r = reads_as s (goal_tree c.args.goal.now) c.args.q c.args.a.now c.steps.result c.in_ok-unrolled.unrolled.first c.in_ok-unrolled.unrolled.choices c.requires.system (ranges_fit-small s.ranges c.in_ok-unrolled.ensures.bytes) c.requires.goal c.requires.sized c.requires.satisfied c.steps.ensures c.in_ok-unrolled.ensures.first c.in_ok-unrolled.ensures.choices in
+    let r = reads_as s (goal_tree c.args.goal.now) c.args.q c.args.a.now c.steps.result
+    c.in_ok-unrolled.unrolled.first c.in_ok-unrolled.unrolled.choices c.requires.system
+    (ranges_fit-small s.ranges c.in_ok-unrolled.ensures.bytes) c.requires.goal c.requires.sized
+    c.requires.satisfied c.steps.ensures c.in_ok-unrolled.ensures.first c.in_ok-unrolled.ensures.choices
+    in
     (r.first, r.in_range, r.have)
 
 pub read_rules-requires-clause-chosen : goal.read_rules-requires-clause-chosen
 read_rules-requires-clause-chosen c =
     let s = system_tree c.args.system.now in
-    let r = reads_as s (goal_tree c.args.goal.now) c.args.q c.args.a.now c.steps.result c.in_ok-unrolled.unrolled.first c.in_ok-unrolled.unrolled.choices c.requires.system (ranges_fit-small s.ranges c.in_ok-unrolled.ensures.bytes) c.requires.goal c.requires.sized c.requires.satisfied c.steps.ensures c.in_ok-unrolled.ensures.first c.in_ok-unrolled.ensures.choices in
+    let r = reads_as s (goal_tree c.args.goal.now) c.args.q c.args.a.now c.steps.result
+    c.in_ok-unrolled.unrolled.first c.in_ok-unrolled.unrolled.choices c.requires.system
+    (ranges_fit-small s.ranges c.in_ok-unrolled.ensures.bytes) c.requires.goal c.requires.sized
+    c.requires.satisfied c.steps.ensures c.in_ok-unrolled.ensures.first c.in_ok-unrolled.ensures.choices
+    in
     (r.rules, r.chosen)
 
 pub returns-clause-run : goal.returns-clause-run
 returns-clause-run c =
     let s = system_tree c.args.system.now in
     let g = goal_tree c.args.goal.now in
-    let r = reads_as s g c.args.q c.args.a.now c.steps.result c.in_ok-unrolled.unrolled.first c.in_ok-unrolled.unrolled.choices c.requires.system (ranges_fit-small s.ranges c.in_ok-unrolled.ensures.bytes) c.requires.goal c.requires.sized c.requires.satisfied c.steps.ensures c.in_ok-unrolled.ensures.first c.in_ok-unrolled.ensures.choices in
+    let r = reads_as s g c.args.q c.args.a.now c.steps.result c.in_ok-unrolled.unrolled.first
+    c.in_ok-unrolled.unrolled.choices c.requires.system
+    (ranges_fit-small s.ranges c.in_ok-unrolled.ensures.bytes) c.requires.goal c.requires.sized
+    c.requires.satisfied c.steps.ensures c.in_ok-unrolled.ensures.first c.in_ok-unrolled.ensures.choices
+    in
     let first = c.in_ok-first.ensures r.first r.in_range r.have in
     let rules = c.in_ok-rules.ensures r.rules r.chosen in
     rw (first, rules) r.wanted
@@ -38,7 +54,11 @@ pub returns-clause-assignment : goal.returns-clause-assignment
 returns-clause-assignment c =
     let s = system_tree c.args.system.now in
     let g = goal_tree c.args.goal.now in
-    let r = reads_as s g c.args.q c.args.a.now c.steps.result c.in_ok-unrolled.unrolled.first c.in_ok-unrolled.unrolled.choices c.requires.system (ranges_fit-small s.ranges c.in_ok-unrolled.ensures.bytes) c.requires.goal c.requires.sized c.requires.satisfied c.steps.ensures c.in_ok-unrolled.ensures.first c.in_ok-unrolled.ensures.choices in
+    let r = reads_as s g c.args.q c.args.a.now c.steps.result c.in_ok-unrolled.unrolled.first
+    c.in_ok-unrolled.unrolled.choices c.requires.system
+    (ranges_fit-small s.ranges c.in_ok-unrolled.ensures.bytes) c.requires.goal c.requires.sized
+    c.requires.satisfied c.steps.ensures c.in_ok-unrolled.ensures.first c.in_ok-unrolled.ensures.choices
+    in
     let first = c.in_ok-first.ensures r.first r.in_range r.have in
     let rules = c.in_ok-rules.ensures r.rules r.chosen in
     rw (first, rules) r.is

@@ -39,7 +39,9 @@ loop-choice-preserved c =
     let all = c.as_slice-choice-items.result.now in
     let i = c.loop-choice.choice-index in
     let choice : Choice = get_or all i none in
-    λ rules h. rules-next c.args.a.now choice (drop i all) (drop (i + 1) all) c.chosen_rule.result c.loop-choice.rules c.push.new.self rules (drop_more all i none c.loop-choice-test.true) c.chosen_rule.ensures.only c.in_ok-push.ensures.ok (c.loop-choice.invariant rules h)
+    λ rules h. rules-next c.args.a.now choice (drop i all) (drop (i + 1) all) c.chosen_rule.result
+    c.loop-choice.rules c.push.new.self rules (drop_more all i none c.loop-choice-test.true)
+    c.chosen_rule.ensures.only c.in_ok-push.ensures.ok (c.loop-choice.invariant rules h)
 
 pub returns : goal.returns
 returns c =

@@ -28,14 +28,22 @@ pub value_of-requires-clause-reached : goal.value_of-requires-clause-reached
 value_of-requires-clause-reached c =
     let all = c.as_slice-range-items.result.now in
     let i = c.loop-range.range-index in
-    let fits = (bits_reach c.loop-range.first (get_or all i 0) c.bits-count.result (c.args.from + total_bits c.args.ranges.now) (drop i all) (drop (i + 1) all) (drop_more all i 0 c.loop-range-test.true) c.bits-count.ensures.count c.loop-range.invariant.reached).0 in
+    let fits =
+    (bits_reach c.loop-range.first (get_or all i 0) c.bits-count.result
+    (c.args.from + total_bits c.args.ranges.now) (drop i all) (drop (i + 1) all)
+    (drop_more all i 0 c.loop-range-test.true) c.bits-count.ensures.count
+    c.loop-range.invariant.reached).0 in
     omega (arith, fits, c.requires.reached)
 
 pub overflow_add-first : goal.overflow_add-first
 overflow_add-first c =
     let all = c.as_slice-range-items.result.now in
     let i = c.loop-range.range-index in
-    let fits = (bits_reach c.loop-range.first (get_or all i 0) c.bits-count.result (c.args.from + total_bits c.args.ranges.now) (drop i all) (drop (i + 1) all) (drop_more all i 0 c.loop-range-test.true) c.bits-count.ensures.count c.loop-range.invariant.reached).1 in
+    let fits =
+    (bits_reach c.loop-range.first (get_or all i 0) c.bits-count.result
+    (c.args.from + total_bits c.args.ranges.now) (drop i all) (drop (i + 1) all)
+    (drop_more all i 0 c.loop-range-test.true) c.bits-count.ensures.count
+    c.loop-range.invariant.reached).1 in
     omega (arith, fits, c.requires.numbered)
 
 pub value_of-requires-clause-satisfied : goal.value_of-requires-clause-satisfied
@@ -59,7 +67,11 @@ loop-range-preserved c =
     record {
       from_1 = omega arith;
       reached = (bits_reach c.loop-range.first range c.bits-count.result (c.args.from + total_bits c.args.ranges.now) (drop i all) (drop (i + 1) all) split c.bits-count.ensures.count c.loop-range.invariant.reached).1;
-      left = λ values h k. left-next c.args.a.now c.loop-range.first range c.bits-count.result c.value_of.result (drop i all) (drop (i + 1) all) c.loop-range.values c.push.new.self values split c.bits-count.ensures.count enough c.value_of.ensures.bits c.value_of.ensures.below c.in_ok-push.ensures.ok (c.loop-range.invariant.left values h k);
+      left =
+          λ values h k. left-next c.args.a.now c.loop-range.first range c.bits-count.result c.value_of.result
+          (drop i all) (drop (i + 1) all) c.loop-range.values c.push.new.self values split
+          c.bits-count.ensures.count enough c.value_of.ensures.bits c.value_of.ensures.below
+          c.in_ok-push.ensures.ok (c.loop-range.invariant.left values h k);
     }
 
 pub returns : goal.returns

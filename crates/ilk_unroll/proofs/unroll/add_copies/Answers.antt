@@ -16,7 +16,10 @@ loop-preserved c =
     let more : suc i * w ≡ i * w + w = suc-mul i w in
     let was : c.loop.before ≡ suc i * w = c.loop.invariant.before ∙ ap (λ (k : ℕ). k * w) left in
     let now : c.loop.before - c.args.width ≡ i * w = omega (arith, more, was, c.requires.width) in
-    let step = copies-step c.loop.cnf c.add_copy.new.cnf ranges c.loop.tables (copies_part ranges c.args.count 0).tables c.in_ok-add_copy.field-0 i (c.args.count - c.loop.counter) (c.loop.before - c.args.width) left now c.loop.invariant.tables c.in_ok-add_copy.ensures.table c.in_ok-add_copy.ensures.made in
+    let step = copies-step c.loop.cnf c.add_copy.new.cnf ranges c.loop.tables
+    (copies_part ranges c.args.count 0).tables c.in_ok-add_copy.field-0 i (c.args.count - c.loop.counter)
+    (c.loop.before - c.args.width) left now c.loop.invariant.tables c.in_ok-add_copy.ensures.table
+    c.in_ok-add_copy.ensures.made in
     record {
       vars = ap (λ (f : Formula). f.vars) c.in_ok-add_copy.ensures.made ∙ c.loop.invariant.vars;
       before = now;

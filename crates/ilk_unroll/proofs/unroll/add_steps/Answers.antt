@@ -48,12 +48,23 @@ loop-i-preserved c =
     let after : i + 1 - 1 ≡ i = omega arith in
     let rest = drop (i + 1) all in
     let there : drop i all ≡ next ∷ rest = drop_more all i next (slice_get_within all i next c.at-in-loop-i.ensures) ∙ ap (λ (y : List Column). y ∷ rest) (get_or_from_slice_get all i next next c.at-in-loop-i.ensures) in
-    let split : drop (i - 1) all ≡ now ∷ next ∷ rest = drop_more all (i - 1) now (slice_get_within all (i - 1) now c.at.ensures) ∙ ap (λ (y : List Column). y ∷ drop (i - 1 + 1) all) (get_or_from_slice_get all (i - 1) now now c.at.ensures) ∙ ap (λ (k : ℕ). now ∷ drop k all) before ∙ ap (λ (ts : List (List Column)). now ∷ ts) there in
+    let split : drop (i - 1) all ≡ now ∷ next ∷ rest =
+    drop_more all (i - 1) now (slice_get_within all (i - 1) now c.at.ensures)
+    ∙ ap (λ (y : List Column). y ∷ drop (i - 1 + 1) all)
+    (get_or_from_slice_get all (i - 1) now now c.at.ensures)
+    ∙ ap (λ (k : ℕ). now ∷ drop k all) before ∙ ap (λ (ts : List (List Column)). now ∷ ts) there in
     let seen : next ∷ rest ≡ drop (i + 1 - 1) all = sym there ∙ ap (λ (k : ℕ). drop k all) (sym after) in
     let made = c.in_ok-choice.ensures.made in
     let long : length s.rules ≡ length rules = sym (length-map s.rules rule_tree) in
-    let step = steps-next g h rules c.loop-i.choices (step_choices rules all f.vars) c.in_ok-choice.choice (with_part f (steps_part rules all f.vars)) (drop (i - 1) all) now next rest (length s.rules) split long c.in_ok-choice.ensures.choice made c.loop-i.invariant.choices c.loop-i.invariant.made in
-    let fits = one-fits now next s.ranges rules g.vars (within-at all g.vars (i - 1) now c.loop-i.invariant.within c.at.ensures) (within-at all g.vars i next c.loop-i.invariant.within c.at-in-loop-i.ensures) (ranges-at all s.ranges (i - 1) now c.requires.ranges c.at.ensures) (ranges-at all s.ranges i next c.requires.ranges c.at-in-loop-i.ensures) (rules-valid (system_tree s) c.requires.valid) in
+    let step = steps-next g h rules c.loop-i.choices (step_choices rules all f.vars) c.in_ok-choice.choice
+    (with_part f (steps_part rules all f.vars)) (drop (i - 1) all) now next rest (length s.rules) split
+    long c.in_ok-choice.ensures.choice made c.loop-i.invariant.choices c.loop-i.invariant.made in
+    let fits = one-fits now next s.ranges rules g.vars
+    (within-at all g.vars (i - 1) now c.loop-i.invariant.within c.at.ensures)
+    (within-at all g.vars i next c.loop-i.invariant.within c.at-in-loop-i.ensures)
+    (ranges-at all s.ranges (i - 1) now c.requires.ranges c.at.ensures)
+    (ranges-at all s.ranges i next c.requires.ranges c.at-in-loop-i.ensures)
+    (rules-valid (system_tree s) c.requires.valid) in
     let vars : h.vars ≡ (step_part rules now next g.vars).vars = ap (λ (u : Formula). u.vars) made in
     record {
       within = ap (λ (k : ℕ). tables_in k all) vars ∙ tables_in-more g.vars (step_part rules now next g.vars).vars all fits.low c.loop-i.invariant.within;

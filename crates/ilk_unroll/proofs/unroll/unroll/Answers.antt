@@ -37,7 +37,9 @@ seen : (c : In_ok-tables) → c.in_ok-tables.tables ≡ (copies_part c.args.syst
 seen c = c.in_ok-tables.ensures.tables ∙ ap (λ (k : ℕ). (copies_part c.args.system.now.ranges k 0).tables) (many c)
 
 made : (c : In_ok-tables) → c.add_copies.new.cnf ≡ with_part no_formula (copies_part c.args.system.now.ranges (suc c.args.steps) 0).part
-made c = copies_made c.args.system.now.ranges c.args.steps (c.args.steps + 1) c.args.cnf.now c.take_copies.new.cnf c.take_copy.new.cnf c.add_copies.new.cnf c.requires.empty c.in_ok-take_copies.ensures c.in_ok-take_copy.ensures.taken (many c) c.in_ok-tables.ensures.made
+made c = copies_made c.args.system.now.ranges c.args.steps (c.args.steps + 1) c.args.cnf.now
+    c.take_copies.new.cnf c.take_copy.new.cnf c.add_copies.new.cnf c.requires.empty
+    c.in_ok-take_copies.ensures c.in_ok-take_copy.ensures.taken (many c) c.in_ok-tables.ensures.made
 
 fit : (c : In_ok-tables) → ranges_fit c.args.system.now.ranges ≡ true
 fit c = ranges_fit-bytes c.args.system.now.ranges c.as_slice.result.now c.as_slice.ensures c.bytes_of-ranges.ensures.bytes

@@ -87,7 +87,9 @@ returns-else-replace_watch-2-clause-propagated c =
     let o = other-facts a c.args.c c.args.f m k c.requires.stands (ap (λ (x : ArenaLists). other_watch_of x c.args.c c.args.f) (sym c.arena.ensures.arena) ∙ c.other_watch-other.ensures) in
     let r = c.if-replace_watch-2.ensures.replaced in
     let b = c.replace_watch-in-None.new.clauses in
-    let n : c.number.result ≡ number_of_clause a c.args.c = c.number.ensures ∙ ap (λ (x : ArenaLists). number_of_clause x c.args.c) c.arena-else-replace_watch-2.ensures.arena ∙ number-same a b c.args.c c.replace_watch-in-None.ensures.clauses.references in
+    let n : c.number.result ≡ number_of_clause a c.args.c = c.number.ensures
+    ∙ ap (λ (x : ArenaLists). number_of_clause x c.args.c) c.arena-else-replace_watch-2.ensures.arena
+    ∙ number-same a b c.args.c c.replace_watch-in-None.ensures.clauses.references in
     let forced : is_reason a.clauses (lits_of es) m (c.number.result - 1) ≡ true = ap (λ (i : ℕ). is_reason a.clauses (lits_of es) m (i - 1)) n ∙ reason-of a c.args.c (lits_of es) m k o.known o.has r.1 in
     let P : TrailList → Type 0 = λ t. IsPropagated a.clauses es t.entries in
     subst P (sym c.assign.ensures) (propagated-one a.clauses es m (c.number.result - 1) forced)

@@ -24,7 +24,11 @@ returns-in-Stays-clause-shorter c =
     let f = c.args.walk.now.f in
     let next = c.next_watch-walk.ensures ∙ ap (λ (x : ArenaLists). after c.in-Some.c (chain_of x f)) c.arena.ensures.arena in
     let hand = at-hand _ _ _ _ _ _ c.requires.walking c.in-Some.is in
-    λ n. (step-stays c.args.clauses.now c.visit.new.clauses c.args.trail.now.entries c.visit.new.trail.entries f c.args.walk.now.before c.args.walk.now.next c.in-Some.c c.next_watch-walk.result hand c.in-Some.is next c.arena.ensures.clauses.arena c.in-Stays.ensures.visited c.visit.ensures.propagated.kept).smaller
+    λ n.
+    (step-stays c.args.clauses.now c.visit.new.clauses c.args.trail.now.entries
+    c.visit.new.trail.entries f c.args.walk.now.before c.args.walk.now.next c.in-Some.c
+    c.next_watch-walk.result hand c.in-Some.is next c.arena.ensures.clauses.arena
+    c.in-Stays.ensures.visited c.visit.ensures.propagated.kept).smaller
 
 pub returns-in-Moves-clause-walking : goal.returns-in-Moves-clause-walking
 returns-in-Moves-clause-walking c =
@@ -38,4 +42,8 @@ returns-in-Moves-clause-shorter c =
     let f = c.args.walk.now.f in
     let next = c.next_watch-walk.ensures ∙ ap (λ (x : ArenaLists). after c.in-Some.c (chain_of x f)) c.arena.ensures.arena in
     let hand = at-hand _ _ _ _ _ _ c.requires.walking c.in-Some.is in
-    λ n. (step-moves c.args.clauses.now c.visit.new.clauses c.args.trail.now.entries c.visit.new.trail.entries f c.args.walk.now.before c.args.walk.now.next c.in-Some.c c.next_watch-walk.result hand c.in-Some.is next c.arena.ensures.clauses.arena c.in-Moves.ensures.visited c.visit.ensures.propagated.kept c.requires.denied).smaller
+    λ n.
+    (step-moves c.args.clauses.now c.visit.new.clauses c.args.trail.now.entries
+    c.visit.new.trail.entries f c.args.walk.now.before c.args.walk.now.next c.in-Some.c
+    c.next_watch-walk.result hand c.in-Some.is next c.arena.ensures.clauses.arena
+    c.in-Moves.ensures.visited c.visit.ensures.propagated.kept c.requires.denied).smaller

@@ -32,7 +32,15 @@ entries-init c = record {
 pub returns-in-Some-clause-covered : goal.returns-in-Some-clause-covered
 returns-in-Some-clause-covered c =
     let o = c.alone.invariant.alone in
-    let s : StepAt c.alone.clauses c.step.new.clauses c.alone.trail.entries c.step.new.trail.entries c.alone.older.f = record { same = c.step.ensures.clauses; kept = c.step.ensures.propagated.kept; chains = c.step.ensures.chains; once = c.step.ensures.was_trail.once; denied = o.going.made.denied } in
+    let s : StepAt c.alone.clauses c.step.new.clauses c.alone.trail.entries c.step.new.trail.entries
+    c.alone.older.f =
+    record {
+      same = c.step.ensures.clauses;
+      kept = c.step.ensures.propagated.kept;
+      chains = c.step.ensures.chains;
+      once = c.step.ensures.was_trail.once;
+      denied = o.going.made.denied;
+    } in
     alone-broken o s
 
 pub returns-in-Some-clause-propagated : goal.returns-in-Some-clause-propagated
@@ -42,7 +50,15 @@ returns-in-Some-clause-propagated c =
 pub alone-preserved : goal.alone-preserved
 alone-preserved c =
     let o = c.alone.invariant.alone in
-    let s : StepAt c.alone.clauses c.step.new.clauses c.alone.trail.entries c.step.new.trail.entries c.alone.older.f = record { same = c.step.ensures.clauses; kept = c.step.ensures.propagated.kept; chains = c.step.ensures.chains; once = c.step.ensures.was_trail.once; denied = o.going.made.denied } in
+    let s : StepAt c.alone.clauses c.step.new.clauses c.alone.trail.entries c.step.new.trail.entries
+    c.alone.older.f =
+    record {
+      same = c.step.ensures.clauses;
+      kept = c.step.ensures.propagated.kept;
+      chains = c.step.ensures.chains;
+      once = c.step.ensures.was_trail.once;
+      denied = o.going.made.denied;
+    } in
     record {
       sofar = sofar-more c.alone.invariant.sofar c.step.ensures.clauses c.step.ensures.trail c.step.ensures.propagated;
       alone = alone-step o s c.step.ensures.propagated.level c.in_default.ensures.literal c.in_default.ensures.walking;
@@ -73,7 +89,15 @@ both-init c =
 pub returns-in-Some-step-clause-covered : goal.returns-in-Some-step-clause-covered
 returns-in-Some-step-clause-covered c =
     let o = c.both.invariant.both in
-    let s : StepAt c.both.clauses c.step-in-both.new.clauses c.both.trail.entries c.step-in-both.new.trail.entries c.both.older.f = record { same = c.step-in-both.ensures.clauses; kept = c.step-in-both.ensures.propagated.kept; chains = c.step-in-both.ensures.chains; once = c.step-in-both.ensures.was_trail.once; denied = o.one.made.denied } in
+    let s : StepAt c.both.clauses c.step-in-both.new.clauses c.both.trail.entries
+    c.step-in-both.new.trail.entries c.both.older.f =
+    record {
+      same = c.step-in-both.ensures.clauses;
+      kept = c.step-in-both.ensures.propagated.kept;
+      chains = c.step-in-both.ensures.chains;
+      once = c.step-in-both.ensures.was_trail.once;
+      denied = o.one.made.denied;
+    } in
     both-broken o s
 
 pub returns-in-Some-step-clause-propagated : goal.returns-in-Some-step-clause-propagated
@@ -84,7 +108,15 @@ returns-in-Some-step-clause-propagated c =
 halfway : (c : In_default-step) → Both c.step-in-both.new.clauses c.step-in-both.new.trail.entries c.args.head (c.entries.next + 1) c.step-in-both.new.walk c.both.newer
 halfway c =
     let o = c.both.invariant.both in
-    let s : StepAt c.both.clauses c.step-in-both.new.clauses c.both.trail.entries c.step-in-both.new.trail.entries c.both.older.f = record { same = c.step-in-both.ensures.clauses; kept = c.step-in-both.ensures.propagated.kept; chains = c.step-in-both.ensures.chains; once = c.step-in-both.ensures.was_trail.once; denied = o.one.made.denied } in
+    let s : StepAt c.both.clauses c.step-in-both.new.clauses c.both.trail.entries
+    c.step-in-both.new.trail.entries c.both.older.f =
+    record {
+      same = c.step-in-both.ensures.clauses;
+      kept = c.step-in-both.ensures.propagated.kept;
+      chains = c.step-in-both.ensures.chains;
+      once = c.step-in-both.ensures.was_trail.once;
+      denied = o.one.made.denied;
+    } in
     both-step o s c.step-in-both.ensures.propagated.level c.in_default-step.ensures.literal c.in_default-step.ensures.walking
 
 pub step-requires-in-both-2-clause-denied : goal.step-requires-in-both-2-clause-denied
@@ -96,7 +128,15 @@ step-requires-in-both-2-clause-walking c = (halfway (goal.at.step-requires-in-bo
 pub returns-in-Some-step-2-clause-covered : goal.returns-in-Some-step-2-clause-covered
 returns-in-Some-step-2-clause-covered c =
     let o = both-turned (halfway (goal.at.returns-in-Some-step-2-clause-covered c).In_default-step) in
-    let s : StepAt c.step-in-both.new.clauses c.step-in-both-2.new.clauses c.step-in-both.new.trail.entries c.step-in-both-2.new.trail.entries c.both.newer.f = record { same = c.step-in-both-2.ensures.clauses; kept = c.step-in-both-2.ensures.propagated.kept; chains = c.step-in-both-2.ensures.chains; once = c.step-in-both-2.ensures.was_trail.once; denied = o.one.made.denied } in
+    let s : StepAt c.step-in-both.new.clauses c.step-in-both-2.new.clauses c.step-in-both.new.trail.entries
+    c.step-in-both-2.new.trail.entries c.both.newer.f =
+    record {
+      same = c.step-in-both-2.ensures.clauses;
+      kept = c.step-in-both-2.ensures.propagated.kept;
+      chains = c.step-in-both-2.ensures.chains;
+      once = c.step-in-both-2.ensures.was_trail.once;
+      denied = o.one.made.denied;
+    } in
     both-broken o s
 
 pub returns-in-Some-step-2-clause-propagated : goal.returns-in-Some-step-2-clause-propagated
@@ -108,8 +148,24 @@ pub both-smaller : goal.both-smaller
 both-smaller c =
     let o = c.both.invariant.both in
     let half = halfway (goal.at.both-smaller c).In_default-step in
-    let s : StepAt c.both.clauses c.step-in-both.new.clauses c.both.trail.entries c.step-in-both.new.trail.entries c.both.older.f = record { same = c.step-in-both.ensures.clauses; kept = c.step-in-both.ensures.propagated.kept; chains = c.step-in-both.ensures.chains; once = c.step-in-both.ensures.was_trail.once; denied = o.one.made.denied } in
-    let u : StepAt c.step-in-both.new.clauses c.step-in-both-2.new.clauses c.step-in-both.new.trail.entries c.step-in-both-2.new.trail.entries c.both.newer.f = record { same = c.step-in-both-2.ensures.clauses; kept = c.step-in-both-2.ensures.propagated.kept; chains = c.step-in-both-2.ensures.chains; once = c.step-in-both-2.ensures.was_trail.once; denied = half.two.made.denied } in
+    let s : StepAt c.both.clauses c.step-in-both.new.clauses c.both.trail.entries
+    c.step-in-both.new.trail.entries c.both.older.f =
+    record {
+      same = c.step-in-both.ensures.clauses;
+      kept = c.step-in-both.ensures.propagated.kept;
+      chains = c.step-in-both.ensures.chains;
+      once = c.step-in-both.ensures.was_trail.once;
+      denied = o.one.made.denied;
+    } in
+    let u : StepAt c.step-in-both.new.clauses c.step-in-both-2.new.clauses c.step-in-both.new.trail.entries
+    c.step-in-both-2.new.trail.entries c.both.newer.f =
+    record {
+      same = c.step-in-both-2.ensures.clauses;
+      kept = c.step-in-both-2.ensures.propagated.kept;
+      chains = c.step-in-both-2.ensures.chains;
+      once = c.step-in-both-2.ensures.was_trail.once;
+      denied = half.two.made.denied;
+    } in
     let older_next = a-next _ _ c.is_some-in-both.ensures c.both-test.true in
     let newer_next = a-next _ _ c.is_some-in-both-2.ensures c.if-is_some.true in
     let one = c.in_default-step.ensures.shorter older_next in
@@ -124,7 +180,15 @@ pub both-preserved : goal.both-preserved
 both-preserved c =
     let first = sofar-more c.both.invariant.sofar c.step-in-both.ensures.clauses c.step-in-both.ensures.trail c.step-in-both.ensures.propagated in
     let o = both-turned (halfway (goal.at.both-preserved c).In_default-step) in
-    let s : StepAt c.step-in-both.new.clauses c.step-in-both-2.new.clauses c.step-in-both.new.trail.entries c.step-in-both-2.new.trail.entries c.both.newer.f = record { same = c.step-in-both-2.ensures.clauses; kept = c.step-in-both-2.ensures.propagated.kept; chains = c.step-in-both-2.ensures.chains; once = c.step-in-both-2.ensures.was_trail.once; denied = o.one.made.denied } in
+    let s : StepAt c.step-in-both.new.clauses c.step-in-both-2.new.clauses c.step-in-both.new.trail.entries
+    c.step-in-both-2.new.trail.entries c.both.newer.f =
+    record {
+      same = c.step-in-both-2.ensures.clauses;
+      kept = c.step-in-both-2.ensures.propagated.kept;
+      chains = c.step-in-both-2.ensures.chains;
+      once = c.step-in-both-2.ensures.was_trail.once;
+      denied = o.one.made.denied;
+    } in
     record {
       sofar = sofar-more first c.step-in-both-2.ensures.clauses c.step-in-both-2.ensures.trail c.step-in-both-2.ensures.propagated;
       both = both-turned (both-step o s c.step-in-both-2.ensures.propagated.level c.in_default-step-2.ensures.literal c.in_default-step-2.ensures.walking);

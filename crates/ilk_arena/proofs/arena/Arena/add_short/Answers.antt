@@ -18,7 +18,12 @@ pub append-requires-clause-room : goal.append-requires-clause-room
 append-requires-clause-room c = let s = c.self.inside in omega (arith, spare-are s.vars _ s.words.items s.heads.items c.args.self.now c.self.view_is, c.requires.room)
 
 pub append-requires-clause-within : goal.append-requires-clause-within
-append-requires-clause-within c = let s = c.self.inside in let within = ap (λ (n : ℕ). clause_in n c.args.clause.now) (vars-are s.vars _ s.words.items s.heads.items c.args.self.now c.self.view_is) ∙ c.requires.within in clause_in-more s.vars (WORD_LIMIT / 2 - 1) c.args.clause.now (omega (arith, c.self.invariant.few)) within
+append-requires-clause-within c = let s = c.self.inside in
+    let within =
+    ap (λ (n : ℕ). clause_in n c.args.clause.now)
+    (vars-are s.vars _ s.words.items s.heads.items c.args.self.now c.self.view_is)
+    ∙ c.requires.within in
+    clause_in-more s.vars (WORD_LIMIT / 2 - 1) c.args.clause.now (omega (arith, c.self.invariant.few)) within
 
 pub invariant_of-self : goal.invariant_of-self
 invariant_of-self c = let s = c.self.inside in let within = ap (λ (n : ℕ). clause_in n c.args.clause.now) (vars-are s.vars _ s.words.items s.heads.items c.args.self.now c.self.view_is) ∙ c.requires.within in
@@ -26,7 +31,14 @@ invariant_of-self c = let s = c.self.inside in let within = ap (λ (n : ℕ). cl
     let ls = c.args.clause.now in
     let len : length ls ≡ length (map place ls) = sym (length-map ls place) in
     let ew : c.append.new.words.items ≡ words_short s.words.items ls (s.count + 1) = c.append.ensures.items ∙ ap (λ (n : ℕ). s.words.items ++ (n ∷ (0 ∷ (0 ∷ (1 ∷ (0 ∷ ((s.count + 1) ∷ (0 ∷ map place ls)))))))) len in
-    let g = short-law s.vars V _ s.count s.words.items s.heads.items c.args.self.now ls c.self.invariant c.self.view_is within c.requires.differ c.requires.short (omega (arith, spare-are s.vars _ s.words.items s.heads.items c.args.self.now c.self.view_is, c.requires.room, s.words.ok.0)) in
+    let g = short-law s.vars V _ s.count s.words.items s.heads.items c.args.self.now ls c.self.invariant
+    c.self.view_is within c.requires.differ c.requires.short
+    (omega (
+      arith,
+      spare-are s.vars _ s.words.items s.heads.items c.args.self.now c.self.view_is,
+      c.requires.room,
+      s.words.ok.0,
+    )) in
     let n : c.len-reference.result ≡ length s.words.items = omega (arith, c.len-reference.ensures, s.words.ok.0) in
     rw ew g.holds
 
@@ -36,7 +48,14 @@ returns-clause-added c = let s = c.self.inside in let within = ap (λ (n : ℕ).
     let ls = c.args.clause.now in
     let len : length ls ≡ length (map place ls) = sym (length-map ls place) in
     let ew : c.append.new.words.items ≡ words_short s.words.items ls (s.count + 1) = c.append.ensures.items ∙ ap (λ (n : ℕ). s.words.items ++ (n ∷ (0 ∷ (0 ∷ (1 ∷ (0 ∷ ((s.count + 1) ∷ (0 ∷ map place ls)))))))) len in
-    let g = short-law s.vars V _ s.count s.words.items s.heads.items c.args.self.now ls c.self.invariant c.self.view_is within c.requires.differ c.requires.short (omega (arith, spare-are s.vars _ s.words.items s.heads.items c.args.self.now c.self.view_is, c.requires.room, s.words.ok.0)) in
+    let g = short-law s.vars V _ s.count s.words.items s.heads.items c.args.self.now ls c.self.invariant
+    c.self.view_is within c.requires.differ c.requires.short
+    (omega (
+      arith,
+      spare-are s.vars _ s.words.items s.heads.items c.args.self.now c.self.view_is,
+      c.requires.room,
+      s.words.ok.0,
+    )) in
     let n : c.len-reference.result ≡ length s.words.items = omega (arith, c.len-reference.ensures, s.words.ok.0) in
     let us = c.append.new.words.items in
     let Q : List ℕ → Type 0 = λ ws. lists_of s.vars V ws s.heads.items (references_in ws) ≡ added c.args.self.now ls (length s.words.items) V in
@@ -53,7 +72,14 @@ returns-clause-room c = let s = c.self.inside in let within = ap (λ (n : ℕ). 
     let ls = c.args.clause.now in
     let len : length ls ≡ length (map place ls) = sym (length-map ls place) in
     let ew : c.append.new.words.items ≡ words_short s.words.items ls (s.count + 1) = c.append.ensures.items ∙ ap (λ (n : ℕ). s.words.items ++ (n ∷ (0 ∷ (0 ∷ (1 ∷ (0 ∷ ((s.count + 1) ∷ (0 ∷ map place ls)))))))) len in
-    let g = short-law s.vars V _ s.count s.words.items s.heads.items c.args.self.now ls c.self.invariant c.self.view_is within c.requires.differ c.requires.short (omega (arith, spare-are s.vars _ s.words.items s.heads.items c.args.self.now c.self.view_is, c.requires.room, s.words.ok.0)) in
+    let g = short-law s.vars V _ s.count s.words.items s.heads.items c.args.self.now ls c.self.invariant
+    c.self.view_is within c.requires.differ c.requires.short
+    (omega (
+      arith,
+      spare-are s.vars _ s.words.items s.heads.items c.args.self.now c.self.view_is,
+      c.requires.room,
+      s.words.ok.0,
+    )) in
     let n : c.len-reference.result ≡ length s.words.items = omega (arith, c.len-reference.ensures, s.words.ok.0) in
     let us = c.append.new.words.items in
     let new = spare-is s.vars V us s.heads.items (references_in us) in
@@ -67,7 +93,14 @@ returns-clause-arena c = let s = c.self.inside in let within = ap (λ (n : ℕ).
     let ls = c.args.clause.now in
     let len : length ls ≡ length (map place ls) = sym (length-map ls place) in
     let ew : c.append.new.words.items ≡ words_short s.words.items ls (s.count + 1) = c.append.ensures.items ∙ ap (λ (n : ℕ). s.words.items ++ (n ∷ (0 ∷ (0 ∷ (1 ∷ (0 ∷ ((s.count + 1) ∷ (0 ∷ map place ls)))))))) len in
-    let g = short-law s.vars V _ s.count s.words.items s.heads.items c.args.self.now ls c.self.invariant c.self.view_is within c.requires.differ c.requires.short (omega (arith, spare-are s.vars _ s.words.items s.heads.items c.args.self.now c.self.view_is, c.requires.room, s.words.ok.0)) in
+    let g = short-law s.vars V _ s.count s.words.items s.heads.items c.args.self.now ls c.self.invariant
+    c.self.view_is within c.requires.differ c.requires.short
+    (omega (
+      arith,
+      spare-are s.vars _ s.words.items s.heads.items c.args.self.now c.self.view_is,
+      c.requires.room,
+      s.words.ok.0,
+    )) in
     let n : c.len-reference.result ≡ length s.words.items = omega (arith, c.len-reference.ensures, s.words.ok.0) in
     let us = c.append.new.words.items in
     let Q : List ℕ → Type 0 = λ ws. HoldsArena ws s.heads.items s.vars (s.count + 1) in

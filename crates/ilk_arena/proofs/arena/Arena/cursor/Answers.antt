@@ -10,7 +10,11 @@ pub index-requires : goal.index-requires
 index-requires c = let s = c.self.inside in let k = known s.vars _ s.count s.words.items s.heads.items c.args.self.now c.args.c c.self.invariant c.self.view_is c.requires in omega (arith, k.room, s.words.ok.0)
 
 pub returns-clause-cursor : goal.returns-clause-cursor
-returns-clause-cursor c = let s = c.self.inside in let k = known s.vars _ s.count s.words.items s.heads.items c.args.self.now c.args.c c.self.invariant c.self.view_is c.requires in get_or_read s.words.items (c.args.c + 6) c.index.result.now (omega (arith, k.room)) c.index.ensures 0 ∙ k.cursor
+returns-clause-cursor c = let s = c.self.inside in
+    let k = known s.vars _ s.count s.words.items s.heads.items c.args.self.now c.args.c c.self.invariant
+    c.self.view_is c.requires in
+    get_or_read s.words.items (c.args.c + 6) c.index.result.now (omega (arith, k.room)) c.index.ensures 0
+    ∙ k.cursor
 
 pub returns-clause-within : goal.returns-clause-within
 returns-clause-within c = let s = c.self.inside in let k = known s.vars _ s.count s.words.items s.heads.items c.args.self.now c.args.c c.self.invariant c.self.view_is c.requires in

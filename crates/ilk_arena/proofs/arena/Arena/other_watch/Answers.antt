@@ -8,7 +8,12 @@ pub place-requires : goal.place-requires
 place-requires c = let s = c.self.inside in let w = within s.vars _ s.count s.words.items s.heads.items c.args.self.now c.args.l c.self.invariant c.self.view_is c.requires.within in w.few
 
 pub other_of-requires : goal.other_of-requires
-other_of-requires c = let s = c.self.inside in let w = within s.vars _ s.count s.words.items s.heads.items c.args.self.now c.args.l c.self.invariant c.self.view_is c.requires.within in let i = watching s.vars _ s.words.items s.heads.items c.args.self.now c.args.l c.args.c c.self.invariant.linked c.self.view_is c.requires.stands in rw c.deref.ensures.value (omega (arith, c.self.invariant.linked.whole c.args.c i.known))
+other_of-requires c = let s = c.self.inside in
+    let w = within s.vars _ s.count s.words.items s.heads.items c.args.self.now c.args.l c.self.invariant
+    c.self.view_is c.requires.within in
+    let i = watching s.vars _ s.words.items s.heads.items c.args.self.now c.args.l c.args.c
+    c.self.invariant.linked c.self.view_is c.requires.stands in
+    rw c.deref.ensures.value (omega (arith, c.self.invariant.linked.whole c.args.c i.known))
 
 pub lit_at-requires : goal.lit_at-requires
 lit_at-requires c =

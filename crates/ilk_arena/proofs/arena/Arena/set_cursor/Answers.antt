@@ -10,7 +10,10 @@ pub index_mut-cursor-requires : goal.index_mut-cursor-requires
 index_mut-cursor-requires c = let s = c.self.inside in let k = known s.vars _ s.count s.words.items s.heads.items c.args.self.now c.args.c c.self.invariant c.self.view_is c.requires.known in omega (arith, k.room, s.words.ok.0)
 
 pub overflow_cast-cursor : goal.overflow_cast-cursor
-overflow_cast-cursor c = let s = c.self.inside in let k = known s.vars _ s.count s.words.items s.heads.items c.args.self.now c.args.c c.self.invariant c.self.view_is c.requires.known in omega (arith, k.room, k.len, c.requires.within, c.self.invariant.addressed)
+overflow_cast-cursor c = let s = c.self.inside in
+    let k = known s.vars _ s.count s.words.items s.heads.items c.args.self.now c.args.c c.self.invariant
+    c.self.view_is c.requires.known in
+    omega (arith, k.room, k.len, c.requires.within, c.self.invariant.addressed)
 
 pub invariant_of-self : goal.invariant_of-self
 invariant_of-self c = let s = c.self.inside in let k = known s.vars _ s.count s.words.items s.heads.items c.args.self.now c.args.c c.self.invariant c.self.view_is c.requires.known in

@@ -12,9 +12,15 @@ pub invariant_of-self-2 : goal.invariant_of-self-2
 invariant_of-self-2 c =
     let b = c.self.inside in
     let ok : is_ok c.push.result ≡ true = rw c.unwrap.ensures refl in
-    let items : c.push.new.self.items ≡ b.bounds.items ++ length (codes_in c.append.new.self) ∷ [] = rw ok at c.push.ensures.items ∙ ap (λ (xs : List ℕ). xs ++ c.len.result ∷ []) c.in_ok-reserve-2.ensures.items ∙ ap (λ n. b.bounds.items ++ n ∷ []) c.len.ensures in
+    let items : c.push.new.self.items ≡ b.bounds.items ++ length (codes_in c.append.new.self) ∷ [] =
+    rw ok at c.push.ensures.items
+    ∙ ap (λ (xs : List ℕ). xs ++ c.len.result ∷ []) c.in_ok-reserve-2.ensures.items
+    ∙ ap (λ n. b.bounds.items ++ n ∷ []) c.len.ensures in
     let codes : codes_in c.append.new.self ≡ codes_in b.codes ++ map code_of c.args.clause.now = c.append.ensures.codes ∙ ap (λ (xs : List ℕ). xs ++ map code_of c.args.clause.now) c.in_ok-reserve.ensures.same in
-    let pushed = block-push b.vars b.codes c.append.new.self b.bounds.items c.args.clause.now c.self.invariant codes c.append.ensures.fit (ap (λ (f : Formula). clause_in f.vars c.args.clause.now) c.self.view_is ∙ c.requires.within) c.requires.differ in
+    let pushed = block-push b.vars b.codes c.append.new.self b.bounds.items c.args.clause.now c.self.invariant
+    codes c.append.ensures.fit
+    (ap (λ (f : Formula). clause_in f.vars c.args.clause.now) c.self.view_is ∙ c.requires.within)
+    c.requires.differ in
     let P : List ℕ → Type 0 = λ xs. IsBlock b.vars c.append.new.self xs in
     subst P (sym items) pushed.0
 
@@ -22,9 +28,15 @@ pub returns-clause-ok : goal.returns-clause-ok
 returns-clause-ok c =
     let b = c.self.inside in
     let ok : is_ok c.push.result ≡ true = rw c.unwrap.ensures refl in
-    let items : c.push.new.self.items ≡ b.bounds.items ++ length (codes_in c.append.new.self) ∷ [] = rw ok at c.push.ensures.items ∙ ap (λ (xs : List ℕ). xs ++ c.len.result ∷ []) c.in_ok-reserve-2.ensures.items ∙ ap (λ n. b.bounds.items ++ n ∷ []) c.len.ensures in
+    let items : c.push.new.self.items ≡ b.bounds.items ++ length (codes_in c.append.new.self) ∷ [] =
+    rw ok at c.push.ensures.items
+    ∙ ap (λ (xs : List ℕ). xs ++ c.len.result ∷ []) c.in_ok-reserve-2.ensures.items
+    ∙ ap (λ n. b.bounds.items ++ n ∷ []) c.len.ensures in
     let codes : codes_in c.append.new.self ≡ codes_in b.codes ++ map code_of c.args.clause.now = c.append.ensures.codes ∙ ap (λ (xs : List ℕ). xs ++ map code_of c.args.clause.now) c.in_ok-reserve.ensures.same in
-    let pushed = block-push b.vars b.codes c.append.new.self b.bounds.items c.args.clause.now c.self.invariant codes c.append.ensures.fit (ap (λ (f : Formula). clause_in f.vars c.args.clause.now) c.self.view_is ∙ c.requires.within) c.requires.differ in
+    let pushed = block-push b.vars b.codes c.append.new.self b.bounds.items c.args.clause.now c.self.invariant
+    codes c.append.ensures.fit
+    (ap (λ (f : Formula). clause_in f.vars c.args.clause.now) c.self.view_is ∙ c.requires.within)
+    c.requires.differ in
     ap (λ (xs : List ℕ). let f : Formula = record { vars = b.vars; clauses = clauses_between xs (codes_in c.append.new.self) } in f) items
     ∙ ap (λ (cs : List (List Literal)). let f : Formula = record { vars = b.vars; clauses = cs } in f) pushed.1
     ∙ ap (λ (f : Formula). grown f f.vars (c.args.clause.now ∷ [])) c.self.view_is

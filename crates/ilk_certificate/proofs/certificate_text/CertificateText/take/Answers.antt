@@ -13,7 +13,10 @@ returns-then-count-into-clause-bytes c =
     let p = c.index_mut-part.result.now in
     let first = part-first items at p (omega arith) c.index_mut-part.ensures.value in
     let now = c.take-count in
-    let next = token_taken _ l.into now.new.into (part_left p) (part_left now.new.self) (flat_map part_left (drop (at + 1) items)) l.count now.result l.invariant.within (search rules) (l.invariant.whole ∙ ap (λ (t : Bytes). take l.count l.into ++ t) (sym first)) (search rules) now.ensures.bytes now.ensures.rest in
+    let next = token_taken _ l.into now.new.into (part_left p) (part_left now.new.self)
+    (flat_map part_left (drop (at + 1) items)) l.count now.result l.invariant.within (search rules)
+    (l.invariant.whole ∙ ap (λ (t : Bytes). take l.count l.into ++ t) (sym first)) (search rules)
+    now.ensures.bytes now.ensures.rest in
     taken-bytes _ _ _ _ next.1 next.0
 
 pub returns-then-count-into-clause-rest : goal.returns-then-count-into-clause-rest
@@ -24,7 +27,10 @@ returns-then-count-into-clause-rest c =
     let p = c.index_mut-part.result.now in
     let first = part-first items at p (omega arith) c.index_mut-part.ensures.value in
     let now = c.take-count in
-    let next = token_taken _ l.into now.new.into (part_left p) (part_left now.new.self) (flat_map part_left (drop (at + 1) items)) l.count now.result l.invariant.within (search rules) (l.invariant.whole ∙ ap (λ (t : Bytes). take l.count l.into ++ t) (sym first)) (search rules) now.ensures.bytes now.ensures.rest in
+    let next = token_taken _ l.into now.new.into (part_left p) (part_left now.new.self)
+    (flat_map part_left (drop (at + 1) items)) l.count now.result l.invariant.within (search rules)
+    (l.invariant.whole ∙ ap (λ (t : Bytes). take l.count l.into ++ t) (sym first)) (search rules)
+    now.ensures.bytes now.ensures.rest in
     part-set items at now.new.self (omega arith) ∙ taken-rest _ _ _ _ next.1 next.0
 
 pub parts-preserved : goal.parts-preserved
@@ -35,7 +41,10 @@ parts-preserved c =
     let p = c.index_mut-part.result.now in
     let first = part-first items at p (omega arith) c.index_mut-part.ensures.value in
     let now = c.take-count in
-    let next = token_taken _ l.into now.new.into (part_left p) (part_left now.new.self) (flat_map part_left (drop (at + 1) items)) l.count now.result l.invariant.within (search rules) (l.invariant.whole ∙ ap (λ (t : Bytes). take l.count l.into ++ t) (sym first)) (search rules) now.ensures.bytes now.ensures.rest in
+    let next = token_taken _ l.into now.new.into (part_left p) (part_left now.new.self)
+    (flat_map part_left (drop (at + 1) items)) l.count now.result l.invariant.within (search rules)
+    (l.invariant.whole ∙ ap (λ (t : Bytes). take l.count l.into ++ t) (sym first)) (search rules)
+    now.ensures.bytes now.ensures.rest in
     let none = next.2 (omega (arith, next.1, c.if-count-into.false)) in
     record {
       whole = next.0 ∙ sym (part-past _ items at now.new.self none);

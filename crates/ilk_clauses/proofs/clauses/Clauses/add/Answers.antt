@@ -12,7 +12,9 @@ invariant_of-self-2 c =
     let n = c.add-reference.new.self in
     let r = c.add-reference.result in
     let wide : clause_in s.arena.vars c.args.clause.now ≡ true = ap (λ (x : ArenaLists). clause_in x.vars c.args.clause.now) c.self.view_is ∙ c.requires.within in
-    let grown = held-grown s.arena c.reserve-2.new.self n s.references.items c.args.clause.now r c.self.invariant c.in_ok-reserve-2.ensures.same wide c.requires.differ c.add-reference.ensures.fresh c.add-reference.ensures.added c.add-reference.ensures.arena in
+    let grown = held-grown s.arena c.reserve-2.new.self n s.references.items c.args.clause.now r
+    c.self.invariant c.in_ok-reserve-2.ensures.same wide c.requires.differ c.add-reference.ensures.fresh
+    c.add-reference.ensures.added c.add-reference.ensures.arena in
     let ok : is_ok c.push.result ≡ true = rw c.unwrap.ensures refl in
     let items : c.push.new.self.items ≡ c.reserve.new.self.items ++ r ∷ [] = rw ok at c.push.ensures.items in
     let P : List ℕ → Type 0 = λ rs. HoldsClauses n rs in

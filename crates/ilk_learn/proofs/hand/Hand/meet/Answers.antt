@@ -14,9 +14,14 @@ returns-clause-holds c k h =
     let s = c.args.self.now in
     let l = c.args.lit in
     let t = c.args.trail.now in
-    let unmarked : get_or s.marks.items l.var false ≡ false = mark-read s.marks.items c.var-var.result l.var c.index.result.now c.var-var.ensures (within-marks t s.marks.items s.current s.lower.items k l h c.requires.within) c.index.ensures ∙ c.if-index.false in
+    let unmarked : get_or s.marks.items l.var false ≡ false =
+    mark-read s.marks.items c.var-var.result l.var c.index.result.now c.var-var.ensures
+    (within-marks t s.marks.items s.current s.lower.items k l h c.requires.within) c.index.ensures
+    ∙ c.if-index.false in
     let level = level-read t.entries l c.level_of.result c.level_of.ensures in
     elim c.if-level_of-level.branch [
       | then-level_of-level w ↦ rw (w.self-is, c.var-var.ensures) (holds-current t s.marks.items s.current s.lower.items k l h c.requires.within unmarked (eq-eqb _ _ (level ∙ w.if-level_of-level.true ∙ c.level.ensures.level)))
-      | else-level_of-level+in_ok-push w ↦ rw (w.self-is, c.var-var.ensures, w.in_ok-push.ensures.ok) (holds-lower t s.marks.items s.current s.lower.items k l h c.requires.within unmarked (ne_eqb _ _ (λ q. w.if-level_of-level.false (sym level ∙ q ∙ sym c.level.ensures.level))))
+      | else-level_of-level+in_ok-push w ↦ rw (w.self-is, c.var-var.ensures, w.in_ok-push.ensures.ok)
+          (holds-lower t s.marks.items s.current s.lower.items k l h c.requires.within unmarked
+          (ne_eqb _ _ (λ q. w.if-level_of-level.false (sym level ∙ q ∙ sym c.level.ensures.level))))
     ]

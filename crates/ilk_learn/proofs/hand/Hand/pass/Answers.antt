@@ -22,7 +22,11 @@ returns-in-Some c =
     let l = c.args.lit in
     let t = c.args.trail.now in
     let h = c.requires.held in
-    let marked : get_or s.marks.items l.var false ≡ true = mark-read s.marks.items c.var.result l.var c.index.result.now c.var.ensures (within-marks t s.marks.items s.current s.lower.items h.0.clause l h.1.holds c.requires.within) c.index.ensures ∙ c.if-index.true in
+    let marked : get_or s.marks.items l.var false ≡ true =
+    mark-read s.marks.items c.var.result l.var c.index.result.now c.var.ensures
+    (within-marks t s.marks.items s.current s.lower.items h.0.clause l h.1.holds c.requires.within)
+    c.index.ensures
+    ∙ c.if-index.true in
     both-ok c.resolve.result c.resolve.ensures.holds c.resolve.ensures.hints (λ f g e x at k. keeps-resolved t c.args.clauses.now.clauses s c.resolve.new.self e x l.var c.in-Some.reason at c.in-Some.ensures marked k f g)
 
 pub returns-else-index : goal.returns-else-index
@@ -30,5 +34,9 @@ returns-else-index c e x at k =
     let s = c.args.self.now in
     let l = c.args.lit in
     let t = c.args.trail.now in
-    let unmarked : get_or s.marks.items l.var false ≡ false = mark-read s.marks.items c.var.result l.var c.index.result.now c.var.ensures (within-marks t s.marks.items s.current s.lower.items x.clause l k.holds c.requires.within) c.index.ensures ∙ c.if-index.false in
+    let unmarked : get_or s.marks.items l.var false ≡ false =
+    mark-read s.marks.items c.var.result l.var c.index.result.now c.var.ensures
+    (within-marks t s.marks.items s.current s.lower.items x.clause l k.holds c.requires.within)
+    c.index.ensures
+    ∙ c.if-index.false in
     keeps-same t c.args.clauses.now.clauses s e x l.var at unmarked k

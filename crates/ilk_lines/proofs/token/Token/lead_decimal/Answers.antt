@@ -9,4 +9,13 @@ write_digits-self-inside-requires c =
 pub returns-clause-short : goal.returns-clause-short
 returns-clause-short c =
     let w = c.write_digits-self-inside in
-    omega (arith, length-decimal-le 20 c.args.number (omega arith) (omega (arith, c.ranges.number.fits)) (omega arith), length-drop c.self.inside.start c.self.inside.bytes, length-drop w.result w.new.buf, ap length c.self.view_is, w.ensures.start, c.requires)
+    omega (
+      arith,
+      length-decimal-le 20 c.args.number (omega arith) (omega (arith, c.ranges.number.fits))
+          (omega arith),
+      length-drop c.self.inside.start c.self.inside.bytes,
+      length-drop w.result w.new.buf,
+      ap length c.self.view_is,
+      w.ensures.start,
+      c.requires,
+    )

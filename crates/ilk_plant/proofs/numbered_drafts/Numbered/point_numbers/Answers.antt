@@ -24,10 +24,15 @@ loop-section-preserved c =
     let within : c.loop-section.section-index < length p.sections = rw same at c.loop-section-test.true in
     elim c.if-is_point.branch [
       | then-is_point+in_ok-push w ↦
-          let next = point_more p c.loop-section.section-index _ within c.loop-section.numbers w.push.new.self c.loop-section.points c.loop-section.invariant.numbers c.loop-section.invariant.points (rw same at (sym c.is_point.ensures ∙ w.if-is_point.true)) w.in_ok-push.ensures.ok in
+          let next = point_more p c.loop-section.section-index _ within c.loop-section.numbers w.push.new.self
+          c.loop-section.points c.loop-section.invariant.numbers c.loop-section.invariant.points
+          (rw same at (sym c.is_point.ensures ∙ w.if-is_point.true)) w.in_ok-push.ensures.ok in
           record { numbers = w.numbers-is ∙ next.0; points = w.points-is ∙ next.1 }
       | else-is_point+in_ok-push-2 w ↦
-          let next = point_same p c.loop-section.section-index _ within c.loop-section.numbers w.push-else-is_point.new.self c.loop-section.points c.loop-section.invariant.numbers c.loop-section.invariant.points (rw same at (sym c.is_point.ensures ∙ w.if-is_point.false)) w.in_ok-push-2.ensures.ok in
+          let next = point_same p c.loop-section.section-index _ within c.loop-section.numbers
+          w.push-else-is_point.new.self c.loop-section.points c.loop-section.invariant.numbers
+          c.loop-section.invariant.points (rw same at (sym c.is_point.ensures ∙ w.if-is_point.false))
+          w.in_ok-push-2.ensures.ok in
           record { numbers = w.numbers-is ∙ next.0; points = w.points-is ∙ next.1 }
     ]
 

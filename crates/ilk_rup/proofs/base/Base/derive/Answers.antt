@@ -105,7 +105,10 @@ returns-clause-derived c =
     let u = some-unset k.set.lits es fs more c.count-from.ensures.is_trail.once p in
     record {
       loose = record {
-        held = subst X (sym c.in_ok-hints.ensures.rest) (held-propagated k.formula.now k.clauses b k.trail now k.queue c.back_to-2.new.self y.units.items y.named k.log s.loose.held same is (subst I (sym at) (propagated-start k.clauses.clauses es)) queued);
+        held = subst X (sym c.in_ok-hints.ensures.rest)
+            (held-propagated k.formula.now k.clauses b k.trail now k.queue c.back_to-2.new.self
+            y.units.items y.named k.log s.loose.held same is
+            (subst I (sym at) (propagated-start k.clauses.clauses es)) queued);
         needed_vars = c.in_ok-hints.ensures.vars ∙ s.loose.needed_vars;
         set_vars = s.loose.set_vars;
       };

@@ -19,7 +19,10 @@ walk-requires-clause-shows c =
     let P : List ℕ → Type 0 = λ items. Shows f.clauses (lits_of (take c.args.at.top es)) (lits_of (take c.args.at.top es)) set needed (reverse items) in
     let N : List Literal → Type 0 = λ old. IsNeeded set d old needed in
     let items = c.in_ok-push.ensures.items ∙ ap (λ (xs : List ℕ). xs ++ (c.args.at.clause + 1) ∷ []) c.clear-2.ensures.items in
-    subst P (sym items) (shown-first f es set needed c.args.at.clause c.args.at.from c.args.at.top c.args.self.now.named c.count.ensures.formula c.count-2.ensures.is_trail.once c.requires.explains (subst N (ap (λ (s : LitSetList). s.lits) c.clear.ensures) c.need.ensures.needed))
+    subst P (sym items)
+    (shown-first f es set needed c.args.at.clause c.args.at.from c.args.at.top c.args.self.now.named
+    c.count.ensures.formula c.count-2.ensures.is_trail.once c.requires.explains
+    (subst N (ap (λ (s : LitSetList). s.lits) c.clear.ensures) c.need.ensures.needed))
 
 pub returns-clause-hints : goal.returns-clause-hints
 returns-clause-hints c = λ d differ fewer more.
@@ -32,4 +35,7 @@ returns-clause-hints c = λ d differ fewer more.
     let x = c.args.at in
     let r = c.requires in
     let hints = reverse c.walk.new.reasons.items in
-    subst P (sym is) (explained cs c.args.trail.now.entries c.args.set.now.lits needed units hints x.clause x.from x.top c.args.self.now.named c.args.clauses.now.vars r.explains r.units c.count-2.ensures.is_trail.once c.len.ensures.differ c.in_ok-walk.ensures.shows d differ fewer more)
+    subst P (sym is)
+    (explained cs c.args.trail.now.entries c.args.set.now.lits needed units hints x.clause x.from x.top
+    c.args.self.now.named c.args.clauses.now.vars r.explains r.units c.count-2.ensures.is_trail.once
+    c.len.ensures.differ c.in_ok-walk.ensures.shows d differ fewer more)

@@ -31,7 +31,11 @@ invariant_of-result c =
     let b = c.add.new.self in
     let f = formula_of s.clauses in
     let O : SearchLists → Type 0 = λ x. LevelsClosed (step.clause ∷ []) x.view.trail.entries in
-    let added = held-added f s.given s.log s.view new step c.self.invariant.search (subst O (sym c.self.view_is) c.requires.closed) c.count-2.ensures.trail (λ v p. c.count-2.ensures.weights v p ∙ ap (λ (ls : List Literal). weight_of s.view v + cond (has_var v ls) 1 0) c.as_slice-2.ensures) in
+    let added = held-added f s.given s.log s.view new step c.self.invariant.search
+    (subst O (sym c.self.view_is) c.requires.closed) c.count-2.ensures.trail
+    (λ v p. c.count-2.ensures.weights v p
+    ∙ ap (λ (ls : List Literal). weight_of s.view v + cond (has_var v ls) 1 0) c.as_slice-2.ensures)
+    in
     let clauses : formula_of b ≡ grown f f.vars (step.clause ∷ []) = ap formula_of c.in_ok-add.ensures.ok.is ∙ ap (λ (ls : List Literal). grown f f.vars (ls ∷ [])) c.as_slice.ensures in
     let L : List Step → Type 0 = λ log. HoldsSearch (grown f f.vars (step.clause ∷ [])) s.given log new in
     let C : Formula → Type 0 = λ g. HoldsSearch g s.given c.push.new.self new in

@@ -41,7 +41,10 @@ invariant_of-self c =
     let known = ap (λ (x : SearchLists). is_closed (all_clauses x) (lits_of x.view.trail.entries)) c.self.view_is ∙ c.requires.closed in
     let closed : is_closed s.clauses.clauses set ≡ true = ap (λ (cs : List (List Literal)). is_closed cs set) c.self.invariant.search.laid ∙ known in
     record {
-      search = subst F (sym (formula-same s.clauses b c.decide.ensures.same)) (subst P (sym c.decide.ensures.entries) (held-decided (formula_of s.clauses) s.given s.log s.view c.args.l c.self.invariant.search c.vars.ensures.view.trail.climbing closed));
+      search = subst F (sym (formula-same s.clauses b c.decide.ensures.same))
+          (subst P (sym c.decide.ensures.entries)
+          (held-decided (formula_of s.clauses) s.given s.log s.view c.args.l c.self.invariant.search
+          c.vars.ensures.view.trail.climbing closed));
       queue = c.decide.ensures.queued;
     }
 
@@ -50,4 +53,6 @@ returns c =
     let s = c.self.inside in
     let new = c.decide.new.self in
     let b = c.decide.new.clauses in
-    ap (λ (f : Formula). search_of f s.given s.log new) (formula-same s.clauses b c.decide.ensures.same) ∙ ap (λ (v : ViewLists). search_of (formula_of s.clauses) s.given s.log v) c.decide.ensures.entries ∙ ap (λ (x : SearchLists). with_trail x (decided x.view.trail.entries c.args.l)) c.self.view_is
+    ap (λ (f : Formula). search_of f s.given s.log new) (formula-same s.clauses b c.decide.ensures.same)
+    ∙ ap (λ (v : ViewLists). search_of (formula_of s.clauses) s.given s.log v) c.decide.ensures.entries
+    ∙ ap (λ (x : SearchLists). with_trail x (decided x.view.trail.entries c.args.l)) c.self.view_is

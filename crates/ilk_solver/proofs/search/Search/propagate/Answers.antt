@@ -47,7 +47,9 @@ returns-clause-same c =
     let s = c.self.inside in
     let new = c.propagate.new.self in
     let b = c.propagate.new.clauses in
-    ap (λ (f : Formula). search_of f s.given s.log new) (formula-same s.clauses b c.propagate.ensures.same) ∙ ap (λ (v : ViewLists). search_of (formula_of s.clauses) s.given s.log v) c.propagate.ensures.entries ∙ ap (λ (x : SearchLists). with_trail x new.trail.entries) c.self.view_is
+    ap (λ (f : Formula). search_of f s.given s.log new) (formula-same s.clauses b c.propagate.ensures.same)
+    ∙ ap (λ (v : ViewLists). search_of (formula_of s.clauses) s.given s.log v) c.propagate.ensures.entries
+    ∙ ap (λ (x : SearchLists). with_trail x new.trail.entries) c.self.view_is
 
 pub returns-clause-propagated : goal.returns-clause-propagated
 returns-clause-propagated c =

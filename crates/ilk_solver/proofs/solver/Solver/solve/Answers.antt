@@ -37,7 +37,11 @@ rounds-smaller g c =
     let vars : next.formula.vars ≡ n = ap (λ (f : Formula). f.vars) c.in_ok-search-in-Some.ensures.formula ∙ same in
     let level = c.in-Some.ensures.propagated.level in
     let P : ℕ → Type 0 = λ m. rounds_left m c.args.budget (c.rounds.steps + 1) (level_of next.view.trail.entries) < rounds_left n c.args.budget c.rounds.steps (level_of old.view.trail.entries) in
-    subst P (sym vars) (learned-less n c.args.budget c.rounds.steps (level_of old.view.trail.entries) (level_of next.view.trail.entries) (omega (arith, c.rounds.invariant.within, c.if-steps-budget.false)) (omega (arith, c.level.ensures.few, c.level.ensures.level, level, same)))
+    subst P (sym vars)
+    (learned-less n c.args.budget c.rounds.steps (level_of old.view.trail.entries)
+    (level_of next.view.trail.entries)
+    (omega (arith, c.rounds.invariant.within, c.if-steps-budget.false))
+    (omega (arith, c.level.ensures.few, c.level.ensures.level, level, same)))
 
 pub returns-then-level-eq0-clause-log : goal.returns-then-level-eq0-clause-log
 returns-then-level-eq0-clause-log g c =

@@ -20,4 +20,6 @@ invariant_of-self c =
     let won = rw c.deref-2.ensures.value at c.settle.ensures.tree in
     let keeps = rw (c.deref-2.ensures.value, c.deref_mut-2.ensures.value ∙ one) at c.settle.ensures.kept in
     let P : List ℕ → Type 0 = HoldsView (record { trail = now; weights = s.weights.items }) in
-    subst P (sym (all-written s.tree.len t (take s.tree.len (put ++ drop (length put) s.tree.items)) n)) (holds-back view now c.args.level s.tree.items put t c.self.invariant c.level.ensures.is_trail c.back_to.ensures.entries kept above won keeps c.settle.ensures.settled)
+    subst P (sym (all-written s.tree.len t (take s.tree.len (put ++ drop (length put) s.tree.items)) n))
+    (holds-back view now c.args.level s.tree.items put t c.self.invariant c.level.ensures.is_trail
+    c.back_to.ensures.entries kept above won keeps c.settle.ensures.settled)

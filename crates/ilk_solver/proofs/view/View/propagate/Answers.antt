@@ -31,4 +31,7 @@ invariant_of-self c =
     let won = rw c.deref.ensures.value at c.settle.ensures.tree in
     let kept = rw (c.deref.ensures.value, c.deref_mut.ensures.value) at c.settle.ensures.kept in
     let P : List ℕ → Type 0 = HoldsView (record { trail = now; weights = s.weights.items }) in
-    subst P (sym (all-written s.tree.len t s.tree.items n)) (holds-longer view now s.tree.items t c.self.invariant c.level.ensures.is_trail (ap (λ (x : TrailList). x.vars) c.propagate-found.ensures.trail) c.propagate-found.ensures.propagated.kept won kept c.settle.ensures.settled)
+    subst P (sym (all-written s.tree.len t s.tree.items n))
+    (holds-longer view now s.tree.items t c.self.invariant c.level.ensures.is_trail
+    (ap (λ (x : TrailList). x.vars) c.propagate-found.ensures.trail)
+    c.propagate-found.ensures.propagated.kept won kept c.settle.ensures.settled)

@@ -28,6 +28,8 @@ returns c =
     let set = ap (λ (t : TrailList). is_set t.entries v) c.self.view_is ∙ c.requires.set in
     let k = stands-at-place s.values.items s.places.items _ _ v c.self.invariant set in
     let p = placed c.self.inside.places.items _ v _ (c.var.ensures) (within s.values.items s.places.items _ _ c.args.l c.self.invariant (ap (λ (t : TrailList). lit_in t.vars c.args.l) c.self.view_is ∙ c.requires.within)) c.index-place.ensures in
-    let r : slice_get s.entries.items c.index-place.result.now ≡ Some c.index.result.now = slice_get_read s.entries.items s.entries.len c.index-place.result.now c.index.result.now (omega (arith, s.entries.ok.0)) (omega (arith, p, k.1, s.entries.ok.0)) c.index.ensures in
+    let r : slice_get s.entries.items c.index-place.result.now ≡ Some c.index.result.now = slice_get_read
+    s.entries.items s.entries.len c.index-place.result.now c.index.result.now
+    (omega (arith, s.entries.ok.0)) (omega (arith, p, k.1, s.entries.ok.0)) c.index.ensures in
     let t = ap (λ (t : TrailList). entry_of t.entries v) c.self.view_is in
     sym t ∙ sym k.0 ∙ ap (slice_get s.entries.items) (sym p) ∙ r

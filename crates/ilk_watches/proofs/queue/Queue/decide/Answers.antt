@@ -45,7 +45,9 @@ returns-clause-queue c =
     let none : fs ≡ es = nothing-forced b es fs c.count.ensures.clauses closed made c.level.ensures.is_trail.once in
     let h = c.propagate.new.self.head in
     let s = c.propagate.new.self.settled in
-    let end : (h ≡ length fs) × (s ≡ length a.clauses) = no-conflict a.clauses (lits_of fs) c.propagate.result _ (ap (λ (xs : List Entry). is_closed a.clauses (lits_of xs)) none ∙ c.requires.closed) c.propagate.ensures.conflict c.propagate.ensures.ended in
+    let end : (h ≡ length fs) × (s ≡ length a.clauses) = no-conflict a.clauses (lits_of fs) c.propagate.result
+    _ (ap (λ (xs : List Entry). is_closed a.clauses (lits_of xs)) none ∙ c.requires.closed)
+    c.propagate.ensures.conflict c.propagate.ensures.ended in
     let P : TrailList → Type 0 = λ t. IsQueue b t.entries h s in
     subst P (sym c.decide.ensures) (queue-decided b fs h s c.args.l c.propagate.ensures.queue c.count.ensures.clauses (end.1 ∙ ap length (sym same.clauses)) end.0)
 
@@ -61,5 +63,7 @@ returns-clause-ended c =
     let none : fs ≡ es = nothing-forced b es fs c.count.ensures.clauses closed made c.level.ensures.is_trail.once in
     let h = c.propagate.new.self.head in
     let s = c.propagate.new.self.settled in
-    let end : (h ≡ length fs) × (s ≡ length a.clauses) = no-conflict a.clauses (lits_of fs) c.propagate.result _ (ap (λ (xs : List Entry). is_closed a.clauses (lits_of xs)) none ∙ c.requires.closed) c.propagate.ensures.conflict c.propagate.ensures.ended in
+    let end : (h ≡ length fs) × (s ≡ length a.clauses) = no-conflict a.clauses (lits_of fs) c.propagate.result
+    _ (ap (λ (xs : List Entry). is_closed a.clauses (lits_of xs)) none ∙ c.requires.closed)
+    c.propagate.ensures.conflict c.propagate.ensures.ended in
     (end.0 ∙ ap length none, end.1)

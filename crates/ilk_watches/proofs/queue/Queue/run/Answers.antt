@@ -14,7 +14,9 @@ walk_from-requires-clause-covered c =
 
 pub returns-then-self-count-clause-closed : goal.returns-then-self-count-clause-closed
 returns-then-self-count-clause-closed c =
-    (queue-closed c.args.clauses.now c.args.trail.now.entries c.args.self.now.head c.args.self.now.settled c.requires.queue c.count.ensures.clauses c.count-2.ensures.is_trail.once c.requires.settled (omega (arith, c.count-2.ensures.count, c.if-self-count.true))).0
+    (queue-closed c.args.clauses.now c.args.trail.now.entries c.args.self.now.head c.args.self.now.settled
+    c.requires.queue c.count.ensures.clauses c.count-2.ensures.is_trail.once c.requires.settled
+    (omega (arith, c.count-2.ensures.count, c.if-self-count.true))).0
 
 pub returns-then-self-count-clause-propagated : goal.returns-then-self-count-clause-propagated
 returns-then-self-count-clause-propagated c = propagated-start c.args.clauses.now.clauses c.args.trail.now.entries
@@ -38,7 +40,10 @@ returns-clause-queue c =
     let s = c.args.self.now.settled in
     let longer = length-kept es fs c.walk_from.ensures.propagated.kept in
     let Q : ℕ → Type 0 = λ n. IsQueue b fs n s in
-    subst Q (sym c.count-self.ensures.count) (queue-walked a b es fs h (length fs) s c.requires.queue c.in_default.ensures.walked c.walk_from.ensures.propagated c.walk_from.ensures.clauses (omega (arith, c.requires.queue.head_in, longer)) (omega arith))
+    subst Q (sym c.count-self.ensures.count)
+    (queue-walked a b es fs h (length fs) s c.requires.queue c.in_default.ensures.walked
+    c.walk_from.ensures.propagated c.walk_from.ensures.clauses
+    (omega (arith, c.requires.queue.head_in, longer)) (omega arith))
 
 pub returns-clause-closed : goal.returns-clause-closed
 returns-clause-closed c =
