@@ -12,7 +12,8 @@ use Rattle.ilk_arena.specs.Words.{Stands, upd}
 use Rattle.ilk_arena.specs.Linked.{lit_at, literals_at, cursor_at, chain_at, references_in, lists_of, Linked, Laid, HoldsArena}
 use Rattle.ilk_arena.proofs.Blocks.{references-are, blocks-push, stands-at}
 use Rattle.ilk_arena.proofs.Seen.{stands-from, lit-at-place, place-within, references-seen}
-use Rattle.ilk_arena.proofs.Adding.{block, appended, Joins, linked-push, added-long, added-short, stands-push, places-new}
+use Rattle.ilk_arena.proofs.Adding.{Joins, linked-push, added-long, added-short}
+use Rattle.ilk_arena.proofs.Appending.{block, appended, stands-push, places-new}
 use Rattle.ilk_arena.proofs.Updates.{arena-ext, Gives, gives-set, gives-one, gives-seen, gives-as, map-same}
 
 -- the places of literals, and the literals again

@@ -4,6 +4,7 @@ pub mod ChainMoves
 pub mod LinkedChains
 pub mod Unlinking
 pub mod Relinking
+pub mod Appending
 pub mod Adding
 pub mod Blocks
 pub mod Seen

@@ -8,7 +8,7 @@ use Rattle.ilk_cnf.specs.Formula.{clause_in}
 use Rattle.ilk_arena.specs.Arena.{ArenaLists, place}
 use Rattle.ilk_arena.specs.declared.place.TheConstants.{WORD_LIMIT}
 use Rattle.ilk_arena.specs.Linked.{references_in, lists_of, HoldsArena}
-use Rattle.ilk_arena.proofs.Adding.{block}
+use Rattle.ilk_arena.proofs.Appending.{block}
 use Rattle.ilk_arena.proofs.AddedClauses.{Grown, words_long, heads_long, long-law, lit-fits}
 use Rattle.ilk_arena.proofs.Readings.{vars-are, spare-are}
 

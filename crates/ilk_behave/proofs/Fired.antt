@@ -27,7 +27,7 @@ use Rattle.ilk_layout.proofs.Read.{occupancy-back}
 use Rattle.ilk_conditions.specs.Conditions.{occupancy_is}
 use Rattle.ilk_conditions.proofs.Values.{occupancy-holds}
 use Rattle.ilk_behave.specs.Steps.{StepAs, can_fire}
-use Rattle.ilk_behave.proofs.EnterSteps.{position-some}
+use Rattle.ilk_behave.proofs.OneSection.{position-some}
 
 -- what the rule sets gives the image of the state that follows
 pub record Tells (p : PlantLists) (s : State) (following : Option State) (rule : RuleTree) : Type 0 where

@@ -1,13 +1,12 @@
 -- A train whose head goes on to the next section: what follows, and its image.
-use Rattle.std.proofs.Common.{◌≡◌, ℕ, zero, suc, ◌+◌, ◌<◌, ◌==◌, Bool, true, false, ◌||◌, count_by, map, position, set, Option, Some, None, List, [], ◌∷◌, ◌++◌, length, length-append, slice_get, inl, inr, ◌⊎◌, refl, sym, ◌∙◌, ap, arith}
+use Rattle.std.proofs.Common.{◌≡◌, ℕ, suc, ◌+◌, ◌<◌, ◌==◌, Bool, true, false, ◌||◌, count_by, map, position, set, Option, Some, None, [], ◌∷◌, ◌++◌, length, length-append, slice_get, inl, inr, ◌⊎◌, refl, sym, ◌∙◌, ap, arith}
 use Rattle.std.specs.List.{list_all}
 use Rattle.std.specs.Option.{option_to_list}
 use Rattle.std.proofs.lemmas.Bool.{cases_Bool, cases_eq, eq-eqb, false≢true, ltb-false, ne_eqb, or_cases, or_from, or_left, or_parts, or_right, false_from_ne_true}
 use Rattle.std.proofs.lemmas.Bool.Decides.{nat_tests}
-use Rattle.std.proofs.lemmas.List.Folds.{list_any-append}
 use Rattle.std.proofs.lemmas.Option.{same_Some, slice_get_past, slice_get_within}
 use Rattle.ilk_base.specs.Option.{◌>>=◌, is_some_and, only_if}
-use Rattle.ilk_base.proofs.Lists.{at-before, at-past, item_at, slice_get-set_other}
+use Rattle.ilk_base.proofs.Lists.{at-before, at-past, slice_get-set_other}
 use Rattle.ilk_base.proofs.Ranges.{below_or_past}
 use Rattle.ilk_base.proofs.Tested.{count-one, list_all-slice_get, list_any-at, list_any-none}
 use Rattle.ilk_ir.specs.System.{set_all}
@@ -24,7 +23,7 @@ use Rattle.ilk_plant.specs.declared.state.Lie.{Lie}
 use Rattle.ilk_plant.specs.declared.state.Lie.TheVariants.{Plus as LiesPlus, Minus as LiesMinus, Moving}
 use Rattle.ilk_plant.specs.declared.state.State.{State}
 use Rattle.ilk_plant.specs.declared.state.Train.{Train}
-use Rattle.ilk_plant.proofs.InLists.{section-from, section-at, only-one}
+use Rattle.ilk_plant.proofs.InLists.{section-from, section-at}
 use Rattle.ilk_motion.specs.Ahead.{ahead}
 use Rattle.ilk_motion.specs.Body.{has_head, with_new_head}
 use Rattle.ilk_motion.specs.Trains.{after_head, may_pass, with_board_closed, with_train}
@@ -47,25 +46,7 @@ use Rattle.ilk_behave.specs.Settings.{board_becomes, board_closes}
 use Rattle.ilk_behave.specs.TrainRules.{gone_on}
 use Rattle.ilk_behave.proofs.Fired.{only-position}
 use Rattle.ilk_behave.proofs.Moved.{kept, now-at, now-there, occupancy-there, right-under, safe-from, some-wrong, still-safe}
-
--- a body with one more section
-had-before : (z y : ℕ) (body : List ℕ) → (z ≡ y → ⊥) → has_section z (body ++ y ∷ []) ≡ true → has_section z body ≡ true
-had-before z y body apart h =
-    elim (or_cases (has_section z body) (has_section z (y ∷ [])) (sym (list_any-append (λ v. v == z) body (y ∷ [])) ∙ h)) [
-      | inl e ↦ e
-      | inr e ↦ absurd (apart (sym (only-one z y e)))
-    ]
-
-same-place : (body : List ℕ) (y k : ℕ) → k < length body → slice_get (body ++ y ∷ []) k ≡ slice_get body k
-same-place body y k less =
-    let there = item_at body k less in
-    at-before body (y ∷ []) k there.0 there.1 ∙ sym there.1
-
-before-more : (body : List ℕ) (y k z : ℕ) → slice_get body k ≡ Some z → section_before (body ++ y ∷ []) k ≡ section_before body k
-before-more body y zero z at = refl
-before-more body y (suc k) z at =
-    let within = slice_get_within body (suc k) z at in
-    before-suc (body ++ y ∷ []) k ∙ same-place body y k (omega arith) ∙ sym (before-suc body k)
+use Rattle.ilk_behave.proofs.LongerBody.{before-more, had-before, same-place}
 
 module _ (p : PlantLists) (plant : IsPlant p) (never : NeverReturns p) (s : State) (shape : HasShape p s) (calm : hazard p s ≡ None) where
   -- a train that goes on to what lies ahead of x isn't wrong on x

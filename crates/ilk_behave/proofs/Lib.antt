@@ -9,6 +9,7 @@ pub mod RouteSteps
 pub mod ReleaseSteps
 pub mod AllocateSteps
 pub mod PointSteps
+pub mod OneSection
 pub mod EnterSteps
 pub mod SetOnce
 pub mod RulesValid
@@ -20,7 +21,10 @@ pub mod RuleBounds
 pub mod SystemValid
 pub mod Moved
 pub mod Fired
+pub mod TailTests
 pub mod TailSteps
+pub mod LongerBody
 pub mod HeadMoved
+pub mod HeadTests
 pub mod HeadSteps
 pub mod AllSteps

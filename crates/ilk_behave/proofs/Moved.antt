@@ -24,7 +24,7 @@ use Rattle.ilk_layout.proofs.Bodies.{first-at, last-at}
 use Rattle.ilk_layout.proofs.Calm.{alone, calm-at}
 use Rattle.ilk_layout.proofs.Plants.{body-once}
 use Rattle.ilk_layout.proofs.Trains.{find-some, has_x, with_trains}
-use Rattle.ilk_behave.proofs.EnterSteps.{vacant-as}
+use Rattle.ilk_behave.proofs.OneSection.{vacant-as}
 
 -- where no hazard stands at a section, no body is wrong on it
 pub right-under : (p : PlantLists) (s : State) (i x : ℕ) (t : Train) → is_hazardous p s x ≡ false → slice_get s.trains i ≡ Some t → is_wrong_under p s x t.body ≡ false

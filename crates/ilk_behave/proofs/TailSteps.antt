@@ -1,5 +1,5 @@
 -- tail, by its rules.
-use Rattle.std.proofs.Common.{◌≡◌, ℕ, zero, suc, ◌+◌, ◌<◌, ◌==◌, Bool, true, false, ◌&&◌, ◌||◌, map, position, remove, set, Option, Some, None, List, [], ◌∷◌, ◌++◌, length, slice_get, inl, inr, subst, refl, sym, ◌∙◌, ap, arith, cond}
+use Rattle.std.proofs.Common.{◌≡◌, ℕ, zero, suc, ◌+◌, ◌<◌, ◌==◌, Bool, true, false, ◌&&◌, ◌||◌, map, position, remove, set, Option, Some, None, [], ◌∷◌, ◌++◌, length, slice_get, inl, inr, subst, refl, sym, ◌∙◌, ap, arith, cond}
 use Rattle.std.specs.List.{list_all}
 use Rattle.std.specs.Option.{option_to_list}
 use Rattle.std.proofs.lemmas.Bool.{and_from, and_parts, eq-eqb, eqb-true, false≢true, ne_eqb, false_from_ne_true}
@@ -11,7 +11,7 @@ use Rattle.ilk_base.proofs.Lists.{item_at, map-at}
 use Rattle.ilk_base.proofs.Options.{bind_some, some-and}
 use Rattle.ilk_base.proofs.Positions.{position-at}
 use Rattle.ilk_base.proofs.Tested.{list_any-from, none-pass}
-use Rattle.ilk_ir.specs.Tree.{tree_holds, Tree}
+use Rattle.ilk_ir.specs.Tree.{tree_holds}
 use Rattle.ilk_ir.specs.System.{set_all}
 use Rattle.ilk_ir.proofs.Trees.{all_of-holds}
 use Rattle.ilk_plant.specs.Network.{has_section, same_direction}
@@ -21,8 +21,6 @@ use Rattle.ilk_plant.specs.Sound.{NeverReturns}
 use Rattle.ilk_plant.specs.State.{lie_of}
 use Rattle.ilk_plant.specs.declared.network.Dir.{Dir}
 use Rattle.ilk_plant.specs.declared.network.Dir.TheVariants.{Up, Down}
-use Rattle.ilk_plant.specs.declared.network.Position.{Position}
-use Rattle.ilk_plant.specs.declared.network.Position.TheVariants.{Plus, Minus}
 use Rattle.ilk_plant.specs.declared.network.Section.{Section}
 use Rattle.ilk_plant.specs.declared.network.Section.TheVariants.{Linear, Point}
 use Rattle.ilk_plant.specs.declared.state.Lie.{Lie}
@@ -31,12 +29,11 @@ use Rattle.ilk_plant.specs.declared.state.State.{State}
 use Rattle.ilk_plant.specs.declared.state.Train.{Train}
 use Rattle.ilk_plant.proofs.InLists.{section-from, section-at, only-one, rest-has}
 use Rattle.ilk_motion.specs.Ahead.{ahead, leg_at, leads_to}
-use Rattle.ilk_motion.specs.Body.{has_tail_before_head, is_first_of_several, without_tail}
+use Rattle.ilk_motion.specs.Body.{has_tail_before_head, without_tail}
 use Rattle.ilk_motion.specs.Trains.{after_tail}
 use Rattle.ilk_motion.proofs.Shape.{after_tail-shape}
 use Rattle.ilk_routes.specs.Lies.{lies_at, lie_in}
-use Rattle.ilk_model.specs.Hazard.{hazard, strays}
-use Rattle.ilk_model.proofs.Straying.{rest-strays}
+use Rattle.ilk_model.specs.Hazard.{hazard}
 use Rattle.ilk_layout.specs.Image.{image_of}
 use Rattle.ilk_layout.specs.Occupancy.{occupancy_of}
 use Rattle.ilk_layout.specs.Standing.{is_wrong_under}
@@ -53,58 +50,10 @@ use Rattle.ilk_behave.specs.Guards.{leads_towards, leg_position}
 use Rattle.ilk_behave.specs.Steps.{StepAs, can_fire}
 use Rattle.ilk_behave.specs.TrainRules.{rules_of_tail, tail_rule}
 use Rattle.ilk_behave.proofs.AllocateSteps.{lie-holds}
-use Rattle.ilk_behave.proofs.EnterSteps.{vacant-as}
+use Rattle.ilk_behave.proofs.OneSection.{vacant-as}
 use Rattle.ilk_behave.proofs.Fired.{IsFor, Tells, has-neighbour-known, neighbour_steps, occupancy-is, occupancy-known, only-position, parts-of-taken}
 use Rattle.ilk_behave.proofs.Moved.{kept, now-at, now-there, occupancy-there, right-under, still-safe}
-
--- a point that moves lies at no position
-pub lies-nowhere : (at : Position) → lies_at Moving at ≡ false
-lies-nowhere Plus = refl
-lies-nowhere Minus = refl
-
--- what x asks for if it leads to y, by its section
-abbrev leading : PlantLists → ℕ → ℕ → Dir → Option Section → List Tree
-leading p x y d None = []
-leading p x y d (Some (Linear down up b c)) = []
-leading p x y d (Some (Point stem plus minus faces)) = cond (same_direction faces d) (lie_is p x (lie_in (leg_position plus y)) ∷ []) []
-
-leads-by : (p : PlantLists) (x y : ℕ) (d : Dir) (o : Option Section) → slice_get p.sections x ≡ o → leads_towards p x d y ≡ leading p x y d (slice_get p.sections x)
-leads-by p x y d None e = rw e refl
-leads-by p x y d (Some (Linear down up b c)) e = rw e refl
-leads-by p x y d (Some (Point stem plus minus faces)) e = rw e refl
-
--- a body without its first section
-rest-at : (body : List ℕ) (k : ℕ) → slice_get (remove body 0) k ≡ slice_get body (suc k)
-rest-at [] k = refl
-rest-at (x ∷ body) k = refl
-
-rest-length : (body : List ℕ) (k x : ℕ) → slice_get body k ≡ Some x → length (remove body 0) + 1 ≡ length body
-rest-length [] k x at = cc
-rest-length (y ∷ body) k x at = omega arith
-
-rest-wrong : (p : PlantLists) (s : State) (x : ℕ) (body : List ℕ) → is_wrong_under p s x body ≡ false → is_wrong_under p s x (remove body 0) ≡ false
-rest-wrong p s x body right = by_section (slice_get p.sections x) refl
-  where
-    by_section : (o : Option Section) → slice_get p.sections x ≡ o → is_wrong_under p s x (remove body 0) ≡ false
-    by_section None e = rw e refl
-    by_section (Some (Linear a b c d)) e = rw e refl
-    by_section (Some (Point stem plus minus faces)) e =
-        let none : strays x plus minus (lie_of p s x) body ≡ false = rw e at right in
-        rw e (false_from_ne_true (strays x plus minus (lie_of p s x) (remove body 0)) (λ h. false≢true (sym none ∙ rest-strays x plus minus (lie_of p s x) body h)))
-
--- a body of several sections has a first and a second
-first-two : (x : ℕ) (body : List ℕ) → is_first_of_several x body ≡ true → (y : ℕ) × (slice_get body 0 ≡ Some x) × (slice_get body 1 ≡ Some y)
-first-two x [] h = cc
-first-two x (a ∷ []) h = cc
-first-two x (a ∷ b ∷ rest) h = (b, ap Some (eqb-true a x h), refl)
-
-several : (x y : ℕ) (body : List ℕ) → slice_get body 0 ≡ Some x → slice_get body 1 ≡ Some y → is_first_of_several x body ≡ true
-several x y [] at next = cc
-several x y (a ∷ []) at next = cc
-several x y (a ∷ b ∷ rest) at next = eq-eqb a x (same_Some a x at)
-
-has-first : (x : ℕ) (body : List ℕ) → is_first_of_several x body ≡ true → has_section x body ≡ true
-has-first x body h = let two = first-two x body h in section-from body 0 x two.1
+use Rattle.ilk_behave.proofs.TailTests.{first-two, has-first, leading, leads-by, lies-nowhere, rest-at, rest-length, rest-wrong, several}
 
 module _ (p : PlantLists) (plant : IsPlant p) (s : State) (shape : HasShape p s) (calm : hazard p s ≡ None) where
   -- x leads to its neighbour y exactly where y lies ahead of it

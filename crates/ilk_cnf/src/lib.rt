@@ -9,9 +9,9 @@
 //! A formula is made by `Cnf::new` and grown by `fresh` and `add`. What is built of other parts may
 //! name one thing twice: `add_lits` takes any literals of the formula, and adds the clause that has
 //! each once, or none where the list can't be false. `all_of` and `any_of` add a variable that
-//! stands for several literals; `add_gate` adds the clauses of one that is there. A formula is read by `vars`, `clauses` and `clause`. Calls of the
-//! formula itself leave it unchanged where memory runs out; a call that a formula is lent to may
-//! leave it grown.
+//! stands for several literals; `add_gate` adds the clauses of one that is there. A formula is read
+//! by `vars`, `clauses` and `clause`. Calls of the formula itself leave it unchanged where memory
+//! runs out; a call that a formula is lent to may leave it grown.
 //!
 //! What is added in one go is a part (`specs/Part`), and `specs/Extends` says how a part extends the
 //! assignments of what stood before it. Parts that follow one another compose (`proofs/Parts`), so

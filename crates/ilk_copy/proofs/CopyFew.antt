@@ -12,7 +12,7 @@ use Rattle.ilk_ints.specs.Bits.{bit_count}
 use Rattle.ilk_ints.specs.AtMost.{at_most_part, at_most_lit, highest_bit_says}
 use Rattle.ilk_ints.specs.Named.{values_part, bound_count, bounds_from, bounds_part}
 use Rattle.ilk_copy.specs.Copy.{numbers_part, column_part, columns_part, copy_part, total_bits}
-use Rattle.ilk_copy.proofs.CopyLaw.{numbers-end}
+use Rattle.ilk_copy.proofs.ColumnLaw.{numbers-end}
 use Rattle.ilk_ints.proofs.ValuesLaw.{values-low}
 
 -- no more bits than values

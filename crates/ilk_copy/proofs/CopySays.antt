@@ -7,11 +7,11 @@ use Rattle.ilk_cnf.specs.Extends.{Extends, Only}
 use Rattle.ilk_ints.specs.Bits.{bit_count, bits_of, bits_at}
 use Rattle.ilk_ints.specs.Named.{values_part, bounds_part, values_bits, bounds_bits, bound_count, value_bits, bound_bits}
 use Rattle.ilk_ints.proofs.ValuesLaw.{values_part-low, values_part-law, values_part-say, bits_at-left}
-use Rattle.ilk_ints.proofs.BoundsLaw.{bounds_part-say}
+use Rattle.ilk_ints.proofs.BoundsPart.{bounds_part-say}
 use Rattle.ilk_ints.proofs.TableParts.{values_part-lits_in, length-values_part}
 use Rattle.ilk_ir.specs.System.{in_ranges}
 use Rattle.ilk_copy.specs.Copy.{HaveBits, LiteralsSay, numbers_part, columns_part, column_part, copy_part, numbers_bits, columns_bits, copy_bits, total_bits}
-use Rattle.ilk_copy.proofs.CopyLaw.{HaveBits-left, HaveBits-new, ranges_fit, numbers-law, numbers-end, column-law, column-low}
+use Rattle.ilk_copy.proofs.ColumnLaw.{HaveBits-left, HaveBits-new, ranges_fit, numbers-law, numbers-end, column-law, column-low}
 
 pub columns-say : (ranges ws : List ℕ) (a c : List Bool) (first n : ℕ) → length a ≡ n → 0 < first →
     first + total_bits ranges ≤ n + 1 → ranges_fit ranges ≡ true → in_ranges ws ranges ≡ true →

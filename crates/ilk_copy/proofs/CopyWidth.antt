@@ -7,7 +7,7 @@ use Rattle.ilk_cnf.specs.Part.{Part, with_part, as_clauses}
 use Rattle.ilk_ints.specs.Bits.{bit_count}
 use Rattle.ilk_ints.proofs.TableParts.{named-end}
 use Rattle.ilk_copy.specs.Copy.{numbers_part, column_part, columns_part, copy_part, total_named, copy_width}
-use Rattle.ilk_copy.proofs.CopyLaw.{numbers-end}
+use Rattle.ilk_copy.proofs.ColumnLaw.{numbers-end}
 use Rattle.ilk_copy.proofs.CopyFew.{copy-few}
 
 pub columns-end : (ranges : List ℕ) (first n : ℕ) → (columns_part ranges first n).part.vars ≡ n + total_named ranges

@@ -1,3 +1,4 @@
+pub mod ColumnLaw
 pub mod CopyLaw
 pub mod CopySays
 pub mod CopyFew

@@ -32,7 +32,8 @@ use Rattle.ilk_routes.specs.Lies.{is_moving, lies_as_listed}
 use Rattle.ilk_routes.specs.Modes.{is_claimed, same_mode}
 use Rattle.ilk_routes.specs.Points.{after_settle, after_throw}
 use Rattle.ilk_routes.specs.Routes.{after_allocate, after_finish, after_lock, after_release, after_sense, can_claim, can_lock}
-use Rattle.ilk_model.proofs.Frames.{finish-frame, release-frame, sense-frame, settle-frame, throw-frame}
+use Rattle.ilk_model.proofs.PointFrames.{settle-frame, throw-frame}
+use Rattle.ilk_model.proofs.RouteFrames.{finish-frame, release-frame, sense-frame}
 use Rattle.ilk_model.specs.Holding.{is_locked_or_occupied}
 
 -- route q was in the state in which it is, where that passes a test

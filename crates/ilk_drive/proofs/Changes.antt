@@ -20,7 +20,7 @@ use Rattle.ilk_plant.specs.declared.table.Route.{Route}
 use Rattle.ilk_routes.proofs.Locks.{length-with_locks}
 use Rattle.ilk_routes.specs.Locks.{with_locks}
 use Rattle.ilk_routes.specs.Modes.{is_claimed, same_mode}
-use Rattle.ilk_model.proofs.Frames.{ChangesRoute}
+use Rattle.ilk_model.proofs.RouteFrames.{ChangesRoute}
 use Rattle.ilk_strict.proofs.After.{given-lock, other-lock, set-cases}
 use Rattle.ilk_drive.proofs.Back.{StateBack}
 

@@ -2,10 +2,10 @@
 use Rattle.std.proofs.Common.{◌≡◌, ℕ, ◌≤◌, Bool, true, false, ◌==◌, Option, Some, None, List, [], ◌∷◌, ◌++◌, length, slice_get, unwrap_or, is_some, inl, inr, sym, ap, ◌∙◌, subst, arith}
 use Rattle.std.proofs.lemmas.Bool.{cases_Bool, eqb-true, false_from_ne_true}
 use Rattle.std.proofs.lemmas.Option.{same_Some}
+use Rattle.ilk_base.specs.Numbers.{has_number}
 use Rattle.ilk_base.proofs.Lists.{slice_get-push_cases}
 use Rattle.ilk_base.proofs.Tested.{list_any-none}
 use Rattle.ilk_base.proofs.Truth.{either}
-use Rattle.ilk_plant.specs.Network.{has_section}
 use Rattle.ilk_plant.specs.Plant.{IsPlant, PlantLists}
 use Rattle.ilk_plant.specs.Shape.{HasShape}
 use Rattle.ilk_plant.specs.declared.state.State.{State}
@@ -25,8 +25,8 @@ pub covers-on : (p : PlantLists) → IsPlant p → (s t : State) → HasShape p 
     next p s event ≡ Some t → (held : ℕ → Bool) →
     ((j : ℕ) (other : Event) → slice_get (automatic_events p) j ≡ Some other →
     is_some (next p s other) ≡ true → held j ≡ true) →
-    (woken new : List ℕ) → AreWoken p event woken → ((j : ℕ) → held j ≡ true → has_section j new ≡ true) →
-    ((j : ℕ) → has_section j woken ≡ true → has_section j new ≡ true) → Covers p t new
+    (woken new : List ℕ) → AreWoken p event woken → ((j : ℕ) → held j ≡ true → has_number j new ≡ true) →
+    ((j : ℕ) → has_number j woken ≡ true → has_number j new ≡ true) → Covers p t new
 covers-on p plant s t shape event e held covers woken new wakes keeps adds j other at enabled = elim (cases_Bool (may_enable p event other)) [
   | inl may ↦ adds j (wakes j other at may)
   | inr not_ ↦ keeps j (covers j other at (awakes p plant s t shape event e other (list_any-none is_command (automatic_events p) j other (automatic-own p) at) not_ enabled))
@@ -35,21 +35,21 @@ covers-on p plant s t shape event e held covers woken new wakes keeps adds j oth
 -- no event before the least place is enabled
 pub none-before : (p : PlantLists) (s : State) (place : ℕ) (places : List ℕ) → CoversWith p s place places → IsLeast place places → NoneBefore p s place
 none-before p s place places covers least j event before at =
-    false_from_ne_true (is_some (next p s event)) (λ enabled. elim (either (place == j) (has_section j places) (covers j event at enabled)) [
+    false_from_ne_true (is_some (next p s event)) (λ enabled. elim (either (place == j) (has_number j places) (covers j event at enabled)) [
       | inl here ↦ (let same : place ≡ j = eqb-true place j here in absurd (omega (arith, same, before)))
       | inr there ↦ (let after : place ≤ j = least j there in absurd (omega (arith, after, before)))
     ])
 
 -- where the event at a place isn't enabled, the other places are enough
 pub covers-without : (p : PlantLists) (s : State) (place : ℕ) (places : List ℕ) → CoversWith p s place places → ((event : Event) → slice_get (automatic_events p) place ≡ Some event → is_some (next p s event) ≡ false) → Covers p s places
-covers-without p s place places covers none j event at enabled = elim (either (place == j) (has_section j places) (covers j event at enabled)) [
+covers-without p s place places covers none j event at enabled = elim (either (place == j) (has_number j places) (covers j event at enabled)) [
   | inl here ↦ true-false (is_some (next p s event)) enabled (none event (ap (slice_get (automatic_events p)) (eqb-true place j here) ∙ at))
   | inr there ↦ there
 ]
 
 -- where nothing is to be asked, nothing is enabled
-pub none-covered : (p : PlantLists) (s : State) (places : List ℕ) → Covers p s places → ((j : ℕ) → has_section j places ≡ false) → first_automatic p s ≡ None
-none-covered p s places covers none = first-none p s (λ j event at. false_from_ne_true (is_some (next p s event)) (λ enabled. true-false (has_section j places) (covers j event at enabled) (none j)))
+pub none-covered : (p : PlantLists) (s : State) (places : List ℕ) → Covers p s places → ((j : ℕ) → has_number j places ≡ false) → first_automatic p s ≡ None
+none-covered p s places covers none = first-none p s (λ j event at. false_from_ne_true (is_some (next p s event)) (λ enabled. true-false (has_number j places) (covers j event at enabled) (none j)))
 
 -- the list of what each event wakes, with one event more
 pub wakes-more :

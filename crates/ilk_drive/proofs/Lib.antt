@@ -1,5 +1,6 @@
 pub mod Walks
 pub mod Potential
+pub mod StillToDo
 pub mod Lowers
 pub mod Turns
 pub mod Drives
@@ -10,7 +11,12 @@ pub mod Examples
 pub mod Back
 pub mod Changes
 pub mod TrainChanges
+pub mod Staying
+pub mod RouteKeeps
+pub mod EndKeeps
+pub mod MotionKeeps
 pub mod Awakes
 pub mod Held
 pub mod Covered
 pub mod Untouched
+pub mod LeastHazard

@@ -1,124 +1,33 @@
 -- Each automatic event lowers the potential of a state, and no event raises it by as much as `MAX_EVENTS_FOR_A_COMMAND`.
-use Rattle.std.proofs.Common.{◌≡◌, ℕ, ◌+◌, ◌-◌, ◌*◌, ◌<◌, ◌≤◌, Bool, true, false, ◌||◌, Option, Some, None, List, [], ◌∷◌, ◌++◌, length, set, remove, refl, sym, ap, ◌∙◌, subst, arith}
-use Rattle.std.specs.Prelude.{if◌then◌else◌, IfSome}
-use Rattle.std.proofs.lemmas.Bool.{eqb-true}
-use Rattle.std.proofs.lemmas.List.{length-append}
+use Rattle.std.proofs.Common.{◌≡◌, ℕ, ◌+◌, ◌-◌, ◌*◌, ◌<◌, ◌≤◌, Bool, false, Some, [], ◌∷◌, ◌++◌, length, set, remove, refl, ap, ◌∙◌, arith}
+use Rattle.std.specs.Prelude.{if◌then◌else◌}
 use Rattle.std.proofs.lemmas.Option.{slice_get_within}
-use Rattle.ilk_base.proofs.Lists.{item_at}
-use Rattle.ilk_plant.proofs.PointNumbers.{point_number-below}
-use Rattle.ilk_plant.specs.Plant.{IsPlant, IsRouteOf, PlantLists, point_count, point_number}
+use Rattle.ilk_plant.specs.Plant.{IsPlant, PlantLists}
 use Rattle.ilk_plant.specs.Shape.{HasShape}
 use Rattle.ilk_plant.specs.Sound.{NeverReturns}
-use Rattle.ilk_plant.specs.declared.network.Dir.{Dir}
-use Rattle.ilk_plant.specs.declared.network.Position.{Position}
-use Rattle.ilk_plant.specs.declared.network.Position.TheVariants.{Plus, Minus}
 use Rattle.ilk_plant.specs.declared.state.Lie.TheVariants.{Moving}
 use Rattle.ilk_plant.specs.declared.state.Mode.{Mode}
 use Rattle.ilk_plant.specs.declared.state.Mode.TheVariants.{Free, Marked, Allocating, Locked, Occupied}
 use Rattle.ilk_plant.specs.declared.state.PointState.{PointState}
 use Rattle.ilk_plant.specs.declared.state.RouteState.{RouteState}
 use Rattle.ilk_plant.specs.declared.state.State.{State}
-use Rattle.ilk_plant.specs.declared.table.Listed.{Listed}
-use Rattle.ilk_plant.specs.declared.table.Route.{Route}
 use Rattle.ilk_motion.proofs.Shape.{ahead-next_to, border-known}
-use Rattle.ilk_motion.specs.Body.{is_first_of_several, is_last, is_only, train_on, with_new_head, without_tail}
+use Rattle.ilk_motion.specs.Body.{train_on, with_new_head, without_tail}
 use Rattle.ilk_motion.specs.Trains.{after_enter, after_head, after_leave, after_tail}
-use Rattle.ilk_routes.proofs.Commands.{length-with_commands, with_commands-after, with_commands-first, with_commands-no_point, with_commands-none}
 use Rattle.ilk_routes.specs.Claims.{wanted_points}
-use Rattle.ilk_routes.specs.Lies.{is_moving, lie_in, lies_at, with_commands}
-use Rattle.ilk_routes.specs.Modes.{same_mode}
+use Rattle.ilk_routes.specs.Lies.{lie_in, lies_at, with_commands}
 use Rattle.ilk_routes.specs.Points.{after_settle, after_throw}
 use Rattle.ilk_routes.specs.Routes.{after_allocate, after_cancel, after_finish, after_lock, after_mark, after_release, after_sense}
 use Rattle.ilk_model.specs.Event.{next}
 use Rattle.ilk_model.specs.declared.event.Event.{Event}
 use Rattle.ilk_model.specs.declared.event.Event.TheVariants.{Mark, Allocate, Lock, Sense, Release, Finish, Throw, Settle, Enter, Head, Tail, Leave, Cancel}
-use Rattle.ilk_model.proofs.Frames.{allocate-frame, cancel-frame, enter-frame, finish-frame, head-frame, leave-frame, lock-frame, mark-frame, release-frame, sense-frame, settle-frame, tail-frame, throw-frame}
+use Rattle.ilk_model.proofs.PointFrames.{settle-frame, throw-frame}
+use Rattle.ilk_model.proofs.RouteFrames.{allocate-frame, cancel-frame, finish-frame, lock-frame, mark-frame, release-frame, sense-frame}
+use Rattle.ilk_model.proofs.TrainFrames.{enter-frame, head-frame, leave-frame, tail-frame}
 use Rattle.ilk_drive.specs.Commands.{is_command}
-use Rattle.ilk_drive.proofs.Potential.{body_left, left, path_left, point_left, points_left, points_left-set, route_left, route_left_in, routes_left, routes_left-set, train_left, trains_left, trains_left-push, trains_left-remove, trains_left-set}
-use Rattle.ilk_drive.proofs.Walks.{far, far-falls, far-few, is_step}
-
--- points -----------------------------------------------------------------------------------------------------------
-
-point_left-most : (point : PointState) → point_left point ≤ 2
-point_left-most point = by_moving (is_moving point.at) (lies_at point.at point.to)
-  where
-    by_moving : (moves lies : Bool) → (if moves then 1 else if lies then 0 else 2) ≤ 2
-    by_moving true lies = omega arith
-    by_moving false true = omega arith
-    by_moving false false = omega arith
-
--- one command raises what points still do by two at most
-command-raises : (p : PlantLists) (points : List PointState) (listed : Listed) → length points ≡ point_count p → points_left (with_commands p points (listed ∷ [])) ≤ points_left points + 2
-command-raises p points listed long = by_number (point_number p listed.point) refl
-  where
-    by_number : (o : Option ℕ) → point_number p listed.point ≡ o → points_left (with_commands p points (listed ∷ [])) ≤ points_left points + 2
-    by_number None e =
-        let same : with_commands p points [] ≡ with_commands p points (listed ∷ []) = with_commands-no_point p points listed [] e in
-        let e2 : points_left points ≡ points_left (with_commands p points (listed ∷ [])) = ap points_left (sym (with_commands-none p points)) ∙ ap points_left same in
-        omega (arith, e2)
-    by_number (Some n) e =
-        let below : n < point_count p = subst (λ (o : Option ℕ). IfSome o (λ m. m < point_count p)) e (point_number-below p listed.point) in
-        let found = item_at points n (omega (arith, below, long)) in
-        let new : PointState = record found.0 { to = listed.at } in
-        let same : with_commands p (set points n new) [] ≡ with_commands p points (listed ∷ []) = with_commands-first p points listed [] n found.0 e found.1 in
-        let e2 : points_left (set points n new) ≡ points_left (with_commands p points (listed ∷ [])) = ap points_left (sym (with_commands-none p (set points n new))) ∙ ap points_left same in
-        let sum = points_left-set points n found.0 new found.1 in
-        let most = point_left-most new in
-        omega (arith, e2, sum, most)
-
-pub commands-raise : (p : PlantLists) (entries : List Listed) (points : List PointState) → length points ≡ point_count p → points_left (with_commands p points entries) ≤ points_left points + 2 * length entries
-commands-raise p [] points long =
-    let same : points_left (with_commands p points []) ≡ points_left points = ap points_left (with_commands-none p points) in
-    omega (arith, same)
-commands-raise p (listed ∷ rest) points long =
-    let one = command-raises p points listed long in
-    let more = commands-raise p rest (with_commands p points (listed ∷ [])) (length-with_commands p points (listed ∷ []) ∙ long) in
-    let same : points_left (with_commands p (with_commands p points (listed ∷ [])) rest) ≡ points_left (with_commands p points (listed ∷ rest)) = ap points_left (with_commands-after p points listed rest) in
-    omega (arith, one, more, same)
-
-settled : (to : Position) → point_left (record { at = lie_in to; to = to }) ≡ 0
-settled Plus = refl
-settled Minus = refl
-
--- trains -----------------------------------------------------------------------------------------------------------
-
-head-lowers : (p : PlantLists) → IsPlant p → NeverReturns p → (d : Dir) (x y : ℕ) (body : List ℕ) → is_last x body ≡ true → is_step p d x y ≡ true → body_left p d (body ++ y ∷ []) + 1 ≤ body_left p d body
-head-lowers p plant never d x y [] last step = cc
-head-lowers p plant never d x y (z ∷ []) last step =
-    let falls = far-falls p plant never d x y step in
-    let same : far p d z ≡ far p d x = ap (far p d) (eqb-true z x last) in
-    omega (arith, falls, same)
-head-lowers p plant never d x y (z ∷ u ∷ rest) last step =
-    let more = head-lowers p plant never d x y (u ∷ rest) last step in
-    omega (arith, more)
-
-tail-lowers : (p : PlantLists) (d : Dir) (x : ℕ) (body : List ℕ) → is_first_of_several x body ≡ true → body_left p d (remove body 0) + 1 ≤ body_left p d body
-tail-lowers p d x [] several = cc
-tail-lowers p d x (z ∷ []) several = cc
-tail-lowers p d x (z ∷ u ∷ rest) several = omega arith
-
-only-left : (p : PlantLists) (d : Dir) (x : ℕ) (body : List ℕ) → is_only x body ≡ true → 1 ≤ body_left p d body
-only-left p d x [] only = cc
-only-left p d x (z ∷ []) only = omega arith
-only-left p d x (z ∷ u ∷ rest) only = cc
-
--- routes -----------------------------------------------------------------------------------------------------------
-
-in-use : (route : Route) (now : RouteState) (mode : Mode) → (same_mode mode Locked || same_mode mode Occupied) ≡ true → route_left_in mode route now ≡ path_left route now
-in-use route now Free use_ = cc
-in-use route now Marked use_ = cc
-in-use route now Allocating use_ = cc
-in-use route now Locked use_ = refl
-in-use route now Occupied use_ = refl
-
--- how many points a route wants, at most, and how long its path is
-wanted-few : (p : PlantLists) (route : Route) → IsRouteOf p route → (length (wanted_points route) ≤ 48) × (length route.path ≤ 32)
-wanted-few p route known =
-    let both : length (wanted_points route) ≡ length route.points + length route.protecting_points = length-append route.points route.protecting_points in
-    let few : length route.points ≤ 40 = known.few_points in
-    let others : length route.protecting_points ≤ 8 = known.few_protecting_points in
-    let long : length route.path ≤ 32 = known.path_ends in
-    (omega (arith, both, few, others), long)
+use Rattle.ilk_drive.proofs.Potential.{left, path_left, point_left, points_left, points_left-set, route_left, route_left_in, routes_left, routes_left-set, train_left, trains_left, trains_left-push, trains_left-remove, trains_left-set}
+use Rattle.ilk_drive.proofs.Walks.{far, far-few}
+use Rattle.ilk_drive.proofs.StillToDo.{commands-raise, head-lowers, in-use, only-left, settled, tail-lowers, wanted-few}
 
 module _ (p : PlantLists) (plant : IsPlant p) (never : NeverReturns p) (s t : State) (shape : HasShape p s) where
   lowers-allocate : (r : ℕ) → after_allocate p s r ≡ Some t → left p t + 1 ≤ left p s

@@ -14,7 +14,7 @@ use Rattle.ilk_plant.specs.declared.state.State.{State}
 use Rattle.ilk_plant.specs.declared.state.Train.{Train}
 use Rattle.ilk_plant.proofs.InLists.{section-behind}
 use Rattle.ilk_motion.specs.Body.{has_head, has_tail_before_head, is_first_of_several, is_last, is_only, stands_on, train_on, with_new_head, without_tail}
-use Rattle.ilk_model.proofs.Frames.{IsEntered, IsHeaded, IsLeft, IsTailed}
+use Rattle.ilk_model.proofs.TrainFrames.{IsEntered, IsHeaded, IsLeft, IsTailed}
 use Rattle.ilk_strict.proofs.Trains.{enter-vacant, head-vacant, leave-vacant, tail-vacant}
 use Rattle.ilk_drive.specs.Awakening.{around}
 use Rattle.ilk_drive.proofs.Back.{first_dir, first_dir-push, first_dir-remove, first_dir-set}

@@ -1,9 +1,8 @@
--- Where an event doesn't touch a section, it leads to no hazard there; and the least hazard among the sections that it touches
--- is the least of all, since the others have none.
-use Rattle.std.proofs.Common.{◌≡◌, ℕ, ◌<◌, Bool, true, false, ◌||◌, ◌&&◌, ◌==◌, cond, Option, Some, None, option_map, List, [], ◌∷◌, ◌++◌, find, length, option_to_list, append-nil, set, slice_get, inl, inr, refl, sym, ap, ◌∙◌, subst, arith}
+-- Where an event doesn't touch a section, it leads to no hazard there.
+use Rattle.std.proofs.Common.{◌≡◌, ℕ, ◌<◌, true, false, ◌||◌, ◌&&◌, ◌==◌, Option, Some, None, option_map, List, [], ◌∷◌, ◌++◌, find, length, set, slice_get, inl, inr, refl, sym, ap, ◌∙◌, subst}
 use Rattle.std.specs.List.{range_with_len}
-use Rattle.std.proofs.lemmas.Bool.{and_parts, both_ways, cases_Bool, eqb-true, false_from_ne_true, or_left, or_right}
-use Rattle.ilk_base.proofs.Ranges.{find-least, range-at, range_within}
+use Rattle.std.proofs.lemmas.Bool.{and_parts, both_ways, eqb-true, false_from_ne_true, or_left, or_right}
+use Rattle.ilk_base.proofs.Ranges.{range-at, range_within}
 use Rattle.ilk_base.proofs.Truth.{either}
 use Rattle.ilk_base.proofs.Options.{mapped-None}
 use Rattle.ilk_base.proofs.Tested.{find-none-at, find-none-from}
@@ -12,8 +11,7 @@ use Rattle.ilk_plant.specs.Plant.{PlantLists, border, point_number}
 use Rattle.ilk_plant.specs.Start.{start}
 use Rattle.ilk_plant.specs.State.{is_occupied, lie_of}
 use Rattle.ilk_plant.specs.declared.network.Dir.{Dir}
-use Rattle.ilk_plant.specs.declared.network.Dir.TheVariants.{Up, Down}
-use Rattle.ilk_plant.specs.declared.network.Section.TheVariants.{Linear, Point}
+use Rattle.ilk_plant.specs.declared.network.Section.TheVariants.{Point}
 use Rattle.ilk_plant.specs.declared.state.Lie.{Lie}
 use Rattle.ilk_plant.specs.declared.state.Lie.TheVariants.{Plus, Minus, Moving}
 use Rattle.ilk_plant.specs.declared.state.PointState.{PointState}
@@ -26,10 +24,11 @@ use Rattle.ilk_model.specs.Event.{next}
 use Rattle.ilk_model.specs.Hazard.{has_pair, hazard, is_hazardous, is_two, is_wrong, strays}
 use Rattle.ilk_model.specs.declared.event.Event.{Event}
 use Rattle.ilk_model.specs.declared.event.Event.TheVariants.{Mark, Allocate, Lock, Sense, Release, Finish, Throw, Settle, Enter, Head, Tail, Leave, Cancel}
-use Rattle.ilk_model.specs.declared.hazards.HazardAt.TheVariants.{Two, Wrong}
 use Rattle.ilk_model.proofs.LeastHazard.{hazard_at}
 use Rattle.ilk_model.proofs.Straying.{rest-strays}
-use Rattle.ilk_model.proofs.Frames.{IsEntered, IsHeaded, IsLeft, IsTailed, allocate-frame, cancel-frame, enter-frame, finish-frame, head-frame, leave-frame, lock-frame, mark-frame, release-frame, sense-frame, settle-frame, tail-frame, throw-frame}
+use Rattle.ilk_model.proofs.PointFrames.{settle-frame, throw-frame}
+use Rattle.ilk_model.proofs.RouteFrames.{allocate-frame, cancel-frame, finish-frame, lock-frame, mark-frame, release-frame, sense-frame}
+use Rattle.ilk_model.proofs.TrainFrames.{IsEntered, IsHeaded, IsLeft, IsTailed, enter-frame, head-frame, leave-frame, tail-frame}
 use Rattle.ilk_strict.proofs.After.{two-reads, wrong-reads}
 use Rattle.ilk_strict.proofs.Points.{lie-alike, lie-kept, lie-other}
 use Rattle.ilk_strict.proofs.Reading.{occupied-from}
@@ -37,8 +36,8 @@ use Rattle.ilk_strict.proofs.TrainFacts.{two-at, two-from, wrong-at, wrong-from}
 use Rattle.ilk_strict.proofs.Trains.{enter-trains, head-trains, leave-trains, longer-has, removed-once, tail-trains}
 use Rattle.ilk_strict.proofs.Invariant.{start-meets}
 use Rattle.ilk_drive.specs.Awakening.{around}
-use Rattle.ilk_drive.specs.Touched.{IsHazardAfter, IsLeastHazardous, touched}
-use Rattle.ilk_drive.proofs.Awakes.{headed-around}
+use Rattle.ilk_drive.specs.Touched.{touched}
+use Rattle.ilk_drive.proofs.MotionKeeps.{headed-around}
 use Rattle.ilk_drive.proofs.Changes.{apart, neither}
 use Rattle.ilk_drive.proofs.TrainChanges.{not-around, vacant-by}
 
@@ -242,82 +241,3 @@ pub untouched-calm : (p : PlantLists) (s t : State) (event : Event) → hazard p
 untouched-calm p s t event none e z within out =
     let parts = neither (is_two s z) (is_wrong p s z) (calm-of p s none z within) in
     untouched-free p s t z parts.0 parts.1 event e out
-
--- the least hazard ------------------------------------------------------------------------------------------------------
-
--- where the other sections have no hazard, the least of these is the least of all
-pub least-of_all : (p : PlantLists) (s : State) (sections : List ℕ) (o : Option ℕ) →
-    IsLeastHazardous p s sections o →
-    ((z : ℕ) → z < length p.sections → has_section z sections ≡ false → is_hazardous p s z ≡ false) →
-    hazard p s ≡ option_map (hazard_at s) o
-least-of_all p s sections None least rest =
-    none-calm p s (λ z within. elim (cases_Bool (has_section z sections)) [
-      | inl among ↦ least z among within
-      | inr out ↦ rest z within out
-    ])
-least-of_all p s sections (Some x) least rest =
-    ap (option_map (hazard_at s)) (find-least (is_hazardous p s) 0 (length p.sections) x (omega arith) (let within = least.0 in omega (arith, within)) least.1 (λ j above below. elim (cases_Bool (has_section j sections)) [
-      | inl among ↦ false_from_ne_true (is_hazardous p s j) (λ e.
-          let within = least.0 in
-          let no_more = least.2 j among (omega (arith, below, within)) e in
-          omega (arith, below, no_more))
-      | inr out ↦ (let within = least.0 in rest j (omega (arith, below, within)) out)
-    ]))
-
--- no more sections are among these than among those
-pub least-fewer : (p : PlantLists) (s : State) (xs ys : List ℕ) (o : Option ℕ) → ((z : ℕ) → has_section z ys ≡ true → has_section z xs ≡ true) → IsLeastHazardous p s xs o → IsLeastHazardous p s ys o
-least-fewer p s xs ys None among least = λ x in_ within. least x (among x in_) within
-least-fewer p s xs ys (Some x) among least = (least.0, least.1, λ y in_ within e. least.2 y (among y in_) within e)
-
-pub least-none : (p : PlantLists) (s : State) → IsLeastHazardous p s [] None
-least-none p s x in_ within = cc
-
--- a section that has no hazard is no less
-pub least-passed : (p : PlantLists) (s : State) (x : ℕ) (sections : List ℕ) (o : Option ℕ) → (x < length p.sections → is_hazardous p s x ≡ false) → IsLeastHazardous p s sections o → IsLeastHazardous p s (x ∷ sections) o
-least-passed p s x sections None free least = λ y in_ within. elim (either (x == y) (has_section y sections) in_) [
-  | inl same ↦ ap (is_hazardous p s) (sym (eqb-true x y same)) ∙ free (subst (λ (v : ℕ). v < length p.sections) (sym (eqb-true x y same)) within)
-  | inr among ↦ least y among within
-]
-least-passed p s x sections (Some z) free least = (
-  least.0,
-  least.1,
-  λ y in_ within e. elim (either (x == y) (has_section y sections) in_) [
-    | inl same ↦ absurd (both_ways (is_hazardous p s y) (ap (is_hazardous p s) (sym (eqb-true x y same)) ∙ free (subst (λ (v : ℕ). v < length p.sections) (sym (eqb-true x y same)) within)) e)
-    | inr among ↦ least.2 y among within e
-  ],
-)
-
--- the sections next to a linear section, and next to a point
-pub least-linear : (p : PlantLists) (s : State) (x : ℕ) (down up board_down board_up o : Option ℕ) →
-    slice_get p.sections x ≡ Some (Linear down up board_down board_up) →
-    IsLeastHazardous p s (option_to_list down ++ (option_to_list up ++ [])) o →
-    IsLeastHazardous p s (around p x) o
-least-linear p s x down up board_down board_up o section least =
-    let these : around p x ≡ option_to_list down ++ (option_to_list up ++ []) = rw (section, append-nil (option_to_list up)) refl in
-    subst (λ (xs : List ℕ). IsLeastHazardous p s xs o) (sym these) least
-
-turned : (a b c : Bool) → (a || (b || (c || false))) ≡ true → (c || (a || (b || false))) ≡ true
-turned a b true h = refl
-turned true b false h = refl
-turned false true false h = refl
-turned false false false h = cc
-
-pub least-point : (p : PlantLists) (s : State) (x stem plus minus : ℕ) (faces : Dir) (o : Option ℕ) →
-    slice_get p.sections x ≡ Some (Point stem plus minus faces) →
-    IsLeastHazardous p s (stem ∷ plus ∷ minus ∷ []) o → IsLeastHazardous p s (around p x) o
-least-point p s x stem plus minus Up o section least =
-    let these : around p x ≡ stem ∷ plus ∷ minus ∷ [] = rw section refl in
-    subst (λ (xs : List ℕ). IsLeastHazardous p s xs o) (sym these) least
-least-point p s x stem plus minus Down o section least =
-    let these : around p x ≡ plus ∷ minus ∷ stem ∷ [] = rw section refl in
-    subst (λ (xs : List ℕ). IsLeastHazardous p s xs o) (sym these)
-    (least-fewer p s (stem ∷ plus ∷ minus ∷ []) (plus ∷ minus ∷ stem ∷ []) o (λ z in_. turned (plus == z) (minus == z) (stem == z) in_) least)
-
--- the hazard after an event
-pub hazard-after_none : (p : PlantLists) (t : State) (event : Event) → IsLeastHazardous p t (touched p event) None → IsHazardAfter p t event None
-hazard-after_none p t event least s none e =
-    sym (least-of_all p t (touched p event) None least (λ z within out. untouched-calm p s t event none e z within out))
-
-pub hazard-after_one : (p : PlantLists) (t : State) (event : Event) (x : ℕ) (b : Bool) → IsLeastHazardous p t (touched p event) (Some x) → b ≡ is_two t x → IsHazardAfter p t event (Some (cond b (Two x) (Wrong x)))
-hazard-after_one p t event x b least two s none e =
-    ap (λ (c : Bool). Some (cond c (Two x) (Wrong x))) two ∙ sym (least-of_all p t (touched p event) (Some x) least (λ z within out. untouched-calm p s t event none e z within out))

@@ -12,7 +12,7 @@ use Rattle.ilk_ints.proofs.ValuesLaw.{values_part-low}
 use Rattle.ilk_ints.proofs.BoundsLaw.{at_most-low, at_most-lit_in, bounds-low}
 use Rattle.ilk_ints.proofs.TableParts.{values_part-lits_in, length-values_part, bounds_part-low}
 use Rattle.ilk_copy.specs.Copy.{column_part, columns_part, copy_part, numbers_part, total_bits}
-use Rattle.ilk_copy.proofs.CopyLaw.{ranges_fit, numbers-end, column-low, columns-low}
+use Rattle.ilk_copy.proofs.ColumnLaw.{ranges_fit, numbers-end, column-low, columns-low}
 use Rattle.ilk_forms.specs.Leaf.{columns_in, ranges_of}
 use Rattle.ilk_forms.proofs.Reading.{columns_in-more}
 

@@ -21,7 +21,8 @@ use Rattle.ilk_forms.specs.Bound.{any_leaf, has_any_leaf}
 use Rattle.ilk_forms.specs.Gathered.{same_truth, signed, gathered_each}
 use Rattle.ilk_forms.specs.Truths.{Truths, gate_truth, truths_each, demand_of_bits, demand_each_bits}
 use Rattle.ilk_forms.specs.Demand.{one_clause, some_part, clause_or, demand_of, demand_each}
-use Rattle.ilk_forms.proofs.BoundLaw.{Stands, any-in, any-says}
+use Rattle.ilk_forms.proofs.BoundForms.{Stands}
+use Rattle.ilk_forms.proofs.BoundLaw.{any-in, any-says}
 use Rattle.ilk_forms.proofs.Reading.{Reads, reads-more, columns_in-more, leaf-in}
 use Rattle.ilk_forms.proofs.GatheredFits.{Fits, signed-in, gathered_each-fits}
 use Rattle.ilk_base.proofs.Lengths.{longer}

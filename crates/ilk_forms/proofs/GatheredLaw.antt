@@ -21,7 +21,8 @@ use Rattle.ilk_forms.specs.Leaf.{leaf, columns_in, ranges_of}
 use Rattle.ilk_forms.specs.Bound.{any_leaf, has_any_leaf}
 use Rattle.ilk_forms.specs.Gathered.{Single, same_truth, signed, no_literals, one_literal, literal_or, then_named, gate_part, single_of, single, taken_in, gathered, gathered_each}
 use Rattle.ilk_forms.specs.Truths.{Truths, no_truths, one_truth, then_truths, gate_truth, gate_bits, truths_taken_in, truths, truths_each}
-use Rattle.ilk_forms.proofs.BoundLaw.{Stands, any-says}
+use Rattle.ilk_forms.proofs.BoundForms.{Stands}
+use Rattle.ilk_forms.proofs.BoundLaw.{any-says}
 use Rattle.ilk_forms.proofs.Reading.{Reads, reads-more}
 use Rattle.ilk_forms.proofs.TruthsMean.{alone}
 use Rattle.ilk_forms.proofs.GatheredFits.{Fits, gathered-fits, gathered_each-fits}

@@ -1,3 +1,4 @@
+pub mod BoundForms
 pub mod BoundLaw
 pub mod Reading
 pub mod GatheredFits

@@ -14,7 +14,8 @@ use Rattle.ilk_copy.specs.declared.copy.Column.{Column}
 use Rattle.ilk_copy.specs.Copy.{LiteralsSay}
 use Rattle.ilk_forms.specs.Leaf.{leaf, columns_in, ranges_of}
 use Rattle.ilk_forms.specs.Bound.{bound_leaf, has_bound}
-use Rattle.ilk_forms.proofs.BoundLaw.{Stands, at_most, stands-left, bound-says, bound-in}
+use Rattle.ilk_forms.proofs.BoundForms.{Stands, at_most, stands-left}
+use Rattle.ilk_forms.proofs.BoundLaw.{bound-says, bound-in}
 
 pub columns_in-more : (m n : ℕ) (columns : List Column) → m ≤ n → columns_in m columns ≡ true → columns_in n columns ≡ true
 columns_in-more m n [] le h = refl

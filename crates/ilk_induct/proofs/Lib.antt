@@ -1,4 +1,5 @@
 pub mod Orders
+pub mod Breaches
 pub mod Follows
 pub mod Certified
 pub mod Certificates

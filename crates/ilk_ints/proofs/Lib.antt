@@ -4,4 +4,5 @@ pub mod NumberLaw
 pub mod AtMostLaw
 pub mod ValuesLaw
 pub mod BoundsLaw
+pub mod BoundsPart
 pub mod TableParts

@@ -12,7 +12,8 @@ use Rattle.ilk_ints.specs.Named.{Named, values_from, values_part, values_vars, b
 use Rattle.ilk_ints.specs.AtMost.{highest_bit_says, at_most_part, at_most_lit}
 use Rattle.ilk_ints.proofs.AtMostLaw.{bits_some}
 use Rattle.ilk_ints.proofs.ValuesLaw.{values-low, values-in, values-lits_in}
-use Rattle.ilk_ints.proofs.BoundsLaw.{bounds-low, bounds-in, few_bounds, some-inside}
+use Rattle.ilk_ints.proofs.BoundsLaw.{bounds-low, bounds-in}
+use Rattle.ilk_ints.proofs.BoundsPart.{few_bounds, some-inside}
 
 -- a range up to 256 has enough bits
 

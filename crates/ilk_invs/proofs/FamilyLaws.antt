@@ -10,7 +10,8 @@ use Rattle.ilk_layout.specs.Image.{image_of}
 use Rattle.ilk_layout.specs.Laws.{IsCalm}
 use Rattle.ilk_invs.specs.FamilyTrees.{family_tree, family_trees}
 use Rattle.ilk_invs.specs.Laws.{HoldsAsKept}
-use Rattle.ilk_invs.proofs.HoldLaws.{v2-law, v3-law}
+use Rattle.ilk_invs.proofs.HoldLaws.{v2-law}
+use Rattle.ilk_invs.proofs.HoldingLaws.{v3-law}
 use Rattle.ilk_invs.proofs.PointLaws.{v6-law}
 use Rattle.ilk_invs.proofs.RouteLaws.{v1-law, v4-law, v5-law, v9-law}
 use Rattle.ilk_invs.proofs.TrainLaws.{v7-law, v8-law}

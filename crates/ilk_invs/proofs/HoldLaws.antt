@@ -1,216 +1,38 @@
--- V2 and V3 as conditions hold of the image of a state exactly where the state keeps them.
-use Rattle.std.proofs.Common.{◌≡◌, ℕ, zero, suc, ◌+◌, ◌-◌, ◌/◌, ◌<◌, ◌≤◌, ◌==◌, Bool, true, false, not, ◌&&◌, ◌||◌, cond, Some, List, [], ◌∷◌, ◌++◌, drop, filter, length, map, nat_le, nat_lt, slice_get, take, inl, inr, refl, sym, ◌∙◌, ap, arith}
-use Rattle.std.proofs.Math.Bool.{and-true}
+-- V2 as a condition holds of the image of a state exactly where the state keeps it.
+use Rattle.std.proofs.Common.{◌≡◌, ℕ, zero, suc, ◌+◌, ◌-◌, ◌/◌, ◌<◌, ◌==◌, Bool, true, false, not, ◌&&◌, ◌||◌, Some, List, [], ◌∷◌, ◌++◌, drop, length, nat_le, slice_get, take, inl, inr, refl, sym, ◌∙◌, ap, arith}
 use Rattle.std.specs.Prelude.{if◌then◌else◌}
 use Rattle.std.specs.List.{enumerate_from, flat_map, list_all, range_with_len}
-use Rattle.std.proofs.lemmas.Bool.{and_from, and_parts, cases_Bool, cases_eq, eq-eqb, eqb-true, or_cases, or_left, or_right}
-use Rattle.std.proofs.lemmas.Bool.Decides.{nat_tests}
+use Rattle.std.proofs.lemmas.Bool.{and_from, and_parts, cases_eq, eq-eqb, eqb-true, or_cases, or_left, or_right}
 use Rattle.std.proofs.lemmas.List.Folds.{list_all-append, list_all-map}
 use Rattle.std.proofs.lemmas.Option.{same_Some}
 use Rattle.ilk_base.proofs.Truth.{same_truth, if-passes, passes-if}
 use Rattle.ilk_base.specs.Each.{each_below}
-use Rattle.ilk_base.proofs.Lists.{get-dropped, item_at, take-at, taken-before}
-use Rattle.ilk_base.proofs.ListTests.{all-at, list_all-alike, list_all-flat_map}
-use Rattle.ilk_base.proofs.Once.{EachOnce}
-use Rattle.ilk_base.proofs.Ranges.{below_or_past, passing_within, range-at, range_within}
+use Rattle.ilk_base.proofs.Lists.{item_at, take-at, taken-before}
+use Rattle.ilk_base.proofs.ListTests.{list_all-flat_map}
+use Rattle.ilk_base.proofs.Ranges.{below_or_past, range-at, range_within}
 use Rattle.ilk_base.proofs.Tested.{list_all-slice_get, all-pass}
 use Rattle.ilk_base.proofs.Numbered.{enumerated, enumerated-at}
-use Rattle.ilk_ir.specs.Tree.{negation, tree_holds}
+use Rattle.ilk_ir.specs.Tree.{tree_holds}
 use Rattle.ilk_plant.specs.Network.{has_section}
 use Rattle.ilk_plant.specs.Plant.{IsPlant, PlantLists}
 use Rattle.ilk_plant.specs.Shape.{HasShape}
-use Rattle.ilk_plant.specs.State.{has_lock}
 use Rattle.ilk_plant.specs.TableRules.{sections_locked_for}
-use Rattle.ilk_plant.specs.declared.state.Hold.TheVariants.{Locked as LockedLock, Used as UsedLock}
 use Rattle.ilk_plant.specs.declared.state.RouteState.{RouteState}
 use Rattle.ilk_plant.specs.declared.state.State.{State}
 use Rattle.ilk_plant.specs.declared.table.Route.{Route}
 use Rattle.ilk_routes.specs.Claims.{sections_beside}
-use Rattle.ilk_model.specs.Families.{has_its_locks, keeps_v2, keeps_v3, lock_on_path}
-use Rattle.ilk_model.specs.Holding.{each_place, holds_section, holds_sections, is_kept_on_path, route_holds}
+use Rattle.ilk_model.specs.Families.{keeps_v2}
+use Rattle.ilk_model.specs.Holding.{holds_section, holds_sections, is_kept_on_path, route_holds}
 use Rattle.ilk_model.proofs.Kept.{kept-on_path}
 use Rattle.ilk_layout.specs.Image.{image_of}
-use Rattle.ilk_conditions.specs.Conditions.{lock_is}
-use Rattle.ilk_conditions.proofs.Values.{lock-holds}
-use Rattle.ilk_invs.specs.Held.{holding_section, is_holding, rel_below, seen_below}
 use Rattle.ilk_invs.specs.declared.hold_family.TheConstants.{MAX_IN_ORDER}
-use Rattle.ilk_invs.specs.HoldFamilies.{held_by_halves, held_in_order, held_once, holders, lock_at_place, locked_for, may_hold, none_before, none_holding, not_in_both, route_holding, v2_tree, v3_tree}
-use Rattle.ilk_invs.specs.Parts.{each_of, of_each_place, of_each_route}
-use Rattle.ilk_invs.proofs.HeldLaws.{below-next, holding_section-holds, is_holding-holds, rel_below-holds, seen_below-holds}
-use Rattle.ilk_invs.proofs.PartLaws.{each-place, each-route, each_of-holds, state_of_route, where-holds}
+use Rattle.ilk_invs.specs.HoldFamilies.{held_by_halves, held_in_order, held_once, holders, may_hold, none_before, none_holding, not_in_both, v2_tree}
+use Rattle.ilk_invs.proofs.PartLaws.{each_of-holds, state_of_route}
 use Rattle.ilk_invs.proofs.Sections.{sections_of_route}
 use Rattle.ilk_invs.proofs.Tests.{dropped-at}
-use Rattle.ilk_routes.proofs.Shape.{beside-known}
-
--- numbers of a range that pass a test: each stands once, and each that passes stands there
-passing-above : (test : ℕ → Bool) (a n i x : ℕ) → slice_get (filter test (range_with_len a n)) i ≡ Some x → a ≤ x
-passing-above test a zero i x at = cc
-passing-above test a (suc n) i x at = by_test (test a) i at (λ j here. passing-above test (a + 1) n j x here)
-  where
-    by_test : (b : Bool) (j : ℕ) → slice_get (cond b (a ∷ filter test (range_with_len (a + 1) n)) (filter test (range_with_len (a + 1) n))) j ≡ Some x → ((k : ℕ) → slice_get (filter test (range_with_len (a + 1) n)) k ≡ Some x → a + 1 ≤ x) → a ≤ x
-    by_test true zero here later = let same : a ≡ x = same_Some a x here in omega (arith, same)
-    by_test true (suc j) here later = let below = later j here in omega (arith, below)
-    by_test false j here later = let below = later j here in omega (arith, below)
-
-pub passing-once : (test : ℕ → Bool) (a n : ℕ) → EachOnce (filter test (range_with_len a n))
-passing-once test a zero i j x at also = cc
-passing-once test a (suc n) i j x at also = by_test (test a) i j at also (λ k l one two. passing-once test (a + 1) n k l x one two)
-  where
-    by_test : (b : Bool) (i j : ℕ) →
-        slice_get
-        (cond b (a ∷ filter test (range_with_len (a + 1) n)) (filter test (range_with_len (a + 1) n))) i
-        ≡ Some x →
-        slice_get
-        (cond b (a ∷ filter test (range_with_len (a + 1) n)) (filter test (range_with_len (a + 1) n))) j
-        ≡ Some x
-        → ((k l : ℕ) → slice_get (filter test (range_with_len (a + 1) n)) k ≡ Some x → slice_get (filter test (range_with_len (a + 1) n)) l ≡ Some x → k ≡ l) → i ≡ j
-    by_test true zero zero at also later = refl
-    by_test true zero (suc j) at also later =
-        let same : a ≡ x = same_Some a x at in
-        let above = passing-above test (a + 1) n j x also in
-        absurd (omega (arith, same, above))
-    by_test true (suc i) zero at also later =
-        let same : a ≡ x = same_Some a x also in
-        let above = passing-above test (a + 1) n i x at in
-        absurd (omega (arith, same, above))
-    by_test true (suc i) (suc j) at also later = ap suc (later i j at also)
-    by_test false i j at also later = later i j at also
-
-pub filter-place : {X : Type 0} (test : X → Bool) (xs : List X) (k : ℕ) (x : X) → slice_get xs k ≡ Some x → test x ≡ true → (i : ℕ) × (slice_get (filter test xs) i ≡ Some x)
-filter-place test [] k x at h = cc
-filter-place {X} test (y ∷ xs) zero x at h =
-    let same : y ≡ x = same_Some y x at in
-    let here : test y ≡ true = ap test same ∙ h in
-    (zero, rw here at)
-filter-place {X} test (y ∷ xs) (suc k) x at h =
-    let later = filter-place test xs k x at h in
-    elim (cases_Bool (test y)) [
-      | inl here ↦ (suc later.0, rw here later.1)
-      | inr away ↦ (later.0, rw away later.1)
-    ]
-
-before-first : {X : Type 0} (xs : List X) (k : ℕ) (x : X) → slice_get xs (suc k) ≡ Some x → slice_get (drop 1 xs) k ≡ Some x
-before-first [] k x at = cc
-before-first (y ∷ xs) k x at = at
-
-not-both : (a b : Bool) → not (a && b) ≡ true → a ≡ true → not b ≡ true
-not-both true b h e = h
-not-both false b h e = cc
-
-not-true-false : (a : Bool) → not a ≡ true → a ≡ true → ⊥
-not-true-false true h e = cc
-not-true-false false h e = cc
-
-not-where-never : (a : Bool) → (a ≡ true → ⊥) → not a ≡ true
-not-where-never true never = absurd (never refl)
-not-where-never false never = refl
-
--- what stands past an index stands in the rest of a list from there
-at-dropped : {X : Type 0} (n : ℕ) (xs : List X) (j : ℕ) (x : X) → n ≤ j → slice_get xs j ≡ Some x → slice_get (drop n xs) (j - n) ≡ Some x
-at-dropped n xs j x past at =
-    let sum : n + (j - n) ≡ j = omega (arith, past) in
-    get-dropped xs n (j - n) ∙ ap (slice_get xs) sum ∙ at
+use Rattle.ilk_invs.proofs.HoldingLaws.{at-dropped, before-first, dropped-known, filter-place, holder-known, none_before-holds, none_holding-holds, not-both, not-true-false, not-where-never, passing-once, taken-known}
 
 module _ (p : PlantLists) (plant : IsPlant p) (s : State) (shape : HasShape p s) where
-  -- the lock of a path section
-  lock_place-holds : (r : ℕ) (now : RouteState) (i x : ℕ) → slice_get s.routes r ≡ Some now → x < length p.sections → list_all (tree_holds (image_of p s)) (lock_at_place p r i x) ≡ (not (nat_le now.rel i) || has_lock s x (lock_on_path now i))
-  lock_place-holds r now i x at within =
-      let rel = rel_below-holds p s shape r now (i + 1) at ∙ below-next now.rel i in
-      let seen : tree_holds (image_of p s) (seen_below r (i + 1)) ≡ not (nat_lt i now.seen) = seen_below-holds p s shape r now (i + 1) at ∙ below-next now.seen i ∙ turned now.seen i in
-      joined (tree_holds (image_of p s) (rel_below r (i + 1)))
-      (tree_holds (image_of p s) (seen_below r (i + 1)))
-      (tree_holds (image_of p s) (lock_is p x LockedLock))
-      (tree_holds (image_of p s) (lock_is p x UsedLock)) (nat_le now.rel i) (nat_lt i now.seen)
-      (has_lock s x LockedLock) (has_lock s x UsedLock) rel seen
-      (lock-holds p s shape x LockedLock within) (lock-holds p s shape x UsedLock within)
-      ∙ ap (λ v. not (nat_le now.rel i) || v) (chosen (nat_lt i now.seen) refl)
-    where
-      turned : (a b : ℕ) → nat_le a b ≡ not (nat_lt b a)
-      turned a b = grind (arith, nat_tests)
-
-      chosen : (b : Bool) → nat_lt i now.seen ≡ b → (if b then has_lock s x UsedLock else has_lock s x LockedLock) ≡ has_lock s x (lock_on_path now i)
-      chosen true e = rw e refl
-      chosen false e = rw e refl
-
-      cases : (a b l u : Bool) → ((not a || (not (not b) || (l || false))) && ((not a || (not b || (u || false))) && true)) ≡ (not a || (if b then u else l))
-      cases true true l true = refl
-      cases true true l false = refl
-      cases true false true u = refl
-      cases true false false u = refl
-      cases false b l u = refl
-
-      joined : (a c l u a2 b l2 u2 : Bool) → a ≡ a2 → c ≡ not b → l ≡ l2 → u ≡ u2 → ((not a || (not c || (l || false))) && ((not a || (c || (u || false))) && true)) ≡ (not a2 || (if b then u2 else l2))
-      joined a c l u a2 b l2 u2 one two three four =
-          ap (λ v. ((not v || (not c || (l || false))) && ((not v || (c || (u || false))) && true))) one
-          ∙ ap (λ v. ((not a2 || (not v || (l || false))) && ((not a2 || (v || (u || false))) && true))) two
-          ∙ ap (λ v. ((not a2 || (not (not b) || (v || false))) && ((not a2 || (not b || (u || false))) && true))) three
-          ∙ ap (λ v. ((not a2 || (not (not b) || (l2 || false))) && ((not a2 || (not b || (v || false))) && true))) four
-          ∙ cases a2 b l2 u2
-
-  locked_for-holds : (r : ℕ) (route : Route) (now : RouteState) → slice_get p.routes r ≡ Some route →
-      slice_get s.routes r ≡ Some now →
-      list_all (tree_holds (image_of p s)) (locked_for p r route ∷ [])
-      ≡ (if holds_sections now then has_its_locks s route now else true)
-  locked_for-holds r route now known at =
-      let of = plant.routes_known r route known in
-      let places = each-place (image_of p s) route (lock_at_place p r)
-      (λ i x. not (nat_le now.rel i) || has_lock s x (lock_on_path now i))
-      (λ i x found. lock_place-holds r now i x at
-      (all-at (λ x. x < length p.sections) route.path i x of.path found)) in
-      let beside =
-      list_all-map (tree_holds (image_of p s)) (λ x. lock_is p x LockedLock) (sections_beside route)
-      ∙ list_all-alike (λ x. tree_holds (image_of p s) (lock_is p x LockedLock))
-      (λ x. has_lock s x LockedLock) (sections_beside route)
-      (λ i x found. lock-holds p s shape x LockedLock (beside-known p route of i x found)) in
-      and-true (tree_holds (image_of p s) (locked_for p r route))
-      ∙ where-holds (image_of p s) (is_holding r) (each_of (of_each_place route (lock_at_place p r) ++ map (λ x. lock_is p x LockedLock) (sections_beside route))) (holds_sections now) (has_its_locks s route now) (is_holding-holds p s shape r now at)
-      (each_of-holds (image_of p s) (of_each_place route (lock_at_place p r) ++ map (λ x. lock_is p x LockedLock) (sections_beside route))
-      ∙ list_all-append (tree_holds (image_of p s)) (of_each_place route (lock_at_place p r)) (map (λ x. lock_is p x LockedLock) (sections_beside route))
-      ∙ ap (λ v. v && list_all (tree_holds (image_of p s)) (map (λ x. lock_is p x LockedLock) (sections_beside route))) places
-      ∙ ap (λ v. each_place route (λ i x. not (nat_le now.rel i) || has_lock s x (lock_on_path now i)) && v) beside)
-
-  pub v3-law : tree_holds (image_of p s) (v3_tree p) ≡ keeps_v3 p s
-  v3-law =
-      each_of-holds (image_of p s) (of_each_route p (λ r route. locked_for p r route ∷ []))
-      ∙ each-route p s shape (image_of p s) (λ r route. locked_for p r route ∷ []) (λ route now. if holds_sections now then has_its_locks s route now else true) locked_for-holds
-
-  -- whether a route holds a section
-  route_holding-holds : (x r : ℕ) → r < length p.routes → tree_holds (image_of p s) (each_of (route_holding p x r)) ≡ route_holds p s r x
-  route_holding-holds x r within =
-      let route = item_at p.routes r within in
-      let now = state_of_route p s shape r route.0 route.1 in
-      rw (route.1, now.1) (and-true (tree_holds (image_of p s) (holding_section r route.0 x)) ∙ holding_section-holds p s shape r route.0 now.0 x route.1 now.1)
-
-  not_holding-holds : (x r : ℕ) → r < length p.routes → list_all (λ t. not (tree_holds (image_of p s) t)) (route_holding p x r) ≡ not (route_holds p s r x)
-  not_holding-holds x r within =
-      let route = item_at p.routes r within in
-      let now = state_of_route p s shape r route.0 route.1 in
-      rw (route.1, now.1) (and-true (not (tree_holds (image_of p s) (holding_section r route.0 x))) ∙ ap not (holding_section-holds p s shape r route.0 now.0 x route.1 now.1))
-
-  none_holding-holds : (x : ℕ) (routes : List ℕ) → ((i q : ℕ) → slice_get routes i ≡ Some q → q < length p.routes) → tree_holds (image_of p s) (none_holding p x routes) ≡ list_all (λ q. not (route_holds p s q x)) routes
-  none_holding-holds x routes known =
-      each_of-holds (image_of p s) (map negation (flat_map (route_holding p x) routes))
-      ∙ list_all-map (tree_holds (image_of p s)) negation (flat_map (route_holding p x) routes)
-      ∙ list_all-flat_map (λ t. not (tree_holds (image_of p s) t)) (route_holding p x) routes
-      ∙ list_all-alike (λ q. list_all (λ t. not (tree_holds (image_of p s) t)) (route_holding p x q)) (λ q. not (route_holds p s q x)) routes (λ i q found. not_holding-holds x q (known i q found))
-
-  none_before-holds : (x : ℕ) (before : List ℕ) (r : ℕ) → r < length p.routes →
-      ((i q : ℕ) → slice_get before i ≡ Some q → q < length p.routes) →
-      tree_holds (image_of p s) (none_before p x before r)
-      ≡ (if route_holds p s r x then list_all (λ q. not (route_holds p s q x)) before else true)
-  none_before-holds x before r within known =
-      where-holds (image_of p s) (each_of (route_holding p x r)) (none_holding p x before) (route_holds p s r x) (list_all (λ q. not (route_holds p s q x)) before) (route_holding-holds x r within) (none_holding-holds x before known)
-
-  holder-known : (x i r : ℕ) → slice_get (holders p x) i ≡ Some r → r < length p.routes
-  holder-known x i r at = let less = passing_within (may_hold p x) 0 (length p.routes) i r at in omega (arith, less)
-
-  -- parts of a list of routes
-  taken-known : (routes : List ℕ) (n : ℕ) → ((i q : ℕ) → slice_get routes i ≡ Some q → q < length p.routes) → (i q : ℕ) → slice_get (take n routes) i ≡ Some q → q < length p.routes
-  taken-known routes n known i q at = known i q (taken-before n routes i q at).1
-
-  dropped-known : (routes : List ℕ) (n : ℕ) → ((i q : ℕ) → slice_get routes i ≡ Some q → q < length p.routes) → (i q : ℕ) → slice_get (drop n routes) i ≡ Some q → q < length p.routes
-  dropped-known routes n known i q at = known (n + i) q (dropped-at n routes i q at)
-
   -- a route that holds a section may hold it
   may-hold : (x r : ℕ) → r < length p.routes → route_holds p s r x ≡ true → may_hold p x r ≡ true
   may-hold x r within h =
@@ -239,7 +61,7 @@ module _ (p : PlantLists) (plant : IsPlant p) (s : State) (shape : HasShape p s)
       list_all-slice_get
       (λ place. tree_holds (image_of p s) (none_before p x (take place.0 routes) place.1))
       (enumerate_from 1 (drop 1 routes)) j (1 + j, q) each place in
-      let says = sym (none_before-holds x (take (1 + j) routes) q (known (suc j) q also) (taken-known routes (1 + j) known)) ∙ this in
+      let says = sym (none_before-holds p plant s shape x (take (1 + j) routes) q (known (suc j) q also) (taken-known p plant s shape routes (1 + j) known)) ∙ this in
       let none = if-passes (route_holds p s q x) (list_all (λ q. not (route_holds p s q x)) (take (1 + j) routes)) says two in
       let first = list_all-slice_get (λ q. not (route_holds p s q x)) (take (1 + j) routes) i r none (take-at routes i (1 + j) r (omega (arith, less)) at) in
       not-true-false (route_holds p s r x) first one
@@ -253,10 +75,10 @@ module _ (p : PlantLists) (plant : IsPlant p) (s : State) (shape : HasShape p s)
       route_holds p s q x ≡ true → ⊥
   one-of-both x these those known also_known h i j r q at also one two =
       elim (or_cases (tree_holds (image_of p s) (none_holding p x these)) (tree_holds (image_of p s) (none_holding p x those) || false) h) [
-        | inl none ↦ not-true-false (route_holds p s r x) (list_all-slice_get (λ r. not (route_holds p s r x)) these i r (sym (none_holding-holds x these known) ∙ none) at) one
+        | inl none ↦ not-true-false (route_holds p s r x) (list_all-slice_get (λ r. not (route_holds p s r x)) these i r (sym (none_holding-holds p plant s shape x these known) ∙ none) at) one
         | inr rest ↦
             elim (or_cases (tree_holds (image_of p s) (none_holding p x those)) false rest) [
-              | inl none ↦ not-true-false (route_holds p s q x) (list_all-slice_get (λ q. not (route_holds p s q x)) those j q (sym (none_holding-holds x those also_known) ∙ none) also) two
+              | inl none ↦ not-true-false (route_holds p s q x) (list_all-slice_get (λ q. not (route_holds p s q x)) those j q (sym (none_holding-holds p plant s shape x those also_known) ∙ none) also) two
               | inr never ↦ cc
             ]
       ]
@@ -275,7 +97,10 @@ module _ (p : PlantLists) (plant : IsPlant p) (s : State) (shape : HasShape p s)
         | inl before ↦ early i j r q less (take-at routes i n r (omega (arith, less, before)) at) (take-at routes j n q before also) one two
         | inr past ↦
             elim (below_or_past i n) [
-              | inl before ↦ one-of-both x (take n routes) (drop n routes) (taken-known routes n known) (dropped-known routes n known) both i (j - n) r q (take-at routes i n r before at) (at-dropped n routes j q past also) one two
+              | inl before ↦ one-of-both x (take n routes) (drop n routes)
+                  (taken-known p plant s shape routes n known) (dropped-known p plant s shape routes n known)
+                  both i (j - n) r q (take-at routes i n r before at) (at-dropped n routes j q past also) one
+                  two
               | inr beyond ↦ late (i - n) (j - n) r q (omega (arith, less, past, beyond)) (at-dropped n routes i r beyond at) (at-dropped n routes j q past also) one two
             ]
       ]
@@ -287,7 +112,11 @@ module _ (p : PlantLists) (plant : IsPlant p) (s : State) (shape : HasShape p s)
       route_holds p s q x ≡ true → ⊥
   no-two zero x routes known all i j r q less at also one two = two-in-order x routes known all i j r q less at also one two
   no-two (suc n) x routes known all i j r q less at also one two =
-      by_size (nat_le (length routes) MAX_IN_ORDER) all (no-two n x (take (length routes / 2) routes) (taken-known routes (length routes / 2) known)) (no-two n x (drop (length routes / 2) routes) (dropped-known routes (length routes / 2) known))
+      by_size (nat_le (length routes) MAX_IN_ORDER) all
+      (no-two n x (take (length routes / 2) routes)
+      (taken-known p plant s shape routes (length routes / 2) known))
+      (no-two n x (drop (length routes / 2) routes)
+      (dropped-known p plant s shape routes (length routes / 2) known))
     where
       by_size : (few : Bool) →
           list_all (tree_holds (image_of p s))
@@ -332,7 +161,7 @@ module _ (p : PlantLists) (plant : IsPlant p) (s : State) (shape : HasShape p s)
       ∙ all-pass (λ place. tree_holds (image_of p s) (none_before p x (take place.0 routes) place.1)) (enumerate_from 1 (drop 1 routes)) (λ k place there.
       let it = enumerated 1 (drop 1 routes) k place there in
       let at = dropped-at 1 routes k place.1 it.1 in
-      none_before-holds x (take place.0 routes) place.1 (known (1 + k) place.1 at) (taken-known routes place.0 known)
+      none_before-holds p plant s shape x (take place.0 routes) place.1 (known (1 + k) place.1 at) (taken-known p plant s shape routes place.0 known)
       ∙ passes-if (route_holds p s place.1 x) (list_all (λ q. not (route_holds p s q x)) (take place.0 routes)) (λ one.
       all-pass (λ q. not (route_holds p s q x)) (take place.0 routes) (λ j q before.
       let earlier = taken-before place.0 routes j q before in
@@ -350,11 +179,11 @@ module _ (p : PlantLists) (plant : IsPlant p) (s : State) (shape : HasShape p s)
       by_first false e =
           or_right (tree_holds (image_of p s) (none_holding p x these)) (tree_holds (image_of p s) (none_holding p x those) || false)
           (or_left (tree_holds (image_of p s) (none_holding p x those)) false
-          (none_holding-holds x those also_known
+          (none_holding-holds p plant s shape x those also_known
           ∙ all-pass (λ q. not (route_holds p s q x)) those (λ j q also.
           not-where-never (route_holds p s q x) (λ two.
           let none : tree_holds (image_of p s) (none_holding p x these) ≡ true =
-          none_holding-holds x these known
+          none_holding-holds p plant s shape x these known
           ∙ all-pass (λ r. not (route_holds p s r x)) these (λ i r at. not-where-never (route_holds p s r x) (λ one. never i j r q at also one two)) in
           let no : false ≡ true = sym e ∙ none in
           cc))))
@@ -366,14 +195,14 @@ module _ (p : PlantLists) (plant : IsPlant p) (s : State) (shape : HasShape p s)
   by-halves zero x routes known never = in-order x routes known never
   by-halves (suc n) x routes known never =
       by_size (nat_le (length routes) MAX_IN_ORDER)
-      (by-halves n x (take (length routes / 2) routes) (taken-known routes (length routes / 2) known) (λ i j r q less at also one two.
+      (by-halves n x (take (length routes / 2) routes) (taken-known p plant s shape routes (length routes / 2) known) (λ i j r q less at also one two.
       never i j r q less (taken-before (length routes / 2) routes i r at).1 (taken-before (length routes / 2) routes j q also).1 one two))
-      (by-halves n x (drop (length routes / 2) routes) (dropped-known routes (length routes / 2) known) (λ i j r q less at also one two.
+      (by-halves n x (drop (length routes / 2) routes) (dropped-known p plant s shape routes (length routes / 2) known) (λ i j r q less at also one two.
       never (length routes / 2 + i) (length routes / 2 + j) r q (omega (arith, less)) (dropped-at (length routes / 2) routes i r at) (dropped-at (length routes / 2) routes j q also) one two))
     where
       both : tree_holds (image_of p s) (not_in_both p x (take (length routes / 2) routes) (drop (length routes / 2) routes)) ≡ true
       both =
-          of-both x (take (length routes / 2) routes) (drop (length routes / 2) routes) (taken-known routes (length routes / 2) known) (dropped-known routes (length routes / 2) known) (λ i j r q at also one two.
+          of-both x (take (length routes / 2) routes) (drop (length routes / 2) routes) (taken-known p plant s shape routes (length routes / 2) known) (dropped-known p plant s shape routes (length routes / 2) known) (λ i j r q at also one two.
           let here = taken-before (length routes / 2) routes i r at in
           let less = here.0 in
           never i (length routes / 2 + j) r q (omega (arith, less)) here.1 (dropped-at (length routes / 2) routes j q also) one two)
@@ -421,11 +250,11 @@ module _ (p : PlantLists) (plant : IsPlant p) (s : State) (shape : HasShape p s)
               let first = filter-place (may_hold p x) (range_with_len 0 (length p.routes)) r r (range-at (length p.routes) r one_known) (may-hold x r one_known one) in
               let second = filter-place (may_hold p x) (range_with_len 0 (length p.routes)) q q (range-at (length p.routes) q two_known) (may-hold x q two_known two) in
               elim (below_or_past first.0 second.0) [
-                | inl less ↦ no-two (length (holders p x)) x (holders p x) (holder-known x) all first.0 second.0 r q less first.1 second.1 one two
+                | inl less ↦ no-two (length (holders p x)) x (holders p x) (holder-known p plant s shape x) all first.0 second.0 r q less first.1 second.1 one two
                 | inr past ↦
                     elim (cases_eq first.0 second.0) [
                       | inl same ↦ apart (same_Some r q (sym first.1 ∙ ap (slice_get (holders p x)) same ∙ second.1))
-                      | inr other ↦ no-two (length (holders p x)) x (holders p x) (holder-known x) all second.0 first.0 q r (omega (arith, past, other)) second.1 first.1 two one
+                      | inr other ↦ no-two (length (holders p x)) x (holders p x) (holder-known p plant s shape x) all second.0 first.0 q r (omega (arith, past, other)) second.1 first.1 two one
                     ]
               ]
 
@@ -447,13 +276,13 @@ module _ (p : PlantLists) (plant : IsPlant p) (s : State) (shape : HasShape p s)
       back : keeps_v2 p s ≡ true → list_all (λ x. list_all (tree_holds (image_of p s)) (held_once p x)) (range_with_len 0 (length p.sections)) ≡ true
       back h =
           all-pass (λ x. list_all (tree_holds (image_of p s)) (held_once p x)) (range_with_len 0 (length p.sections)) (λ i x found.
-          by-halves (length (holders p x)) x (holders p x) (holder-known x) (λ j k r q less at also one two.
+          by-halves (length (holders p x)) x (holders p x) (holder-known p plant s shape x) (λ j k r q less at also one two.
           never x j k r q (range_within (length p.sections) i x found).1 less at also one two))
         where
           never : (x j k r q : ℕ) → x < length p.sections → j < k → slice_get (holders p x) j ≡ Some r → slice_get (holders p x) k ≡ Some q → route_holds p s r x ≡ true → route_holds p s q x ≡ true → ⊥
           never x j k r q inside less at also one two =
-              let r_known = holder-known x j r at in
-              let q_known = holder-known x k q also in
+              let r_known = holder-known p plant s shape x j r at in
+              let q_known = holder-known p plant s shape x k q also in
               let apart : r ≡ q → ⊥ = (λ same. let places : j ≡ k = passing-once (may_hold p x) 0 (length p.routes) j k q (at ∙ ap Some same) also in omega (arith, less, places)) in
               let row = list_all-slice_get (λ r. each_below (length p.routes) (apart_test r)) (range_with_len 0 (length p.routes)) r r h (range-at (length p.routes) r r_known) in
               let pair = list_all-slice_get (apart_test r) (range_with_len 0 (length p.routes)) q q row (range-at (length p.routes) q q_known) in

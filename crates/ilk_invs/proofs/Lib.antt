@@ -1,6 +1,7 @@
 pub mod FamilyLaws
 pub mod Halves
 pub mod HeldLaws
+pub mod HoldingLaws
 pub mod HoldLaws
 pub mod PartLaws
 pub mod PointLaws
@@ -8,5 +9,9 @@ pub mod Pushed
 pub mod RouteLaws
 pub mod Sections
 pub mod Tests
+pub mod OccupancyLaws
+pub mod LedLaws
 pub mod TrainLaws
+pub mod ValidParts
+pub mod ValidRouteTrees
 pub mod ValidTrees

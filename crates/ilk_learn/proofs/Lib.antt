@@ -7,4 +7,5 @@ pub mod Walk
 pub mod Fresh
 pub mod Laws
 pub mod Holding
+pub mod Resolving
 pub mod Far

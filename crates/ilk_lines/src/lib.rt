@@ -11,9 +11,9 @@
 //! `read_each` where a line must tell of each item, by `read_leading` for as many lines as tell
 //! something, or by `next`, `line` and `split_first` in a loop of the caller's own; and last by
 //! `finish`. A text of another form is taken apart at a byte by `cut`. A line is taken apart by
-//! `after_word`, `first_word` and `next_word`, and its numbers are read by `decimal_up_to`. `push_decimal` writes a number. The laws say that what is written is
-//! read again, and nothing else: `texts_are_their_lines`, `lines_are_their_words`,
-//! `decimals_are_those_written`.
+//! `after_word`, `first_word` and `next_word`, and its numbers are read by `decimal_up_to`.
+//! `push_decimal` writes a number. The laws say that what is written is read again, and nothing
+//! else: `texts_are_their_lines`, `lines_are_their_words`, `decimals_are_those_written`.
 //!
 //! A long text is taken in pieces, and needn't be held: `Token` has the few bytes of it that were made
 //! last, whose numbers `itoa` writes without memory. `Untaken` is what is left to take of a text that

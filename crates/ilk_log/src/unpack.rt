@@ -1,4 +1,4 @@
-ghost use Rattle.std.specs.Prelude.{◌≡◌, [], drop, map, take, IfOk};
+ghost use Rattle.std.specs.Prelude.{◌≡◌, drop, map, take, IfOk};
 ghost use Rattle.ilk_log.specs.Packed.{literal_told, numbers_from};
 
 use crate::hints::Hints;

@@ -5,7 +5,10 @@ pub mod LeastHazard
 pub mod HeldTwice
 pub mod LeastBroken
 pub mod Alike
-pub mod Frames
+pub mod SameLists
+pub mod RouteFrames
+pub mod PointFrames
+pub mod TrainFrames
 pub mod Straying
 pub mod Shape
 pub mod Kept

@@ -65,7 +65,8 @@ fn push_end(
     name: &Option<Text>,
 ) -> Result<(), AllocError>
     ensures { OnOk result
-        (ends.new ≡ ends.old ++ map (numbered_end (first_named names.now)) (end_with side name.now)) }
+        (ends.new ≡ ends.old
+        ++ map (numbered_end (first_named names.now)) (end_with side name.now)) }
 {
     if let Some(name) = name {
         ends.push(end_of(names, side, name))?;

@@ -12,7 +12,7 @@ use Rattle.ilk_plant.specs.declared.draft.RouteDraft.{RouteDraft}
 use Rattle.ilk_plant.specs.declared.draft.SectionDraft.{SectionDraft}
 use Rattle.ilk_plant.specs.declared.network.Dir.{Dir}
 use Rattle.ilk_plant.specs.declared.network.Dir.TheVariants.{Up, Down}
-use Rattle.ilk_plant.proofs.Boards.{names_in}
+use Rattle.ilk_plant.proofs.FewBoards.{names_in}
 use Rattle.ilk_base.proofs.Tested.{All-tested, list_all-weaken}
 use Rattle.std.proofs.lemmas.Bool.{and_parts}
 

@@ -1,5 +1,6 @@
 pub mod Alike
 pub mod AllowedNames
+pub mod FewBoards
 pub mod Boards
 pub mod Leads
 pub mod NamesDiffer

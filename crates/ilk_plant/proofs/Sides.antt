@@ -41,6 +41,6 @@ pub not-back : (p : PlantLists) → IsPlant p → (x y : ℕ) (d : Dir) → has_
 not-back p plant x y Up h = one-side p plant y x Down (back-opposite p plant x y Up h)
 not-back p plant x y Down h = one-side p plant y x Up (back-opposite p plant x y Down h)
 
--- the name of section x stands for x, and so for boards and routes
+-- the name of board m stands for m
 pub board-own : (p : PlantLists) → IsPlant p → (m : ℕ) (name : Name) → slice_get p.board_names m ≡ Some name → first_named p.board_names name ≡ Some m
 board-own p plant m name at = first_named-own p.board_names name m (all_differ-places p.board_names plant.board_names_differ) at

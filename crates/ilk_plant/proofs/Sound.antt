@@ -2,7 +2,8 @@
 use Rattle.std.proofs.Common.{◌≡◌, length, refl, sym, ◌∙◌, subst, arith, []}
 use Rattle.std.proofs.lemmas.List.{length-map}
 use Rattle.ilk_plant.proofs.AllowedNames.{board_names-allowed, route_names-allowed, section_names-allowed}
-use Rattle.ilk_plant.proofs.Boards.{boards-agree, boards-lead, boards-numbered, few-boards}
+use Rattle.ilk_plant.proofs.Boards.{boards-agree, boards-lead, boards-numbered}
+use Rattle.ilk_plant.proofs.FewBoards.{few-boards}
 use Rattle.ilk_plant.proofs.Neighbours.{next-back, next-known, next-once, next-other, next-some}
 use Rattle.ilk_plant.proofs.NamesDiffer.{named-once}
 use Rattle.ilk_plant.proofs.Once.{all_differ-from_places}

@@ -7,10 +7,10 @@
 //! A configuration is read into drafts, which have names (`draft`). `NetNames` has the names of a
 //! network by number, `Numbered` the drafts with numbers for names; both are made once and handed
 //! on. `Plant::of_numbered` makes the plant of numbered drafts that break no rule, so that a plant
-//! keeps as facts what the rules ask; `Plant::make` does all three. The definitions of the rules stand here (`specs/NetworkRules.antt`,
-//! `TableRules.antt`, `ColumnRules.antt`), since the plant's own facts rest on them. A state begins
-//! at `start_state`; `has_shape` tells which states are about a plant. The limits have their names
-//! in `limits`, the words of texts in `words`.
+//! keeps as facts what the rules ask; `Plant::make` does all three. The definitions of the rules
+//! stand here (`specs/NetworkRules.antt`, `TableRules.antt`, `ColumnRules.antt`), since the plant's
+//! own facts rest on them. A state begins at `start_state`; `has_shape` tells which states are
+//! about a plant. The limits have their names in `limits`, the words of texts in `words`.
 #![tactic(auto)]
 
 mod broken;

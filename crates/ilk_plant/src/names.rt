@@ -9,7 +9,8 @@ use indexmap::IndexMap;
 use std::alloc::{AllocError, Global};
 use std::marker::Model;
 
-/// Names, at most as many as the most boards, which contracts see as their list. An index keeps the first number of each.
+/// Names, at most as many as the most boards, which contracts see as their list. An index keeps the
+/// first number of each.
 #[derive(Drop)]
 pub struct Names {
     names: Row<Text>,

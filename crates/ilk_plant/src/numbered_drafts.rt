@@ -45,8 +45,7 @@ impl Model for Numbered {
         (length p.route_names ≡ length p.routes) };
 }
 
-// What is made of a table, and of a network whose names are made already: the names of the routes, and
-// sections and routes with numbers for names.
+// The names of a table's routes, and sections and routes with numbers for names.
 #[derive(Drop)]
 struct Lists {
     route_names: Names,
@@ -54,6 +53,7 @@ struct Lists {
     routes: Row<Route>,
 }
 
+// What is made of a table, and of a network whose names are made already.
 fn numbered_lists(
     alloc: Global,
     names: &NetNames,

@@ -190,7 +190,8 @@ fn numbered_route(
     route: &RouteDraft,
 ) -> Result<Route, AllocError>
     ensures { IfOk result
-        (λ made. made ≡ numbered_route section_names.now board_names.now route_names.now route.now) }
+        (λ made. made
+        ≡ numbered_route section_names.now board_names.now route_names.now route.now) }
 {
     Ok(Route {
         source: board_names.number_of(&route.source),

@@ -1,5 +1,5 @@
 -- How the items of a text are read, word by word.
-use Rattle.std.proofs.Common.{◌≡◌, ◌++◌, ◌∷◌, [], ◌⊎◌, ◌||◌, ◌&&◌, eqb, ℕ, inl, inr, Bool, true, false, not, List, Option, Some, None, refl, sym, ap, ◌∙◌, subst, arith, append_assoc, option_map}
+use Rattle.std.proofs.Common.{◌≡◌, ◌++◌, ◌∷◌, [], ◌||◌, ◌&&◌, eqb, ℕ, inl, inr, Bool, true, false, not, List, Option, Some, None, refl, sym, ap, ◌∙◌, subst, arith, option_map}
 use Rattle.std.specs.Prelude.{bytes_eq, codes, nat_le, nat_lt}
 use Rattle.std.specs.Str.Parse.{digits_value}
 use Rattle.std.proofs.lemmas.Slice.Eq.{bytes_eq-Decides}
@@ -7,149 +7,18 @@ use Rattle.ilk_base.proofs.Options.{bind_some, mapped-Some}
 use Rattle.ilk_lines.specs.Decimal.{decimal_up_to, is_decimal}
 use Rattle.ilk_rup.specs.Needs.{IsClauseOf}
 use Rattle.std.proofs.lemmas.Bool.{and_from, and_parts, cases_Bool, not_from_false, or_cases, or_left, or_parts, or_right, true≢false}
-use Rattle.std.proofs.lemmas.List.{append-nil}
-use Rattle.std.proofs.lemmas.List.Folds.{list_any-append}
 use Rattle.std.proofs.lemmas.Option.{same_Some}
 use Rattle.ilk_base.specs.Option.{◌>>=◌, only_if}
 use Rattle.ilk_cnf.specs.Literal.{Literal, opposite, same_lit, has_lit, has_var, vars_differ}
 use Rattle.ilk_cnf.specs.Formula.{as_clause, clause_in, distinct, is_tautology, lit_in}
-use Rattle.ilk_cnf.proofs.Gates.{opposite-opposite}
-use Rattle.ilk_cnf.proofs.SameLiterals.{same-lit, lit-is}
+use Rattle.ilk_cnf.proofs.SameLiterals.{lit-is}
 use Rattle.ilk_lines.specs.Lines.{Bytes}
 use Rattle.ilk_learn.proofs.Members.{each-within, var-of}
 use Rattle.ilk_rup.specs.RefutationText.{added_by, in_first, is_end, items_of, literal_of, literals_of, var_of}
 use Rattle.ilk_rup.specs.Items.{AreRead, IsItemRead, IsPut, IsRead, kept_item, plain_item, there, clash, more}
 use Rattle.ilk_rup.proofs.Signs.{var-either}
 use Rattle.ilk_rup.proofs.Needing.{pushed-lit, push-old, push-new}
-
--- where words and literals were read before these words: what the first item of all is
-pub record Before (n : ℕ) (words now : List Bytes) (ls : List Literal) : Type 0 where
-  pub front : List Bytes
-  pub whole : words ≡ front ++ now
-  pub lits : (w : Bytes) (ws : List Bytes) → literals_of n (front ++ w ∷ ws) ≡ option_map (λ ms. ls ++ ms) (literals_of n (w ∷ ws))
-  pub items : (w : Bytes) (ws item : List Bytes) (rest : List (List Bytes)) → items_of (w ∷ ws) ≡ item ∷ rest → items_of (front ++ w ∷ ws) ≡ (front ++ item) ∷ rest
-
-pub before-start : (n : ℕ) (words : List Bytes) → Before n words words []
-before-start n words = record {
-  front = [];
-  whole = refl;
-  lits = λ w ws. same (literals_of n (w ∷ ws));
-  items = λ w ws item rest e. e;
-}
-  where
-    same : (o : Option (List Literal)) → o ≡ option_map (λ ms. [] ++ ms) o
-    same None = refl
-    same (Some ms) = refl
-
-first-lits : (n : ℕ) (word w : Bytes) (ws : List Bytes) (l : Literal) (ls : List Literal) → literal_of n word ≡ Some l → option_map (λ ms. ls ++ ms) (literals_of n (word ∷ (w ∷ ws))) ≡ option_map (λ ms. (ls ++ l ∷ []) ++ ms) (literals_of n (w ∷ ws))
-first-lits n word w ws l ls e = ap (λ (o : Option Literal). option_map (λ ms. ls ++ ms) (o >>= λ x. literals_of n (w ∷ ws) >>= λ xs. Some (x ∷ xs))) e ∙ go (literals_of n (w ∷ ws))
-  where
-    go : (o : Option (List Literal)) → option_map (λ ms. ls ++ ms) (o >>= λ xs. Some (l ∷ xs)) ≡ option_map (λ ms. (ls ++ l ∷ []) ++ ms) o
-    go None = refl
-    go (Some ms) = ap (λ (xs : List Literal). Some xs) (sym (append_assoc ls (l ∷ []) ms))
-
-pub before-next : (n : ℕ) (words rest : List Bytes) (word : Bytes) (ls : List Literal) (l : Literal) → Before n words (word ∷ rest) ls → is_end word ≡ false → literal_of n word ≡ Some l → Before n words rest (ls ++ l ∷ [])
-before-next n words rest word ls l b e k = record {
-  front = b.front ++ word ∷ [];
-  whole = b.whole ∙ sym (append_assoc b.front (word ∷ []) rest);
-  lits = λ w ws. ap (literals_of n) (append_assoc b.front (word ∷ []) (w ∷ ws)) ∙ b.lits word (w ∷ ws) ∙ first-lits n word w ws l ls k;
-  items = λ w ws item more h. (let inner : items_of (word ∷ (w ∷ ws)) ≡ (word ∷ item) ∷ more = rw e (ap (in_first word) h) in
-      ap items_of (append_assoc b.front (word ∷ []) (w ∷ ws)) ∙ b.items word (w ∷ ws) (word ∷ item) more inner ∙ ap (λ (xs : List Bytes). xs ∷ more) (sym (append_assoc b.front (word ∷ []) item)));
-}
-
--- the word 0
-pub read-end : (n : ℕ) (words rest : List Bytes) (word : Bytes) (ls : List Literal) → Before n words (word ∷ rest) ls → is_end word ≡ true → (item : List Bytes) × (items_of words ≡ item ∷ items_of rest) × (literals_of n item ≡ Some ls)
-read-end n words rest word ls b e =
-    let inner : items_of (word ∷ rest) ≡ (word ∷ []) ∷ items_of rest = rw e refl in
-    let last : literals_of n (word ∷ []) ≡ Some [] = rw e refl in (
-      b.front ++ word ∷ [],
-      ap items_of b.whole ∙ b.items word rest (word ∷ []) (items_of rest) inner,
-      b.lits word [] ∙ ap (option_map (λ ms. ls ++ ms)) last ∙ ap (λ (xs : List Literal). Some xs) (append-nil ls),
-    )
-
--- the first item of some words
-first-item : (word : Bytes) (rest : List Bytes) → is_end word ≡ false → (tail : List Bytes) × (items : List (List Bytes)) × (items_of (word ∷ rest) ≡ (word ∷ tail) ∷ items)
-first-item word rest e = go (items_of rest) refl
-  where
-    go : (xs : List (List Bytes)) → items_of rest ≡ xs → (tail : List Bytes) × (items : List (List Bytes)) × (items_of (word ∷ rest) ≡ (word ∷ tail) ∷ items)
-    go [] h = ([], [], rw e (ap (in_first word) h))
-    go (item ∷ items) h = (item, items, rw e (ap (in_first word) h))
-
--- a word that is none of the two
-pub read-bad : (n : ℕ) (words rest : List Bytes) (word : Bytes) (ls : List Literal) →
-    Before n words (word ∷ rest) ls → is_end word ≡ false → literal_of n word ≡ None →
-    (item : List Bytes) × (items : List (List Bytes)) × (items_of words ≡ item ∷ items) ×
-    (literals_of n item ≡ None)
-read-bad n words rest word ls b e k =
-    let f = first-item word rest e in (
-      b.front ++ word ∷ f.0,
-      f.1,
-      ap items_of b.whole ∙ b.items word rest (word ∷ f.0) f.1 f.2,
-      b.lits word f.0 ∙ ap (option_map (λ ms. ls ++ ms)) (bad f.0),
-    )
-  where
-    bad : (tail : List Bytes) → literals_of n (word ∷ tail) ≡ None
-    bad [] = rw e refl
-    bad (w ∷ ws) = ap (λ (o : Option Literal). o >>= λ x. literals_of n (w ∷ ws) >>= λ xs. Some (x ∷ xs)) k
-
--- no word is left
-pub read-cut : (n : ℕ) (words : List Bytes) (word : Bytes) (ls : List Literal) → Before n words (word ∷ []) ls → is_end word ≡ false → (item : List Bytes) × (items : List (List Bytes)) × (items_of words ≡ item ∷ items) × (literals_of n item ≡ None)
-read-cut n words word ls b e =
-    let inner : items_of (word ∷ []) ≡ (word ∷ []) ∷ [] = rw e refl in
-    let last : literals_of n (word ∷ []) ≡ None = rw e refl in (
-      b.front ++ word ∷ [],
-      [],
-      ap items_of b.whole ∙ b.items word [] (word ∷ []) [] inner,
-      b.lits word [] ∙ ap (option_map (λ ms. ls ++ ms)) last,
-    )
-
--- literals, with one more
-taut-push : (ls : List Literal) (l : Literal) → is_tautology (ls ++ l ∷ []) ≡ (is_tautology ls || has_lit (opposite l) ls)
-taut-push [] l = refl
-taut-push (m ∷ ls) l =
-    ap (λ b. b || is_tautology (ls ++ l ∷ [])) (list_any-append (same_lit (opposite m)) ls (l ∷ []))
-    ∙ ap (λ b. (has_lit (opposite m) ls || has_lit (opposite m) (l ∷ [])) || b) (taut-push ls l)
-    ∙ mix (has_lit (opposite m) ls) (same_lit (opposite m) l) (is_tautology ls) (has_lit (opposite l) ls)
-    ∙ ap (λ b. (has_lit (opposite m) ls || is_tautology ls) || (b || has_lit (opposite l) ls)) (turn m l)
-  where
-    mix : (a b c d : Bool) → ((a || (b || false)) || (c || d)) ≡ ((a || c) || (b || d))
-    mix true b c d = refl
-    mix false true true d = refl
-    mix false true false d = refl
-    mix false false true d = refl
-    mix false false false d = refl
-
-    turn : (m l : Literal) → same_lit (opposite m) l ≡ same_lit (opposite l) m
-    turn m l = elim (cases_Bool (same_lit (opposite m) l)) [
-      | inl t ↦ t ∙ sym (ap (same_lit (opposite l)) (sym (opposite-opposite m) ∙ ap opposite (lit-is (opposite m) l t)) ∙ same-lit (opposite l))
-      | inr t ↦ elim (cases_Bool (same_lit (opposite l) m)) [
-        | inl u ↦ absurd (true≢false (sym (ap (same_lit (opposite m)) (sym (opposite-opposite l) ∙ ap opposite (lit-is (opposite l) m u)) ∙ same-lit (opposite m)) ∙ t))
-        | inr u ↦ t ∙ sym u
-      ]
-    ]
-
--- where no variable has both, a literal's opposite isn't there with it
-both-split : (xs : List Literal) (l x : Literal) →
-    ((has_lit l xs ≡ true) → (has_lit (opposite l) xs ≡ true) → ⊥) → has_lit (opposite x) xs ≡ false →
-    (same_lit l x ≡ true) ⊎ (has_lit l xs ≡ true) →
-    (same_lit (opposite l) x ≡ true) ⊎ (has_lit (opposite l) xs ≡ true) → ⊥
-both-split xs l x rest t (inl a) (inl b) = never l.positive (ap (λ (z : Literal). z.positive) (lit-is (opposite l) x b ∙ sym (lit-is l x a)))
-  where
-    never : (p : Bool) → not p ≡ p → ⊥
-    never true e = cc
-    never false e = cc
-both-split xs l x rest t (inl a) (inr b) = true≢false (sym b ∙ ap (λ (z : Literal). has_lit (opposite z) xs) (lit-is l x a) ∙ t)
-both-split xs l x rest t (inr a) (inl b) = true≢false (sym a ∙ ap (λ (z : Literal). has_lit z xs) (sym (opposite-opposite l) ∙ ap opposite (lit-is (opposite l) x b)) ∙ t)
-both-split xs l x rest t (inr a) (inr b) = rest a b
-
-never-both : (xs : List Literal) (l : Literal) → is_tautology xs ≡ false → has_lit l xs ≡ true → has_lit (opposite l) xs ≡ true → ⊥
-never-both [] l t a b = true≢false (sym a)
-never-both (x ∷ xs) l t a b =
-    let p = or_parts (has_lit (opposite x) xs) (is_tautology xs) t in
-    both-split xs l x (λ c d. never-both xs l p.1 c d) p.0 (or_cases (same_lit l x) (has_lit l xs) a) (or_cases (same_lit (opposite l) x) (has_lit (opposite l) xs) b)
-
-not-both-there : (ls : List Literal) (l : Literal) → is_tautology ls ≡ false → has_lit l ls ≡ true → has_lit (opposite l) ls ≡ false
-not-both-there ls l t own = elim (cases_Bool (has_lit (opposite l) ls)) [ inl x ↦ absurd (never-both ls l t own x) | inr x ↦ x ]
+use Rattle.ilk_rup.proofs.FirstItem.{first-item, not-both-there, taut-push}
 
 -- a variable without the literal has its opposite
 pub other-sign : (ls : List Literal) (l : Literal) → has_var l.var ls ≡ true → has_lit l ls ≡ false → has_lit (opposite l) ls ≡ true

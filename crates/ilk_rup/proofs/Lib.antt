@@ -11,6 +11,7 @@ pub mod Holds
 pub mod Deriving
 pub mod Signs
 pub mod Taking
+pub mod FirstItem
 pub mod Items
 pub mod Judging
 pub mod Bounds

@@ -1,6 +1,6 @@
 //! The clauses so far, what they set at level 0, and the steps that show them.
 
-ghost use Rattle.std.specs.Prelude.{◌≡◌, ◌<◌, ◌≤◌, ◌+◌, ◌∷◌, [], ℕ, true, false, length, IfOk, IfNone, IfSome, OnOk, IsTrue};
+ghost use Rattle.std.specs.Prelude.{◌≡◌, ◌<◌, ◌+◌, ◌∷◌, [], true, false, length, IfOk, IfNone, IfSome, OnOk, IsTrue};
 ghost use Rattle.ilk_cnf.specs.Formula.{clause_in};
 ghost use Rattle.ilk_cnf.specs.Literal.{Literal, has_lit, vars_differ};
 ghost use Rattle.ilk_clauses.specs.Reasons.{is_conflict};

@@ -1,7 +1,8 @@
 -- Trees of winners.
-use Rattle.std.proofs.Common.{◌≡◌, ◌≢◌, ◌⊎◌, ◌+◌, ◌*◌, ◌-◌, ◌/◌, ◌^◌, ◌<◌, ◌≤◌, ℕ, zero, suc, inl, inr, List, length, get_or, set, drop, refl, sym, ap, ◌∙◌, subst, arith}
+use Rattle.std.proofs.Common.{◌≡◌, ◌≢◌, ◌⊎◌, ◌+◌, ◌*◌, ◌-◌, ◌/◌, ◌<◌, ◌≤◌, ℕ, zero, suc, inl, inr, List, length, get_or, set, refl, sym, ap, ◌∙◌, subst, arith}
 use Rattle.std.proofs.lemmas.Bool.{cases_eq, cases_lt}
 use Rattle.std.proofs.lemmas.List.{get_or-drop, get_or-set_same, get_or-set_other, length-set, drop-set-lt, drop-set-add, get_or_past, length-drop}
+use Rattle.ilk_solver.specs.declared.word.TheConstants.{MOST_VARIABLES}
 use Rattle.ilk_solver.specs.Word.{IsGreater, variable_of, word_of}
 use Rattle.ilk_solver.specs.Tree.{IsTree, IsTreeBut, IsWon, KeepsVariables, StandsIn, leaves_of, top_of}
 use Rattle.ilk_solver.proofs.Words.{variable-is, variable-none}
@@ -160,7 +161,7 @@ reweighed ws t v x h p e =
     }
 
 -- a tree of no variable
-pub empty-tree : (n : ℕ) (ws t : List ℕ) → n ≡ length ws → n ≤ 2 ^ 31 → length t ≡ 2 * length ws + 2 → ((k : ℕ) → get_or t k 0 ≡ 0) → IsTree ws t
+pub empty-tree : (n : ℕ) (ws t : List ℕ) → n ≡ length ws → n ≤ MOST_VARIABLES → length t ≡ 2 * length ws + 2 → ((k : ℕ) → get_or t k 0 ≡ 0) → IsTree ws t
 empty-tree n ws t e b s z = record {
   numbered = omega (arith, e, b);
   size = s;
@@ -183,7 +184,7 @@ keeps-on ws t ws2 t2 ws3 t3 h k = record {
 }
 
 -- a variable that stands at no leaf is counted
-pub keeps-out : (ws t : List ℕ) (v x : ℕ) → 0 < v → v ≤ 2 ^ 31 → get_or (leaves_of ws t) v 0 ≡ 0 → KeepsVariables ws t (set ws (v - 1) x) t
+pub keeps-out : (ws t : List ℕ) (v x : ℕ) → 0 < v → v ≤ MOST_VARIABLES → get_or (leaves_of ws t) v 0 ≡ 0 → KeepsVariables ws t (set ws (v - 1) x) t
 keeps-out ws t v x p b e =
     let n = length-set ws (v - 1) x in
     record {

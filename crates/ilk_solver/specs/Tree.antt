@@ -2,7 +2,8 @@
 -- into it. Over n variables it has 2n + 2 entries, which are words of variables. Node 1 is its top, and
 -- below node k, from 1 to n, are the nodes 2k and 2k + 1; the greater of their words stands at node k. The
 -- last n + 1 entries are the leaves, one for each variable from 0 on; 0 stands for no variable.
-use Rattle.std.specs.Prelude.{ℕ, ◌≡◌, ◌≢◌, ◌⊎◌, ◌+◌, ◌*◌, ◌^◌, ◌<◌, ◌≤◌, List, drop, length, slice_index}
+use Rattle.std.specs.Prelude.{ℕ, ◌≡◌, ◌≢◌, ◌⊎◌, ◌+◌, ◌*◌, ◌<◌, ◌≤◌, List, drop, length, slice_index}
+use Rattle.ilk_solver.specs.declared.word.TheConstants.{MOST_VARIABLES}
 use Rattle.ilk_solver.specs.Word.{IsGreater, variable_of, word_of}
 
 -- the leaves of a tree over these weights
@@ -23,7 +24,7 @@ StandsIn weights tree v = slice_index (leaves_of weights tree) v ≡ word_of wei
 
 -- a tree in which all nodes but j are right
 pub record IsTreeBut (weights tree : List ℕ) (j : ℕ) : Type 0 where
-  pub numbered : length weights ≤ 2 ^ 31
+  pub numbered : length weights ≤ MOST_VARIABLES
   pub size : length tree ≡ 2 * length weights + 2
   pub leaf : (v : ℕ) → v ≤ length weights → (slice_index (leaves_of weights tree) v ≡ 0) ⊎ ((0 < v) × StandsIn weights tree v)
   pub won : (k : ℕ) → 0 < k → k ≤ length weights → k ≢ j → IsWon tree k

@@ -1,7 +1,8 @@
-ghost use Rattle.std.specs.Prelude.{◌≡◌, ◌⊎◌, ◌≤◌, ◌<◌, ◌^◌, ℕ, true, false, length, IfOk};
+ghost use Rattle.std.specs.Prelude.{◌≡◌, ◌⊎◌, ◌≤◌, ◌<◌, ℕ, true, false, length, IfOk};
 ghost use Rattle.ilk_trail.specs.Laws.{is_set};
 ghost use Rattle.ilk_solver.specs.Order.{HasAbove, IsSettled, KeepsUnset};
 ghost use Rattle.ilk_solver.specs.Tree.{IsTree, KeepsLeaves, StandsIn};
+ghost use Rattle.ilk_solver.specs.declared.word.TheConstants.{MOST_VARIABLES};
 
 use crate::tree::{put, write_leaf};
 use crate::word::variable;
@@ -11,7 +12,7 @@ use std::alloc::{AllocError, Global};
 
 // A tree with each variable.
 pub fn filled(alloc: Global, weights: &[u32]) -> Result<Vec<u64>, AllocError>
-    requires { length weights.now ≤ 2 ^ 31 }
+    requires { length weights.now ≤ MOST_VARIABLES }
     ensures tree { IfOk result (λ tree. IsTree weights.now tree.items) }
     ensures each { IfOk result
         (λ tree. (v : ℕ) → 0 < v → v ≤ length weights.now → StandsIn weights.now tree.items v) }

@@ -1,5 +1,6 @@
-ghost use Rattle.std.specs.Prelude.{◌≡◌, ◌⊎◌, ◌≤◌, ◌<◌, ◌+◌, ◌-◌, ◌^◌, length, slice_index, slice_set};
+ghost use Rattle.std.specs.Prelude.{◌≡◌, ◌⊎◌, ◌≤◌, ◌<◌, ◌+◌, ◌-◌, length, slice_index, slice_set};
 ghost use Rattle.ilk_solver.specs.Word.{word_of};
+ghost use Rattle.ilk_solver.specs.declared.word.TheConstants.{WEIGHT_LIMIT};
 ghost use Rattle.ilk_solver.specs.Tree.{IsTree, IsTreeBut, KeepsLeaves, KeepsVariables, StandsIn, leaves_of};
 
 use crate::word::{greater, word};
@@ -61,7 +62,7 @@ pub fn put(weights: &[u32], tree: &mut [u64], v: u64)
 pub fn count_one(weights: &mut [u32], tree: &mut [u64], v: u64)
     requires from_1 { 0 < v }
     requires within { v ≤ length weights.old }
-    requires room { slice_index weights.old (v - 1) + 1 < 2 ^ 32 }
+    requires room { slice_index weights.old (v - 1) + 1 < WEIGHT_LIMIT }
     requires tree { IsTree weights.old tree.old }
     ensures tree { IsTree weights.new tree.new }
     ensures leaves { KeepsVariables weights.old tree.old weights.new tree.new }

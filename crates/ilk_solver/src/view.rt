@@ -8,6 +8,7 @@ ghost use Rattle.ilk_clauses.specs.Reasons.{is_conflict};
 ghost use Rattle.ilk_clauses.specs.Chained.{SameClauses};
 ghost use Rattle.ilk_watches.specs.Propagated.{IsPropagated};
 ghost use Rattle.ilk_watches.specs.Watched.{IsQueue};
+ghost use Rattle.ilk_solver.specs.declared.word.TheConstants.{WEIGHT_LIMIT};
 ghost use Rattle.ilk_solver.specs.Assigned.{AllSet, SomeUnset};
 ghost use Rattle.ilk_solver.specs.Heaviest.{IsHeaviest};
 ghost use Rattle.ilk_solver.specs.Tree.{IsTree, KeepsVariables};
@@ -185,7 +186,7 @@ impl View {
     pub(crate) fn count(&mut self, clause: &[Lit])
         requires within { IsTrue (clause_in self.old.trail.vars clause.now) }
         requires differ { IsTrue (vars_differ clause.now) }
-        requires room { (i : ℕ) → slice_index self.old.weights i + 1 < 2 ^ 32 }
+        requires room { (i : ℕ) → slice_index self.old.weights i + 1 < WEIGHT_LIMIT }
         ensures trail { self.new.trail ≡ self.old.trail }
         ensures weights { (v : ℕ) → 0 < v →
             weight_of self.new v ≡ weight_of self.old v + (if has_var v clause.now then 1 else 0) }
@@ -200,7 +201,7 @@ impl View {
 fn count_in(weights: &mut [u32], tree: &mut [u64], clause: &[Lit])
     requires within { IsTrue (clause_in (length weights.old) clause.now) }
     requires differ { IsTrue (vars_differ clause.now) }
-    requires room { (i : ℕ) → slice_index weights.old i + 1 < 2 ^ 32 }
+    requires room { (i : ℕ) → slice_index weights.old i + 1 < WEIGHT_LIMIT }
     requires tree { IsTree weights.old tree.old }
     ensures weights { (v : ℕ) → 0 < v →
         slice_index weights.new (v - 1)

@@ -1,5 +1,6 @@
-ghost use Rattle.std.specs.Prelude.{◌≡◌, ◌⊎◌, ◌≤◌, ◌<◌, ◌^◌, length};
+ghost use Rattle.std.specs.Prelude.{◌≡◌, ◌⊎◌, ◌≤◌, ◌<◌, length};
 ghost use Rattle.ilk_solver.specs.Word.{variable_of, word_of};
+ghost use Rattle.ilk_solver.specs.declared.word.TheConstants.{MOST_VARIABLES};
 
 // A word has room for the numbers of so many variables.
 pub(crate) const MOST_VARIABLES: u64 = 1 << 31;
@@ -12,10 +13,10 @@ pub(crate) const WEIGHT_LIMIT: u64 = 1 << 32;
 pub(crate) fn word(weights: &[u32], v: u64) -> u64
     requires from_1 { 0 < v }
     requires within { v ≤ length weights.now }
-    requires few { length weights.now ≤ 2 ^ 31 }
+    requires few { length weights.now ≤ MOST_VARIABLES }
     ensures { result ≡ word_of weights.now v }
 {
-    weights[v as usize - 1] as u64 * 4294967296 + (4294967295 - v)
+    weights[v as usize - 1] as u64 * WEIGHT_LIMIT + (WEIGHT_LIMIT - 1 - v)
 }
 
 // The variable of a word, 0 where the word is 0.
@@ -25,7 +26,7 @@ pub(crate) fn variable(word: u64) -> u64
     if word == 0 {
         return 0;
     }
-    4294967295 - word % 4294967296
+    WEIGHT_LIMIT - 1 - word % WEIGHT_LIMIT
 }
 
 // The greater of two words.

@@ -19,7 +19,7 @@ use Rattle.ilk_plant.specs.declared.table.Route.{Route}
 use Rattle.ilk_routes.specs.Locks.{with_locks}
 use Rattle.ilk_model.specs.Families.{keeps_v1, keeps_v2, keeps_v3, keeps_v4, keeps_v5, keeps_v6, keeps_v7, keeps_v8, keeps_v9}
 use Rattle.ilk_model.specs.Hazard.{is_two, is_wrong}
-use Rattle.ilk_model.proofs.Frames.{ChangesRoute}
+use Rattle.ilk_model.proofs.RouteFrames.{ChangesRoute}
 use Rattle.ilk_strict.proofs.Reading.{RouteIn}
 
 -- an item after a write is the one that was written, or stood there before

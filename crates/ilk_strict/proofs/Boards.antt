@@ -9,7 +9,8 @@ use Rattle.ilk_plant.specs.declared.state.Aspect.{Aspect}
 use Rattle.ilk_plant.specs.declared.state.Aspect.TheVariants.{Open, Closed}
 use Rattle.ilk_plant.specs.declared.state.State.{State}
 use Rattle.ilk_motion.specs.Trains.{with_board_closed}
-use Rattle.ilk_model.proofs.Frames.{IsHeaded, IsSensed}
+use Rattle.ilk_model.proofs.RouteFrames.{IsSensed}
+use Rattle.ilk_model.proofs.TrainFrames.{IsHeaded}
 
 -- one board is closed
 pub still-closed : (boards : List Aspect) (k m : ℕ) → slice_get boards m ≡ Some Closed → slice_get (set boards k Closed) m ≡ Some Closed

@@ -33,7 +33,8 @@ use Rattle.ilk_strict.specs.IsStrict.{IsFrom, IsStrict}
 use Rattle.ilk_strict.proofs.Ahead.{LeadsToLeg, LegsDiffer, ahead-cases, board-one, leg, leg-no_other, leg_at-lie_in, legs-differ, other_leg, stem-before, stem-no_leg, stem-no_other, stem-side}
 use Rattle.ilk_strict.proofs.HeldPoints.{IsSet, held-point, set-leg}
 use Rattle.ilk_strict.proofs.Reading.{RouteIn}
-use Rattle.ilk_strict.proofs.RouteFacts.{IsOpenFor, idle, locked-is, open-at, rel-led}
+use Rattle.ilk_strict.proofs.BoardFacts.{IsOpenFor, open-at}
+use Rattle.ilk_strict.proofs.RouteFacts.{idle, locked-is, rel-led}
 use Rattle.ilk_strict.proofs.Table.{route-source}
 use Rattle.ilk_strict.proofs.TrainFacts.{IsLedBy, Keeps, head-led, led-locked_or_occupied, runs-source}
 

@@ -22,7 +22,7 @@ use Rattle.ilk_strict.specs.IsStrict.{IsFrom, IsStrict}
 use Rattle.ilk_strict.proofs.Ahead.{IsListedTo, leg, leg-is, lies-listed, listed_towards-at}
 use Rattle.ilk_strict.proofs.Points.{commanded-at_listed}
 use Rattle.ilk_strict.proofs.Reading.{RouteIn, kept-from}
-use Rattle.ilk_strict.proofs.RouteFacts.{lies-at}
+use Rattle.ilk_strict.proofs.BoardFacts.{lies-at}
 
 -- the point x, which is path[i], is set to a position whose leg is the section before it or the one after it
 pub record IsSet (p : PlantLists) (s : State) (route : Route) (before i x : ℕ) : Type 0 where

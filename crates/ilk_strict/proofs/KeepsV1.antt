@@ -14,7 +14,9 @@ use Rattle.ilk_routes.specs.Modes.{same_mode}
 use Rattle.ilk_model.specs.Families.{keeps_v1}
 use Rattle.ilk_strict.proofs.After.{after-cases, before-change, same-here, v1-reads}
 use Rattle.ilk_model.proofs.Alike.{one_mode}
-use Rattle.ilk_model.proofs.Frames.{ChangesRoute, IsAllocated, IsCancelled, IsEntered, IsFinished, IsHeaded, IsLeft, IsLocked, IsMarked, IsReleased, IsSensed, IsSettled, IsTailed, IsThrown}
+use Rattle.ilk_model.proofs.PointFrames.{IsSettled, IsThrown}
+use Rattle.ilk_model.proofs.RouteFrames.{ChangesRoute, IsAllocated, IsCancelled, IsFinished, IsLocked, IsMarked, IsReleased, IsSensed}
+use Rattle.ilk_model.proofs.TrainFrames.{IsEntered, IsHeaded, IsLeft, IsTailed}
 use Rattle.ilk_strict.proofs.Reading.{each_route-at, each_route-from}
 use Rattle.ilk_strict.proofs.RouteFacts.{counts-idle, counts-in_use, counts_right, idle, in_use, rel-seen}
 use Rattle.ilk_strict.proofs.TrainFacts.{Keeps}

@@ -18,7 +18,9 @@ use Rattle.ilk_plant.proofs.InLists.{section-at}
 use Rattle.ilk_model.specs.Families.{keeps_v2}
 use Rattle.ilk_model.specs.Holding.{holds_section, holds_sections}
 use Rattle.ilk_strict.proofs.After.{after-cases, v2-reads}
-use Rattle.ilk_model.proofs.Frames.{ChangesRoute, IsAllocated, IsCancelled, IsEntered, IsFinished, IsHeaded, IsLeft, IsLocked, IsMarked, IsReleased, IsSensed, IsSettled, IsTailed, IsThrown}
+use Rattle.ilk_model.proofs.PointFrames.{IsSettled, IsThrown}
+use Rattle.ilk_model.proofs.RouteFrames.{ChangesRoute, IsAllocated, IsCancelled, IsFinished, IsLocked, IsMarked, IsReleased, IsSensed}
+use Rattle.ilk_model.proofs.TrainFrames.{IsEntered, IsHeaded, IsLeft, IsTailed}
 use Rattle.ilk_strict.proofs.Reading.{RouteIn, has_lock-at}
 use Rattle.ilk_strict.proofs.RouteFacts.{allocating-holds, alone, alone-from, held-not_free, holds-beside, holds-cases, holds-path, locked-holds}
 use Rattle.ilk_strict.proofs.Table.{beside-locked_for, path-locked_for}

@@ -26,7 +26,9 @@ use Rattle.ilk_model.specs.Families.{keeps_v3, lock_on_path}
 use Rattle.ilk_model.specs.Holding.{holds_section, holds_sections}
 use Rattle.ilk_strict.proofs.After.{after-cases, before-change, given-lock, other-lock, same-here, v3-reads}
 use Rattle.ilk_model.proofs.Alike.{one_mode}
-use Rattle.ilk_model.proofs.Frames.{ChangesRoute, IsAllocated, IsCancelled, IsEntered, IsFinished, IsHeaded, IsLeft, IsLocked, IsMarked, IsReleased, IsSensed, IsSettled, IsTailed, IsThrown}
+use Rattle.ilk_model.proofs.PointFrames.{IsSettled, IsThrown}
+use Rattle.ilk_model.proofs.RouteFrames.{ChangesRoute, IsAllocated, IsCancelled, IsFinished, IsLocked, IsMarked, IsReleased, IsSensed}
+use Rattle.ilk_model.proofs.TrainFrames.{IsEntered, IsHeaded, IsLeft, IsTailed}
 use Rattle.ilk_strict.proofs.KeepsV2.{cleared}
 use Rattle.ilk_strict.proofs.Reading.{RouteIn}
 use Rattle.ilk_strict.proofs.RouteFacts.{allocating-holds, alone, held-not_free, holds-beside, holds-path, idle, lock-beside, lock-path, locked-holds, locks-from, rel-seen}

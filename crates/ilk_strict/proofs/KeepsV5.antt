@@ -17,10 +17,13 @@ use Rattle.ilk_model.specs.Holding.{holds_section}
 use Rattle.ilk_strict.specs.IsStrict.{IsStrict}
 use Rattle.ilk_strict.proofs.After.{after-change, before-change, one-state, other-stays, route-stays, same-occupied, v5-reads}
 use Rattle.ilk_strict.proofs.Boards.{head-open, other-board, sense-open}
-use Rattle.ilk_model.proofs.Frames.{ChangesRoute, IsAllocated, IsCancelled, IsEntered, IsFinished, IsHeaded, IsLeft, IsLocked, IsMarked, IsReleased, IsSensed, IsSettled, IsTailed, IsThrown}
+use Rattle.ilk_model.proofs.PointFrames.{IsSettled, IsThrown}
+use Rattle.ilk_model.proofs.RouteFrames.{ChangesRoute, IsAllocated, IsCancelled, IsFinished, IsLocked, IsMarked, IsReleased, IsSensed}
+use Rattle.ilk_model.proofs.TrainFrames.{IsEntered, IsHeaded, IsLeft, IsTailed}
 use Rattle.ilk_strict.proofs.KeepsV4.{headed-goes_on}
 use Rattle.ilk_strict.proofs.Reading.{has_lock-at}
-use Rattle.ilk_strict.proofs.RouteFacts.{IsOpenFor, alone, held-not_free, holds-path, idle, locked-holds, locked-is, open-at, open-from, vacant-path}
+use Rattle.ilk_strict.proofs.BoardFacts.{IsOpenFor, open-at, open-from}
+use Rattle.ilk_strict.proofs.RouteFacts.{alone, held-not_free, holds-path, idle, locked-holds, locked-is, vacant-path}
 use Rattle.ilk_strict.proofs.Table.{path-section}
 use Rattle.ilk_strict.proofs.TrainFacts.{Keeps}
 use Rattle.ilk_strict.proofs.Trains.{enter-vacant, head-vacant, leave-vacant, tail-vacant}

@@ -32,12 +32,15 @@ use Rattle.ilk_model.specs.Holding.{holds_section, is_kept_on_path, is_locked_or
 use Rattle.ilk_strict.proofs.After.{after-cases, before-change, same-here, same-route, v6-reads}
 use Rattle.ilk_strict.proofs.Ahead.{lies-listed}
 use Rattle.ilk_model.proofs.Alike.{own_lie}
-use Rattle.ilk_model.proofs.Frames.{ChangesRoute, IsAllocated, IsCancelled, IsEntered, IsFinished, IsHeaded, IsLeft, IsLocked, IsMarked, IsReleased, IsSensed, IsSettled, IsTailed, IsThrown}
+use Rattle.ilk_model.proofs.PointFrames.{IsSettled, IsThrown}
+use Rattle.ilk_model.proofs.RouteFrames.{ChangesRoute, IsAllocated, IsCancelled, IsFinished, IsLocked, IsMarked, IsReleased, IsSensed}
+use Rattle.ilk_model.proofs.TrainFrames.{IsEntered, IsHeaded, IsLeft, IsTailed}
 use Rattle.ilk_model.proofs.Kept.{kept-on_path}
 use Rattle.ilk_strict.proofs.KeepsV2.{cleared}
 use Rattle.ilk_strict.proofs.Points.{commanded-alike, commanded-at_listed, commanded-from, commanded-is, commanded-kept, commanded-new, commanded-same, lie-alike, lie-is, lie-kept, lie-other, lies-from, lists-named, lists-own}
 use Rattle.ilk_strict.proofs.Reading.{RouteIn, kept-at, kept-from}
-use Rattle.ilk_strict.proofs.RouteFacts.{allocating-holds, commanded-at, held-not_free, holds-path, idle, lies-at, locked-holds, points-from}
+use Rattle.ilk_strict.proofs.BoardFacts.{commanded-at, lies-at, points-from}
+use Rattle.ilk_strict.proofs.RouteFacts.{allocating-holds, held-not_free, holds-path, idle, locked-holds}
 use Rattle.ilk_strict.proofs.Table.{listed-mapped, listed-none, listed-passed, listed-position, wanted-locked}
 use Rattle.ilk_strict.proofs.TrainFacts.{Keeps}
 

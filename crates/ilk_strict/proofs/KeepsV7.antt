@@ -1,16 +1,14 @@
 -- No event breaks V7: a train's head at a section that is plain for it is path[i] of a route of the train's direction that is
 -- Occupied, or Locked with its source Closed; seen is at most i + 1; each later path section is vacant.
-use Rattle.std.proofs.Common.{◌≡◌, ℕ, zero, suc, ◌+◌, ◌<◌, ◌≤◌, true, false, Option, Some, None, List, ◌∷◌, inl, inr, ◌⊎◌, length, slice_get, nat_lt, refl, sym, ◌∙◌, ap, subst, arith}
+use Rattle.std.proofs.Common.{◌≡◌, ℕ, zero, suc, ◌+◌, ◌<◌, ◌≤◌, true, false, Some, None, List, ◌∷◌, inl, inr, length, slice_get, refl, sym, ◌∙◌, ap, subst, arith}
 use Rattle.std.specs.List.{last_or}
-use Rattle.std.proofs.lemmas.Bool.{and_left, both_ways, cases_eq}
+use Rattle.std.proofs.lemmas.Bool.{both_ways, cases_eq}
 use Rattle.std.proofs.lemmas.Option.{same_Some, slice_get_within}
 use Rattle.ilk_base.proofs.Lists.{item_at}
-use Rattle.ilk_base.proofs.ListTests.{last-at}
 use Rattle.ilk_base.proofs.Truth.{either}
 use Rattle.ilk_base.proofs.Ranges.{below_or_past}
-use Rattle.ilk_plant.specs.ColumnRules.{has_no_board}
 use Rattle.ilk_plant.specs.Network.{has_section}
-use Rattle.ilk_plant.specs.Plant.{IsPlant, IsRouteOf, PlantLists, board_of, next_to}
+use Rattle.ilk_plant.specs.Plant.{IsPlant, IsRouteOf, PlantLists, board_of}
 use Rattle.ilk_plant.specs.Shape.{HasShape}
 use Rattle.ilk_plant.specs.State.{is_occupied}
 use Rattle.ilk_plant.specs.declared.network.Dir.{Dir}
@@ -22,16 +20,17 @@ use Rattle.ilk_plant.specs.declared.state.RouteState.{RouteState}
 use Rattle.ilk_plant.specs.declared.state.State.{State}
 use Rattle.ilk_plant.specs.declared.state.Train.{Train}
 use Rattle.ilk_plant.specs.declared.table.Route.{Route}
-use Rattle.ilk_plant.proofs.InLists.{section-from}
 use Rattle.ilk_routes.specs.Modes.{same_mode}
 use Rattle.ilk_model.specs.Families.{keeps_v7}
-use Rattle.ilk_model.specs.Holding.{holds_section, is_locked_or_occupied, is_plain, runs_in}
+use Rattle.ilk_model.specs.Holding.{holds_section, is_plain, runs_in}
 use Rattle.ilk_strict.specs.IsStrict.{IsStrict}
-use Rattle.ilk_strict.proofs.After.{after-change, before-change, one-state, other-stays, route-stays, same-occupied, v7-reads}
+use Rattle.ilk_strict.proofs.After.{after-change, before-change, one-state, route-stays, same-occupied, v7-reads}
 use Rattle.ilk_strict.proofs.Ahead.{board-one}
 use Rattle.ilk_model.proofs.Alike.{one_mode}
 use Rattle.ilk_strict.proofs.Boards.{head-closed, head-shut, other-board, sense-closed}
-use Rattle.ilk_model.proofs.Frames.{ChangesRoute, IsAllocated, IsCancelled, IsEntered, IsFinished, IsHeaded, IsLeft, IsLocked, IsMarked, IsReleased, IsSensed, IsSettled, IsTailed, IsThrown}
+use Rattle.ilk_model.proofs.PointFrames.{IsSettled, IsThrown}
+use Rattle.ilk_model.proofs.RouteFrames.{IsAllocated, IsCancelled, IsFinished, IsLocked, IsMarked, IsReleased, IsSensed}
+use Rattle.ilk_model.proofs.TrainFrames.{IsEntered, IsHeaded, IsLeft, IsTailed}
 use Rattle.ilk_strict.proofs.Heads.{GoesOn}
 use Rattle.ilk_strict.proofs.KeepsV4.{headed-goes_on}
 use Rattle.ilk_strict.proofs.Reading.{RouteIn, has_lock-at, occupied-from}
@@ -39,78 +38,20 @@ use Rattle.ilk_strict.proofs.RouteFacts.{allocating-holds, alone, held-not_free,
 use Rattle.ilk_strict.proofs.Table.{path-once, path-section, route-source}
 use Rattle.ilk_strict.proofs.TrainFacts.{IsLedBy, Keeps, head-led, heads-from, led-locked_or_occupied, runs-from, runs-source, two-at}
 use Rattle.ilk_strict.proofs.Trains.{enter-trains, enter-vacant, head-trains, head-vacant, last-is, last-pushed, last-shorter, leave-trains, leave-vacant, tail-trains, tail-vacant}
-
--- a section with a board isn't plain
-pub board-not_plain : (p : PlantLists) (d : Dir) (x : ℕ) → has_no_board p d x ≡ false → is_plain p d x ≡ false
-board-not_plain p d x board = and_left (has_no_board p d x) (nat_lt 0 (length (next_to p x d))) board
-
--- the last of a list stands in it
-last-within : (xs : List ℕ) (x : ℕ) (o : Option ℕ) → last_or o xs ≡ Some x → (o ≡ Some x) ⊎ (has_section x xs ≡ true)
-last-within xs x o e = elim (last-at o xs x e) [ inl none ↦ inl none | inr found ↦ inr (section-from xs found.0 x found.1) ]
-
-pub head-within : (xs : List ℕ) (x : ℕ) → last_or None xs ≡ Some x → has_section x xs ≡ true
-head-within xs x e = elim (last-within xs x None e) [ inl none ↦ cc | inr found ↦ found ]
+use Rattle.ilk_strict.proofs.Leading.{board-not_plain, changed, head-within, idle-changed, not-leading}
 
 module _ (p : PlantLists) (plant : IsPlant p) (strict : IsStrict p) (s t : State) (keeps : Keeps p s) (shape : HasShape p t) (n : ℕ) where
-  -- a route that leads a train isn't in any of the other modes
-  not-leading : (route : Route) (now new : RouteState) → ChangesRoute p s t n route now new → is_locked_or_occupied now ≡ false → (d : Dir) (x : ℕ) → (led : IsLedBy p s d x) → led.r ≡ n → ⊥
-  not-leading route now new changes idle d x led same =
-      let is = one-state p s led.r n led.route route led.now now led.it (before-change p s t n route now new changes) same in
-      let leading = led-locked_or_occupied s led.route led.now led.mode in
-      both_ways (is_locked_or_occupied now) idle (subst (λ (v : RouteState). is_locked_or_occupied v ≡ true) is.1 leading)
-
-  -- another route leads on, where its source stays Closed
-  other-leads : (route : Route) (now new : RouteState) → ChangesRoute p s t n route now new →
-      t.trains ≡ s.trains → (d : Dir) (x : ℕ) → (led : IsLedBy p s d x) → (led.r ≡ n → ⊥) →
-      (led.now.mode ≡ Locked → slice_get s.boards led.route.source ≡ Some Closed →
-      slice_get t.boards led.route.source ≡ Some Closed) → IsLedBy p t d x
-  other-leads route now new changes trains d x led apart stay = record {
-    r = led.r;
-    route = led.route;
-    now = led.now;
-    it = other-stays p s t n route now new changes led.r led.route led.now apart led.it;
-    i = led.i;
-    at = led.at;
-    runs = led.runs;
-    mode = elim led.mode [ inl occupied ↦ inl occupied | inr closed ↦ inr (closed.0, stay closed.0 closed.1) ];
-    seen = led.seen;
-    later = λ j y less at. same-occupied s t trains y ∙ led.later j y less at;
-  }
-
-  -- one route changes, and trains stay
-  changed : (route : Route) (now new : RouteState) → ChangesRoute p s t n route now new →
-      t.trains ≡ s.trains →
-      ((d : Dir) (x : ℕ) → (led : IsLedBy p s d x) → (led.r ≡ n → ⊥) → led.now.mode ≡ Locked →
-      slice_get s.boards led.route.source ≡ Some Closed →
-      slice_get t.boards led.route.source ≡ Some Closed) →
-      ((d : Dir) (x : ℕ) → is_plain p d x ≡ true → (led : IsLedBy p s d x) → led.r ≡ n → IsLedBy p t d x) →
-      keeps_v7 p t ≡ true
-  changed route now new changes trains stay mine =
-      heads-from p t shape (λ i train x at last plain.
-      let led = head-led p s keeps.v7 i train x (sym (ap (λ (l : List Train). slice_get l i) trains) ∙ at) last plain in
-      elim (cases_eq led.r n) [
-        | inl same ↦ mine train.dir x plain led same
-        | inr apart ↦ other-leads route now new changes trains train.dir x led apart (stay train.dir x led apart)
-      ])
-
-  -- boards stay, and the route led no train
-  idle-changed : (route : Route) (now new : RouteState) → ChangesRoute p s t n route now new → t.trains ≡ s.trains → t.boards ≡ s.boards → is_locked_or_occupied now ≡ false → keeps_v7 p t ≡ true
-  idle-changed route now new changes trains boards idle =
-      changed route now new changes trains
-      (λ d x led apart mode closed. ap (λ (l : List Aspect). slice_get l led.route.source) boards ∙ closed)
-      (λ d x plain led same. absurd (not-leading route now new changes idle d x led same))
-
   pub mark-keeps_v7 : IsMarked p s t n → keeps_v7 p t ≡ true
-  mark-keeps_v7 it = let now = it.now in idle-changed it.route now (record now { mode = Marked }) it.changes it.trains it.boards (rw it.was refl)
+  mark-keeps_v7 it = let now = it.now in idle-changed p plant strict s t keeps shape n it.route now (record now { mode = Marked }) it.changes it.trains it.boards (rw it.was refl)
 
   pub allocate-keeps_v7 : IsAllocated p s t n → keeps_v7 p t ≡ true
-  allocate-keeps_v7 it = let now = it.now in idle-changed it.route now (record now { mode = Allocating }) it.changes it.trains it.boards (rw it.was refl)
+  allocate-keeps_v7 it = let now = it.now in idle-changed p plant strict s t keeps shape n it.route now (record now { mode = Allocating }) it.changes it.trains it.boards (rw it.was refl)
 
   pub lock-keeps_v7 : IsLocked p s t n → keeps_v7 p t ≡ true
   lock-keeps_v7 it =
-      changed it.route it.now new it.changes it.trains
+      changed p plant strict s t keeps shape n it.route it.now new it.changes it.trains
       (λ d x led apart mode closed. ap (λ (l : List Aspect). slice_get l led.route.source) it.boards ∙ other-board s.boards it.route.source led.route.source Open (λ same. another-source led.r led.route led.now led.it mode apart same) ∙ closed)
-      (λ d x plain led same. absurd (not-leading it.route it.now new it.changes (rw it.was refl) d x led same))
+      (λ d x plain led same. absurd (not-leading p plant strict s t keeps shape n it.route it.now new it.changes (rw it.was refl) d x led same))
     where
       new : RouteState
       new = let now = it.now in record now { mode = Locked }
@@ -139,7 +80,7 @@ module _ (p : PlantLists) (plant : IsPlant p) (strict : IsStrict p) (s t : State
 
   pub sense-keeps_v7 : IsSensed p s t n → keeps_v7 p t ≡ true
   sense-keeps_v7 it =
-      changed it.route it.now new it.changes it.trains (λ d x led apart mode closed. sense-closed p s t n it led.route.source closed) (λ d x plain led same. mine d x led same)
+      changed p plant strict s t keeps shape n it.route it.now new it.changes it.trains (λ d x led apart mode closed. sense-closed p s t n it led.route.source closed) (λ d x plain led same. mine d x led same)
     where
       new : RouteState
       new = let now = it.now in record now { mode = Occupied; seen = now.seen + 1 }
@@ -170,7 +111,7 @@ module _ (p : PlantLists) (plant : IsPlant p) (strict : IsStrict p) (s t : State
 
   pub release-keeps_v7 : IsReleased p s t n → keeps_v7 p t ≡ true
   release-keeps_v7 it =
-      changed it.route it.now new it.changes it.trains (λ d x led apart mode closed. ap (λ (l : List Aspect). slice_get l led.route.source) it.boards ∙ closed) (λ d x plain led same. mine d x led same)
+      changed p plant strict s t keeps shape n it.route it.now new it.changes it.trains (λ d x led apart mode closed. ap (λ (l : List Aspect). slice_get l led.route.source) it.boards ∙ closed) (λ d x plain led same. mine d x led same)
     where
       new : RouteState
       new = let now = it.now in record now { rel = now.rel + 1 }
@@ -193,7 +134,10 @@ module _ (p : PlantLists) (plant : IsPlant p) (strict : IsStrict p) (s t : State
 
   pub finish-keeps_v7 : IsFinished p s t n → keeps_v7 p t ≡ true
   finish-keeps_v7 it =
-      changed it.route it.now new it.changes it.trains (λ d x led apart mode closed. ap (λ (l : List Aspect). slice_get l led.route.source) it.boards ∙ closed) (λ d x plain led same. absurd (at-end d x plain led same))
+      changed p plant strict s t keeps shape n it.route it.now new it.changes it.trains
+      (λ d x led apart mode closed. ap (λ (l : List Aspect). slice_get l led.route.source) it.boards
+      ∙ closed)
+      (λ d x plain led same. absurd (at-end d x plain led same))
     where
       new : RouteState
       new = record { mode = Free; seen = 0; rel = 0 }
@@ -350,7 +294,7 @@ module _ (p : PlantLists) (plant : IsPlant p) (strict : IsStrict p) (s t : State
   pub cancel-keeps_v7 : IsCancelled p s t n → keeps_v7 p t ≡ true
   cancel-keeps_v7 it =
       let now = it.now in
-      idle-changed it.route now (record now { mode = Free }) it.changes it.trains it.boards (elim (either (same_mode now.mode Marked) (same_mode now.mode Allocating) it.was) [
+      idle-changed p plant strict s t keeps shape n it.route now (record now { mode = Free }) it.changes it.trains it.boards (elim (either (same_mode now.mode Marked) (same_mode now.mode Allocating) it.was) [
         | inl e ↦ rw (one_mode now.mode Marked e) refl
         | inr e ↦ rw (one_mode now.mode Allocating e) refl
       ])

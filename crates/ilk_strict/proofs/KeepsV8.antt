@@ -21,9 +21,11 @@ use Rattle.ilk_model.specs.Holding.{is_locked_or_occupied, is_plain, runs_in}
 use Rattle.ilk_strict.specs.IsStrict.{IsStrict}
 use Rattle.ilk_strict.proofs.After.{after-change, before-change, one-state, other-stays, route-stays, v8-reads}
 use Rattle.ilk_model.proofs.Alike.{one_mode}
-use Rattle.ilk_model.proofs.Frames.{ChangesRoute, IsAllocated, IsCancelled, IsEntered, IsFinished, IsHeaded, IsLeft, IsLocked, IsMarked, IsReleased, IsSensed, IsSettled, IsTailed, IsThrown}
+use Rattle.ilk_model.proofs.PointFrames.{IsSettled, IsThrown}
+use Rattle.ilk_model.proofs.RouteFrames.{ChangesRoute, IsAllocated, IsCancelled, IsFinished, IsLocked, IsMarked, IsReleased, IsSensed}
+use Rattle.ilk_model.proofs.TrainFrames.{IsEntered, IsHeaded, IsLeft, IsTailed}
 use Rattle.ilk_strict.proofs.KeepsV4.{headed-goes_on}
-use Rattle.ilk_strict.proofs.KeepsV7.{board-not_plain}
+use Rattle.ilk_strict.proofs.Leading.{board-not_plain}
 use Rattle.ilk_strict.proofs.Reading.{occupied-from}
 use Rattle.ilk_strict.proofs.Table.{route-source}
 use Rattle.ilk_strict.proofs.TrainFacts.{IsKeptBy, Keeps, bodies-from, body-kept, runs-from, runs-source}

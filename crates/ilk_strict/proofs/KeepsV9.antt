@@ -19,9 +19,11 @@ use Rattle.ilk_routes.specs.Modes.{has_mode}
 use Rattle.ilk_model.specs.Families.{keeps_v9}
 use Rattle.ilk_strict.proofs.After.{after-cases, same-here, same-route, v9-reads}
 use Rattle.ilk_strict.proofs.Boards.{head-closed, other-board, sense-closed}
-use Rattle.ilk_model.proofs.Frames.{ChangesRoute, IsAllocated, IsCancelled, IsEntered, IsFinished, IsHeaded, IsLeft, IsLocked, IsMarked, IsReleased, IsSensed, IsSettled, IsTailed, IsThrown}
+use Rattle.ilk_model.proofs.PointFrames.{IsSettled, IsThrown}
+use Rattle.ilk_model.proofs.RouteFrames.{ChangesRoute, IsAllocated, IsCancelled, IsFinished, IsLocked, IsMarked, IsReleased, IsSensed}
+use Rattle.ilk_model.proofs.TrainFrames.{IsEntered, IsHeaded, IsLeft, IsTailed}
 use Rattle.ilk_strict.proofs.Reading.{RouteIn, has_aspect-at, some_below-from}
-use Rattle.ilk_strict.proofs.RouteFacts.{protected-at, protected-from}
+use Rattle.ilk_strict.proofs.BoardFacts.{protected-at, protected-from}
 use Rattle.ilk_strict.proofs.TrainFacts.{Keeps}
 
 module _ (p : PlantLists) (plant : IsPlant p) (s t : State) (keeps : Keeps p s) (shape : HasShape p t) (n : ℕ) where

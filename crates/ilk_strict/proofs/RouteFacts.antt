@@ -1,5 +1,5 @@
--- What the families that speak of routes say, route by route, and what has to be shown of each route for a state to keep
--- them: V1 to V6 and V9.
+-- What the families that speak of a route's modes and sections say, route by route, and what has to be shown
+-- of each route for a state to meet them: V1 to V4.
 use Rattle.std.proofs.Common.{◌≡◌, ℕ, ◌+◌, ◌<◌, ◌≤◌, Bool, true, false, not, ◌==◌, ◌&&◌, ◌||◌, Some, List, inl, inr, ◌⊎◌, length, nat_le, nat_lt, slice_get, refl, sym, ◌∙◌, arith}
 use Rattle.std.specs.Prelude.{if◌then◌else◌}
 use Rattle.std.specs.List.{list_all}
@@ -12,23 +12,18 @@ use Rattle.ilk_base.proofs.Truth.{either, fails, if-passes, passes-if}
 use Rattle.ilk_plant.specs.Network.{has_section}
 use Rattle.ilk_plant.specs.Plant.{PlantLists}
 use Rattle.ilk_plant.specs.State.{has_lock, is_occupied}
-use Rattle.ilk_plant.specs.declared.state.Aspect.TheVariants.{Open, Closed}
 use Rattle.ilk_plant.specs.declared.state.Hold.TheVariants.{Free as FreeLock, Locked as LockedLock, Used as UsedLock}
 use Rattle.ilk_plant.specs.declared.state.Mode.TheVariants.{Allocating, Locked, Occupied}
 use Rattle.ilk_plant.specs.declared.state.RouteState.{RouteState}
 use Rattle.ilk_plant.specs.declared.state.State.{State}
-use Rattle.ilk_plant.specs.declared.table.Listed.{Listed}
 use Rattle.ilk_plant.specs.declared.table.Route.{Route}
 use Rattle.ilk_plant.proofs.InLists.{section-at, section-from}
-use Rattle.ilk_routes.specs.Boards.{has_aspect}
 use Rattle.ilk_routes.specs.Claims.{sections_beside}
-use Rattle.ilk_routes.specs.Lies.{lies_as_listed}
 use Rattle.ilk_routes.specs.Modes.{same_mode}
-use Rattle.ilk_model.specs.Commanded.{is_commanded_as_listed}
-use Rattle.ilk_model.specs.Families.{has_its_locks, is_commanded_for, keeps_v1, keeps_v2, keeps_v3, keeps_v4, keeps_v5, keeps_v6, keeps_v9, lies_for, lock_on_path}
+use Rattle.ilk_model.specs.Families.{has_its_locks, keeps_v1, keeps_v2, keeps_v3, keeps_v4, lock_on_path}
 use Rattle.ilk_model.specs.Holding.{each_place, holds_section, holds_sections, is_kept_on_path, is_locked_or_occupied, is_vacant, route_holds}
 use Rattle.ilk_model.proofs.Alike.{one_mode}
-use Rattle.ilk_strict.proofs.Reading.{RouteIn, each_below-at, each_below-from, each_place-at, each_place-from, each_route-at, each_route-from, has_aspect-at, has_aspect-from, has_lock-at, has_lock-from, kept-at, kept-from, passes-at, passes-from, some_route-at, some_route-from}
+use Rattle.ilk_strict.proofs.Reading.{RouteIn, each_below-at, each_below-from, each_place-at, each_place-from, each_route-at, each_route-from, has_lock-at, has_lock-from, kept-at, kept-from, passes-at, passes-from}
 
 -- sections that are all vacant
 pub all_vacant-at : (s : State) (xs : List ℕ) → list_all (is_vacant s) xs ≡ true → (i x : ℕ) → slice_get xs i ≡ Some x → is_occupied s x ≡ false
@@ -228,115 +223,3 @@ module _ (p : PlantLists) (s : State) where
   vacant-from count each =
       each_route-from p s (λ route now. if same_mode now.mode Allocating then list_all (is_vacant s) route.path else true) count (λ r route now it.
       passes-if (same_mode now.mode Allocating) (list_all (is_vacant s) route.path) (λ mode. all_vacant-from s route.path (each r route now it (one_mode now.mode Allocating mode))))
-
--- V5: the route for which a board is open
-pub record IsOpenFor (p : PlantLists) (s : State) (m : ℕ) : Type 0 where
-  pub r : ℕ
-  pub route : Route
-  pub now : RouteState
-  pub it : RouteIn p s r route now
-  pub source : route.source ≡ m
-  pub mode : now.mode ≡ Locked
-  pub vacant : (i x : ℕ) → slice_get route.path i ≡ Some x → is_occupied s x ≡ false
-
-module _ (p : PlantLists) (s : State) where
-  abbrev opens : ℕ → Route → RouteState → Bool
-  opens m route now = (route.source == m) && same_mode now.mode Locked && list_all (is_vacant s) route.path
-
-  pub open-at : keeps_v5 p s ≡ true → (m : ℕ) → m < length p.boards → slice_get s.boards m ≡ Some Open → IsOpenFor p s m
-  open-at kept m within shown =
-      let found = some_route-at p s (opens m) (if-passes (has_aspect s m Open) _ (each_below-at (length p.boards) _ kept m within) (has_aspect-from s m Open shown)) in
-      let parts = and_parts ((found.1.source == m) && same_mode found.2.mode Locked) (list_all (is_vacant s) found.1.path) found.4 in
-      let both = and_parts (found.1.source == m) (same_mode found.2.mode Locked) parts.0 in
-      record {
-        r = found.0;
-        route = found.1;
-        now = found.2;
-        it = found.3;
-        source = eqb-true found.1.source m both.0;
-        mode = one_mode found.2.mode Locked both.1;
-        vacant = all_vacant-at s found.1.path parts.1;
-      }
-
-  pub open-from : ((m : ℕ) → m < length p.boards → slice_get s.boards m ≡ Some Open → IsOpenFor p s m) → keeps_v5 p s ≡ true
-  open-from each =
-      each_below-from (length p.boards) _ (λ m within. passes-if (has_aspect s m Open) _ (λ shown.
-      let one = each m within (has_aspect-at s m Open shown) in
-      let mode : same_mode one.now.mode Locked ≡ true = rw one.mode refl in
-      some_route-from p s (opens m) one.r one.route one.now one.it
-      (and_from ((one.route.source == m) && same_mode one.now.mode Locked)
-      (list_all (is_vacant s) one.route.path)
-      (and_from (one.route.source == m) (same_mode one.now.mode Locked)
-      (eq-eqb one.route.source m one.source) mode)
-      (all_vacant-from s one.route.path one.vacant))))
-
-  -- V6
-  abbrev points_fit : Route → RouteState → Bool
-  points_fit route now = list_all (λ listed. is_commanded_for p s route now listed && lies_for p s route now listed) route.points
-
-  pub commanded-at : keeps_v6 p s ≡ true → (r : ℕ) (route : Route) (now : RouteState) →
-      RouteIn p s r route now → (k : ℕ) (listed : Listed) → slice_get route.points k ≡ Some listed →
-      now.mode ≡ Allocating → has_section listed.point route.path ≡ true →
-      is_commanded_as_listed p s listed ≡ true
-  commanded-at kept r route now it k listed at mode on =
-      let both = and_parts (is_commanded_for p s route now listed) (lies_for p s route now listed)
-      (list_all-slice_get
-      (λ listed. is_commanded_for p s route now listed && lies_for p s route now listed) route.points
-      k listed (each_route-at p s points_fit kept r route now it) at) in
-      if-passes (same_mode now.mode Allocating && has_section listed.point route.path) (is_commanded_as_listed p s listed) both.0 (and_from (same_mode now.mode Allocating) (has_section listed.point route.path) (rw mode refl) on)
-
-  pub lies-at : keeps_v6 p s ≡ true → (r : ℕ) (route : Route) (now : RouteState) → RouteIn p s r route now →
-      (k : ℕ) (listed : Listed) → slice_get route.points k ≡ Some listed → is_locked_or_occupied now ≡ true →
-      is_kept_on_path route now listed.point ≡ true →
-      (is_commanded_as_listed p s listed ≡ true) × (lies_as_listed p s listed ≡ true)
-  lies-at kept r route now it k listed at mode on =
-      let both = and_parts (is_commanded_for p s route now listed) (lies_for p s route now listed)
-      (list_all-slice_get
-      (λ listed. is_commanded_for p s route now listed && lies_for p s route now listed) route.points
-      k listed (each_route-at p s points_fit kept r route now it) at) in
-      and_parts (is_commanded_as_listed p s listed) (lies_as_listed p s listed)
-      (if-passes (is_locked_or_occupied now && is_kept_on_path route now listed.point)
-      (is_commanded_as_listed p s listed && lies_as_listed p s listed) both.1
-      (and_from (is_locked_or_occupied now) (is_kept_on_path route now listed.point) mode on))
-
-  pub points-from : length s.routes ≡ length p.routes →
-      ((r : ℕ) (route : Route) (now : RouteState) → RouteIn p s r route now → (k : ℕ) (listed : Listed) →
-      slice_get route.points k ≡ Some listed →
-      (now.mode ≡ Allocating → has_section listed.point route.path ≡ true →
-      is_commanded_as_listed p s listed ≡ true) ×
-      (is_locked_or_occupied now ≡ true → is_kept_on_path route now listed.point ≡ true →
-      (is_commanded_as_listed p s listed ≡ true) × (lies_as_listed p s listed ≡ true))) →
-      keeps_v6 p s ≡ true
-  points-from count each =
-      each_route-from p s points_fit count (λ r route now it.
-      all-pass (λ listed. is_commanded_for p s route now listed && lies_for p s route now listed) route.points (λ k listed at.
-      let both = each r route now it k listed at in
-      and_from (is_commanded_for p s route now listed) (lies_for p s route now listed)
-      (passes-if (same_mode now.mode Allocating && has_section listed.point route.path) (is_commanded_as_listed p s listed) (λ h.
-      let parts = and_parts (same_mode now.mode Allocating) (has_section listed.point route.path) h in
-      both.0 (one_mode now.mode Allocating parts.0) parts.1))
-      (passes-if (is_locked_or_occupied now && is_kept_on_path route now listed.point) (is_commanded_as_listed p s listed && lies_as_listed p s listed) (λ h.
-      let parts = and_parts (is_locked_or_occupied now) (is_kept_on_path route now listed.point) h in
-      let lies = both.1 parts.0 parts.1 in
-      and_from (is_commanded_as_listed p s listed) (lies_as_listed p s listed) lies.0 lies.1))))
-
-  -- V9
-  abbrev is_protected : Route → RouteState → Bool
-  is_protected route now = if same_mode now.mode Locked then list_all (λ m. has_aspect s m Closed) route.protecting_boards else true
-
-  pub protected-at : keeps_v9 p s ≡ true → (r : ℕ) (route : Route) (now : RouteState) → RouteIn p s r route now → now.mode ≡ Locked → (k m : ℕ) → slice_get route.protecting_boards k ≡ Some m → slice_get s.boards m ≡ Some Closed
-  protected-at kept r route now it mode k m at =
-      has_aspect-at s m Closed
-      (list_all-slice_get (λ m. has_aspect s m Closed) route.protecting_boards k m
-      (if-passes (same_mode now.mode Locked)
-      (list_all (λ m. has_aspect s m Closed) route.protecting_boards)
-      (each_route-at p s is_protected kept r route now it) (rw mode refl)) at)
-
-  pub protected-from : length s.routes ≡ length p.routes →
-      ((r : ℕ) (route : Route) (now : RouteState) → RouteIn p s r route now → now.mode ≡ Locked → (k m : ℕ) →
-      slice_get route.protecting_boards k ≡ Some m → slice_get s.boards m ≡ Some Closed) →
-      keeps_v9 p s ≡ true
-  protected-from count each =
-      each_route-from p s is_protected count (λ r route now it.
-      passes-if (same_mode now.mode Locked) (list_all (λ m. has_aspect s m Closed) route.protecting_boards) (λ mode.
-      all-pass (λ m. has_aspect s m Closed) route.protecting_boards (λ k m at. has_aspect-from s m Closed (each r route now it (one_mode now.mode Locked mode) k m at))))

@@ -11,7 +11,7 @@ use Rattle.ilk_plant.specs.declared.state.Train.{Train}
 use Rattle.ilk_plant.proofs.InLists.{section-at, section-from, only-one, rest-has}
 use Rattle.ilk_motion.specs.Body.{is_first_of_several, is_last, train_on, with_new_head, without_tail}
 use Rattle.ilk_strict.proofs.After.{set-cases}
-use Rattle.ilk_model.proofs.Frames.{IsEntered, IsHeaded, IsLeft, IsTailed}
+use Rattle.ilk_model.proofs.TrainFrames.{IsEntered, IsHeaded, IsLeft, IsTailed}
 use Rattle.ilk_strict.proofs.Reading.{occupied-at, occupied-from}
 
 -- the head of a train is its last section

@@ -8,10 +8,11 @@
 //! `clean_is_strict`), and that every run from the start, of whatever length, ends in a state that
 //! meets the invariant (`strict_is_safe`). What a table has to have is `specs/IsStrict.antt`.
 //!
-//! The proof stands in `proofs/`: what each event leaves alone (`Frames` of `ilk_model`), where a train's head goes
-//! on (`Heads`, over `HeldPoints`), and for each family and each hazard that no event breaks it
-//! (`KeepsV1` to `KeepsV9`, `KeepsTrainsApart`, `KeepsPointsRight`), each with a lemma for each event
-//! under one scheme of names. `Invariant` puts them together.
+//! The proof stands in `proofs/`: what each event leaves alone (`RouteFrames`, `PointFrames` and
+//! `TrainFrames` of `ilk_model`), where a train's head goes on (`Heads`, over `HeldPoints`), and for
+//! each family and each hazard that no event breaks it (`KeepsV1` to `KeepsV9`, `KeepsTrainsApart`,
+//! `KeepsPointsRight`), each with a lemma for each event under one scheme of names. `EventsKeep` puts
+//! them together for one event, and `Invariant` for a run.
 #![tactic(auto)]
 
 mod laws;

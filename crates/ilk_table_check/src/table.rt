@@ -243,7 +243,8 @@ fn push_rule(
     rule: Rule,
 ) -> Result<(), AllocError>
     ensures { OnOk result (found.new ≡ found.old
-        ++ broken_at rule (count_in_plant plant.now (places_of rule)) (breaks_table plant.now rule)) }
+        ++ broken_at rule (count_in_plant plant.now (places_of rule))
+        (breaks_table plant.now rule)) }
 {
     for i in 0..plant.count(rule.places()) {
         let entry = Broken {

@@ -22,7 +22,8 @@ use Rattle.ilk_ir.specs.System.{in_ranges}
 use Rattle.ilk_ir.specs.Tree.{Tree, tree_valid}
 use Rattle.ilk_copy.specs.declared.copy.Column.{Column}
 use Rattle.ilk_copy.specs.Copy.{copy_part, copy_width, copy_bits, IsCopy, LiteralsSay}
-use Rattle.ilk_copy.proofs.CopyLaw.{ranges_fit, copy-low, copy-in, copy-law}
+use Rattle.ilk_copy.proofs.ColumnLaw.{ranges_fit, copy-low, copy-in}
+use Rattle.ilk_copy.proofs.CopyLaw.{copy-law}
 use Rattle.ilk_copy.proofs.CopyFew.{copy-few}
 use Rattle.ilk_copy.proofs.CopyWidth.{copy-end}
 use Rattle.ilk_copy.proofs.CopySays.{copy-say}

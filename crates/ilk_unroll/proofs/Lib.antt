@@ -3,4 +3,5 @@ pub mod StepsLaw
 pub mod DemandsLaw
 pub mod Runs
 pub mod QueryLaw
+pub mod QueryMade
 pub mod ReadBack

@@ -14,7 +14,8 @@ use Rattle.ilk_ints.proofs.BitsLaw.{number_of, number-bits}
 use Rattle.ilk_ints.proofs.NumberLaw.{value-passes}
 use Rattle.ilk_ir.specs.System.{in_ranges}
 use Rattle.ilk_copy.specs.Copy.{total_bits, HaveBits}
-use Rattle.ilk_copy.proofs.CopyLaw.{ranges_fit, ranges_fit-small}
+use Rattle.ilk_copy.proofs.ColumnLaw.{ranges_fit}
+use Rattle.ilk_copy.proofs.CopyLaw.{ranges_fit-small}
 use Rattle.ilk_step.specs.declared.choice.Choice.{Choice}
 use Rattle.ilk_step.specs.Choice.{Chooses}
 use Rattle.ilk_unroll.specs.Tables.{AllChosen, choices_numbered}

@@ -1,3 +1,5 @@
+pub mod WalkPlaces
+pub mod FaultPlaces
 pub mod Places
 pub mod Numbers
 pub mod Outcomes

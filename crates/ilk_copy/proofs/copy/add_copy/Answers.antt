@@ -2,7 +2,8 @@ use Rattle.std.proofs.Common.{◌∙◌, ℕ, List, ap, refl, arith}
 use Rattle.ilk_cnf.specs.Formula.{Formula, with_vars}
 use Rattle.ilk_cnf.proofs.Extending.{extends-as_clauses}
 use Rattle.ilk_copy.specs.Copy.{numbers_part, total_named, copy_part, IsCopy}
-use Rattle.ilk_copy.proofs.CopyLaw.{columns_fit, copy_made, copy-law, numbers-end, ranges_fit-small}
+use Rattle.ilk_copy.proofs.ColumnLaw.{numbers-end}
+use Rattle.ilk_copy.proofs.CopyLaw.{columns_fit, copy_made, copy-law, ranges_fit-small}
 use Rattle.ilk_copy.proofs.CopySays.{copy-say}
 use Rattle.ilk_copy.proofs.CopyWidth.{added-there}
 use Rattle.ilk_copy.proofs.copy.add_copy.Goals as goal

@@ -1,5 +1,5 @@
 use Rattle.std.proofs.Common.{true, false, ◌∙◌}
-use Rattle.ilk_drive.proofs.Untouched.{hazard-after_none, hazard-after_one}
+use Rattle.ilk_drive.proofs.LeastHazard.{hazard-after_none, hazard-after_one}
 use Rattle.ilk_drive.proofs.touched.hazard_after.Goals as goal
 
 pub returns-in_err-x : goal.returns-in_err-x

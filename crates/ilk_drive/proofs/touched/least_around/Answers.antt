@@ -1,5 +1,5 @@
 use Rattle.std.proofs.Common.{Some, [], ◌∷◌, ◌++◌, option_to_list, ap, ◌∙◌}
-use Rattle.ilk_drive.proofs.Untouched.{least-linear, least-none, least-point}
+use Rattle.ilk_drive.proofs.LeastHazard.{least-linear, least-none, least-point}
 use Rattle.ilk_drive.proofs.touched.least_around.Goals as goal
 
 pub returns-in-Linear : goal.returns-in-Linear

@@ -2,7 +2,7 @@ use Rattle.std.proofs.Common.{[], subst, sym}
 use Rattle.ilk_model.specs.declared.event.Event.{Event}
 use Rattle.ilk_drive.specs.Awakening.{around}
 use Rattle.ilk_drive.specs.Touched.{IsLeastHazardous, touched}
-use Rattle.ilk_drive.proofs.Untouched.{least-none}
+use Rattle.ilk_drive.proofs.LeastHazard.{least-none}
 use Rattle.ilk_drive.proofs.touched.least_touched.Goals as goal
 
 pub returns-in-Throw : goal.returns-in-Throw

@@ -1,5 +1,5 @@
 use Rattle.std.proofs.Common.{sym, ◌∙◌, arith}
-use Rattle.ilk_drive.proofs.Untouched.{least-passed}
+use Rattle.ilk_drive.proofs.LeastHazard.{least-passed}
 use Rattle.ilk_drive.proofs.touched.lesser.Goals as goal
 
 pub returns-then-x-sections : goal.returns-then-x-sections

@@ -3,7 +3,7 @@ use Rattle.ilk_cnf.specs.Extends.{Only}
 use Rattle.ilk_cnf.proofs.Extending.{extends-as_clauses}
 use Rattle.ilk_ints.specs.Bits.{bit_count}
 use Rattle.ilk_ints.specs.Named.{bounds_part, bounds_bits, bound_count}
-use Rattle.ilk_ints.proofs.BoundsLaw.{bounds_part-law, bounds_part-say}
+use Rattle.ilk_ints.proofs.BoundsPart.{bounds_part-law, bounds_part-say}
 use Rattle.ilk_ints.proofs.table.bounds.Goals as goal
 
 pub returns-clause-law : goal.returns-clause-law

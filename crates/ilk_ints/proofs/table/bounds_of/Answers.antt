@@ -1,5 +1,5 @@
 use Rattle.std.proofs.Common.{length, ◌-◌}
-use Rattle.ilk_ints.proofs.BoundsLaw.{split-inside}
+use Rattle.ilk_ints.proofs.BoundsPart.{split-inside}
 use Rattle.ilk_ints.proofs.table.bounds_of.Goals as goal
 
 pub add_bounds-requires-clause-lits : goal.add_bounds-requires-clause-lits

@@ -1,4 +1,4 @@
-use Rattle.ilk_learn.proofs.Holding.{asserting-set}
+use Rattle.ilk_learn.proofs.Resolving.{asserting-set}
 use Rattle.ilk_learn.proofs.analysis.level_below.Goals as goal
 
 pub level_of-requires-clause-set : goal.level_of-requires-clause-set

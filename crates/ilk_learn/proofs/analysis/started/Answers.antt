@@ -1,7 +1,7 @@
 use Rattle.std.proofs.Common.{◌+◌, ◌++◌, ◌∷◌, [], ℕ, List, ap, ◌∙◌}
 use Rattle.smallvec.specs.SmallVec.{SmallVec}
 use Rattle.ilk_clauses.specs.Chained.{formula_of}
-use Rattle.ilk_learn.proofs.Holding.{conflict-set, started-keeps}
+use Rattle.ilk_learn.proofs.Resolving.{conflict-set, started-keeps}
 use Rattle.ilk_learn.proofs.analysis.started.Goals as goal
 
 pub join-requires-clause-set : goal.join-requires-clause-set

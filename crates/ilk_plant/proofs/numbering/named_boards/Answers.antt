@@ -1,5 +1,5 @@
 use Rattle.std.proofs.Common.{arith, ap, length, length-append}
-use Rattle.ilk_plant.proofs.Boards.{few-boards}
+use Rattle.ilk_plant.proofs.FewBoards.{few-boards}
 use Rattle.ilk_plant.proofs.numbering.named_boards.Goals as goal
 
 pub returns-clause-few : goal.returns-clause-few

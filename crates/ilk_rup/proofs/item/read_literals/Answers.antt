@@ -2,7 +2,8 @@ use Rattle.std.proofs.Common.{◌++◌, ◌∷◌, [], ℕ, Bool, List, false, r
 use Rattle.ilk_cnf.specs.Literal.{Literal}
 use Rattle.ilk_lines.specs.Lines.{Bytes}
 use Rattle.ilk_rup.specs.Items.{AreRead}
-use Rattle.ilk_rup.proofs.Items.{Before, are-more, are-none, before-next, before-start, read-bad, read-cut, read-end}
+use Rattle.ilk_rup.proofs.FirstItem.{Before, before-next, before-start, read-bad, read-cut, read-end}
+use Rattle.ilk_rup.proofs.Items.{are-more, are-none}
 use Rattle.ilk_cnf.specs.Formula.{lit_in}
 use Rattle.ilk_rup.proofs.Items.{literal-in}
 use Rattle.ilk_rup.proofs.item.read_literals.Goals as goal

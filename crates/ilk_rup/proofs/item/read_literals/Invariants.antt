@@ -1,7 +1,7 @@
 use Rattle.std.proofs.Common.{◌≡◌, ◌∷◌, List, length}
 use Rattle.ilk_cnf.specs.Literal.{Literal}
 use Rattle.ilk_rup.specs.Items.{AreRead}
-use Rattle.ilk_rup.proofs.Items.{Before}
+use Rattle.ilk_rup.proofs.FirstItem.{Before}
 use Rattle.ilk_rup.proofs.item.read_literals.Given as goal
 
 abbrev pub invariant-words : goal.invariant-words

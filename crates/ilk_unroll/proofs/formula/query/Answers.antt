@@ -9,7 +9,8 @@ use Rattle.ilk_unroll.specs.Query.{copies_part, query_part}
 use Rattle.ilk_unroll.specs.Assignment.{run_assignment, IsWantedRun}
 use Rattle.ilk_unroll.proofs.CopiesLaw.{copies-few, valid_in-from}
 use Rattle.ilk_unroll.proofs.DemandsLaw.{goal-valid}
-use Rattle.ilk_unroll.proofs.QueryLaw.{query-law, query_made, forms-valid, few-wanted, tables-many}
+use Rattle.ilk_unroll.proofs.QueryLaw.{query-law}
+use Rattle.ilk_unroll.proofs.QueryMade.{query_made, forms-valid, few-wanted, tables-many}
 use Rattle.ilk_unroll.proofs.formula.query.Goals as goal
 
 pub unroll-requires-clause-steps : goal.unroll-requires-clause-steps

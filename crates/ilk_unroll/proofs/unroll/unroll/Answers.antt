@@ -5,13 +5,14 @@ use Rattle.ilk_cnf.specs.Part.{with_part}
 use Rattle.ilk_ir.specs.System.{rule_tree, system_tree}
 use Rattle.ilk_copy.specs.declared.copy.Column.{Column}
 use Rattle.ilk_copy.specs.Copy.{copy_width}
-use Rattle.ilk_copy.proofs.CopyLaw.{ranges_fit}
+use Rattle.ilk_copy.proofs.ColumnLaw.{ranges_fit}
 use Rattle.ilk_unroll.proofs.ReadBack.{ranges_fit-bytes}
 use Rattle.ilk_unroll.specs.Query.{copies_part, steps_part}
 use Rattle.ilk_unroll.specs.Tables.{step_choices, choices_numbered, tables_in, HaveRanges}
 use Rattle.ilk_unroll.proofs.StepsLaw.{choices-numbered}
 use Rattle.ilk_unroll.proofs.CopiesLaw.{one-more}
-use Rattle.ilk_unroll.proofs.QueryLaw.{no_formula, rules-valid, copies_made, first_copies, unrolled_made, unrolled-inside, unrolled-within, unrolled-reach}
+use Rattle.ilk_unroll.proofs.QueryLaw.{rules-valid}
+use Rattle.ilk_unroll.proofs.QueryMade.{no_formula, copies_made, first_copies, unrolled_made, unrolled-inside, unrolled-within, unrolled-reach}
 use Rattle.ilk_unroll.proofs.unroll.unroll.Goals as goal
 use Rattle.ilk_unroll.proofs.unroll.unroll.Goals.{In_ok-tables}
 

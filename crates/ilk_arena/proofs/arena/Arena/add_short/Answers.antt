@@ -6,7 +6,7 @@ use Rattle.ilk_arena.specs.Arena.{place, added}
 use Rattle.ilk_arena.specs.declared.place.TheConstants.{WORD_LIMIT}
 use Rattle.ilk_arena.specs.Linked.{lists_of, references_in, HoldsArena}
 use Rattle.ilk_arena.proofs.Law.{arena-law}
-use Rattle.ilk_arena.proofs.Adding.{block}
+use Rattle.ilk_arena.proofs.Appending.{block}
 use Rattle.ilk_arena.proofs.Readings.{vars-are, spare-is, spare-are, count-fits}
 use Rattle.ilk_arena.proofs.arena.Arena.add_short.Goals as goal
 use Rattle.ilk_arena.proofs.AddedClauses.{short-law, words_short, new-reference}

@@ -1,6 +1,7 @@
 use Rattle.std.proofs.Common.{◌≡◌, get_or, ◌∙◌, arith, true, false}
 use Rattle.ilk_clauses.specs.Chained.{formula_of}
-use Rattle.ilk_learn.proofs.Holding.{both-ok, mark-read, within-marks, reason-known, keeps-same, keeps-resolved}
+use Rattle.ilk_learn.proofs.Holding.{mark-read, within-marks, reason-known}
+use Rattle.ilk_learn.proofs.Resolving.{both-ok, keeps-same, keeps-resolved}
 use Rattle.ilk_learn.proofs.hand.Hand.pass.Goals as goal
 
 pub resolve-requires-clause-known : goal.resolve-requires-clause-known

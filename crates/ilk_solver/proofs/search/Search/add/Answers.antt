@@ -1,4 +1,4 @@
-use Rattle.std.proofs.Common.{◌≡◌, ◌+◌, ◌<◌, ◌^◌, ◌∷◌, [], cond, List, length, arith, ap, sym, ◌∙◌, subst, length-append}
+use Rattle.std.proofs.Common.{◌≡◌, ◌+◌, ◌<◌, ◌∷◌, [], cond, List, length, arith, ap, sym, ◌∙◌, subst, length-append}
 use Rattle.ilk_cnf.specs.Literal.{Literal, has_var}
 use Rattle.ilk_cnf.specs.Formula.{Formula, grown}
 use Rattle.ilk_log.specs.declared.step.Step.{Step}
@@ -7,6 +7,7 @@ use Rattle.ilk_arena.specs.Arena.{ArenaLists}
 use Rattle.ilk_clauses.specs.Chained.{formula_of, IsClauses}
 use Rattle.ilk_watches.specs.Watched.{IsAddable, IsQueue}
 use Rattle.ilk_watches.proofs.Added.{queue-added}
+use Rattle.ilk_solver.specs.declared.word.TheConstants.{WEIGHT_LIMIT}
 use Rattle.ilk_solver.specs.Levels.{LevelsClosed}
 use Rattle.ilk_solver.specs.View.{weight_of}
 use Rattle.ilk_solver.specs.Search.{SearchLists}
@@ -20,8 +21,8 @@ count-requires-2-clause-room c =
     let clause = c.as_slice.result.now in
     let made = ap (λ (f : ArenaLists). length f.clauses) c.in_ok-add.ensures.ok.is in
     let size = length-append s.clauses.clauses (clause ∷ []) in
-    let few : length s.clauses.clauses + 1 < 2 ^ 32 = omega (arith, c.count.ensures.count, made, size, c.if-count-ge-WEIGHT_LIMIT.false) in
-    weight-fits (formula_of s.clauses) s.given s.log s.view (2 ^ 32) c.self.invariant.search c.vars.ensures.view.weighed few
+    let few : length s.clauses.clauses + 1 < WEIGHT_LIMIT = omega (arith, c.count.ensures.count, made, size, c.if-count-ge-WEIGHT_LIMIT.false) in
+    weight-fits (formula_of s.clauses) s.given s.log s.view WEIGHT_LIMIT c.self.invariant.search c.vars.ensures.view.weighed few
 
 pub invariant_of-result : goal.invariant_of-result
 invariant_of-result c =

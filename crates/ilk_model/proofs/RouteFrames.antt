@@ -1,58 +1,31 @@
--- What each event leaves alone: one law for each of the thirteen events. It has what was asked, what the event changes, and
--- says of every other list of the state that it is as it was.
-use Rattle.std.proofs.Common.{◌≡◌, ℕ, ◌+◌, ◌≤◌, true, false, not, ◌==◌, ◌&&◌, ◌||◌, Option, Some, None, List, [], ◌∷◌, ◌++◌, length, nat_le, position, remove, set, slice_get, refl, sym, ap, ◌∙◌, arith}
+-- What each event of a route leaves alone: one law for each. It has what was asked, what the event changes,
+-- and says of every other list of the state that it is as it was.
+use Rattle.std.proofs.Common.{◌≡◌, ℕ, ◌+◌, ◌≤◌, true, false, not, ◌==◌, ◌&&◌, ◌||◌, Some, None, List, length, nat_le, set, slice_get, refl, sym, ◌∙◌, arith}
 use Rattle.std.specs.Prelude.{if◌then◌else◌}
 use Rattle.std.specs.List.{last_or, list_all}
 use Rattle.std.proofs.lemmas.Bool.{and_parts, eqb-true}
 use Rattle.std.proofs.lemmas.Bool.Decides.{nat_tests}
-use Rattle.std.proofs.lemmas.Option.{cond_some, option_and_then_some, same_Some}
+use Rattle.std.proofs.lemmas.Option.{cond_some, option_and_then_some}
 use Rattle.ilk_base.proofs.Lists.{item_at, last_or-at}
-use Rattle.ilk_base.proofs.Positions.{position-at}
 use Rattle.ilk_base.proofs.Truth.{fails}
-use Rattle.ilk_plant.specs.Plant.{PlantLists, board_of, border, point_number}
+use Rattle.ilk_plant.specs.Plant.{PlantLists}
 use Rattle.ilk_plant.specs.State.{has_lock, is_clear, is_occupied}
 use Rattle.ilk_plant.specs.TableRules.{sections_locked_for}
-use Rattle.ilk_plant.specs.declared.network.Dir.{Dir}
 use Rattle.ilk_plant.specs.declared.state.Aspect.TheVariants.{Open, Closed}
 use Rattle.ilk_plant.specs.declared.state.Hold.TheVariants.{Free as FreeLock, Locked as LockedLock, Used as UsedLock}
-use Rattle.ilk_plant.specs.declared.state.Lie.TheVariants.{Moving}
 use Rattle.ilk_plant.specs.declared.state.Mode.TheVariants.{Free, Marked, Allocating, Locked, Occupied}
-use Rattle.ilk_plant.specs.declared.state.PointState.{PointState}
 use Rattle.ilk_plant.specs.declared.state.RouteState.{RouteState}
 use Rattle.ilk_plant.specs.declared.state.State.{State}
-use Rattle.ilk_plant.specs.declared.state.Train.{Train}
 use Rattle.ilk_plant.specs.declared.table.Route.{Route}
-use Rattle.ilk_motion.specs.Ahead.{ahead}
-use Rattle.ilk_motion.specs.Body.{has_head, has_tail_before_head, stands_on, train_on, with_new_head, without_tail}
-use Rattle.ilk_motion.specs.Trains.{after_enter, after_head, after_leave, after_tail, may_pass, with_board_closed}
 use Rattle.ilk_routes.specs.Boards.{has_aspect, is_protecting}
 use Rattle.ilk_routes.specs.Claims.{sections_beside, wanted_points}
-use Rattle.ilk_routes.specs.Lies.{is_moving, lie_in, lies_as_listed, lies_at, with_commands}
+use Rattle.ilk_routes.specs.Lies.{lies_as_listed, with_commands}
 use Rattle.ilk_routes.specs.Locks.{with_locks}
 use Rattle.ilk_routes.specs.Modes.{same_mode}
-use Rattle.ilk_routes.specs.Points.{after_settle, after_throw}
 use Rattle.ilk_routes.specs.Routes.{after_allocate, after_cancel, after_finish, after_lock, after_mark, after_release, after_sense, can_claim, can_lock}
 use Rattle.ilk_model.specs.Holding.{is_locked_or_occupied}
 use Rattle.ilk_model.proofs.Alike.{one_mode}
-
--- two states that are one have the same lists
-pub record SameLists (s t : State) : Type 0 where
-  pub routes : t.routes ≡ s.routes
-  pub points : t.points ≡ s.points
-  pub boards : t.boards ≡ s.boards
-  pub locks : t.locks ≡ s.locks
-  pub trains : t.trains ≡ s.trains
-
-pub same-lists : (s t : State) → s ≡ t → SameLists s t
-same-lists s t e =
-    let back = sym e in
-    record {
-      routes = ap (λ (u : State). u.routes) back;
-      points = ap (λ (u : State). u.points) back;
-      boards = ap (λ (u : State). u.boards) back;
-      locks = ap (λ (u : State). u.locks) back;
-      trains = ap (λ (u : State). u.trains) back;
-    }
+use Rattle.ilk_model.proofs.SameLists.{same-lists}
 
 -- from s to t the state of route r changes, from `now` to `new`, and that of no other route
 pub record ChangesRoute (p : PlantLists) (s t : State) (r : ℕ) (route : Route) (now new : RouteState) : Type 0 where
@@ -287,214 +260,6 @@ finish-frame p s t r e =
       all_seen = eqb-true now.seen (length route.path) both.1;
       rest = rest;
       last = last-place route.path now.rel x rest last;
-      points = same.points;
-      boards = same.boards;
-      locks = same.locks;
-      trains = same.trains;
-    })))
-
--- throw x: the point on x didn't move, and didn't lie where it is commanded; routes, boards, locks and trains stay, all
--- other points, and where points are commanded
-pub record IsThrown (p : PlantLists) (s t : State) (x : ℕ) : Type 0 where
-  pub n : ℕ
-  pub point : PointState
-  pub number : point_number p x ≡ Some n
-  pub state : slice_get s.points n ≡ Some point
-  pub still : is_moving point.at ≡ false
-  pub elsewhere : lies_at point.at point.to ≡ false
-  pub routes : t.routes ≡ s.routes
-  pub points : t.points ≡ set s.points n (record point { at = Moving })
-  pub boards : t.boards ≡ s.boards
-  pub locks : t.locks ≡ s.locks
-  pub trains : t.trains ≡ s.trains
-
-pub throw-frame : (p : PlantLists) (s t : State) (x : ℕ) → after_throw p s x ≡ Some t → IsThrown p s t x
-throw-frame p s t x e =
-    option_and_then_some _ (point_number p x) t e (λ n number e1.
-    option_and_then_some _ (slice_get s.points n) t e1 (λ point state e2.
-    let done = cond_some _ _ t e2 in
-    let same = same-lists _ t done.1 in
-    let asked = and_parts (not (is_moving point.at)) (not (lies_at point.at point.to)) done.0 in
-    record {
-      n = n;
-      point = point;
-      number = number;
-      state = state;
-      still = fails (is_moving point.at) asked.0;
-      elsewhere = fails (lies_at point.at point.to) asked.1;
-      routes = same.routes;
-      points = same.points;
-      boards = same.boards;
-      locks = same.locks;
-      trains = same.trains;
-    }))
-
--- settle x: the point on x moved; routes, boards, locks and trains stay, all other points, and where points are commanded
-pub record IsSettled (p : PlantLists) (s t : State) (x : ℕ) : Type 0 where
-  pub n : ℕ
-  pub point : PointState
-  pub number : point_number p x ≡ Some n
-  pub state : slice_get s.points n ≡ Some point
-  pub moved : is_moving point.at ≡ true
-  pub routes : t.routes ≡ s.routes
-  pub points : t.points ≡ set s.points n (record point { at = lie_in point.to })
-  pub boards : t.boards ≡ s.boards
-  pub locks : t.locks ≡ s.locks
-  pub trains : t.trains ≡ s.trains
-
-pub settle-frame : (p : PlantLists) (s t : State) (x : ℕ) → after_settle p s x ≡ Some t → IsSettled p s t x
-settle-frame p s t x e =
-    option_and_then_some _ (point_number p x) t e (λ n number e1.
-    option_and_then_some _ (slice_get s.points n) t e1 (λ point state e2.
-    let done = cond_some _ _ t e2 in
-    let same = same-lists _ t done.1 in
-    record {
-      n = n;
-      point = point;
-      number = number;
-      state = state;
-      moved = done.0;
-      routes = same.routes;
-      points = same.points;
-      boards = same.boards;
-      locks = same.locks;
-      trains = same.trains;
-    }))
-
--- enter x: x is a border, and was vacant, with lock Free; routes, points, boards and locks stay, and all trains
-pub record IsEntered (p : PlantLists) (s t : State) (x : ℕ) : Type 0 where
-  pub inward : Dir
-  pub borders : border p x ≡ Some inward
-  pub free : has_lock s x FreeLock ≡ true
-  pub vacant : is_occupied s x ≡ false
-  pub routes : t.routes ≡ s.routes
-  pub points : t.points ≡ s.points
-  pub boards : t.boards ≡ s.boards
-  pub locks : t.locks ≡ s.locks
-  pub trains : t.trains ≡ s.trains ++ train_on x inward ∷ []
-
-pub enter-frame : (p : PlantLists) (s t : State) (x : ℕ) → after_enter p s x ≡ Some t → IsEntered p s t x
-enter-frame p s t x e =
-    option_and_then_some _ (border p x) t e (λ inward borders e1.
-    let done = cond_some _ _ t e1 in
-    let same = same-lists _ t done.1 in
-    let asked = and_parts (has_lock s x FreeLock) (not (is_occupied s x)) done.0 in
-    record {
-      inward = inward;
-      borders = borders;
-      free = asked.0;
-      vacant = fails (is_occupied s x) asked.1;
-      routes = same.routes;
-      points = same.points;
-      boards = same.boards;
-      locks = same.locks;
-      trains = same.trains;
-    })
-
--- closing a board leaves all else alone
-closed-lists : (board : Option ℕ) (s : State) → SameLists (record s { boards = (with_board_closed board s).boards }) (with_board_closed board s)
-closed-lists None s = record { routes = refl; points = refl; boards = refl; locks = refl; trains = refl }
-closed-lists (Some m) s = record { routes = refl; points = refl; boards = refl; locks = refl; trains = refl }
-
--- the boards, where trains alone change
-closed-boards : (board : Option ℕ) (s : State) (trains : List Train) → (with_board_closed board (record s { trains = trains })).boards ≡ (with_board_closed board s).boards
-closed-boards None s trains = refl
-closed-boards (Some m) s trains = refl
-
--- head x: train i had its head at x, y lay ahead, and it might pass the board; routes, points and locks stay, all other
--- trains, and all boards but the one at x
-pub record IsHeaded (p : PlantLists) (s t : State) (x : ℕ) : Type 0 where
-  pub i : ℕ
-  pub train : Train
-  pub y : ℕ
-  pub at : slice_get s.trains i ≡ Some train
-  pub heads : has_head x train ≡ true
-  pub leads : ahead p s x train.dir ≡ Some y
-  pub passes : may_pass s (board_of p x train.dir) ≡ true
-  pub routes : t.routes ≡ s.routes
-  pub points : t.points ≡ s.points
-  pub boards : t.boards ≡ (with_board_closed (board_of p x train.dir) s).boards
-  pub locks : t.locks ≡ s.locks
-  pub trains : t.trains ≡ set s.trains i (with_new_head y train)
-
-pub head-frame : (p : PlantLists) (s t : State) (x : ℕ) → after_head p s x ≡ Some t → IsHeaded p s t x
-head-frame p s t x e =
-    option_and_then_some _ (position (has_head x) s.trains) t e (λ i first e1.
-    option_and_then_some _ (slice_get s.trains i) t e1 (λ train at e2.
-    option_and_then_some _ (ahead p s x train.dir) t e2 (λ y leads e3.
-    let done = cond_some _ _ t e3 in
-    let moved : State = record s { trains = set s.trains i (with_new_head y train) } in
-    let same = same-lists (with_board_closed (board_of p x train.dir) moved) t done.1 in
-    let closed = closed-lists (board_of p x train.dir) moved in
-    record {
-      i = i;
-      train = train;
-      y = y;
-      at = at;
-      heads = position-at (has_head x) s.trains i train first at;
-      leads = leads;
-      passes = done.0;
-      routes = same.routes ∙ closed.routes;
-      points = same.points ∙ closed.points;
-      boards = same.boards ∙ closed-boards (board_of p x train.dir) s (set s.trains i (with_new_head y train));
-      locks = same.locks ∙ closed.locks;
-      trains = same.trains ∙ closed.trains;
-    })))
-
--- tail x: train i of two or more sections had its tail at x; routes, points, boards and locks stay, and all other trains
-pub record IsTailed (p : PlantLists) (s t : State) (x : ℕ) : Type 0 where
-  pub i : ℕ
-  pub train : Train
-  pub at : slice_get s.trains i ≡ Some train
-  pub several : has_tail_before_head x train ≡ true
-  pub routes : t.routes ≡ s.routes
-  pub points : t.points ≡ s.points
-  pub boards : t.boards ≡ s.boards
-  pub locks : t.locks ≡ s.locks
-  pub trains : t.trains ≡ set s.trains i (without_tail train)
-
-pub tail-frame : (p : PlantLists) (s t : State) (x : ℕ) → after_tail p s x ≡ Some t → IsTailed p s t x
-tail-frame p s t x e =
-    option_and_then_some _ (slice_get p.sections x) t e (λ section known e0.
-    option_and_then_some _ (position (has_tail_before_head x) s.trains) t e0 (λ i first e1.
-    option_and_then_some _ (slice_get s.trains i) t e1 (λ train at e2.
-    let same = same-lists _ t (same_Some _ t e2) in
-    record {
-      i = i;
-      train = train;
-      at = at;
-      several = position-at (has_tail_before_head x) s.trains i train first at;
-      routes = same.routes;
-      points = same.points;
-      boards = same.boards;
-      locks = same.locks;
-      trains = same.trains;
-    })))
-
--- leave x: train i stood on x alone; routes, points, boards and locks stay, and all other trains
-pub record IsLeft (p : PlantLists) (s t : State) (x : ℕ) : Type 0 where
-  pub i : ℕ
-  pub train : Train
-  pub at : slice_get s.trains i ≡ Some train
-  pub alone : stands_on x train ≡ true
-  pub routes : t.routes ≡ s.routes
-  pub points : t.points ≡ s.points
-  pub boards : t.boards ≡ s.boards
-  pub locks : t.locks ≡ s.locks
-  pub trains : t.trains ≡ remove s.trains i
-
-pub leave-frame : (p : PlantLists) (s t : State) (x : ℕ) → after_leave p s x ≡ Some t → IsLeft p s t x
-leave-frame p s t x e =
-    option_and_then_some _ (slice_get p.sections x) t e (λ section known e0.
-    option_and_then_some _ (position (stands_on x) s.trains) t e0 (λ i first e1.
-    option_and_then_some _ (slice_get s.trains i) t e1 (λ train at e2.
-    let same = same-lists _ t (cond_some _ _ t e2).1 in
-    record {
-      i = i;
-      train = train;
-      at = at;
-      alone = position-at (stands_on x) s.trains i train first at;
-      routes = same.routes;
       points = same.points;
       boards = same.boards;
       locks = same.locks;

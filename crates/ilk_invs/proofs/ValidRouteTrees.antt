@@ -1,0 +1,188 @@
+-- V1 to V6 as conditions are valid over the ranges of the plant.
+use Rattle.std.proofs.Common.{◌≡◌, ℕ, zero, suc, ◌+◌, ◌-◌, ◌/◌, ◌<◌, ◌≤◌, ◌==◌, Bool, true, false, Some, List, [], ◌∷◌, ◌++◌, drop, length, map, nat_le, slice_get, take, refl, ◌∙◌, arith, if◌then◌else◌}
+use Rattle.std.specs.List.{enumerate_from, flat_map, list_all, range_with_len}
+use Rattle.std.proofs.lemmas.List.Folds.{list_all-map}
+use Rattle.std.proofs.lemmas.Option.{slice_get_within}
+use Rattle.ilk_base.proofs.Ranges.{range_within}
+use Rattle.ilk_ir.specs.Tree.{negation, tree_valid}
+use Rattle.ilk_plant.specs.Plant.{IsPlant, PlantLists}
+use Rattle.ilk_plant.specs.declared.state.Aspect.TheVariants.{Open}
+use Rattle.ilk_plant.specs.declared.state.Hold.TheVariants.{Locked as LockedLock, Used as UsedLock}
+use Rattle.ilk_plant.specs.declared.state.Mode.TheVariants.{Allocating, Locked, Occupied}
+use Rattle.ilk_plant.specs.declared.table.Listed.{Listed}
+use Rattle.ilk_plant.specs.declared.table.Route.{Route}
+use Rattle.ilk_routes.specs.Claims.{sections_beside}
+use Rattle.ilk_layout.specs.Variables.{ranges_of_plant}
+use Rattle.ilk_conditions.specs.Conditions.{board_is, commanded_at_listed, lies_at_listed, lock_is, mode_is, rel_is, seen_is}
+use Rattle.ilk_conditions.proofs.Listed.{commanded_at_listed-valid}
+use Rattle.ilk_conditions.proofs.Valid.{board_is-valid, lies_at_listed-valid, lock_is-valid, mode_is-valid, rel_is-valid, seen_is-valid}
+use Rattle.ilk_invs.specs.Held.{holding_section, is_holding, kept_on_path, locked_or_occupied, rel_below, seen_below}
+use Rattle.ilk_invs.specs.declared.hold_family.TheConstants.{MAX_IN_ORDER}
+use Rattle.ilk_invs.specs.HoldFamilies.{held_by_halves, held_in_order, held_once, holders, lock_at_place, locked_for, none_before, none_holding, not_in_both, route_holding, v2_tree, v3_tree}
+use Rattle.ilk_invs.specs.Parts.{each_of, of_each_place, of_each_route, some_of, where_holds}
+use Rattle.ilk_invs.specs.PointFamily.{points_of_path, set_for, v6_tree}
+use Rattle.ilk_invs.specs.RouteFamilies.{counts_of, opened_for, path_vacant, v1_tree, v4_tree, v5_tree}
+use Rattle.ilk_routes.proofs.Shape.{beside-known}
+use Rattle.ilk_invs.proofs.ValidParts.{conditions_for-valid, each_of-valid, flat_map-valid, holding_section-valid, if-valid, is_holding-valid, is_kept-valid, joined-valid, map-valid, more-valid, one-valid, path_known, path_vacant-valid, places-valid, rel_below-valid, routes-valid, seen_below-valid, some_of-valid, three-valid, two-valid, where_holds-valid}
+
+module _ (p : PlantLists) (plant : IsPlant p) where
+  pub v1-valid : tree_valid (ranges_of_plant p) (v1_tree p) ≡ true
+  v1-valid =
+      each_of-valid p plant (of_each_route p (λ r route. counts_of r route ∷ []))
+      (routes-valid p plant (λ r route. counts_of r route ∷ [])
+      (λ r route known. one-valid p plant (counts_of r route)
+      (of_route r route known (slice_get_within p.routes r route known))))
+    where
+      of_count : (r : ℕ) (route : Route) (k : ℕ) → slice_get p.routes r ≡ Some route → r < length p.routes →
+          k ≤ length route.path →
+          tree_valid (ranges_of_plant p)
+          (some_of (negation (mode_is r Occupied) ∷ negation (seen_is r k) ∷ rel_below r k ∷ [])) ≡ true
+      of_count r route k known within few =
+          some_of-valid p plant (negation (mode_is r Occupied) ∷ negation (seen_is r k) ∷ rel_below r k ∷ [])
+          (three-valid p plant (negation (mode_is r Occupied)) (negation (seen_is r k)) (rel_below r k)
+          (mode_is-valid p r Occupied within) (seen_is-valid p r k route known few)
+          (rel_below-valid p plant r k route known (omega (arith, few))))
+
+      of_route : (r : ℕ) (route : Route) → slice_get p.routes r ≡ Some route → r < length p.routes → tree_valid (ranges_of_plant p) (counts_of r route) ≡ true
+      of_route r route known within =
+          each_of-valid p plant
+          (some_of (mode_is r Occupied ∷ seen_is r 0 ∷ [])
+          ∷ some_of (mode_is r Occupied ∷ rel_is r 0 ∷ [])
+          ∷ map
+          (λ k. some_of
+          (negation (mode_is r Occupied) ∷ negation (seen_is r k) ∷ rel_below r k ∷ []))
+          (range_with_len 0 (length route.path + 1)))
+          (more-valid p plant (some_of (mode_is r Occupied ∷ seen_is r 0 ∷ []))
+          (some_of (mode_is r Occupied ∷ rel_is r 0 ∷ [])
+          ∷ map
+          (λ k. some_of
+          (negation (mode_is r Occupied) ∷ negation (seen_is r k) ∷ rel_below r k ∷ []))
+          (range_with_len 0 (length route.path + 1)))
+          (some_of-valid p plant (mode_is r Occupied ∷ seen_is r 0 ∷ []) (two-valid p plant (mode_is r Occupied) (seen_is r 0) (mode_is-valid p r Occupied within) (seen_is-valid p r 0 route known (omega arith))))
+          (more-valid p plant (some_of (mode_is r Occupied ∷ rel_is r 0 ∷ [])) (map (λ k. some_of (negation (mode_is r Occupied) ∷ negation (seen_is r k) ∷ rel_below r k ∷ [])) (range_with_len 0 (length route.path + 1)))
+          (some_of-valid p plant (mode_is r Occupied ∷ rel_is r 0 ∷ []) (two-valid p plant (mode_is r Occupied) (rel_is r 0) (mode_is-valid p r Occupied within) (rel_is-valid p r 0 route known (omega arith))))
+          (map-valid p plant (λ k. some_of (negation (mode_is r Occupied) ∷ negation (seen_is r k) ∷ rel_below r k ∷ [])) (range_with_len 0 (length route.path + 1)) (λ i k at.
+          let below = (range_within (length route.path + 1) i k at).1 in of_count r route k known within (omega (arith, below))))))
+
+  pub v2-valid : tree_valid (ranges_of_plant p) (v2_tree p) ≡ true
+  v2-valid =
+      each_of-valid p plant (flat_map (held_once p) (range_with_len 0 (length p.sections))) (flat_map-valid p plant (held_once p) (range_with_len 0 (length p.sections)) (λ i x at. by_halves (length (holders p x)) x (holders p x)))
+    where
+      holding : (x r : ℕ) → list_all (tree_valid (ranges_of_plant p)) (route_holding p x r) ≡ true
+      holding x r =
+          conditions_for-valid p plant (slice_get p.routes r) (λ route. holding_section r route x ∷ []) (λ route known. one-valid p plant (holding_section r route x) (holding_section-valid p plant r route x known))
+
+      none : (x : ℕ) (routes : List ℕ) → tree_valid (ranges_of_plant p) (none_holding p x routes) ≡ true
+      none x routes =
+          each_of-valid p plant (map negation (flat_map (route_holding p x) routes))
+          (list_all-map (tree_valid (ranges_of_plant p)) negation (flat_map (route_holding p x) routes)
+          ∙ flat_map-valid p plant (route_holding p x) routes (λ i q at. holding x q))
+
+      in_order : (x : ℕ) (routes : List ℕ) → list_all (tree_valid (ranges_of_plant p)) (held_in_order p x routes) ≡ true
+      in_order x routes =
+          map-valid p plant (λ place. none_before p x (take place.0 routes) place.1) (enumerate_from 1 (drop 1 routes)) (λ k place there.
+          where_holds-valid p plant (each_of (route_holding p x place.1)) (none_holding p x (take place.0 routes)) (each_of-valid p plant (route_holding p x place.1) (holding x place.1)) (none x (take place.0 routes)))
+
+      by_halves : (n x : ℕ) (routes : List ℕ) → list_all (tree_valid (ranges_of_plant p)) (held_by_halves n p x routes) ≡ true
+      by_halves zero x routes = in_order x routes
+      by_halves (suc n) x routes =
+          by_size (nat_le (length routes) MAX_IN_ORDER) (by_halves n x (take (length routes / 2) routes)) (by_halves n x (drop (length routes / 2) routes))
+        where
+          by_size : (few : Bool) →
+              list_all (tree_valid (ranges_of_plant p))
+              (held_by_halves n p x (take (length routes / 2) routes)) ≡ true →
+              list_all (tree_valid (ranges_of_plant p))
+              (held_by_halves n p x (drop (length routes / 2) routes)) ≡ true →
+              list_all (tree_valid (ranges_of_plant p))
+              (if few then held_in_order p x routes
+              else not_in_both p x (take (length routes / 2) routes)
+              (drop (length routes / 2) routes)
+              ∷ held_by_halves n p x (take (length routes / 2) routes)
+              ++ held_by_halves n p x (drop (length routes / 2) routes)) ≡ true
+          by_size true here there = in_order x routes
+          by_size false here there =
+              more-valid p plant (not_in_both p x (take (length routes / 2) routes) (drop (length routes / 2) routes)) (held_by_halves n p x (take (length routes / 2) routes) ++ held_by_halves n p x (drop (length routes / 2) routes))
+              (some_of-valid p plant
+              (none_holding p x (take (length routes / 2) routes)
+              ∷ none_holding p x (drop (length routes / 2) routes) ∷ [])
+              (two-valid p plant (none_holding p x (take (length routes / 2) routes))
+              (none_holding p x (drop (length routes / 2) routes))
+              (none x (take (length routes / 2) routes)) (none x (drop (length routes / 2) routes))))
+              (joined-valid p plant (held_by_halves n p x (take (length routes / 2) routes)) (held_by_halves n p x (drop (length routes / 2) routes)) here there)
+
+  pub v3-valid : tree_valid (ranges_of_plant p) (v3_tree p) ≡ true
+  v3-valid =
+      each_of-valid p plant (of_each_route p (λ r route. locked_for p r route ∷ [])) (routes-valid p plant (λ r route. locked_for p r route ∷ []) (λ r route known.
+      one-valid p plant (locked_for p r route) (where_holds-valid p plant (is_holding r)
+      (each_of
+      (of_each_place route (lock_at_place p r)
+      ++ map (λ x. lock_is p x LockedLock) (sections_beside route)))
+      (is_holding-valid p plant r (slice_get_within p.routes r route known))
+      (each_of-valid p plant
+      (of_each_place route (lock_at_place p r)
+      ++ map (λ x. lock_is p x LockedLock) (sections_beside route)) (joined-valid p plant
+      (of_each_place route (lock_at_place p r))
+      (map (λ x. lock_is p x LockedLock) (sections_beside route))
+      (places-valid p plant route (lock_at_place p r) (λ i x at. of_place r route i x known at (slice_get_within route.path i x at)))
+      (map-valid p plant (λ x. lock_is p x LockedLock) (sections_beside route) (λ i x at. lock_is-valid p x LockedLock (beside-known p route (plant.routes_known r route known) i x at))))))))
+    where
+      of_place : (r : ℕ) (route : Route) (i x : ℕ) → slice_get p.routes r ≡ Some route → slice_get route.path i ≡ Some x → i < length route.path → list_all (tree_valid (ranges_of_plant p)) (lock_at_place p r i x) ≡ true
+      of_place r route i x known at less =
+          let rel = rel_below-valid p plant r (i + 1) route known (omega (arith, less)) in
+          let seen = seen_below-valid p plant r (i + 1) route known (omega (arith, less)) in
+          let inside = path_known p plant r route i x known at in
+          two-valid p plant (some_of (negation (rel_below r (i + 1)) ∷ negation (seen_below r (i + 1)) ∷ lock_is p x LockedLock ∷ [])) (some_of (negation (rel_below r (i + 1)) ∷ seen_below r (i + 1) ∷ lock_is p x UsedLock ∷ []))
+          (some_of-valid p plant
+          (negation (rel_below r (i + 1)) ∷ negation (seen_below r (i + 1)) ∷ lock_is p x LockedLock
+          ∷ [])
+          (three-valid p plant (negation (rel_below r (i + 1))) (negation (seen_below r (i + 1)))
+          (lock_is p x LockedLock) rel seen (lock_is-valid p x LockedLock inside)))
+          (some_of-valid p plant
+          (negation (rel_below r (i + 1)) ∷ seen_below r (i + 1) ∷ lock_is p x UsedLock ∷ [])
+          (three-valid p plant (negation (rel_below r (i + 1))) (seen_below r (i + 1))
+          (lock_is p x UsedLock) rel seen (lock_is-valid p x UsedLock inside)))
+
+  pub v4-valid : tree_valid (ranges_of_plant p) (v4_tree p) ≡ true
+  v4-valid =
+      each_of-valid p plant
+      (of_each_route p
+      (λ r route. where_holds (mode_is r Allocating) (each_of (path_vacant p route)) ∷ []))
+      (routes-valid p plant
+      (λ r route. where_holds (mode_is r Allocating) (each_of (path_vacant p route)) ∷ []) (λ r route
+      known.
+      one-valid p plant (where_holds (mode_is r Allocating) (each_of (path_vacant p route)))
+      (where_holds-valid p plant (mode_is r Allocating) (each_of (path_vacant p route))
+      (mode_is-valid p r Allocating (slice_get_within p.routes r route known))
+      (each_of-valid p plant (path_vacant p route) (path_vacant-valid p plant r route known)))))
+
+  pub v5-valid : tree_valid (ranges_of_plant p) (v5_tree p) ≡ true
+  v5-valid =
+      each_of-valid p plant (map (opened_for p) (range_with_len 0 (length p.boards))) (map-valid p plant (opened_for p) (range_with_len 0 (length p.boards)) (λ i m at.
+      some_of-valid p plant (negation (board_is p m Open) ∷ of_each_route p (λ r route. if route.source == m then each_of (mode_is r Locked ∷ path_vacant p route) ∷ [] else []))
+      (more-valid p plant (negation (board_is p m Open)) (of_each_route p (λ r route. if route.source == m then each_of (mode_is r Locked ∷ path_vacant p route) ∷ [] else [])) (board_is-valid p m Open (range_within (length p.boards) i m at).1)
+      (routes-valid p plant (λ r route. if route.source == m then each_of (mode_is r Locked ∷ path_vacant p route) ∷ [] else []) (λ r route known.
+      if-valid p plant (route.source == m) (each_of (mode_is r Locked ∷ path_vacant p route) ∷ [])
+      (one-valid p plant (each_of (mode_is r Locked ∷ path_vacant p route))
+      (each_of-valid p plant (mode_is r Locked ∷ path_vacant p route)
+      (more-valid p plant (mode_is r Locked) (path_vacant p route)
+      (mode_is-valid p r Locked (slice_get_within p.routes r route known))
+      (path_vacant-valid p plant r route known)))))))))
+
+  pub v6-valid : tree_valid (ranges_of_plant p) (v6_tree p) ≡ true
+  v6-valid =
+      each_of-valid p plant (of_each_route p (λ r route. map (set_for p r route) (points_of_path route))) (routes-valid p plant (λ r route. map (set_for p r route) (points_of_path route)) (λ r route known.
+      map-valid p plant (set_for p r route) (points_of_path route) (λ i listed at. of_point r route listed known)))
+    where
+      of_point : (r : ℕ) (route : Route) (listed : Listed) → slice_get p.routes r ≡ Some route → tree_valid (ranges_of_plant p) (set_for p r route listed) ≡ true
+      of_point r route listed known =
+          let commanded = commanded_at_listed-valid p listed in
+          let set = each_of-valid p plant (commanded_at_listed p listed ∷ lies_at_listed p listed ∷ []) (two-valid p plant (commanded_at_listed p listed) (lies_at_listed p listed) commanded (lies_at_listed-valid p listed)) in
+          each_of-valid p plant
+          (where_holds (mode_is r Allocating) (commanded_at_listed p listed)
+          ∷ where_holds (each_of (locked_or_occupied r ∷ kept_on_path r route listed.point ∷ []))
+          (each_of (commanded_at_listed p listed ∷ lies_at_listed p listed ∷ [])) ∷ [])
+          (two-valid p plant (where_holds (mode_is r Allocating) (commanded_at_listed p listed))
+          (where_holds (each_of (locked_or_occupied r ∷ kept_on_path r route listed.point ∷ []))
+          (each_of (commanded_at_listed p listed ∷ lies_at_listed p listed ∷ [])))
+          (where_holds-valid p plant (mode_is r Allocating) (commanded_at_listed p listed) (mode_is-valid p r Allocating (slice_get_within p.routes r route known)) commanded)
+          (where_holds-valid p plant (each_of (locked_or_occupied r ∷ kept_on_path r route listed.point ∷ [])) (each_of (commanded_at_listed p listed ∷ lies_at_listed p listed ∷ [])) (is_kept-valid p plant r route listed.point known) set))
