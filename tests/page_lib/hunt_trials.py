@@ -21,8 +21,10 @@ from state import ROUTE_WORDS
 
 TOP = Path(__file__).resolve().parents[2]
 ENDED = 60              # seconds after which a process that has to end is left over
+# what starts this in the background may have it ignore SIGINT, which goes on to what is called
 PARENT = """
-import sys, time
+import signal, sys
+signal.signal(signal.SIGINT, signal.default_int_handler)
 sys.path[:0] = {paths!r}
 import line
 from hunters import Hunters
