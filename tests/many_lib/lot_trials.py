@@ -8,8 +8,8 @@ from many_room import EXAMPLES, differs, done_line
 from lots import SHORT_QUERIES
 
 WANTS = ("--want", "check", "--want", "verify", "--want", "audit")
-# three lots of two each, where one job is done at a time
-SAME_LENGTH = ["".join(ending) for ending in itertools.product(" \n", repeat=3)][:6]
+# six lots where one job is done at a time, each of a third of what is left: of 3, 2, 1, 1, 1 and 1
+SAME_LENGTH = ["".join(ending) for ending in itertools.product(" \n", repeat=4)][:9]
 
 
 def rules_in(room):
@@ -71,12 +71,12 @@ def trial_lot_killed(room):
     for (_, want), (_, line) in room.answers().items():
         count[want, stands.get(line, line)] = count.get((want, stands.get(line, line)), 0) + 1
     yield from differs("killed", (done.returncode, count), (3, {
-        ("check", "answered"): 3, ("check", "not begun"): 3, ("verify", "answered"): 3, ("verify", "not begun"): 3,
-        ("audit", "under way"): 3, ("audit", "not begun"): 3}))
+        ("check", "answered"): 6, ("check", "not begun"): 3, ("verify", "answered"): 6, ("verify", "not begun"): 3,
+        ("audit", "under way"): 6, ("audit", "not begun"): 3}))
     yield from differs("half of a result", list(room.out.glob("results/audit/*/*")), [])
     room.wish.write_text("go", encoding="ascii")
-    yield from differs("afterwards", room.call(*words).stdout, done_line(6, 6, 12, 6, room))
-    yield from differs("rules", rules_in(room), {"several": 3, "audit": 3})
+    yield from differs("afterwards", room.call(*words).stdout, done_line(9, 9, 15, 12, room))
+    yield from differs("rules", rules_in(room), {"several": 3, "audit": 6})
     yield from differs("verified", room.verify()[0], 0)
 
 

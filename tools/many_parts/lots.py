@@ -8,7 +8,7 @@ earlier call and gave no answer: whatever it does, it does to itself alone.
 """
 
 LOT = 131072                    # bytes of configurations in a lot, unless another number is given
-LOTS_EACH = 3                   # lots for each job that may be done at once, where there is work for so many
+SHARES = 3                      # a lot is a part of what is left: 1 / (SHARES * jobs that may be done at once)
 ALWAYS_APART = ("page",)
 OF_QUERIES = ("export", "solve", "rup", "safe_by")
 SHORT_QUERIES = 8192            # bytes of a configuration below which its queries are short
@@ -35,14 +35,15 @@ def is_long(store, job, lot):
 
 
 def filled(store, joined, lot, at_once):
-    """Lots of the jobs of these configurations; all of one come into one, the longest first."""
+    """Lots of the jobs of these configurations; all of one come into one, the longest first. Each lot is a part of
+    what is left, so that those that are begun last are short and none is waited for at the end."""
     sizes = {sum_: store.given(sum_).stat().st_size for sum_ in joined}
-    most = min(lot, sum(sizes.values()) // (LOTS_EACH * at_once))
-    lots, room = [], 0
+    lots, room, left = [], 0, sum(sizes.values())
     for sum_ in sorted(joined, key=sizes.get, reverse=True):
         if not lots or sizes[sum_] > room:
             lots.append([])
-            room = most
+            room = min(lot, left // (SHARES * at_once))
         lots[-1] += joined[sum_]
         room -= sizes[sum_]
+        left -= sizes[sum_]
     return lots
