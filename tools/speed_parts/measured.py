@@ -60,24 +60,11 @@ class Plant:
     rup: Check = None
 
 
-class Measured:
-    """A whole text: its head, and its plants in order."""
+class Run:
+    """What one call printed: its head, and its plants in order."""
 
-    def __init__(self, text):
+    def __init__(self):
         self.head, self.loads, self.plants = {}, [], []
-        for number, line in enumerate(text.splitlines(), 1):
-            if not self.takes(line):
-                raise NotMeasured(f"line {number} is none of tools/benchmark: {line}")
-        for name in ("machine", "day", "program", "solvers", "load"):
-            if name not in self.head:
-                raise NotMeasured(f"there is no line of the {name}")
-        if not self.plants:
-            raise NotMeasured("there is no plant")
-
-    @property
-    def is_proved(self):
-        """Whether the program is the one that a build makes which proves it."""
-        return self.head["program"].startswith(f"{PROVED},")
 
     def takes(self, line):
         """Takes a line; whether it may stand there."""
@@ -91,6 +78,39 @@ class Measured:
         else:
             return bool(self.plants) and takes_part(self.plants[-1], line)
         return True
+
+    def see_whole(self):
+        """Sees that nothing of its head is missing, and that it has a plant."""
+        for name in ("machine", "day", "program", "solvers", "load"):
+            if name not in self.head:
+                raise NotMeasured(f"there is no line of the {name}")
+        if not self.plants:
+            raise NotMeasured("there is no plant")
+
+
+class Measured:
+    """A whole text: what one call printed, or several one after another."""
+
+    def __init__(self, text):
+        self.runs = []
+        for number, line in enumerate(text.splitlines(), 1):
+            if line.startswith("machine: ") or not self.runs:
+                self.runs.append(Run())
+            if not self.runs[-1].takes(line):
+                raise NotMeasured(f"line {number} is none of tools/benchmark: {line}")
+        for run in self.runs or [Run()]:
+            run.see_whole()
+        self.plants = [plant for run in self.runs for plant in run.plants]
+
+    @property
+    def is_proved(self):
+        """Whether the program is always the one that a build makes which proves it."""
+        return all(run.head["program"].startswith(f"{PROVED},") for run in self.runs)
+
+    @property
+    def machines(self):
+        """The machines, each once."""
+        return list(dict.fromkeys(run.head["machine"] for run in self.runs))
 
 
 def takes_part(plant, line):

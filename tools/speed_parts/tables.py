@@ -67,24 +67,32 @@ def checks(plants):
                          megabytes(plant.text), *check(plant.rup)] for plant in plants])
 
 
-def origin(measured):
-    """What was measured, where, and beside what."""
-    name, _, rest = measured.head["program"].partition(", ")
-    program = (f"The program was the proved one, `{PROVED}` ({rest})." if measured.is_proved else
+def origin(run, whose):
+    """What was measured of these plants, where, and beside what."""
+    name, _, rest = run.head["program"].partition(", ")
+    program = (f"The program was the proved one, `{PROVED}` ({rest})." if name == PROVED else
                f"**The program wasn't proved**: it was made of this repository's sources as they were then, "
                f"without their proofs ({name}, {rest}).")
-    loads, budget = sorted(measured.loads, key=float), measured.head.get("conflicts")
+    loads, budget = sorted(run.loads, key=float), run.head.get("conflicts")
     if budget:
         program += f" `verify` was called with `--conflicts {budget}`."
-    return (f"Measured on {measured.head['day']}: {measured.head['machine']}. {program} Other solvers: "
-            f"{measured.head['solvers']} of a processor. Processes at work in the minute before a beginning or an end: "
+    return (f"{whose} on {run.head['day']}: {run.head['machine']}. {program} Other solvers: "
+            f"{run.head['solvers']} of a processor. Processes at work in the minute before a beginning or an end: "
             f"{' to '.join(dict.fromkeys((loads[0], loads[-1])))}. Where they are more than there are processors, "
             "the seconds are longer than they would be alone.\n")
 
 
+def origins(measured):
+    """The same for each call, with its plants where there are several."""
+    if len(measured.runs) == 1:
+        return origin(measured.runs[0], "Measured")
+    ends = [list(dict.fromkeys(shown(run.plants[place].name) for place in (0, -1))) for run in measured.runs]
+    return "\n".join(origin(run, f"{' to '.join(names)}, measured") for run, names in zip(measured.runs, ends))
+
+
 def part(measured):
     """The whole part, without its marks."""
-    return (f"\n{origin(measured)}\n{answers(measured.plants)}\n"
+    return (f"\n{origins(measured)}\n{answers(measured.plants)}\n"
             f"![Seconds over the number of sections]({PICTURE})\n\n{checks(measured.plants)}\n")
 
 
@@ -97,7 +105,7 @@ def short(measured, few=FEW):
              *(seconds(plant.solvers.get(name)) for name in SOLVERS[:2])]
             for plant in measured.plants if plant.name in few]
     whose = "of the proved program" if measured.is_proved else "of a program that **wasn't proved**"
-    return f"\nSeconds of a processor {whose}, on {measured.head['machine']}:\n\n{table(head, rows)}\n"
+    return f"\nSeconds of a processor {whose}, on {' and '.join(measured.machines)}:\n\n{table(head, rows)}\n"
 
 
 def renewed(document, measured, made=part):
