@@ -1,5 +1,5 @@
 -- The definitions, worked on lines of one and two stations.
-use Rattle.std.proofs.Common.{◌≡◌, Some, None, [], ◌∷◌, codes, map, refl, take}
+use Rattle.std.proofs.Common.{◌≡◌, Some, None, [], ◌∷◌, ◌++◌, codes, map, refl, take}
 use Rattle.std.specs.Fmt.{digits}
 use Rattle.serde_json.proofs.OnLiterals.{serde_json_on_literals}
 use Rattle.ilk_gen.specs.StationRoutes.{stations_table}
@@ -13,8 +13,42 @@ use Rattle.ilk_plant.specs.declared.table.Route.{Route}
 
 -- the text of one station
 one-text : stations_text 1
-    ≡ codes
-    "{\"routes\":[{\"conflicts\":[\"s1r2\",\"s1r5\",\"s1r7\",\"s1r8\"],\"destination\":\"t1U\",\"name\":\"s1r1\",\"overlap\":[],\"path\":[\"p1\",\"t1\"],\"points\":[{\"point\":\"p1\",\"position\":\"plus\"}],\"source\":\"l0U\"},{\"conflicts\":[\"s1r1\",\"s1r6\",\"s1r7\",\"s1r8\"],\"destination\":\"u1U\",\"name\":\"s1r2\",\"overlap\":[],\"path\":[\"p1\",\"u1\"],\"points\":[{\"point\":\"p1\",\"position\":\"minus\"}],\"source\":\"l0U\"},{\"conflicts\":[\"s1r4\",\"s1r5\",\"s1r6\"],\"destination\":null,\"name\":\"s1r3\",\"overlap\":[],\"path\":[\"q1\",\"l1\"],\"points\":[{\"point\":\"q1\",\"position\":\"plus\"}],\"source\":\"t1U\"},{\"conflicts\":[\"s1r3\",\"s1r5\",\"s1r6\"],\"destination\":null,\"name\":\"s1r4\",\"overlap\":[],\"path\":[\"q1\",\"l1\"],\"points\":[{\"point\":\"q1\",\"position\":\"minus\"}],\"source\":\"u1U\"},{\"conflicts\":[\"s1r1\",\"s1r3\",\"s1r4\",\"s1r6\"],\"destination\":\"t1D\",\"name\":\"s1r5\",\"overlap\":[],\"path\":[\"q1\",\"t1\"],\"points\":[{\"point\":\"q1\",\"position\":\"plus\"}],\"source\":\"l1D\"},{\"conflicts\":[\"s1r2\",\"s1r3\",\"s1r4\",\"s1r5\"],\"destination\":\"u1D\",\"name\":\"s1r6\",\"overlap\":[],\"path\":[\"q1\",\"u1\"],\"points\":[{\"point\":\"q1\",\"position\":\"minus\"}],\"source\":\"l1D\"},{\"conflicts\":[\"s1r1\",\"s1r2\",\"s1r8\"],\"destination\":null,\"name\":\"s1r7\",\"overlap\":[],\"path\":[\"p1\",\"l0\"],\"points\":[{\"point\":\"p1\",\"position\":\"plus\"}],\"source\":\"t1D\"},{\"conflicts\":[\"s1r1\",\"s1r2\",\"s1r7\"],\"destination\":null,\"name\":\"s1r8\",\"overlap\":[],\"path\":[\"p1\",\"l0\"],\"points\":[{\"point\":\"p1\",\"position\":\"minus\"}],\"source\":\"u1D\"}],\"sections\":[{\"board_down\":null,\"board_up\":\"l0U\",\"down\":null,\"kind\":\"linear\",\"name\":\"l0\",\"up\":\"p1\"},{\"faces\":\"up\",\"kind\":\"point\",\"minus\":\"u1\",\"name\":\"p1\",\"plus\":\"t1\",\"stem\":\"l0\"},{\"board_down\":\"t1D\",\"board_up\":\"t1U\",\"down\":\"p1\",\"kind\":\"linear\",\"name\":\"t1\",\"up\":\"q1\"},{\"board_down\":\"u1D\",\"board_up\":\"u1U\",\"down\":\"p1\",\"kind\":\"linear\",\"name\":\"u1\",\"up\":\"q1\"},{\"faces\":\"down\",\"kind\":\"point\",\"minus\":\"u1\",\"name\":\"q1\",\"plus\":\"t1\",\"stem\":\"l1\"},{\"board_down\":\"l1D\",\"board_up\":null,\"down\":\"q1\",\"kind\":\"linear\",\"name\":\"l1\",\"up\":null}],\"version\":1}"
+    ≡ codes "{\"routes\":[{\"conflicts\":[\"s1r2\",\"s1r5\",\"s1r7\",\"s1r8\"],"
+    ++ codes "\"destination\":\"t1U\",\"name\":\"s1r1\",\"overlap\":[],"
+    ++ codes "\"path\":[\"p1\",\"t1\"],\"points\":[{\"point\":\"p1\",\"position\":\"plus\"}],"
+    ++ codes "\"source\":\"l0U\"},{\"conflicts\":[\"s1r1\",\"s1r6\",\"s1r7\",\"s1r8\"],"
+    ++ codes "\"destination\":\"u1U\",\"name\":\"s1r2\",\"overlap\":[],"
+    ++ codes "\"path\":[\"p1\",\"u1\"],\"points\":[{\"point\":\"p1\",\"position\":\"minus\"}],"
+    ++ codes "\"source\":\"l0U\"},{\"conflicts\":[\"s1r4\",\"s1r5\",\"s1r6\"],"
+    ++ codes "\"destination\":null,\"name\":\"s1r3\",\"overlap\":[],\"path\":[\"q1\",\"l1\"],"
+    ++ codes "\"points\":[{\"point\":\"q1\",\"position\":\"plus\"}],\"source\":\"t1U\"},"
+    ++ codes "{\"conflicts\":[\"s1r3\",\"s1r5\",\"s1r6\"],\"destination\":null,"
+    ++ codes "\"name\":\"s1r4\",\"overlap\":[],\"path\":[\"q1\",\"l1\"],"
+    ++ codes "\"points\":[{\"point\":\"q1\",\"position\":\"minus\"}],\"source\":\"u1U\"},"
+    ++ codes "{\"conflicts\":[\"s1r1\",\"s1r3\",\"s1r4\",\"s1r6\"],\"destination\":\"t1D\","
+    ++ codes "\"name\":\"s1r5\",\"overlap\":[],\"path\":[\"q1\",\"t1\"],"
+    ++ codes "\"points\":[{\"point\":\"q1\",\"position\":\"plus\"}],\"source\":\"l1D\"},"
+    ++ codes "{\"conflicts\":[\"s1r2\",\"s1r3\",\"s1r4\",\"s1r5\"],\"destination\":\"u1D\","
+    ++ codes "\"name\":\"s1r6\",\"overlap\":[],\"path\":[\"q1\",\"u1\"],"
+    ++ codes "\"points\":[{\"point\":\"q1\",\"position\":\"minus\"}],\"source\":\"l1D\"},"
+    ++ codes "{\"conflicts\":[\"s1r1\",\"s1r2\",\"s1r8\"],\"destination\":null,"
+    ++ codes "\"name\":\"s1r7\",\"overlap\":[],\"path\":[\"p1\",\"l0\"],"
+    ++ codes "\"points\":[{\"point\":\"p1\",\"position\":\"plus\"}],\"source\":\"t1D\"},"
+    ++ codes "{\"conflicts\":[\"s1r1\",\"s1r2\",\"s1r7\"],\"destination\":null,"
+    ++ codes "\"name\":\"s1r8\",\"overlap\":[],\"path\":[\"p1\",\"l0\"],"
+    ++ codes "\"points\":[{\"point\":\"p1\",\"position\":\"minus\"}],\"source\":\"u1D\"}],"
+    ++ codes "\"sections\":[{\"board_down\":null,\"board_up\":\"l0U\",\"down\":null,"
+    ++ codes "\"kind\":\"linear\",\"name\":\"l0\",\"up\":\"p1\"},"
+    ++ codes "{\"faces\":\"up\",\"kind\":\"point\",\"minus\":\"u1\",\"name\":\"p1\","
+    ++ codes "\"plus\":\"t1\",\"stem\":\"l0\"},"
+    ++ codes "{\"board_down\":\"t1D\",\"board_up\":\"t1U\",\"down\":\"p1\",\"kind\":\"linear\","
+    ++ codes "\"name\":\"t1\",\"up\":\"q1\"},"
+    ++ codes "{\"board_down\":\"u1D\",\"board_up\":\"u1U\",\"down\":\"p1\",\"kind\":\"linear\","
+    ++ codes "\"name\":\"u1\",\"up\":\"q1\"},"
+    ++ codes "{\"faces\":\"down\",\"kind\":\"point\",\"minus\":\"u1\",\"name\":\"q1\","
+    ++ codes "\"plus\":\"t1\",\"stem\":\"l1\"},"
+    ++ codes "{\"board_down\":\"l1D\",\"board_up\":null,\"down\":\"q1\",\"kind\":\"linear\","
+    ++ codes "\"name\":\"l1\",\"up\":null}],\"version\":1}"
 unfolding digits serde_json_on_literals
 one-text = refl
 

@@ -1,5 +1,5 @@
 -- Worked configurations: short lines of two sections, a and b from down to up, their values and their drafts.
-use Rattle.std.specs.Prelude.{ℕ, List, [], ◌∷◌, Option, Some, None, codes}
+use Rattle.std.specs.Prelude.{ℕ, List, [], ◌∷◌, ◌++◌, Option, Some, None, codes}
 use Rattle.serde_json.specs.Data.{Data, null, number, unsigned, string, array, object, Items, no_items, item, no_members, member}
 use Rattle.ilk_plant.specs.Name.{Name}
 use Rattle.ilk_plant.specs.declared.draft.KindDraft.TheVariants.{Linear}
@@ -75,10 +75,18 @@ boarded_table = record { routes = route (codes "r1") (codes "m1") (codes "b") �
 
 -- the text of the line with no board and no route
 abbrev pub bare_text : List ℕ
-bare_text = codes
-    "{\"version\":1,\"sections\":[{\"name\":\"a\",\"kind\":\"linear\",\"down\":null,\"up\":\"b\",\"board_down\":null,\"board_up\":null},{\"name\":\"b\",\"kind\":\"linear\",\"down\":\"a\",\"up\":null,\"board_down\":null,\"board_up\":null}],\"routes\":[]}"
+bare_text = codes "{\"version\":1,\"sections\":[{\"name\":\"a\",\"kind\":\"linear\",\"down\":null,"
+    ++ codes "\"up\":\"b\",\"board_down\":null,\"board_up\":null},"
+    ++ codes "{\"name\":\"b\",\"kind\":\"linear\",\"down\":\"a\",\"up\":null,"
+    ++ codes "\"board_down\":null,\"board_up\":null}],\"routes\":[]}"
 
 -- the text of the line with its boards and its routes
 abbrev pub boarded_text : List ℕ
-boarded_text = codes
-    "{\"version\":1,\"sections\":[{\"name\":\"a\",\"kind\":\"linear\",\"down\":null,\"up\":\"b\",\"board_down\":null,\"board_up\":\"m1\"},{\"name\":\"b\",\"kind\":\"linear\",\"down\":\"a\",\"up\":null,\"board_down\":\"m2\",\"board_up\":null}],\"routes\":[{\"name\":\"r1\",\"source\":\"m1\",\"destination\":null,\"path\":[\"b\"],\"overlap\":[],\"points\":[],\"conflicts\":[]},{\"name\":\"r2\",\"source\":\"m2\",\"destination\":null,\"path\":[\"a\"],\"overlap\":[],\"points\":[],\"conflicts\":[]}]}"
+boarded_text = codes "{\"version\":1,\"sections\":[{\"name\":\"a\",\"kind\":\"linear\",\"down\":null,"
+    ++ codes "\"up\":\"b\",\"board_down\":null,\"board_up\":\"m1\"},"
+    ++ codes "{\"name\":\"b\",\"kind\":\"linear\",\"down\":\"a\",\"up\":null,"
+    ++ codes "\"board_down\":\"m2\",\"board_up\":null}],"
+    ++ codes "\"routes\":[{\"name\":\"r1\",\"source\":\"m1\",\"destination\":null,"
+    ++ codes "\"path\":[\"b\"],\"overlap\":[],\"points\":[],\"conflicts\":[]},"
+    ++ codes "{\"name\":\"r2\",\"source\":\"m2\",\"destination\":null,\"path\":[\"a\"],"
+    ++ codes "\"overlap\":[],\"points\":[],\"conflicts\":[]}]}"
