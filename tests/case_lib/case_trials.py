@@ -34,8 +34,11 @@ def faults_of_form(folder):
     yield from (f"case.html hasn't {word!r}" for word in wanted if f">{word}<" not in html.unescape(page))
     if len(wanted) < 20:
         yield f"docs/QUALIFICATION.md has {len(wanted)} conditions and premises"
-    if str(folder.parent) in page + (folder / "page.html").read_text(encoding="utf-8"):
+    drawn = (folder / "page.html").read_text(encoding="utf-8")
+    if str(folder.parent) in page + drawn:
         yield "the place where it was made stands on a page"
+    if not re.search(r"\(status [0-9]+\)", drawn) or re.search(r"[0-9] s\)", drawn):
+        yield "page.html has no answers, or says how long they took"
     lines, status = repeat(folder)
     if status or not lines[-1].endswith(" the same, 0 differ, 0 left out"):
         yield f"it isn't repeated: {lines}"
@@ -198,5 +201,14 @@ def trial_moved(program, _):
             yield f"{status} {lines}, or the folder isn't as it was"
 
 
+def trial_made_again(program, _):
+    """A case that is made again, in another folder, is the same byte for byte."""
+    for name, words in (("platforms.json", ()), ("two-sections.json", ("--run", MEET, "--hunt", "0"))):
+        with made(program, example(name), *words) as (one, _), made(program, example(name), *words) as (other, _):
+            told = subprocess.run(["diff", "-rq", one, other], capture_output=True, check=False)
+            if told.returncode or not (one / "SHA256SUMS").is_file():
+                yield f"{name}: {told.stdout.decode()}{told.stderr.decode()}"
+
+
 TRIALS = (trial_safe, trial_deviations, trial_unsafe, trial_not_shown, trial_run_is_kept, trial_no_plant,
-          trial_changes, trial_moved)
+          trial_changes, trial_moved, trial_made_again)

@@ -3,6 +3,7 @@ that it refuses."""
 
 import json
 import os
+import re
 import subprocess
 import tempfile
 from concurrent.futures import ThreadPoolExecutor
@@ -24,6 +25,7 @@ WORDS = (
     ("x.html", "--colums", "free"), ("x.html", "y.html"), ("x.html", "check"),
     ("x.html", "verify", "verify"), ("x.html", "--depth"), ("x.html", "--wait", "soon"),
     ("x.html", "--hunt", "²"), ("x.html", "--depth", "2", "--depth", "2"),
+    ("x.html", "--without-times", "--without-times"), ("x.html", "--without-times=yes"),
     ("--columns", "free"), ("x.html", "--run", "nothing"), ("x.html", "--run", "conf.json"),
     ("conf.json",), ("./conf.json",), ("link.html",), ("hard.html",), ("/dev/stdin",),
     ("x.cert",), ("x.html", "--cert", "x.html"), ("x.html", "--cert=conf.json"),
@@ -150,11 +152,36 @@ def trial_side_by_side(_, __):
             yield f"a clean table: {said}"
 
 
+# what tells on a page how long something took
+TIME = re.compile(r"[0-9] s\b|after [0-9]+ seconds")
+
+
+def trial_times(program, _):
+    """A page tells how long the answers and the hunt took. With --without-times neither it nor what is
+    printed does, and it tells the rest."""
+    wrong = json.dumps(line.with_fault("border-without-board")).encode()
+    with tempfile.TemporaryDirectory(prefix="irv-fake-") as room:
+        slow = fakes.program(room, {"check": {"says": "refused C7 sections[8]\n", "status": 5},
+                                    "verify": {"sleeps": 900}, "table": {"status": 5},
+                                    "replay": {"says": "hazard wrong PC\n"}})
+        for asked, given, words, parts in (
+                (program, plants()["platforms-wrong-position"], ("--wait", "600", "--depth", "1"),
+                 ("(status 5", "hunts at once")),
+                (slow, wrong, ("--wait", "600", "--hunt", "300"),
+                 ("(no status", "since a run to a hazard was found"))):
+            for option, is_told in (((), True), (("--without-times",), False)):
+                text, said = page(asked, given, *words, *option)
+                found = TIME.findall(plain(text) + said)
+                if not (len(found) > 2 if is_told else not found):
+                    yield f"{parts} {option}: {found}"
+                yield from (f"{option}: {part!r} isn't there" for part in parts if part not in plain(text))
+
+
 # lines of check with rules that the page has no words for, since no rule has the number 0: whether a hunt
 # begins there, what is said of safety
 UNHEARD = [("refused C0 routes[0]", True, rules.UNKNOWN), ("refused C0 routes[0] routes[1]", True, rules.UNKNOWN),
            ("refused C0 sections[0]", True, rules.UNKNOWN), ("refused N0 boards[0]", False, rules.NEEDED),
-           ("refused R0 routes[1]", False, rules.NEEDED), ("refused D1 document", False, rules.UNKNOWN)]
+           ("refused R0 routes[1]", False, rules.NEEDED), ("refused D0 document", False, rules.UNKNOWN)]
 
 
 def trial_unheard_rules(_, __):
@@ -214,4 +241,5 @@ def trial_refused_words(program, _):
             yield "a file was changed"
 
 
-TRIALS = [trial_resting, trial_first_lines, trial_side_by_side, trial_unheard_rules, trial_refused_words]
+TRIALS = [trial_resting, trial_first_lines, trial_side_by_side, trial_times, trial_unheard_rules,
+          trial_refused_words]

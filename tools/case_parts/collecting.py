@@ -208,10 +208,11 @@ class Case:
 
     def draw(self):
         """The page, on which a run to a hazard is drawn where one was hunted, else the first given one. The
-        page asks verify again, which writes the same certificate."""
+        page asks verify again, which writes the same certificate. It has no times on it, so that a case that
+        is made again is the same."""
         shown = HUNTED_RUN if self.hunted else self.runs[0][0] if self.runs else None
         words = ["python3", str(TOP / "tools/page"), PAGE, "--program", PROGRAM, "--hunt", "0", "--wait",
-                 str(PAGE_SECONDS), "--cert", "page.cert", *self.words.of_verify]
+                 str(PAGE_SECONDS), "--without-times", "--cert", "page.cert", *self.words.of_verify]
         drawn = self.calls.ask("page", words + (["--run", shown] if shown else []), is_repeated=False)
         drawn.words[1] = "tools/page"
         (self.room / "page.cert").unlink(missing_ok=True)

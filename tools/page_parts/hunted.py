@@ -39,8 +39,9 @@ def hunt_part(page, view, found):
             page.add(title(), tag("p", text(why), class_="own"))
         return
     page.add(title())
+    took = page.time(f"{hunters.seconds:.1f} s, ")
     hunted = (f"{hunters.runs} random runs of up to {hunters.longest} events, {hunters.events} events "
-              f"in all, {hunters.seconds:.1f} s, {hunters.count} hunts at once")
+              f"in all, {took}{hunters.count} hunts at once")
     if found.run is None:
         page.own("Ended, since verify has answered." if found.answer.status == 1 else
                  f"None found in {hunted}. That isn't an answer: it doesn't show that there is none.")

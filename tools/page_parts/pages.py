@@ -21,8 +21,9 @@ ASK_SECONDS = 60        # for check
 class Page:
     """A page that is being made."""
 
-    def __init__(self, wishes, given, given_run=None):
+    def __init__(self, wishes, given, given_run=None, has_times=True):
         self.wishes, self.given, self.given_run = wishes, given, given_run
+        self.has_times = has_times      # whether it tells how long things took
         self.program = Program(wishes.program, given)
         self.calls = []         # of the program, for the safety case
         self.parts = []
@@ -49,6 +50,10 @@ class Page:
         """A remark on what is the page's own."""
         self.add(tag("p", text(words), class_="own"))
 
+    def time(self, words):
+        """Words that tell how long something took, where the page tells that."""
+        return words if self.has_times else ""
+
     def ask(self, words, seconds):
         """Asks the program, and notes the call."""
         answer = self.program.ask(words, seconds)
@@ -59,7 +64,7 @@ class Page:
         """A call with its answer."""
         status = "no status" if answer.status is None else f"status {answer.status}"
         self.add(tag("p", f"{code('irv ' + ' '.join(answer.words))} "
-                     f"<b>{code(answer.said)}</b> ({status}, {answer.seconds:.1f} s)",
+                     f"<b>{code(answer.said)}</b> ({status}{self.time(f', {answer.seconds:.1f} s')})",
                      class_="answer"))
 
     def show_shortly(self, answer):

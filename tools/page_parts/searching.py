@@ -30,7 +30,7 @@ def search(page, words):
         if is_beside:
             found.hunters.start(wishes.hunt)
         try:
-            both(found, call, wishes)
+            both(found, call, page)
         finally:
             found.answer = call.end("ended by the page")
         if wishes.hunt and not is_beside and found.answer.status in UNEXPECTED:
@@ -39,18 +39,20 @@ def search(page, words):
     return found
 
 
-def both(found, call, wishes):
+def both(found, call, page):
     """Waits for the call and for the hunt, until a hazard is found or both have ended."""
-    until = call.begin + wishes.wait
+    wait = page.wishes.wait
+    until = call.begin + wait
     while True:
         answer, run = call.poll(), found.hunters.wait(TURN)
         if run is not None and found.run is None:
             found.run, found.is_first = run, answer is None
             until = min(until, time.monotonic() + GRACE)
         if answer is None and time.monotonic() >= until:
+            after = page.time(f" after {call.seconds:.0f} seconds")
             answer = call.end(
-                f"ended after {call.seconds:.0f} seconds, since a run to a hazard was found"
-                if found.run else f"not waited for: no answer within {wishes.wait:g} seconds")
+                f"ended{after}, since a run to a hazard was found"
+                if found.run else f"not waited for: no answer within {wait:g} seconds")
         if answer is not None and (answer.status not in NO_VERDICT or found.hunters.is_over):
             return
         if answer is None and found.hunters.is_over:

@@ -5,6 +5,7 @@ from pathlib import Path
 
 OF_VERIFY = ("--columns", "--depth", "--conflicts", "--cert")     # options that verify has too
 OF_PAGE = ("--wait", "--hunt", "--run", "--program")              # the page's own
+NO_TIMES = "--without-times"                                      # the page's own that has no value
 SECONDS = {"--wait": "20", "--hunt": "15"}
 STANDARD_INPUT, STANDARD_OUTPUT = "/proc/self/fd/0", "/proc/self/fd/1"
 USAGE = 7               # the program's status where it refuses its words
@@ -26,6 +27,7 @@ class Wishes:
         self.name = name_of_input()
         self.wait, self.hunt = (seconds(name, options) for name in ("--wait", "--hunt"))
         self.run = options.get("--run")
+        self.has_times = NO_TIMES not in options
         self.columns = options.get("--columns", "strict")
         self.cert = options.get("--cert", str(self.out.with_suffix(".cert")))
 
@@ -53,9 +55,9 @@ def read(words):
         if name in OF_VERIFY + OF_PAGE:
             if not equals and (not words or is_option(words[0])):
                 raise Refused(f"{name} wants a value")
-            if name in options:
-                raise Refused(f"{name} is given twice")
-            options[name] = value if equals else words.pop(0)
+            note(options, name, value if equals else words.pop(0))
+        elif word == NO_TIMES:
+            note(options, word, "")
         elif is_option(word):
             raise Refused(f"neither the page nor verify knows {word}")
         elif out is None:
@@ -67,6 +69,13 @@ def read(words):
     if not out:
         raise Refused("the page's name is wanted")
     return out, options
+
+
+def note(options, name, value):
+    """Notes an option, which may be given once."""
+    if name in options:
+        raise Refused(f"{name} is given twice")
+    options[name] = value
 
 
 def is_option(word):
