@@ -1,9 +1,11 @@
 """Trials of names of all kinds: what is answered, what is kept, and that what was changed is found."""
 
 import json
+import random
 import xml.etree.ElementTree
 
 from many_room import differs, without_progress
+from verifying import texts_of
 
 # names that a shell, a page, or a table could take for something else
 NAMES = {"platforms.json": b"a 'quoted\" $(touch broken) name.json",
@@ -23,6 +25,7 @@ WANTED = """configuration,want,words
 *,drive,--run 'a scene'
 """
 SCENE = "drive 1\nenter line\nend\n"
+SUMS = 100              # how often seconds are chosen that are added up in two orders
 
 
 def fill(room):
@@ -43,7 +46,9 @@ def trial_names(room):
     again = room.call()
     yield from differs("again", again.stdout, first.stdout.replace(
         f"{jobs_of(room)} jobs were done, 0 were known", f"0 jobs were done, {jobs_of(room)} were known"))
-    yield from differs("verified", room.verify()[0], 0)
+    status, lines = room.verify()
+    yield from differs("verified", (status, lines[:-1]), (0, []))
+    yield from order_faults(room)
     known = jobs_of(room)
     room.add("line-with-boards.json", NAMES["station.json"])
     third = room.call()
@@ -94,6 +99,24 @@ def names_faults(room):
                        ["14", "9", "0", "1"])
     yield from differs("JUnit's names", {case.get("classname") for case in suite.iter("testcase")},
                        set(SHOWN.values()))
+
+
+def order_faults(room):
+    """The report's texts stay as they are where what a job stands on is listed in another order, as it is in
+    a report that is read again, also where the seconds that are added up end halfway between two that are
+    shown."""
+    report, turned = (json.loads((room.out / "report.json").read_bytes()) for _ in range(2))
+    for each in turned["jobs"].values():
+        each["job"]["needs"] = dict(reversed(each["job"]["needs"].items()))
+    chance = random.Random(1)
+    for _ in range(SUMS):
+        for key in report["jobs"]:
+            seconds = chance.randrange(60) / 20
+            for value in (report, turned):
+                value["jobs"][key]["answer"]["seconds"] = seconds
+        if texts_of(report) != texts_of(turned):
+            yield "the texts of a report are others where what a job stands on is listed in another order"
+            return
 
 
 def changes(room):

@@ -2,6 +2,7 @@
 files that a pipeline reads are made of this value and of nothing else, so they can be made again."""
 
 import json
+import math
 from pathlib import Path
 
 from folder import MOST_BYTES
@@ -95,8 +96,9 @@ class Told:
         return self.standing == GOOD and self.kind in SAYS_SAFE and (
             self.kind != "check" or self.job["columns"] == "strict")
 
-    def measure(self, what, fold=sum):
-        """A measure of all that was done for it."""
+    def measure(self, what, fold=math.fsum):
+        """A measure of all that was done for it. A sum is exact before it is rounded, and so the same in
+        whatever order the report has what was done."""
         return fold([each["answer"][what] for each in self.below if each["answer"]] or [0])
 
     def machines(self):

@@ -2,6 +2,7 @@
 
 import csv
 import io
+import math
 from xml.sax.saxutils import escape, quoteattr
 
 from report import GOOD, NO_ANSWER, NOTHING, STANDINGS, rows_of
@@ -45,7 +46,7 @@ def junit(report):
     inside = element("properties", "\n" + properties) + "".join(case(*each) for each in all_)
     suite = element("testsuite", "\n" + inside, name="irv", tests=len(all_), errors=count(NO_ANSWER),
                     failures=len(all_) - count(NO_ANSWER, NOTHING, GOOD), skipped=count(NOTHING),
-                    time=f"{sum(told.measure('seconds') for _, told in all_):.3f}")
+                    time=f"{math.fsum(told.measure('seconds') for _, told in all_):.3f}")
     return '<?xml version="1.0" encoding="UTF-8"?>\n' + element("testsuites", "\n" + suite)
 
 

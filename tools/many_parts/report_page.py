@@ -1,5 +1,7 @@
 """The page of a report: a row for each configuration, the worst first."""
 
+import math
+
 import paths  # noqa: F401
 from markup import code, table, tag, text
 from report import GOOD, HAZARD, NO_ANSWER, CONTRADICTION, STANDINGS, rows_of
@@ -35,7 +37,7 @@ def cells(row):
     sizes = row.sizes or {}
     return [row.name, *(sizes.get(what, "–") for what in ("sections", "points", "routes")), rules(row),
             (class_of(row.standing), text(row.verdict)), ", ".join(row.ways) or "–",
-            f"{sum(each.measure('seconds') for each in row.told):.1f}",
+            f"{math.fsum(each.measure('seconds') for each in row.told):.1f}",
             f"{max([each.measure('memory_kib', max) for each in row.told], default=0) / 1024:.0f}",
             ("", links(row))]
 
