@@ -1,0 +1,1 @@
+"""The tests of `irv` and its tools; `tests/run` runs them."""

@@ -1,0 +1,139 @@
+"""Sees that each public call that can answer want of memory is called.
+
+    tests/called                 over the crates as they stand
+    tests/called --self-check    sees that it finds a call that nothing calls
+
+No clause refuses a body that always answers want of memory: memory is never promised. Such a body is
+found where the program or a test makes the call with memory enough, and only there. So each public
+function of the crates whose result can be want of memory is called somewhere outside its own body: by
+the program, on the way from `run`, or by a test. A function is called by its name; a method by its
+type's name before it, or after a dot in a file that names its type. The last line is
+`N passed, M failed`.
+"""
+
+import re
+import sys
+from collections import namedtuple
+from pathlib import Path
+from irvtools.paths import TOP
+
+WANT = re.compile(r"\bAllocError\b|\bFormError\b|\bReadError\b|\bOutOfMemory\b")
+REMARK = re.compile(r"//[^\n]*")
+IMPL = re.compile(r"^impl(?:<[^{]*?>)?\s+(?:[\w:]+(?:<[^{]*?>)?\s+for\s+)?(\w+)", re.M)
+FUNCTION = re.compile(r"^( *)(pub(?:\([a-z]+\))? )?fn (\w+)", re.M)
+
+Call = namedtuple("Call", "crate file owner name")
+
+
+def code(text):
+    """The text without its remarks."""
+    return REMARK.sub("", text)
+
+
+def owner_at(text, place):
+    """The type in whose `impl` a place of the text stands; none where it stands in none."""
+    owner = None
+    for found in IMPL.finditer(text, 0, place):
+        ends = text.find("\n}", found.start())
+        owner = found.group(1) if ends > place else None
+    return owner
+
+
+def signature(text, place):
+    """What stands from a function's name to its clauses or its body."""
+    ends = re.compile(r"\n\s*(?:requires|ensures|where)\b|\{|;").search(text, place)
+    return text[place:ends.start() if ends else len(text)]
+
+
+def public_calls(files):
+    """The public functions and methods that can answer want of memory."""
+    for file, text in files.items():
+        crate = file.split("/")[0]
+        if crate.endswith("_tests") or crate == "irv":
+            continue
+        for found in FUNCTION.finditer(text):
+            if found.group(2) != "pub " or not WANT.search(signature(text, found.end()).partition("->")[2]):
+                continue
+            yield Call(crate, file, owner_at(text, found.start()), found.group(3))
+
+
+def exported(crate, files):
+    """The names that a crate hands on."""
+    lib = files.get(f"{crate}/src/lib.rt", "")
+    return set(re.findall(r"\w+", " ".join(re.findall(r"^pub use [^;]*;", lib, re.M))))
+
+
+def used_from(call, file):
+    """What a file has that uses a function of another one."""
+    crate = "crate" if file.startswith(call.crate + "/") else call.crate
+    return rf"\buse {crate}::[^;]*\b{call.name}\b"
+
+
+def makes(call, file, text):
+    """Whether a file calls it, outside its definition."""
+    if call.owner is None:
+        # it is that crate's function where the file is its own or names it among what it uses
+        if file != call.file and not re.search(used_from(call, file), text):
+            return False
+        calls = rf"(?<!fn )(?<![.:\w]){call.name}(?:::<[^()]*>)?\(|[(,|] *{call.name} *[,)]"
+    else:
+        if not re.search(rf"\b{call.owner}\b", text):
+            return False
+        calls = rf"\b{call.owner}(?:::<[^()]*>)?::{call.name}\b|\bSelf::{call.name}\(|\.{call.name}\("
+    statements = re.sub(r"^(?:pub )?(?:ghost )?use [^;]*;", "", text, flags=re.M)
+    return re.search(calls, statements) is not None
+
+
+def uncalled(files):
+    """The calls that nothing makes, and how many there are in all."""
+    count, missing = 0, []
+    for call in public_calls(files):
+        names = exported(call.crate, files)
+        if (call.owner or call.name) not in names:
+            continue
+        count += 1
+        if not any(makes(call, file, text) for file, text in files.items()):
+            missing.append(call)
+    return count, missing
+
+
+def read_files():
+    """The code of all crates, by its file below crates/."""
+    crates = TOP / "crates"
+    return {str(it.relative_to(crates)): code(it.read_text())
+            for it in sorted(crates.glob("*/src/**/*.rt"))}
+
+
+def self_check():
+    """Sees that a function and a method that nothing calls are found, and those that are called aren't."""
+    lib = "mod a;\npub use a::{asked, Found, left};\n"
+    own = ("pub fn asked(alloc: Global) -> Result<u64, AllocError> {\n}\n"
+           "pub fn left(alloc: Global) -> Result<u64, AllocError> {\n}\n"
+           "impl Found {\n    pub fn new(alloc: Global) -> Result<Found, AllocError> {\n    }\n\n"
+           "    pub fn lost(&mut self) -> Result<(), AllocError> {\n    }\n}\n")
+    above = ("use a::{asked, Found};\nfn run() {\n    asked(alloc)?;\n    Found::new(alloc)?;\n"
+             "    other.left(alloc)?;\n}\n")
+    files = {"a/src/lib.rt": lib, "a/src/a.rt": own, "b/src/lib.rt": above}
+    count, missing = uncalled(files)
+    assert count == 4, count
+    assert [(it.owner, it.name) for it in missing] == [(None, "left"), ("Found", "lost")], missing
+    files["c_tests/src/lib.rt"] = "use a::left;\nfn test() {\n    left(alloc)?;\n    let f = Found::new(alloc)?;\n    f.lost()?;\n}\n"
+    assert uncalled(files) == (4, []), uncalled(files)
+    print("1 passed, 0 failed")
+
+
+def main(words):
+    """Takes the command line; answers the exit status."""
+    if words == ["--self-check"]:
+        self_check()
+        return 0
+    if words:
+        print(__doc__, file=sys.stderr)
+        return 2
+    count, missing = uncalled(read_files())
+    for call in missing:
+        name = f"{call.owner}::{call.name}" if call.owner else call.name
+        print(f"tests/called: nothing calls {name} of crates/{call.file}, so a body that always answers "
+              "want of memory would pass")
+    print(f"{count - len(missing)} passed, {len(missing)} failed")
+    return 1 if missing or not count else 0

@@ -1,0 +1,1 @@
+"""The cases over the program: `*.cases` files and what runs them."""

@@ -1,0 +1,228 @@
+"""Tries tools/sheet.
+
+    tests/sheet PROGRAM           what takes seconds: for the gate
+    tests/sheet PROGRAM --long    besides: each random configuration through LibreOffice as files of its
+                                  own, and ten times as many tables compared
+    tests/sheet PROGRAM NAME..    only the trials that have one of these words in their names
+
+It prints each failure, and at last `N passed, M failed`. Where LibreOffice or a browser isn't there it
+says so.
+"""
+
+import json
+import os
+import subprocess
+import sys
+import tempfile
+from pathlib import Path
+
+HERE = Path(__file__).resolve().parent
+TOP = HERE.parent
+for folder in (HERE / "lib", HERE / "page_lib", HERE / "sheet_lib", TOP / "tools/sheet_parts",
+               TOP / "tools/page_parts"):
+    sys.path.insert(0, str(folder))
+
+from tests.support import browser
+from tests.csv import comparison_cases
+from irvtools.csvtables import comparing
+from irvtools.generators import configurations
+from tests.support import each_trial
+from tests.csv import editing_cases
+from tests.support import markup_check
+from tests.csv import libreoffice
+from tests.csv import report_table
+from irvtools.csvtables import comparison_page
+from tests.csv import refusal_cases
+from tests.support import transcripts
+from tests.csv import handwritten_tables
+from tests.csv.tool_calls import call, compare_faults, refusal_faults
+from tests.csv.round_trips import call_faults, joined, office_faults, plants, randoms, trip_faults
+
+ALONE = 60              # random configurations that go through LibreOffice as files of their own
+# `./irv` of a session, with the program that is tried in place of the one that the launcher would build
+IRV = """#!/usr/bin/env bash
+case ${{1-}} in
+    --sheet | --page) exec "{top}/tools/${{1#--}}" --program "{program}" "${{@:2}}" ;;
+    *) exec "{program}" "$@" ;;
+esac
+"""
+
+
+# -- round trips
+
+def trial_round_trips(_, __):
+    """From configurations to sheets and back nothing changes: examples, stations, 500 by chance."""
+    read = {name: json.loads(given) for name, given in plants().items()}
+    for name, value in {**read, **randoms()}.items():
+        yield from (f"{name}: {fault}" for fault in trip_faults(value))
+
+
+def trial_round_trips_by_calls(program, _):
+    """The same by calls, with files; the program says the same of what comes back."""
+    for name, given in plants().items():
+        yield from call_faults(program, name, given)
+
+
+def trial_office(_, is_long):
+    """Through LibreOffice, as text, in its own form and in that of Excel, in several languages, the sheets
+    come back."""
+    program = libreoffice.find()
+    if program is None:
+        print("no LibreOffice here: sheets aren't opened in it")
+        return
+    values = list(randoms().values())
+    all_ = {f"all{version}": joined(values + [json.loads(given) for given in plants().values()], version)
+            for version in (1, 2)}
+    alone = {str(number): value for number, value in enumerate(values[:ALONE if is_long else 0])}
+    for way in libreoffice.LONG_WAYS if is_long else libreoffice.WAYS:
+        yield from (f"{way}: {fault}" for fault in office_faults(program, {**all_, **alone}, way))
+
+
+# -- what is written and read, by hand
+
+def trial_spelled(program, _):
+    """Sheets that were written by hand, also as spreadsheets write them, and what they say."""
+    for name, sheets, value, is_own in handwritten_tables.cases():
+        with tempfile.TemporaryDirectory(prefix="irv-sheet-") as room:
+            Path(room, "given").mkdir()
+            for file, text in sheets.items():
+                Path(room, "given", file).write_bytes(text)
+            back = call(program, ["--in", "given"], b"", room)
+            if back.returncode or json.loads(back.stdout) != value:
+                yield f"{name}: {back.stderr.decode()} {back.stdout.decode()}"
+            call(program, ["--out", "new"], json.dumps(value).encode(), room)
+            for file, text in sheets.items() if is_own else ():
+                if Path(room, "new", file).read_bytes() != text:
+                    yield f"{name}: {file} is written otherwise"
+            again = call(program, ["--in", "given", "--out", "again"], b"", room)
+            for file in sheets:
+                if again.returncode or Path(room, "again", file).read_bytes() \
+                        != Path(room, "new", file).read_bytes():
+                    yield f"{name}: {file} is written otherwise again"
+
+
+def trial_configuration(program, _):
+    """The text of a configuration has a line for each section and each route."""
+    done = call(program, ["--rename", "a=a"], refusal_cases.CONF.encode())
+    if done.stdout.decode() != refusal_cases.CONF:
+        yield done.stdout.decode() + done.stderr.decode()
+
+
+def trial_refusals(program, _):
+    """Each refusal is told, and nothing is written."""
+    for case in refusal_cases.cases():
+        yield from refusal_faults(program, *case)
+    for words, why in refusal_cases.USAGES:
+        with tempfile.TemporaryDirectory(prefix="irv-sheet-") as room:
+            done = call(program, words, b"", room)
+            wanted = f"irv --sheet: {why}\n\n"
+            if (done.stderr.decode(), done.stdout, done.returncode) != (wanted, b"", 125):
+                yield f"{words}: {done.stderr!r}, and {why!r} is wanted"
+
+
+def trial_full_output(program, _):
+    """Where standard output takes nothing, that is told."""
+    with open("/dev/full", "wb") as full:
+        done = subprocess.run([TOP / "tools/sheet", "--named"], input=refusal_cases.CONF.encode(), stdout=full,
+                              stderr=subprocess.PIPE, check=False)
+    wanted = b"irv --sheet: standard output: it can't be written: No space left on device\n"
+    if (done.stderr, done.returncode) != (wanted, 125):
+        yield f"{done.returncode} {done.stderr!r}"
+
+
+def trial_full_disk(program, _):
+    """Where the second sheet can't be written whole, neither is left, and no folder."""
+    with tempfile.TemporaryDirectory(prefix="irv-sheet-") as room:
+        done = subprocess.run(["bash", "-c", f"ulimit -f 1; exec '{TOP}/tools/sheet' --out new"], cwd=room,
+                              input=configurations.made("stations", "4"), capture_output=True, check=False)
+        left = os.listdir(room)
+    wanted = b"irv --sheet: new/routes.csv: it can't be written: File too large\n"
+    if (done.stderr, done.returncode, left) != (wanted, 125, []):
+        yield f"{done.returncode} {done.stderr!r} {left}"
+
+
+def trial_help(program, _):
+    """--help prints how it is called."""
+    done = subprocess.run([TOP / "tools/sheet", "--help"], capture_output=True, check=False)
+    if done.returncode or done.stderr or b"--with-network NEW" not in done.stdout:
+        yield f"{done.returncode} {done.stdout!r}"
+
+
+# -- changes and comparisons
+
+def trial_changes(program, _):
+    """Other names and dropped routes go through all lists."""
+    for words, given, value in editing_cases.cases():
+        done = call(program, words, json.dumps(given).encode(), HERE / "sheet_lib")
+        if done.returncode or json.loads(done.stdout) != value:
+            yield f"{words}: {done.stderr.decode()} {done.stdout.decode()}"
+
+
+def trial_compare(program, _):
+    """What two configurations have otherwise is told, entry by entry, as worked out by hand."""
+    for name, old, new, wanted in comparison_cases.cases():
+        yield from (f"{name}: {fault}" for fault in compare_faults(program, old, new, wanted))
+    for name, new, wanted in comparison_cases.network_cases():
+        yield from (f"{name}: {fault}" for fault in compare_faults(program, None, new, wanted))
+
+
+def trial_compare_chance(_, is_long):
+    """Over networks by chance: another order, other names, dropped routes and changed entries are told as
+    what was done, and nothing else."""
+    for seed in range(400 if is_long else 40):
+        yield from (f"network {seed}: {fault}" for fault in comparison_cases.chance_faults(seed))
+
+
+def trial_large_pages(_, __):
+    """A page with many differences has pictures of the first, and cuts what is too long; names are text."""
+    names = [f"{n:0>32}" for n in range(256)]
+    wide = json.loads(configurations.made("routes", "256", "listed"))
+    for route, name in zip(wide["routes"], names):
+        route.update(name=name, conflicts=[other for other in names if other != name])
+    none = {**wide, "routes": []}
+    for old, new, wanted in ((wide, none, "232 more have no picture"), (wide, none, "… (left out)"),
+                             (none, wide, "232 more have no picture")):
+        page = comparison_page.Picture(comparing.Comparison(old, new), "<old>", "a&b").page()
+        if wanted not in page or page.count("<svg class=") != 26 or "&lt;old&gt; and a&amp;b" not in page:
+            yield f"{wanted!r} isn't on the page, or it has {page.count('<svg class=')} plans"
+        yield from markup_check.faults(page)
+
+
+def trial_page(_, __):
+    """The sheet on the page of a configuration says what routes.csv says."""
+    for name, given in {**plants(), **{name: json.dumps(one) for name, one in randoms().items()}}.items():
+        yield from (f"{name}: {fault}" for fault in report_table.page_faults(given))
+
+
+def trial_browser(program, _):
+    """The page of a comparison in a browser."""
+    found = browser.find()
+    if found is None:
+        print("no browser here: pages aren't looked at in one")
+        return
+    station = json.loads(plants()["station"])
+    for _, old, new, _ in comparison_cases.cases():
+        if old == station:
+            with tempfile.TemporaryDirectory(prefix="irv-sheet-") as room:
+                Path(room, "old").write_text(json.dumps(old), encoding="utf-8")
+                Path(room, "new").write_text(json.dumps(new), encoding="utf-8")
+                call(program, ["--compare", "old", "new", "--page", "page"], b"", room)
+                yield from browser.faults(found, Path(room, "page").read_text(encoding="utf-8"))
+            return
+
+
+def trial_session(program, _):
+    """What docs/SHEETS.md shows is what is printed."""
+    with tempfile.TemporaryDirectory(prefix="irv-sheet-") as room:
+        irv = Path(room, "irv")
+        irv.write_text(IRV.format(top=TOP, program=program), encoding="utf-8")
+        irv.chmod(0o755)
+        passed, faults, left_out = transcripts.run((TOP / "docs/SHEETS.md").read_text(encoding="utf-8"), room)
+    yield from faults + left_out
+    if not passed:
+        yield "there is no session"
+
+
+TRIALS = [trial_round_trips, trial_round_trips_by_calls, trial_office, trial_spelled, trial_configuration,
+          trial_refusals, trial_full_output, trial_full_disk, trial_help, trial_changes, trial_compare,
+          trial_compare_chance, trial_page, trial_large_pages, trial_browser, trial_session]

@@ -1,0 +1,97 @@
+"""Other names and dropped routes: of each case the words, the configuration, and what comes of it."""
+
+import json
+from pathlib import Path
+
+from tests.csv.refusal_cases import CONF, other
+
+EXAMPLES = Path(__file__).resolve().parent.parent.parent / "examples"
+STATION = (EXAMPLES / "station.json").read_text(encoding="utf-8")
+THROAT = (EXAMPLES / "terminus-throat.json").read_text(encoding="utf-8")
+PROTECTED = (EXAMPLES / "station-protected.json").read_text(encoding="utf-8")
+
+# the conflicts of the station's routes without r1 and r8, by hand
+WITHOUT_R1_R8 = {"r2": ["r6", "r7"], "r3": ["r4", "r5", "r6"], "r4": ["r3", "r5", "r6"],
+                 "r5": ["r3", "r4", "r6"], "r6": ["r2", "r3", "r4", "r5"], "r7": ["r2"]}
+NAMED = {"r1": "m1-m3", "r2": "m1-m5", "r3": "m3-b2", "r4": "m5-b2", "r5": "m2-m4", "r6": "m2-m6",
+         "r7": "m4-b1", "r8": "m6-b1"}
+
+# a section, a board and a route of one name
+SHARED = other('"name": "r1"', '"name": "a"').replace('"m1"', '"a"')
+
+
+def put(text, names):
+    """A configuration in which names that stand for one thing alone are others: none of them is a part
+    of the text elsewhere in quotation marks. All at once."""
+    for number, old in enumerate(names):
+        text = text.replace(f'"{old}"', f'"\0{number}"')
+    for number, new in enumerate(names.values()):
+        text = text.replace(f'"\0{number}"', f'"{new}"')
+    return json.loads(text, strict=False)
+
+
+def with_routes(routes):
+    """The two sections, with these routes: of each name, source, destination, path and conflicts."""
+    return {**json.loads(CONF), "routes": [
+        {"name": name, "source": source, "destination": destination, "path": path, "overlap": [],
+         "points": [], "conflicts": conflicts} for name, source, destination, path, conflicts in routes]}
+
+
+def without_r1_r8():
+    """The station without two routes."""
+    value = json.loads(STATION)
+    value["routes"] = [{**route, "conflicts": WITHOUT_R1_R8[route["name"]]} for route in value["routes"]
+                       if route["name"] in WITHOUT_R1_R8]
+    return value
+
+
+def of_list():
+    """The station after the changes of changes.list."""
+    value = put(STATION, {"r1": "x", "t1": "T1"})
+    value["routes"].pop()
+    for route in value["routes"]:
+        route["conflicts"] = [name for name in route["conflicts"] if name != "r8"]
+    return value
+
+
+def cases():
+    """The cases."""
+    station = json.loads(STATION)
+    for names in ({"r1": "x"}, {"r1": "r2", "r2": "r1"}, {"r1": "r2", "r2": "r3", "r3": "r1"}, {"t1": "T1"},
+                  {"m3": "S3"}, {"p1": "W1", "b2": "b-2", "m1": "1"}, {"r8": "r8"}):
+        words = [word for old, new in names.items() for word in ("--rename", f"{old}={new}")]
+        yield words, station, put(STATION, names)
+    names = {"p2": "W2", "m2": "S2", "r5": "5"}
+    yield ([f"--rename={old}={new}" for old, new in names.items()], json.loads(PROTECTED),
+           put(PROTECTED, names))
+    names = {"P1": "W1", "PL1": "7", "S10": "S100", "S2-S12": "S5-SID", "S5-SID": "S2-S12"}
+    yield ([word for old, new in names.items() for word in ("--rename", f"{old}={new}")],
+           json.loads(THROAT), put(THROAT, names))
+    yield ["--drop", "r8", "--drop", "r1"], station, without_r1_r8()
+    yield ["--list", "changes.list"], station, of_list()
+    yield (["--list", "changes.list", "--rename", "r2=y"], station,
+           json.loads(json.dumps(of_list()).replace('"r2"', '"y"')))
+    # of things with one name the one that is meant
+    shared = json.loads(SHARED)
+    for kind, place in (("route", ("routes", 0, "name")), ("section", ("sections", 0, "name"))):
+        wanted = json.loads(SHARED)
+        wanted[place[0]][place[1]][place[2]] = "z"
+        if kind == "section":
+            wanted["sections"][1]["down"] = "z"
+            wanted["routes"][1]["path"] = ["z"]
+        yield ["--rename", f"{kind}:a=z"], shared, wanted
+    wanted = json.loads(SHARED)
+    wanted["sections"][0]["board_up"] = wanted["routes"][0]["source"] = "z"
+    yield ["--rename", "board:a=z"], shared, wanted
+    # names by source and destination
+    yield ["--named"], station, put(STATION, NAMED)
+    yield (["--rename", "m1-m3=x", "--named", "--rename", "m6-b1=y"], station,
+           put(STATION, {**NAMED, "r1": "x", "r8": "y"}))
+    yield (["--named"], with_routes([("g0", "m1", "m2", ["b"], ["g1"]), ("g1", "m1", "m2", ["a"], ["g0", "g2"]),
+                                     ("g2", "m1", "m2-1", ["b"], ["g3"]), ("g3", "m1", None, ["b", "a"], [])]),
+           with_routes([("m1-m2-2", "m1", "m2", ["b"], ["m1-m2-3"]),
+                        ("m1-m2-3", "m1", "m2", ["a"], ["m1-m2-2", "m1-m2-1"]),
+                        ("m1-m2-1", "m1", "m2-1", ["b"], ["m1-a"]), ("m1-a", "m1", None, ["b", "a"], [])]))
+    yield (["--named", "--drop", "m1-m2-1"],
+           with_routes([("a", "m1", "m2", ["b"], ["b"]), ("b", "m1", "m2", ["a"], ["a"])]),
+           with_routes([("m1-m2-2", "m1", "m2", ["a"], [])]))

@@ -1,0 +1,697 @@
+"""Checks the documents against what they speak of.
+
+    tests/docs                prints each failure, and at last `N passed, M failed`
+    tests/docs --self-check   sees that wrong documents are refused: makes changes on a copy, each of
+                              which has to fail for its own reason
+
+What is asked:
+
+- "stands on" of docs/ARCHITECTURE.md is crates.txt: each crate has its row, in the same order, with
+  the same crates in the same order; in crates.txt each stands after those that it stands on. The
+  picture and docs/PROVED.md have each crate but those of tests.
+- No crate of the search, the top floor of crates.txt, stands below the laws and the checker by which a
+  plant is safe without a search.
+- docs/ASSESSOR.md is what `tools/definitions --page` prints: each definition, each count. What the
+  clauses of `run` reach without a formula stands before its last section.
+- Each link leads to a file, each heading that is named after a link is in that file, and each name in
+  the words of a link is declared in the file to which it leads.
+- Each path in backquotes is there, and each name in backquotes is declared (`Names.is_known`).
+- The commands, options and statuses of docs/COMMANDS.md are those that the program's tables have.
+- The lists of docs/ARCHITECTURE.md that say where a change goes have each file that names what they are
+  held against (`lib/witnesses.py`).
+- A file of definitions that says of itself that private contracts or proofs alone cite it is reached from
+  no public contract (`lib/reached.py`).
+- docs/TRACEABILITY.md has a row for each requirement of docs/MODEL.md and each limit of docs/FORMATS.md,
+  with the same definitions, a law or a contract, and tests that speak of it (`see_requirements`).
+"""
+
+import functools
+import re
+import shutil
+import subprocess
+import sys
+import tempfile
+from pathlib import Path
+
+from tests.support import reached_definitions
+from tests.support import change_lists
+from irvtools.paths import TOP
+
+DOCUMENTS = ("README.md", "docs/*.md", "tests/README.md", "tools/README.md", "examples/README.md")
+FENCE = re.compile(r"^```.*?^```", re.S | re.M)
+SPAN = re.compile(r"``? ?(.+?) ?``?(?!`)")
+LINK = re.compile(r"\[([^\]]*)\]\(([^)\s]+)\)(?:, \"([^\"]+)\")?")
+FILE_NAME = re.compile(r"[\w.*-]+\.(?:antt|rt|md|py|js|cases|table|json|run|scene|edit|txt|list|counts)")
+# What isn't in the repository, though a document names it as if it were: what a build makes.
+MADE = ("out/", "crates/irv/out/irv")
+# What says that a plant is safe without any search: laws, and the checker of certificates.
+APART_FROM_SEARCH = ("ilk_evidence", "ilk_forever", "ilk_plant_audit", "ilk_strict")
+# What is no name of this repository, and why a document has it in backquotes.
+FOREIGN = {"Fn": "a trait of Rust", "col": "an example of an option that there isn't"}
+
+
+def read(path):
+    """The text of a file."""
+    return path.read_text(encoding="utf-8")
+
+
+def crates_of(root):
+    """The lines of crates.txt: each crate with those that it stands on."""
+    lines = (line.partition("#")[0] for line in read(root / "crates.txt").splitlines())
+    return {name.strip(): rest.split() for name, colon, rest in (it.partition(":") for it in lines)
+            if colon}
+
+
+def rows(text, *heads):
+    """The rows of each table whose head begins with these words, as lists of cells."""
+    found, inside = [], False
+    for line in text.splitlines():
+        cells = [cell.strip() for cell in re.split(r"(?<!\\)\|", line)[1:-1]]
+        if tuple(cells[:len(heads)]) == heads:
+            inside = True
+        elif not line.startswith("|"):
+            inside = False
+        elif inside and not line.startswith("|---"):
+            found.append(cells)
+    return found
+
+
+def spans(text):
+    """What stands in backquotes."""
+    return SPAN.findall(text)
+
+
+class Repository:
+    """A copy of the repository, and what it declares, once that is asked."""
+
+    def __init__(self, root):
+        self.root = root
+
+    @functools.cached_property
+    def names(self):
+        """What it declares."""
+        return Names(self.root)
+
+
+class Seen:
+    """What was asked: how much of it is so, and what is said of the rest."""
+
+    def __init__(self):
+        self.passed, self.faults = 0, []
+
+    def ask(self, is_so, fault):
+        """Counts one question; `fault` is what is wrong where it isn't so."""
+        if is_so:
+            self.passed += 1
+        else:
+            self.faults.append(fault)
+
+    def same(self, what, told, wanted):
+        """Asks whether what is told is what is; of lists, what is left out and what is too much."""
+        fault = f"{told!r} is told, and {wanted!r} is so"
+        if isinstance(told, list) and isinstance(wanted, list):
+            less = [item for item in wanted if item not in told]
+            more = [item for item in told if item not in wanted]
+            fault = f"{less} left out, {more} too much" if less or more else f"not in the order {wanted}"
+        self.ask(told == wanted, f"{what}: {fault}")
+
+
+def see_map(repository, seen):
+    """The map has the crates and the edges of crates.txt, in their order."""
+    root = repository.root
+    crates = crates_of(root)
+    page = read(root / "docs/ARCHITECTURE.md")
+    table = rows(page, "crate", "what it is for", "stands on")
+    told = {spans(cells[0])[0]: spans(cells[-1]) for cells in table}
+    where = "ARCHITECTURE.md, stands on"
+    for name in crates:
+        seen.ask(name in told, f"{where}: {name} has no row")
+    for name, edges in told.items():
+        seen.ask(name in crates, f"{where}: {name} is no crate of crates.txt")
+        if name in crates:
+            seen.same(f"{where}, {name}", edges, crates[name])
+    seen.ask(len(told) == len(table), f"{where}: a crate has two rows")
+    place = {name: number for number, name in enumerate(crates)}
+    for name, edges in crates.items():
+        for low in (low for low in edges if low in place):
+            seen.ask(place[low] < place[name], f"crates.txt: {name} stands before {low}, its own library")
+    seen.same(f"{where}, the order of the crates", [name for name in told if name in crates],
+              [name for name in crates if name in told])
+    drawn = [name for line in reversed(FENCE.search(page)[0].splitlines())
+             for name in reversed(re.findall(r"\bilk_\w+|\birv\b", line))]
+    seen.same("ARCHITECTURE.md, the picture", drawn, [it for it in crates if not it.endswith("_tests")])
+    proved = [name for cells in rows(read(root / "docs/PROVED.md"), "crate", "what is proved")
+              for name in spans(cells[0])]
+    seen.same("PROVED.md, the crates", sorted(proved),
+              sorted(name for name in crates if not name.endswith("_tests")))
+
+
+def see_assessor(repository, seen):
+    """The assessor's page is as the tool prints it."""
+    root = repository.root
+    printed = subprocess.run([root / "tools/definitions", "--page"], stdout=subprocess.PIPE,
+                             stderr=subprocess.PIPE)
+    page = read(root / "docs/ASSESSOR.md").splitlines()
+    wanted = printed.stdout.decode().splitlines()
+    seen.ask(printed.returncode == 0, f"tools/definitions: {printed.stderr.decode().strip()}")
+    for line in wanted:
+        seen.ask(line in page, f"ASSESSOR.md: this line isn't there (tools/definitions --write): {line}")
+    for line in page:
+        seen.ask(line in wanted, f"ASSESSOR.md: this line isn't so (tools/definitions --write): {line}")
+    seen.same("ASSESSOR.md, its number of lines", len(page), len(wanted))
+
+
+def see_left(repository, seen):
+    """Each definition that the clauses of `run` reach without a formula stands in a section of the
+    assessor's page that says what it is for, and not in the last one."""
+    printed = subprocess.run([repository.root / "tools/definitions", "--left"], stdout=subprocess.PIPE,
+                             stderr=subprocess.PIPE)
+    seen.ask(printed.returncode == 0, f"tools/definitions --left: {printed.stderr.decode().strip()}")
+    left = printed.stdout.decode().splitlines()
+    seen.ask(not left, f"ASSESSOR.md, the last section: who relies on an answer reads {', '.join(left)}")
+
+
+def search_of(root):
+    """The crates of the floor of crates.txt that is called search."""
+    text = read(root / "crates.txt")
+    floor = re.search(r"^# floor \d+, search\b.*\n((?:(?!#).*\n)*)", text, re.M)
+    return set(re.findall(r"^(\w+):", floor[1], re.M)) if floor else set()
+
+
+def below(crates, name):
+    """The crates of this repository on which one stands."""
+    found, left = set(), [name]
+    while left:
+        for low in crates.get(left.pop(), []):
+            if low in crates and low not in found:
+                found.add(low)
+                left.append(low)
+    return found
+
+
+def see_search(repository, seen):
+    """No crate of the search stands below those on which a safe answer rests without a search."""
+    crates, search = crates_of(repository.root), search_of(repository.root)
+    seen.ask(len(search) > 1, "crates.txt: no floor is called search")
+    for name in APART_FROM_SEARCH:
+        seen.ask(name in crates, f"crates.txt: there is no crate {name}")
+        low = sorted(below(crates, name) & search)
+        seen.ask(not low, f"crates.txt: {name} stands on the search: {', '.join(low)}")
+
+
+class Names:
+    """What the repository declares, and the words of its formats."""
+
+    HEAD = re.compile(r"^ *(?:unfoldable |abbrev |infixr? \d+ )*pub (?!mod |use )"
+                      r"(?:record |syntax |data )?(◌?[^\s(:{]+)", re.M)
+    # a field of a record, or a constructor
+    PART = re.compile(r"^ +(?:pub )?([\w-]+) :", re.M)
+    LEMMA = re.compile(r"^ *(?:abbrev |unfoldable )?(?:pub )?([\w-]+) :", re.M)
+    # calls, types and constants; fields and variants, which stand alone on a line; labels of clauses
+    CODE = re.compile(r"\b(?:fn|struct|enum|trait|const|static|type|mod|impl|ghost) (?:<.*?> ?)?(\w+)"
+                      r"|^ +(?:pub(?:\(crate\))? )?(\w+)(?: \{|\(.*\))?[:,]"
+                      r"|^ +(?:ensures|requires|lends) (\w+) \{|^ +(\w+) \{$", re.M)
+    IMPORT = re.compile(r"use (?:Rattle\.)?(?:std|core|alloc|clap|serde_json|indexmap)\b(.*)")
+    STRING = re.compile(r'"((?:[^"\\\n]|\\.)*)"')
+    REMARK = re.compile(r'""".*?"""|^ *(?://|--|#)[^\n]*$', re.M | re.S)
+
+    def __init__(self, root):
+        self.root = root
+        self.crates = crates_of(root)
+        self.ported = {name for edges in self.crates.values() for name in edges}
+        self.by_file, self.by_crate = {}, {}
+        self.others, self.words = set(), set()
+        for path in sorted((root / "crates").rglob("*")):
+            kind = path.relative_to(root / "crates").parts[1:2]
+            if path.suffix in (".antt", ".rt") and kind in (("src",), ("specs",), ("proofs",)):
+                self.enter(path, kind[0])
+        for path in (*(root / "tests/lib").glob("*.py"), *(root / "tests/cases").iterdir(),
+                     *(root / "examples").glob("*.json")):
+            self.enter_words(read(path))
+        for path in (*(root / "tools").iterdir(), *(root / "tests").iterdir(), root / "irv"):
+            if path.is_file() and path.suffix != ".md" and path.name != "docs":
+                self.enter_script(read(path))
+
+    def enter(self, path, kind):
+        """Enters what a file of a crate declares."""
+        text = read(path)
+        if kind == "src":
+            names = {name for found in self.CODE.findall(text) for name in found if name}
+        elif kind == "specs":
+            names = set(self.HEAD.findall(text))
+            self.others.update(self.PART.findall(text))
+        else:
+            names = set(self.LEMMA.findall(text))
+        self.by_file[path] = names
+        crate = path.relative_to(self.root / "crates").parts[0]
+        self.by_crate.setdefault((crate, kind), set()).update(names)
+        for listed in self.IMPORT.findall(text):
+            self.others.update(re.findall(r"[\w◌>=]+", listed))
+        if kind != "proofs":
+            self.enter_words(text)
+
+    def enter_words(self, text):
+        """Enters the words of the strings of a file; of a file of cases all keys are such words."""
+        for found in self.STRING.findall(self.REMARK.sub("", text)):
+            self.words.update(re.findall(r"[\w-]+", found))
+        self.words.update(re.findall(r"^([a-z]+)(?: [\w.-]+)*:", text, re.M))
+
+    def enter_script(self, text):
+        """Enters the options and the calls of a script too."""
+        self.enter_words(text)
+        self.words.update(re.findall(r"--([a-z][a-z-]*)", text))
+        self.words.update(re.findall(r"^(\w+)\(\) \{", text, re.M))
+
+    @functools.cached_property
+    def declared(self):
+        """All that is declared somewhere."""
+        return set().union(*self.by_file.values())
+
+    def is_known(self, word):
+        """Whether a word in backquotes has a meaning: it is declared in a crate, or imported there
+        from the standard library; or it is a word of a format, which stands in a string of the code or
+        of the tests; or a sign, a number, or a place for something, in capitals."""
+        if word.startswith("ilk_"):
+            return word in self.crates
+        if re.fullmatch(r"\w+\.\.", word):
+            return any(name.startswith(word[:-2]) for name in self.declared)
+        if "::" in word:
+            first, second = word.split("::")
+            return any(first in names and second in names
+                       for (_, kind), names in self.by_crate.items() if kind == "src")
+        return (word in self.declared or word in self.others or word in self.words
+                or word in self.ported or word in FOREIGN or is_sign(word))
+
+
+def is_sign(word):
+    """Whether it is a sign, a number, one letter, or a place for something, in capitals."""
+    return not re.search(r"[^\W\d_]{2}", word) or re.fullmatch(r"[A-Z]+", word) is not None
+
+
+class Places:
+    """The paths that a line of a document names. One without a crate's name, or without a folder, is
+    of the crate, or in the folder, that the line named last."""
+
+    def __init__(self, root, document):
+        self.root = root
+        self.bases = [root, document.parent, root / "crates"]
+        self.last = []
+
+    def find(self, named):
+        """Whether such a file or folder is there."""
+        return bool(self.all(named))
+
+    def all(self, named):
+        """The files and folders of that name. `..` in a name, and `*`, stand for anything."""
+        pattern = re.sub(r"(?<=[\w-])\.\.|(?<=/)\.\.(?=[\w])", "*", named).rstrip("/")
+        for base in (*self.last, *self.bases):
+            found = sorted(base.glob(pattern))
+            if found:
+                self.enter(found[0])
+                return found
+        # of no crate, but of several
+        found = [] if self.last else list(self.root.glob(f"crates/*/{pattern}"))
+        return found if len(found) > 1 else []
+
+    def enter(self, found):
+        """What comes next in the line may be beside this, or in its crate."""
+        self.last = [found if found.is_dir() else found.parent]
+        parts = found.relative_to(self.root).parts
+        if parts[0] == "crates" and len(parts) > 1:
+            crate = self.root / "crates" / parts[1]
+            self.last += [crate, crate / "src", crate / "specs", crate / "proofs"]
+
+
+def documents(root):
+    """The documents."""
+    return [path for pattern in DOCUMENTS for path in sorted(root.glob(pattern))]
+
+
+def see_links(repository, seen):
+    """Each link leads somewhere, and what it is called is there."""
+    root, names = repository.root, repository.names
+    for document in documents(root):
+        for label, target, heading in LINK.findall(FENCE.sub("", read(document))):
+            if target.startswith("http"):
+                continue
+            where = f"{document.name}, the link to {target}"
+            path = (document.parent / target.partition("#")[0]).resolve()
+            seen.ask(path.exists(), f"{where}: it isn't there")
+            if path in names.by_file:
+                for name in spans(label):
+                    seen.ask(name in names.by_file[path], f"{where}: {name} isn't declared there")
+            if heading and path.exists():
+                seen.ask(re.search(rf"^#+ {re.escape(heading)}$", read(path), re.M),
+                         f"{where}: it has no heading {heading!r}")
+
+
+def is_path(span):
+    """Whether it names a file or a folder."""
+    return re.fullmatch(r"[\w.*/-]+", span) and ("/" in span or FILE_NAME.fullmatch(span))
+
+
+def see_span(names, places, where, span, seen):
+    """What stands in backquotes has a meaning."""
+    if span in MADE:
+        return
+    if is_path(span):
+        seen.ask(places.find(span), f"{where}: `{span}` isn't there")
+    elif re.fullmatch(r"[\w:.-]+|◌\S+◌", span):
+        seen.ask(names.is_known(span.removeprefix("--")), f"{where}: `{span}` is declared nowhere")
+        if span in names.crates:
+            places.enter(places.root / "crates" / span)
+    else:
+        # several words: files of the repository, options, and what only a name can be
+        for word in re.findall(r"[\w./:-]+", span):
+            word = word.rstrip(".:")
+            if "/" in word and (places.root / word.split("/")[0]).is_dir():
+                seen.ask(places.find(word), f"{where}: `{word}` isn't there")
+            elif word.startswith("--") and word != "--":
+                seen.ask(names.is_known(word[2:]), f"{where}: the option {word} is nowhere")
+            elif re.fullmatch(r"[a-z]+(?:_[a-z0-9]+)+|[A-Z][a-z]+(?:[A-Z][a-z]+)+", word):
+                seen.ask(names.is_known(word), f"{where}: `{word}` is declared nowhere")
+
+
+def see_spans(repository, seen):
+    """Each path and each name in backquotes is there, and each path in what is shown."""
+    root, names = repository.root, repository.names
+    for document in documents(root):
+        text = read(document)
+        for block in FENCE.findall(text):
+            places = Places(root, document)
+            for word in re.findall(r"[\w.-]+/[\w./-]+", block):
+                if (root / word.split("/")[0]).is_dir() and word not in MADE:
+                    seen.ask(places.find(word), f"{document.relative_to(root)}: {word} isn't there")
+        for line in FENCE.sub("", text).splitlines():
+            places = Places(root, document)
+            for span in spans(line):
+                see_span(names, places, document.relative_to(root), span, seen)
+
+
+def see_contracts(repository, seen):
+    """Each call that a row of docs/PROVED.md names is in the code of one of its crates."""
+    root, names = repository.root, repository.names
+    for cells in rows(read(root / "docs/PROVED.md"), "crate", "what is proved"):
+        declared = set().union(*(names.by_crate.get((crate, "src"), set()) for crate in spans(cells[0])))
+        for span in spans(cells[-1]):
+            for part in span.split("::"):
+                seen.ask(part in declared, f"PROVED.md, {cells[0]}: {span} isn't in its code")
+
+
+class Tables:
+    """The tables of commands, options and statuses, as the program's definitions have them."""
+
+    def __init__(self, root):
+        self.root = root
+        folder = self.file_of("options : List LineOption").parent
+        self.text = "\n".join(read(path) for path in sorted(folder.glob("*.antt")))
+        self.limits = dict(re.findall(r"pub const (\w+): \w+ = (\d+);",
+                                      read(folder.parent / "src/limits.rt")))
+        self.options = {it: self.record(it) for it in self.listed("options")}
+        self.commands = {it: self.record(it) for it in self.listed("commands")}
+        self.statuses = re.findall(r"^code (\w+) = (\d+)$", read(self.file_of("code : Status")), re.M)
+        self.complaints = dict(re.findall(r'^complaint (\w+) = Some \(codes "([^"]*)"\)$',
+                                          read(self.file_of("complaint : Status")), re.M))
+
+    def file_of(self, head):
+        """The file of definitions that has a definition with this head."""
+        return next(path for path in sorted(self.root.glob("crates/*/specs/*.antt"))
+                    if f"abbrev pub {head}" in read(path))
+
+    def listed(self, name):
+        """The items of a list."""
+        body = re.search(rf"^{name} =((?:.|\n +)*)", self.text, re.M)[1]
+        return [item for item in re.split(r"\s*∷\s*", body.strip()) if item != "[]"]
+
+    def record(self, name):
+        """The fields of a record."""
+        body = re.search(rf"^{name} = record \{{((?:.|\n)*?)\}}$", self.text, re.M)[1]
+        return {field: " ".join(value.split()) for field, value in
+                re.findall(r"(\w+) = ((?:[^;]|\n)*?)(?:;|$|\s*\Z)", body.strip())}
+
+    def word(self, value):
+        """The text that a term is: of a value its word, of a number its digits."""
+        name, _, rest = value.partition(" ")
+        if name == "codes":
+            return rest.strip('"')
+        if name == "decimal":
+            return self.limits[rest]
+        return re.search(rf'^{name} {rest} = codes "([^"]*)"', self.text, re.M)[1]
+
+    def name(self, record):
+        """The name of an option or of a command."""
+        return self.word(record["name"])
+
+    def values(self, option):
+        """The words that an option takes, or the least and the greatest number; none for any text."""
+        words = re.fullmatch(r"one_among \(map (\w+) (\w+)\)", option["values"])
+        if words:
+            return [self.word(f"{words[1]} {it}") for it in self.listed(words[2])]
+        numbers = re.fullmatch(r"number_between (\w+) (\w+)", option["values"])
+        return tuple(self.limits.get(it, it) for it in numbers.groups()) if numbers else None
+
+    def default(self, option):
+        """The value where the option isn't on the line, if there is one."""
+        value = re.fullmatch(r"Some \((.*)\)", option["default"])
+        return self.word(value[1]) if value else None
+
+    def options_of(self, command):
+        """The options of a command, by their names in the definitions."""
+        return [it for it in re.split(r"\s*∷\s*", command["options"]) if it != "[]"]
+
+    def takers(self, option):
+        """The commands that take an option."""
+        return [self.name(it) for it in self.commands.values() if option in self.options_of(it)]
+
+
+def told_values(cell):
+    """The values that a cell tells: words, or the least and the greatest number."""
+    numbers = re.match(r"a whole number, (\d+) to (\d+)", cell)
+    return numbers.groups() if numbers else spans(cell) or None
+
+
+def see_commands(repository, seen):
+    """The commands, options and statuses are those of the program."""
+    root = repository.root
+    tables, text = Tables(root), read(root / "docs/COMMANDS.md")
+    where = "COMMANDS.md"
+    first, *told = rows(text, "word", "values", "default", "commands")
+    seen.same(f"{where}, the commands", spans(first[1]),
+              [tables.name(it) for it in tables.commands.values()])
+    seen.same(f"{where}, the options", [spans(cells[0])[0] for cells in told],
+              [f"--{tables.name(it)}" for it in tables.options.values()])
+    by_word = {spans(cells[0])[0]: cells for cells in told}
+    for key, option in tables.options.items():
+        word = f"--{tables.name(option)}"
+        _, values, default, commands, *_ = by_word.get(word, [""] * 5)
+        wanted = tables.values(option)
+        seen.same(f"{where}, values of {word}", told_values(values) if wanted else None, wanted)
+        seen.same(f"{where}, default of {word}", None if default.startswith("none")
+                  else default.strip("`"), tables.default(option))
+        seen.same(f"{where}, commands with {word}", commands.split(", "), tables.takers(key))
+    for command in tables.commands.values():
+        name = tables.name(command)
+        line = re.search(rf"^\./irv {name} .*", text, re.M)
+        seen.same(f"{where}, how {name} is called", re.findall(r"--\w+", line[0] if line else ""),
+                  [f"--{tables.name(tables.options[it])}" for it in tables.options_of(command)])
+    table = rows(text, "status", "name", "standard error")
+    seen.same(f"{where}, the statuses", [(cells[1], cells[0]) for cells in table], tables.statuses)
+    for cells in table:
+        said = tables.complaints.get(cells[1])
+        seen.same(f"{where}, standard error of {cells[1]}", cells[2], f"`{said}`" if said else "nothing")
+
+
+def see_lists(repository, seen):
+    """Each list that says where a change goes has every file that names its witness."""
+    root, where = repository.root, "ARCHITECTURE.md, where a change goes"
+    for heading, witness, count, missing in change_lists.left_out(root, lambda: Places(root, root / change_lists.MAP)):
+        seen.ask(missing is not None, f"{where}: there is no list {heading!r}")
+        seen.ask(count > 1, f"{where}, {heading}: nothing names {witness}")
+        for name in missing or []:
+            seen.ask(False, f"{where}, {heading}: {name} is left out, which names {witness}")
+
+
+def see_denied(repository, seen):
+    """No public contract reaches what says that private contracts or proofs alone cite it."""
+    root = repository.root
+    count, files = reached_definitions.denied(root)
+    seen.ask(count > 400, f"crates: only {count} public calls are found")
+    seen.ask(len(files) > 40, f"crates: only {len(files)} files deny that public contracts cite them")
+    for path, how in files.items():
+        call, name = how or ("", "")
+        seen.ask(how is None, f"{path.relative_to(root)} says that no public contract cites it, and {call} "
+                              f"reaches {name}")
+
+
+# the tables of docs/MODEL.md whose rows are requirements, by their first heads
+REQUIRING = (("rule", "what must hold"), ("rule", "broken where", "place", "definition"),
+             ("event", "enabled where"), ("hazard", "what it is"), ("family", "what holds"),
+             ("verdict", "where"), ("query", "asks for"))
+LIMITS = ("what", "limit", "rule")
+
+
+def requirements(root):
+    """Each requirement: what it is called in the tables of requirements, the word by which tests speak of
+    it, and the links of its definitions where its row has any. Limits have neither."""
+    model = read(root / "docs/MODEL.md")
+    for heads in REQUIRING:
+        for cells in rows(model, *heads):
+            first = cells[0].partition("(")[0]
+            name = first.split()[0] if heads[0] == "event" else first.partition(" at ")[0]
+            yield name, name.removesuffix(" n"), LINK.findall(cells[-1])
+    for cells in rows(read(root / "docs/FORMATS.md"), *LIMITS):
+        yield cells[0], None, []
+
+
+def see_requirements(repository, seen):
+    """Each requirement has its row, with its definitions, a law or contract, and tests that name it."""
+    root = repository.root
+    page = root / "docs/TRACEABILITY.md"
+    told = rows(read(page), "requirement", "definition")
+    wanted = list(requirements(root))
+    seen.same(f"{page.name}, the requirements", [cells[0] for cells in told], [it[0] for it in wanted])
+    seen.ask(len(wanted) > 60, f"{page.name}: only {len(wanted)} requirements are found")
+    by_name = {cells[0]: cells for cells in told}
+    for name, word, definitions in wanted:
+        if name not in by_name or len(by_name[name]) != 5:
+            seen.ask(False, f"{page.name}, {name}: no row with five cells")
+            continue
+        _, own, laws, tests, _ = by_name[name]
+        if definitions:
+            seen.same(f"{page.name}, {name}, the definitions", LINK.findall(own), definitions)
+        seen.ask(LINK.findall(own), f"{page.name}, {name}: it has no definition")
+        seen.ask(LINK.findall(laws), f"{page.name}, {name}: it has no law and no contract")
+        seen.ask(LINK.findall(tests), f"{page.name}, {name}: it has no test")
+        for _, target, _ in LINK.findall(tests):
+            file = page.parent / target
+            seen.ask(word is None or file.is_file() and re.search(
+                rf"(?<![A-Za-z0-9]){re.escape(word)}(?![A-Za-z0-9])", read(file), re.I),
+                f"{page.name}, {name}: {file.name} doesn't speak of it")
+
+
+CHECKS = (see_map, see_search, see_assessor, see_left, see_links, see_spans, see_contracts, see_commands,
+          see_lists, see_denied, see_requirements)
+
+
+def see_all(root, checks=CHECKS):
+    """What these checks say of the documents."""
+    repository, seen = Repository(root), Seen()
+    for check in checks:
+        check(repository, seen)
+    return seen
+
+
+# Changes that make a document wrong: which check refuses it, the file, what is replaced there and by
+# what, and a part of what is said of it.
+CHANGES = {
+    "an edge of crates.txt that the map leaves out": (
+        see_map, "crates.txt", r"^(ilk_model:.*)$", r"\1 ilk_lines", "stands on, ilk_model"),
+    "a crate that the map leaves out": (
+        see_map, "docs/ARCHITECTURE.md", r"^\| `ilk_replay` \|.*\n", "", "ilk_replay has no row"),
+    "a crate that stands on a later one": (
+        see_map, "crates.txt", r"^(ilk_ints:.*)\n((?:.*\n)*?)(ilk_copy:.*\n)", r"\3\1\n\2",
+        "crates.txt: ilk_copy stands before ilk_ints"),
+    "two crates that the map has in another order": (
+        see_map, "docs/ARCHITECTURE.md", r"^(\| `ilk_motion` \|.*\n)(\| `ilk_routes` \|.*\n)", r"\2\1",
+        "the order of the crates"),
+    "a crate of the search below the laws": (
+        see_search, "crates.txt", r"^(ilk_forever:.*)$", r"\1 ilk_induct",
+        "ilk_forever stands on the search: ilk_arena"),
+    "a definition that fits no section": (
+        see_left, "tools/definitions", r'^ +\("ilk_words\.specs\.Plan", "plan_of"\)\], None\),$',
+        "                          ], None),", "Plan.antt: plan_of"),
+    "a stale count": (
+        see_assessor, "docs/ASSESSOR.md", r"^(## 3\. .*: )\d+ lines", r"\g<1>1 lines",
+        "ASSESSOR.md: this line isn't so"),
+    "a dead link": (
+        see_links, "docs/MODEL.md", r"\(\.\./crates/ilk_model/specs/Run\.antt\)",
+        "(../crates/ilk_model/specs/Runs.antt)", "Runs.antt: it isn't there"),
+    "a file that isn't there": (
+        see_spans, "docs/ARCHITECTURE.md", r"`ilk_model/src/event\.rt`", "`ilk_model/src/events.rt`",
+        "`ilk_model/src/events.rt` isn't there"),
+    "a definition renamed": (
+        see_links, "crates/ilk_plant/specs/NetworkRules.antt", r"\bstands_alone\b", "has_no_neighbour",
+        "NetworkRules.antt: stands_alone isn't declared there"),
+    "a definition renamed that no link leads to": (
+        see_spans, "crates/ilk_answers/specs/Strict.antt", r"\bSaysSafeAtOneOrSpent\b", "SaysSafeOrSpent",
+        "docs/ASSESSOR.md: `SaysSafeAtOneOrSpent` is declared nowhere"),
+    "a call renamed": (
+        see_contracts, "crates/ilk_engine/src/deciding.rt", r"\bpub fn decide\b", "pub fn decides",
+        "`ilk_engine`: decide isn't in its code"),
+    "an option left out": (
+        see_commands, "docs/COMMANDS.md", r"^\| `--cert` \|.*\n", "", "COMMANDS.md, the options"),
+    "a limit that isn't so": (
+        see_commands, "crates/ilk_words/src/limits.rt", r"MAX_DEPTH: u64 = \d+", "MAX_DEPTH: u64 = 15",
+        "values of --depth"),
+    "a file that a list leaves out": (
+        see_lists, "docs/ARCHITECTURE.md", r"`pairs\.rt`, ", "", "pairs.rt is left out, which names the rule C8"),
+    "a document that a list leaves out": (
+        see_lists, "docs/ARCHITECTURE.md", r"`docs/PAGE\.md`, ", "", "PAGE.md is left out, which names the rule C8"),
+    "a folder that a list leaves out": (
+        see_lists, "docs/ARCHITECTURE.md", r"as `ilk_drive/`, ", "",
+        "ilk_drive/src/automatic.rt is left out, which names the command drive"),
+    "a file that comes to name an event": (
+        see_lists, "tools/page_parts/crews.py", r"\A", "CREWS = ['cancel']\n",
+        "crews.py is left out, which names the event cancel"),
+    "a bare number for the depth": (
+        see_lists, "crates/ilk_copy/src/lib.rt", r"\A", "// a run has at most 16 events\n",
+        "ilk_copy/src/lib.rt is left out, which names the depth"),
+    "a list under another heading": (
+        see_lists, "docs/ARCHITECTURE.md", r"^### A family of the invariant$", "### A family",
+        "there is no list 'A family of the invariant'"),
+    "a file that denies what reaches it": (
+        see_denied, "crates/ilk_solver/specs/Answered.antt", r"\A.*",
+        "-- Only private contracts and proofs need this file: what a search promises.",
+        "ilk_solver/specs/Answered.antt says that no public contract cites it, and ilk_"),
+    "a private call that is handed on": (
+        see_denied, "crates/ilk_solver/src/lib.rt", r"^pub use solver::Solver;$",
+        r"\g<0>\npub use search::Search;", "ilk_solver/specs/Learned.antt says that no public contract"),
+    "a requirement without its row": (
+        see_requirements, "docs/TRACEABILITY.md", r"^\| N4 \|.*\n", "", "the requirements: ['N4'] left out"),
+    "a new requirement": (
+        see_requirements, "docs/MODEL.md", r"^(\| V9 )(\|.*\n)", r"\1\2| V10 \2",
+        "the requirements: ['V10'] left out"),
+    "a definition that isn't that of its requirement": (
+        see_requirements, "docs/TRACEABILITY.md", r"^(\| N2 \| \[`)is_named_before", r"\1stands_alone",
+        "N2, the definitions"),
+    "a test that doesn't speak of its requirement": (
+        see_requirements, "docs/TRACEABILITY.md", r"^(\| R8 \|.*)routes\.cases\]\(../tests/cases/routes\.cases",
+        r"\1words.cases](../tests/cases/words.cases", "R8: words.cases doesn't speak of it"),
+    "a wrong body that isn't there": (
+        see_links, "docs/TRACEABILITY.md", r"wrong-bodies/n2_left_out\.edit", "wrong-bodies/n2_out.edit",
+        "n2_out.edit: it isn't there"),
+    "a status renamed": (
+        see_commands, "crates/*/specs/Status.antt", r"^code Spent", "code UsedUp", "the statuses"),
+}
+
+
+def self_check():
+    """The faults of this check itself: changes that aren't refused for their own reason."""
+    seen = Seen()
+    with tempfile.TemporaryDirectory(prefix="irv-docs-") as folder:
+        copy = Path(folder) / "irv"
+        shutil.copytree(TOP, copy, ignore=shutil.ignore_patterns("out", ".git", "__pycache__"))
+        for name, (check, place, pattern, replacement, reason) in CHANGES.items():
+            path = next(copy.glob(place))
+            text = read(path)
+            changed = re.sub(pattern, replacement, text, flags=re.M)
+            path.write_text(changed, encoding="utf-8")
+            faults = see_all(copy, [check]).faults
+            path.write_text(text, encoding="utf-8")
+            seen.ask(changed != text, f"{name}: there is nothing to change")
+            seen.ask(any(reason in fault for fault in faults), f"{name} isn't refused: {faults}")
+            seen.ask(not any(reason in fault for fault in see_all(copy, [check]).faults),
+                     f"{name} is refused where there is none")
+    return seen
+
+
+def main(words):
+    """Asks all; answers the exit status."""
+    if words not in ([], ["--self-check"]):
+        print("usage: tests/docs [--self-check]", file=sys.stderr)
+        return 2
+    seen = self_check() if words else see_all(TOP)
+    for fault in seen.faults:
+        print(f"FAILED {fault}")
+    print(f"{seen.passed} passed, {len(seen.faults)} failed")
+    return 1 if seen.faults else 0

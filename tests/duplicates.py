@@ -1,0 +1,208 @@
+"""Sees that nothing new stands twice: equal bodies of functions, equal contracts of those that are no
+methods, equal statements of lemmas, equal definitions.
+
+    tests/twice                 over the sources as they stand
+    tests/twice --write         takes out of tests/twice.list what stands twice no more; it adds nothing
+    tests/twice --self-check    sees that it finds what was planted, and nothing else
+
+Two bodies, contracts, statements or definitions are equal where their texts are, but for white space, remarks and
+the names that they declare (`lib/sources.py`). What was found when this check was made is in
+tests/twice.list, a line for each, which begins with the reason why it may stay:
+
+- `debt`: it should stand once, and it waits until one of the two crates is changed anyway;
+- `example`: a worked example that is read by itself, with all that it is about;
+- `apart`: the two mean different things, or must not share what they stand on.
+
+That list may only get shorter. A finding that isn't in it fails, and so does a line of it that is no
+longer so. The last line is `N passed, M failed`.
+"""
+
+import sys
+from collections import defaultdict
+from pathlib import Path
+
+from tests.support import sources
+from irvtools.paths import TOP
+
+LIST = TOP / "tests/twice.list"
+REASONS = ("debt", "example", "apart")
+
+
+def found_twice(texts):
+    """What stands more than once in these files: a line for each, in order."""
+    places = defaultdict(list)
+    for item in sources.items(texts):
+        places[item.kind, item.text].append(f"{item.file}:{item.name}")
+    return sorted(f"{kind} {' '.join(sorted(found))}" for (kind, _), found in places.items() if len(found) > 1)
+
+
+def listed(text):
+    """The lines of the list: each finding, with its reason."""
+    lines = (line.split(" ", 1) for line in text.splitlines() if line and not line.startswith("#"))
+    return {finding: reason for reason, finding in lines}
+
+
+def faults_of(found, allowed):
+    """What is wrong where so much was found and so much may stay."""
+    faults = [f"stands twice: {finding}" for finding in found if finding not in allowed]
+    faults += [f"the list has what stands twice no more (tests/twice --write): {finding}"
+               for finding in allowed if finding not in found]
+    return faults + [f"{reason!r} is no reason: {finding}" for finding, reason in allowed.items()
+                     if reason not in REASONS]
+
+
+def still(text, found):
+    """The list without the lines that are no longer so."""
+    return "".join(line + "\n" for line in text.splitlines()
+                   if not line or line.startswith("#") or line.split(" ", 1)[1] in found)
+
+
+# Files in which some things stand twice, and what is to be found in them.
+PLANTED = {
+    "crates/a/src/one.rt": """\
+// A line.
+fn first(a: u64) -> u64
+    ensures { result ≡ a }
+{
+    // the sum
+    let sum = a + some_other_number(a);
+    let twice = sum + sum;
+    twice - some_other_number(a)
+}
+
+fn short() {
+    let a = 1;
+}
+
+fn sum(a: u64) -> u64
+    ensures { result ≡ a + some_other_number_of_this_crate }
+{
+    some_other_number(a)
+}
+""",
+    "crates/b/src/two.rt": """\
+// Another line.
+pub fn other(a: u64) -> u64
+    // as it is
+    ensures { result ≡ a + some_other_number_of_this_crate }
+{
+    a
+}
+
+impl Second {
+    fn method(a: u64) -> u64
+        ensures { result ≡ a + some_other_number_of_this_crate }
+    {
+        a
+    }
+
+    pub fn second(&self, a: u64) -> u64 {
+        let sum = a + some_other_number(a);
+        let twice = sum + sum;
+        twice - some_other_number(a)
+    }
+
+    pub fn third(&self, a: u64) -> u64 {
+        let sum = a + some_other_number(a);
+        let twice = sum + sum;
+        twice + some_other_number(a)
+    }
+}
+""",
+    "crates/a/proofs/One.antt": """\
+use Rattle.std.proofs.Common.{◌≡◌, refl}
+
+-- a law
+pub first-law : (a b : Number) → sum a b ≡ sum b a
+first-law zero b = refl
+first-law (suc a) b = ap (λ x. suc x) (first-law a b)
+
+module _ (p : Plant) (sound : IsSound p) where
+  within : (x : Number) → has_section x p.sections ≡ true
+  within x = sound.within x
+""",
+    "crates/b/proofs/Two.antt": """\
+pub second-law : (a b : Number)
+    → sum a b ≡ sum b a
+second-law a b = refl
+
+module _ (p : Plant) where
+  within : (x : Number) → has_section x p.sections ≡ true
+  within x = cc
+
+pub other-law : (a b : Number) → sum a b ≡ product b a
+other-law a b = refl
+""",
+    "crates/a/specs/One.antt": """\
+abbrev pub doubled : List Number → List Number
+doubled [] = []
+doubled (x ∷ xs) = x ∷ x ∷ doubled xs
+""",
+    "crates/b/specs/Two.antt": """\
+abbrev pub repeated : List Number → List Number
+repeated [] = []
+repeated (x ∷ xs) = x ∷ x ∷ repeated xs
+
+abbrev pub other : List Number → List Number
+other [] = []
+other (x ∷ xs) = x ∷ other xs
+""",
+    "tools/one.py": '''\
+def first(rows):
+    """What is said of it."""
+    found = [row for row in rows if row.startswith("a line") and not row.endswith("an end")]
+    return sorted(set(found)) + [row for row in rows if row not in found]
+''',
+    "tests/two": '''\
+class Second:
+    def second(rows):
+        found = [row for row in rows if row.startswith("a line") and not row.endswith("an end")]
+        return sorted(set(found)) + [row for row in rows if row not in found]
+
+    def third(rows, more):
+        found = [row for row in rows if row.startswith("a line") and not row.endswith("an end")]
+        return sorted(set(found)) + [row for row in rows if row not in found]
+''',
+}
+WANTED = [
+    "body crates/a/src/one.rt:first crates/b/src/two.rt:second",
+    "contract crates/a/src/one.rt:sum crates/b/src/two.rt:other",
+    "definition crates/a/specs/One.antt:doubled crates/b/specs/Two.antt:repeated",
+    "python tests/two:second tools/one.py:first",
+    "statement crates/a/proofs/One.antt:first-law crates/b/proofs/Two.antt:second-law",
+]
+
+
+def self_check():
+    """Sees that what was planted is found, and how a list is held against it."""
+    found = found_twice(PLANTED)
+    assert found == WANTED, found
+    text = "# remarks\n" + "".join(f"debt {finding}\n" for finding in WANTED)
+    assert faults_of(found, listed(text)) == []
+    less = listed(text.replace(f"debt {WANTED[0]}\n", ""))
+    assert faults_of(found, less) == [f"stands twice: {WANTED[0]}"]
+    gone = faults_of(WANTED[1:], listed(text))
+    assert len(gone) == 1 and gone[0].endswith(WANTED[0]) and "no more" in gone[0], gone
+    assert still(text, WANTED[1:]) == text.replace(f"debt {WANTED[0]}\n", "")
+    assert still(text, WANTED + ["python a:b c:d"]) == text
+    assert len(faults_of(found, listed(text.replace("debt body", "so body")))) == 1
+    print("1 passed, 0 failed")
+
+
+def main(words):
+    """Takes the command line; answers the exit status."""
+    if words == ["--self-check"]:
+        self_check()
+        return 0
+    if words not in ([], ["--write"]):
+        print(__doc__, file=sys.stderr)
+        return 2
+    found, text = found_twice(sources.texts_of(TOP)), LIST.read_text(encoding="utf-8")
+    if words:
+        text = still(text, found)
+        LIST.write_text(text, encoding="utf-8")
+    faults = faults_of(found, listed(text))
+    for fault in faults:
+        print(f"tests/twice: {fault}")
+    print(f"{len(found) - sum('stands twice: ' in it for it in faults)} passed, {len(faults)} failed")
+    return 1 if faults or not found else 0

@@ -1,0 +1,212 @@
+"""Trials of the hunt: what it finds, what it must not find, and that its processes end."""
+
+import json
+import os
+import signal
+import subprocess
+import sys
+import time
+from pathlib import Path
+
+from irvtools.generators import configurations
+from irvtools.model import events
+from tests.support import fifteen_section_line
+from irvtools.calls.program import Program
+from irvtools.search.parallel_search import Hunters
+from irvtools.search.random_search import Hunt
+from irvtools.model.plant import Plant
+from irvtools.search.run_shortening import readable
+from irvtools.model.bitset_events import Facts, Simulation, to_hazard
+from irvtools.model.state import ROUTE_WORDS
+from irvtools.paths import TOP
+
+ENDED = 60              # seconds after which a process that has to end is left over
+# what starts this in the background may have it ignore SIGINT, which goes on to what is called
+PARENT = """
+import signal, sys
+signal.signal(signal.SIGINT, signal.default_int_handler)
+sys.path[:0] = {paths!r}
+import line
+from hunters import Hunters
+from plant import Plant
+hunters = Hunters(Plant(line.right()), count=3)
+hunters.start(600)
+print(*(process.pid for process in hunters.processes.values()), flush=True)
+hunters.wait(600)
+"""
+
+
+def left_out(plant, run):
+    """The places of a run at which an event can be left out, with those that aren't enabled without
+    it: by the model that draws."""
+    for place in range(len(run)):
+        state = None
+        trial = run[:place] + run[place + 1:]
+        state = events.State(plant)
+        if any(events.apply(plant, state, event) and events.hazard(plant, state) for event in trial):
+            yield place
+
+
+def run_faults(plant, run):
+    """What is wrong with a run that was found."""
+    states = events.replayed(plant, run)
+    if states is None or events.hazard(plant, states[-1]) is None:
+        yield "what was found is no run to a hazard"
+    yield from (f"event {place + 1} of {len(run)} can be left out" for place in left_out(plant, run))
+
+
+def trial_hunt(_, is_long):
+    """The hunt finds a hazard on a table with a fault that makes one possible, and no event of what it
+    found can be left out."""
+    for name, (_, is_possible, _) in fifteen_section_line.FAULTS.items():
+        if not is_possible:
+            continue
+        plant = Plant(fifteen_section_line.with_fault(name))
+        for seed in range(1, 9 if is_long else 2):
+            run = Hunt(plant, seed).for_hazard(600, 6000)
+            if run is None:
+                yield f"{name}: nothing found with the seed {seed}"
+            else:
+                yield from (f"{name}: {fault}" for fault in run_faults(plant, run))
+
+
+def trial_hunt_cancel(_, __):
+    """A hazard that needs a route to be cancelled after it was allocated is found."""
+    # h commands P to minus, and no train can come to its source; f doesn't list P
+    plant = Plant(json.loads(configurations.plant_text([
+        "linear a . P . aU", "point P up a b c", "linear b P . bD .", "linear c P d cD .",
+        "linear d c . dD .", "route f from aU to . path P b",
+        "route h from cD to . path P a points P=minus"])))
+    for seed in (1, 2, 3):
+        run = Hunt(plant, seed, [0]).for_hazard(600, 2000)
+        if run is None:
+            yield f"nothing found with the seed {seed}"
+            continue
+        yield from run_faults(plant, run)
+        if ("cancel", 1) not in run:
+            yield f"{run} comes to a hazard without a cancel"
+
+
+def trial_hunt_far(_, __):
+    """A hazard ten routes away from where trains come in is found within some runs: in the middle of
+    nine stations in a row, a route lists a point wrongly."""
+    document = json.loads(configurations.made("stations", "9"))
+    fifteen_section_line.lists(document, "s5r2", "p5", "plus")
+    plant = Plant(document)
+    for seed in (1, 2, 3):
+        run = Hunt(plant, seed, [plant.route_named["s5r2"]]).for_hazard(600, 60)
+        if run is None:
+            yield f"nothing found with the seed {seed}"
+        else:
+            yield from run_faults(plant, run)
+
+
+def trial_hunt_right(_, is_long):
+    """The hunt finds nothing on tables that break no rule, or one that safety doesn't rest on."""
+    found = {"line": fifteen_section_line.right(), "stations": json.loads(configurations.made("stations", "3")),
+             "throat": json.loads((TOP / "examples/terminus-throat.json").read_text())}
+    found.update({name: fifteen_section_line.with_fault(name) for name, fault in fifteen_section_line.FAULTS.items() if not fault[1]})
+    for name, document in found.items():
+        hunt = Hunt(Plant(document))
+        while hunt.events < (200000 if is_long else 8000):
+            if hunt.for_hazard(600, hunt.runs + 20) is not None:
+                yield f"{name}: a run to a hazard"
+                break
+
+
+def trial_shortening(_, __):
+    """Events that do nothing for the hazard are left out of a run, wherever they stand."""
+    plant = Plant(fifteen_section_line.with_fault("facing-point-wrong"))
+    run = Hunt(plant, 2).for_hazard(600)
+    routes = {number for word, number in run if word in ROUTE_WORDS}
+    borders = {number for word, number in run if word == "enter"}
+    idle = [(word, r) for r in range(len(plant.routes)) if r not in routes
+            for word in ("mark", "cancel", "mark")]
+    idle += [("enter", x) for x in plant.inward if x not in borders]
+    padded = run[:-1]
+    for place, event in enumerate(idle):
+        padded.insert(place * 7 % len(run), event)
+    padded.append(run[-1])
+    longer = to_hazard(Simulation(Facts(plant)), padded)
+    if longer is None or len(longer) < len(run) + 8:
+        yield "nothing was put in"
+    elif len(readable(Facts(plant), longer, 60)) > len(run):
+        yield f"{len(run)} events became {len(longer)}, and aren't shortened again"
+
+
+def trial_hunters(_, __):
+    """Several hunts at once find what one finds, and end with the first run, with their time, and when
+    they are stopped."""
+    plant = Plant(fifteen_section_line.with_fault("facing-point-wrong"))
+    with Hunters(plant, count=3) as hunters:
+        hunters.start(600)
+        run = hunters.wait(600)
+        if run is None or not hunters.is_over or hunters.found_by not in (1, 2, 3):
+            yield f"{run}, over: {hunters.is_over}, found by {hunters.found_by}"
+        else:
+            yield from run_faults(plant, run)
+            if Hunt(plant, hunters.found_by).for_hazard(600) != run:
+                yield "the seed that found it doesn't find it again"
+    right = Plant(fifteen_section_line.right())
+    with Hunters(right, count=2) as hunters:
+        hunters.start(2)
+        if hunters.wait(600) is not None or not hunters.is_over or not hunters.events:
+            yield f"over: {hunters.is_over}, {hunters.events} events"
+    with Hunters(right, count=2) as hunters:
+        hunters.start(600)
+        if hunters.poll() is not None or hunters.is_over:
+            yield "a hunt over a table that breaks no rule is over at once"
+        pids = [process.pid for process in hunters.processes.values()]
+    yield from (f"process {pid} is left after its hunters were stopped" for pid in alive(pids))
+
+
+def trial_hunters_end(_, __):
+    """The processes of a hunt end with the one that started them, however that ends."""
+    paths = [path for path in sys.path if path.startswith(str(TOP))]
+    for number in (signal.SIGINT, signal.SIGTERM, signal.SIGKILL):
+        parent = subprocess.Popen([sys.executable, "-B", "-c", PARENT.format(paths=paths)],
+                                  stdout=subprocess.PIPE, stderr=subprocess.DEVNULL)
+        pids = [int(word) for word in parent.stdout.readline().split()]
+        parent.send_signal(number)
+        parent.wait()
+        parent.stdout.close()
+        end = time.monotonic() + ENDED
+        while alive(pids) and time.monotonic() < end:
+            time.sleep(0.05)
+        if len(pids) != 3:
+            yield f"{len(pids)} processes were started"
+        yield from (f"process {pid} is left after {number.name}" for pid in alive(pids))
+
+
+def alive(pids):
+    """Those of some processes that haven't ended."""
+    found = []
+    for pid in pids:
+        try:
+            os.kill(pid, 0)
+            words = Path(f"/proc/{pid}/stat").read_text(encoding="ascii").rpartition(")")[2].split()
+            found += [pid] if words[0] != "Z" else []
+        except OSError:
+            pass
+    return found
+
+
+def trial_hunt_alone(program, _):
+    """tools/hunt prints a run that replay answers with a hazard."""
+    given = json.dumps(fifteen_section_line.with_fault("border-without-board")).encode()
+    done = subprocess.run([TOP / "tools/hunt", "--program", program, "--seconds", "20"], input=given,
+                          capture_output=True, check=False)
+    if done.returncode != 0:
+        yield f"status {done.returncode}: {done.stderr.decode()}"
+    said = Program(program, given).replay("free", done.stdout.decode()).said
+    if not said.startswith("hazard "):
+        yield f"replay says {said!r} of the printed run"
+    for given, status in ((b"{", 2), (b'{"version":1,"sections":[],"routes":[]}', 2)):
+        done = subprocess.run([TOP / "tools/hunt", "--program", program], input=given,
+                              capture_output=True, check=False)
+        if done.returncode != status:
+            yield f"{given}: status {done.returncode}"
+
+
+TRIALS = [trial_hunt, trial_hunt_cancel, trial_hunt_far, trial_hunt_right, trial_shortening,
+          trial_hunters, trial_hunters_end, trial_hunt_alone]

@@ -1,0 +1,65 @@
+"""Trials of the track plan: its names, and that a plant has one plan."""
+
+import json
+
+from irvtools.generators import configurations
+from irvtools.rules import broken_rules
+from irvtools.trackplan.drawing import Drawing
+from irvtools.trackplan.layout import CHARACTER
+from irvtools.model.plant import Plant
+from tests.support.report_plants import plants
+from tests.html.rule_sentence_tests import cases
+
+
+def texts_of(drawing):
+    """The names in each strip: name, left, right, line."""
+    labels = list(drawing.labels())
+    for strip in drawing.strips:
+        shown = []
+        for text in drawing.labels_in(strip, labels):
+            x, y = (int(text.split(f'{key}="')[1].split('"')[0]) for key in ("x", "y"))
+            name = text.split(">")[1].split("<")[0]
+            shown.append((name, x, x + len(name) * CHARACTER, y))
+        yield strip, shown
+
+
+def plan_faults(name, drawing):
+    """Names that lie on each other or leave their strip; names that stand nowhere."""
+    everywhere = set()
+    for (left, _, width, _), shown in texts_of(drawing):
+        everywhere |= {text[0] for text in shown}
+        for place, (word, begin, end, y) in enumerate(shown):
+            if begin < left - 1 or end > left + width + 1:
+                yield f"{name}: {word} leaves its strip"
+            for other, first, last, line_ in shown[:place]:
+                if abs(y - line_) < 10 and begin < last and first < end:
+                    yield f"{name}: {word} lies on {other}"
+    wanted = {one.name for one in drawing.plant.sections + drawing.plant.boards}
+    yield from (f"{name}: {word} isn't shown" for word in sorted(wanted - everywhere))
+
+
+def trial_plans(_, is_long):
+    """Plans: no name lies on another or is cut, and a plant has one plan."""
+    found = plants()
+    for count in (1, 2, 5, 16, *((51,) if is_long else ())):
+        found[f"stations {count}"] = configurations.made("stations", str(count))
+    for name, given in found.items():
+        first, second = (Drawing(Plant(json.loads(given))) for _ in range(2))
+        yield from plan_faults(name, first)
+        if first.plan() != second.plan() or first.definitions() != second.definitions():
+            yield f"{name}: two plans differ"
+
+
+def trial_broken_plans(_, __):
+    """Networks that break rules have a plan too."""
+    for (file, name), case in cases().items():
+        lines = case.stdout.decode().splitlines()
+        if file == "network" and lines and lines[0].startswith("refused N"):
+            drawing = Drawing(Plant(json.loads(case.conf)))
+            for refusal in lines:
+                plan = drawing.plan(broken_rules.where(drawing.plant, *broken_rules.read_line(refusal)))
+                if "nan" in plan or "inf" in plan:
+                    yield f"{name}: no place"
+
+
+TRIALS = [trial_plans, trial_broken_plans]

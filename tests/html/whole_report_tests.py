@@ -1,0 +1,167 @@
+"""Trials of whole pages: their form, their words and files, what they say where the program answers nothing or
+what isn't so, and how they look in a browser and on paper."""
+
+import json
+import subprocess
+import tempfile
+import time
+from pathlib import Path
+
+from tests.support import browser
+from irvtools.generators import configurations
+from tests.support import fake_program
+from irvtools.calls import provenance
+from tests.support import largest_configuration
+from tests.support import fifteen_section_line
+from tests.support import markup_check
+from irvtools.calls.program import Program
+from tests.support.html_reports import TOP, page
+from tests.support.report_plants import plants
+from irvtools.html.run_frames import MOST_PICTURED
+
+MOST_SHEETS = 6         # of paper for a station
+SHEET = "<h2>The table of routes"
+# words of the page, and those of verify that they give; the last is the file of the certificate
+WORDS = (
+    (("a.html",), "--columns strict --cert a.cert"),
+    (("b.html", "--cert", "c.cert"), "--columns strict --cert c.cert"),
+    (("d.html", "--cert=e.cert", "--columns=free", "--depth", "2"), "--columns free --depth 2 --cert e.cert"),
+    (("--columns", "free", "f.html"), "--columns free --cert f.cert"))
+
+
+def trial_premises(_, __):
+    """The premises are found by their numbers under their heading."""
+    document = ("# A page\n1. no premise\n## The premises\nwords\n\n1. **It `is` so.** More.\n"
+                "2. [This](there.md) too\n\n## What else\n\n3. nothing\n")
+    found = provenance.premises_in(document)
+    if found != [("1", "It is so."), ("2", "This too")]:
+        yield f"{found}"
+    if provenance.QUALIFICATION.exists() and not provenance.premises():
+        yield "docs/QUALIFICATION.md has no premises that are found"
+
+
+def trial_pages(program, is_long):
+    """Pages are well-formed, open nothing from elsewhere, and say what irv answered."""
+    chosen = ["two-sections", "line-with-boards", "platforms-wrong-position", "facing-point-wrong"]
+    found = plants()
+    for name in (found if is_long else chosen):
+        text, said = page(program, found[name], "--wait", "20" if is_long else "5", "--hunt", "4")
+        yield from (f"{name}: {fault}" for fault in markup_check.faults(text))
+        check = Program(program, found[name]).ask(["check"], 60).line
+        for words in (check, "Track plan", "For the safety case", "isn't proved"):
+            if words not in text:
+                yield f"{name}: {words!r} isn't on the page; {said}"
+        if "Here the page stops" in text:
+            yield f"{name}: the page stops"
+
+
+def trial_unreadable(program, _):
+    """A configuration that isn't JSON, or has another form, makes a page too, and names are text."""
+    name = '<img src=x onerror=alert(1)>&"'
+    wrong = fifteen_section_line.right()
+    wrong["sections"][0]["name"] = name
+    for given, words in ((b'{"version": 1,\n "sections": [}', "Line 2, column 15"), (b"", "refused F2"),
+                         (b"\xff", "UTF-8"), (b"<script>alert(1)</script>", "Line 1, column 1"),
+                         (json.dumps(wrong).encode(), "&lt;img src=x"), (b"[]", "an array"),
+                         (b'{"version": 1, "sections": [{"\\ud800": 1}], "routes": []}', "refused F2"),
+                         (b'{"version": 3, "sections": [], "routes": []}', "should be 1 or 2")):
+        text, said = page(program, given)
+        yield from (f"{given[:40]}: {fault}" for fault in markup_check.faults(text))
+        if words not in text or "refused F" not in text:
+            yield f"{given[:40]}: {words!r} isn't on the page; {said}"
+
+
+def trial_words(program, _):
+    """The words of the page, the file of the certificate, and what the page tells of files."""
+    given = plants()["line-with-boards"]
+    with tempfile.TemporaryDirectory(prefix="irv-page-test-") as room:
+        def called(*words):
+            return subprocess.run([TOP / "tools/page", "--program", program, *words], input=given, cwd=room,
+                                  capture_output=True, check=False)
+        for words in ((), ("--wait",), ("a.html", "--wait", "x"), ("a.html", "--columns", "loose"),
+                      ("a.html", "b.html"), ("no/folder.html",)):
+            if called(*words).returncode != 125 or list(Path(room).iterdir()):
+                yield f"{words}: another status than 125, or something was written"
+        for words, asked in WORDS:
+            done = called(*words)
+            out = Path(room, next(word for word in words if word.endswith(".html")))
+            text = out.read_text(encoding="utf-8") if not done.returncode else ""
+            for wanted in (f"irv verify {asked}</code> <b><code>safe k=1<",
+                           provenance.sum_of_file(Path(room, asked.split(" ")[-1])),
+                           provenance.sum_of(given), provenance.sum_of_file(program)):
+                if wanted not in text:
+                    yield f"{words}: {wanted} isn't on the page"
+
+
+def trial_fakes(_, __):
+    """A program that is slow, silent, or says what isn't so: the page says it in a plain word."""
+    given = json.dumps(fifteen_section_line.right()).encode()
+    clean = {"says": "clean\n"}
+    unsafe = {"says": "unsafe steps=1 hazard=two U1\nrun 1\nstart\nenter U1\nend\n", "status": 1}
+    quiet = {"says": "no hazard\n", "status": 6}
+    with tempfile.TemporaryDirectory(prefix="irv-fake-") as room:
+        for answers, wanted in (
+                ({"check": clean, "verify": {"sleeps": 5}, "replay": quiet}, "wasn&#x27;t waited for"),
+                ({"check": clean, "verify": {"status": 10}, "replay": quiet}, "couldn&#x27;t answer"),
+                ({"check": {"status": 139}}, "the page ends here"),
+                ({"check": clean, "verify": unsafe, "replay": {"says": "hazard two U1\n"}},
+                 "Here the page stops")):
+            program = fake_program.program(room, answers)
+            text, said = page(program, given, "--wait", "1", "--hunt", "1")
+            if wanted not in text:
+                yield f"{answers}: {wanted!r} isn't on the page; {said}"
+            yield from markup_check.faults(text)
+    text, said = page(Path(room, "nothing"), given)
+    if text or "there is no program" not in said:
+        yield f"without a program: {said}"
+
+
+def trial_browser(program, is_long):
+    """In a browser: nothing on its console, names lie in their frames and not on each other."""
+    found = browser.find()
+    if found is None:
+        print("no browser here: pages aren't looked at in one")
+        return
+    chosen = plants() if is_long else {"facing-point-wrong": plants()["facing-point-wrong"]}
+    if is_long:
+        chosen["stations 16"] = configurations.made("stations", "16")
+    for name, given in chosen.items():
+        text, _ = page(program, given, "--wait", "5", "--hunt", "4")
+        yield from (f"{name}: {fault}" for fault in browser.faults(found, text))
+    yield from paper_faults(found, program)
+
+
+def paper_faults(found, program):
+    """What is wrong with a station's page on paper: its plan, rules, verdict, run to a hazard and safety
+    case take more than six pages, the table of routes isn't on pages of its own in their width, or a run
+    that uses a route is printed."""
+    text, _ = page(program, plants()["facing-point-wrong"], "--wait", "5")
+    begin, _, rest = text.partition(SHEET)
+    sheet, _, rest = rest.partition("<h2>What each route is good for")
+    end = rest[rest.index("<h2>For the safety case"):]
+    pages = browser.sheets(found, begin + end)
+    if not 2 <= len(pages) <= MOST_SHEETS or any(width > height for width, height in pages):
+        yield f"on paper: {pages}"
+    wide = [width > height for width, height in browser.sheets(found, begin + SHEET + sheet + end)]
+    if sum(wide) != 1 or len(wide) < len(pages) + 1:
+        yield f"on paper with the table of routes: {wide}"
+    pictures = text.count('<div class="frame">')
+    if pictures != MOST_PICTURED + 1:
+        yield f"on paper: {pictures} pictures of a run"
+    if "<details open" in text or "details-content" in text:
+        yield "on paper: what is closed is printed too"
+
+
+def trial_largest(program, _):
+    """The page of a configuration of 4 MB and 256 sections comes within a minute, under 30 MB."""
+    begin = time.monotonic()
+    text, said = page(program, largest_configuration.given())
+    seconds = time.monotonic() - begin
+    print(f"the largest page: {seconds:.0f} s, {len(text) / 1e6:.1f} MB")
+    if seconds > 60 or len(text) > 30e6 or "For the safety case" not in text:
+        yield f"{seconds:.0f} s, {len(text)} bytes; {said}"
+    yield from markup_check.faults(text)
+
+
+TRIALS = [trial_premises, trial_pages, trial_words, trial_unreadable, trial_fakes, trial_browser]
+LONG_TRIALS = [trial_largest]

@@ -1,0 +1,165 @@
+"""Counts what is too wide or too long to be read, and sees that there is never more of it.
+
+    tests/walls                 over the sources as they stand
+    tests/walls --write         writes lower counts to tests/walls.counts; it writes no higher one
+    tests/walls --say           each such line and file, the worst first
+    tests/walls --self-check    sees that each kind is counted, and that a count that rises fails
+
+What is counted, for each crate, and for `tools/` and `tests/`:
+
+- `wide`: lines of clauses in the code over 100 columns;
+- `wider`: those of them over 120;
+- `proof-lines`: lines of `specs/` and `proofs/` over 250 columns;
+- `proofs`: files of proofs over 300 lines;
+- `files`: files of code over 300 lines.
+
+Imports and what `rt` writes by itself (`specs/declared/`) don't count. tests/walls.counts has what there
+was when this check was made, less what was mended since; what isn't in it is 0. A higher count fails,
+and so does a lower one until it is written down, so that it can't rise again. The last line is
+`N passed, M failed`.
+"""
+
+import re
+import sys
+from collections import Counter, defaultdict
+from pathlib import Path
+
+from tests.support import sources
+from irvtools.paths import TOP
+
+COUNTS = TOP / "tests/walls.counts"
+KINDS = ("wide", "wider", "proof-lines", "proofs", "files")
+CLAUSE_WIDTH, WIDEST_CLAUSE, PROOF_WIDTH, MOST_LINES = 100, 120, 250, 300
+CLAUSE = re.compile(r" *(?:requires|ensures|lends|invariant|ghost)\b(?! use).*\{")
+
+
+def place_of(file):
+    """Where a file is counted: its crate, or the folder at the top."""
+    parts = file.split("/")
+    return parts[1] if parts[0] == "crates" else parts[0]
+
+
+def clause_lines(lines):
+    """The numbers of the lines on which clauses stand, from the opening brace to its closing one."""
+    depth = 0
+    for number, line in enumerate(lines, 1):
+        if depth or CLAUSE.match(line):
+            yield number
+            depth = max(0, depth + line.count("{") - line.count("}"))
+
+
+def walls_of(file, text):
+    """What is too wide or too long in a file: its kind, the number of the line, how wide or long."""
+    lines = text.rstrip("\n").split("\n")
+    is_proof, is_code = "/proofs/" in file, not file.endswith(".antt")
+    if file.endswith(".rt"):
+        widths = [(number, len(lines[number - 1])) for number in clause_lines(lines)]
+        yield from (("wide", number, width) for number, width in widths if width > CLAUSE_WIDTH)
+        yield from (("wider", number, width) for number, width in widths if width > WIDEST_CLAUSE)
+    elif file.endswith(".antt"):
+        yield from (("proof-lines", number, len(line)) for number, line in enumerate(lines, 1)
+                    if len(line) > PROOF_WIDTH and not line.startswith("use "))
+    if len(lines) > MOST_LINES and (is_proof or is_code):
+        yield "proofs" if is_proof else "files", 1, len(lines)
+
+
+def all_walls(texts):
+    """All of them: where it is counted, its kind, its file, its line, and how wide or long it is."""
+    return [(place_of(file), kind, file, number, size) for file, text in texts.items()
+            if "/declared/" not in file for kind, number, size in walls_of(file, text)]
+
+
+def scripts_of(root):
+    """The files of code in other languages, by their paths from the top, with their texts."""
+    found = [path for folder in ("tools", "tests") for end in ("js", "bash")
+             for path in root.glob(f"{folder}/**/*.{end}")]
+    return {str(path.relative_to(root)): path.read_text(encoding="utf-8") for path in [*found, root / "irv"]}
+
+
+def counted(walls):
+    """How many there are of each kind at each place."""
+    return Counter((place, kind) for place, kind, *_ in walls)
+
+
+def read_counts(text):
+    """The counts that are written down."""
+    return Counter({(place, kind): int(number) for place, *rest in
+                    (line.split() for line in text.splitlines() if line and not line.startswith("#"))
+                    for kind, _, number in (it.partition("=") for it in rest)})
+
+
+def written(counts):
+    """The counts as they are written down: a line for each place."""
+    rows = defaultdict(list)
+    for place, kind in sorted(counts, key=lambda it: (it[0], KINDS.index(it[1]))):
+        if counts[place, kind]:
+            rows[place].append(f"{kind}={counts[place, kind]}")
+    return "# tests/walls says what is counted. These numbers may only fall.\n" + "".join(
+        f"{place} {' '.join(row)}\n" for place, row in rows.items())
+
+
+def faults_of(now, allowed):
+    """What is wrong where there is so much and there may be so much."""
+    for place, kind in sorted(set(now) | set(allowed)):
+        have, most = now[place, kind], allowed[place, kind]
+        if have > most:
+            yield f"{place}: {have} {kind}, where there were {most}"
+        elif have < most:
+            yield f"{place}: {have} {kind}, fewer than the {most} written down (tests/walls --write)"
+
+
+def lowered(now, allowed):
+    """The counts that are written down now: none rises."""
+    return Counter({key: min(now[key], allowed[key]) for key in allowed})
+
+
+def self_check():
+    """Sees that each kind is counted where it should be, and how counts are held against each other."""
+    clause = "    ensures same { " + "x" * 90 + " }"
+    texts = {
+        "crates/a/src/a.rt": "\n".join([
+            "fn f()", clause, "    ensures long {", "        " + "y" * 130, "    }", "    ensures short { a }", "{",
+            "    let z = \"" + "z" * 200 + "\";", "}", ""]),
+        "crates/a/specs/A.antt": "use " + "x" * 300 + "\nabbrev a = " + "x" * 300 + "\n",
+        "crates/a/proofs/A.antt": "short\n" * 301 + "b" * 251 + "\n" + "b" * 250 + "\n",
+        "crates/b/proofs/B.antt": "short\n" * 300,
+        "crates/b/src/b.rt": "a;\n" * 301,
+        "tools/c.py": "c\n" * 301,
+        "tests/d.py": "d\n" * 300,
+    }
+    wanted = {("a", "wide"): 2, ("a", "wider"): 1, ("a", "proof-lines"): 2, ("a", "proofs"): 1,
+              ("b", "files"): 1, ("tools", "files"): 1}
+    now = counted(all_walls(texts))
+    assert now == Counter(wanted), now
+    assert read_counts(written(now)) == now, written(now)
+    assert list(faults_of(now, now)) == []
+    for key in wanted:
+        less = Counter({**wanted, key: wanted[key] - 1})
+        assert len(list(faults_of(now, less))) == 1, key
+        assert lowered(now, less)[key] == wanted[key] - 1, key
+        assert len(list(faults_of(less, now))) == 1 and lowered(less, now) == less, key
+    print("1 passed, 0 failed")
+
+
+def main(words):
+    """Takes the command line; answers the exit status."""
+    if words == ["--self-check"]:
+        self_check()
+        return 0
+    if words not in ([], ["--write"], ["--say"]):
+        print(__doc__, file=sys.stderr)
+        return 2
+    walls = all_walls(sources.texts_of(TOP) | scripts_of(TOP))
+    if words == ["--say"]:
+        for _, kind, file, number, size in sorted(walls, key=lambda it: (KINDS.index(it[1]), -it[4])):
+            print(f"{kind} {size} {file}:{number}")
+        return 0
+    now, allowed = counted(walls), read_counts(COUNTS.read_text(encoding="utf-8"))
+    if words:
+        allowed = lowered(now, allowed)
+        COUNTS.write_text(written(allowed), encoding="utf-8")
+    faults = list(faults_of(now, allowed))
+    for fault in faults:
+        print(f"tests/walls: {fault}")
+    print(f"{len(set(now) | set(allowed)) - len(faults)} passed, {len(faults)} failed")
+    return 1 if faults or not walls else 0

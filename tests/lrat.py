@@ -1,0 +1,181 @@
+"""Has the certificates of the worked plants, written as LRAT, judged by a checker of LRAT.
+
+    tests/lrat PROGRAM         prints each failure, and at last `N passed, M failed`
+    tests/lrat --self-check    tries the checker alone, on refutations that were made by hand
+
+The plants are those of examples/ that are safe, and lines of 1, 2 and 4 made stations. `tools/lrat`
+writes their queries, and tests/lib/lrat.py judges each. Then a digit of a refutation is changed, one
+at a time, at places all over it: that has to be refused, or, in the rare case that the change leaves
+a refutation, to be what the checker of certificates says too. `tools/audit` is tried on the same
+certificates, as they are and with a hint changed.
+"""
+
+import subprocess
+import sys
+import tempfile
+from concurrent.futures import ThreadPoolExecutor
+from pathlib import Path
+
+
+from tests.support import case_files
+from irvtools.checkers import certificate
+from irvtools.generators import configurations
+from irvtools.checkers import dimacs
+from irvtools.checkers import lrat
+from irvtools.paths import TOP
+
+EXAMPLES = ("line-with-boards", "platforms", "station", "station-protected", "terminus-throat")
+STATIONS = (1, 2, 4)
+# of a refutation with many steps few changes are tried, since each is judged whole
+CHANGES, MOST_STEPS, FEWER_CHANGES = 12, 200, 2
+AT_ONCE = 4
+
+# every assignment of two variables breaks a clause
+CNF = "p cnf 2 4\n1 2 0\n1 -2 0\n-1 2 0\n-1 -2 0\n"
+BY_HAND = [
+    ("5 1 0 1 2 0|6 0 5 3 4 0", ""),
+    ("7 1 0 1 2 0|9 0 7 3 4 0", ""),
+    ("5 1 0 1 2 0|5 d 1 2 0|6 0 5 3 4 0", ""),
+    ("5 1 2 0 1 0|6 1 0 1 2 0|7 0 6 3 4 0", ""),
+    ("5 1 0 1 3 0|6 0 5 3 4 0", "neither unit nor false"),
+    ("5 1 0 1 1 2 0|6 0 5 3 4 0", "neither unit nor false"),
+    ("5 1 0 1 9 0|6 0 5 3 4 0", "no clause 9"),
+    ("5 1 0 1 0|6 0 5 3 4 0", "no false clause"),
+    ("5 1 0 0|6 0 5 3 4 0", "no false clause"),
+    ("5 1 0 1 2 0|6 0 3 4 0", "neither unit nor false"),
+    ("5 1 0 1 2 0|5 d 3 0|6 0 5 3 4 0", "no clause 3"),
+    ("4 1 0 1 2 0|6 0 4 3 4 0", "isn't greater"),
+    ("5 1 0 1 2 0|5 0 5 3 4 0", "isn't greater"),
+    ("5 1 0 1 2 0", "isn't derived"),
+    ("5 1 0 1 2|6 0 5 3 4 0", "no line"),
+    ("5 1 0 -1 2 0|6 0 5 3 4 0", "by resolution"),
+    ("", "isn't derived"),
+]
+
+
+def said_of(formula, proof):
+    """What the checker says of a refutation: nothing where it accepts."""
+    try:
+        lrat.check(formula, proof)
+        return ""
+    except lrat.LratError as fault:
+        return str(fault)
+
+
+def self_check():
+    """What the checker says wrongly of the refutations that were made by hand."""
+    for lines, wanted in BY_HAND:
+        said = said_of(CNF, "".join(f"{line}\n" for line in lines.split("|") if line))
+        if (wanted not in said) if wanted else said:
+            yield f"{lines}: wanted {wanted!r}, said {said!r}"
+
+
+def as_steps(proof):
+    """A refutation's lines as steps of a certificate."""
+    return [certificate.read_step(f"step {line.partition(' ')[2]}", number)
+            for number, line in enumerate(proof.splitlines(), 1)]
+
+
+def is_certified(formula, proof):
+    """Whether the checker of certificates accepts the refutation."""
+    try:
+        steps = as_steps(proof)
+        certificate.checked_steps("query", formula, steps, False)
+        return certificate.is_refuted(steps)
+    except certificate.CertificateError:
+        return False
+
+
+def changed(proof, count):
+    """The refutation with one digit changed, at so many places after the numbers of its lines."""
+    places, is_after = [], False
+    for place, character in enumerate(proof):
+        is_after = character != "\n" and (is_after or character == " ")
+        if is_after and character.isdigit():
+            places.append(place)
+    for place in places[::max(1, len(places) // count)]:
+        digit = int(proof[place]) % 9 + 1
+        yield f"{proof[:place]}{digit}{proof[place + 1:]}"
+
+
+def query_faults(path):
+    """What is wrong with a query that was written, and how many changes were tried and refused."""
+    formula, proof = path.read_text(), path.with_suffix(".lrat").read_text()
+    said = said_of(formula, proof)
+    if said:
+        return [f"{path.stem}: {said}"], 0, 0
+    count = CHANGES if proof.count("\n") <= MOST_STEPS else FEWER_CHANGES
+    faults, tried, refused, clauses = [], 0, 0, dimacs.read(path.read_bytes())
+    for other in changed(proof, count):
+        said = said_of(formula, other)
+        tried, refused = tried + 1, refused + bool(said)
+        if not said and not is_certified(clauses, other):
+            faults.append(f"{path.stem}: a refutation with a digit changed is accepted")
+    return faults, tried, refused
+
+
+def audit_faults(program, conf_file, cert):
+    """What `tools/audit` says wrongly of a certificate: it accepts it as it is, refuses it with its last
+    hint changed, and tells neither where there is no such file."""
+    text = cert.read_bytes()
+    place = text.rindex(b" 0\nend\n") - 1
+    digit = int(text[place:place + 1]) % 9 + 1
+    other, none = cert.with_name("other"), cert.with_name("none")
+    other.write_bytes(b"%s%d%s" % (text[:place], digit, text[place + 1:]))
+    trials = (cert, 0, b"accepted: safe "), (other, 1, b"refused: "), (none, 2, b"")
+    for file, wanted, beginning in trials:
+        done = subprocess.run([TOP / "tools/audit", "--program", program, conf_file, file],
+                              stdout=subprocess.PIPE, stderr=subprocess.DEVNULL)
+        if done.returncode != wanted or not done.stdout.startswith(beginning):
+            yield f"tools/audit of {file.name} ends with {done.returncode}: {done.stdout!r}"
+
+
+def plant_faults(program, plant):
+    """What is wrong with a plant's queries, how many there are, and how many changes of them were tried
+    and refused."""
+    with tempfile.TemporaryDirectory(prefix="irv-lrat-") as name:
+        folder = Path(name)
+        (folder / "conf").write_bytes(plant)
+        files = [folder / "conf", folder / "cert"]
+        calls = [[program, "verify", "--cert", folder / "cert"],
+                 [TOP / "tools/lrat", "--program", program, *files, folder / "queries"]]
+        for words in calls:
+            done = subprocess.run(words, input=plant, stdout=subprocess.PIPE, stderr=subprocess.STDOUT)
+            if done.returncode != 0:
+                return [f"{words[0]} ended with {done.returncode}: {done.stdout!r}"], 0, 0, 0
+        found = [query_faults(path) for path in sorted((folder / "queries").glob("*.cnf"))]
+        faults = list(audit_faults(program, *files))
+    faults += [fault for part, _, _ in found for fault in part]
+    return faults, len(found), sum(part[1] for part in found), sum(part[2] for part in found)
+
+
+def check_plants(program):
+    """Checks each plant; answers the exit status."""
+    plants = {name: (case_files.EXAMPLES / f"{name}.json").read_bytes() for name in EXAMPLES}
+    plants |= {f"stations {count}": configurations.made("stations", str(count)) for count in STATIONS}
+    failed = tried = refused = 0
+    with ThreadPoolExecutor(AT_ONCE) as pool:
+        found = pool.map(lambda plant: plant_faults(program, plant), plants.values())
+        for name, (faults, queries, changes, refusals) in zip(plants, found):
+            failed, tried, refused = failed + bool(faults), tried + changes, refused + refusals
+            for fault in faults:
+                print(f"FAILED {name}: {fault}")
+            print(f"{name}: {queries} queries")
+    well = 10 * refused >= 9 * tried
+    print(f"{refused} of {tried} changed digits are refused{'' if well else ', and that is too few'}")
+    print(f"{len(plants) - failed} passed, {failed} failed")
+    return 0 if well and not failed else 1
+
+
+def main(words):
+    """Takes the command line; answers the exit status."""
+    if len(words) != 1 or words[0].startswith("--") and words != ["--self-check"]:
+        print(__doc__, file=sys.stderr)
+        return 2
+    faults = list(self_check())
+    for fault in faults:
+        print(f"FAILED {fault}")
+    if words == ["--self-check"] or faults:
+        print(f"{len(BY_HAND) - len(faults)} passed, {len(faults)} failed")
+        return 1 if faults else 0
+    return check_plants(Path(words[0]).resolve())

@@ -1,0 +1,191 @@
+"""Tries what makes docs/SPEED.md and the short table of README.md, and sees that they were made of
+tools/speed.txt.
+
+    tests/speed       prints each failure, and at last `N passed, M failed`
+
+A measurement that was made up is read, and what stands in the tables and the picture is compared with
+what was worked out by hand; lines that tools/benchmark doesn't print are refused. Then the tables and the
+picture of the repository have to be those of tools/speed.txt. And the lines of tests/lib/double_track.py
+have to be those of tests/plants, or of as many sections, points and routes as their parts have.
+"""
+
+import json
+import sys
+import xml.etree.ElementTree
+from pathlib import Path
+
+
+from irvtools.generators import double_track
+from irvtools.performance import measurements
+from irvtools.performance import chart
+from irvtools.performance import tables
+from irvtools.paths import TOP
+
+MADE_UP = """\
+machine: A Processor, 2 processors, 8 GiB of memory
+day: 2020-02-29
+program: crates/irv/out/irv, sha256 0123
+solvers: cadical 1, minisat 2, picosat isn't there; ended after 50 seconds
+conflicts: 300000
+load: 0.1
+stations 1, 6 sections, 2 points, 8 routes: safe k=1; 0.09 s user, 2.26 s, 20 MiB
+    certificate of 746347 bytes, 1430 conflicts
+    hazard 0: 328 variables, 963 clauses, 0 conflicts; export 0.00 s 20 MiB; cadical unsat 0.25 s - conflicts; minisat unsat 0.50 s 0 conflicts; picosat -
+    step 1: 1573 variables, 5912 clauses, 1421 conflicts; export 0.00 s 20 MiB; cadical unsat 0.50 s 2711 conflicts; minisat over 50.00 s - conflicts; picosat -
+    audit: accepted k=1, 0.01 s 21 MiB; the yardstick: accepted, 0.02 s 22 MiB
+    rup, a text of 524679 bytes: refuted step 1, 0.17 s 23 MiB
+stations 2, 11 sections, 4 points, 16 routes: safe k=1; 1.50 s user, 2.26 s, 30 MiB
+    certificate of 1500000 bytes, 2000 conflicts
+    step 1: 1573 variables, 5912 clauses, 2000 conflicts; export 0.00 s 20 MiB; cadical unsat 12.34 s 2711 conflicts; minisat unsat 0.01 s 5 conflicts; picosat -
+    audit: accepted k=1, 0.01 s 20 MiB
+line 11L, 112 sections, 44 points, 176 routes: spent conflicts=100000; 123.45 s user, 130.00 s, 300 MiB
+load: 2.5
+"""
+ROWS = [
+    "| 1 made station | 6, 2, 8 | safe k=1 | 0.09 | 20 | 1430 | 0.75 | over 50.5 | - |",
+    "| 2 made stations | 11, 4, 16 | safe k=1 | 1.50 | 30 | 2000 | 12.3 | 0.01 | - |",
+    "| line 11L | 112, 44, 176 | spent conflicts=100000 | 123 | 300 | 0 | - | - | - |",
+    "| 1 made station | 0.7 | 0.01 | 21 | 0.5 | 0.17 | 23 |",
+    "| 2 made stations | 1.5 | 0.01 | 20 | - | - | - |",
+    "| line 11L | - | - | - | - | - | - |",
+]
+SHORT = """
+Seconds of a processor of the proved program, on A Processor, 2 processors, 8 GiB of memory:
+
+| line | sections, points, routes | answer | `verify`, s | MiB | `audit`, s | cadical, s | minisat, s |
+|---|---|---|---|---|---|---|---|
+| 1 made station | 6, 2, 8 | safe k=1 | 0.09 | 20 | 0.01 | 0.75 | over 50.5 |
+| line 11L | 112, 44, 176 | spent conflicts=100000 | 123 | 300 | - | - | - |
+
+"""
+SENTENCES = ["Measured on 2020-02-29: A Processor, 2 processors, 8 GiB of memory.", "The program was the proved one",
+             "`verify` was called with `--conflicts 300000`.", "ended after 50 seconds of a processor",
+             "before a beginning or an end: 0.1 to 2.5."]
+# another call's print behind it, and the sentences by which each is told then
+ANOTHER = """\
+machine: Another, 1 processors, 4 GiB of memory
+day: 2020-03-01
+program: crates/irv/out/irv, sha256 4567
+solvers: cadical 2, minisat 2, picosat isn't there; ended after 50 seconds
+load: 0.3
+line s, 14 sections, 8 points, 20 routes: safe k=1; 0.65 s user, 0.70 s, 16 MiB
+load: 0.3
+"""
+EACH = ["1 made station to line 11L, measured on 2020-02-29: A Processor, 2 processors, 8 GiB of memory.",
+        "line s, measured on 2020-03-01: Another, 1 processors, 4 GiB of memory.", "(sha256 0123)", "(sha256 4567)",
+        "cadical 1, minisat 2", "cadical 2, minisat 2", "end: 0.1 to 2.5.", "end: 0.3.",
+        "| line 11L | 112, 44, 176 | spent conflicts=100000 | 123 | 300 | 0 | - | - | - |",
+        "| line s | 14, 8, 20 | safe k=1 | 0.65 | 16 | 0 | - | - | - |"]
+# a change of the measurement, by what it is no longer one
+BAD = [("day: 2020-02-29\n", ""), ("    audit: accepted", "    audit accepted"), ("6 sections", "six sections"),
+       ("cadical unsat 0.25 s", "cadical maybe 0.25 s"), ("load: 2.5\n", "load: 2.5\nTraceback\n"),
+       ("load: 2.5\n", "load: 2.5\nmachine: Another\n")]
+# lines with their sections, points and routes, by the parts: of s 12, 8, 20, of b 18, 12, 40, of L 10, 4, 16
+LINES = {"s": (14, 8, 20), "b": (20, 12, 40), "L": (12, 4, 16), "11L": (112, 44, 176), "b2s3L": (74, 40, 128)}
+
+
+def table_faults():
+    """What is wrong in the tables of the made-up measurement."""
+    document = f"before\n{tables.BEGIN}old\n{tables.END}behind\n"
+    text = tables.renewed(document, measurements.Measured(MADE_UP))
+    lines = text.splitlines()
+    yield from (f"no row {row}" for row in ROWS if lines.count(row) != 1)
+    yield from (f"not said: {sentence}" for sentence in SENTENCES if sentence not in text)
+    if len([line for line in lines if line.startswith("| ")]) != len(ROWS) + 2:
+        yield "there are other rows"
+    if not text.startswith("before\n") or not text.endswith("behind\n") or "old" in text:
+        yield "not that part alone was made anew"
+    if tables.renewed(text, measurements.Measured(MADE_UP)) != text:
+        yield "made again, it is another text"
+    if tables.short(measurements.Measured(MADE_UP), ("stations 1", "line 11L")) != SHORT:
+        yield "the short table is another"
+    unproved = measurements.Measured(MADE_UP.replace("program: crates/irv/out/irv", "program: irv-unproved"))
+    if "**The program wasn't proved**" not in tables.renewed(document, unproved) or "wasn't proved" in text:
+        yield "it isn't said which program is proved"
+
+
+def several_faults():
+    """What is wrong where several calls were printed one after another."""
+    several = measurements.Measured(MADE_UP + ANOTHER)
+    text = tables.part(several)
+    yield from (f"not said of several: {sentence}" for sentence in EACH if text.count(sentence) != 1)
+    if "on A Processor, 2 processors, 8 GiB of memory and Another, 1 processors" not in tables.short(several):
+        yield "the short table doesn't name both machines"
+    half = measurements.Measured(MADE_UP + ANOTHER.replace("program: crates/irv/out/irv", "program: irv-unproved"))
+    if tables.part(half).count("**The program wasn't proved**") != 1 or "wasn't proved" not in tables.short(half):
+        yield "it isn't said which call's program is proved"
+
+
+def refusal_faults():
+    """Which texts are read that aren't measurements."""
+    for old, new in BAD:
+        try:
+            measurements.Measured(MADE_UP.replace(old, new, 1))
+            yield f"{new!r} is read in place of {old!r}"
+        except measurements.NotMeasured:
+            pass
+    try:
+        tables.renewed("no marks", measurements.Measured(MADE_UP))
+        yield "a document without marks is written"
+    except tables.NoPlace:
+        pass
+
+
+def picture_faults():
+    """What is wrong in the picture of the made-up measurement."""
+    drawn = chart.Picture(measurements.Measured(MADE_UP).plants)
+    root = xml.etree.ElementTree.fromstring(drawn.drawn())
+    titles = sorted(title.text for title in root.iter("{http://www.w3.org/2000/svg}title"))
+    wanted = ["line 11L, irv verify: 123.45 s", "stations 1, cadical: 0.75 s", "stations 1, irv verify: 0.09 s",
+              "stations 1, minisat: over 50.50 s", "stations 2, cadical: 12.34 s", "stations 2, irv verify: 1.50 s",
+              "stations 2, minisat: 0.01 s"]
+    if titles != wanted:
+        yield f"the marks are {titles}"
+    plants = {plant.name: plant for plant in drawn.plants}
+    one, two, line = (drawn.place(plants[name], "irv verify") for name in ("stations 1", "stations 2", "line 11L"))
+    if not (one[0] < two[0] < line[0] and one[1] > two[1] > line[1]):
+        yield f"more isn't farther to the right, or not higher: {one}, {two}, {line}"
+    scale = chart.Scale([1, 600], 0, 300)
+    if [round(scale.at(number)) for number in (1, 10, 100, 1000)] != [0, 100, 200, 300]:
+        yield "the scale isn't one of logarithms"
+
+
+def repository_faults():
+    """What of the repository isn't made of tools/speed.txt."""
+    found = measurements.Measured((TOP / "tools/speed.txt").read_text(encoding="utf-8"))
+    page = (TOP / "docs/SPEED.md").read_text(encoding="utf-8")
+    if tables.renewed(page, found) != page:
+        yield "docs/SPEED.md isn't what tools/speed --of tools/speed.txt makes"
+    front = (TOP / "README.md").read_text(encoding="utf-8")
+    if tables.renewed(front, found, tables.short) != front:
+        yield "README.md isn't what tools/speed --of tools/speed.txt makes"
+    if (TOP / "docs" / tables.PICTURE).read_text(encoding="utf-8") != chart.Picture(found.plants).drawn():
+        yield f"docs/{tables.PICTURE} isn't what tools/speed --of tools/speed.txt makes"
+
+
+def line_faults():
+    """Which double-track lines aren't those that they should be."""
+    for word, wanted in LINES.items():
+        document = json.loads(double_track.configuration(word))
+        sections = document["sections"]
+        got = len(sections), sum(section["kind"] == "point" for section in sections), len(document["routes"])
+        if got != wanted:
+            yield f"{word} has {got}, and {wanted} are wanted"
+    for word in ("s", "bs"):
+        kept = (TOP / f"tests/plants/{word}.json").read_text(encoding="utf-8")
+        if json.loads(double_track.configuration(word)) != json.loads(kept):
+            yield f"{word} isn't tests/plants/{word}.json"
+    if double_track.letters_of("b2s3L") != "bssLLL" or double_track.LINE.fullmatch("12"):
+        yield "words of lines are read wrongly"
+
+
+def main():
+    """Tries all; answers the exit status."""
+    passed = failed = 0
+    for trial in (table_faults, several_faults, refusal_faults, picture_faults, repository_faults, line_faults):
+        faults = list(trial())
+        passed, failed = passed + (not faults), failed + bool(faults)
+        for fault in faults:
+            print(f"FAILED {trial.__name__}: {fault}")
+    print(f"{passed} passed, {failed} failed")
+    return 1 if failed else 0

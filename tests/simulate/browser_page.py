@@ -1,0 +1,125 @@
+"""A page in a browser without a screen, as a trial plays it."""
+
+import json
+import subprocess
+import tempfile
+import time
+from pathlib import Path
+
+from tests.support import browser
+from tests.support import devtools
+from tests.simulate.page_tests import page
+
+SECONDS = 10            # to wait for what comes by itself
+
+
+class Shown:
+    """A page of a plant in a browser, with a folder for what it saves."""
+
+    def __init__(self, program, running, given, fragment="", **size):
+        self.room = tempfile.TemporaryDirectory(prefix="irv-shown-")
+        self.folder = Path(self.room.name)
+        self.given, self.program, self.running = given, program, running
+        self.file = self.folder / "page.html"
+        self.file.write_text(page(program, given)[0], encoding="utf-8")
+        self.page = running.page(**size)
+        running.call("Browser.setDownloadBehavior", behavior="allow", downloadPath=str(self.folder))
+        self.page.open(self.file, fragment)
+        self.clicks = 0
+
+    def __enter__(self):
+        return self
+
+    def __exit__(self, *_):
+        self.running.call("Target.closeTarget", targetId=self.page.target)
+        self.room.cleanup()
+
+    def click(self, *selectors):
+        """Clicks, one after the other."""
+        for selector in selectors:
+            self.page.click(selector)
+            self.clicks += 1
+
+    def sign(self, kind, name):
+        """The selector of a sign of the plan by its name."""
+        number = self.page.ask(
+            f"({{board: game.plant.named.board, section: game.plant.named.section, entry: "
+            f"game.plant.named.section}})[{json.dumps(kind)}].get({json.dumps(name)})")
+        return f"[data-kind={kind}][data-number='{number}']"
+
+    def press(self, kind, name):
+        """Clicks on a sign of the plan."""
+        self.click(self.sign(kind, name))
+
+    def button(self, words):
+        """Clicks on a button that can be seen, by its words."""
+        is_there = self.page.ask(
+            f"(() => {{ const one = [...document.querySelectorAll('button')].find((one) => one.textContent === "
+            f"{json.dumps(words)} && one.getClientRects().length); one?.setAttribute('data-wanted', '1');"
+            "return one !== undefined; })()")
+        if not is_there:
+            raise devtools.Trouble(f"there is no button {words}; chosen is {self.text('chosen')!r}")
+        self.click("[data-wanted]")
+        self.page.ask("document.querySelector('[data-wanted]')?.removeAttribute('data-wanted')")
+
+    def text(self, id_):
+        """The text of an element."""
+        return self.page.ask(f"document.getElementById({json.dumps(id_)}).textContent")
+
+    def saved(self, id_, end):
+        """Clicks on a button that saves a file; the file, once it is there."""
+        self.click(f"#{id_}")
+        stop = time.monotonic() + SECONDS
+        while time.monotonic() < stop:
+            found = list(self.folder.glob(f"*{end}"))
+            if found and found[0].stat().st_size:
+                return found[0]
+            time.sleep(0.05)
+        return None
+
+    def load(self, file):
+        """Loads a file by the page's field for it."""
+        root = self.page.call("DOM.getDocument")["root"]["nodeId"]
+        node = self.page.call("DOM.querySelector", nodeId=root, selector="#file")["nodeId"]
+        before = self.text("said") + self.text("alert")
+        self.page.call("DOM.setFileInputFiles", nodeId=node, files=[str(file)])
+        stop = time.monotonic() + SECONDS
+        while time.monotonic() < stop and self.text("said") + self.text("alert") == before:
+            time.sleep(0.02)
+
+    def answer(self, command, file):
+        """What the program answers to a file."""
+        done = subprocess.run([self.program, command, "--columns", "free", "--run", file], input=self.given,
+                              capture_output=True, check=False)
+        return done.stdout.decode()
+
+
+RUNNING = []            # the one browser of all trials, once it was needed
+
+
+def close():
+    """Ends the browser, where one runs."""
+    for running in RUNNING:
+        running.close()
+
+
+def in_browser(trial):
+    """A trial that takes a browser, where there is one."""
+    def tried(program, is_long):
+        found = browser.find()
+        if found is None:
+            print("no browser here: the page isn't tried in one")
+            return
+        if not RUNNING:
+            RUNNING.append(devtools.Browser(found))
+        try:
+            yield from trial(program, RUNNING[0], is_long)
+        except devtools.Trouble as fault:
+            yield str(fault)
+    tried.__name__, tried.__doc__ = trial.__name__, trial.__doc__
+    return tried
+
+
+def faults(what, pairs):
+    """The pairs of what is and what should be that differ."""
+    return [f"{what}: {is_!r}, and not {wanted!r}" for is_, wanted in pairs if is_ != wanted]

@@ -1,0 +1,196 @@
+"""Trials of the page in a browser without a screen: its model, and the page played by clicks."""
+
+import json
+import subprocess
+import time
+from pathlib import Path
+
+from tests.simulate import model_checks
+from tests.simulate.browser_page import Shown, faults, in_browser
+from irvtools.paths import TOP
+
+SCRIPT = Path(__file__).resolve().parent / "battery.js"
+SHORT, LONG = (150, 3), (6000, 40)      # events and drives of each plant
+FEW = ("two-sections", "station-protected", "trailing-point-wrong")     # without --long these alone
+
+
+@in_browser
+def trial_browser_model(program, running, is_long):
+    """In the browser: the model agrees with replay, drive and the other model over random runs."""
+    count = model_checks.Count()
+    script = SCRIPT.read_text(encoding="utf-8")
+
+    def asks(name, _, expression):
+        with Shown(program, running, model_checks.plants()[name]) as shown:
+            shown.page.ask(script + ";0")
+            return shown.page.ask(f"((plant) => ({expression}))(game.plant)")
+    size, names = (LONG, None) if is_long else (SHORT, FEW)
+    yield from model_checks.faults(program, asks, size, count, names)
+    if is_long:
+        print(f"in the browser: {count}")
+        yield from count.left_out()
+        if count.events < 100000:
+            yield f"only {count.events} events"
+
+
+@in_browser
+def trial_browser_crossing(program, running, _):
+    """Two trains cross in a passing loop, by clicks; what is saved is answered by replay and drive."""
+    with Shown(program, running, model_checks.plants()["station"]) as shown:
+        shown.press("entry", "b1")
+        shown.press("entry", "b2")
+        for source, to in ((("board", "m1"), ("board", "m3")), (("board", "m2"), ("board", "m6")),
+                           (("board", "m3"), ("section", "b2")), (("board", "m6"), ("section", "b1"))):
+            shown.press(*source)
+            shown.press(*to)
+        run, scene = shown.saved("save-run", ".run"), shown.saved("save-scene", ".scene")
+        own = (TOP / "examples/station-crossing.scene").read_text()
+        yield from faults("the crossing", [
+            (scene and scene.read_text(), own), (run and shown.answer("replay", run), "no hazard\n"),
+            (shown.text("place"), "54 of 54"), (shown.text("own"), "no hazard"),
+            (run and shown.answer("drive", scene), f"driven steps=54\n{run.read_text()}"),
+            (shown.page.ask("game.state.trains.length"), 0), (list(shown.page.faults()), [])])
+
+
+@in_browser
+def trial_browser_refused(program, running, _):
+    """A route that waits and an event that isn't possible: both with their reasons; trains that block each
+    other."""
+    with Shown(program, running, model_checks.plants()["station"]) as shown:
+        shown.press("entry", "b1")
+        shown.press("board", "m1")
+        shown.press("board", "m3")
+        shown.press("entry", "b1")
+        shown.press("board", "m1")
+        shown.press("board", "m3")
+        waits = shown.text("chosen")
+        shown.button("Allocate")
+        refused = shown.text("alert")
+        shown.button("Set (mark)")
+        again = shown.text("alert")
+        shown.press("entry", "b1")
+        closed = shown.text("alert")
+        shown.button("Cancel")
+        place = shown.text("place")
+        shown.press("board", "m1")
+        shown.press("board", "m5")
+        shown.press("entry", "b2")
+        file = shown.saved("save-played", ".played")
+        checked = subprocess.run([TOP / "tools/play", "--check", file, "--program", program],
+                                 input=shown.given, capture_output=True, check=False)
+        yield from faults("refused", [
+            ("It waits: t1 is occupied by train 1." in waits, True),
+            (refused, "r1 can't be allocated: t1 is occupied by train 1."),
+            (again, "r1 can't be set: r1 is marked, and not free."),
+            (closed, "No train can enter at b1: b1 is occupied by train 2."), (place, "15 of 15"),
+            (shown.text("blocked").partition(":")[0], "Train 1, Train 2, Train 3 block each other"),
+            (checked.returncode, 0), (checked.stdout.decode().count("the page says the same"), 4),
+            (list(shown.page.faults()), [])])
+
+
+@in_browser
+def trial_browser_collision(program, running, _):
+    """A collision on a wrong table, by hand in under twenty clicks; saved, answered by replay, loaded, and
+    played on from an earlier event."""
+    with Shown(program, running, model_checks.plants()["platforms-wrong-position"]) as shown:
+        shown.press("entry", "pl1")
+        shown.press("entry", "line")
+        shown.press("board", "home")
+        shown.press("section", "pl2")
+        clicks, alert = shown.clicks, shown.text("alert")
+        shown.press("entry", "pl2")
+        after = shown.text("said")
+        run = shown.saved("save-run", ".run")
+        text = run.read_text()
+        shown.page.open(shown.file)
+        shown.load(run)
+        loaded = shown.page.ask("game.play.runText()")
+        shown.click("#to-start", "#forth")
+        shown.press("entry", "pl2")
+        yield from faults("the collision", [
+            (clicks < 20, True), (shown.answer("replay", run), "hazard two pl1\n"), (loaded, text),
+            (alert, "Two trains are in section pl1: a collision. The play stops here: go back to try "
+                    "something else."),
+            (after, "No train can enter at pl2: a hazard stands (hazard two pl1), and ends the run."),
+            (shown.page.ask("game.play.runText()"), "run 1\nstart\nenter pl1\nenter pl2\nend\n"),
+            (shown.page.ask("document.body.className"), ""), (list(shown.page.faults()), [])])
+        shown.click("#uncut")
+        yield from faults("brought back", [(shown.page.ask("game.play.runText()"), text)])
+
+
+BAD_TEXTS = [
+    ("run 1\nstart\nhead b1\nend\n", "Not a run at 1: No train can go on from b1: no train has its head in b1."),
+    ("run 1\nstart\nenter b1\nenter zz\nend\n", "Line 4 is bad: “enter zz” doesn't name a section."),
+    ("run 1\nstart\nenter b1\n", "Line 4 is bad: it is missing"), ("", "Line 1 is bad"),
+    ("drive 1\nlock r1\nend\n", "Line 2 is bad"), ("<img src=x onerror=alert(1)>", "Line 1 is bad"),
+    ("run 1\nstart\nenter <b>x</b>\nend\n", "Line 3 is bad: “enter <b>x</b>” doesn't name")]
+
+
+@in_browser
+def trial_browser_texts(program, running, _):
+    """Runs of verify and of a state, scenarios and links are loaded; what isn't one is refused, and changes
+    nothing."""
+    given = model_checks.plants()["station"]
+    state = (TOP / "examples/point-thrown-under-train.run").read_text()
+    with Shown(program, running, given, "#run.1~start~enter.b1~end~") as shown:
+        first = shown.page.ask("game.play.runText()")
+
+        def load(text):
+            shown.page.ask(f"document.getElementById('text').value = {json.dumps(text)}; "
+                           "document.getElementById('load-text').click()")
+            return shown.page.ask("game.play.runText()")
+        for text, words in BAD_TEXTS:
+            if load(text) != first or words not in shown.text("alert") \
+                    or "Nothing was loaded." not in shown.text("alert"):
+                yield f"{text!r}: {shown.text('alert')!r}"
+        load("run 1\nstart\nenter b1\nenter b1\nend\n")
+        offered = shown.text("offer")
+        shown.click("#offer")
+        scene = (TOP / "examples/station-crossing.scene").read_text()
+        yield from faults("texts", [
+            (first, "run 1\nstart\nenter b1\nend\n"), (offered, "Load what is before it (events: 1)"),
+            (load(f"unsafe steps=1 hazard=two x\n{state}"), state), (shown.text("own"), "hazard wrong p1"),
+            (load(scene).count("\n"), 57), (shown.page.ask("linkOf(game.play.runText()).split('#')[1].slice(0, 18)"),
+                                            "run.1~start~enter."),
+            (list(shown.page.faults()), [])])
+        link = shown.page.ask("linkOf(game.play.runText()).split('#')[1]")
+        run = shown.page.ask("game.play.runText()")
+        shown.page.open(shown.file)
+        shown.page.ask(f"location.hash = {json.dumps(link)}")
+        time.sleep(0.2)
+        yield from faults("a link", [(shown.page.ask("game.play.runText()"), run)])
+
+
+@in_browser
+def trial_browser_events(program, running, _):
+    """Each event is asked for by its button where the plant does nothing by itself; a train goes on step by
+    step, or runs as far as its boards allow."""
+    with Shown(program, running, model_checks.plants()["station"]) as shown:
+        shown.click("input[value=none]")
+        shown.press("entry", "b1")
+        shown.press("board", "m1")
+        shown.press("board", "m5")
+        shown.button("Allocate")
+        shown.button("Lock")
+        refused = shown.text("alert")
+        shown.press("section", "p1")
+        shown.button("Throw")
+        shown.button("Settle")
+        shown.page.ask("game.choose('route', 1)")
+        shown.button("Lock")
+        shown.click("[data-kind=train][data-number='1']")
+        shown.page.ask("game.choose('route', 1)")
+        shown.button("Sense")
+        shown.button("Run on")
+        run = shown.page.ask("game.play.done.map((event) => eventLine(game.plant, event)).join(',')")
+        yield from faults("events", [
+            (refused, "r2 can't be locked: point p1 lies plus, and isn't thrown to minus yet."),
+            (run, "enter b1,mark r2,allocate r2,throw p1,settle p1,lock r2,head b1,sense r2,tail b1,head p1,"
+                  "tail p1")])
+        shown.click("input[value=plant]")
+        yield from faults("routes go on by themselves", [
+            (shown.page.ask("game.state.mode[1]"), "free"), (list(shown.page.faults()), [])])
+
+
+TRIALS = [trial_browser_model, trial_browser_crossing, trial_browser_refused, trial_browser_collision,
+          trial_browser_texts, trial_browser_events]

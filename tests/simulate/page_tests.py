@@ -1,0 +1,175 @@
+"""Trials of the page as it is written, and of `--check`; no browser is needed."""
+
+import json
+import subprocess
+import tempfile
+from pathlib import Path
+
+from tests.simulate import model_checks
+from irvtools.generators import configurations
+from irvtools.simulate import script_engine
+from tests.support import fake_program
+from tests.support import largest_configuration
+from tests.support import fifteen_section_line
+from tests.support import markup_check
+from irvtools.paths import TOP
+
+MOST_BYTES = 2000000
+NAME = '<img src=x onerror=alert(1)>&"'
+
+markup_check.EMPTY |= {"input"}
+markup_check.ALLOWED |= {"header", "main", "section", "footer", "noscript", "button", "output", "input", "label",
+                         "fieldset", "legend", "form", "ol", "a", "textarea", "script", "title"}
+
+
+def call(program, given, *words, room=None):
+    """Calls tools/play; its status, and what it printed."""
+    done = subprocess.run([TOP / "tools/play", *words, "--program", program], input=given, cwd=room,
+                          capture_output=True, check=False)
+    return done.returncode, done.stdout.decode() + done.stderr.decode()
+
+
+def page(program, given):
+    """The page of a configuration, and what was printed."""
+    with tempfile.TemporaryDirectory(prefix="irv-play-") as room:
+        status, said = call(program, given, "page.html", room=room)
+        out = Path(room, "page.html")
+        return (out.read_text(encoding="utf-8") if out.exists() else ""), f"{status}: {said}"
+
+
+def largest():
+    """Configurations of 256 sections and 256 routes, by name: one line, and stations with a siding."""
+    return {"one line": configurations.made("largest"), "stations": configurations.document(*largest_configuration.stations())}
+
+
+def trial_pages(program, _):
+    """Pages are well-formed, open nothing from elsewhere, and are small, also the largest."""
+    for name, given in {**model_checks.plants(), **largest()}.items():
+        text, said = page(program, given)
+        yield from (f"{name}: {fault}" for fault in markup_check.faults(text))
+        if not said.startswith("0: ") or "irv replay" not in text:
+            yield f"{name}: {said}"
+        if len(text.encode()) > MOST_BYTES:
+            yield f"{name}: {len(text.encode())} bytes"
+
+
+def trial_no_plants(program, _):
+    """What isn't a plant makes a page that says why, and names are text."""
+    wrong, unknown, two = fifteen_section_line.right(), fifteen_section_line.right(), fifteen_section_line.right()
+    wrong["sections"][0]["name"] = NAME
+    unknown["routes"][0]["path"] = ["nowhere"]
+    two["sections"][1]["name"] = "U1"
+    for given, words in ((b"", "refused F2"), (b'{"version": 1,\n "sections": [}', "Line 2, column 15"),
+                         (b"</script><script>alert(1)</script>", "Line 1, column 1"),
+                         (json.dumps(wrong).encode(), "&lt;img src=x"),
+                         (json.dumps(unknown).encode(), "refused R3 routes[0]"),
+                         (json.dumps(two).encode(), "refused N1 sections[1]")):
+        text, said = page(program, given)
+        yield from (f"{given[:40]}: {fault}" for fault in markup_check.faults(text))
+        if words not in text or "nothing to play" not in text or "<script" in text:
+            yield f"{given[:40]}: {words!r} isn't on the page; {said}"
+
+
+def trial_no_answer(_, __):
+    """Where the program gives no answer the page doesn't say that the configuration isn't a plant."""
+    with tempfile.TemporaryDirectory(prefix="irv-fake-") as room:
+        text, said = page(fake_program.program(room, {"check": {"status": 139}}), model_checks.plants()["station"])
+        yield from markup_check.faults(text)
+        if "gave no answer" not in text or "isn&#x27;t a plant" in text:
+            yield f"no answer is taken for a refusal; {said}"
+
+
+def trial_names(program, _):
+    """The name of the file is text too, and a table that breaks rules of the columns is told so."""
+    given = json.dumps(fifteen_section_line.with_fault("facing-point-wrong")).encode()
+    with tempfile.TemporaryDirectory(prefix="irv-play-") as room:
+        file = Path(room, "</title><script>alert(1)<!--PLANT-->.json".replace("/", "_"))
+        file.write_bytes(given)
+        with open(file, "rb") as source:
+            subprocess.run([TOP / "tools/play", "p.html", "--program", program], stdin=source, cwd=room,
+                           capture_output=True, check=False)
+        text = Path(room, "p.html").read_text(encoding="utf-8")
+        yield from markup_check.faults(text)
+        if text.count("<script") != 2 or "&lt;script&gt;" not in text or "refused C3" not in text:
+            yield "the name of the file or the broken rule isn't told"
+
+
+def trial_words(program, _):
+    """Wrong words, a page over its own configuration, and no program: status 125, and nothing is written."""
+    given = model_checks.plants()["station"]
+    with tempfile.TemporaryDirectory(prefix="irv-play-") as room:
+        conf_ = Path(room, "conf.json")
+        conf_.write_bytes(given)
+        for words in ((), ("a.html", "b.html"), ("--check",), ("a.html", "--check", "conf.json"), ("-x",),
+                      ("--wait", "3", "a.html"), ("no/folder.html",)):
+            if call(program, given, *words, room=room)[0] != 125:
+                yield f"{words}: another status than 125"
+        with open(conf_, "rb") as source:
+            done = subprocess.run([TOP / "tools/play", "conf.json", "--program", program], stdin=source,
+                                  cwd=room, capture_output=True, check=False)
+        if done.returncode != 125 or conf_.read_bytes() != given or len(list(Path(room).iterdir())) != 1:
+            yield "a page is written over the configuration, or another file is there"
+        if call(Path(room, "nothing"), given, "a.html", room=room)[0] != 125:
+            yield "without a program: another status than 125"
+
+
+def played(given, says, refused, run, columns="free"):
+    """A file as the page saves it."""
+    head = f"played 1\nconfiguration {figures_sum(given)}\ncolumns {columns}\nsays {says}\n"
+    return head + "".join(f"refused {line_}\n" for line_ in refused) + run
+
+
+def figures_sum(given):
+    """The sha256 of a configuration, as another program than the page takes it."""
+    done = subprocess.run(["sha256sum"], input=given, capture_output=True, check=True)
+    return done.stdout.decode().split(" ")[0]
+
+
+RUN = "run 1\nstart\nenter a\nenter b\nhead a\nend\n"
+SCENE = "drive 1\nenter b1\nmark r1\nend\n"
+
+
+def trial_check(program, _):
+    """--check asks replay and drive, and says where the page doesn't agree with them."""
+    two, station = model_checks.plants()["two-sections"], model_checks.plants()["station"]
+    answers = [(two, played(two, "hazard two b", ["1 enter a", "0 leave b"], RUN), 0,
+                "hazard two b; the page says the same"),
+               (two, played(two, "hazard two a", [], RUN), 1, "the page says hazard two a"),
+               (two, played(two, "hazard two b", ["1 enter b"], RUN), 1, "with enter b as event 2: no hazard"),
+               (two, played(station, "hazard two b", [], RUN), 125, "another configuration"),
+               (two, played(two, "hazard two b", ["7 enter b"], RUN), 125, "a place that the run doesn't have"),
+               (two, played(two, "hazard two b", [], RUN).replace("says", "say"), 125, "as the page saves it"),
+               (two, "run 1\nstärt\n", 125, "bytes that no name has"),
+               (b"{}", RUN, 125, "isn't a plant"),
+               (two, RUN, 0, "irv replay: hazard two b; the page"),
+               (two, "run 1\nstart\nhead a\nend\n", 0, "irv replay: not a run at 1; the page"),
+               (two, "run 1\nstart\n", 0, "irv replay: rejected line 3; the page"),
+               (station, SCENE, 0, "irv drive: stuck at 3 steps=12; the page")]
+    with tempfile.TemporaryDirectory(prefix="irv-play-") as room:
+        for given, text, wanted, words in answers:
+            Path(room, "file").write_text(text, encoding="utf-8")
+            status, said = call(program, given, "--check", "file", room=room)
+            if (status, words in said) != (wanted, True):
+                yield f"{text!r}: {status}, {said!r}; expected were {wanted} and {words!r}"
+            if wanted == 0 and script_engine.find() and "isn't asked" in said:
+                yield f"{text!r}: the page isn't asked: {said!r}"
+        if call(program, two, "--check", "nothing", room=room)[0] != 125:
+            yield "a file that isn't there: another status than 125"
+
+
+def trial_no_engine(program, _):
+    """Without a script engine --check answers all the same, and says that the page isn't asked."""
+    with tempfile.TemporaryDirectory(prefix="irv-play-") as room:
+        Path(room, "file").write_text(RUN, encoding="utf-8")
+        python = Path(room, "python3")
+        python.symlink_to(subprocess.run(["which", "python3"], capture_output=True, check=True)
+                          .stdout.decode().strip())
+        done = subprocess.run([TOP / "tools/play", "--check", "file", "--program", program], cwd=room,
+                              env={"PATH": f"{room}:/bin-that-is-not"}, capture_output=True, check=False,
+                              input=model_checks.plants()["two-sections"], executable=None)
+    said = done.stdout.decode() + done.stderr.decode()
+    if done.returncode != 0 or "hazard two b; the page isn't asked" not in said:
+        yield f"{done.returncode}: {said!r}"
+
+
+TRIALS = [trial_pages, trial_no_plants, trial_no_answer, trial_names, trial_words, trial_check, trial_no_engine]

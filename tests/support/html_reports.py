@@ -1,0 +1,55 @@
+"""Pages for trials: whole ones, and parts of one."""
+
+import json
+import re
+import subprocess
+import tempfile
+from html import unescape
+from pathlib import Path
+from types import SimpleNamespace
+
+from irvtools.generators import configurations
+from irvtools.trackplan.drawing import Drawing
+from irvtools.html.report import Page
+from irvtools.model.plant import Plant
+from irvtools.paths import TOP
+
+
+def page(program, given, *words):
+    """A page of a configuration; its text and what was printed."""
+    with tempfile.TemporaryDirectory(prefix="irv-page-test-") as room:
+        out = Path(room, "page.html")
+        done = subprocess.run([TOP / "tools/page", out, "--program", program, *words], input=given,
+                              capture_output=True, check=False)
+        text = out.read_text(encoding="utf-8") if out.exists() else ""
+        return text, done.stdout.decode() + done.stderr.decode()
+
+
+def shown_by(program, given, text, *words):
+    """A page with the run or the scenario of a text; its words without markup, and what was printed."""
+    with tempfile.TemporaryDirectory(prefix="irv-page-run-") as room:
+        file = Path(room, "given.run")
+        file.write_text(text)
+        made, printed = page(program, given, "--run", file, "--hunt", "0", *words)
+    return plain(made), printed
+
+
+def plain(markup):
+    """Markup as a reader sees it, but for its style and its pictures' titles."""
+    markup = re.sub(r"<style>.*?</style>|<title>.*?</title>", " ", markup, flags=re.S)
+    return " ".join(unescape(re.sub(r"<[^>]*>", " ", markup)).split())
+
+
+def plant_of(text):
+    """The plant of a short text, and its bytes."""
+    given = configurations.plant_text([line.strip() for line in text.strip().split("\n")])
+    return Plant(json.loads(given)), given
+
+
+def part_of(program, text, part, *more):
+    """What a part of the page says of the plant of a short text, as a reader sees it."""
+    plant, given = plant_of(text)
+    made = Page(SimpleNamespace(program=str(program), name="a plant"), given)
+    made.plant, made.drawing = plant, Drawing(plant)
+    part(made, *more)
+    return plain(" ".join(made.parts))

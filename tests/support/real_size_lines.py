@@ -1,0 +1,191 @@
+"""Lines of real size for the hunt: single and double tracks with passing loops, crossovers, ladders and
+a terminus, drawn from the lower end up, track by track. `irv table` gives them their routes.
+
+Tracks are numbered; each has an open end, behind which the next piece goes.
+"""
+
+import json
+import random
+import subprocess
+
+from irvtools.generators.configurations import linear, point
+from tests.support.fifteen_section_line import listed_conflicts
+
+BOTH, DOWN, UP, NONE = ("down", "up"), ("down",), ("up",), ()
+
+
+class Line:
+    """A network that grows on its tracks."""
+
+    def __init__(self, tracks):
+        self.sections, self.boards = [], 0
+        self.ends = []          # of each track the section and the member that want a neighbour
+        for _ in range(tracks):
+            self.border("up")
+
+    def named(self, section, letter):
+        """Adds a section under a name of its own."""
+        section["name"] = f"{letter}{len(self.sections)}"
+        self.sections.append(section)
+        return section["name"]
+
+    def board(self):
+        """A name for a board."""
+        self.boards += 1
+        return f"B{self.boards}"
+
+    def border(self, side):
+        """A track begins, with a board for trains that come in."""
+        section = linear("", ".", ".", ".", ".")
+        section["board_" + side] = self.board()
+        self.named(section, "t")
+        self.ends.append((section, side))
+        return section
+
+    def join(self, track, name):
+        """Gives the open end of a track its neighbour; answers the name of the section there."""
+        section, member = self.ends[track]
+        section[member] = name
+        return section["name"]
+
+    def plain(self, track, boards=NONE):
+        """A linear section more on a track, with boards for these directions."""
+        section = linear("", self.ends[track][0]["name"], ".", ".", ".")
+        self.join(track, self.named(section, "t"))
+        for side in boards:
+            section["board_" + side] = self.board()
+        self.ends[track] = section, "up"
+
+    def end(self, track):
+        """A track ends at a border, with a board for trains that come in."""
+        before = self.ends[track][0]["name"]
+        section = self.border("down")
+        self.ends.pop()
+        section["down"] = before
+        self.join(track, section["name"])
+
+    def part(self, track, leg="plus"):
+        """A point from which a new track leads on; the old one goes on over a leg."""
+        other = "minus" if leg == "plus" else "plus"
+        section = point("", "up", self.ends[track][0]["name"], ".", ".")
+        self.join(track, self.named(section, "p"))
+        self.ends[track] = section, leg
+        self.ends.append((section, other))
+        return len(self.ends) - 1
+
+    def meet(self, track, other, leg="plus"):
+        """A point at which another track, the last one, comes to a track."""
+        section = point("", "down", ".", ".", ".")
+        name = self.named(section, "p")
+        section[leg] = self.join(track, name)
+        section["minus" if leg == "plus" else "plus"] = self.join(other, name)
+        self.ends[track] = section, "stem"
+        del self.ends[other]
+
+    def crossover(self, track, other):
+        """From a track to another, for trains that run up."""
+        first = point("", "up", self.ends[track][0]["name"], ".", ".")
+        second = point("", "down", ".", self.ends[other][0]["name"], ".")
+        self.join(track, self.named(first, "p"))
+        self.join(other, self.named(second, "p"))
+        first["minus"], second["minus"] = second["name"], first["name"]
+        self.ends[track], self.ends[other] = (first, "plus"), (second, "stem")
+
+    def loop(self, track, platforms):
+        """A station with platforms on a track: ladders, and boards in both directions."""
+        self.plain(track, BOTH)
+        tracks = [track]
+        while len(tracks) < platforms:
+            tracks.append(self.part(tracks[-1], "plus"))
+        for one in tracks:
+            self.plain(one, BOTH)
+        while len(tracks) > 1:
+            last = tracks.pop()
+            self.meet(tracks[-1], last)
+        self.plain(track, BOTH)
+
+    def network(self):
+        """The document without routes; every open end gets a border."""
+        for track in range(len(self.ends)):
+            self.end(track)
+        return {"version": 1, "sections": self.sections, "routes": []}
+
+
+def loops():
+    """A single track with three stations of two, three and two platforms."""
+    one = Line(1)
+    for platforms in (2, 3, 2):
+        one.loop(0, platforms)
+        one.plain(0)
+    return one.network()
+
+
+def double(crossings):
+    """A double track with so many places at which trains cross over, both ways."""
+    one = Line(2)
+    for number in range(crossings):
+        for track in (0, 1):
+            one.plain(track, BOTH)
+        one.crossover(number % 2, 1 - number % 2)
+        if number % 3 == 0:
+            one.plain(0)
+        one.crossover(1 - number % 2, number % 2)
+    for track in (0, 1):
+        one.plain(track, BOTH)
+    return one.network()
+
+
+def terminus():
+    """Two tracks into a terminus with five platforms."""
+    one = Line(2)
+    for track in (0, 1):
+        one.plain(track, BOTH)
+    one.crossover(0, 1)
+    one.crossover(1, 0)
+    one.part(0, "plus")
+    one.part(1, "minus")
+    one.part(2, "plus")
+    for track in range(5):
+        one.plain(track, DOWN)
+    return one.network()
+
+
+def junction():
+    """A double track, a single one that leaves it, with a loop on each."""
+    one = Line(2)
+    for track in (0, 1):
+        one.plain(track, BOTH)
+    one.crossover(0, 1)
+    third = one.part(1, "plus")
+    for track in (0, 1, third):
+        one.plain(track, BOTH)
+    one.crossover(1, 0)
+    one.loop(third, 2)
+    one.plain(0, BOTH)
+    one.plain(1, BOTH)
+    one.crossover(0, 1)
+    return one.network()
+
+
+def stations():
+    """Two tracks with a loop on each, and crossovers between and behind them."""
+    one = Line(2)
+    for _ in range(2):
+        for track in (0, 1):
+            one.loop(track, 2)
+        one.crossover(0, 1)
+        one.crossover(1, 0)
+    for track in (0, 1):
+        one.plain(track, BOTH)
+    return one.network()
+
+
+NETWORKS = {"loops": loops, "double": lambda: double(3), "crossings": lambda: double(7),
+            "terminus": terminus, "junction": junction, "stations": stations}
+
+
+def with_routes(program, network):
+    """A network with all of its routes, as `irv table` prints it."""
+    done = subprocess.run([program, "table"], input=json.dumps(network).encode(),
+                          capture_output=True, check=True)
+    return json.loads(done.stdout)

@@ -1,0 +1,48 @@
+"""The pages of tables on which there is a hazard: how long each takes, and whether it shows the hazard."""
+
+import statistics
+import time
+
+from tests.support import markup_check
+from tests.support.html_reports import page, plain
+
+MOST_SECONDS = 20
+
+
+class TimedPages:
+    """The seconds of each page that was made, and what is wrong with them; at most so many are made."""
+
+    def __init__(self, program, most):
+        self.program, self.most = program, most
+        self.seconds, self.wrong = [], []
+
+    def take(self, name, given):
+        """Makes the page of a table, where there are fewer than are wanted."""
+        if len(self.seconds) == self.most:
+            return
+        begin = time.monotonic()
+        text, said = page(self.program, given)
+        seconds = time.monotonic() - begin
+        self.seconds.append(seconds)
+        print(f"    its page: {seconds:.1f} s, {len(text) / 1e6:.1f} MB, {said.strip()}", flush=True)
+        self.wrong += [f"{name}: its page: {fault}" for fault in faults(text, said)]
+        if seconds > MOST_SECONDS:
+            self.wrong.append(f"{name}: its page took {seconds:.1f} s")
+
+    def told(self):
+        """The figures in a line."""
+        return (f"pages: {len(self.seconds)}; seconds: median {statistics.median(self.seconds):.1f}, "
+                f"most {max(self.seconds):.1f}")
+
+
+def faults(text, said):
+    """What is wrong with the page of a table with a hazard, and with the line that is printed."""
+    yield from markup_check.faults(text)
+    first = plain(text.partition('<ul class="sum">')[2].partition("</li>")[0])
+    is_hunted, is_verdict = " from the start to a hazard: " in first, ": unsafe steps=" in first
+    if not is_hunted and not is_verdict:
+        yield f"the first line is {first!r}"
+    if "hazard two " not in said and "hazard wrong " not in said and "hazard=" not in said:
+        yield f"printed is {said!r}"
+    if 'class="hz"' not in text or "Here the page stops" in text:
+        yield "the hazard isn't drawn"

@@ -1,0 +1,61 @@
+"""What the program answers: which first lines it has with which status, and which of them are good.
+
+A status without its line is no answer: it may be that of a signal, of a shell or of a full machine.
+"""
+
+import re
+import signal
+import sys
+from pathlib import Path
+
+
+from irvtools.calls.first_lines import HAZARD, NUMBER, STATUS_OF, VERDICT, kind_of
+
+REFUSED = 5
+REFUSAL = r"refused [A-Z][0-9] (?:document|extra|[a-z]+\[[0-9]+\](?: routes\[[0-9]+\])?)"
+# of each command but verify the first line by the status
+LINES = {
+    "check": {0: "clean"},
+    "audit": {0: f"accepted k={NUMBER}", 6: f"rejected line {NUMBER}"},
+    "drive": {0: f"driven steps={NUMBER}", 1: f"hazard {HAZARD} steps={NUMBER}",
+              6: f"stuck at {NUMBER} steps={NUMBER}|rejected line {NUMBER}"},
+    "replay": {0: f"hazard {HAZARD}",
+               6: f"no hazard|not a run at {NUMBER}|rejected line {NUMBER}"},
+    "export": {0: r"p cnf [0-9]+ [0-9]+"},
+    "rup": {0: f"refuted (?:hazard|breach|step) {NUMBER}", 6: f"rejected item {NUMBER}"},
+}
+FAULTS = {7: "usage", 8: "a read fault", 9: "a write fault", 10: "out of memory"}
+
+
+class NoAnswer(Exception):
+    """No answer came: the message says why."""
+
+
+def signal_name(number):
+    """A signal's name."""
+    try:
+        return signal.Signals(number).name
+    except ValueError:
+        return f"signal {number}"
+
+
+def is_answer(command, status, line):
+    """Whether the program has this line with this status."""
+    if status == REFUSED:
+        return re.fullmatch(REFUSAL, line) is not None
+    if command == "verify":
+        return VERDICT.fullmatch(line) is not None and STATUS_OF[kind_of(line)] == status
+    pattern = LINES[command].get(status)
+    return pattern is not None and re.fullmatch(pattern, line) is not None
+
+
+def why_no_answer(command, status, line, complaint):
+    """Why what came is no answer of the program; none where it is one."""
+    if is_answer(command, status, line):
+        return None
+    if status < 0 or status > 128:
+        name = signal_name(-status if status < 0 else status - 128)
+        return f"irv {command} was ended by {name}" + (
+            ", as it is where the machine has no memory left" if "KILL" in name else "")
+    said = f": {complaint}" if complaint else ""
+    return f"irv {command} ended with {FAULTS.get(status, f'status {status}, which tells nothing')}{said}"

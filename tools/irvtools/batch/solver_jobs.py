@@ -1,0 +1,91 @@
+"""What each kind of job does that has a part in refutations by another solver: see doing.py."""
+
+from irvtools.batch.job_kinds import answered, ask, file_of, without_work
+from irvtools.batch.measuring import Called, last_line
+from irvtools.batch.safety_queries import HAS_ASSIGNMENT, leave_out_what_adds_nothing, name_of
+from irvtools.batch.program_answers import NoAnswer
+
+
+def do_export(store, job, room):
+    """The formula of a query."""
+    done = ask(store, job, room, "export", *job["words"])
+    if done.status != 0:
+        return answered(done, False)
+    formula = done.output.rename(room / "formula.cnf")
+    answer = answered(done, True, formula=formula)
+    del answer["files"]["report"]
+    return answer
+
+
+def version_of(program, room):
+    """What a solver says of its version."""
+    try:
+        done = Called([program, "--version"], None, room, 10)
+    except NoAnswer:
+        return "unknown"
+    return done.line or "unknown"
+
+
+def do_solve(store, job, room):
+    """A refutation of a formula by another solver, or why there is none."""
+    cnf, formula = file_of(store, job, "export formula")
+    if cnf is None:
+        return without_work(formula["line"], False)
+    proof = room / "refutation.proof"
+    words = [word.replace("{cnf}", str(cnf)).replace("{proof}", str(proof)) for word in job["solver"]]
+    done = Called(words, None, room, job["seconds"])
+    version = version_of(words[0], room)
+    if done.status is None:
+        line = f"no refutation within {job['seconds']:g} seconds"
+    elif done.status == HAS_ASSIGNMENT:
+        line = "an assignment, which is a run that the query asks for"
+    elif not proof.is_file() or done.status < 0 or done.status > 128:
+        with open(done.output, "rb") as out:
+            said = done.complaint or last_line(out.read(4000))
+        raise NoAnswer(f"{words[0]} wrote no refutation: status {done.status} {said}".strip())
+    else:
+        leave_out_what_adds_nothing(proof)
+        line = "a refutation"
+    files = {"refutation": proof} if line == "a refutation" else {}
+    return {"line": line, "status": done.status, "is_good": bool(files), **done.measures(),
+            "files": files, "solver": version}
+
+
+def do_rup(store, job, room):
+    """Whether the solver's text refutes the query, as the program finds."""
+    proof, solved = file_of(store, job, "solve refutation")
+    if proof is None:
+        return without_work(solved["line"], False)
+    done = ask(store, job, room, "rup", *job["words"], f"--cert={proof}")
+    return answered(done, done.status == 0 and done.line == f"refuted {name_of(job['query'])}")
+
+
+def safe_by_line(job, rups):
+    """What is said of the queries on which safety at k rests, by the jobs of rup and their answers, by the
+    names of the queries: the line, and whether it is that the plant is safe. Each has to be of this query,
+    of this configuration with these columns, and of this program."""
+    left, refused = [], None
+    for query in job["queries"]:
+        other, answer = rups[name_of(query)]
+        is_same = all(other[part] == job[part] for part in ("program", "configuration", "columns"))
+        is_refuted = answer["is_good"] and answer["line"] == f"refuted {name_of(query)}"
+        if not (is_same and other["kind"] == "rup" and other["query"] == query and is_refuted):
+            left.append(name_of(query))
+            refused = refused or (answer["line"] if answer["line"].startswith("refused ") else None)
+    if left:
+        return refused or f"not shown at k={job['k']}: {', '.join(left)}", False
+    return f"safe k={job['k']}", True
+
+
+def do_safe_by(store, job, _room):
+    """Whether each query on which safety at k rests was refuted."""
+    rups = {}
+    for name, key in job["needs"].items():
+        other = store.job(key)
+        rups[name] = other, store.answer(other)
+        if rups[name][1] is None:
+            raise NoAnswer(f"the answer of {name} is gone")
+    return without_work(*safe_by_line(job, rups))
+
+
+DOES = {"export": do_export, "solve": do_solve, "rup": do_rup, "safe_by": do_safe_by}

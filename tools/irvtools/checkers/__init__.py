@@ -1,0 +1,1 @@
+"""Independent checkers of certificates and refutations."""

@@ -1,0 +1,28 @@
+"""The formulas of a configuration's queries, as the program exports them."""
+
+import subprocess
+
+from irvtools.checkers import dimacs
+
+
+class ExportError(Exception):
+    """A formula that the program didn't export: the message says which, and what it answered."""
+
+
+def text_of(program, conf, columns, kind, number):
+    """The text of the formula of one query."""
+    words = ["export", "--columns", columns, "--query", kind, "--number", str(number)]
+    try:
+        done = subprocess.run([str(program), *words], input=conf, stdout=subprocess.PIPE,
+                              stderr=subprocess.PIPE)
+    except OSError as fault:
+        raise ExportError(f"the program doesn't start: {fault}") from fault
+    if done.returncode != 0:
+        said = (done.stdout + done.stderr).decode(errors="replace").strip()
+        raise ExportError(f"export of {kind} {number} ended with {done.returncode}: {said}")
+    return done.stdout
+
+
+def formulas_of(program, conf, columns):
+    """What gives the formula of each query of a configuration."""
+    return lambda kind, number: dimacs.read(text_of(program, conf, columns, kind, number))

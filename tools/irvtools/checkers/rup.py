@@ -1,0 +1,156 @@
+"""Checks a refutation without hints, in the text of clauses that solvers write. It shares nothing with the
+program but the grammar: an item is tried by setting the opposites of its literals, in plain lists.
+
+    tests/lib/rup.py FORMULA TEXT
+
+prints `refuted`, or `rejected item I` with the number of the first bad item.
+"""
+
+import re
+import sys
+from pathlib import Path
+
+LITERAL = re.compile(rb"-?[1-9][0-9]*")
+
+
+def words_of(text):
+    """The words of a text: lines whose first byte is c are left out, and the rest is cut at spaces, tabs
+    and carriage returns."""
+    for line in text.split(b"\n"):
+        if not line.startswith(b"c"):
+            yield from (word for word in re.split(rb"[ \t\r]", line) if word)
+
+
+def items_of(words):
+    """The items: each ends with the next word 0, which the last may lack."""
+    item = []
+    for word in words:
+        item.append(word)
+        if word == b"0":
+            yield item
+            item = []
+    if item:
+        yield item
+
+
+def literals_of(words, variables):
+    """The literals before the last word, which must be 0; None where a word is none."""
+    if not words or words[-1] != b"0":
+        return None
+    if not all(LITERAL.fullmatch(word) for word in words[:-1]):
+        return None
+    literals = [int(word) for word in words[:-1]]
+    return literals if all(abs(literal) <= variables for literal in literals) else None
+
+
+class Clauses:
+    """Clauses, and what they set at the start. Each clause with two literals that aren't false is looked
+    at again only where one of its first two becomes false."""
+
+    def __init__(self, variables, clauses):
+        # by literal, a negative one from the end: 1 is true, -1 false
+        self.value = [0] * (2 * variables + 1)
+        self.watching = [[] for _ in self.value]
+        self.true = []
+        self.refuted = False
+        for clause in clauses:
+            self.add(set(clause))
+
+    def set_true(self, literal):
+        """Sets a literal that wasn't set."""
+        self.value[literal], self.value[-literal] = 1, -1
+        self.true.append(literal)
+
+    def add(self, clause):
+        """Adds a clause, and what it sets."""
+        if self.refuted:
+            return
+        literals = sorted(clause, key=lambda literal: self.value[literal] < 0)
+        left = sum(self.value[literal] >= 0 for literal in literals[:2])
+        if left == 2:
+            self.watching[literals[0]].append(literals)
+            self.watching[literals[1]].append(literals)
+        elif left == 0:
+            self.refuted = True
+        elif self.value[literals[0]] == 0:
+            begin = len(self.true)
+            self.set_true(literals[0])
+            self.refuted = not self.close(begin)
+
+    def close(self, at):
+        """Sets what follows from what was set from this place on; false where a clause is false."""
+        value, watching, true = self.value, self.watching, self.true
+        while at < len(true):
+            lost = -true[at]
+            at += 1
+            kept, looked_at = [], watching[lost]
+            for place, clause in enumerate(looked_at):
+                if clause[0] == lost:
+                    clause[0], clause[1] = clause[1], lost
+                other = clause[0]
+                if value[other] > 0:
+                    kept.append(clause)
+                    continue
+                for index in range(2, len(clause)):
+                    if value[clause[index]] >= 0:
+                        clause[1], clause[index] = clause[index], lost
+                        watching[clause[1]].append(clause)
+                        break
+                else:
+                    kept.append(clause)
+                    if value[other] < 0:
+                        watching[lost] = kept + looked_at[place + 1:]
+                        return False
+                    self.set_true(other)
+            watching[lost] = kept
+        return True
+
+    def gives(self, clause):
+        """Whether a clause is false by propagation from the opposites of its literals."""
+        if self.refuted or any(self.value[literal] > 0 for literal in clause):
+            return True
+        begin = len(self.true)
+        for literal in clause:
+            if self.value[literal] == 0:
+                self.set_true(-literal)
+        holds = self.close(begin)
+        for literal in self.true[begin:]:
+            self.value[literal] = self.value[-literal] = 0
+        del self.true[begin:]
+        return not holds
+
+
+def first_bad(variables, formula, text, known=0):
+    """The number of the first bad item, or None where the text is accepted. So many items are known to be
+    right, since they stand at the beginning of a text that was judged before."""
+    clauses = Clauses(variables, formula)
+    number = 0
+    for number, item in enumerate(items_of(words_of(text)), 1):
+        keeps = item[0] == b"d"
+        literals = literals_of(item[1:] if keeps else item, variables)
+        if literals is None:
+            return number
+        clause = set(literals)
+        if keeps or any(-literal in clause for literal in clause):
+            continue
+        if number > known and not clauses.gives(clause):
+            return number
+        clauses.add(clause)
+    return None if clauses.refuted else number + 1
+
+
+def answer(query, variables, formula, text, known=0):
+    """What the program answers to a text that is to refute the formula of a query."""
+    bad = first_bad(variables, formula, text, known)
+    return f"refuted {query}" if bad is None else f"rejected item {bad}"
+
+
+def main():
+    """Reads the two files, and says what was found."""
+    from irvtools.checkers import dimacs
+
+    if len(sys.argv) != 3:
+        sys.exit(__doc__.strip())
+    variables, clauses = dimacs.read(Path(sys.argv[1]).read_bytes())
+    bad = first_bad(variables, clauses, Path(sys.argv[2]).read_bytes())
+    print("refuted" if bad is None else f"rejected item {bad}")

@@ -1,0 +1,1 @@
+"""Interlocking tables as CSV files."""

@@ -1,0 +1,197 @@
+"""In which entries two configurations differ, in order."""
+
+from collections import Counter
+
+from irvtools.csvtables import cells
+from irvtools.csvtables import columns
+from irvtools.csvtables.matching import Match, first_numbers
+from irvtools.csvtables.renaming import BOARD, SECTION
+from irvtools.model.phrases import list_words
+
+IN_ORDER = ("path", "overlap")      # lists whose order says something
+CAME, WENT, RENAMED, CHANGED = "came", "went", "renamed", "changed"
+
+
+class Difference:
+    """A difference: of what, which, the numbers of its entry in the old and the new configuration (None
+    where it isn't there), and the sentence."""
+
+    def __init__(self, thing, what, old, new, line):
+        self.thing, self.what, self.old, self.new, self.line = thing, what, old, new, line
+
+
+class Comparison:
+    """Two configurations, compared. Where the old one is the table that `irv table` gives of the new
+    one's network, its names say nothing, and a route that it has alone is a way without a route."""
+
+    def __init__(self, old, new, is_of_network=False):
+        self.match = Match(old, new, not is_of_network)
+        self.old, self.new = self.match.old, self.match.new
+        self.is_of_network = is_of_network
+        self.old_numbers, self.new_numbers = (first_numbers(value["routes"])
+                                              for value in (self.old, self.new))
+        self.differences = [*self.sections(), *self.boards(), *self.routes()]
+
+    def lines(self):
+        """What is told."""
+        lines = [difference.line for difference in self.differences]
+        if not lines:
+            lines = [self.same()]
+        versions = self.match.given_old["version"], self.new["version"]
+        if versions[0] != versions[1] and not self.is_of_network:
+            lines.append("the version was {} and is {}; what version 1 doesn't have is an empty list"
+                         .format(*versions))
+        return lines
+
+    def same(self):
+        """That nothing differs, and whether the order does."""
+        if self.is_of_network:
+            return "the same: each way has its route"
+        return "the same, in another order" if self.has_another_order() else "the same"
+
+    def has_another_order(self):
+        """Whether entries, or names in a list, stand in another order."""
+        pairs = [*self.match.sections.items(), *self.match.routes.items()]
+        return any(x != y for x, y in pairs) or any(
+            (self.old["routes"][r].get(one.member) or []) != (self.new["routes"][s].get(one.member) or [])
+            for r, s in self.match.routes.items() for one in columns.of_routes(2))
+
+    # -- sections and boards
+
+    def sections(self):
+        """Differences of sections: those of the old ones in their order, then those that came."""
+        names = {new: old for old, new in self.match.new_names[SECTION].items()}
+        for x, section in enumerate(self.old["sections"]):
+            y = self.match.sections.get(x)
+            name = section["name"]
+            if y is None:
+                yield Difference(SECTION, WENT, x, None, f"section {name} went: {of_section(section)}")
+                continue
+            if name in names:
+                yield Difference(SECTION, RENAMED, x, y, f"section {names[name]} is now called {name}")
+            other = self.new["sections"][y]
+            for column in columns.OF_SECTIONS:
+                said = [one.get(column.member) for one in (section, other)]
+                if said[0] != said[1]:
+                    yield Difference(SECTION, CHANGED, x, y, f"section {name}: {changed(column, *said)}")
+        for y, section in enumerate(self.new["sections"]):
+            if y not in self.match.sections.values():
+                yield Difference(SECTION, CAME, None, y,
+                                 f"section {section['name']} came: {of_section(section)}")
+
+    def boards(self):
+        """Boards under other names."""
+        for old, new in self.match.new_names[BOARD].items():
+            yield Difference(BOARD, RENAMED, None, None, f"board {old} is now called {new}")
+
+    # -- routes
+
+    def routes(self):
+        """Differences of routes: those of the old ones in their order, then those that came."""
+        for r, route in enumerate(self.old["routes"]):
+            s = self.match.routes.get(r)
+            if s is None:
+                yield Difference("route", WENT, r, None, self.went(route))
+                continue
+            other = self.new["routes"][s]
+            if route["name"] != other["name"] and not self.is_of_network:
+                yield Difference("route", RENAMED, r, s,
+                                 f"route {route['name']} is now called {other['name']}")
+            for line in self.changes(route, other):
+                yield Difference("route", CHANGED, r, s, f"route {other['name']}: {line}")
+        for s, route in enumerate(self.new["routes"]):
+            if s not in self.match.routes.values():
+                yield Difference("route", CAME, None, s, self.came(route))
+
+    def went(self, route):
+        """That a route went; of the network's own table, that a way has none."""
+        if self.is_of_network:
+            return f"no route: {of_route(route)}"
+        lists = in_conflicts(route["name"], self.old, self.new, self.match.routes)
+        return (f"route {route['name']} went: {of_route(route)}"
+                + (f"; it was in the conflicts of {' '.join(lists)}" if lists else ""))
+
+    def came(self, route):
+        """That a route came; or that it is no way of the network."""
+        if self.is_of_network:
+            return f"route {route['name']} is no way of the network: {of_route(route)}"
+        pairs = {s: r for r, s in self.match.routes.items()}
+        lists = in_conflicts(route["name"], self.new, self.old, pairs)
+        return (f"route {route['name']} came: {of_route(route)}"
+                + (f"; it is in the conflicts of {' '.join(lists)}" if lists else ""))
+
+    def changes(self, route, other):
+        """The entries in which a route differs."""
+        for column in columns.of_routes(2):
+            if column.member in ("name", "conflicts"):
+                if column.member == "conflicts":
+                    yield from self.conflicts(route, other)
+                continue
+            said = [one.get(column.member) or None for one in (route, other)]
+            if column.member in IN_ORDER or not isinstance(said[0] or said[1], list):
+                if said[0] != said[1]:
+                    yield changed(column, *said)
+            else:
+                yield from listed(column.heading, *(list_words(one or []) for one in said))
+
+    def conflicts(self, route, other):
+        """Which conflicts a route has more and less. A route that went is none less, and one that came
+        none more: that is told where they are."""
+        olds = [self.now_called(name) for name in route["conflicts"]]
+        came = [name for name in other["conflicts"] if self.is_new(name) and name not in olds]
+        went = [name for name in route["conflicts"] if self.is_gone(name)
+                and name not in other["conflicts"]]
+        yield from listed("conflicts", [name for name in olds if name not in went],
+                          [name for name in other["conflicts"] if name not in came])
+
+    def now_called(self, name):
+        """What a route of the old table is called in the new one; its old name where it isn't there."""
+        number = self.match.routes.get(self.old_numbers.get(name))
+        return name if number is None else self.new["routes"][number]["name"]
+
+    def is_gone(self, name):
+        """Whether a route of the old table went."""
+        return name in self.old_numbers and self.old_numbers[name] not in self.match.routes
+
+    def is_new(self, name):
+        """Whether a route of the new table came."""
+        return name in self.new_numbers and self.new_numbers[name] not in self.match.routes.values()
+
+
+def shown(column, said):
+    """What an entry says."""
+    return cells.bare(column.write(said)) if said else "none"
+
+
+def changed(column, old, new):
+    """That an entry says something else."""
+    return f"{column.heading} {shown(column, old)}, now {shown(column, new)}"
+
+
+def listed(heading, olds, news):
+    """What a list has less and more, whatever the order."""
+    less, more = Counter(olds) - Counter(news), Counter(news) - Counter(olds)
+    parts = [f"{word} {' '.join(names.elements())}" for word, names in (("without", less), ("with", more))
+             if names]
+    if parts:
+        yield f"{heading} {', '.join(parts)}"
+
+
+def of_section(section):
+    """A section in words: its entries that aren't empty."""
+    return ", ".join([section["kind"]] + [
+        f"{one.heading} {section[one.member]}" for one in columns.of_section(section["kind"])
+        if one.member not in ("name", "kind") and section[one.member] is not None])
+
+
+def of_route(route):
+    """The way of a route, in words."""
+    end = f"to {route['destination']}" if route["destination"] else "out"
+    return f"from {route['source']} {end} over {' '.join(route['path']) or 'nothing'}"
+
+
+def in_conflicts(name, value, other, pairs):
+    """The routes of a configuration that list a route as a conflict, but those that list it in the other
+    configuration too; `pairs` says which route is which there."""
+    return [route["name"] for number, route in enumerate(value["routes"]) if name in route["conflicts"]
+            and not (number in pairs and name in other["routes"][pairs[number]]["conflicts"])]

@@ -1,0 +1,122 @@
+"""Values apart by commas, as RFC 4180 has them, and as spreadsheets write them: also apart by semicolons,
+and with a mark of the encoding at the beginning.
+
+A quotation mark opens a cell in quotation marks only as its first character; inside such a cell two
+of them stand for one. Lines end with CR LF, LF or CR.
+"""
+
+import re
+
+from irvtools.calls.refusal import Refused
+
+COMMA, SEMICOLON = ",", ";"
+QUOTE = '"'
+MARK = "\ufeff"         # that a text is UTF-8, as spreadsheets write it
+ENDS = re.compile("\r\n|\r|\n")
+
+
+class Row:
+    """A row: the line of the file on which it begins, from 1, and its cells."""
+
+    def __init__(self, line, cells):
+        self.line, self.cells = line, cells
+
+
+def letters(number):
+    """The letters by which spreadsheets call a column, of its number from 0."""
+    word = ""
+    while number >= 0:
+        word = chr(ord("A") + number % 26) + word
+        number = number // 26 - 1
+    return word
+
+
+class Reader:
+    """Reads the rows of a text."""
+
+    def __init__(self, file, text, separator):
+        self.file, self.text, self.separator = file, text, separator
+        self.at, self.line = 0, 1
+        self.plain = re.compile(f'[^\r\n{separator}]*')
+        self.quoted = re.compile('[^"]*')
+
+    def rows(self):
+        """The rows, in order."""
+        while self.at < len(self.text):
+            yield self.row()
+
+    def row(self):
+        """The next row, with the end of its line."""
+        row = Row(self.line, [])
+        while True:
+            row.cells.append(self.cell(row))
+            if not self.text.startswith(self.separator, self.at):
+                break
+            self.at += 1
+        self.end(row)
+        return row
+
+    def cell(self, row):
+        """The next cell, up to what stands behind it."""
+        if self.text.startswith(QUOTE, self.at):
+            return self.cell_in_quotes(row)
+        cell = self.take(self.plain)
+        if QUOTE in cell:
+            raise self.refused(row, "a quotation mark inside a cell that doesn't begin with one; "
+                                    "a cell in quotation marks, each inside doubled, was expected")
+        return cell
+
+    def cell_in_quotes(self, row):
+        """A cell in quotation marks."""
+        parts = []
+        while True:
+            self.at += 1
+            parts.append(self.take(self.quoted))
+            if self.at == len(self.text):
+                raise self.refused(row, "a cell in quotation marks has no end; the mark that closes it "
+                                        "was expected")
+            self.at += 1
+            if not self.text.startswith(QUOTE, self.at):
+                break
+        cell = QUOTE.join(parts)
+        self.line += len(ENDS.findall(cell))
+        return cell
+
+    def take(self, pattern):
+        """What a pattern has here."""
+        found = pattern.match(self.text, self.at)
+        self.at = found.end()
+        return found[0]
+
+    def end(self, row):
+        """The end of a line, or of the text."""
+        if self.at == len(self.text):
+            return
+        found = ENDS.match(self.text, self.at)
+        if not found:
+            raise self.refused(row, "text behind the quotation mark that closes a cell; the next cell "
+                                    "was expected", len(row.cells) - 1)
+        self.at = found.end()
+        self.line += 1
+
+    def refused(self, row, why, column=None):
+        """A fault of a cell: the one that is being read, where none is named."""
+        column = letters(len(row.cells) if column is None else column)
+        return Refused(f"{self.file}, line {row.line}, column {column}: {why}")
+
+
+def read(file, text, separator):
+    """The rows of a text. The file's name is for what is told."""
+    return list(Reader(file, text.removeprefix(MARK), separator).rows())
+
+
+def first_row(text, separator):
+    """The cells of the first line, whatever stands in it; for the choice of the separator."""
+    line = ENDS.split(text.removeprefix(MARK), maxsplit=1)[0]
+    return [cell.strip(' "') for cell in line.split(separator)]
+
+
+def written(rows):
+    """The text of rows of cells. No cell has a comma, a quotation mark or an end of a line, so none needs
+    quotation marks."""
+    return "".join(",".join(row) + "\r\n" for row in rows)

@@ -1,0 +1,16 @@
+"""The table that a network has of itself, by the program's `table`."""
+
+from irvtools.csvtables import configurations
+from irvtools.calls.program import Program
+from irvtools.calls.refusal import Refused
+
+SECONDS = 60
+
+
+def own_table(program, value):
+    """The configuration that `irv table` prints of a configuration's network."""
+    given = configurations.written({**value, "routes": []}).encode()
+    answer = Program(program, given).ask(["table", "--columns", "free"], SECONDS)
+    if answer.status != 0:
+        raise Refused(f"the network has no table of its own: irv table: {answer.said}")
+    return configurations.read(answer.output.encode(), "what irv table prints")

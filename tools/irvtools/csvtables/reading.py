@@ -1,0 +1,140 @@
+"""From two sheets to a configuration. What is wrong with a cell is told with file, line and column; each
+fault of both sheets, in order.
+"""
+
+from pathlib import Path
+
+from irvtools.csvtables import cells
+from irvtools.csvtables import columns
+from irvtools.csvtables import csv_text
+from irvtools.csvtables.configurations import read_text
+from irvtools.calls.refusal import Refused, shown
+
+
+class Sheet:
+    """The rows of a sheet, with the place of each column. Rows and columns in which nothing stands are
+    passed over."""
+
+    def __init__(self, file, text, known):
+        self.file = file
+        rows = [row for row in csv_text.read(file, text, separator_of(text, known))
+                if any(cell.strip() for cell in row.cells)]
+        if not rows:
+            raise Refused(f"{file}: nothing stands in it; a line of headings was expected")
+        self.head, self.rows = rows[0], rows[1:]
+        self.places = {}
+        self.faults = list(self.read_head([one.heading for one in known]))
+
+    def read_head(self, known):
+        """Reads the headings, and tells what is wrong with them."""
+        for place, cell in enumerate(self.head.cells):
+            heading = heading_of(cell)
+            if heading in self.places:
+                yield self.at(self.head, place, f"the heading {heading} stands here again")
+            elif heading in known:
+                self.places[heading] = place
+            elif heading or any(cell_at(row, place).strip() for row in self.rows):
+                yield self.at(self.head, place, f"{shown(cell)} is no heading; {', '.join(known)} "
+                                                "were expected")
+        for row in self.rows:
+            if any(cell.strip() for cell in row.cells[len(self.head.cells):]):
+                yield self.at(row, len(self.head.cells), "a cell behind the last heading; an empty cell "
+                                                         "was expected")
+
+    def at(self, row, place, why):
+        """A fault at a cell."""
+        heading = heading_of(cell_at(self.head, place))
+        named = f" ({heading})" if row is not self.head and heading else ""
+        return f"{self.file}, line {row.line}, column {csv_text.letters(place)}{named}: {why}"
+
+    def require(self, wanted):
+        """Tells the headings that are missing."""
+        for heading in wanted:
+            if heading not in self.places:
+                self.faults.append(f"{self.file}, line {self.head.line}: the column {heading} is missing")
+
+    def cell(self, row, column):
+        """The cell of a column."""
+        return cell_at(row, self.places[column.heading])
+
+    def read_cell(self, row, column):
+        """What a cell says; None where it is wrong, which is kept as a fault."""
+        try:
+            return column.read(self.cell(row, column))
+        except cells.WrongCell as fault:
+            self.faults.append(self.at(row, self.places[column.heading], str(fault)))
+            return None
+
+
+def cell_at(row, place):
+    """A cell; an empty one where the row ends before it, as spreadsheets write rows."""
+    return row.cells[place] if place < len(row.cells) else ""
+
+
+def heading_of(cell):
+    """A heading as it is compared: in small letters, with single blanks."""
+    return " ".join(cell.lower().split())
+
+
+def separator_of(text, known):
+    """The separator with which more of the headings are known."""
+    headings = [one.heading for one in known]
+
+    def count(separator):
+        return sum(heading_of(cell) in headings for cell in csv_text.first_row(text, separator))
+    return max((csv_text.COMMA, csv_text.SEMICOLON), key=count)
+
+
+def read_section(sheet, row):
+    """A section, of its row."""
+    by_member = {one.member: one for one in columns.OF_SECTIONS}
+    kind = sheet.read_cell(row, by_member["kind"])
+    if kind is None:
+        return {}
+    own = columns.of_section(kind)
+    for column in columns.OF_SECTIONS:
+        if column not in own and cells.words(sheet.cell(row, column)):
+            sheet.faults.append(sheet.at(
+                row, sheet.places[column.heading],
+                f"a {kind if kind == 'point' else 'linear section'} has no {column.heading}; an empty "
+                "cell was expected"))
+    return {member: sheet.read_cell(row, by_member[member]) for member in columns.MEMBERS[kind]}
+
+
+def read_sections(text, file=columns.SECTIONS):
+    """The sections of a sheet, and its faults."""
+    sheet = Sheet(file, text, columns.OF_SECTIONS)
+    sheet.require([one.heading for one in columns.OF_SECTIONS])
+    if sheet.faults:
+        return [], sheet.faults
+    return [read_section(sheet, row) for row in sheet.rows], sheet.faults
+
+
+def read_routes(text, file=columns.ROUTES):
+    """The version, the routes of a sheet, and its faults. It is version 2 where there is a column of
+    what protects a route."""
+    sheet = Sheet(file, text, columns.of_routes(2))
+    version = 2 if any(one.heading in sheet.places for one in columns.PROTECTING) else 1
+    known = columns.of_routes(version)
+    sheet.require([one.heading for one in known])
+    if sheet.faults:
+        return version, [], sheet.faults
+    return version, [{one.member: sheet.read_cell(row, one) for one in known}
+                     for row in sheet.rows], sheet.faults
+
+
+def read_folder(folder):
+    """The configuration of the two sheets in a folder."""
+    faults, found = [], []
+    for file, read in ((columns.SECTIONS, read_sections), (columns.ROUTES, read_routes)):
+        try:
+            path = str(Path(folder, file))
+            *values, told = read(read_text(path, "a sheet"), path)
+            found += values
+            faults += told
+        except Refused as refused:
+            faults += refused.faults
+    if faults:
+        raise Refused(*faults)
+    sections, version, routes = found
+    return {"version": version, "sections": sections, "routes": routes}

@@ -1,0 +1,1 @@
+"""Generated configurations, for tests and measurements."""

@@ -1,0 +1,52 @@
+"""The table of routes as a sheet that prints: a row for each route and a column for each of its entries,
+in the words of docs/SHEETS.md."""
+
+from irvtools.rules.schema_rules import route_members
+from irvtools.html.markup import tag, text
+from irvtools.model.phrases import list_words
+
+LONGEST_CELL = 6000     # characters of a cell
+SHORT = 16              # characters of a name that stands in one line
+
+
+def sheet_part(page):
+    """The table of routes, on the page."""
+    if not page.plant.routes:
+        return
+    page.head("The table of routes")
+    known = route_members(page.plant.version)
+    rows = [row(str(route.number), route.member, known) for route in page.plant.routes]
+    page.add(tag("div", sheet("no.", known, rows), class_="wide"))
+
+
+def heading(member):
+    """The heading of an entry's column."""
+    return member.replace("_", " ")
+
+
+def sheet(first, known, rows):
+    """A sheet of some rows; `first` is the heading of what stands before each."""
+    head = tag("thead", tag("tr", "".join(
+        tag("th", text(word)) for word in (first, *map(heading, known)))))
+    return tag("table", head + tag("tbody", "\n".join(rows)), class_="sheet")
+
+
+def row(first, route, known, marked=(), class_=None):
+    """A row of the sheet, with the entries that are marked; `first` stands before it."""
+    return tag("tr", tag("th", text(first)) + "".join(
+        tag("td", cell(route.get(member)), class_="differs" if member in marked else None)
+        for member in known), class_=class_)
+
+
+def cell(said):
+    """What an entry says, in a cell."""
+    words = list_words(said) if isinstance(said, list) else [said or ""]
+    line = " ".join(words)
+    if len(line) > LONGEST_CELL:
+        return text(line[:LONGEST_CELL] + " … (left out)")
+    return " ".join(map(whole, words))
+
+
+def whole(word):
+    """A name that isn't broken at its hyphens, where it is short."""
+    return tag("span", text(word), class_="whole") if "-" in word[:-1] and len(word) <= SHORT else text(word)

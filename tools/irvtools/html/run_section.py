@@ -1,0 +1,156 @@
+"""A run or a scenario of the caller, on the page: step by step, up to where it ends or can't go on, and
+why it can't."""
+
+from irvtools.model.disabled_events import unmet_words
+from irvtools.model.events import apply, hazard
+from irvtools.html.run_file import COMMANDS, bad_line, driven
+from irvtools.html.markup import code, tag, text
+from irvtools.html.run_frames import LEGEND, RunView, trouble
+from irvtools.model.state import State, event_line
+from irvtools.model.waiting import waiting
+from irvtools.model.descriptions import counted, hazard_words
+
+ASK_SECONDS = 60        # for replay or drive
+ANSWERED = (0, 1, 6)    # their statuses where they answer
+MOST_DRAWN = 40000      # frames times sections: of a longer run the last events are drawn
+MOST_EVENTS = 400       # that are drawn
+
+
+class GivenView(RunView):
+    """Draws runs with a note at some of the frames: of each place in a run, the note."""
+
+    notes = {}
+
+    def frame(self, events, place, states, marks, said):
+        """A frame, with its note before it."""
+        note = self.notes.get(place)
+        before = tag("p", text(note), class_="note") if note else ""
+        return before + super().frame(events, place, states, marks, said)
+
+
+def given_part(page, columns):
+    """The run or the scenario."""
+    given, plant = page.given_run, page.plant
+    what = "run" if given.kind == "run" else "scenario"
+    page.head(f"The {what} of {given.name}")
+    answer = given.ask(page.program, columns, ASK_SECONDS)
+    page.calls.append(answer)
+    page.show(answer)
+    view = GivenView(page.program, columns, plant, page.drawing)
+    page.summary.append(tag("b", text(f"The {what} of {given.name}: ")) + code(answer.said))
+    page.said.append(f"{what}: {answer.said}")
+    word = answer.line.partition(" ")[0]
+    if answer.line == "refused F1 extra":
+        page.add(trouble(f"The {what} is longer than is read: docs/COMMANDS.md, “Lengths”, has how long "
+                         "it may be."))
+    elif answer.status not in ANSWERED:
+        page.add(trouble(f"That is no answer about the {what}, so it isn't drawn."))
+    elif word == "rejected":
+        rejected_part(page, view, int(answer.line.split(" ")[2]))
+    elif given.kind == "run":
+        run_part(page, view, answer)
+    else:
+        drive_part(page, view, answer)
+
+
+def rejected_part(page, view, number):
+    """A text that isn't one: up to its first bad line."""
+    given, plant = page.given_run, page.plant
+    why = bad_line(given, plant, number)
+    page.add(tag("p", tag("b", text(why), class_="bad")))
+    page.summary[-1] += text(f": {why}")
+    read = given.read(plant, number) if given.kind == "run" else None
+    if read is not None and read[1]:
+        page.own("Drawn are the events before that line.")
+        draw(page, view, *read)
+
+
+def run_part(page, view, answer):
+    """A run, up to its hazard, to its end, or to the event that isn't enabled."""
+    plant = page.plant
+    first, events = page.given_run.read(plant)
+    place, reached = first_refused(plant, first, events)
+    own = view.own(reached) if place is None else f"not a run at {place}"
+    if answer.line != own:
+        page.add(trouble(f"Here the page stops. irv replay says “{answer.line}”, and the page's own "
+                         f"model says “{own}”."))
+        return
+    draw(page, view, first, events if place is None else events[:place - 1])
+    if place is not None:
+        refused_event(page, reached, events, place)
+
+
+def first_refused(plant, first, events):
+    """The number of the first event, from 1, that isn't enabled or before which a hazard stands, or
+    None; and the state before it, or the last one."""
+    state = State(plant) if first is None else first.copy()
+    for place, event in enumerate(events, 1):
+        if hazard(plant, state) or not apply(plant, state, event):
+            return place, state
+    return None, state
+
+
+def refused_event(page, state, events, place):
+    """Why an event of a run doesn't come."""
+    line = event_line(page.plant, events[place - 1])
+    at = hazard(page.plant, state)
+    if at:
+        why = f"a hazard stands before it, and ends the run: {hazard_words(page.plant, at)}"
+    else:
+        why = f"{unmet_words(page.plant, state, events[place - 1])}."
+    sentence = f"Event {place}, {line}, isn't enabled: {why}"
+    page.add(tag("p", tag("b", text(sentence), class_="bad"), class_="own"))
+    page.summary[-1] += text(f". {sentence}")
+
+
+def drive_part(page, view, answer):
+    """A scenario: each command where it acts, and what it comes to."""
+    plant = page.plant
+    events = driven(plant, answer.output)
+    commands = [place for place, (word, _) in enumerate(events, 1) if word in COMMANDS]
+    count = len(page.given_run.lines) - 3       # but for the head, the end and what follows it
+    view.notes = {place: f"Command {number} of {count}: {event_line(plant, events[place - 1])}"
+                  for number, place in enumerate(commands, 1)}
+    page.add(tag("p", text(f"Given were {len(commands)} of {counted(count, 'command')}; "
+                           f"{counted(len(events) - len(commands), 'event')} the plant did by itself. "
+                           "Each command stands where it acts, and what follows it, up to the next "
+                           "one, comes by itself.")))
+    _, state = first_refused(plant, None, events)
+    draw(page, view, None, events)
+    if answer.line.startswith("stuck "):
+        stuck_part(page, state, int(answer.line.split(" ")[2]), count)
+
+
+def stuck_part(page, state, number, count):
+    """Where a drive is stuck, and what waits for what."""
+    plant = page.plant
+    if number <= count:
+        line = page.given_run.lines[number]
+        word, name = line.split(" ")
+        event = word, (plant.section_named if word == "enter" else plant.route_named)[name]
+        demands = unmet_words(plant, state, event)
+        sentence = f"The drive is stuck at command {number}, {line}, which isn't enabled: {demands}."
+    else:
+        sentence = ("All commands are given, and the drive doesn't come to its end: nothing more comes "
+                    "by itself.")
+    page.add(tag("p", tag("b", text(sentence), class_="bad"), class_="own"))
+    sentences = waiting(plant, state)
+    page.own("What waits for what there, by the page's own reading:")
+    page.add(tag("ul", "".join(tag("li", text(one)) for one in sentences)))
+    page.summary[-1] += text(f". {sentence}")
+
+
+def draw(page, view, first, events):
+    """The frames of a run; of one that is too long those of its last events."""
+    plant = page.plant
+    most = max(20, min(MOST_EVENTS, MOST_DRAWN // max(1, len(plant.sections))))
+    left_out = max(0, len(events) - most)
+    if left_out:
+        _, first = first_refused(plant, first, events[:left_out])
+        events = events[left_out:]
+        view.notes = {place - left_out: note for place, note in view.notes.items()
+                      if place > left_out}
+        page.own(f"Left out: frames of the first {left_out} events. What is drawn begins in the state "
+                 "after them, and its events are counted from there.")
+    page.add(tag("p", text(LEGEND), class_="small"),
+             page.drawing.beside(view.frames(events, first)))

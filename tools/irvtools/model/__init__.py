@@ -1,0 +1,1 @@
+"""Plants, states, events and runs: the tools' own reading of the model."""

@@ -1,0 +1,60 @@
+"""What each train and each route in use waits for, in a state in which nothing comes by itself: the
+page's own reading, by the demands of the event that would be next."""
+
+from irvtools.model.disabled_events import unmet
+from irvtools.model.phrases import join
+
+AWAITED = {"marked": "allocate", "allocating": "lock"}      # a route's next event, by its mode
+
+
+def next_event(plant, state, r):
+    """The event that a route in use waits for."""
+    if state.mode[r] in AWAITED:
+        return AWAITED[state.mode[r]], r
+    path = plant.routes[r].path
+    if state.seen[r] < len(path):
+        return "sense", r
+    return ("release" if state.rel[r] + 1 < len(path) else "finish"), r
+
+
+def route_wait(plant, state, r):
+    """What a route in use waits for, as a sentence."""
+    name = plant.routes[r].name
+    board = plant.boards[plant.routes[r].source].name
+    if state.mode[r] == "locked":
+        return f"{name} is set, with board {board} {state.aspect[plant.routes[r].source]}, and waits " \
+               "for a train to come there."
+    found = unmet(plant, state, next_event(plant, state, r))
+    awaited = list(dict.fromkeys(demand.awaited for demand in found if demand.awaited))
+    used = " is used by a train, and" if state.mode[r] == "occupied" else ""
+    if awaited:
+        return f"{name}{used} waits for {', and for '.join(awaited)}."
+    if found:
+        return f"{name} is {state.mode[r]}: {join(demand.unmet for demand in found)}."
+    return f"{name} is {state.mode[r]}, and may go on."
+
+
+def train_wait(plant, state, train):
+    """What a train waits for, as a sentence."""
+    direction, body = train
+    head = body[-1]
+    where = f"The train in {join(plant.name(x) for x in body)}, which runs {direction},"
+    board = plant.board_on.get((head, direction))
+    if board is None or state.aspect[board] == "open":
+        return f"{where} may go on."
+    name = plant.boards[board].name
+    begin = [(r, route) for r, route in enumerate(plant.routes) if route.source == board]
+    asked = [f"{route.name} is {state.mode[r]}" for r, route in begin if state.mode[r] != "free"]
+    if asked:
+        why = f"of the routes that begin there {join(asked)}"
+    elif begin:
+        why = f"no route that begins there is asked for ({join((route.name for _, route in begin), 'or')})"
+    else:
+        why = "no route begins there"
+    return f"{where} stands before {name}, which is closed: {why}."
+
+
+def waiting(plant, state):
+    """What each train and each route in use waits for: sentences."""
+    return ([train_wait(plant, state, train) for train in state.trains]
+            + [route_wait(plant, state, r) for r in range(len(plant.routes)) if state.mode[r] != "free"])

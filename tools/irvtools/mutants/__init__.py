@@ -1,0 +1,1 @@
+"""Mutants of functions, each of which the prover has to refuse."""

@@ -1,0 +1,1 @@
+"""Measurements of the program, and the page that shows them."""

@@ -1,0 +1,240 @@
+"""Measures verify over stations in a row and other lines, beside other solvers on the same formulas.
+
+    tools/benchmark PROGRAM [N | LINE | FILE | seconds=N | conflicts=N | audit=YARDSTICK | rup=YARDSTICK]..
+
+By default of 1, 2, 4, 8 and 16 stations, and of the terminus throat; LINE is a double-track line, as `bs`
+or `11L` (tests/lib/double_track.py). First it tells the machine, the program and the solvers. Then for
+each plant: its sections, points and routes, the verdict, user seconds and peak memory of verify, the size
+of its certificate, and for each query of the certificate its variables, clauses and conflicts, and the
+seconds and conflicts of cadical, minisat and picosat where they are there, each ended after as many
+seconds of a processor as seconds= says (600); then the same of audit on the certificate, and where cadical
+is there, of rup on what it writes of the last query, without what only deletes where it is longer than rup
+reads. verify may take as many conflicts as conflicts= says, or as many as without that word of its own. All
+in one run, so that the figures can be compared. A peak below some 16 MiB isn't told apart: so
+much this script has itself. tools/speed makes a table and a picture of what is printed.
+
+audit and rup are run in three rounds, of which the least seconds count, and in one where that takes a
+minute or more. A yardstick is another program, run at the same time as ours: of audit one that is called
+with the certificate and the formulas of its queries in their order, of rup one that is called with the
+formula and the refutation.
+"""
+
+import json
+import os
+import re
+import shutil
+import subprocess
+import sys
+import tempfile
+import time
+from pathlib import Path
+
+
+from irvtools.generators import double_track
+from irvtools.checkers import refutations
+from irvtools.paths import TOP
+
+PLANTS = ["1", "2", "4", "8", "16", str(TOP / "examples/terminus-throat.json")]
+SOLVERS = {"cadical": ["cadical", "-n"], "minisat": ["minisat", "-verb=1"], "picosat": ["picosat", "-v", "-n"]}
+CONFLICTS = re.compile(r"conflicts\s*:\s*([0-9]+)|^c ([0-9]+) conflicts$", re.M)
+SECONDS = 600           # of a processor, after which another solver is ended
+ROUNDS, LONG = 3, 60   # how often audit and rup are run, and from how many seconds on once
+
+
+def of_processor():
+    """What the machine says of its processors and its memory."""
+    with open("/proc/cpuinfo", encoding="utf-8") as told:
+        names = re.findall(r"^model name\s*: (.*)$", told.read(), re.M)
+    with open("/proc/meminfo", encoding="utf-8") as told:
+        kibibytes = int(re.search(r"^MemTotal:\s*([0-9]+)", told.read(), re.M)[1])
+    return f"{(names or ['unknown'])[0]}, {os.cpu_count()} processors, {kibibytes / 1048576:.0f} GiB of memory"
+
+
+def version_of(name):
+    """The version of a solver's package, if that can be seen."""
+    if shutil.which(name) is None:
+        return f"{name} isn't there"
+    if shutil.which("dpkg-query") is None:
+        return name
+    done = subprocess.run(["dpkg-query", "-W", "-f", "${Version}", name], stdout=subprocess.PIPE,
+                          stderr=subprocess.DEVNULL)
+    return f"{name} {done.stdout.decode()}".rstrip()
+
+
+def head(program, options):
+    """What is measured where: the lines before the plants."""
+    path, sums = Path(program), subprocess.run(["sha256sum", program], stdout=subprocess.PIPE, check=True)
+    name = path.relative_to(TOP) if path.is_relative_to(TOP) else path.name
+    yield f"machine: {of_processor()}"
+    yield f"day: {time.strftime('%Y-%m-%d', time.gmtime())}"
+    yield f"program: {name}, sha256 {sums.stdout.decode().partition(' ')[0]}"
+    yield f"solvers: {', '.join(map(version_of, SOLVERS))}; ended after {options.get('seconds', SECONDS)} seconds"
+    if "conflicts" in options:
+        yield f"conflicts: {options['conflicts']}"
+    yield load()
+
+
+def load():
+    """How many processes were at work in the last minute."""
+    return f"load: {os.getloadavg()[0]:.1f}"
+
+
+def started(command, given, output):
+    """Begins a command."""
+    return subprocess.Popen(command, stdin=given, stdout=output, stderr=subprocess.DEVNULL)
+
+
+def ended(child):
+    """Waits for a command's end: its exit status, user seconds and peak mebibytes."""
+    _, state, used = os.wait4(child.pid, 0)
+    child.returncode = os.waitstatus_to_exitcode(state)
+    return child.returncode, used.ru_utime, used.ru_maxrss / 1024
+
+
+def measured(command, given, output):
+    """Runs a command: its exit status, user seconds, peak mebibytes and seconds on the clock."""
+    begin = time.monotonic()
+    return *ended(started(command, given, output)), time.monotonic() - begin
+
+
+def beside(ours, yardstick, folder):
+    """What a command takes, and at the same time a yardstick, if there is one."""
+    commands = [ours, *([yardstick] if yardstick else [])]
+    figures, answers = [[] for _ in commands], [folder / f"answer{i}" for i in range(len(commands))]
+    for _ in range(ROUNDS):
+        children = []
+        for command, path in zip(commands, answers):
+            with open(folder / "plant.json", "rb") as given, open(path, "wb") as out:
+                children.append(started(command, given, out))
+        for child, found in zip(children, figures):
+            found.append(ended(child)[1:])
+        if max(user for found in figures for user, _ in found) >= LONG:
+            break
+    told = [f"{answer.read_text().partition(chr(10))[0]}, {min(user for user, _ in found):.2f} s "
+            f"{max(peak for _, peak in found):.0f} MiB" for answer, found in zip(answers, figures)]
+    return "; the yardstick: ".join(told)
+
+
+def plant_of(program, word):
+    """A plant's name and its configuration: so many stations, as the program makes them, a line, or a file."""
+    if double_track.LINE.fullmatch(word):
+        return f"line {word}", double_track.configuration(word)
+    if not word.isdigit():
+        return Path(word).stem, Path(word).read_bytes()
+    made = subprocess.run([program, "make", "--stations", word], stdout=subprocess.PIPE)
+    if made.returncode != 0:
+        sys.exit(f"no {word} stations are made: make takes 1 to 16")
+    return f"stations {word}", made.stdout
+
+
+def size_of(configuration):
+    """How many sections, points and routes there are."""
+    document = json.loads(configuration)
+    points = sum(section["kind"] == "point" for section in document["sections"])
+    return f"{len(document['sections'])} sections, {points} points, {len(document['routes'])} routes"
+
+
+def conflicts_of(certificate):
+    """The queries of a certificate, each with its number of steps that have a literal."""
+    queries = []
+    with open(certificate, encoding="ascii") as lines:
+        for line in lines:
+            if line.startswith("query "):
+                queries.append([*line.split()[1:], 0])
+            elif line.startswith("step ") and not line.startswith("step 0 "):
+                queries[-1][2] += 1
+    return queries
+
+
+def solver_figures(name, path, seconds):
+    """The answer, seconds and conflicts of another solver, or a dash where it isn't there. One that is ended
+    answers `over`."""
+    if shutil.which(name) is None:
+        return f"{name} -"
+    output = path.with_suffix(".out")
+    limited = ["sh", "-c", f'ulimit -t {seconds} && exec "$0" "$@"', *SOLVERS[name], str(path)]
+    with open(output, "wb") as out:
+        status, user, _, _ = measured(limited, subprocess.DEVNULL, out)
+    found = CONFLICTS.findall(output.read_text(errors="replace"))
+    answer = {10: "sat", 20: "unsat"}.get(status, "over" if user > seconds - 1 else f"status {status}")
+    return f"{name} {answer} {user:.2f} s {''.join(found[-1]) if found else '-'} conflicts"
+
+
+def measure_query(program, folder, kind, number, conflicts, seconds):
+    """Prints the figures of one query."""
+    path = folder / f"{kind}{number}.cnf"
+    with open(folder / "plant.json", "rb") as given, open(path, "wb") as out:
+        command = [program, "export", "--columns", "free", "--query", kind, "--number", number]
+        _, user, peak, _ = measured(command, given, out)
+    with open(path, encoding="ascii") as formula:
+        _, _, variables, clauses = formula.readline().split()
+    others = "; ".join(solver_figures(name, path, seconds) for name in SOLVERS)
+    print(f"    {kind} {number}: {variables} variables, {clauses} clauses, {conflicts} conflicts; "
+          f"export {user:.2f} s {peak:.0f} MiB; {others}", flush=True)
+
+
+def shortened(text):
+    """A file of a refutation without the lines that only delete, which is made line by line: the memory that
+    this script takes is in each peak that it measures later."""
+    shorter = text.with_suffix(".shorter")
+    with open(text, "rb") as lines, open(shorter, "wb") as out:
+        out.writelines(refutations.only_additions(lines))
+    return shorter
+
+
+def measure_checks(program, folder, queries, yardsticks):
+    """Prints the figures of audit, and of rup on the last query."""
+    formulas = [str(folder / f"{kind}{number}.cnf") for kind, number, _ in queries]
+    files = [str(folder / "cert"), *formulas]
+    yardstick = yardsticks.get("audit")
+    print("    audit:", beside([program, "audit", "--columns", "free", "--cert", str(folder / "cert")],
+                               yardstick and [yardstick, *files], folder), flush=True)
+    if shutil.which("cadical"):
+        kind, number, _ = queries[-1]
+        text = folder / "text"
+        measured(["cadical", "-q", "-n", "--no-binary", formulas[-1], str(text)],
+                 subprocess.DEVNULL, subprocess.DEVNULL)
+        if text.stat().st_size > refutations.LONGEST:
+            text = shortened(text)
+        yardstick = yardsticks.get("rup")
+        print(f"    rup, a text of {text.stat().st_size} bytes:",
+              beside([program, "rup", "--columns", "free", "--query", kind, "--number", number,
+                      "--cert", str(text)],
+                     yardstick and [yardstick, formulas[-1], str(text)], folder), flush=True)
+
+
+def measure(program, word, folder, options):
+    """Prints the figures of one plant."""
+    name, configuration = plant_of(program, word)
+    (folder / "plant.json").write_bytes(configuration)
+    with open(folder / "plant.json", "rb") as given, open(folder / "report", "wb") as out:
+        budget = ["--conflicts", options["conflicts"]] if "conflicts" in options else []
+        command = [program, "verify", "--columns", "free", *budget, "--cert", str(folder / "cert")]
+        status, user, peak, clock = measured(command, given, out)
+    verdict = (folder / "report").read_text().partition("\n")[0]
+    print(f"{name}, {size_of(configuration)}: {verdict or f'status {status}'}; {user:.2f} s user, "
+          f"{clock:.2f} s, {peak:.0f} MiB", flush=True)
+    if (folder / "cert").exists():
+        queries = conflicts_of(folder / "cert")
+        size = (folder / "cert").stat().st_size
+        print(f"    certificate of {size} bytes, {sum(query[2] for query in queries)} conflicts")
+        for query in queries:
+            measure_query(program, folder, *query, int(options.get("seconds", SECONDS)))
+        measure_checks(program, folder, queries, options)
+
+
+def main(words):
+    """Measures each plant; answers the exit status."""
+    if not words or words[0].startswith("--"):
+        print(__doc__, file=sys.stderr)
+        return 2
+    program, options = str(Path(words[0]).resolve()), {}
+    for word in [word for word in words[1:] if "=" in word]:
+        name, _, value = word.partition("=")
+        options[name] = value if name in ("seconds", "conflicts") else str(Path(value).resolve())
+    print("\n".join(head(program, options)))
+    for word in [word for word in words[1:] if "=" not in word] or PLANTS:
+        with tempfile.TemporaryDirectory(prefix="irv-benchmark-") as folder:
+            measure(program, word, Path(folder), options)
+    print(load())
+    return 0

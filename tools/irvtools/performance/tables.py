@@ -1,0 +1,117 @@
+"""The parts of docs/SPEED.md and of README.md that are made of a measurement."""
+
+import re
+
+from irvtools.performance.measurements import PROVED, Time
+
+BEGIN, END = "<!-- measured: begins -->\n", "<!-- measured: ends -->\n"
+SOLVERS = ("cadical", "minisat", "picosat")
+MADE = re.compile(r"stations ([0-9]+)")
+PICTURE = "pictures/speed.svg"
+FEW = ("stations 8", "line bs", "line 11L", "line bsbsb")    # the plants of the short form
+
+
+class NoPlace(Exception):
+    """A document without the two marks."""
+
+
+def shown(name):
+    """A plant's name: so many made stations, a line by its letters, or a file."""
+    made = MADE.fullmatch(name)
+    if made:
+        return f"{made[1]} made station{'' if made[1] == '1' else 's'}"
+    return name
+
+
+def seconds(time):
+    """Seconds, in three digits or so."""
+    if time is None:
+        return "-"
+    digits = 2 if time.seconds < 10 else 1 if time.seconds < 100 else 0
+    return f"{'over ' if time.is_over else ''}{time.seconds:.{digits}f}"
+
+
+def megabytes(count):
+    """Bytes, in millions."""
+    return f"{count / 1e6:.1f}" if count else "-"
+
+
+def table(head, rows):
+    """A table of Markdown."""
+    lines = [f"| {' | '.join(row)} |" for row in (head, *rows)]
+    return "\n".join([lines[0], "|" + "---|" * len(head), *lines[1:]]) + "\n"
+
+
+def answers(plants):
+    """The table of verify and of other solvers."""
+    head = ["plant", "sections, points, routes", "answer", "`verify`, s", "MiB", "conflicts",
+            *(f"{name}, s" for name in SOLVERS)]
+    return table(head, [[shown(plant.name), f"{plant.sections}, {plant.points}, {plant.routes}", plant.answer,
+                         seconds(Time(plant.seconds)), str(plant.memory), str(plant.conflicts),
+                         *(seconds(plant.solvers.get(name)) for name in SOLVERS)] for plant in plants])
+
+
+def check(found):
+    """The cells of what audit or rup took, or of its answer where that isn't the one that is hoped for."""
+    if found is None:
+        return ["-", "-"]
+    if not found.answer.startswith(("accepted", "refuted")):
+        return [found.answer, "-"]
+    return [seconds(Time(found.seconds)), str(found.memory)]
+
+
+def checks(plants):
+    """The table of audit and rup."""
+    head = ["plant", "certificate, MB", "`audit`, s", "MiB", "cadical's text, MB", "`rup`, s", "MiB"]
+    return table(head, [[shown(plant.name), megabytes(plant.certificate), *check(plant.audit),
+                         megabytes(plant.text), *check(plant.rup)] for plant in plants])
+
+
+def origin(run, whose):
+    """What was measured of these plants, where, and beside what."""
+    name, _, rest = run.head["program"].partition(", ")
+    program = (f"The program was the proved one, `{PROVED}` ({rest})." if name == PROVED else
+               f"**The program wasn't proved**: it was made of this repository's sources as they were then, "
+               f"without their proofs ({name}, {rest}).")
+    loads, budget = sorted(run.loads, key=float), run.head.get("conflicts")
+    if budget:
+        program += f" `verify` was called with `--conflicts {budget}`."
+    return (f"{whose} on {run.head['day']}: {run.head['machine']}. {program} Other solvers: "
+            f"{run.head['solvers']} of a processor. Processes at work in the minute before a beginning or an end: "
+            f"{' to '.join(dict.fromkeys((loads[0], loads[-1])))}. Where they are more than there are processors, "
+            "the seconds are longer than they would be alone.\n")
+
+
+def origins(measured):
+    """The same for each call, with its plants where there are several."""
+    if len(measured.runs) == 1:
+        return origin(measured.runs[0], "Measured")
+    ends = [list(dict.fromkeys(shown(run.plants[place].name) for place in (0, -1))) for run in measured.runs]
+    return "\n".join(origin(run, f"{' to '.join(names)}, measured") for run, names in zip(measured.runs, ends))
+
+
+def part(measured):
+    """The whole part, without its marks."""
+    return (f"\n{origins(measured)}\n{answers(measured.plants)}\n"
+            f"![Seconds over the number of sections]({PICTURE})\n\n{checks(measured.plants)}\n")
+
+
+def short(measured, few=FEW):
+    """The short form, without its marks: a few of the plants, and of the checks that of the certificate alone."""
+    head = ["line", "sections, points, routes", "answer", "`verify`, s", "MiB", "`audit`, s",
+            *(f"{name}, s" for name in SOLVERS[:2])]
+    rows = [[shown(plant.name), f"{plant.sections}, {plant.points}, {plant.routes}", plant.answer,
+             seconds(Time(plant.seconds)), str(plant.memory), check(plant.audit)[0],
+             *(seconds(plant.solvers.get(name)) for name in SOLVERS[:2])]
+            for plant in measured.plants if plant.name in few]
+    whose = "of the proved program" if measured.is_proved else "of a program that **wasn't proved**"
+    return f"\nSeconds of a processor {whose}, on {' and '.join(measured.machines)}:\n\n{table(head, rows)}\n"
+
+
+def renewed(document, measured, made=part):
+    """A document with the part made anew."""
+    before, begin, rest = document.partition(BEGIN)
+    _, end, behind = rest.partition(END)
+    if not begin or not end:
+        raise NoPlace("the document lacks the marks of what is measured")
+    return before + begin + made(measured) + end + behind

@@ -1,0 +1,1 @@
+"""The rules of a configuration in words, and advice that no rule asks for."""

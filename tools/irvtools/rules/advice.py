@@ -1,0 +1,110 @@
+"""What an engineer looks for in a table of routes and no rule asks: found by the page itself, and no
+answer. What the ways of the network are `irv table` says."""
+
+import json
+
+from irvtools.rules.column_rules import wrong_on_path
+
+
+def without_overlap(plant):
+    """Routes that end at a board and have no overlap behind it."""
+    return [route for route in plant.routes if route.destination is not None and not route.overlap]
+
+
+def overlap_ends(plant):
+    """Routes whose overlap doesn't end at a board for their direction: those where the line goes on, and
+    those where the network ends."""
+    going_on, outside = [], []
+    for route in plant.routes:
+        if route.overlap and (route.overlap[-1], route.direction) not in plant.board_on:
+            behind = plant.nexts[route.overlap[-1], route.direction]
+            (going_on if behind else outside).append(route)
+    return going_on, outside
+
+
+class Ways:
+    """The ways of the network, as `irv table` prints them, beside the routes of the table. `lacking` are
+    the ways of which there is no route, `other` the routes that are no way."""
+
+    def __init__(self, plant, report):
+        self.plant = plant
+        ways = [(plant.board_named[member["source"]],
+                 tuple(plant.section_named[name] for name in member["path"]))
+                for member in json.loads(report)["routes"]]
+        routes = {(route.source, tuple(route.path)) for route in plant.routes}
+        self.count = len(ways)
+        self.lacking = [way for way in ways if way not in routes]
+        self.other = [route for route in plant.routes
+                      if (route.source, tuple(route.path)) not in set(ways)]
+        self.used = used_borders(plant)
+
+    def to_boards(self):
+        """Those that are lacking, from a board that isn't at a dead end to another board."""
+        return [way for way in self.lacking if not self.from_dead_end(way) and not self.is_out(way)]
+
+    def over_borders(self):
+        """Those that lead out where the table has routes."""
+        return [way for way in self.lacking if not self.from_dead_end(way) and self.is_out(way)
+                and way[1][-1] in self.used]
+
+    def at_dead_ends(self):
+        """Those that lead to a border, or from one, that no route of the table uses."""
+        return [way for way in self.lacking if self.from_dead_end(way)
+                or self.is_out(way) and way[1][-1] not in self.used]
+
+    def is_out(self, way):
+        """Whether a way leads out of the network."""
+        return not self.plant.nexts[way[1][-1], self.plant.boards[way[0]].direction]
+
+    def from_dead_end(self, way):
+        """Whether a way begins at a border that no route uses."""
+        board = self.plant.boards[way[0]]
+        return self.plant.inward.get(board.section) == board.direction \
+            and board.section not in self.used
+
+
+def used_borders(plant):
+    """The borders to which a route of the table leads, or at whose board one begins."""
+    used = {route.path[-1] for route in plant.routes}
+    used |= {plant.boards[route.source].section for route in plant.routes
+             if plant.inward.get(plant.boards[route.source].section) == route.direction}
+    return used & set(plant.inward)
+
+
+def unused_boards(plant):
+    """Boards at which no route begins or ends."""
+    used = {b for route in plant.routes for b in (route.source, route.destination)}
+    return [board for board in plant.boards if board.number not in used]
+
+
+def points_one_way(plant):
+    """Points that every route that locks them wants in one position, with it and the number of routes;
+    and points that no route locks."""
+    wanted = {x: [] for x in plant.points}
+    for route in plant.routes:
+        for x, position in route.wanted:
+            wanted[x].append(position)
+    one_way = [(x, found[0], len(found)) for x, found in wanted.items() if len(set(found)) == 1]
+    return one_way, [x for x, found in wanted.items() if not found]
+
+
+def exchanged_legs(plant):
+    """Points over which two or more routes lead, and which each of these lists in the other position
+    than the one that leads along its path; with these routes."""
+    wrong, over = {}, {}
+    for route in plant.routes:
+        listed = dict(route.points)
+        for x, needed in wrong_on_path(plant, route):
+            if x in listed and needed:
+                wrong.setdefault(x, []).append(route)
+        for x in route.path:
+            if plant.sections[x].is_point and x in listed:
+                over.setdefault(x, []).append(route)
+    return [(x, routes) for x, routes in wrong.items() if len(routes) > 1 and routes == over[x]]
+
+
+def end_of(plant, way):
+    """Where a way ends: a board's name, or None where it leads out."""
+    board = plant.boards[way[0]]
+    last = plant.board_on.get((way[1][-1], board.direction))
+    return None if last is None else plant.boards[last].name

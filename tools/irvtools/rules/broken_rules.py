@@ -1,0 +1,134 @@
+"""The broken rules of the network, of the table and of the columns, in words: what is there, and what
+should be. Which rules are broken, and where, `irv check` says; the words are the page's own.
+
+Each function of EXPLAINED takes a plant and the numbers of the places, and gives sentences. `where`
+tells what to mark in the plan.
+"""
+
+from irvtools.rules import column_rules as columns
+from irvtools.rules import network_rules as network
+from irvtools.rules import table_rules as table
+from irvtools.trackplan.marks import Marks
+
+NEEDED = ("A plant that breaks it isn't one: nothing further is asked of it, and no verdict is to be "
+          "had.")
+RESTS = "Safety rests on this rule."
+IDLE = ("Safety doesn't rest on this rule: the locks that a route takes keep others away. But what "
+        "the table says isn't what is meant.")
+IDLE_OVERLAP = ("Safety rests on this rule for the points of the path; here it is a point of the "
+                "overlap, on which it doesn't.")
+IDLE_END = ("Safety rests on this rule in that a train is stopped where the path ends, and here it is. "
+            "It doesn't rest on what the rule asks besides, of destinations and of boards inside a "
+            "path: a train stands at a board that is closed. But what the table says isn't what is "
+            "meant.")
+WORDLESS = "The page has no words for the rule {}: docs/MODEL.md says what it asks for."
+UNKNOWN = "Whether safety rests on this rule the page doesn't know."
+RESTING = ("C1", "C2", "C3", "C7")      # rules of the columns that safety rests on, at least in part
+BY_DIRECTION = ("C2", "C4")             # rules that a route in the wrong direction often breaks too
+
+EXPLAINED = {
+    "N1": network.same_section, "N2": network.same_board,
+    "N3": network.wrong_neighbour, "N4": network.same_neighbour,
+    "N5": network.not_named_back, "N6": network.alone,
+    "N7": network.returns, "N8": network.board_at_end,
+    "R1": table.same_route, "R2": table.no_source,
+    "R3": table.wrong_sections, "R4": table.wrong_points,
+    "R5": table.no_destination, "R6": table.wrong_conflicts,
+    "R7": table.wrong_protecting_points, "R8": table.wrong_protecting_boards,
+    "C1": columns.path_gap, "C2": columns.path_end,
+    "C3": columns.points_wrong, "C4": columns.overlap_gap,
+    "C5": columns.one_sided, "C6": columns.unlisted_share,
+    "C7": columns.bare_border, "C8": columns.unlisted_protection}
+
+
+def read_line(line):
+    """The rule of a line of check, and its places: each a word and a number."""
+    _, rule, *places = line.split(" ")
+    return rule, [(place.rstrip("]").split("[")[0], int(place.rstrip("]").split("[")[1]))
+                  for place in places if "[" in place]
+
+
+def sentences(plant, rule, places):
+    """What is there and what should be. Of a route in the wrong direction that comes first."""
+    if rule not in EXPLAINED:
+        return [WORDLESS.format(rule)]
+    i = places[0][1]
+    found = list(EXPLAINED[rule](plant, *(number for _, number in places)))
+    wrong = columns.wrong_way(plant, plant.routes[i]) if rule in ("C1", *BY_DIRECTION) else None
+    if wrong and rule != "C1":
+        wrong = (f"Route {plant.routes[i].name} is in the wrong direction, as is said at C1: this may "
+                 "follow from it.")
+    return [wrong, *found] if wrong else found
+
+
+def rests(plant, rule, places):
+    """Whether safety rests on what is broken of a rule; of a rule of the columns that the page doesn't
+    know it may."""
+    if rule not in EXPLAINED:
+        return rule[0] == "C" and places != [] and places[0][0] != "boards"
+    i = places[0][1]
+    if rule == "C2":
+        return columns.runs_on(plant, i)
+    if rule == "C3":
+        return bool(list(columns.points_of_path_wrong(plant, plant.routes[i])))
+    return rule in RESTING
+
+
+def safety(plant, rule, places):
+    """Whether safety rests on a broken rule, in a sentence."""
+    if rule[0] in "NR":
+        return NEEDED
+    if rule not in EXPLAINED:
+        return UNKNOWN
+    if rests(plant, rule, places):
+        return RESTS
+    return {"C2": IDLE_END, "C3": IDLE_OVERLAP}.get(rule, IDLE)
+
+
+def where(plant, rule, places):
+    """What to mark in the plan."""
+    if not places:
+        return Marks([])
+    kind, i = places[0]
+    if kind == "sections":
+        if rule == "N7":
+            return Marks(network.walk_back(plant, i))
+        near = plant.sections[i].neighbours.values() if rule in ("N3", "N4", "N5") else []
+        return Marks([i, *near])
+    if kind == "boards":
+        board = plant.boards[i]
+        first = plant.board_named[board.name]
+        return Marks([board.section, plant.boards[first].section], [i, first])
+    return of_route(plant, rule, [number for _, number in places]).with_route(plant.routes[i])
+
+
+def of_route(plant, rule, numbers):
+    """What of a route to mark."""
+    route = plant.routes[numbers[0]]
+    boards = [route.source, route.destination]
+    if rule in ("C1", "C4") and route.source is not None:
+        begin = plant.boards[route.source].section if rule == "C1" else route.path[-1]
+        pairs = list(columns.gaps(plant, route, route.path if rule == "C1" else route.overlap, begin))
+        missing = [y for before, _ in pairs for y in plant.nexts[before, route.direction]]
+        return Marks([x for pair in pairs for x in pair] + missing, boards)
+    if rule == "C2":
+        passed = [x for x in route.path[:-1] if (x, route.direction) in plant.board_on]
+        marked = passed or [route.path[-1]]
+        return Marks(marked, boards + [plant.board_on.get((x, route.direction)) for x in marked])
+    if rule == "C3":
+        unlisted = [x for x in route.overlap if plant.sections[x].is_point
+                    and x not in dict(route.points)]
+        return Marks([x for x, _ in columns.wrong_on_path(plant, route)] + unlisted, boards)
+    if rule == "C6":
+        return Marks(columns.shared(plant, *numbers), boards + [plant.routes[numbers[1]].source])
+    if rule in ("C5", "C8"):
+        return Marks([], boards + [plant.routes[numbers[1]].source])
+    if rule == "R4":
+        return Marks([x for x, _ in route.points], boards)
+    if rule == "R7":
+        return Marks([x for x, _ in route.protecting_points], boards)
+    if rule == "R8":
+        return Marks([], boards + route.protecting_boards)
+    if rule == "R3":
+        return Marks([x for x in route.locked if route.locked.count(x) > 1], boards)
+    return Marks([], boards)

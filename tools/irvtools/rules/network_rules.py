@@ -1,0 +1,103 @@
+"""The broken rules of the network in words, N1 to N8: what is there, and what should be. Each function
+takes a plant and the number of the place, and gives sentences."""
+
+from irvtools.model.plant import OPPOSITE
+from irvtools.model.phrases import join
+
+
+def same_section(plant, i):
+    """N1."""
+    section = plant.sections[i]
+    yield (f"Section number {i} is called {section.name}, as section number "
+           f"{plant.section_named[section.name]} is. Each section needs a name of its own.")
+
+
+def same_board(plant, i):
+    """N2."""
+    board = plant.boards[i]
+    first = plant.boards[plant.board_named[board.name]]
+    yield (f"Two boards are called {board.name}: the one on section {plant.name(first.section)} for "
+           f"trains that run {first.direction}, and the one on section {plant.name(board.section)} "
+           f"for trains that run {board.direction}. Each board needs a name of its own.")
+
+
+def wrong_neighbour(plant, i):
+    """N3."""
+    section = plant.sections[i]
+    for side, leg, name in section.ends:
+        if name == section.name and plant.section_named[name] == i:
+            yield f"Section {section.name} gives itself as its neighbour ({end_words(side, leg)})."
+        elif name not in plant.section_named:
+            yield (f"Section {section.name} gives {name} as its neighbour ({end_words(side, leg)}), "
+                   "and there is no section of that name.")
+
+
+def end_words(side, leg):
+    """An end of a section, in words."""
+    return f"on its {side} side" if leg == "line" else f"{leg}, on its {side} side"
+
+
+def same_neighbour(plant, i):
+    """N4."""
+    section = plant.sections[i]
+    names = [name for _, _, name in section.ends]
+    for name in dict.fromkeys(names):
+        if names.count(name) > 1:
+            ends = [end_words(side, leg) for side, leg, other in section.ends if other == name]
+            yield (f"Section {section.name} gives {name} as its neighbour more than once: "
+                   f"{join(ends)}. Its neighbours have to differ.")
+
+
+def not_named_back(plant, i):
+    """N5."""
+    section = plant.sections[i]
+    for side, leg, name in section.ends:
+        other = plant.section_named.get(name)
+        if other is None or other == i:
+            continue
+        back = [(at, leg_) for at, leg_, word in plant.sections[other].ends
+                if plant.section_named.get(word) == i]
+        if len(back) == 1 and back[0][0] == OPPOSITE[side]:
+            continue
+        there = "doesn't give it as a neighbour" if not back else \
+            f"gives it as a neighbour {join(end_words(*end) for end in back)}"
+        yield (f"Section {section.name} gives {name} as its neighbour ({end_words(side, leg)}), and "
+               f"{name} {there}. It should give it once, on its {OPPOSITE[side]} side.")
+
+
+def alone(plant, i):
+    """N6."""
+    yield (f"Section {plant.name(i)} has no neighbour. A linear section needs one on at least one "
+           "side.")
+
+
+def returns(plant, i):
+    """N7."""
+    walk = walk_back(plant, i)
+    names = join([plant.name(x) for x in walk], "and then")
+    yield (f"From section {plant.name(i)} a train that runs up comes back to it: {names}. A network "
+           "with a loop in one direction isn't a plant.")
+
+
+def walk_back(plant, i):
+    """The sections of a shortest walk up from a section to itself."""
+    before, queue = {}, [i]
+    for x in queue:
+        for y in plant.next_to(x, "up"):
+            if y not in before:
+                before[y] = x
+                queue.append(y)
+    walk = [i]
+    while i in before and (len(walk) == 1 or walk[-1] != i):
+        walk.append(before[walk[-1]])
+    return walk[::-1]
+
+
+def board_at_end(plant, i):
+    """N8."""
+    section = plant.sections[i]
+    for side in OPPOSITE:
+        board = plant.board_on.get((i, side))
+        if board is not None and not any(at == side for at, _, _ in section.ends):
+            yield (f"Section {section.name} has the board {plant.boards[board].name} for trains that "
+                   f"run {side}, and no neighbour on its {side} side: no train goes on from there.")

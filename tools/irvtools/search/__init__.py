@@ -1,0 +1,1 @@
+"""Random search for a run to a hazard."""

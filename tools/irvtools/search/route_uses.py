@@ -1,0 +1,61 @@
+"""What each route is good for: a run from the start in which one train uses it whole.
+
+A train comes in at a border and runs to the first board. From each board at which a train may stand
+so, by the shortest run that is known, each route that begins there is set, used and finished, which
+brings a train to the next board.
+"""
+
+import heapq
+import time
+
+from irvtools.search.single_train import Drive
+from irvtools.model.events import apply
+from irvtools.model.bitset_events import Facts, Simulation
+from irvtools.model.state import State
+
+
+def arrivals(facts):
+    """Drives that bring a train in at each border, to where it stops or the network ends."""
+    for x in facts.inward:
+        drive = Drive(Simulation(facts), [])
+        if drive.enter(x):
+            yield drive
+
+
+def uses(plant, seconds):
+    """A run for each route that is found used; and whether there was time to look at all."""
+    end, facts = time.monotonic() + seconds, Facts(plant)
+    found, stood, count = {}, set(), 0
+    queue = [(len(drive.run), number, drive) for number, drive in enumerate(arrivals(facts))]
+    heapq.heapify(queue)
+    while queue and time.monotonic() < end:
+        drive = heapq.heappop(queue)[2]
+        if drive.board < 0 or drive.board in stood:
+            continue
+        stood.add(drive.board)
+        for r, source in enumerate(facts.source):
+            if source != drive.board or r in found:
+                continue
+            further = drive.copy()
+            if further.set(r) and further.use(r):
+                found[r] = further.run
+                count += 1
+                heapq.heappush(queue, (len(further.run), -count, further))
+    return found, not queue
+
+
+def is_use(plant, run, r):
+    """Whether a run that ends with a route's finish shows one train that passed its source and was in
+    each section of its path when that was sensed."""
+    state, route, train = State(plant), plant.routes[r], None
+    source = plant.boards[route.source]
+    for word, number in run:
+        if (word, number) == ("mark", r):
+            train = None
+        if word == "head" and number == source.section and state.mode[r] == "locked":
+            way, body = next(train for train in state.trains if train[1][-1] == number)
+            train = body if way == source.direction else train
+        if (word, number) == ("sense", r) and route.path[state.seen[r]] not in (train or []):
+            return False
+        apply(plant, state, (word, number))
+    return train is not None

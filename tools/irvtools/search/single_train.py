@@ -1,0 +1,82 @@
+"""Drives one train through route after route: each is set for it, used by it, and given back behind it.
+
+The hunt brings its trains so to where they are wanted, and the page finds so what a route is good for.
+"""
+
+from irvtools.model.bitset_events import DONE
+
+MOST_HEADS = 300        # sections that a train passes where no board stops it
+
+
+class Drive:
+    """A train that is driven in a simulation. `run` takes the events; `done` is what came of the last
+    one: after REFUSED or HAZARD nothing more is done."""
+
+    def __init__(self, simulation, run):
+        self.simulation, self.run = simulation, run
+        self.train, self.done = None, DONE
+
+    def copy(self):
+        """The same, to be gone on with by itself."""
+        other = Drive(self.simulation.copy(), list(self.run))
+        other.train, other.done = other.simulation.train_on[self.train[1][-1]], self.done
+        return other
+
+    @property
+    def is_good(self):
+        """Whether all that was tried was done, without a hazard."""
+        return self.done == DONE
+
+    @property
+    def board(self):
+        """The board at which the train stands, or -1."""
+        way, body = self.train
+        return self.simulation.facts.board[way][body[-1]]
+
+    def do(self, word, number):
+        """Does an event, where all before it was done; answers whether one may go on."""
+        if self.done == DONE:
+            self.done = getattr(self.simulation, word)(number)
+            if self.done:
+                self.run.append((word, number))
+        return self.done == DONE
+
+    def enter(self, x):
+        """The train comes in at a border, and runs on to a board."""
+        if self.do("enter", x):
+            self.train = self.simulation.train_on[x]
+            self.roll()
+        return self.is_good
+
+    def roll(self):
+        """The train runs on to the next board, or to where the network ends."""
+        for _ in range(MOST_HEADS):
+            x = self.train[1][-1]
+            if self.board >= 0 or self.simulation.is_end(*self.train):
+                break
+            if not (self.do("head", x) and self.do("tail", x)):
+                break
+
+    def set(self, r):
+        """Marks, allocates and locks a route, and throws the points that it wants."""
+        self.do("mark", r)
+        self.do("allocate", r)
+        waiting = self.simulation.minus ^ self.simulation.to_minus
+        while self.is_good and waiting:
+            x = (waiting & -waiting).bit_length() - 1
+            waiting &= waiting - 1
+            self.do("throw", x)
+            self.do("settle", x)
+        return self.do("lock", r)
+
+    def use(self, r):
+        """The train uses a route that is set, which is given back behind it."""
+        body = self.train[1]
+        path = self.simulation.facts.path[r]
+        for x in path:
+            if not (self.do("head", body[-1]) and self.do("sense", r) and body[-1] == x
+                    and self.do("tail", body[0])):
+                return False
+        for _ in path[1:]:
+            self.do("release", r)
+        return self.do("finish", r)

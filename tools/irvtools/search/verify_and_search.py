@@ -1,0 +1,59 @@
+"""Verify and the hunt side by side. Where a rule is broken on which safety rests, both begin at once,
+and a hazard that one of them finds ends the other."""
+
+import time
+
+from irvtools.calls.background import Beside
+from irvtools.search.parallel_search import Hunters
+
+GRACE = 2.0             # seconds that verify still has once the hunt has found a run
+TURN = 0.05             # seconds between two looks
+NO_VERDICT = (None, 2, 3, 4)     # statuses of verify that leave open whether there is a hazard
+UNEXPECTED = (2, 3)     # of these what no table should get that breaks no rule on which safety rests
+
+
+class Found:
+    """What came of it: verify's answer, and a run of the hunt or None. `is_first` tells that the run was
+    there before the answer, `said` what replay says of it, `fault` that this isn't what it should be."""
+
+    def __init__(self):
+        self.answer = self.run = self.hunters = self.said = self.fault = None
+        self.is_first = False
+
+
+def search(page, words):
+    """Asks verify with some words, and hunts."""
+    found, wishes = Found(), page.wishes
+    is_beside = page.is_endangered and wishes.hunt > 0
+    with Hunters(page.plant, page.suspects) as found.hunters:
+        call = Beside(page.program, words)
+        if is_beside:
+            found.hunters.start(wishes.hunt)
+        try:
+            both(found, call, page)
+        finally:
+            found.answer = call.end("ended by the page")
+        if wishes.hunt and not is_beside and found.answer.status in UNEXPECTED:
+            found.hunters.start(wishes.hunt)
+            found.run = found.hunters.wait(wishes.hunt + 1)
+    return found
+
+
+def both(found, call, page):
+    """Waits for the call and for the hunt, until a hazard is found or both have ended."""
+    wait = page.wishes.wait
+    until = call.begin + wait
+    while True:
+        answer, run = call.poll(), found.hunters.wait(TURN)
+        if run is not None and found.run is None:
+            found.run, found.is_first = run, answer is None
+            until = min(until, time.monotonic() + GRACE)
+        if answer is None and time.monotonic() >= until:
+            after = page.time(f" after {call.seconds:.0f} seconds")
+            answer = call.end(
+                f"ended{after}, since a run to a hazard was found"
+                if found.run else f"not waited for: no answer within {wait:g} seconds")
+        if answer is not None and (answer.status not in NO_VERDICT or found.hunters.is_over):
+            return
+        if answer is None and found.hunters.is_over:
+            time.sleep(TURN)

@@ -1,0 +1,128 @@
+"""What was played, asked of `irv`: a file that the page saved, or a run text or a scenario.
+
+A file that the page saved says what the page answered of the run, and which events it refused on the
+way. Of other files the page's model says it here, by a script engine, where there is one.
+"""
+
+import hashlib
+import re
+import sys
+from pathlib import Path
+
+from irvtools.simulate import script_engine
+from irvtools.rules import schema_rules
+from irvtools.calls.program import Program
+from irvtools.model.plant import Plant
+
+PLAYED = re.compile(r"played 1\nconfiguration ([0-9a-f]{64})\ncolumns (strict|free)\nsays ([^\n]+)\n"
+                    r"((?:refused [0-9]+ [^\n]+\n)*)(run 1\n.*)", re.S)
+AGREE, DIFFER, NO_ANSWER = 0, 1, 125
+ASK_SECONDS = 60
+
+
+class Refused(Exception):
+    """Why nothing can be asked."""
+
+
+class Asked:
+    """The program over a configuration, under the columns under which it is a plant."""
+
+    def __init__(self, program, given):
+        self.irv, self.given = Program(program, given), given
+        clean = [columns for columns in ("strict", "free")
+                 if self.irv.ask(["check", "--columns", columns], ASK_SECONDS).status == 0]
+        if not clean:
+            raise Refused("the configuration isn't a plant: irv check --columns free says why")
+        self.columns = clean[0]
+
+    def replay(self, text):
+        """The line of replay."""
+        return self.irv.replay(self.columns, text).said
+
+    def drive(self, file):
+        """The line of drive, and the run that it prints."""
+        answer = self.irv.ask(["drive", "--columns", self.columns, "--run", str(file)], ASK_SECONDS)
+        return answer.said, answer.output.partition("\n")[2]
+
+    def own(self, expression):
+        """What the page's model says, by an engine; None where there is none."""
+        file = script_engine.find()
+        value, unread = schema_rules.read(self.given)
+        if file is None or unread is not None:
+            return None
+        return script_engine.Engine(file, Plant(value)).ask(expression)
+
+
+def compared(what, said, own):
+    """Prints an answer with what the page says; answers whether they agree."""
+    if own is None:
+        print(f"{what}: {said}; the page isn't asked, since there is no script engine here ("
+              f"{', '.join(script_engine.NAMES)})")
+        return True
+    print(f"{what}: {said}; the page says {'the same' if own == said else own}")
+    return own == said
+
+
+def check_played(asked, found):
+    """A file that the page saved."""
+    sum_, _, says, refused, run = found.groups()
+    if sum_ != hashlib.sha256(asked.given).hexdigest():
+        raise Refused("it was played on another configuration: its sha256 is another one")
+    agree = [compared("irv replay", asked.replay(run), says)]
+    head, events = split_run(run)
+    for line in refused.splitlines():
+        _, place, event = line.split(" ", 2)
+        if int(place) > len(events):
+            raise Refused(f"the line “{line}” names a place that the run doesn't have")
+        text = "".join(f"{one}\n" for one in [*head, *events[:int(place)], event, "end"])
+        agree.append(compared(f"irv replay, with {event} as event {int(place) + 1}", asked.replay(text),
+                              f"not a run at {int(place) + 1}"))
+    return all(agree)
+
+
+def split_run(text):
+    """The lines of a run before its events, and its events."""
+    lines = text.splitlines()[:-1]
+    at = lines.index("events") + 1 if lines[1:2] == ["state"] and "events" in lines else 2
+    return lines[:at], lines[at:]
+
+
+def check_run(asked, text):
+    """A run text."""
+    own = asked.own(f"answerToRun(plant, {script_engine.as_text(text)})")
+    return compared("irv replay", asked.replay(text), own)
+
+
+def check_scene(asked, text, file):
+    """A scenario."""
+    said, run = asked.drive(file)
+    own = asked.own(f"answerToScene(plant, {script_engine.as_text(text)})")
+    agree = compared("irv drive", said, own and own.partition("\n")[0])
+    if own is not None and agree and own.partition("\n")[2] != run:
+        print("irv drive prints another run than the page's")
+        return False
+    return agree
+
+
+def check(file, program, given):
+    """Asks `irv` about a file; answers the exit status."""
+    try:
+        text = Path(file).read_bytes().decode("ascii")
+        asked = Asked(program, given)
+        found = PLAYED.fullmatch(text)
+        if found:
+            agree = check_played(asked, found)
+        elif text.startswith("played "):
+            raise Refused("it isn't as the page saves it")
+        elif text.startswith("drive "):
+            agree = check_scene(asked, text, file)
+        else:
+            agree = check_run(asked, text)
+    except UnicodeDecodeError:
+        print(f"tools/play: {file} is neither a run text nor a scenario: it has bytes that no name has",
+              file=sys.stderr)
+        return NO_ANSWER
+    except (OSError, Refused) as fault:
+        print(f"tools/play: {fault}", file=sys.stderr)
+        return NO_ANSWER
+    return AGREE if agree else DIFFER

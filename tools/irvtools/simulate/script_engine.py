@@ -1,0 +1,43 @@
+"""The page's model by a script engine outside of a browser, where there is one."""
+
+import json
+import shutil
+import subprocess
+import tempfile
+from pathlib import Path
+
+from irvtools.simulate import scripts
+
+NAMES = ("node", "nodejs")
+SECONDS = 600
+
+
+def find():
+    """The engine, or None."""
+    return next((path for path in map(shutil.which, NAMES) if path), None)
+
+
+def as_text(text):
+    """A text as the script has it."""
+    return json.dumps(text)
+
+
+class Engine:
+    """An engine that asks the model about one plant; `more` is script besides."""
+
+    def __init__(self, file, plant, more=""):
+        self.file = file
+        self.source = (f"{scripts.script(scripts.MODEL)}\n{more}\n"
+                       f"const plant = new Plant({scripts.as_json(scripts.plant_value(plant))});\n")
+
+    def ask(self, expression):
+        """The value of an expression over `plant`."""
+        with tempfile.TemporaryDirectory(prefix="irv-engine-") as room:
+            file = Path(room, "model.js")
+            file.write_text(f"{self.source}console.log(JSON.stringify({expression}));\n",
+                            encoding="utf-8")
+            done = subprocess.run([self.file, str(file)], capture_output=True, text=True,
+                                  timeout=SECONDS, check=False)
+        if done.returncode:
+            raise RuntimeError(f"{self.file}: {done.stderr}")
+        return json.loads(done.stdout)

@@ -1,0 +1,57 @@
+"""The page's script: files of this folder in one text, and the plant as they read it."""
+
+import json
+from pathlib import Path
+
+from irvtools.html.style import CSS
+
+HERE = Path(__file__).resolve().parent
+# what the page knows of plants, without a document; in this order, since each uses those before it
+MODEL = ("plant", "route_events", "train_events", "model", "texts", "waiting", "words", "play")
+# what shows it
+VIEW = ("elements", "train_lines", "plan", "lists", "choosing", "files", "keys", "page")
+
+
+def script(names):
+    """These files as one script."""
+    parts = [(HERE / f"{name}.js").read_text(encoding="utf-8") for name in names]
+    return '"use strict";\n' + "\n".join(parts)
+
+
+def style():
+    """The style of the page: that of tools/page, and what it has besides."""
+    return CSS + (HERE / "play.css").read_text(encoding="utf-8")
+
+
+def section_value(section):
+    """A section by numbers: its ends are neighbours by leg, or by side; null where there is none."""
+    keys = ("stem", "plus", "minus") if section.is_point else ("down", "up")
+    return {"name": section.name, "point": section.is_point, "faces": section.faces,
+            "ends": {key: section.neighbours.get(key) for key in keys}}
+
+
+def route_value(route):
+    """A route by numbers."""
+    return {"name": route.name, "source": route.source, "destination": route.destination,
+            "path": route.path, "overlap": route.overlap, "points": route.points,
+            "conflicts": route.conflicts, "protecting_points": route.protecting_points,
+            "protecting_boards": route.protecting_boards}
+
+
+def plant_value(plant):
+    """A plant as the script reads it."""
+    return {"sections": [section_value(section) for section in plant.sections],
+            "boards": [{"name": board.name, "section": board.section, "direction": board.direction}
+                       for board in plant.boards],
+            "routes": [route_value(route) for route in plant.routes]}
+
+
+def as_json(value):
+    """A value as JSON that may stand in a script: no end of an element is in it."""
+    text = json.dumps(value, separators=(",", ":"), ensure_ascii=True)
+    return text.replace("<", "\\u003c").replace(">", "\\u003e").replace("&", "\\u0026")
+
+
+def page():
+    """What stands in the page's body, with marks for what a plant puts there."""
+    return (HERE / "play.html").read_text(encoding="utf-8")

@@ -1,0 +1,1 @@
+"""Track plans as SVG."""

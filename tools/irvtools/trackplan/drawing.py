@@ -1,0 +1,297 @@
+"""The track plan as SVG: the same plan at each frame, with what a frame shows over it.
+
+What stays is written once and used by every frame. A long plan is shown in strips, one below the
+other: each is a window on the whole.
+"""
+
+from irvtools.trackplan.layout import CHARACTER, ROW, Layout
+from irvtools.html.markup import tag, text
+from irvtools.trackplan.marks import Marks
+from irvtools.trackplan.strips import EDGE, TOP, Strips
+
+LOCK_CLASS = {"free": "f", "locked": "l", "used": "u"}
+
+
+def line(points):
+    """The path of a line through points."""
+    return "M" + "L".join(f"{x:.0f} {y:.0f}" for x, y in points)
+
+
+def path(points, class_):
+    """A line through points."""
+    return f'<path d="{line(points)}" class="{class_}"/>'
+
+
+class Drawing:
+    """The plan of a plant."""
+
+    def __init__(self, plant):
+        self.plant = plant
+        self.layout = Layout(plant)
+        joints = [joint for at in self.layout.at for joint in at.values()]
+        self.low = min(joint.x for joint in joints)
+        self.width = max(joint.x for joint in joints) - self.low
+        self.count = 0          # of the views, for their ids
+        self.signs = {b: self.sign_place(board) for b, board in enumerate(plant.boards)}
+        self.names = [self.name_place(x) for x in range(len(plant.sections))]
+        self.strips = Strips(self).windows()
+
+    # -- where things are
+
+    def x(self, joint):
+        """A joint's place."""
+        return joint.x - self.low + EDGE
+
+    def y(self, x):
+        """The line of a section."""
+        return TOP + ROW * self.layout.row(x)
+
+    def frog(self, x):
+        """Where the legs of a point part."""
+        return self.layout.frog(x) - self.low + EDGE, self.y(x)
+
+    def end(self, x, key):
+        """Where an end of a section is."""
+        joint = self.layout.at[x][key]
+        if key != "minus":
+            return self.x(joint), self.y(x)
+        other = joint.high if joint.low == x else joint.low
+        if other is None:
+            return self.x(joint), self.y(x) + ROW / 2
+        if joint.is_between_minus():
+            return self.x(joint), (self.y(x) + self.y(other)) / 2
+        return self.x(joint), self.y(other)
+
+    def legs(self, x):
+        """The lines of a section: of a linear section one, of a point its stem and both legs."""
+        if not self.plant.sections[x].is_point:
+            return {"line": [self.end(x, "down"), self.end(x, "up")]}
+        frog = self.frog(x)
+        return {"stem": [self.end(x, "stem"), frog], "plus": [frog, self.end(x, "plus")],
+                "minus": [frog, self.end(x, "minus")]}
+
+    def middle(self, x):
+        """The middle of a section's line."""
+        if self.plant.sections[x].is_point:
+            return (self.end(x, "stem")[0] + self.end(x, "plus")[0]) / 2
+        return (self.end(x, "down")[0] + self.end(x, "up")[0]) / 2
+
+    def name_place(self, x):
+        """The place of a section's name, by its middle: below its line, but above where a leg leads
+        down; a point's name stands at where its legs part."""
+        section = self.plant.sections[x]
+        if not section.is_point:
+            return self.middle(x), self.y(x) + 17
+        aside = (len(section.name) * CHARACTER / 2 - 4) * (1 if section.faces == "up" else -1)
+        leads_down = self.end(x, "minus")[1] > self.y(x)
+        return self.frog(x)[0] + aside, self.y(x) + (-9 if leads_down else 17)
+
+    def sign_place(self, board):
+        """The place of a board: above the line for trains that run up, below it for others."""
+        x = board.section
+        if board.direction == "up":
+            return self.end(x, "up")[0] - 9, self.y(x) - 15
+        return self.end(x, "down")[0] + 9, self.y(x) + 28
+
+    # -- what stays
+
+    def definitions(self):
+        """What all views use: the signs, and the plan with its names and its joints."""
+        signs = "".join(
+            tag("g", '<rect x="-6" y="-6" width="12" height="12" fill="currentColor"/>'
+                     f'<path d="M{-4 * way} -4L{4 * way} 0L{-4 * way} 4z" fill="#fff3bf"/>', id=name)
+            for name, way in (("bu", 1), ("bd", -1)))
+        tracks = tag("g", "".join(self.tracks()), id="tracks")
+        labels = list(self.labels())
+        names = "".join(tag("g", "".join(self.labels_in(strip, labels)), id=f"names{number}")
+                        for number, strip in enumerate(self.strips))
+        return ('<svg width="0" height="0" style="position:absolute" aria-hidden="true"><defs>'
+                f"{signs}{tracks}{names}</defs></svg>")
+
+    def tracks(self):
+        """The lines of all sections, and the joints."""
+        for x in range(len(self.plant.sections)):
+            for points in self.legs(x).values():
+                yield path(points, "t f")
+            if self.plant.sections[x].is_point:
+                yield '<circle cx="{:.0f}" cy="{:.0f}" r="4"/>'.format(*self.frog(x))
+        for joint in self.layout.joints:
+            if joint.is_between_minus():
+                x, y = self.end(joint.low, "minus")
+                yield path([(x, y - 6), (x, y + 6)], "j")
+                continue
+            rows = sorted({self.y(x) for x, leg in ((joint.low, joint.low_leg),
+                                                    (joint.high, joint.high_leg)) if leg != "minus"})
+            for y in rows:
+                yield path([(self.x(joint), y - 6), (self.x(joint), y + 6)], "j")
+            if len(rows) > 1:
+                yield path([(self.x(joint), y) for y in rows], "torn")
+
+    def labels(self):
+        """The names of sections and boards: class, name, from where to where, and the line."""
+        for x, section in enumerate(self.plant.sections):
+            at, y = self.names[x]
+            half = len(section.name) * CHARACTER / 2
+            yield "p" if section.is_point else "s", section.name, at - half, at + half, y
+        for b, board in enumerate(self.plant.boards):
+            x, y = self.signs[b]
+            length = len(board.name) * CHARACTER
+            begin = x - 10 - length if board.direction == "up" else x + 10
+            yield "b", board.name, begin, begin + length, y + 4
+
+    def labels_in(self, strip, labels):
+        """The names that a strip shows: those that lie in it, and of those that lie whole in no strip
+        the part that is its, moved into it."""
+        begin, end = strip[0], strip[0] + strip[2]
+        for class_, name, low, high, y in labels:
+            inside = begin <= low and high <= end
+            if not inside and not self.is_whole(low, high) and self.best_strip(low, high) == strip:
+                low = min(max(low, begin + 3), end - 3 - (high - low))
+                inside = True
+            if inside:
+                yield f'<text x="{low:.0f}" y="{y:.0f}" class="{class_}">{text(name)}</text>'
+
+    def is_whole(self, low, high):
+        """Whether some strip has a name whole."""
+        return any(x <= low and high <= x + width for x, _, width, _ in self.strips)
+
+    def best_strip(self, low, high):
+        """The strip that has most of a name."""
+        return max(self.strips, key=lambda strip: min(high, strip[0] + strip[2]) - max(low, strip[0]))
+
+    def is_torn(self):
+        """Whether some joint couldn't be drawn as one."""
+        return self.layout.is_cut or any(
+            not joint.is_aside() and self.layout.row(joint.low) != self.layout.row(joint.high)
+            for joint in self.layout.joints)
+
+    # -- views
+
+    def beside(self, frames):
+        """Frames side by side, as many in a row as the plan's width lets one read."""
+        width = max(strip[2] for strip in self.strips)
+        in_row = next((count for count, most in ((3, 470), (2, 700)) if width <= most), 1)
+        return tag("div", frames, class_=f"frames f{in_row}")
+
+    def view(self, content, title):
+        """A view of all strips: `content` is a pair of what lies below the plan and what over it."""
+        self.count += 1
+        below, over = content
+        inner = f'{below}<use href="#tracks"/>{over}'
+        windows, y = [], 0.0
+        for number, (x0, y0, width, height) in enumerate(self.strips):
+            shown = inner if len(self.strips) == 1 else (
+                f'<g id="v{self.count}">{inner}</g>' if number == 0
+                else f'<use href="#v{self.count}"/>')
+            shown += f'<use href="#names{number}"/>'
+            edges = self.edges(number, y, width, height)
+            windows.append(f'<svg x="0" y="{y:.0f}" width="{width:.0f}" height="{height:.0f}" '
+                           f'viewBox="{x0:.0f} {y0:.0f} {width:.0f} {height:.0f}">{shown}</svg>'
+                           + edges)
+            y += height + 8
+        width = max(strip[2] for strip in self.strips)
+        return (f'<svg class="plan" viewBox="0 0 {width:.0f} {y:.0f}" width="{width:.0f}" role="img">'
+                f"<title>{text(title)}</title>{''.join(windows)}</svg>")
+
+    def edges(self, number, y, width, height):
+        """The marks of a strip's ends, where the plan goes on."""
+        marks = ""
+        if number > 0:
+            marks += path([(1, y), (1, y + height)], "cut")
+        if number < len(self.strips) - 1:
+            marks += path([(width - 1, y), (width - 1, y + height)], "cut")
+        return marks
+
+    def plan(self, marks=None, title="track plan"):
+        """The plan with marks, as for a rule that is broken."""
+        marks = marks or Marks()
+        signs = "".join(self.sign(b, "ring" if b in marks.boards else "")
+                        for b in range(len(self.plant.boards)))
+        return self.view((self.marked(marks), signs), title)
+
+    def frame(self, state, marks, title):
+        """The plan in a state."""
+        over = "".join(self.in_state(x, state) for x in range(len(self.plant.sections)))
+        over += "".join(self.sign(b, ("open" if state.aspect[b] == "open" else "closed")
+                                  + (" ring" if b in marks.boards else ""))
+                        for b in range(len(self.plant.boards)))
+        over += "".join(self.train(direction, body, state) for direction, body in state.trains)
+        if marks.hazard is not None:
+            over += f'<circle cx="{self.middle(marks.hazard):.0f}" cy="{self.y(marks.hazard):.0f}" ' \
+                    'r="15" class="hz"/>'
+        return self.view((self.marked(marks), over), title)
+
+    def sign(self, b, class_):
+        """A board's sign."""
+        x, y = self.signs[b]
+        sign = "bu" if self.plant.boards[b].direction == "up" else "bd"
+        ring = f'<circle cx="{x:.0f}" cy="{y:.0f}" r="11" class="ring"/>' if "ring" in class_ else ""
+        word = class_.replace("ring", "").strip()
+        return f'{ring}<use href="#{sign}" x="{x:.0f}" y="{y:.0f}" class="b {word}"/>'
+
+    def marked(self, marks):
+        """The marks below the plan."""
+        parts = []
+        for class_, legs in (("on", marks.path), ("ov", marks.overlap), ("mk", marks.sections)):
+            for x, leg in legs:
+                for name, points in self.legs(x).items():
+                    if leg is None or name in ("stem", "line", leg):
+                        parts.append(path(points, class_))
+        return "".join(parts)
+
+    def in_state(self, x, state):
+        """A section with its lock, and a point as it lies."""
+        lock = LOCK_CLASS[state.lock[x]]
+        legs = self.legs(x)
+        if not self.plant.sections[x].is_point:
+            return "" if lock == "f" else path(legs["line"], f"t {lock}")
+        parts = [path(legs["stem"], f"t {lock}")]
+        for leg in ("plus", "minus"):
+            if leg == state.at[x]:
+                parts.append(path(legs[leg], f"t {lock}"))
+            else:
+                parts.append(path(legs[leg], "w") + path(legs[leg], f"d {lock}"))
+        moving = " mv" if state.at[x] == "moving" else ""
+        parts.append('<circle cx="{:.0f}" cy="{:.0f}" r="4" class="g{}"/>'.format(
+            *self.frog(x), moving))
+        return "".join(parts)
+
+    def train(self, direction, body, state):
+        """A train, from its tail to its head."""
+        points = []
+        for place, x in enumerate(body):
+            before = body[place - 1] if place else None
+            after = body[place + 1] if place + 1 < len(body) else None
+            points += self.way(x, direction, before, after, state)
+        points[0] = toward(points[0], points[1], 0.22)
+        tip = toward(points[-1], points[-2], 0.16)
+        points[-1] = toward(points[-1], points[-2], 0.3)
+        shift = -2 if direction == "up" else 2
+        points = [(x, y + shift) for x, y in points]
+        return path(points, f"tr {direction}") + arrow(points[-1], (tip[0], tip[1] + shift), direction)
+
+    def way(self, x, direction, before, after, state):
+        """The points of a train's way through a section."""
+        section = self.plant.sections[x]
+        if not section.is_point:
+            ends = [self.end(x, "down"), self.end(x, "up")]
+            return ends if direction == "up" else ends[::-1]
+        laid = state.at[x] if state.at[x] != "moving" else "plus"
+        aside = self.plant.leg_to(x, after if section.faces == direction else before) or laid
+        ends = [self.end(x, "stem"), self.frog(x), self.end(x, aside)]
+        return ends if section.faces == direction else ends[::-1]
+
+
+def toward(point, other, part):
+    """A part of the way from a point to another."""
+    return point[0] + (other[0] - point[0]) * part, point[1] + (other[1] - point[1]) * part
+
+
+def arrow(base, tip, direction):
+    """The head of a train: a triangle that points where it runs."""
+    dx, dy = tip[0] - base[0], tip[1] - base[1]
+    length = max((dx * dx + dy * dy) ** 0.5, 0.1)
+    ux, uy = dx / length, dy / length
+    bx, by = base[0] + ux * 2, base[1] + uy * 2
+    corners = [(bx + uy * 7, by - ux * 7), (bx + ux * 14, by + uy * 14), (bx - uy * 7, by + ux * 7)]
+    return f'<path d="{line(corners)}z" class="ah {direction}"/>'
