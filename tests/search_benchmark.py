@@ -35,7 +35,7 @@ from irvtools.rules import broken_rules
 from irvtools.calls.program import Program
 from tests.support.random_faults import FAULTS, with_fault, with_protection
 from tests.html.search_tests import run_faults
-from irvtools.search.parallel_search import Hunters, processors
+from irvtools.search.parallel_search import Searchers, processors
 from irvtools.search.random_search import Hunt, suspects_of
 from tests.support.real_size_lines import NETWORKS, with_routes
 from tests.support.plain_search import plain_hunt
@@ -133,19 +133,19 @@ class Battery:
         if self.unsafe() >= self.options["--unsafe"]:
             return
         seconds, used = time.monotonic(), used_by_children()
-        with Hunters(table.plant, table.suspects) as hunters:
-            hunters.start(self.options["--seconds"])
-            while not hunters.is_over:
-                hunters.wait(self.options["--seconds"])
+        with Searchers(table.plant, table.suspects) as searchers:
+            searchers.start(self.options["--seconds"])
+            while not searchers.is_over:
+                searchers.wait(self.options["--seconds"])
         seconds, used = time.monotonic() - seconds, used_by_children() - used
-        if hunters.run is None:
+        if searchers.run is None:
             self.look_again(table, used)
             return
         self.found.append((seconds, used))
-        said = table.replayed(hunters.run)
-        print(f"{table.name}: {table.words}: {len(hunters.run)} events, {seconds:.2f} s, "
-              f"{used:.2f} of processors, {hunters.events} events tried, {said}", flush=True)
-        faults = list(run_faults(table.plant, hunters.run))
+        said = table.replayed(searchers.run)
+        print(f"{table.name}: {table.words}: {len(searchers.run)} events, {seconds:.2f} s, "
+              f"{used:.2f} of processors, {searchers.events} events tried, {said}", flush=True)
+        faults = list(run_faults(table.plant, searchers.run))
         faults += [] if said.startswith("hazard ") else [f"replay says {said}"]
         self.wrong += [f"{table.name}: {table.words}: {fault}" for fault in faults]
         self.pages.take(f"{table.name}: {table.words}", table.given)
@@ -206,12 +206,12 @@ def others_look(table, seconds):
     """A run that others find, and who did."""
     if not seconds:
         return None, ""
-    with Hunters(table.plant, table.suspects, OTHER_SEED) as hunters:
-        hunters.start(seconds)
-        while not hunters.is_over:
-            hunters.wait(seconds)
-    if hunters.run is not None:
-        return hunters.run, f"the hunt, with the seed {hunters.found_by}"
+    with Searchers(table.plant, table.suspects, OTHER_SEED) as searchers:
+        searchers.start(seconds)
+        while not searchers.is_over:
+            searchers.wait(seconds)
+    if searchers.run is not None:
+        return searchers.run, f"the hunt, with the seed {searchers.found_by}"
     with ProcessPoolExecutor(processors()) as pool:
         runs = list(pool.map(plain_hunt, [table.plant] * processors(), range(processors()),
                              [seconds] * processors()))

@@ -14,14 +14,14 @@ NAMES = {"platforms.json": b"a 'quoted\" $(touch broken) name.json",
 SHOWN = {"platforms.json": "a 'quoted\" $(touch broken) name.json",
          "platforms-wrong-position.json": "-dash <b>&amp; {key}.json",
          "two-sections.json": "=1+1.json", "station.json": "below/line\\x0aend \\xff.json"}
-WANTED = """configuration,want,words
+WANTED = """configuration,ask,words
 =1+1.json,verify,--columns free
 *,check,
 "-dash <b>&amp; {key}.json",verify,
 "-dash <b>&amp; {key}.json",audit,
 "a 'quoted"" $(touch broken) name.json",verify,
 "a 'quoted"" $(touch broken) name.json",audit,
-"a 'quoted"" $(touch broken) name.json",safe_by,"--solver 'sh -c "": >{proof}; exit 20"" {cnf}'"
+"a 'quoted"" $(touch broken) name.json",verify_with,"--solver 'sh -c "": >{proof}; exit 20"" {cnf}'"
 *,drive,--run 'a scene'
 """
 SCENE = "drive 1\nenter line\nend\n"
@@ -33,7 +33,7 @@ def fill(room):
     for example, name in NAMES.items():
         room.add(example, name)
     (room.folder / "a scene").write_text(SCENE, encoding="ascii")
-    (room.folder / "wanted.csv").write_text(WANTED, encoding="utf-8")
+    (room.folder / "questions.csv").write_text(WANTED, encoding="utf-8")
 
 
 def trial_names(room):
@@ -84,7 +84,7 @@ def names_faults(room):
         # a train stands on the line, and no route is set: all commands were given, and it isn't gone
         (name["platforms.json"], "drive"): ("not shown", "stuck at 2 steps=1"),
     }
-    solved = found.pop((name["platforms.json"], "safe_by"), ("", ""))
+    solved = found.pop((name["platforms.json"], "verify_with"), ("", ""))
     yield from differs("answers", found, wanted)
     # an empty text refutes no query that needs more than propagation, as step 1 of this plant does
     if solved[0] != "not shown" or not solved[1].endswith("step 1"):

@@ -17,7 +17,7 @@ SMALL_DISK, LARGE_DISK = "2m", "64m"    # below the certificate of a terminus, a
 def trial_no_answer(room):
     """What is no answer is told as that, and the next call asks again; a certificate that is none is found."""
     room.add("platforms.json")
-    words = ["--want", "verify"]
+    words = ["--ask", "verify"]
     for wish, why in (("kill", "irv verify was ended by SIGKILL, as it is where the machine has no memory left"),
                       ("empty", "irv verify ended with status 1, which tells nothing")):
         room.fake(wish)
@@ -36,10 +36,10 @@ def trial_no_answer(room):
 
 
 def trial_killed(room):
-    """Where tools/many is killed in the middle, the next call ends the work."""
+    """Where tools/batch is killed in the middle, the next call ends the work."""
     room.add("platforms.json")
     room.fake("wait")
-    words = ["--want", "check", "--want", "verify"]
+    words = ["--ask", "check", "--ask", "verify"]
     first = subprocess.Popen(room.words(*words), stdin=subprocess.DEVNULL, stdout=subprocess.DEVNULL,
                              stderr=subprocess.DEVNULL)
     waits, end = Path(f"{room.wish}.waits"), time.monotonic() + LONG
@@ -57,7 +57,7 @@ def trial_killed(room):
 def trial_full(room):
     """Where the certificate can't be written, that is told, and the next call ends the work."""
     room.add("terminus-throat.json")
-    checks, both = room.words("--want", "check"), room.words("--want", "check", "--want", "verify")
+    checks, both = room.words("--ask", "check"), room.words("--ask", "check", "--ask", "verify")
     yield from differs("before", run(checks).stdout, done_line(1, 1, 1, 0, room))
     done = run(["bash", "-c", 'ulimit -f 40; exec "$@"', "bash", *both])
     yield from differs("with no room", (done.returncode, room.answers()[("terminus-throat.json", "verify")]),
@@ -71,7 +71,7 @@ def trial_worker_killed(room):
     its job alone."""
     room.add("platforms.json")
     room.fake("orphan")
-    words = ["--want", "check", "--want", "verify", "--want", "audit"]
+    words = ["--ask", "check", "--ask", "verify", "--ask", "audit"]
     done = room.call(*words)
     killed = "no answer: it ended without a word, as what is killed does"
     yield from differs("killed", (done.returncode, room.answers()), (3, {
@@ -104,7 +104,7 @@ def trial_full_disk(room):
     work."""
     room.add("terminus-throat.json")
     room.fake("go")
-    words = ["--want", "check", "--want", "verify"]
+    words = ["--ask", "check", "--ask", "verify"]
     with small_disk(room.out) as enlarge:
         if enlarge is None:
             print("no disk can be mounted here, which needs root: a full one isn't tried")

@@ -1,5 +1,5 @@
-"""Trials of lots: that several small configurations are one job for Snakemake changes no answer and no key, and a
-lot whose worker is killed loses what was under way and no more."""
+"""Trials of groups: that several small configurations are one job for Snakemake changes no answer and no key, and a
+group whose worker is killed loses what was under way and no more."""
 
 import itertools
 import json
@@ -7,8 +7,8 @@ import json
 from tests.batch.workspace import EXAMPLES, differs, done_line
 from irvtools.batch.job_groups import SHORT_QUERIES
 
-WANTS = ("--want", "check", "--want", "verify", "--want", "audit")
-# six lots where one job is done at a time, each of a third of what is left: of 3, 2, 1, 1, 1 and 1
+WANTS = ("--ask", "check", "--ask", "verify", "--ask", "audit")
+# six groups where one job is done at a time, each of a third of what is left: of 3, 2, 1, 1, 1 and 1
 SAME_LENGTH = ["".join(ending) for ending in itertools.product(" \n", repeat=4)][:9]
 
 
@@ -25,40 +25,40 @@ def keys_in(room):
 
 
 def trial_lots(room):
-    """Small ones come together into lots, with the answers and the keys that each has by itself; where they are
+    """Small ones come together into groups, with the answers and the keys that each has by itself; where they are
     wanted apart, each job is one for Snakemake. A second call knows them, however they were done."""
     for name in ("platforms.json", "platforms-wrong-position.json", "three-sections.json"):
         room.add(name)
     first = room.call(*WANTS)
     found, keys = room.answers(), keys_in(room)
-    yield from differs("in lots", rules_in(room), {"several": 3})
+    yield from differs("in groups", rules_in(room), {"several": 3})
     yield from differs("verified", room.verify()[0], 0)
-    again = room.call(*WANTS, "--lot", "0")
+    again = room.call(*WANTS, "--group", "0")
     yield from differs("again", again.stdout, first.stdout.replace("9 jobs were done, 0", "0 jobs were done, 9"))
     room.out = room.room / "apart"
-    room.call(*WANTS, "--lot", "0")
+    room.call(*WANTS, "--group", "0")
     yield from differs("apart", rules_in(room), {"check": 3, "verify": 3, "audit": 3})
     yield from differs("the answers", (room.answers(), keys_in(room)), (found, keys))
 
 
 def trial_large_apart(room):
-    """The jobs of one that fills a lot are apart, so that Snakemake does them side by side; so are the queries of
-    one that isn't short, beside a lot of its other jobs."""
+    """The jobs of one that fills a group are apart, so that Snakemake does them side by side; so are the queries of
+    one that isn't short, beside a group of its other jobs."""
     room.add("platforms.json")
     room.add("station.json")
-    room.call(*WANTS, "--lot", str((EXAMPLES / "station.json").stat().st_size))
+    room.call(*WANTS, "--group", str((EXAMPLES / "station.json").stat().st_size))
     yield from differs("rules", rules_in(room), {"several": 1, "check": 1, "verify": 1, "audit": 1})
     path = room.folder / "station.json"
     path.write_bytes(path.read_bytes() + b" " * SHORT_QUERIES)
-    words = ("--want", "check", "--want", "safe_by --solver 'sh -c \": >{proof}; exit 20\" {cnf}'")
+    words = ("--ask", "check", "--ask", "verify_with --solver 'sh -c \": >{proof}; exit 20\" {cnf}'")
     room.call(*words)
     # of platforms check is known; its queries are short
-    yield from differs("queries", rules_in(room), {"several": 2, "export": 5, "solve": 5, "rup": 5, "safe_by": 1})
+    yield from differs("queries", rules_in(room), {"several": 2, "export": 5, "solve": 5, "rup": 5, "verify_with": 1})
 
 
 def trial_lot_killed(room):
-    """Where the worker of a lot is killed, what it had done stands, what was under way ended without a word, and
-    the rest wasn't begun. The next call does what was under way apart, and the rest in lots."""
+    """Where the worker of a group is killed, what it had done stands, what was under way ended without a word, and
+    the rest wasn't begun. The next call does what was under way apart, and the rest in groups."""
     platforms = (EXAMPLES / "platforms.json").read_bytes()
     for number, ending in enumerate(SAME_LENGTH):
         (room.folder / f"{number}.json").write_bytes(platforms + ending.encode())
@@ -83,7 +83,7 @@ def trial_lot_killed(room):
 def trial_one_word(room):
     """A single word for Snakemake may begin with a dash. Where nothing is done it says that nothing was begun."""
     room.add("platforms.json")
-    done = room.call("--want", "check", "--snakemake", "--dry-run")
+    done = room.call("--ask", "check", "--snakemake", "--dry-run")
     yield from differs("not begun", (done.returncode, room.answers()), (3, {
         ("platforms.json", "check"): ("no answer", "no answer: it wasn't begun")}))
 

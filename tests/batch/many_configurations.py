@@ -105,7 +105,7 @@ def plain(room, at_once):
 def together(room):
     """Judges them together; answers the call and what it took."""
     begin = used()
-    words = [word for want in WANTED for word in ("--want", want)]
+    words = [word for want in WANTED for word in ("--ask", want)]
     done = room.call(*words, "--cores", str(CORES))
     return done, [now - before for now, before in zip(used(), begin)]
 

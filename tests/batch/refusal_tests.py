@@ -11,7 +11,7 @@ def trial_missing(room):
     room.add("platforms.json")
     done = run([sys.executable, *room.words()], env={"PATH": str(room.folder)})
     yield from differs("status", done.returncode, 2)
-    yield from differs("said", done.stderr, "many: Snakemake isn't here, which has the work done: install it, as "
+    yield from differs("said", done.stderr, "irv --batch: Snakemake isn't here, which has the work done: install it, as "
                        "by `apt-get install --no-install-recommends snakemake`\n")
     yield from differs("made", room.out.exists(), False)
 
@@ -21,22 +21,22 @@ def trial_refusals(room):
     room.add("platforms.json")
     outside = room.room / "outside.json"
     outside.write_bytes(b"{}")
-    link, listed = room.folder / "link.json", room.folder / "wanted.csv"
+    link, listed = room.folder / "link.json", room.folder / "questions.csv"
     cases = [
-        ("it stands in the folder of the configurations", ["--want", "check"], None, room.folder / "out"),
+        ("it stands in the folder of the configurations", ["--ask", "check"], None, room.folder / "out"),
         ("link.json: it is a link that leads out of the folder", [], lambda: link.symlink_to(outside), None),
         ("link.json: it is a link to a folder; those aren't followed", [],
          lambda: link.symlink_to(room.room), None),
         ("link.json: it is no file", [], lambda: os.mkfifo(link), None),
         ("link.json: it is a link that leads out of the folder", [], lambda: link.symlink_to("/dev/zero"), None),
-        ("check: unrecognized arguments: --depth 4", ["--want", "check --depth 4"], None, None),
-        ("audit is wanted without verify", ["--want", "audit"], None, None),
-        ("drive: ../a.scene leads out of the folder", ["--want", "drive --run ../a.scene"], None, None),
-        ("17 is no whole number from 1 to 16", ["--want", "verify --depth 17"], None, None),
-        ("wanted.csv, line 1: it isn't configuration,want,words", [],
+        ("check: unrecognized arguments: --depth 4", ["--ask", "check --depth 4"], None, None),
+        ("audit is wanted without verify", ["--ask", "audit"], None, None),
+        ("drive: ../a.scene leads out of the folder", ["--ask", "drive --run ../a.scene"], None, None),
+        ("17 is no whole number from 1 to 16", ["--ask", "verify --depth 17"], None, None),
+        ("questions.csv, line 1: it isn't configuration,ask,words", [],
          lambda: listed.write_text("a,b\n", encoding="ascii"), None),
-        ("wanted.csv, line 2: none.json is no configuration of the folder", [],
-         lambda: listed.write_text("configuration,want,words\nnone.json,check,\n", encoding="ascii"), None),
+        ("questions.csv, line 2: none.json is no configuration of the folder", [],
+         lambda: listed.write_text("configuration,ask,words\nnone.json,check,\n", encoding="ascii"), None),
         ("it is there, and isn't a folder of results", [], None, EXAMPLES),
         ("the program can't be read", ["--program", str(room.room / "none")], None, None),
     ]

@@ -1,4 +1,4 @@
-"""A folder of configurations, one of results, and calls of tools/many over them."""
+"""A folder of configurations, one of results, and calls of tools/batch over them."""
 
 import csv
 import json
@@ -9,7 +9,7 @@ import subprocess
 from pathlib import Path
 from irvtools.paths import TOP
 
-MANY = TOP / "tools/many"
+MANY = TOP / "tools/batch"
 EXAMPLES = TOP / "examples"
 # a program that does what a file beside it says, and else what the true one does
 FAKE = """#!/bin/sh
@@ -87,7 +87,7 @@ def run(words, **others):
 def without_progress(said):
     """What was said, without the lines that tell how far the work is: how many come is the machine's."""
     return "".join(line for line in said.splitlines(keepends=True)
-                   if not re.fullmatch(r"many: \d+ of \d+ jobs\n", line))
+                   if not re.fullmatch(r"irv --batch: \d+ of \d+ jobs\n", line))
 
 
 def differs(what, found, wanted):

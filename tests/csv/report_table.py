@@ -8,7 +8,7 @@ from types import SimpleNamespace
 
 from irvtools.csvtables import writing
 from irvtools.csvtables.columns import ROUTES
-from irvtools.html.report import Page
+from irvtools.html.report import Report
 from irvtools.model.plant import Plant
 from irvtools.html.control_table import LONGEST_CELL, sheet_part
 
@@ -41,7 +41,7 @@ class Rows(HTMLParser):
 
 def on_page(value):
     """The rows of the sheet that stands on a configuration's page."""
-    page = Page(SimpleNamespace(program="", name="a plant"), b"")
+    page = Report(SimpleNamespace(program="", name="a plant"), b"")
     page.plant = Plant(value)
     sheet_part(page)
     return Rows("".join(page.parts)).rows

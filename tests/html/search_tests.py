@@ -12,7 +12,7 @@ from irvtools.generators import configurations
 from irvtools.model import events
 from tests.support import fifteen_section_line
 from irvtools.calls.program import Program
-from irvtools.search.parallel_search import Hunters
+from irvtools.search.parallel_search import Searchers
 from irvtools.search.random_search import Hunt
 from irvtools.model.plant import Plant
 from irvtools.search.run_shortening import readable
@@ -27,12 +27,12 @@ import signal, sys
 signal.signal(signal.SIGINT, signal.default_int_handler)
 sys.path[:0] = {paths!r}
 import line
-from hunters import Hunters
+from searchers import Searchers
 from plant import Plant
-hunters = Hunters(Plant(line.right()), count=3)
-hunters.start(600)
-print(*(process.pid for process in hunters.processes.values()), flush=True)
-hunters.wait(600)
+searchers = Searchers(Plant(line.right()), count=3)
+searchers.start(600)
+print(*(process.pid for process in searchers.processes.values()), flush=True)
+searchers.wait(600)
 """
 
 
@@ -138,26 +138,26 @@ def trial_hunters(_, __):
     """Several hunts at once find what one finds, and end with the first run, with their time, and when
     they are stopped."""
     plant = Plant(fifteen_section_line.with_fault("facing-point-wrong"))
-    with Hunters(plant, count=3) as hunters:
-        hunters.start(600)
-        run = hunters.wait(600)
-        if run is None or not hunters.is_over or hunters.found_by not in (1, 2, 3):
-            yield f"{run}, over: {hunters.is_over}, found by {hunters.found_by}"
+    with Searchers(plant, count=3) as searchers:
+        searchers.start(600)
+        run = searchers.wait(600)
+        if run is None or not searchers.is_over or searchers.found_by not in (1, 2, 3):
+            yield f"{run}, over: {searchers.is_over}, found by {searchers.found_by}"
         else:
             yield from run_faults(plant, run)
-            if Hunt(plant, hunters.found_by).for_hazard(600) != run:
+            if Hunt(plant, searchers.found_by).for_hazard(600) != run:
                 yield "the seed that found it doesn't find it again"
     right = Plant(fifteen_section_line.right())
-    with Hunters(right, count=2) as hunters:
-        hunters.start(2)
-        if hunters.wait(600) is not None or not hunters.is_over or not hunters.events:
-            yield f"over: {hunters.is_over}, {hunters.events} events"
-    with Hunters(right, count=2) as hunters:
-        hunters.start(600)
-        if hunters.poll() is not None or hunters.is_over:
+    with Searchers(right, count=2) as searchers:
+        searchers.start(2)
+        if searchers.wait(600) is not None or not searchers.is_over or not searchers.events:
+            yield f"over: {searchers.is_over}, {searchers.events} events"
+    with Searchers(right, count=2) as searchers:
+        searchers.start(600)
+        if searchers.poll() is not None or searchers.is_over:
             yield "a hunt over a table that breaks no rule is over at once"
-        pids = [process.pid for process in hunters.processes.values()]
-    yield from (f"process {pid} is left after its hunters were stopped" for pid in alive(pids))
+        pids = [process.pid for process in searchers.processes.values()]
+    yield from (f"process {pid} is left after its searchers were stopped" for pid in alive(pids))
 
 
 def trial_hunters_end(_, __):

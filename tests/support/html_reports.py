@@ -10,7 +10,7 @@ from types import SimpleNamespace
 
 from irvtools.generators import configurations
 from irvtools.trackplan.drawing import Drawing
-from irvtools.html.report import Page
+from irvtools.html.report import Report
 from irvtools.model.plant import Plant
 from irvtools.paths import TOP
 
@@ -49,7 +49,7 @@ def plant_of(text):
 def part_of(program, text, part, *more):
     """What a part of the page says of the plant of a short text, as a reader sees it."""
     plant, given = plant_of(text)
-    made = Page(SimpleNamespace(program=str(program), name="a plant"), given)
+    made = Report(SimpleNamespace(program=str(program), name="a plant"), given)
     made.plant, made.drawing = plant, Drawing(plant)
     part(made, *more)
     return plain(" ".join(made.parts))

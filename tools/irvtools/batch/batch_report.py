@@ -3,7 +3,6 @@ files that a pipeline reads are made of this value and of nothing else, so they 
 
 import json
 import math
-from pathlib import Path
 
 from irvtools.batch.directory import MOST_BYTES
 from irvtools.batch.file_names import shown
@@ -14,7 +13,7 @@ FILE = "report.json"
 CONTRADICTION, HAZARD, NO_ANSWER, REFUSED, BROKEN, OPEN, NOTHING, GOOD = range(8)
 STANDINGS = ("contradiction", "hazard", "no answer", "refused", "not shown", "not shown", "left out", "good")
 BY_WORD = {"unsafe": HAZARD, "hazard": HAZARD, "refused": REFUSED, "breach": BROKEN, "not inductive": BROKEN}
-SAYS_SAFE = ("check", "verify", "audit", "safe_by")
+SAYS_SAFE = ("check", "verify", "audit", "verify_with")
 UNTOLD = "it wasn't begun"
 
 
@@ -63,7 +62,7 @@ class Told:
     def keys_below(self, report, key):
         """The keys of the jobs that were done for this one alone, itself first."""
         found = [key]
-        if self.kind == "safe_by":
+        if self.kind == "verify_with":
             for need in report["jobs"][key]["job"]["needs"].values():
                 while need:
                     found.append(need)

@@ -1,26 +1,5 @@
-"""Judges a folder of configurations, side by side, on this machine or on a cluster that is there already.
+"""The command line of `irv --batch`: judges a directory of configurations, many at once."""
 
-    tools/many FOLDER OUT [--wanted FILE | --want WORDS ..] [--program PROGRAM] [--cores N] [--jobs N]
-               [--profile NAME] [--cluster WORDS] [--snakemake WORDS] [--lot BYTES]
-    tools/many --verify-report OUT [--program PROGRAM]
-
-Each file below FOLDER that ends with .json is judged. What is wanted stands in FILE, or in
-FOLDER/wanted.csv, or is given by --want for all the same; check, verify and audit where nothing is said.
-OUT keeps the results: what was judged before, by the same program with the same words, is taken from
-there. Into it come index.html, report.xml, report.csv and report.json. Snakemake has the work done;
---cores, --jobs, --profile, --cluster and the words of --snakemake, as --cluster-status, are handed on to it.
-Small configurations are judged in lots, each one job for Snakemake: BYTES of them, 131072 unless another
-number is given; 0 for none.
-PROGRAM is the built program of the repository, unless another is given. docs/MANY.md has a session.
-
---verify-report goes over a finished OUT on this machine, and says what isn't as the report tells.
-
-The status is 0 where all that was wanted is good; 1 where something isn't (a hazard, a refusal, a
-verdict that wasn't found; with --verify-report a fault); 2 where nothing was done, which standard error
-says why; 3 where something has no answer, as where a job was killed: the next call does it again.
-"""
-
-import argparse
 import os
 import re
 import shlex
@@ -28,21 +7,22 @@ import sys
 from pathlib import Path
 
 
+from irvtools.arguments import Parser
 from irvtools.batch import job_groups
 from irvtools.batch import batch_report
 from irvtools.batch import snakemake_run
 from irvtools.batch import questions
+from irvtools.batch import run_group
 from irvtools.batch.directory import inside, read_folder
 from irvtools.batch.file_names import shown
 from irvtools.batch.planning import Planner, read_scenarios
 from irvtools.calls.refusal import Refused, reason
 from irvtools.batch.store import MARK, Store, text_of
 from irvtools.batch.report_verification import texts_of, verify
-from irvtools.paths import TOP
 
 GOOD, NOT_GOOD, NOTHING_DONE, UNANSWERED = range(4)
 HANDED_ON = ("cores", "jobs", "profile", "cluster")
-MOST_LOT = 1 << 40              # bytes of configurations in a lot, at the most
+MOST_BYTES = 1 << 40            # the most bytes of configurations in one job
 # words of Snakemake besides these by which it knows how much it may do at once
 SAYS_HOW_MUCH = re.compile(r"-[cj]\d*|--(cores|jobs|profile|cluster\S*|drmaa\S*|kubernetes)(=.*)?")
 
@@ -54,25 +34,40 @@ def joined(words):
     return words[:place] + ["=".join(words[place:place + 2])] * (place < len(words)) + words[place + 2:]
 
 
-def words_of_line(words):
-    """The command line."""
-    parser = argparse.ArgumentParser(description=__doc__, formatter_class=argparse.RawDescriptionHelpFormatter,
-                                     allow_abbrev=False)
-    parser.add_argument("folder", type=Path, nargs="?", metavar="FOLDER")
-    parser.add_argument("out", type=Path, nargs="?", metavar="OUT")
-    parser.add_argument("--verify-report", type=Path, metavar="OUT")
-    parser.add_argument("--wanted", type=Path, metavar="FILE")
-    parser.add_argument("--want", action="append", metavar="WORDS")
-    parser.add_argument("--program", type=Path, default=TOP / "crates/irv/out/irv")
+def parser():
+    """Returns the parser of the command line."""
+    line = Parser("irv --batch", "Judges every .json file below DIRECTORY, many at once, on this machine or on "
+                  "a cluster, and keeps the answers in OUT\nwith index.html, report.xml, report.csv and "
+                  "report.json. Answers that OUT has already are not asked again.\n\nThe exit status is 0 "
+                  "if every answer is good; 1 if one is not (a hazard, a refusal, no verdict); 2 if nothing "
+                  "was\ndone; 3 if an answer is missing: the next call asks again.", NOTHING_DONE,
+                  "irv --batch DIRECTORY OUT [OPTIONS] | --verify-report OUT")
+    line.add_argument("folder", type=Path, nargs="?", metavar="DIRECTORY", help="the configurations")
+    line.add_argument("out", type=Path, nargs="?", metavar="OUT", help="the results")
+    line.add_argument("--verify-report", type=Path, metavar="OUT",
+                      help="check a finished OUT again on this machine, and print what differs")
+    line.add_argument("--questions", type=Path, metavar="FILE",
+                      help="a CSV file of what is asked of each (DIRECTORY/questions.csv)")
+    line.add_argument("--ask", action="append", metavar="WORDS",
+                      help="what is asked of every configuration; may be repeated (check, verify, audit)")
+    line.program()
     for name in HANDED_ON:
-        parser.add_argument(f"--{name}")
-    parser.add_argument("--snakemake", default="", metavar="WORDS")
-    parser.add_argument("--lot", type=questions.number(0, MOST_LOT), default=job_groups.LOT, metavar="BYTES")
-    given = parser.parse_args(joined(words))
+        line.add_argument(f"--{name}", metavar="VALUE", help=f"Snakemake's option --{name}")
+    line.add_argument("--snakemake", default="", metavar="WORDS", help="further options of Snakemake")
+    line.add_argument("--batch-bytes", type=questions.number(0, MOST_BYTES), default=job_groups.BYTES,
+                      metavar="N", help="small configurations of N bytes in total are one job of "
+                      f"Snakemake; 0: each is a job ({job_groups.BYTES})")
+    return line
+
+
+def words_of_line(words):
+    """Returns what the arguments ask for."""
+    line = parser()
+    given = line.parse_args(joined(words))
     if (given.verify_report is None) == (given.out is None):
-        parser.error("FOLDER and OUT are wanted, or --verify-report OUT")
-    if given.wanted and given.want:
-        parser.error("--wanted and --want don't go together")
+        line.error("give DIRECTORY and OUT, or --verify-report OUT")
+    if given.questions and given.ask:
+        line.error("--questions and --ask exclude each other")
     return given
 
 
@@ -119,9 +114,9 @@ def read_program(path):
 
 def read_wanted(given, names):
     """What is wanted of each configuration."""
-    listed = given.wanted or given.folder / questions.LISTED
-    if given.want or not (given.wanted or os.path.lexists(listed)):
-        same = questions.from_words(given.want or questions.USUAL)
+    listed = given.questions or given.folder / questions.LISTED
+    if given.ask or not (given.questions or os.path.lexists(listed)):
+        same = questions.from_words(given.ask or questions.USUAL)
         return {name: same for name in names}
     return questions.read_list(listed, names)
 
@@ -158,7 +153,7 @@ def judge(given):
         store.given(sum_).chmod(0o755)
         jobs, keys, configurations = plan(store, read, wanted, scenarios, sum_)
         missing, tried = snakemake_run.sweep(store, jobs)
-        snakemake_run.put_targets(store, *job_groups.parted(store, missing, tried, given.lot, at_once(given)))
+        snakemake_run.put_targets(store, *job_groups.parted(store, missing, tried, given.batch_bytes, at_once(given)))
         status = snakemake_run.do_all(store, missing, words, lock) if missing else 0
         about = {"folder": shown(str(given.folder)), "program": sum_, "engine": snakemake_run.version_in(store)}
         value = batch_report.make(store, about, configurations, keys, jobs)
@@ -172,9 +167,9 @@ def tell(store, value, done, known, status):
     rows = batch_report.rows_of(value)
     unanswered = [(row, told) for row in rows for told in row.told if told.answer is None]
     for row, told in unanswered:
-        print(f"many: {row.name}: {told.want}: {told.line}", file=sys.stderr)
+        print(f"irv --batch: {row.name}: {told.want}: {told.line}", file=sys.stderr)
     if unanswered:
-        print(f"many: snakemake ended with status {status}; {store.top / 'snakemake.log'} is its log",
+        print(f"irv --batch: snakemake ended with status {status}; {store.top / 'snakemake.log'} is its log",
               file=sys.stderr)
     good = sum(row.standing == batch_report.GOOD for row in rows)
     print(f"{len(rows)} configurations, {good} good; {done} jobs were done, {known} were known; "
@@ -201,17 +196,19 @@ def main(words):
     """Takes the command line; answers the exit status."""
     sys.stdout.reconfigure(errors="backslashreplace")
     sys.stderr.reconfigure(errors="backslashreplace")
+    if len(words) == 2 and words[0] in ("--run-job", "--run-group"):
+        return run_group.run(*words)
     given = words_of_line(words)
     try:
         return verify_report(given) if given.verify_report else judge(given)
     except Refused as fault:
         for line in fault.lines():
-            print(f"many: {line}", file=sys.stderr)
+            print(f"irv --batch: {line}", file=sys.stderr)
         return NOTHING_DONE
     except OSError as fault:
-        print(f"many: {shown(str(fault.filename or 'the work'))}: {reason(fault)}; the next call goes on",
+        print(f"irv --batch: {shown(str(fault.filename or 'the work'))}: {reason(fault)}; the next call goes on",
               file=sys.stderr)
         return UNANSWERED
     except KeyboardInterrupt:
-        print("many: stopped; the next call goes on", file=sys.stderr)
+        print("irv --batch: stopped; the next call goes on", file=sys.stderr)
         return UNANSWERED

@@ -4,14 +4,13 @@ refuting.py. Each answers a value for its answer: `line`, what is told; `is_good
 
 import os
 import sys
-from pathlib import Path
 
 from irvtools.batch.measuring import Called
 from irvtools.batch.store import sum_of_file
 from irvtools.batch.program_answers import NoAnswer, why_no_answer
 from irvtools.paths import TOP
 
-PAGE_TOOL = TOP / "tools/page"
+HTML_TOOL = TOP / "tools/html"
 # of each file that was seen to have its sum the length and the times that it had then
 SEEN = {}
 NOTHING_TOOK = {"seconds": 0.0, "processor_seconds": 0.0, "memory_kib": 0}
@@ -102,10 +101,10 @@ def do_drive(store, job, room):
     return answered(done, done.status == 0)
 
 
-def do_page(store, job, room):
+def do_html(store, job, room):
     """The page."""
     page = room / "page.html"
-    done = Called([sys.executable, str(PAGE_TOOL), str(page), "--program",
+    done = Called([sys.executable, str(HTML_TOOL), str(page), "--program",
                    str(handed(store, job["program"])), *job["words"]],
                   handed(store, job["configuration"]), room)
     if done.status != 0 or not page.is_file():
@@ -115,4 +114,4 @@ def do_page(store, job, room):
     return {**answer, "line": "written"}
 
 
-DOES = {"check": do_check, "verify": do_verify, "audit": do_audit, "drive": do_drive, "page": do_page}
+DOES = {"check": do_check, "verify": do_verify, "audit": do_audit, "drive": do_drive, "html": do_html}

@@ -3,11 +3,11 @@ the jobs on which it stands are a part of that: so equal keys are equal work."""
 
 import os
 
-from irvtools.batch.job_kinds import PAGE_TOOL
+from irvtools.batch.job_kinds import HTML_TOOL
 from irvtools.batch.directory import MOST_SCENARIO, read_file
 from irvtools.batch.file_names import shown
 from irvtools.calls.refusal import Refused
-from irvtools.batch.safety_queries import queries_for
+from irvtools.checkers.verify_with import queries_for
 from irvtools.batch.store import sum_of, sum_of_file, text_of
 
 FORM = 1                        # another number where a kind of job comes to do something else
@@ -15,7 +15,7 @@ FORM = 1                        # another number where a kind of job comes to do
 
 def page_tool_sum():
     """The sum of all that makes a page."""
-    files = [PAGE_TOOL, *sorted((PAGE_TOOL.parent / "page_parts").glob("*.py"))]
+    files = [HTML_TOOL, *sorted((HTML_TOOL.parent / "page_parts").glob("*.py"))]
     return sum_of("\n".join(f"{file.name} {sum_of_file(file)}" for file in files).encode())
 
 
@@ -76,12 +76,12 @@ class Planner:
         return self.job("audit", {"verify": verified}, configuration=configuration, columns=columns,
                         words=["--columns", columns])
 
-    def page(self, configuration, want):
+    def html(self, configuration, want):
         """The page."""
         says = want.says
         words = ["--columns", says.columns, "--depth", str(says.depth), "--conflicts",
                  str(says.conflicts), "--wait", f"{says.wait:g}", "--hunt", f"{says.hunt:g}"]
-        return self.job("page", configuration=configuration, words=words, columns=says.columns,
+        return self.job("html", configuration=configuration, words=words, columns=says.columns,
                         tool=self.page_tool)
 
     def drive(self, configuration, want):
@@ -90,7 +90,7 @@ class Planner:
         return self.job("drive", configuration=configuration, columns=columns,
                         words=["--columns", columns], scenario=self.scenarios[want.says.run])
 
-    def safe_by(self, configuration, want):
+    def verify_with(self, configuration, want):
         """Each query on which safety at k rests: its formula, a solver's refutation, and rup."""
         says, needs, queries = want.says, {}, queries_for(want.says.k)
         for kind, at in queries:
@@ -100,5 +100,5 @@ class Planner:
             solved = self.job("solve", {"export": exported}, solver=says.solver, seconds=says.seconds,
                               **about)
             needs[f"{kind} {at}"] = self.job("rup", {"solve": solved}, **about)
-        return self.job("safe_by", needs, configuration=configuration, columns=says.columns, k=says.k,
+        return self.job("verify_with", needs, configuration=configuration, columns=says.columns, k=says.k,
                         queries=[list(query) for query in queries], words=[])

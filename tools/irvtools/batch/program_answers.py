@@ -5,8 +5,6 @@ A status without its line is no answer: it may be that of a signal, of a shell o
 
 import re
 import signal
-import sys
-from pathlib import Path
 
 
 from irvtools.calls.first_lines import HAZARD, NUMBER, STATUS_OF, VERDICT, kind_of

@@ -7,11 +7,11 @@ from pathlib import Path
 from irvtools.csvtables import csv_text
 from irvtools.batch.file_names import shown
 from irvtools.calls.refusal import Refused, reason
-from irvtools.batch.safety_queries import CADICAL, MOST_EVENTS
+from irvtools.checkers.verify_with import CADICAL, MOST_EVENTS
 
-HEAD = ["configuration", "want", "words"]
+HEAD = ["configuration", "ask", "words"]
 ALL = "*"                       # each configuration of the folder
-LISTED = "wanted.csv"
+LISTED = "questions.csv"
 USUAL = ("check", "verify", "audit")
 
 
@@ -71,9 +71,9 @@ TAKES = {
     "check": ("--columns",),
     "verify": ("--columns", "--depth", "--conflicts"),
     "audit": (),
-    "safe_by": ("--columns", "--k", "--solver", "--seconds"),
+    "verify_with": ("--columns", "--k", "--solver", "--seconds"),
     "drive": ("--columns", "--run"),
-    "page": ("--columns", "--depth", "--conflicts", "--wait", "--hunt"),
+    "html": ("--columns", "--depth", "--conflicts", "--verify-seconds", "--search-seconds"),
 }
 
 

@@ -68,7 +68,7 @@ def page(report):
              tag("p", text("An answer is the program's, of the sum ") + code(report["program"])
                  + text(f", over the bytes whose sum stands with it; irv {report['version']}, "
                         f"{report['engine']}. Whether this program was proved, its sum tells who built "
-                        "it: ./irv --version. tools/many --verify-report has each certificate, "
+                        "it: ./irv --version. tools/batch --verify-report has each certificate, "
                         "refutation and run checked again, on one machine.")),
              table(SUM_HEAD, [line for row in rows for line in sums(row)])]
     return ("<!DOCTYPE html>\n<html lang=\"en\"><head><meta charset=\"utf-8\"><title>Interlockings</title>"

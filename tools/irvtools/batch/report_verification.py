@@ -16,7 +16,7 @@ from irvtools.batch.planning import FORM
 from irvtools.calls.refusal import Refused
 from irvtools.batch.solver_jobs import safe_by_line
 from irvtools.batch.batch_report import FILE, rows_of, sizes_of
-from irvtools.batch.safety_queries import name_of, queries_for
+from irvtools.checkers.verify_with import name_of, queries_for
 from irvtools.batch.store import sum_of, sum_of_file, text_of
 from irvtools.batch.program_answers import NoAnswer
 from irvtools.batch.questions import Want
@@ -24,8 +24,8 @@ from irvtools.batch.questions import Want
 AFTERWARDS = ("key", "after")           # what a job has besides what its key is the sum of
 # how a good answer of each kind begins, and how the answer of an audit that had nothing to do
 GOOD_LINES = {"check": "clean", "verify": "safe k=", "audit": "accepted k=", "drive": "driven steps=",
-              "page": "written", "export": "p cnf ", "solve": "a refutation", "rup": "refuted ",
-              "safe_by": "safe k="}
+              "html": "written", "export": "p cnf ", "solve": "a refutation", "rup": "refuted ",
+              "verify_with": "safe k="}
 NO_CERTIFICATE = "no certificate of safety: "
 HAS_WORDS = ("check", "verify", "audit", "drive", "export", "rup")
 
@@ -230,7 +230,7 @@ class Verifier:
 
 def verify(store, program):
     """Goes over a folder; answers the faults, and how many answers were left unchecked."""
-    with tempfile.TemporaryDirectory(prefix="irv-many-") as room:
+    with tempfile.TemporaryDirectory(prefix="irv-batch-") as room:
         verifier = Verifier(store, program, room)
         faults = list(verifier.faults())
     return faults, len(verifier.seen), verifier.unchecked

@@ -1,10 +1,8 @@
-"""Does the jobs of a lot of a folder of tools/many, one after the other, on the machine on which it is called.
+"""Does the jobs of Snakemake: one job, or those of a group one after the other.
 
-    tools/many_parts/do_lot OUT LOT
-
-OUT/lots/LOT.json has the keys of the jobs. Each is done in a process of its own: where that is killed, the
-others go on. One that stands on another that has no answer isn't begun. The status is 0 where each has its
-answer, else 1.
+Snakemake calls `tools/batch --run-job KEY` or `tools/batch --run-group GROUP` in the directory of the
+results. Each job of a group has a process of its own: if one is killed, the others go on. A job whose needs
+have no answer is not begun.
 """
 
 import os
@@ -42,7 +40,10 @@ def is_done(store, key):
     return store.answer(job) is not None
 
 
-def main(words):
-    """Takes the words; answers the exit status."""
-    store = Store(Path(words[0]).resolve())
-    return 0 if all([is_done(store, key) for key in store.lot(words[1])]) else 1
+def run(option, name):
+    """Does the job or the group of this name in the current directory; returns 0 if each has its answer,
+    otherwise 1."""
+    store = Store(Path.cwd().resolve())
+    if option == "--run-job":
+        return work(store, name)
+    return 0 if all([is_done(store, key) for key in store.group(name)]) else 1

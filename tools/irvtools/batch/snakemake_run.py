@@ -43,7 +43,7 @@ def alone(store):
         try:
             fcntl.flock(lock, fcntl.LOCK_EX | fcntl.LOCK_NB)
         except BlockingIOError:
-            print(f"many: an earlier call is at work in {store.top}; this one waits for its end",
+            print(f"irv --batch: an earlier call is at work in {store.top}; this one waits for its end",
                   file=sys.stderr, flush=True)
             fcntl.flock(lock, fcntl.LOCK_EX)
         yield lock
@@ -52,7 +52,7 @@ def alone(store):
 def sweep(store, jobs):
     """Takes away what stopped works left, and each answer that isn't whole; answers the jobs that have none, and
     the keys of those of them that were begun before."""
-    for left in (*store.making.iterdir(), *store.lots.iterdir()):
+    for left in (*store.making.iterdir(), *store.groups.iterdir()):
         if left.is_dir() and not left.is_symlink():
             shutil.rmtree(left, ignore_errors=True)
         else:
@@ -81,22 +81,22 @@ def watch(child, store, missing):
         except subprocess.TimeoutExpired:
             done = sum(store.answer_file(job).exists() for job in missing)
             if done != last:
-                print(f"many: {done} of {len(missing)} jobs", file=sys.stderr, flush=True)
+                print(f"irv --batch: {done} of {len(missing)} jobs", file=sys.stderr, flush=True)
                 last = done
 
 
-def put_targets(store, lots, apart):
-    """Keeps the lots, and the files for which Snakemake is asked."""
-    ends = [store.lot_end(store.put_lot(lot)) for lot in lots] + [store.answer_file(job) for job in apart]
+def put_targets(store, groups, apart):
+    """Keeps the groups, and the files for which Snakemake is asked."""
+    ends = [store.group_end(store.put_group(group)) for group in groups] + [store.answer_file(job) for job in apart]
     targets = [os.path.relpath(end, store.top) for end in ends]
     store.put(store.top / "targets.json", json.dumps(targets).encode(), is_settled=False)
 
 
-def see_lots(store):
-    """Waits until the answers of the lots that came to their ends are seen: a file system that many machines share
+def see_groups(store):
+    """Waits until the answers of the groups that came to their ends are seen: a file system that many machines share
     may show a file late, and Snakemake has seen no more than the ends."""
     end = time.monotonic() + SEEN_WITHIN
-    keys = {key for lot in store.lots.glob("*.done") for key in store.lot(lot.stem)}
+    keys = {key for group in store.groups.glob("*.done") for key in store.group(group.stem)}
     while any(store.answer(store.job(key)) is None for key in keys) and time.monotonic() < end:
         time.sleep(1)
 
@@ -110,7 +110,7 @@ def do_all(store, missing, handed_on, lock):
                                  preexec_fn=lambda: end_with_parent(signal.SIGTERM))
         try:
             status = watch(child, store, missing)
-            see_lots(store)
+            see_groups(store)
             return status
         except BaseException:
             child.send_signal(signal.SIGTERM)

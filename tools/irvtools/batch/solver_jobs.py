@@ -2,7 +2,7 @@
 
 from irvtools.batch.job_kinds import answered, ask, file_of, without_work
 from irvtools.batch.measuring import Called, last_line
-from irvtools.batch.safety_queries import HAS_ASSIGNMENT, leave_out_what_adds_nothing, name_of
+from irvtools.checkers.verify_with import HAS_ASSIGNMENT, leave_out_what_adds_nothing, name_of
 from irvtools.batch.program_answers import NoAnswer
 
 
@@ -88,4 +88,4 @@ def do_safe_by(store, job, _room):
     return without_work(*safe_by_line(job, rups))
 
 
-DOES = {"export": do_export, "solve": do_solve, "rup": do_rup, "safe_by": do_safe_by}
+DOES = {"export": do_export, "solve": do_solve, "rup": do_rup, "verify_with": do_safe_by}

@@ -4,7 +4,7 @@ Nothing in it is ever half written: a file is written under another name, and ta
 of it is there. An answer is the last file of its work that takes its name, and tells the sums of the
 others; so a work that was stopped has no answer. An answer and its files are on the disk before they
 take their names. What is seen to be right before it is used again, since its bytes are compared or its
-sum is, isn't waited for: what was handed over, and what says which jobs and lots there are.
+sum is, isn't waited for: what was handed over, and what says which jobs and groups there are.
 """
 
 import hashlib
@@ -13,7 +13,7 @@ import os
 import tempfile
 from pathlib import Path
 
-MARK = "irv-many"               # the file by which a folder is known as one of these
+MARK = "irv-batch"               # the file by which a folder is known as one of these
 PIECE = 1 << 20
 RIGHTS = 0o666
 
@@ -57,11 +57,11 @@ class Store:
         self.top = Path(top)
         self.making = self.top / "making"
         self.failures = self.top / "failures"
-        self.lots = self.top / "lots"
+        self.groups = self.top / "groups"
 
     def prepare(self):
         """Makes the folders that are always there."""
-        for folder in (self.making, self.failures, self.lots, self.top / "jobs", self.top / "given"):
+        for folder in (self.making, self.failures, self.groups, self.top / "jobs", self.top / "given"):
             folder.mkdir(parents=True, exist_ok=True)
 
     def put(self, path, data, is_settled=True):
@@ -125,23 +125,23 @@ class Store:
             return None
         return answer if whole else None
 
-    def lot_file(self, lot):
-        """The file that has the keys of a lot's jobs."""
-        return self.lots / f"{lot}.json"
+    def group_file(self, group):
+        """The file that has the keys of a group's jobs."""
+        return self.groups / f"{group}.json"
 
-    def lot_end(self, lot):
-        """The file that is there when each job of a lot has its answer."""
-        return self.lots / f"{lot}.done"
+    def group_end(self, group):
+        """The file that is there when each job of a group has its answer."""
+        return self.groups / f"{group}.done"
 
-    def put_lot(self, jobs):
-        """Keeps a lot; answers its name."""
+    def put_group(self, jobs):
+        """Keeps a group; answers its name."""
         keys = text_of([job["key"] for job in jobs])
-        self.put(self.lot_file(sum_of(keys)), keys, is_settled=False)
+        self.put(self.group_file(sum_of(keys)), keys, is_settled=False)
         return sum_of(keys)
 
-    def lot(self, lot):
-        """The keys of a lot's jobs."""
-        return json.loads(self.lot_file(lot).read_bytes())
+    def group(self, group):
+        """The keys of a group's jobs."""
+        return json.loads(self.group_file(group).read_bytes())
 
     def failure_file(self, key):
         """The file that says why a job has no answer."""

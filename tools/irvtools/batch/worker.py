@@ -1,4 +1,4 @@
-"""Does one job of a folder of tools/many in this process, and keeps its answer. The answer takes its name last,
+"""Does one job of a folder of tools/batch in this process, and keeps its answer. The answer takes its name last,
 when all else of it is on the disk. From its beginning until then failures/KEY.json says why there is none."""
 
 import contextlib
@@ -11,7 +11,7 @@ from irvtools.batch.measuring import machine
 from irvtools.batch.store import sum_of_file, text_of
 from irvtools.batch.program_answers import NoAnswer
 
-OF_PROGRAM = ("check", "verify", "audit", "drive", "page")
+OF_PROGRAM = ("check", "verify", "audit", "drive", "html")
 NO_WORD = "it ended without a word, as what is killed does"
 
 
@@ -33,7 +33,7 @@ def tell(store, key, why):
     try:
         store.put(store.failure_file(key), text_of({"why": why, "machine": machine()}), is_settled=False)
     except OSError as fault:
-        print(f"many: nor can that be kept: {fault}", file=sys.stderr)
+        print(f"irv --batch: nor can that be kept: {fault}", file=sys.stderr)
 
 
 def doer(kind):
@@ -42,7 +42,7 @@ def doer(kind):
 
 
 def prepare(store, job):
-    """Reads what a job needs besides its own files, so that it is read once for all jobs of a lot."""
+    """Reads what a job needs besides its own files, so that it is read once for all jobs of a group."""
     doer(job["kind"])
     with contextlib.suppress(NoAnswer, OSError):
         importlib.import_module("doing").handed(store, job["program"])
@@ -58,7 +58,7 @@ def work(store, key):
         store.failure_file(key).unlink(missing_ok=True)
     except (NoAnswer, OSError, ValueError, KeyError) as fault:
         why = str(fault) or type(fault).__name__
-        print(f"many: no answer: {why}", file=sys.stderr, flush=True)
+        print(f"irv --batch: no answer: {why}", file=sys.stderr, flush=True)
         tell(store, key, why)
         return 1
     return 0

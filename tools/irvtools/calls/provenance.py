@@ -3,7 +3,6 @@
 import hashlib
 import re
 import subprocess
-from pathlib import Path
 from irvtools.paths import TOP
 
 QUALIFICATION = TOP / "docs/QUALIFICATION.md"

@@ -1,51 +1,54 @@
-"""Checks a certificate that `irv verify` wrote, by a checker that is no part of the program.
+"""The command line of `tools/audit`: checks a certificate by a checker that is independent of the program.
 
-    tools/audit [--columns strict|free] [--program PROGRAM] CONF CERT
-
-It reads the certificate CERT of the configuration CONF by its grammar and follows each step by its
-hints, over the formulas of its queries; the checker is tests/lib/certificate.py, by the rules of
-docs/FORMATS.md. That is one half: the refutations are right. It shares nothing with the program but
-the formulas, which `irv export` prints. That these formulas ask for the runs of the plant that the
-configuration describes is the other half, which isn't checked here: the contract of the program says
-it, and it is proved.
-
-It prints `accepted`, and what the certificate tells: status 0 where that is that the plant is safe,
-and 4 where the certificate is spent, which says nothing of the plant. Or it prints `refused`, and
-why, with status 1. With status 2 a file or a formula couldn't be had, or the words are wrong. PROGRAM
-is `./irv` at the top of the repository, unless another is given.
+The checker (`certificate.py`) reads the certificate by its grammar and follows each step by its hints. It
+shares only the formulas with the program, which `irv export` prints. That these formulas are those of the
+plant is not checked here: the contract of the program says it, and is proved.
 """
 
-import argparse
 import sys
 from pathlib import Path
 
 
+from irvtools.arguments import Parser
 from irvtools.checkers import certificate
 from irvtools.checkers import dimacs
 from irvtools.checkers import exported
 from irvtools.paths import TOP
 
 
-def main():
-    """Takes the command line; answers the exit status."""
-    parser = argparse.ArgumentParser(description=__doc__,
-                                     formatter_class=argparse.RawDescriptionHelpFormatter)
-    parser.add_argument("--columns", choices=("strict", "free"), default="strict")
-    parser.add_argument("--program", type=Path, default=TOP / "irv")
-    for name in ("conf", "cert"):
-        parser.add_argument(name, type=Path)
-    given = parser.parse_args()
+ACCEPTED, REFUSED, NO_ANSWER, SPENT = 0, 1, 2, 4
+
+
+def parser():
+    """Returns the parser of the command line."""
+    line = Parser("tools/audit", "Checks a certificate that `irv verify` wrote, by a checker that is independent "
+                  "of the program.\n\nThe exit status is 0 if it was accepted and says that the plant is safe; "
+                  "4 if it was accepted and is spent, which says\nnothing about the plant; 1 if it was refused; "
+                  "2 if a file or a formula could not be had.", NO_ANSWER,
+                  "tools/audit [OPTIONS] CONFIGURATION CERTIFICATE")
+    line.once("--columns", "strict or free, as verify was called (strict)", choices=("strict", "free"),
+              default="strict", metavar="KIND")
+    line.once("--program", "the program that exports the formulas (./irv)", type=Path, default=TOP / "irv",
+              metavar="FILE")
+    line.add_argument("conf", metavar="CONFIGURATION", type=Path, help="the configuration's file")
+    line.add_argument("cert", metavar="CERTIFICATE", type=Path, help="the certificate's file")
+    return line
+
+
+def main(words):
+    """Checks the certificate that the arguments name; returns the exit status."""
+    given = parser().parse_args(words)
     try:
         formula_of = exported.formulas_of(given.program.resolve(), given.conf.read_bytes(),
                                           given.columns)
         told = certificate.check(given.cert.read_bytes(), formula_of)
     except certificate.CertificateError as fault:
         print(f"refused: {fault}")
-        return 1
+        return REFUSED
     except (OSError, dimacs.DimacsError, exported.ExportError) as fault:
-        print(f"audit: {fault}", file=sys.stderr)
-        return 2
+        print(f"tools/audit: {fault}", file=sys.stderr)
+        return NO_ANSWER
     is_safe = told.startswith("safe ")
-    print(f"accepted: {told}{'' if is_safe else ', which says nothing of the plant'}; each step "
+    print(f"accepted: {told}{'' if is_safe else ', which says nothing about the plant'}; each step "
           "follows, over the formulas that irv export prints")
-    return 0 if is_safe else 4
+    return ACCEPTED if is_safe else SPENT

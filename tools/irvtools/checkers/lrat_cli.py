@@ -1,24 +1,14 @@
-"""Writes the queries of a certificate as formulas and refutations that other checkers read.
+"""The command line of `tools/lrat`: writes the queries of a certificate as CNF formulas and LRAT refutations.
 
-    tools/lrat [--columns strict|free] [--program PROGRAM] CONF CERT FOLDER
-
-For each query of the certificate CERT of the configuration CONF it writes FOLDER/KIND-NUMBER.cnf, the
-formula in the DIMACS CNF format as `irv export` prints it, and FOLDER/KIND-NUMBER.lrat, the query's
-steps in the LRAT format: each step's line has the number of its clause before it, counted on from the
-formula's clauses. It prints a line for each query. Nothing is checked here: that is for the checkers.
-
-Where a certificate is safe at k, each of its queries is refuted. In one that is spent, some end
-without the empty clause, and their steps refute nothing; the line says so.
-
-It ends with status 0 where all is written, and 2 where the words are wrong or a file or a formula
-can't be had. PROGRAM is `./irv` at the top of the repository, unless another is given.
+Each step's line has the number of its clause before it, counted on from the formula's clauses. Nothing is
+checked here. Some queries of a spent certificate end without the empty clause; the printed line says so.
 """
 
-import argparse
 import sys
 from pathlib import Path
 
 
+from irvtools.arguments import Parser
 from irvtools.checkers import certificate
 from irvtools.checkers import dimacs
 from irvtools.checkers import exported
@@ -41,15 +31,25 @@ def write_query(folder, name, formula, steps):
     return f"{name}: {clauses} clauses, {len(steps)} steps, {end}"
 
 
-def main():
-    """Takes the command line; answers the exit status."""
-    parser = argparse.ArgumentParser(description=__doc__,
-                                     formatter_class=argparse.RawDescriptionHelpFormatter)
-    parser.add_argument("--columns", choices=("strict", "free"), default="strict")
-    parser.add_argument("--program", type=Path, default=TOP / "irv")
-    for name in ("conf", "cert", "folder"):
-        parser.add_argument(name, type=Path)
-    given = parser.parse_args()
+def parser():
+    """Returns the parser of the command line."""
+    line = Parser("tools/lrat", "Writes each query of a certificate as DIRECTORY/KIND-NUMBER.cnf, the formula that "
+                  "`irv export` prints, and\nDIRECTORY/KIND-NUMBER.lrat, its steps in the LRAT format, which other "
+                  "checkers read. It prints a line a query.\n\nThe exit status is 0 if all is written, "
+                  "otherwise 2.", 2, "tools/lrat [OPTIONS] CONFIGURATION CERTIFICATE DIRECTORY")
+    line.once("--columns", "strict or free, as verify was called (strict)", choices=("strict", "free"),
+              default="strict", metavar="KIND")
+    line.once("--program", "the program that exports the formulas (./irv)", type=Path, default=TOP / "irv",
+              metavar="FILE")
+    line.add_argument("conf", metavar="CONFIGURATION", type=Path, help="the configuration's file")
+    line.add_argument("cert", metavar="CERTIFICATE", type=Path, help="the certificate's file")
+    line.add_argument("folder", metavar="DIRECTORY", type=Path, help="where the files are written")
+    return line
+
+
+def main(words):
+    """Writes the queries of the certificate that the arguments name; returns the exit status."""
+    given = parser().parse_args(words)
     try:
         conf = given.conf.read_bytes()
         _, _, queries = certificate.read(given.cert.read_bytes())
@@ -58,6 +58,6 @@ def main():
             formula = exported.text_of(given.program.resolve(), conf, given.columns, kind, number)
             print(write_query(given.folder, f"{kind}-{number}", formula, steps))
     except (OSError, certificate.CertificateError, dimacs.DimacsError, exported.ExportError) as fault:
-        print(f"lrat: {fault}", file=sys.stderr)
+        print(f"tools/lrat: {fault}", file=sys.stderr)
         return 2
     return 0

@@ -1,45 +1,21 @@
-"""Has another solver show that a plant is safe, and `irv rup` check each of its refutations.
+"""Shows by another solver that a plant is safe; `irv rup` checks each of its refutations.
 
-    tools/safe_by [--k K] [--columns strict|free] [--solver WORDS] [--jobs N] [--seconds S]
-                  [--program PROGRAM] [--keep FOLDER] CONF
+For a plant to be safe at K these queries must have no run: hazard and breach from 0 to K, and step K. `irv
+export` prints each formula, the solver writes a refutation of it, and `irv rup` says whether it is one.
 
-For a plant to be safe at K these queries must have no run: hazard and breach from 0 to K, and step
-K (docs/MODEL.md, "Queries"). Of each, `irv export` prints the formula, the solver writes a refutation
-of it, and `irv rup` says whether it is one; several queries are at work side by side. Of each it is
-said whether it is refuted, in their order. Where rup refuted every one, the last line is `safe k=K`,
-and the status 0. Else the last line says which query wasn't, with status 1; nothing is said of the
-plant then, but that where the solver found an assignment, and is right, it has the query's run. With
-status 2 a file, the program or the solver couldn't be had, or the configuration is refused.
+`safe k=K` rests here on:
 
-WORDS is the command line of the solver, in which {cnf} stands for the file of the formula and
-{proof} for that of the refutation, which has to be plain text (DRAT or RUP that isn't binary):
+- `irv rup` says `refuted` only if no such run exists, whoever wrote the text: proved, with the formula, in the
+  contract of `run`. Nothing rests on the solver.
+- No run of any length ends in a hazard if these queries have none: proved as `safe_forever` of ilk_forever.
+- This script: that it asks all of these queries, over the same bytes and columns, and reads the answers
+  rightly. No contract says that; `irv audit`, which takes all of them in one certificate, needs no script.
+- The assumptions of docs/assurance/qualification.md, as each answer.
 
-    cadical -q -n --no-binary {cnf} {proof}     unless another is given
-    picosat.trace -n -R {proof} {cnf}           for PicoSAT
-
-The first line of a refutation is left out where it begins with `%`: picosat writes one so. So are the
-lines that begin with `d`, since rup takes nothing from an item that only deletes, and reads 64 MiB at
-most. A solver that adds variables of its own has to be told not to: an item with such a variable is bad.
-
-K is 1 unless another is given, which is enough for a table that breaks no rule of the columns; 16 is
-the most. A solver that takes longer than S seconds over a query is ended; there is no bound unless
-one is given. As many solvers are at work as there are processors, unless N says so. FOLDER keeps
-the formulas and the refutations, of which the names say the query; one may be made on another
-machine, and be checked here by `irv rup`. PROGRAM is `./irv` at the top of the repository.
-
-What `safe k=K` rests on here:
-
-- That `irv rup` says `refuted` only where no such run exists, whoever wrote the text: it is proved,
-  with the formula, in the contract of `run`. So nothing rests on the solver.
-- That no run of any length ends in a hazard where these queries have none: it is proved too, as
-  `safe_forever` of ilk_forever.
-- On this script: that it asks for all of these queries, over the same bytes and columns, and reads
-  the answers rightly. No contract says that; `irv audit`, which takes all of them in one certificate,
-  needs no such script.
-- On the premises of docs/QUALIFICATION.md, as each answer.
+The first line of a refutation is left out if it begins with `%`, since picosat writes one so; lines that begin
+with `d` are too, since rup takes nothing from an item that only deletes, and reads at most 64 MiB.
 """
 
-import argparse
 import concurrent.futures
 import os
 import shlex
@@ -47,6 +23,7 @@ import subprocess
 import sys
 import tempfile
 from pathlib import Path
+from irvtools.arguments import Parser, whole_number
 from irvtools.paths import TOP
 
 CADICAL = "cadical -q -n --no-binary {cnf} {proof}"
@@ -166,37 +143,52 @@ def ask_all(plant, given, folder):
     return left
 
 
-def words_of_line():
-    """The command line."""
-    parser = argparse.ArgumentParser(description=__doc__,
-                                     formatter_class=argparse.RawDescriptionHelpFormatter)
-    parser.add_argument("--k", type=int, default=1, choices=range(1, MOST_EVENTS + 1), metavar="K")
-    parser.add_argument("--columns", choices=("strict", "free"), default="strict")
-    parser.add_argument("--solver", default=CADICAL, metavar="WORDS")
-    parser.add_argument("--jobs", type=int, default=os.cpu_count() or 1, metavar="N")
-    parser.add_argument("--seconds", type=float, metavar="S")
-    parser.add_argument("--program", type=Path, default=TOP / "irv")
-    parser.add_argument("--keep", type=Path, metavar="FOLDER")
-    parser.add_argument("conf", type=Path)
-    given = parser.parse_args()
-    if given.jobs < 1:
-        parser.error("--jobs is at least 1")
+def parser():
+    """Returns the parser of the command line."""
+    line = Parser("tools/verify_with", "Shows by another solver that a plant is safe: the solver refutes each query, "
+                  "and `irv rup` checks each refutation.\n\n--solver is a command line in which {cnf} stands for the "
+                  "formula's file and {proof} for the refutation's, which\nhas to be plain text. For PicoSAT: "
+                  "picosat.trace -n -R {proof} {cnf}\n\nThe exit status is 0 if every query was refuted: the last "
+                  "line is `safe k=K`. 1: the last line names the queries\nthat were not, and nothing is said about "
+                  "the plant. 2: a file, the program or the solver could not be had, or the\nconfiguration is "
+                  "rejected.", 2, "tools/verify_with [OPTIONS] CONFIGURATION")
+    line.once("--k", f"the k of the induction, at most {MOST_EVENTS} (1)", type=whole_number(1, MOST_EVENTS),
+              default=1, metavar="K")
+    line.once("--columns", "strict or free (strict)", choices=("strict", "free"), default="strict",
+              metavar="KIND")
+    line.once("--solver", f"the solver's command line ({CADICAL})".replace("%", "%%"), default=CADICAL,
+              metavar="WORDS")
+    line.once("--jobs", f"solvers that run at once ({os.cpu_count() or 1} here)", default=os.cpu_count() or 1,
+              type=whole_number(1, 4096), metavar="N")
+    line.once("--seconds", "how long the solver may take for a query (no limit)", type=float, metavar="N")
+    line.once("--keep", "a directory that keeps the formulas and refutations", type=Path,
+              metavar="DIRECTORY")
+    line.once("--program", "the program that exports and checks (./irv)", type=Path, default=TOP / "irv",
+              metavar="FILE")
+    line.add_argument("conf", metavar="CONFIGURATION", type=Path, help="the configuration's file")
+    return line
+
+
+def options_of(words):
+    """Returns what the arguments ask for."""
+    line = parser()
+    given = line.parse_args(words)
     if not all(place in given.solver for place in ("{cnf}", "{proof}")):
-        parser.error("--solver has to have {cnf} and {proof}")
+        line.error("--solver has to contain {cnf} and {proof}")
     return given
 
 
-def main():
-    """Takes the command line; answers the exit status."""
-    given = words_of_line()
+def main(words):
+    """Asks every query; returns the exit status."""
+    given = options_of(words)
     try:
         plant = Plant(given.program.resolve(), given.conf.read_bytes(), given.columns)
-        with tempfile.TemporaryDirectory(prefix="irv-safe-by-") as made:
+        with tempfile.TemporaryDirectory(prefix="irv-verify-with-") as made:
             folder = given.keep or Path(made)
             folder.mkdir(parents=True, exist_ok=True)
             left = ask_all(plant, given, folder)
     except (OSError, NoAnswer) as fault:
-        print(f"safe_by: {fault}", file=sys.stderr)
+        print(f"tools/verify_with: {fault}", file=sys.stderr)
         return 2
     if left:
         print(f"not shown at k={given.k}: {', '.join(map(name_of, left))}")

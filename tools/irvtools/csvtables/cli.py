@@ -1,28 +1,142 @@
-"""Tables of routes as sheets: a configuration as two files of values apart by commas, which a
-spreadsheet opens, and back; other names, dropped routes, and in which entries two tables differ.
+"""The command line of `irv --csv`: reads and writes interlocking tables as CSV, and compares two."""
 
-    ./irv --sheet --out FOLDER < CONFIGURATION       writes sections.csv and routes.csv
-    ./irv --sheet --in FOLDER > CONFIGURATION        reads them
-    ./irv --sheet CHANGES.. < CONFIGURATION > CONFIGURATION
-    ./irv --sheet --compare OLD NEW [--page OUT.html]
-    ./irv --sheet --compare --with-network NEW [--page OUT.html]
-
-CHANGES are, and stand with --in and --out too:
-
-    --named             calls each route SOURCE-DESTINATION, before all else
-    --rename OLD=NEW    another name for a route, a board or a section, in all lists
-    --drop NAME         drops a route, in all lists
-    --list FILE         a file with a line `rename OLD=NEW` or `drop NAME` for each
-
-OLD and NEW are files with a configuration, or folders with both sheets; --with-network compares with the
-table that `irv table` gives of the network. docs/SHEETS.md says more.
-
-The status is 0; where two tables differ 1; where something is refused, and nothing written, 125.
-"""
-
+import argparse
 import sys
 from pathlib import Path
 
+from irvtools.arguments import Parser
+from irvtools.calls.refusal import Refused, reason
+from irvtools.csvtables import (
+    comparing, comparison_page, configurations, network, reading, renaming, writing)
+from irvtools.rules.schema_rules import MOST_BYTES
 
-from irvtools.csvtables import csv_commands
-from irvtools.paths import TOP
+DONE, DIFFER, REFUSED = 0, 1, 125
+OF_COMPARE = ("compare", "with_network", "html")
+OF_CHANGES = ("in_", "out", "named", "changes")
+
+
+class _Change(argparse.Action):
+    """Notes a change in the order in which it was given."""
+
+    def __call__(self, parser, namespace, values, option_string=None):
+        namespace.changes = [*(namespace.changes or []), (option_string, values)]
+
+
+def parser():
+    """Returns the parser of the command line."""
+    line = Parser("irv --csv", "Writes a configuration as two CSV files that a spreadsheet opens, reads them "
+                  "back, renames or drops entries,\nand prints in which entries two tables differ. "
+                  "Without --in the configuration is read from standard input;\nwithout --out it is "
+                  "printed.\n\nThe exit status is 0; 1 if two tables differ; 125 if something was "
+                  "refused: nothing is written then.", REFUSED,
+                  "irv --csv --out DIRECTORY < CONFIGURATION\n       irv --csv --in DIRECTORY > CONFIGURATION\n"
+                  "       irv --csv [CHANGES] < CONFIGURATION > CONFIGURATION\n"
+                  "       irv --csv --compare OLD NEW [--html OUT.html]\n"
+                  "       irv --csv --compare --with-network NEW [--html OUT.html]")
+    line.add_argument("names", nargs="*", metavar="FILE",
+                      help="with --compare: a configuration, or a directory with both CSV files")
+    line.once("--in", "read sections.csv and routes.csv of this directory", metavar="DIRECTORY", dest="in_")
+    line.once("--out", "write sections.csv and routes.csv into this directory", metavar="DIRECTORY")
+    line.flag("--named", "rename each route SOURCE-DESTINATION, before all other changes")
+    for name, metavar, text in (("--rename", "OLD=NEW", "rename a route, board or section, in all lists"),
+                                ("--drop", "NAME", "drop a route, in all lists"),
+                                ("--list", "FILE", "a file of lines `rename OLD=NEW` or `drop NAME`")):
+        line.add_argument(name, action=_Change, dest="changes", metavar=metavar, help=text)
+    line.flag("--compare", "print in which entries two tables differ")
+    line.flag("--with-network", "compare with the table that `irv table` makes of the network")
+    line.once("--html", "with --compare: also write the differences as a page", metavar="OUT.html")
+    line.program()
+    return line
+
+
+def options_of(words):
+    """Returns what the arguments ask for."""
+    line = parser()
+    given = line.parse_args(words)
+    mixed = [name.rstrip("_").replace("_", "-") for name in (OF_CHANGES if given.compare else OF_COMPARE)
+             if getattr(given, name)]
+    if mixed:
+        line.error(f"--{mixed[0]} does not go {'with' if given.compare else 'without'} --compare"
+                   if mixed[0] != "changes" else "changes do not go with --compare")
+    if given.compare:
+        if len(given.names) != (1 if given.with_network else 2):
+            line.error("--compare takes two files or directories, with --with-network one")
+    elif given.names:
+        line.error(f"unexpected argument {given.names[0]}")
+    elif not any(getattr(given, name) for name in OF_CHANGES):
+        line.error("give --in, --out, --compare or a change")
+    return given
+
+
+def standard_input():
+    """Returns the configuration on standard input."""
+    return configurations.read(sys.stdin.buffer.read(MOST_BYTES + 1), "standard input")
+
+
+def compared(name):
+    """Returns the configuration of a directory with both CSV files, or of a file."""
+    if Path(name).is_dir():
+        value = reading.read_folder(name)
+    else:
+        value = configurations.read(configurations.read_bytes(name), name)
+    configurations.see_counts(value, name)
+    return value
+
+
+def changed(options):
+    """Returns the configuration that is asked for, with its changes."""
+    value = standard_input() if options.in_ is None else reading.read_folder(options.in_)
+    changes = renaming.Changes()
+    for option, word in options.changes or []:
+        if option == "--rename":
+            changes.rename(word, "--rename")
+        elif option == "--drop":
+            changes.drop(word, "--drop")
+        else:
+            changes.read_list(word)
+    return changes.applied(renaming.named(value) if options.named else value)
+
+
+def convert(options):
+    """Reads, changes and writes a configuration."""
+    value = changed(options)
+    if options.out is not None:
+        writing.write_folder(value, options.out)
+    else:
+        print_out(configurations.written(value))
+    return DONE
+
+
+def compare(options):
+    """Prints in which entries two configurations differ."""
+    new = compared(options.names[-1])
+    is_of_network = options.with_network
+    old = network.own_table(str(options.program), new) if is_of_network else compared(options.names[0])
+    comparison = comparing.Comparison(old, new, is_of_network)
+    if options.html is not None:
+        titles = "the network's own table" if is_of_network else options.names[0], options.names[-1]
+        writing.write_new(options.html, comparison_page.Picture(comparison, *titles).page())
+    print_out("".join(line + "\n" for line in comparison.lines()))
+    return DIFFER if comparison.differences else DONE
+
+
+def print_out(text):
+    """Prints a text whole."""
+    try:
+        sys.stdout.write(text)
+        sys.stdout.flush()
+    except OSError as fault:
+        # what is left in the stream can't be written at the end either
+        sys.stdout = None
+        raise Refused(f"standard output: it can't be written: {reason(fault)}") from None
+
+
+def main(words):
+    """Does what the arguments ask for; returns the exit status."""
+    options = options_of(words)
+    try:
+        return compare(options) if options.compare else convert(options)
+    except Refused as refused:
+        for line in refused.lines():
+            print(f"irv --csv: {line}", file=sys.stderr)
+    return REFUSED

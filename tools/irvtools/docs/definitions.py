@@ -1,23 +1,15 @@
-"""Lists the definitions on which the contract of `run` stands, in reading order.
+"""Lists the definitions that the contract of `run` depends on, in reading order.
 
-    tools/definitions            for each stage a table: file, definitions that are needed, lines
-    tools/definitions --total    the stages alone, with their lines
-    tools/definitions --page     docs/ASSESSOR.md with the tables as they are now, the later stages by crate
-    tools/definitions --write    puts that in its place
-    tools/definitions --left     those that the clauses reach without a formula, and that no stage but the
-                                 last one has: there should be none
-
-It begins with the clauses of `run`. A definition is needed where these name it, or a needed
-definition does; so are the types, the traits and the constants of the code that they speak of. Names
-are looked up by the `use` lines of a file. Remarks and imports are no lines of a definition, nor is
-what keeps a type's values in bounds, which is proved. What is the standard library's or a ported
-crate's is left out.
+It begins with the clauses of `run`. A definition is needed if these name it, or a needed definition does;
+so are the types, the traits and the constants of the code that they speak of. Names are looked up by the
+`use` lines of a file. Comments and imports are no lines of a definition, nor is what keeps a type's values
+in bounds, which is proved. What is the standard library's or a ported crate's is left out.
 """
 
 import functools
 import re
 import sys
-from pathlib import Path
+from irvtools.arguments import Parser
 from irvtools.paths import TOP
 
 CRATES = TOP / "crates"
@@ -306,8 +298,22 @@ def page_with(text, tables, counts, said):
     return re.sub(r"In all \d+ lines", f"In all {sum(counts)} lines", text)
 
 
+def parser():
+    """Returns the parser of the command line."""
+    line = Parser("tools/definitions", "Lists the definitions that the contract of `run` depends on: for each stage "
+                  "of reading a table of files,\ndefinitions and lines.", 2, "tools/definitions [OPTION]")
+    kind = line.add_mutually_exclusive_group()
+    for name, text in (("--total", "print the stages only, with their lines"),
+                       ("--page", "print the page with the tables as they are now"),
+                       ("--write", "write that page"),
+                       ("--left", "print definitions that no stage but the last one has; there should be none")):
+        kind.add_argument(name, action="store_const", const=[name], dest="kind", help=text)
+    return line
+
+
 def main(words):
     """Prints the tables, the totals or the page."""
+    words = parser().parse_args(words).kind or []
     found = list(stages())
     counts = [sum(map(lines_of, by_file.values())) for _, by_file in found]
     if words == ["--total"]:

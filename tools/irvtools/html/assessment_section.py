@@ -10,13 +10,13 @@ def safety_part(page):
     """What a safety case quotes."""
     page.head("For the safety case")
     wrote = any(call.words[0] == "verify" and call.status in (0, 4) for call in page.calls)
-    cert = f"{page.wishes.cert}: sha256 {provenance.sum_of_file(page.wishes.cert)}" if wrote \
+    cert = f"{page.options.cert}: sha256 {provenance.sum_of_file(page.options.cert)}" if wrote \
         else "none: the answer has none"
-    rows = [("configuration", f"{page.wishes.name}: sha256 {provenance.sum_of(page.given)} "
+    rows = [("configuration", f"{page.options.name}: sha256 {provenance.sum_of(page.given)} "
              f"({len(page.given)} bytes)"),
             ("certificate", cert),
-            ("program", f"{page.wishes.program}: sha256 "
-             f"{provenance.sum_of_file(page.wishes.program)}"),
+            ("program", f"{page.options.program}: sha256 "
+             f"{provenance.sum_of_file(page.options.program)}"),
             ("version", provenance.version()), ("sources", provenance.sources()),
             ("toolchain (rt version)", provenance.toolchain())]
     if page.given_run:
@@ -30,10 +30,10 @@ def safety_part(page):
     page.add(tag("p", text(f"Besides, irv replay was called {page.program.replays} times, for the "
                            "runs on this page.")))
     premises_part(page)
-    calls = "\n".join(f"./irv {' '.join(call.words)} < {page.wishes.name}" for call in page.calls)
+    calls = "\n".join(f"./irv {' '.join(call.words)} < {page.options.name}" for call in page.calls)
     page.add(tag("p", text("To repeat it, at the top of the sources, at the commit above:")),
-             tag("pre", text(f"{calls}\n./irv --page {' '.join(page.wishes.given_words)} "
-                             f"< {page.wishes.name}")))
+             tag("pre", text(f"{calls}\n./irv --page {' '.join(page.options.given_words)} "
+                             f"< {page.options.name}")))
 
 
 def premises_part(page):

@@ -1,98 +1,78 @@
-"""What the caller of the page asks for: its words, and the files that they name."""
+"""What the caller of the HTML report asks for: its arguments, and the files that they name."""
 
 import os
 from pathlib import Path
 
-OF_VERIFY = ("--columns", "--depth", "--conflicts", "--cert")     # options that verify has too
-OF_PAGE = ("--wait", "--hunt", "--run", "--program")              # the page's own
-NO_TIMES = "--without-times"                                      # the page's own that has no value
-SECONDS = {"--wait": "20", "--hunt": "15"}
+from irvtools.arguments import Parser, whole_number
+
+OF_VERIFY = ("columns", "depth", "conflicts", "cert")       # options that verify has too
+MOST_SECONDS = 999999
 STANDARD_INPUT, STANDARD_OUTPUT = "/proc/self/fd/0", "/proc/self/fd/1"
-USAGE = 7               # the program's status where it refuses its words
+USAGE = 7               # the program's exit status for wrong arguments
 WORDS_SECONDS = 20      # for its answer about them
 
 
 class Refused(Exception):
-    """Words that the page doesn't take, with the reason."""
+    """Arguments that the report does not take, with the reason."""
 
 
-class Wishes:
-    """What the caller asked for. `options` are the values of the options, by their names."""
+def parser(status):
+    """Returns the parser of the command line."""
+    line = Parser("irv --html", "Writes an HTML report of a configuration: the track plan, broken "
+                  "rules, the verdict, runs step by step,\nwhat each route is good for, and what "
+                  "an assessor quotes.\n\nThe exit status is 0 if the report was written, "
+                  "otherwise 125.", status,
+                  "irv --html OUT.html [OPTIONS] < CONFIGURATION")
+    line.add_argument("out", metavar="OUT.html", help="the report's file")
+    line.once("--run", "a run or scenario that is shown too", metavar="FILE")
+    line.once("--verify-seconds", "how long verify may take (20)", default=20, metavar="N",
+              type=whole_number(0, MOST_SECONDS))
+    line.once("--search-seconds", "how long a run to a hazard is searched for if the table is not "
+              "known to be safe; 0: no search (15)", default=15, metavar="N",
+              type=whole_number(0, MOST_SECONDS))
+    line.flag("--without-times", "leave out how long things took")
+    line.once("--columns", "option of verify: strict or free (strict)", metavar="KIND")
+    line.once("--depth", "option of verify: the greatest k (4)", metavar="N")
+    line.once("--conflicts", "option of verify: its budget (100000)", metavar="N")
+    line.once("--cert", "where verify writes its certificate (OUT.cert)", metavar="FILE")
+    line.program()
+    return line
 
-    def __init__(self, words, program):
-        out, options = read(words)
+
+class Options:
+    """What the caller asked for."""
+
+    def __init__(self, given, words):
+        if not given.out:
+            raise Refused("the report's name is empty")
         self.given_words = without(words, "--program")          # as they were given
-        self.out, self.options = Path(out), options
-        self.program = str(Path(options.get("--program", program)).absolute())
+        self.out = Path(given.out)
+        self.of_verify = {name: getattr(given, name) for name in OF_VERIFY
+                          if getattr(given, name) is not None}
+        self.program_file = given.program.absolute()
+        self.program = str(self.program_file)
         self.name = name_of_input()
-        self.wait, self.hunt = (seconds(name, options) for name in ("--wait", "--hunt"))
-        self.run = options.get("--run")
-        self.has_times = NO_TIMES not in options
-        self.columns = options.get("--columns", "strict")
-        self.cert = options.get("--cert", str(self.out.with_suffix(".cert")))
+        self.verify_seconds, self.search_seconds = given.verify_seconds, given.search_seconds
+        self.run, self.has_times = given.run, not given.without_times
+        self.columns = given.columns or "strict"
+        self.cert = given.cert if given.cert is not None else str(self.out.with_suffix(".cert"))
 
     @property
     def words(self):
-        """The options that are handed on to verify, but for its columns and its certificate."""
-        return [word for name in ("--depth", "--conflicts") if name in self.options
-                for word in (name, self.options[name])]
+        """The options that verify gets, without its columns and its certificate."""
+        return [word for name in ("depth", "conflicts") if name in self.of_verify
+                for word in (f"--{name}", self.of_verify[name])]
 
     def files(self):
-        """The files that are read or written, each with what it is; those that are written come
-        first."""
-        named = [(str(self.out), "the page"), (self.cert, "the certificate"),
+        """The files that are read or written, each with what it is; written ones come first."""
+        named = [(str(self.out), "the report"), (self.cert, "the certificate"),
                  (STANDARD_INPUT, "standard input"), (STANDARD_OUTPUT, "standard output"),
                  (self.program, "the program")]
         return named + ([(self.run, "the file of --run")] if self.run is not None else [])
 
 
-def read(words):
-    """The page's name, and the options with their values."""
-    words, out, options, is_named = list(words), None, {}, False
-    while words:
-        word = words.pop(0)
-        name, equals, value = word.partition("=")
-        if name in OF_VERIFY + OF_PAGE:
-            if not equals and (not words or is_option(words[0])):
-                raise Refused(f"{name} wants a value")
-            note(options, name, value if equals else words.pop(0))
-        elif word == NO_TIMES:
-            note(options, word, "")
-        elif is_option(word):
-            raise Refused(f"neither the page nor verify knows {word}")
-        elif out is None:
-            out = word
-        elif word == "verify" and not is_named:
-            is_named = True                 # the command, of which the words are options
-        else:
-            raise Refused(f"neither the page nor verify knows {word}")
-    if not out:
-        raise Refused("the page's name is wanted")
-    return out, options
-
-
-def note(options, name, value):
-    """Notes an option, which may be given once."""
-    if name in options:
-        raise Refused(f"{name} is given twice")
-    options[name] = value
-
-
-def is_option(word):
-    """Whether a word begins as an option does."""
-    return word.startswith("-") and word != "-"
-
-
-def seconds(name, options):
-    """A number of seconds."""
-    value = options.get(name, SECONDS[name])
-    if not (value.isascii() and value.isdigit()) or len(value) > 6:
-        raise Refused(f"{name} wants a number of seconds, and not {value}")
-    return float(value)
-
-
 def name_of_input():
-    """The name of the file that is standard input, where it is one."""
+    """Returns the name of the file that is standard input, or "standard input" if it is none."""
     try:
         name = Path(STANDARD_INPUT).resolve()
         return name.name if name.is_file() else "standard input"
@@ -110,31 +90,30 @@ def is_same(one, other):
         return False
 
 
-def guard_files(wishes):
-    """Refuses where one file would be written over another that is read or written, and where the
-    page's folder isn't there."""
-    if not wishes.out.parent.is_dir():
-        raise Refused(f"there is no folder {wishes.out.parent}")
-    files = wishes.files()
+def guard_files(options):
+    """Refuses if one file would be written over another that is read or written, or if the report's
+    directory does not exist."""
+    if not options.out.parent.is_dir():
+        raise Refused(f"the directory {options.out.parent} does not exist")
+    files = options.files()
     for place, (file, what) in enumerate(files[:2]):
         for other, is_what in files[place + 1:]:
             if is_same(file, other):
                 raise Refused(f"{what} and {is_what} would be one file, {file}")
 
 
-def guard_words(wishes, program):
-    """Refuses options that verify refuses: `program` is asked over an empty input, of which it comes
-    to no verdict."""
-    for name in OF_VERIFY:
-        if name in wishes.options:
-            words = ["verify", f"{name}={wishes.options[name]}"]
-            words += [] if name == "--cert" else ["--cert=" + wishes.cert]
-            if program.ask(words, WORDS_SECONDS).status == USAGE:
-                raise Refused(f"verify refuses {name} {wishes.options[name]}")
+def guard_words(options, program):
+    """Refuses options that verify refuses: asks `program` over an empty input, of which it comes to no
+    verdict."""
+    for name, value in options.of_verify.items():
+        words = ["verify", f"--{name}={value}"]
+        words += [] if name == "cert" else ["--cert=" + options.cert]
+        if program.ask(words, WORDS_SECONDS).status == USAGE:
+            raise Refused(f"verify refuses --{name} {value}")
 
 
 def without(words, name):
-    """Words without an option and its value."""
+    """Returns the arguments without an option and its value."""
     kept, skip = [], False
     for word in words:
         if skip or word.startswith(f"{name}="):

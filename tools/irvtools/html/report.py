@@ -18,13 +18,13 @@ from irvtools.html.verdict_section import verdict_part
 ASK_SECONDS = 60        # for check
 
 
-class Page:
+class Report:
     """A page that is being made."""
 
-    def __init__(self, wishes, given, given_run=None, has_times=True):
-        self.wishes, self.given, self.given_run = wishes, given, given_run
+    def __init__(self, options, given, given_run=None, has_times=True):
+        self.options, self.given, self.given_run = options, given, given_run
         self.has_times = has_times      # whether it tells how long things took
-        self.program = Program(wishes.program, given)
+        self.program = Program(options.program, given)
         self.calls = []         # of the program, for the safety case
         self.parts = []
         self.plant = self.drawing = None
@@ -90,7 +90,7 @@ class Page:
         rules_part(self, answer, lines)
         is_plant = answer.status == 0 or lines and lines[0].startswith("refused C")
         if self.plant and is_plant:
-            self.of_plant("free" if lines else self.wishes.columns)
+            self.of_plant("free" if lines else self.options.columns)
         elif self.given_run:
             self.own(f"The file {self.given_run.name} isn't shown: without a plant it is neither a run "
                      "nor a scenario.")
@@ -123,7 +123,7 @@ class Page:
 
     def beginning(self):
         """The title, and the track plan."""
-        self.add(tag("h1", text(self.wishes.name)))
+        self.add(tag("h1", text(self.options.name)))
         plant = self.plant
         if plant is None:
             return
@@ -148,7 +148,7 @@ class Page:
                 "hunt, the runs through the routes and what is marked in yellow are by tools/page, "
                 "which isn't proved; each run that is drawn was answered by <code>irv replay</code>.")
         return ("<!doctype html>\n<html lang=\"en\"><head><meta charset=\"utf-8\">"
-                f"<title>{text(self.wishes.name)}: irv</title><style>{CSS}</style></head><body>\n"
+                f"<title>{text(self.options.name)}: irv</title><style>{CSS}</style></head><body>\n"
                 + "\n".join(self.parts) + tag("p", foot, class_="foot small") + "\n</body></html>\n")
 
 

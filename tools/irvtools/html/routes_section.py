@@ -23,9 +23,9 @@ def routes_part(page, columns):
         page.add(tag("p", text("The table has no routes.")))
         return []
     found, is_all = uses(page.plant, USE_SECONDS)
-    if len(found) < len(page.plant.routes) and page.wishes.hunt:
+    if len(found) < len(page.plant.routes) and page.options.search_seconds:
         hunt = Hunt(page.plant, suspects=page.suspects)
-        hunt.for_hazard(min(HUNT_SECONDS, page.wishes.hunt))
+        hunt.for_hazard(min(HUNT_SECONDS, page.options.search_seconds))
         found = {**hunt.used, **found}
     answers = answered(RunView(page.program, columns, page.plant, page.drawing), found)
     good = sum(said == "no hazard" for said in answers.values())

@@ -32,16 +32,16 @@ def add_finding(page, view, found):
 
 def hunt_part(page, view, found):
     """The hunt, and the run that it found."""
-    hunters = found.hunters
-    if not page.wishes.hunt or not hunters.seconds and found.run is None:
-        why = "No hunt was asked for." if not page.wishes.hunt else why_none(page, found)
+    searchers = found.searchers
+    if not page.options.search_seconds or not searchers.seconds and found.run is None:
+        why = "No hunt was asked for." if not page.options.search_seconds else why_none(page, found)
         if why:
             page.add(title(), tag("p", text(why), class_="own"))
         return
     page.add(title())
-    took = page.time(f"{hunters.seconds:.1f} s, ")
-    hunted = (f"{hunters.runs} random runs of up to {hunters.longest} events, {hunters.events} events "
-              f"in all, {took}{hunters.count} hunts at once")
+    took = page.time(f"{searchers.seconds:.1f} s, ")
+    hunted = (f"{searchers.runs} random runs of up to {searchers.longest} events, {searchers.events} events "
+              f"in all, {took}{searchers.count} hunts at once")
     if found.run is None:
         page.own("Ended, since verify has answered." if found.answer.status == 1 else
                  f"None found in {hunted}. That isn't an answer: it doesn't show that there is none.")

@@ -18,7 +18,7 @@ from irvtools.model.descriptions import FAMILIES, counted, verdict_words
 def verdict_part(page, columns, is_forced):
     """The verdict, and the run that shows it or one that was hunted."""
     page.head("Verdict")
-    if is_forced and page.wishes.columns == "strict":
+    if is_forced and page.options.columns == "strict":
         page.add(tag("p", text("Under strict columns verify refuses this table, by the rules above. "
                                "What follows is asked under free columns, so that one sees what "
                                "the table does.")))
@@ -36,7 +36,7 @@ def verdict_part(page, columns, is_forced):
                            "below." if answer.status is None and found.run
                            else verdict_words(answer, is_hunted))))
     if answer.status in (0, 4):
-        page.add(tag("p", f"Its certificate is in {code(page.wishes.cert)}."))
+        page.add(tag("p", f"Its certificate is in {code(page.options.cert)}."))
     run = answer.output.partition("\n")[2]
     if answer.status in (1, 2, 3) and run.startswith("run 1"):
         state, events = read_run(page.plant, run)
@@ -52,9 +52,9 @@ def verdict_part(page, columns, is_forced):
 def ask_verify(page, columns):
     """Asks verify, with the words that were given and a file for its certificate; a hunt goes on beside
     it where the table is one of which safety isn't known."""
-    cert = Path(page.wishes.cert)
+    cert = Path(page.options.cert)
     was_there = cert.exists()
-    words = ["verify", "--columns", columns, *page.wishes.words, "--cert", str(cert)]
+    words = ["verify", "--columns", columns, *page.options.words, "--cert", str(cert)]
     found = search(page, words)
     page.calls.append(found.answer)
     if found.answer.status is None and not was_there:

@@ -7,6 +7,7 @@ import tempfile
 from pathlib import Path
 
 OWN = Path(__file__).resolve().parent
+JUDGES = ("edits", "functions", "prover_output", "rounds")     # the modules by which a mutant is judged
 
 
 class Tried:
@@ -15,11 +16,11 @@ class Tried:
 
     def __init__(self, toolchain):
         home = os.environ.get("XDG_CACHE_HOME") or os.path.expanduser("~/.cache")
-        self.folder = Path(home) / "irv-wrong-bodies"
+        self.folder = Path(home) / "irv-mutants"
         own = hashlib.sha256(toolchain.version.encode())
         own.update(repr([os.stat(toolchain.prover)[6:9:2], str(toolchain.prover)]).encode())
-        for file in sorted(OWN.glob("*.py")):
-            own.update(file.read_bytes())
+        for name in JUDGES:
+            own.update((OWN / f"{name}.py").read_bytes())
         self.own = own.hexdigest()
 
     def key(self, edit, crate_sum):

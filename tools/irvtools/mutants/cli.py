@@ -1,33 +1,24 @@
-"""Tries wrong bodies of functions, many in one check, and sees that the prover refuses each.
+"""The command line of `tools/mutants`: tries mutants of functions, each of which the prover has to refuse.
 
-    tools/wrong_bodies                      those of `wrong-bodies/` of each crate
-    tools/wrong_bodies CRATE ..             those of these crates
-    tools/wrong_bodies CRATE/EDIT ..        these, of `wrong-bodies/` or of `must-fail/`
-    tools/wrong_bodies --alone ..           each in a check of its own, whatever was tried before
-    tools/wrong_bodies --say ..             prints for each why it was refused
-
-A function's proof stands on the contracts of those that it calls and never on their bodies, so wrong
-bodies of different functions are tried by one check that goes past what isn't proved. An edit counts
-as refused only where its own function isn't proved, for a goal of its own: one whose goals are all
-proved is tried by itself, and one that can't be read, or that only takes away a name that a proof file
-has, is a bad edit. What was refused over the same sources isn't tried again on this machine.
-
-The libraries below are those that `rt ci` keeps: run it before. The last line is `N passed, M failed`,
-and the status is 0 only where each edit was refused.
+A function's proof depends on the contracts of what it calls and never on their bodies, so mutants of
+different functions are tried in one check that goes past what is not proved. A mutant counts as refused only
+if its own function is not proved, because of a goal of its own. A mutant whose goals are all proved is tried
+by itself. One that cannot be read, or that only takes away a name that a proof file has, is a bad edit. What
+was refused over the same sources is not tried again on this machine.
 """
 
-import sys
 import tempfile
 from concurrent.futures import ThreadPoolExecutor
 from pathlib import Path
 
 
+from irvtools.arguments import Parser
 from irvtools.mutants.edits import BadEdit, read_edit
 from irvtools.mutants.crates import Crates, Toolchain, Unproved, processors
 from irvtools.mutants.rounds import REFUSED, Trial
 from irvtools.mutants.cache import Tried
 
-FOLDERS = ("wrong-bodies", "must-fail")
+FOLDERS = ("mutants", "must-fail")
 
 
 def files_of(crates, words):
@@ -37,12 +28,12 @@ def files_of(crates, words):
     for word in words or [it for it in crates.rows if (crates.folder(it) / FOLDERS[0]).is_dir()]:
         crate, _, edit = word.partition("/")
         if crate not in crates.rows:
-            raise SystemExit(f"tools/wrong_bodies: crates.txt has no crate {crate}")
+            raise SystemExit(f"tools/mutants: crates.txt has no crate {crate}")
         files = [file for it in (FOLDERS if edit else FOLDERS[:1])
                  for file in sorted((crates.folder(crate) / it).glob("*"))
                  if not edit or file.stem == edit.removesuffix(".edit")]
         if edit and not files:
-            raise SystemExit(f"tools/wrong_bodies: {crate} has no edit {edit}")
+            raise SystemExit(f"tools/mutants: {crate} has no edit {edit}")
         found.setdefault(crate, []).extend(files)
     return found
 
@@ -81,7 +72,7 @@ def try_left(crates, left, toolchain, is_alone, says, keep):
     """Tries the edits of each crate, some crates at once; what came of them. What was refused is kept as
     soon as its crate is done."""
     done = {}
-    with tempfile.TemporaryDirectory(prefix="irv-wrong-bodies-") as folder:
+    with tempfile.TemporaryDirectory(prefix="irv-mutants-") as folder:
         room = Path(folder)
         crates.build_below(left, room)
 
@@ -101,32 +92,43 @@ def try_left(crates, left, toolchain, is_alone, says, keep):
     return done
 
 
+def parser():
+    """Returns the parser of the command line."""
+    line = Parser("tools/mutants", "Tries mutants, many in one check, and sees that the prover refuses each. The "
+                  "libraries below are those that\n`rt ci` keeps: run it before. The last line is `N passed, M "
+                  "failed`; the exit status is 0 only if every mutant was\nrefused.", 2,
+                  "tools/mutants [OPTIONS] [CRATE | CRATE/MUTANT ..]")
+    line.add_argument("names", nargs="*", metavar="CRATE", help="those of `mutants/` of a crate, or one of "
+                      "`mutants/` or `must-fail/` (all of `mutants/`)")
+    line.flag("--alone", "each in a check of its own, whatever was tried before")
+    line.flag("--say", "print for each why it was refused")
+    return line
+
+
 def main(words):
-    """Takes the words of the command line; answers the exit status."""
-    options = [it for it in words if it.startswith("-")]
-    if set(options) - {"--alone", "--say"}:
-        raise SystemExit(__doc__)
+    """Tries the mutants that the arguments name; returns the exit status."""
+    given = parser().parse_args(words)
     crates, toolchain = Crates(), Toolchain()
-    edits, bad = read_all(crates, files_of(crates, [it for it in words if it not in options]))
+    edits, bad = read_all(crates, files_of(crates, given.names))
     for line in bad:
         print(line)
     lacks = toolchain.lacks()
     if lacks:
-        print(f"tools/wrong_bodies: this toolchain ({toolchain.version or 'none'}) hasn't {lacks}, so "
+        print(f"tools/mutants: this toolchain ({toolchain.version or 'none'}) lacks {lacks}, so "
               "nothing is tried here")
         print(f"0 passed, {len(bad)} failed")
         return 1 if bad else 0
     tried = Tried(toolchain)
     sums = {crate: crates.sum(crate) for crate in edits}
     key = lambda edit, crate: tried.key(edit, sums[crate])
-    left = {crate: [it for it in found if "--alone" in options or not tried.has(key(it, crate))]
+    left = {crate: [it for it in found if given.alone or not tried.has(key(it, crate))]
             for crate, found in edits.items()}
     left = {crate: found for crate, found in left.items() if found}
     keep = lambda edit, crate, why: tried.keep(key(edit, crate), edit, why)
     try:
-        done = try_left(crates, left, toolchain, "--alone" in options, "--say" in options, keep)
+        done = try_left(crates, left, toolchain, given.alone, given.say, keep)
     except Unproved as why:
-        print(f"{why}\ntools/wrong_bodies: what the edits are tried over isn't proved")
+        print(f"{why}\ntools/mutants: what the edits are tried over isn't proved")
         print("0 passed, 1 failed")
         return 1
     failed = len(bad) + sum(told[0] != REFUSED for told in done.values())

@@ -87,11 +87,11 @@ class Crates:
         return found.hexdigest()
 
     def lay_out(self, names, room):
-        """Copies crates to a room, in which `rt ci` proves these alone: without their wrong bodies, and
+        """Copies crates to a room, in which `rt ci` proves these alone: without their mutants, and
         without what was made of them."""
         for crate in names:
             shutil.copytree(self.folder(crate), room / "crates" / crate,
-                            ignore=shutil.ignore_patterns("out", "must-fail", "wrong-bodies"))
+                            ignore=shutil.ignore_patterns("out", "must-fail", "mutants"))
         shutil.copy(self.top / "HANDLES", room / "HANDLES")
         (room / "crates.txt").write_text(
             "".join(f"{it}: {' '.join(self.rows[it])}\n" for it in names))

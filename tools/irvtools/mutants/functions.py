@@ -67,15 +67,23 @@ def owner_of(header):
     return name + "".join(word for word in WORD.findall(trait) if word[0] != "'")
 
 
+def depth_of(line):
+    """Returns how many brackets a line opens and does not close; comments do not count."""
+    code = line.split("//")[0]
+    return sum(code.count(sign) for sign in "([{") - sum(code.count(sign) for sign in ")]}")
+
+
 def end_of_head(lines, first, margin):
-    """The number of the line that ends a function's head: the one that opens its body, or the last of a
-    declaration."""
+    """Returns the number of the line that ends a function's head: the one that opens its body, or the last
+    of a declaration. A `;` inside the brackets of a clause ends nothing."""
+    depth = 0
     for number in range(first, len(lines)):
         line = lines[number]
         is_clause = number > first and (CLAUSE.match(line) or line.startswith(margin + "     "))
         if line in (margin + "{", margin + "{}") or line.endswith((" {", " {}")) and not is_clause:
             return number
-        if line.endswith((";", "}")) and (number == first or line.endswith(";")):
+        depth += depth_of(line)
+        if not depth and line.endswith((";", "}")) and (number == first or line.endswith(";")):
             return number
     return len(lines) - 1
 

@@ -3,7 +3,6 @@
 import shutil
 import subprocess
 import time
-from pathlib import Path
 
 from irvtools.mutants.edits import edited, rounds_of
 from irvtools.mutants.crates import PARTS

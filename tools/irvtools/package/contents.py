@@ -6,35 +6,35 @@ import shutil
 from pathlib import Path
 
 from irvtools.package.recorded_calls import CONFIGURATION, PROGRAM, Calls
-from irvtools.package.package_page import CasePage
+from irvtools.package.package_page import PackagePage
 from irvtools.package.options import Refused
 from irvtools.package.deviations import deviations_of
 from irvtools.package.repeat_script import repeat_script
 from irvtools.package.program_version import version_lines, version_of
 from irvtools.paths import TOP
 
-CERTIFICATE, FOUND_RUN, HUNTED_RUN, PAGE = "verify.cert", "verify.run", "hunted.run", "page.html"
+CERTIFICATE, FOUND_RUN, SEARCH_RUN = "verify.cert", "verify.run", "search.run"
+REPORT, INDEX = "report.html", "index.html"
 # what judges an answer besides the program, as the repository has it
-CHECKERS = ("tools/audit", "tools/lrat", "tests/lib/certificate.py", "tests/lib/dimacs.py",
-            "tests/lib/exported.py")
-DOCUMENTS = ("README.md", "CHANGELOG.md", "VERSION", "docs/ASSESSOR.md", "docs/CASES.md",
-             "docs/COMMANDS.md", "docs/FORMATS.md", "docs/MODEL.md", "docs/PAGE.md", "docs/PROVED.md",
-             "docs/QUALIFICATION.md")
-# solvers that write refutations, with the words of tools/safe_by where it wants any
+CHECKERS = ("audit", "lrat", *(f"irvtools/{name}.py" for name in (
+    "__init__", "paths", "arguments", "checkers/__init__", "checkers/certificate", "checkers/dimacs",
+    "checkers/exported", "checkers/audit_cli", "checkers/lrat_cli")))
+DOCUMENTS = ("README.md", "CHANGELOG.md", "VERSION", "docs/reference", "docs/assurance", "docs/guides")
+# solvers that write refutations, with the arguments that tools/verify_with needs for them
 SOLVERS = {"cadical": [], "picosat.trace": ["--solver", "picosat.trace -n -R {proof} {cnf}"]}
 PAGE_SECONDS = 86400    # that the page may wait for verify, which has answered the same before
 GOOD, UNSAFE, NOT_INDUCTIVE, BREACH = 0, 1, 2, 3
 
 
-class Case:
+class Package:
     """A case that is being made in a folder of its own."""
 
-    def __init__(self, words, given, room):
-        self.words, self.given, self.room = words, given, room
+    def __init__(self, options, given, room):
+        self.options, self.given, self.room = options, given, room
         self.runs = []              # the name of each given run in the case, with how it was called
         self.deviations = []        # the rules that are broken, with what that means
         self.columns = "strict"
-        self.verdict = self.hunted = None
+        self.verdict = self.searched = None
         self.is_plant = self.is_clean = self.is_safe = False
         self.hazard = None          # the line that tells a hazard, and of which file
         self.contradictions = []    # answers that can't both be right
@@ -68,7 +68,7 @@ class Case:
             self.compare()
         self.draw()
         (self.room / "version.txt").write_text("\n".join(self.version) + "\n", encoding="utf-8")
-        (self.room / "case.html").write_text(CasePage(self).whole(), encoding="utf-8")
+        (self.room / INDEX).write_text(PackagePage(self).whole(), encoding="utf-8")
         script = self.room / "repeat.sh"
         script.write_text(repeat_script(self), encoding="utf-8")
         script.chmod(0o755)
@@ -80,17 +80,17 @@ class Case:
         """Copies what the case is of, and what it is judged by."""
         (self.room / CONFIGURATION).write_bytes(self.given)
         (self.room / "program").mkdir()
-        shutil.copyfile(self.words.program, self.room / PROGRAM)
+        shutil.copyfile(self.options.program, self.room / PROGRAM)
         (self.room / PROGRAM).chmod(0o755)
-        licences = self.words.program.with_name(self.words.program.name + ".licences")
+        licences = self.options.program.with_name(self.options.program.name + ".licences")
         if licences.is_file():
             shutil.copyfile(licences, self.room / "program/irv.licences")
         for name in CHECKERS:
-            self.copy(name, Path("checkers", name))
+            self.copy(f"tools/{name}", Path("checkers", name))
         for name in DOCUMENTS:
-            self.copy(name, Path("documents", Path(name).name))
-        self.version = version_lines(self.words.program, self.room / PROGRAM)
-        for number, run in enumerate(self.words.runs, 1):
+            self.copy(name, Path("documents", name))
+        self.version = version_lines(self.options.program, self.room / PROGRAM)
+        for number, run in enumerate(self.options.runs, 1):
             name = f"runs/{number}.{'run' if run.kind == 'run' else 'scene'}"
             (self.room / "runs").mkdir(exist_ok=True)
             (self.room / name).write_bytes(run.data)
@@ -100,7 +100,7 @@ class Case:
         """Copies a file of the repository."""
         target = self.room / place
         target.parent.mkdir(parents=True, exist_ok=True)
-        shutil.copy(TOP / name, target)
+        (shutil.copytree if (TOP / name).is_dir() else shutil.copy)(TOP / name, target)
 
     # -- what is asked
 
@@ -119,7 +119,7 @@ class Case:
 
     def ask_verdict(self):
         """The verdict, and all by which it can be judged."""
-        self.verdict = self.calls.program("verify", "verify", self.columns, *self.words.of_verify,
+        self.verdict = self.calls.program("verify", "verify", self.columns, *self.options.of_verify,
                                           "--cert", CERTIFICATE, made=[CERTIFICATE])
         self.is_safe = self.verdict.status == GOOD and not self.verdict.fault
         if self.is_safe:
@@ -127,8 +127,8 @@ class Case:
             return
         if self.verdict.status in (UNSAFE, NOT_INDUCTIVE, BREACH) and not self.verdict.fault:
             self.replay(FOUND_RUN, "replay-verify", self.verdict.output.partition("\n")[2])
-        if self.hazard is None and self.words.hunt:
-            self.hunt()
+        if self.hazard is None and self.options.search_seconds:
+            self.search()
 
     def compare(self):
         """Looks for answers that can't both be right: that the program, a tool or the machine is wrong is no
@@ -150,22 +150,22 @@ class Case:
         """Has the certificate judged, and the queries refuted by others."""
         self.calls.program("audit", "audit", self.columns, "--cert", CERTIFICATE)
         of_tool = ["--columns", self.columns, "--program", PROGRAM, CONFIGURATION, CERTIFICATE]
-        self.calls.ask("audit-outside", ["python3", "checkers/tools/audit", *of_tool])
+        self.calls.ask("audit-outside", ["python3", "checkers/audit", *of_tool])
         (self.room / "lrat").mkdir()
-        self.calls.ask("lrat", ["python3", "checkers/tools/lrat", *of_tool, "lrat"], made=["lrat"])
+        self.calls.ask("lrat", ["python3", "checkers/lrat", *of_tool, "lrat"], made=["lrat"])
         for name, words in SOLVERS.items():
-            if self.words.solvers and shutil.which(name):
+            if self.options.solver_seconds and shutil.which(name):
                 self.ask_solver(name, words, k)
 
     def ask_solver(self, name, words, k):
         """Has a solver refute every query. The refutations are kept, and `irv rup` judges each again."""
         folder = Path("solvers", name)
         (self.room / folder).mkdir(parents=True)
-        asked = self.calls.ask(f"safe_by-{name}", [
-            "python3", str(TOP / "tools/safe_by"), "--k", k, "--columns", self.columns, "--program", PROGRAM,
-            "--seconds", str(self.words.solvers), "--keep", str(folder), *words, CONFIGURATION],
+        asked = self.calls.ask(f"verify_with-{name}", [
+            "python3", str(TOP / "tools/verify_with"), "--k", k, "--columns", self.columns, "--program", PROGRAM,
+            "--seconds", str(self.options.solver_seconds), "--keep", str(folder), *words, CONFIGURATION],
             is_repeated=False)
-        asked.words[1] = "tools/safe_by"
+        asked.words[1] = "tools/verify_with"
         self.solvers.append((version_of(name), asked))
         refuted = [line.split()[1:] for line in asked.output.splitlines() if line.startswith("refuted ")]
         kept = {f"{kind}-{number}.proof" for kind, number in refuted}
@@ -190,13 +190,13 @@ class Case:
             self.hazard = f"{answer.line}, by {file}"
         return answer
 
-    def hunt(self):
+    def search(self):
         """Looks for a run to a hazard, which counts only by what replay answers of it."""
-        hunted = self.calls.ask("hunt", ["python3", str(TOP / "tools/hunt"), "--seconds",
-                                         str(self.words.hunt), "--program", PROGRAM], is_repeated=False)
-        hunted.words[1] = "tools/hunt"
-        if hunted.status == GOOD:
-            self.hunted = self.replay(HUNTED_RUN, "replay-hunted", hunted.output)
+        searched = self.calls.ask("search", ["python3", str(TOP / "tools/search"), "--seconds",
+                                         str(self.options.search_seconds), "--program", PROGRAM], is_repeated=False)
+        searched.words[1] = "tools/search"
+        if searched.status == GOOD:
+            self.searched = self.replay(SEARCH_RUN, "replay-search", searched.output)
 
     def ask_runs(self):
         """The runs and scenarios that were given."""
@@ -207,19 +207,19 @@ class Case:
     # -- what leads through it
 
     def draw(self):
-        """The page, on which a run to a hazard is drawn where one was hunted, else the first given one. The
+        """The page, on which a run to a hazard is drawn where one was searched, else the first given one. The
         page asks verify again, which writes the same certificate. It has no times on it, so that a case that
         is made again is the same."""
-        shown = HUNTED_RUN if self.hunted else self.runs[0][0] if self.runs else None
-        words = ["python3", str(TOP / "tools/page"), PAGE, "--program", PROGRAM, "--hunt", "0", "--wait",
-                 str(PAGE_SECONDS), "--without-times", "--cert", "page.cert", *self.words.of_verify]
-        drawn = self.calls.ask("page", words + (["--run", shown] if shown else []), is_repeated=False)
-        drawn.words[1] = "tools/page"
-        (self.room / "page.cert").unlink(missing_ok=True)
-        page = self.room / PAGE
+        shown = SEARCH_RUN if self.searched else self.runs[0][0] if self.runs else None
+        words = ["python3", str(TOP / "tools/html"), REPORT, "--program", PROGRAM, "--search-seconds", "0",
+                 "--verify-seconds", str(PAGE_SECONDS), "--without-times", "--cert", "report.cert", *self.options.of_verify]
+        drawn = self.calls.ask("report", words + (["--run", shown] if shown else []), is_repeated=False)
+        drawn.words[1] = "tools/html"
+        (self.room / "report.cert").unlink(missing_ok=True)
+        page = self.room / REPORT
         if page.is_file():
             text = page.read_text(encoding="utf-8", errors="replace")
-            page.write_text(text.replace(f"{self.room.resolve()}/", "").replace("page.cert", CERTIFICATE),
+            page.write_text(text.replace(f"{self.room.resolve()}/", "").replace("report.cert", CERTIFICATE),
                             encoding="utf-8")
 
     def sum_up(self):

@@ -1,82 +1,70 @@
-"""The words with which a case is asked for, and the files that they name."""
+"""What the caller of an evidence package asks for: its arguments, and the files that they name."""
 
 from pathlib import Path
 
-from irvtools.html.run_file import Given
-from irvtools.html.options import Refused as PageRefused
+from irvtools.arguments import Parser, whole_number
 from irvtools.batch.file_names import shown
+from irvtools.html.options import Refused as RunRefused
 from irvtools.html.options import name_of_input
+from irvtools.html.run_file import Given
 
-OF_VERIFY = {"--depth": range(1, 17), "--conflicts": range(0, 200001)}
-SECONDS = {"--hunt": "15", "--solvers": "600"}
+DEPTHS, CONFLICTS = (1, 16), (0, 200000)
 MOST_SECONDS = 86400
 
 
 class Refused(Exception):
-    """What can't be had, with the reason."""
+    """A package that cannot be made, with the reason."""
 
 
-class Words:
+def parser(status):
+    """Returns the parser of the command line."""
+    line = Parser("irv --package", "Makes an evidence package: a directory with the configuration, every "
+                  "answer to it, the HTML report, a page that\nleads through them, and a script that "
+                  "makes them again.\n\nThe exit status is 0 if the package was made, whatever it "
+                  "says of the table, otherwise 125: nothing is made then.", status,
+                  "irv --package DIRECTORY [OPTIONS] < CONFIGURATION")
+    line.add_argument("directory", metavar="DIRECTORY", help="a directory that is new or empty")
+    line.add_argument("--run", action="append", default=[], metavar="FILE",
+                      help="a run or scenario that is answered too; may be repeated")
+    line.once("--depth", "option of verify: the greatest k (4)", metavar="N",
+              type=whole_number(*DEPTHS))
+    line.once("--conflicts", "option of verify: its budget (100000)", metavar="N",
+              type=whole_number(*CONFLICTS))
+    line.once("--search-seconds", "how long a run to a hazard is searched for if verify says "
+              "neither that there is one nor that there is none; 0: no search (15)", default=15,
+              metavar="N", type=whole_number(0, MOST_SECONDS))
+    line.once("--solver-seconds", "how long each other solver may take for a query; 0: none is "
+              "called (600)", default=600, metavar="N", type=whole_number(0, MOST_SECONDS))
+    line.program()
+    return line
+
+
+class Options:
     """What the caller asked for."""
 
-    def __init__(self, words, program):
-        options, runs, names = read(words)
-        if len(names) != 1:
-            raise Refused("one folder is named" if names else "no folder is named")
-        if not names[0]:
-            raise Refused("the name of the folder is empty")
-        self.folder = Path(names[0])
-        self.program = Path(options.get("--program", program)).absolute()
+    def __init__(self, given):
+        if not given.directory:
+            raise Refused("the directory's name is empty")
+        self.directory = Path(given.directory)
+        self.program = given.program.absolute()
         if not self.program.is_file():
-            raise Refused(f"there is no program {self.program}: build it with ./irv --build")
-        for name, numbers in OF_VERIFY.items():
-            number_of(name, options.get(name, str(numbers[0])), numbers)
-        self.hunt, self.solvers = (number_of(name, options.get(name, value), range(MOST_SECONDS + 1))
-                                   for name, value in SECONDS.items())
-        self.of_verify = [word for name in OF_VERIFY if name in options for word in (name, options[name])]
+            raise Refused(f"the program {self.program} does not exist; build it with ./irv --build")
+        self.search_seconds, self.solver_seconds = given.search_seconds, given.solver_seconds
+        self.of_verify = [word for name in ("depth", "conflicts")
+                          if (value := getattr(given, name)) is not None
+                          for word in (f"--{name}", str(value))]
         self.name = shown(Path(name_of_input()).name)
-        self.guard_folder()
+        self.guard_directory()
         try:
-            self.runs = [Given(name) for name in runs]
-        except PageRefused as fault:
+            self.runs = [Given(name) for name in given.run]
+        except RunRefused as fault:
             raise Refused(str(fault)) from fault
 
-    def guard_folder(self):
-        """Refuses a folder in which something stands, and one that can't be made."""
-        if self.folder.is_symlink() or self.folder.exists() and not self.folder.is_dir():
-            raise Refused(f"{self.folder} is no folder: nothing is written over")
-        if self.folder.exists() and any(self.folder.iterdir()):
-            raise Refused(f"{self.folder} isn't empty: nothing is written over")
-        if not self.folder.absolute().parent.is_dir():
-            raise Refused(f"{self.folder.absolute().parent}, in which the folder would stand, isn't there")
-
-
-def read(words):
-    """The options with their values, the files of --run, and the other words."""
-    options, runs, names, words = {}, [], [], list(words)
-    while words:
-        word = words.pop(0)
-        name, equals, value = word.partition("=")
-        if not word.startswith("-"):
-            names.append(word)
-            continue
-        if name not in (*OF_VERIFY, *SECONDS, "--run", "--program"):
-            raise Refused(f"there is no option {name}")
-        if not equals and (not words or words[0].startswith("--")):
-            raise Refused(f"{name} wants a value")
-        value = value if equals else words.pop(0)
-        if name == "--run":
-            runs.append(value)
-        elif name in options:
-            raise Refused(f"{name} is given twice")
-        else:
-            options[name] = value
-    return options, runs, names
-
-
-def number_of(name, value, numbers):
-    """The number that an option gives."""
-    is_number = value.isascii() and value.isdigit() and len(value) < 10
-    if not is_number or int(value) not in numbers:
-        raise Refused(f"{name} wants a whole number, {numbers[0]} to {numbers[-1]}, and not {value!r}")
-    return int(value)
+    def guard_directory(self):
+        """Refuses a directory that is not empty, and one that cannot be made."""
+        if self.directory.is_symlink() or self.directory.exists() and not self.directory.is_dir():
+            raise Refused(f"{self.directory} is not a directory; nothing is overwritten")
+        if self.directory.exists() and any(self.directory.iterdir()):
+            raise Refused(f"{self.directory} is not empty; nothing is overwritten")
+        if not self.directory.absolute().parent.is_dir():
+            raise Refused(f"the directory {self.directory.absolute().parent} does not exist")

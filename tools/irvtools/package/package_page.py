@@ -31,11 +31,11 @@ def link(file, words=None):
     return tag("a", text(words or file), href=file)
 
 
-class CasePage:
+class PackagePage:
     """The page of one case."""
 
-    def __init__(self, case):
-        self.case, self.parts = case, []
+    def __init__(self, package):
+        self.package, self.parts = package, []
 
     def add(self, *markup):
         """Writes on."""
@@ -51,11 +51,11 @@ class CasePage:
 
     def whole(self):
         """The page as a document."""
-        self.add(tag("h1", text(f"Case of {self.case.words.name}")))
+        self.add(tag("h1", text(f"Case of {self.package.options.name}")))
         for part in (self.result, self.deviations, self.given, self.answers, self.others, self.runs,
                      self.premises, self.conditions, self.signatures, self.repeat, self.rests_on):
             part()
-        title = text(f"Case of {self.case.words.name}: irv")
+        title = text(f"Case of {self.package.options.name}: irv")
         return (f"<!doctype html>\n<html lang=\"en\"><head><meta charset=\"utf-8\"><title>{title}</title>"
                 f"<style>{CSS}{MORE_CSS}</style></head><body>\n" + "\n".join(self.parts)
                 + "\n</body></html>\n")
@@ -64,82 +64,82 @@ class CasePage:
 
     def result(self):
         """What the case says of the table."""
-        case = self.case
-        mark = "good" if case.is_safe and not case.contradictions else "bad"
+        package = self.package
+        mark = "good" if package.is_safe and not package.contradictions else "bad"
         self.head("Result")
-        self.add(tag("p", tag("b", text(case.said), class_=mark)))
-        if not case.is_plant:
+        self.add(tag("p", tag("b", text(package.said), class_=mark)))
+        if not package.is_plant:
             self.say("The configuration isn't a plant: nothing was asked of it but its rules, and this case "
                      "shows nothing of its safety.")
-        elif case.contradictions:
+        elif package.contradictions:
             self.say("Answers of this case can't both be right. The program, a tool or the machine is wrong, and "
                      "nothing of this case counts before it is known which.")
-        elif case.is_safe or case.is_clean and not case.hazard:
+        elif package.is_safe or package.is_clean and not package.hazard:
             self.safe_ways()
-        elif case.hazard:
+        elif package.hazard:
             self.say("The table isn't safe: a run from the start ends in a hazard. That it is a run, and ends "
                      "so, the program answered, by irv replay or irv drive.")
         else:
             self.say("It isn't shown that the table is safe, and no run to a hazard was found. This case "
                      "can't be filed as one of a safe table.")
-        if not case.version[-1].startswith("proved"):
-            self.add(tag("p", text(f"The program isn't known to be the proved one: {case.version[-1]}. Answers of "
+        if not package.version[-1].startswith("proved"):
+            self.add(tag("p", text(f"The program isn't known to be the proved one: {package.version[-1]}. Answers of "
                                    "such a program aren't for a safety case."), class_="own bad"))
 
     def safe_ways(self):
         """By which ways the table is safe."""
-        if self.case.is_clean:
+        if self.package.is_clean:
             self.say("No rule is broken under strict columns. That by itself is a proof that no run from the "
                      "start, of whatever length, ends in a hazard: a clause of the program's contract.")
-        if self.case.is_safe:
-            self.say("Besides," if self.case.is_clean else "", "irv verify answered that no run, of whatever "
+        if self.package.is_safe:
+            self.say("Besides," if self.package.is_clean else "", "irv verify answered that no run, of whatever "
                      "length, ends in a hazard, and wrote a certificate of it, which irv audit and tools/audit "
                      "accepted.")
         else:
             self.say("There is no certificate of it, and nothing that others could check: irv verify gave "
-                     f"{self.case.verdict.told}.")
+                     f"{self.package.verdict.told}.")
 
     def deviations(self):
         """Each broken rule, and what it means."""
         self.head("Deviations")
-        if not self.case.deviations:
+        if not self.package.deviations:
             self.say("None: the table breaks no rule.")
             return
         self.say("Which rules are broken, and where, irv check answered. The sentences, and whether safety "
                  "rests on a deviation, are by the part in Python, which isn't proved.")
         rows = [[("", code(it.line)), " ".join(it.sentences),
                  "yes" if it.is_resting else "no", it.safety, self.way(it), ROOM]
-                for it in self.case.deviations]
+                for it in self.package.deviations]
         self.add(table(["deviation", "in words", "does safety rest on it", "why", "by which way it is safe",
                         "accepted by, and why it is wanted"], rows))
 
     def way(self, deviation):
         """The way by which the table with a deviation is safe, or that it isn't."""
-        case = self.case
-        if not case.is_plant:
+        package = self.package
+        if not package.is_plant:
             return "None: there is no plant, and no verdict."
-        if case.contradictions:
+        if package.contradictions:
             return "None, before the contradiction above is resolved."
-        if case.is_safe:
-            return (f"By the certificate of irv verify under free columns ({case.verdict.line}), which is of "
+        if package.is_safe:
+            return (f"By the certificate of irv verify under free columns ({package.verdict.line}), which is of "
                     "the table with all its deviations.")
-        if case.hazard:
-            return f"It isn't safe: {case.hazard}."
+        if package.hazard:
+            return f"It isn't safe: {package.hazard}."
         if not deviation.is_resting:
             return ("None is shown. This deviation alone would leave a table safe that has none on which "
                     "safety rests.")
-        return f"None is shown: {case.verdict.told}."
+        return f"None is shown: {package.verdict.told}."
 
     # -- what was asked
 
     def given(self):
         """The configuration and the program."""
-        case = self.case
+        package = self.package
         self.head("What was asked, and of which program")
-        rows = [("configuration", f"{case.words.name}, as {provenance.sum_of(case.given)} (sha256), "
-                 f"{len(case.given)} bytes: configuration.json")]
-        rows += [("program", line) for line in case.version]
-        rows.append(("options", shlex.join(case.words.of_verify) or "none: those that irv verify has by itself"))
+        rows = [("configuration", f"{package.options.name}, as {provenance.sum_of(package.given)} (sha256), "
+                 f"{len(package.given)} bytes: configuration.json")]
+        rows += [("program", line) for line in package.version]
+        rows.append(("options", shlex.join(package.options.of_verify) or "none: those that irv verify has by itself"))
         self.add(table([], [[name, ("", code(value))] for name, value in rows]))
 
     def answers(self):
@@ -147,21 +147,21 @@ class CasePage:
         self.head("Answers of the program")
         self.say("Where the program is the proved one (premise 9), what it answers is proved, on the premises "
                  "below. Each call was made in this folder.")
-        self.table_of(call for call in self.case.calls.all if call.is_of_program)
+        self.table_of(call for call in self.package.calls.all if call.is_of_program)
 
     def others(self):
         """Each answer of what isn't the program."""
         self.head("What other tools said")
-        calls = [call for call in self.case.calls.all if not call.is_of_program]
+        calls = [call for call in self.package.calls.all if not call.is_of_program]
         self.say("None of these is proved: they are Python. Where they stand beside an answer of the program, "
                  "they are a second check of it, and where they draw or hunt, what counts is what the program "
                  "answers.")
-        for version, call in self.case.solvers:
+        for version, call in self.package.solvers:
             self.say(f"Asked besides: {version}. What tools/safe_by says of it: {call.last}.")
-        if self.case.solvers:
+        if self.package.solvers:
             self.say("Nothing rests on a solver: irv rup judged each refutation, and those that it accepted are "
                      "kept. That all queries were asked rests on tools/safe_by.")
-        elif self.case.is_safe:
+        elif self.package.is_safe:
             self.say("No solver was asked: none that writes refutations was on the machine, or none was wanted.")
         self.table_of(calls)
 
@@ -175,15 +175,15 @@ class CasePage:
     def runs(self):
         """The runs and scenarios that were given, and the page."""
         self.head("Runs, scenarios, and the page")
-        if not self.case.runs:
+        if not self.package.runs:
             self.say("No run and no scenario was given.")
-        elif not self.case.is_plant:
+        elif not self.package.is_plant:
             self.say("What was given wasn't asked about, since there is no plant.")
-        for name, run in self.case.runs:
+        for name, run in self.package.runs:
             self.say(f"{shown(run.name)}, a {run.kind}:", (link(name),))
-        if (self.case.room / "page.html").exists():
+        if (self.package.room / "report.html").exists():
             self.say("The plan, the rules in sentences and the runs are drawn on the page:",
-                     (link("page.html"),))
+                     (link("report.html"),))
 
     # -- on what it rests, and who signs
 
@@ -222,7 +222,7 @@ class CasePage:
 
     def rests_on(self):
         """What of this page rests on what."""
-        self.add(tag("p", text("This page was written by a part in Python (tools/case), which isn't proved. It "
+        self.add(tag("p", text("This page was written by a part in Python (irv --package), which isn't proved. It "
                                "quotes answers; the files in answers/ are what was printed, byte for byte. "
                                "Whether the premises and the conditions hold no program says."),
                      class_="foot small"))

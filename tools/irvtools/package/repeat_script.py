@@ -11,7 +11,7 @@ SCRIPT = r"""#!/usr/bin/env bash
 # was asked and is the same, 1 where something differs, 2 where something was left out and the rest is
 # the same.
 #
-# Not made again: page.html, what a solver wrote, and the hunt, which looks for a run by chance. The
+# Not made again: report.html, what a solver wrote, and the hunt, which looks for a run by chance. The
 # refutations and the run that they gave are judged again by the program, and all files by their sums.
 set -u
 unset CDPATH
@@ -97,15 +97,15 @@ echo "$same the same, $differ differ, $left left out"
 """
 
 
-def repeat_script(case):
+def repeat_script(package):
     """The script of a case."""
     lines = []
-    for call in case.calls.all:
+    for call in package.calls.all:
         if call.is_repeated:
             lines.append(f"again {call.name} {call.status} {call.again}")
-            lines += [f"made {name}" for name in call.made if (case.room / name).exists()]
-    for name, file, first in (("verify", "verify.run", 2), ("hunt", "hunted.run", 1)):
-        if (case.room / file).exists():
+            lines += [f"made {name}" for name in call.made if (package.room / name).exists()]
+    for name, file, first in (("verify", "verify.run", 2), ("search", "search.run", 1)):
+        if (package.room / file).exists():
             lines.append(f"run_of {name} {file} {first}")
-    total = next(line for line in case.version if line.startswith("program ")).split()[-1]
+    total = next(line for line in package.version if line.startswith("program ")).split()[-1]
     return SCRIPT.replace("@SUM@", total).replace("@CALLS@", "\n".join(lines))

@@ -1,22 +1,11 @@
-"""Measures verify over stations in a row and other lines, beside other solvers on the same formulas.
+"""Measures verify over generated stations and other lines, beside other solvers on the same formulas.
 
-    tools/benchmark PROGRAM [N | LINE | FILE | seconds=N | conflicts=N | audit=YARDSTICK | rup=YARDSTICK]..
-
-By default of 1, 2, 4, 8 and 16 stations, and of the terminus throat; LINE is a double-track line, as `bs`
-or `11L` (tests/lib/double_track.py). First it tells the machine, the program and the solvers. Then for
-each plant: its sections, points and routes, the verdict, user seconds and peak memory of verify, the size
-of its certificate, and for each query of the certificate its variables, clauses and conflicts, and the
-seconds and conflicts of cadical, minisat and picosat where they are there, each ended after as many
-seconds of a processor as seconds= says (600); then the same of audit on the certificate, and where cadical
-is there, of rup on what it writes of the last query, without what only deletes where it is longer than rup
-reads. verify may take as many conflicts as conflicts= says, or as many as without that word of its own. All
-in one run, so that the figures can be compared. A peak below some 16 MiB isn't told apart: so
-much this script has itself. tools/speed makes a table and a picture of what is printed.
-
-audit and rup are run in three rounds, of which the least seconds count, and in one where that takes a
-minute or more. A yardstick is another program, run at the same time as ours: of audit one that is called
-with the certificate and the formulas of its queries in their order, of rup one that is called with the
-formula and the refutation.
+First it prints the machine, the program and the solvers. For each plant it prints sections, points and
+routes; the verdict, user seconds and peak memory of verify; the size of its certificate; for each query
+variables, clauses and conflicts, and seconds and conflicts of each solver that is installed; then the same
+of audit, and of rup on what cadical writes of the last query (without items that only delete if the text is
+longer than rup reads). audit and rup run in three rounds, of which the least seconds count; in one if a
+round takes a minute or more. Peaks below some 16 MiB are this script's own.
 """
 
 import json
@@ -30,6 +19,7 @@ import time
 from pathlib import Path
 
 
+from irvtools.arguments import Parser
 from irvtools.generators import double_track
 from irvtools.checkers import refutations
 from irvtools.paths import TOP
@@ -223,17 +213,28 @@ def measure(program, word, folder, options):
         measure_checks(program, folder, queries, options)
 
 
+def parser():
+    """Returns the parser of the command line."""
+    line = Parser("tools/benchmark", "Measures verify and audit beside cadical, minisat and picosat on the same "
+                  "formulas, all in one run.\n\nA WORD is a number of generated stations, a double-track line "
+                  "such as bs or 11L, a file, or a setting:\nseconds=N ends another solver after N CPU seconds "
+                  "(600); conflicts=N is verify's budget; audit=FILE and\nrup=FILE name a yardstick that runs "
+                  "beside ours.", 2, "tools/benchmark PROGRAM [WORD ..]")
+    line.add_argument("program", metavar="PROGRAM", help="the program that is measured")
+    line.add_argument("words", nargs="*", metavar="WORD",
+                      help="plants and settings (1 2 4 8 16 and the terminus throat)")
+    return line
+
+
 def main(words):
-    """Measures each plant; answers the exit status."""
-    if not words or words[0].startswith("--"):
-        print(__doc__, file=sys.stderr)
-        return 2
-    program, options = str(Path(words[0]).resolve()), {}
-    for word in [word for word in words[1:] if "=" in word]:
+    """Measures each plant; returns the exit status."""
+    given = parser().parse_args(words)
+    program, options = str(Path(given.program).resolve()), {}
+    for word in [word for word in given.words if "=" in word]:
         name, _, value = word.partition("=")
         options[name] = value if name in ("seconds", "conflicts") else str(Path(value).resolve())
     print("\n".join(head(program, options)))
-    for word in [word for word in words[1:] if "=" not in word] or PLANTS:
+    for word in [word for word in given.words if "=" not in word] or PLANTS:
         with tempfile.TemporaryDirectory(prefix="irv-benchmark-") as folder:
             measure(program, word, Path(folder), options)
     print(load())

@@ -1,60 +1,67 @@
-"""Measures how quick the answers are, and writes the tables and the picture of docs/SPEED.md, and the short
-table of README.md.
-
-    tools/speed PROGRAM [WORD..]     has tools/benchmark measure, by default the plants that are listed below,
-                                     writes what it prints to tools/speed.txt, and makes all of that
-    tools/speed --of FILE            makes them of what was printed before; FILE may be tools/speed.txt
-
-The words are those of tools/benchmark. It takes an hour or more: nothing else should run meanwhile.
-"""
+"""The command line of `tools/update_performance`: measures, and updates the performance page."""
 
 import subprocess
 import sys
 from pathlib import Path
 
-
-from irvtools.performance.measurements import Measured, NotMeasured
+from irvtools.arguments import Parser
+from irvtools.paths import PROGRAM, TOP
 from irvtools.performance.chart import Picture
+from irvtools.performance.measurements import Measured, NotMeasured
 from irvtools.performance.tables import PICTURE, NoPlace, part, renewed, short
-from irvtools.paths import TOP
 
-PLANTS = ["1", "2", "4", "8", "16", "examples/terminus-throat.json", "s", "2s", "8L", "11L", "2s3L", "bs", "sLs",
-          "2b", "b2s3L", "bsbsb"]
+PLANTS = ["1", "2", "4", "8", "16", "examples/terminus-throat.json", "s", "2s", "8L", "11L", "2s3L", "bs",
+          "sLs", "2b", "b2s3L", "bsbsb"]
 LIMITS = ["seconds=200", "conflicts=200000"]
-TEXT, PAGE, FRONT = TOP / "tools/speed.txt", TOP / "docs/SPEED.md", TOP / "README.md"
+TEXT = TOP / "tools/irvtools/performance/measurements.txt"
+PAGE, FRONT = TOP / "docs/dev/performance.md", TOP / "README.md"
+PICTURES = TOP / "docs/pictures"
+
+
+def parser():
+    """Returns the parser of the command line."""
+    line = Parser("tools/update_performance", "Measures the program by tools/benchmark, keeps what it prints, "
+                  "and updates the tables and the chart of\ndocs/dev/performance.md and the short table of "
+                  "README.md. It takes an hour or more; run nothing else meanwhile.", 2,
+                  "tools/update_performance [OPTIONS] [WORD ..]")
+    line.add_argument("words", nargs="*", metavar="WORD", help="plants and limits for tools/benchmark "
+                      "(the lines of the page)")
+    line.once("--of", "use what tools/benchmark printed before, and measure nothing", metavar="FILE")
+    line.once("--program", "the program that is measured (crates/irv/out/irv)", default=PROGRAM,
+              type=Path, metavar="FILE")
+    return line
 
 
 def measure(program, words):
-    """Has all measured, and shows what is printed as it comes."""
-    command = [str(TOP / "tools/benchmark"), str(Path(program).resolve()), *(words or [*PLANTS, *LIMITS])]
+    """Has all measured, shows what is printed as it comes, and keeps it."""
+    command = [str(TOP / "tools/benchmark"), str(program.resolve()), *(words or [*PLANTS, *LIMITS])]
     with subprocess.Popen(command, cwd=TOP, stdout=subprocess.PIPE, text=True) as child:
         lines = []
         for line in child.stdout:
             print(line, end="", flush=True)
             lines.append(line)
     if child.returncode != 0:
-        sys.exit(f"tools/benchmark ends with status {child.returncode}")
+        sys.exit(f"tools/update_performance: tools/benchmark ended with status {child.returncode}")
     TEXT.write_text("".join(lines), encoding="utf-8")
 
 
 def write(path):
-    """Makes the tables and the picture of what was printed."""
+    """Makes the tables and the chart of what was printed."""
     measured = Measured(Path(path).read_text(encoding="utf-8"))
     for document, made in ((PAGE, part), (FRONT, short)):
-        document.write_text(renewed(document.read_text(encoding="utf-8"), measured, made), encoding="utf-8")
-    (PAGE.parent / PICTURE).write_text(Picture(measured.plants).drawn(), encoding="utf-8")
+        document.write_text(renewed(document.read_text(encoding="utf-8"), measured, made),
+                            encoding="utf-8")
+    (PICTURES / Path(PICTURE).name).write_text(Picture(measured.plants).drawn(), encoding="utf-8")
 
 
 def main(words):
-    """Takes the command line; answers the exit status."""
-    if not words or words[0].startswith("-") and (words[0] != "--of" or len(words) != 2):
-        print(__doc__, file=sys.stderr)
-        return 2
+    """Measures or reads, and updates the pages; returns the exit status."""
+    given = parser().parse_args(words)
     try:
-        if words[0] != "--of":
-            measure(words[0], words[1:])
-        write(TEXT if words[0] != "--of" else words[1])
+        if given.of is None:
+            measure(given.program, given.words)
+        write(TEXT if given.of is None else given.of)
     except (NotMeasured, NoPlace, OSError) as fault:
-        print(f"tools/speed: {fault}", file=sys.stderr)
+        print(f"tools/update_performance: {fault}", file=sys.stderr)
         return 1
     return 0

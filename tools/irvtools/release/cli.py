@@ -1,68 +1,60 @@
-"""Makes a release: a folder with the sources, the program, what the proof rests on, and what was tried.
+"""The command line of `irv --release`: makes a release of this checkout."""
 
-    tools/release FOLDER --gate LOG [--battery LOG].. [--program FILE]
-
-LOG of --gate is what `bash .ci/run` printed for this tree, from its first line to its last; that of
---battery begins with the line `$ COMMAND` and has what the command printed. It is called where the gate
-ran: the prover lists the axioms over the libraries that the gate built. docs/RELEASES.md says what the
-folder has. Refused are a checkout that isn't clean, a program that isn't known to be built of these
-sources, a gate that didn't pass or was of another tree, axioms that the gate didn't count, and a folder
-in which something stands.
-
-The status is 0 where the release was made, else 125: then no folder is made.
-"""
-
-import argparse
 import os
 import shutil
 import sys
 import tempfile
 from pathlib import Path
 
-HERE = Path(__file__).resolve().parent
-
+from irvtools.arguments import Parser
+from irvtools.paths import TOP
 from irvtools.release.contents import NotReleased, Release
 
-NO_RELEASE = 125
+NOT_MADE = 125
 
 
-class Words(argparse.ArgumentParser):
-    """A command line whose faults end with the status of no answer."""
-
-    def error(self, message):
-        self.exit(NO_RELEASE, f"tools/release: {message}\n")
+def parser():
+    """Returns the parser of the command line."""
+    line = Parser("irv --release", "Makes a release: a directory with the sources, the program, what its "
+                  "proof depends on, and the record of what\nwas tested. It runs where CI ran, in a "
+                  "clean checkout.\n\nThe exit status is 0 if the release was made, otherwise 125: no "
+                  "directory is made then.", NOT_MADE,
+                  "irv --release DIRECTORY --gate LOG [OPTIONS]")
+    line.add_argument("directory", metavar="DIRECTORY", type=Path, help="a directory that is new or empty")
+    line.once("--gate", "what `bash .ci/run` printed for this tree, whole", metavar="LOG", type=Path,
+              required=True)
+    line.add_argument("--extra-log", metavar="LOG", type=Path, action="append", default=[],
+                      help="what a test outside CI printed, after a line `$ COMMAND`; may be repeated")
+    line.program()
+    return line
 
 
 def make(given, top):
     """Makes the release beside its place, and moves it there once it is whole."""
-    folder = given.folder
-    if folder.is_symlink() or folder.exists() and (not folder.is_dir() or any(folder.iterdir())):
-        raise NotReleased(f"{folder} isn't an empty folder: nothing is written over")
-    if not folder.absolute().parent.is_dir():
-        raise NotReleased(f"{folder.absolute().parent}, in which the folder would stand, isn't there")
-    room = Path(tempfile.mkdtemp(prefix=".irv-release-", dir=folder.absolute().parent))
+    directory = given.directory
+    if directory.is_symlink() or directory.exists() and (not directory.is_dir()
+                                                         or any(directory.iterdir())):
+        raise NotReleased(f"{directory} is not an empty directory; nothing is overwritten")
+    if not directory.absolute().parent.is_dir():
+        raise NotReleased(f"the directory {directory.absolute().parent} does not exist")
+    room = Path(tempfile.mkdtemp(prefix=".irv-release-", dir=directory.absolute().parent))
     try:
         room.chmod(0o755)
         Release(top, given, room).make()
-        os.rename(room, folder)
+        os.rename(room, directory)
     except OSError as fault:
         raise NotReleased(str(fault)) from fault
     finally:
         shutil.rmtree(room, ignore_errors=True)
 
 
-def main():
-    """Takes the command line; answers the exit status."""
-    parser = Words(description=__doc__, formatter_class=argparse.RawDescriptionHelpFormatter)
-    parser.add_argument("--program", type=Path, default=HERE.parent / "crates/irv/out/irv")
-    parser.add_argument("--gate", type=Path, required=True)
-    parser.add_argument("--battery", type=Path, action="append", default=[])
-    parser.add_argument("folder", type=Path)
-    given = parser.parse_args()
+def main(words):
+    """Makes the release that the arguments ask for; returns the exit status."""
+    given = parser().parse_args(words)
     try:
-        make(given, HERE.parent)
+        make(given, TOP)
     except NotReleased as fault:
-        print(f"tools/release: {fault}", file=sys.stderr)
-        return NO_RELEASE
-    print(f"{given.folder}: made")
+        print(f"irv --release: {fault}", file=sys.stderr)
+        return NOT_MADE
+    print(f"{given.directory}: made")
     return 0

@@ -1,10 +1,10 @@
 """Hunts at the same time, each in a process of its own with a seed of its own. The first that finds a
 run to a hazard ends the others.
 
-    with Hunters(plant, suspects) as hunters:
-        hunters.start(seconds)
+    with Searchers(plant, suspects) as searchers:
+        searchers.start(seconds)
         ...
-        run = hunters.wait(until)       # or poll, as often as one likes
+        run = searchers.wait(until)       # or poll, as often as one likes
 
 All processes end with the first run that is found, when their time is over, when `stop` is called or
 the block is left, and when the process that started them ends, however that comes about.
@@ -49,7 +49,7 @@ def hunting(plant, seed, suspects, seconds, pipe, parents):
     pipe.close()
 
 
-class Hunters:
+class Searchers:
     """Some hunts at once. `run` is what was found, or None, by the hunt with the seed `found_by`;
     `runs`, `events` and `longest` are the figures of all together, `seconds` the time that it took."""
 

@@ -4,7 +4,7 @@ and a hazard that one of them finds ends the other."""
 import time
 
 from irvtools.calls.background import Beside
-from irvtools.search.parallel_search import Hunters
+from irvtools.search.parallel_search import Searchers
 
 GRACE = 2.0             # seconds that verify still has once the hunt has found a run
 TURN = 0.05             # seconds between two looks
@@ -17,34 +17,34 @@ class Found:
     there before the answer, `said` what replay says of it, `fault` that this isn't what it should be."""
 
     def __init__(self):
-        self.answer = self.run = self.hunters = self.said = self.fault = None
+        self.answer = self.run = self.searchers = self.said = self.fault = None
         self.is_first = False
 
 
 def search(page, words):
     """Asks verify with some words, and hunts."""
-    found, wishes = Found(), page.wishes
-    is_beside = page.is_endangered and wishes.hunt > 0
-    with Hunters(page.plant, page.suspects) as found.hunters:
+    found, options = Found(), page.options
+    is_beside = page.is_endangered and options.search_seconds > 0
+    with Searchers(page.plant, page.suspects) as found.searchers:
         call = Beside(page.program, words)
         if is_beside:
-            found.hunters.start(wishes.hunt)
+            found.searchers.start(options.search_seconds)
         try:
             both(found, call, page)
         finally:
             found.answer = call.end("ended by the page")
-        if wishes.hunt and not is_beside and found.answer.status in UNEXPECTED:
-            found.hunters.start(wishes.hunt)
-            found.run = found.hunters.wait(wishes.hunt + 1)
+        if options.search_seconds and not is_beside and found.answer.status in UNEXPECTED:
+            found.searchers.start(options.search_seconds)
+            found.run = found.searchers.wait(options.search_seconds + 1)
     return found
 
 
 def both(found, call, page):
     """Waits for the call and for the hunt, until a hazard is found or both have ended."""
-    wait = page.wishes.wait
+    wait = page.options.verify_seconds
     until = call.begin + wait
     while True:
-        answer, run = call.poll(), found.hunters.wait(TURN)
+        answer, run = call.poll(), found.searchers.wait(TURN)
         if run is not None and found.run is None:
             found.run, found.is_first = run, answer is None
             until = min(until, time.monotonic() + GRACE)
@@ -53,7 +53,7 @@ def both(found, call, page):
             answer = call.end(
                 f"ended{after}, since a run to a hazard was found"
                 if found.run else f"not waited for: no answer within {wait:g} seconds")
-        if answer is not None and (answer.status not in NO_VERDICT or found.hunters.is_over):
+        if answer is not None and (answer.status not in NO_VERDICT or found.searchers.is_over):
             return
-        if answer is None and found.hunters.is_over:
+        if answer is None and found.searchers.is_over:
             time.sleep(TURN)

@@ -20,7 +20,7 @@ def script(names):
 
 def style():
     """The style of the page: that of tools/page, and what it has besides."""
-    return CSS + (HERE / "play.css").read_text(encoding="utf-8")
+    return CSS + (HERE / "simulator.css").read_text(encoding="utf-8")
 
 
 def section_value(section):
@@ -54,4 +54,4 @@ def as_json(value):
 
 def page():
     """What stands in the page's body, with marks for what a plant puts there."""
-    return (HERE / "play.html").read_text(encoding="utf-8")
+    return (HERE / "simulator.html").read_text(encoding="utf-8")

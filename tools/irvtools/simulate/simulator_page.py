@@ -10,7 +10,7 @@ from irvtools.rules import broken_rules
 from irvtools.simulate import scripts
 from irvtools.html.rules_section import rules_part
 from irvtools.html.markup import code, tag, text
-from irvtools.html.report import ASK_SECONDS, Page
+from irvtools.html.report import ASK_SECONDS, Report
 from irvtools.simulate.plan_geometry import geometry
 
 WORDED = 24             # broken rules of the columns with a sentence
@@ -21,7 +21,7 @@ def sum_of(script):
     return base64.b64encode(hashlib.sha256(script.encode()).digest()).decode()
 
 
-class PlayPage(Page):
+class SimulatorPage(Report):
     """A page that is being made. Of what its caller asked for it takes the name of the configuration and
     the program; `outcome` is the first line of what check says, once it is made."""
 
@@ -42,7 +42,7 @@ class PlayPage(Page):
 
     def refused(self, answer, lines):
         """The page that says why nothing can be played."""
-        self.add(tag("h1", text(f"{self.wishes.name}: nothing to play")))
+        self.add(tag("h1", text(f"{self.options.name}: nothing to play")))
         if self.plant is not None:
             self.add(self.drawing.definitions())
         elif self.is_read(answer, lines):
@@ -78,7 +78,7 @@ class PlayPage(Page):
     def played(self, lines):
         """The page of a plant."""
         columns, words = self.columns(lines)
-        value = {"name": self.wishes.name, "sum": hashlib.sha256(self.given).hexdigest(),
+        value = {"name": self.options.name, "sum": hashlib.sha256(self.given).hexdigest(),
                  "columns": columns, "plant": scripts.plant_value(self.plant),
                  "plan": geometry(self.drawing)}
         plant = self.plant
@@ -88,7 +88,7 @@ class PlayPage(Page):
             words += tag("p", text("A joint that no row of the plan fits is a dotted red line."),
                          class_="small own")
         page = scripts.page()
-        for mark, markup in (("TITLE", text(self.wishes.name)), ("COUNTS", text(counts)),
+        for mark, markup in (("TITLE", text(self.options.name)), ("COUNTS", text(counts)),
                              ("RULES", words), ("DEFINITIONS", self.drawing.definitions()),
                              ("COLUMNS", columns),
                              ("PLANT", scripts.as_json(value))):
@@ -103,6 +103,6 @@ class PlayPage(Page):
         return ("<!doctype html>\n<html lang=\"en\"><head><meta charset=\"utf-8\">"
                 f"<meta http-equiv=\"Content-Security-Policy\" content=\"{policy}\">"
                 "<meta name=\"viewport\" content=\"width=device-width, initial-scale=1\">"
-                f"<title>{text(self.wishes.name)}: irv, played</title>"
+                f"<title>{text(self.options.name)}: irv, played</title>"
                 f"<style>{scripts.style()}</style></head><body>\n{body}\n"
                 + (f"<script>{script}</script>\n" if script else "") + "</body></html>\n")

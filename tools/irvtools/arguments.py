@@ -1,0 +1,63 @@
+"""Command lines of tools: help with defaults, and how wrong arguments end."""
+
+from __future__ import annotations
+
+import argparse
+from pathlib import Path
+
+from irvtools.paths import PROGRAM
+
+
+class _Help(argparse.RawDescriptionHelpFormatter):
+    """Help texts that keep their lines, 96 columns wide."""
+
+    def __init__(self, prog: str) -> None:
+        super().__init__(prog, max_help_position=30, width=96)
+
+
+class _Once(argparse.Action):
+    """Stores a value, and refuses an option that is given twice."""
+
+    def __call__(self, parser, namespace, values, option_string=None):
+        given = vars(namespace).setdefault("given_once", set())
+        if self.dest in given:
+            parser.error(f"{option_string} is given twice")
+        given.add(self.dest)
+        setattr(namespace, self.dest, True if self.nargs == 0 else values)
+
+
+class Parser(argparse.ArgumentParser):
+    """An argument parser that answers wrong arguments with one line and the exit status `status`."""
+
+    def __init__(self, name: str, description: str, status: int, usage: str | None = None) -> None:
+        super().__init__(prog=name, description=description, usage=usage, allow_abbrev=False,
+                         formatter_class=_Help)
+        self.status = status
+
+    def error(self, message: str):
+        """Ends with what is wrong."""
+        self.exit(self.status, f"{self.prog}: {message}; see {self.prog} --help\n")
+
+    def once(self, name: str, text: str, **how) -> None:
+        """Adds an option that takes a value and may be given once."""
+        self.add_argument(name, action=_Once, help=text, **how)
+
+    def flag(self, name: str, text: str) -> None:
+        """Adds an option without a value."""
+        self.add_argument(name, action="store_true", help=text)
+
+    def program(self) -> None:
+        """Adds the option that names the program."""
+        self.once("--program", "the program that is called (crates/irv/out/irv)", type=Path,
+                  default=PROGRAM, metavar="FILE")
+
+
+def whole_number(least: int, greatest: int):
+    """Returns what reads a whole number in decimal digits between two bounds."""
+    def read(word: str) -> int:
+        is_number = word.isascii() and word.isdigit() and len(word) < 16
+        if not is_number or not least <= int(word) <= greatest:
+            raise argparse.ArgumentTypeError(
+                f"{word!r} is not a whole number from {least} to {greatest}")
+        return int(word)
+    return read
