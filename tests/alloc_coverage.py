@@ -12,10 +12,9 @@ type's name before it, or after a dot in a file that names its type. The last li
 """
 
 import re
-import sys
 from collections import namedtuple
-from pathlib import Path
 from irvtools.paths import TOP
+from tests.support.harness import Test
 
 WANT = re.compile(r"\bAllocError\b|\bFormError\b|\bReadError\b|\bOutOfMemory\b")
 REMARK = re.compile(r"//[^\n]*")
@@ -119,21 +118,17 @@ def self_check():
     assert [(it.owner, it.name) for it in missing] == [(None, "left"), ("Found", "lost")], missing
     files["c_tests/src/lib.rt"] = "use a::left;\nfn test() {\n    left(alloc)?;\n    let f = Found::new(alloc)?;\n    f.lost()?;\n}\n"
     assert uncalled(files) == (4, []), uncalled(files)
-    print("1 passed, 0 failed")
 
 
-def main(words):
-    """Takes the command line; answers the exit status."""
-    if words == ["--self-check"]:
+class AllocCoverageTests(Test):
+    """Each public call that may run out of memory is called somewhere."""
+
+    def test_self_check(self):
+        """A call that nothing makes is found, and one that is made is not."""
         self_check()
-        return 0
-    if words:
-        print(__doc__, file=sys.stderr)
-        return 2
-    count, missing = uncalled(read_files())
-    for call in missing:
-        name = f"{call.owner}::{call.name}" if call.owner else call.name
-        print(f"tests/called: nothing calls {name} of crates/{call.file}, so a body that always answers "
-              "want of memory would pass")
-    print(f"{count - len(missing)} passed, {len(missing)} failed")
-    return 1 if missing or not count else 0
+
+    def test_calls(self):
+        """Something calls each: otherwise a body that always answers out of memory would pass."""
+        count, missing = uncalled(read_files())
+        self.see([f"nothing calls {f'{call.owner}::' if call.owner else ''}{call.name} of crates/{call.file}"
+                  for call in missing], count)

@@ -1,25 +1,20 @@
-"""Has certificates audited that verify wrote and that were changed afterwards, and compares each answer.
+"""Tests of `audit`: certificates that verify wrote and that were changed afterwards.
 
-    tests/audit PROGRAM         prints each failure, and at last `N passed, M failed`
-    tests/audit --self-check    tries the changes alone, on a certificate that was made by hand
-
-Certificates are changed in the ways of lib/mutations.py: some whose answers are plain, cuts at many
-lengths, and some hundred by chance, the same at each run. What is answered has to be what
-lib/certificate.py finds, which reads the certificate line by line over the formulas that `irv export`
-prints: the number of the line is compared too. tests/try_audit tries many more, for hours.
+Certificates are changed in the ways of `support/certificate_changes.py`: some whose answers are plain, cuts at
+many lengths, and some hundred at random, the same at each run. Each answer has to be what the independent
+checker finds over the formulas that `irv export` prints; the number of the line is compared too.
+`tests/fuzz_audit` tries many more, for hours.
 """
 
-import sys
 import tempfile
 from concurrent.futures import ThreadPoolExecutor
 from pathlib import Path
-
-
 from tests.support import audits
 from tests.support import case_files
 from irvtools.generators import configurations
 from tests.support import certificate_changes
 from tests.support import handmade_certificates
+from tests.support.harness import ProgramTest, Test
 
 # each plant with the number of its changes by chance
 PLANTS = (("line-with-boards", 300), ("platforms", 60), ("station", 60))
@@ -52,8 +47,6 @@ def plant_faults(program, name, count, folder):
     for (other, wanted), got in zip(tried, given):
         if not wanted == got == audit.wanted(other):
             faults.append(audit.fault(other, wanted, got))
-    accepted = sum(wanted.startswith("accepted") for _, wanted in tried)
-    print(f"{name}: {len(tried)} texts, {accepted} of them accepted")
     return faults, len(tried)
 
 
@@ -73,18 +66,30 @@ def self_check():
             yield f"{got} is found behind the lines that are known, and {whole} of the whole of {other!r}"
 
 
-def main(words):
-    """Takes the command line; answers the exit status."""
-    if len(words) != 1 or words[0].startswith("--") and words != ["--self-check"]:
-        print(__doc__, file=sys.stderr)
-        return 2
-    faults, tried = list(self_check()), 1
-    if words != ["--self-check"]:
-        for name, count in PLANTS:
-            with tempfile.TemporaryDirectory(prefix="irv-audit-") as folder:
-                found, number = plant_faults(Path(words[0]).resolve(), name, count, Path(folder))
-            faults, tried = [*faults, *(f"{name}: {fault}" for fault in found)], tried + number
-    for fault in faults:
-        print(f"FAILED {fault}")
-    print(f"{tried - len(faults)} passed, {len(faults)} failed")
-    return 1 if faults else 0
+class CheckerTests(Test):
+    """The checker alone, on a hand-written certificate."""
+
+    def test_self_check(self):
+        """The plain changes of a hand-written certificate have their answers."""
+        self.see(self_check())
+
+
+class AuditTests(ProgramTest):
+    """The program beside the checker, on changed certificates."""
+
+    def see_plant(self, name, count):
+        """Compares the answers to the changes of a plant's certificate."""
+        with tempfile.TemporaryDirectory(prefix="irv-audit-") as folder:
+            faults, tried = plant_faults(self.program, name, count, Path(folder))
+        self.see(faults, tried)
+
+
+def add_plants():
+    """Adds a test for each plant."""
+    for name, count in PLANTS:
+        def test(self, name=name, count=count):
+            self.see_plant(name, count)
+        setattr(AuditTests, "test_" + name.replace("-", "_"), test)
+
+
+add_plants()

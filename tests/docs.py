@@ -29,13 +29,13 @@ import functools
 import re
 import shutil
 import subprocess
-import sys
 import tempfile
 from pathlib import Path
 
 from tests.support import reached_definitions
 from tests.support import change_lists
 from irvtools.paths import TOP
+from tests.support.harness import Test
 
 DOCUMENTS = ("README.md", "docs/*.md", "tests/README.md", "tools/README.md", "examples/README.md")
 FENCE = re.compile(r"^```.*?^```", re.S | re.M)
@@ -685,13 +685,15 @@ def self_check():
     return seen
 
 
-def main(words):
-    """Asks all; answers the exit status."""
-    if words not in ([], ["--self-check"]):
-        print("usage: tests/docs [--self-check]", file=sys.stderr)
-        return 2
-    seen = self_check() if words else see_all(TOP)
-    for fault in seen.faults:
-        print(f"FAILED {fault}")
-    print(f"{seen.passed} passed, {len(seen.faults)} failed")
-    return 1 if seen.faults else 0
+class DocumentTests(Test):
+    """The documents beside the sources."""
+
+    def test_self_check(self):
+        """Each planted change is refused for its own reason."""
+        seen = self_check()
+        self.see(seen.faults, seen.passed)
+
+    def test_documents(self):
+        """The documents say what the sources are."""
+        seen = see_all(TOP)
+        self.see(seen.faults, seen.passed)

@@ -17,12 +17,11 @@ That list may only get shorter. A finding that isn't in it fails, and so does a 
 longer so. The last line is `N passed, M failed`.
 """
 
-import sys
 from collections import defaultdict
-from pathlib import Path
 
 from tests.support import sources
 from irvtools.paths import TOP
+from tests.support.harness import Test
 
 LIST = TOP / "tests/twice.list"
 REASONS = ("debt", "example", "apart")
@@ -186,23 +185,22 @@ def self_check():
     assert still(text, WANTED[1:]) == text.replace(f"debt {WANTED[0]}\n", "")
     assert still(text, WANTED + ["python a:b c:d"]) == text
     assert len(faults_of(found, listed(text.replace("debt body", "so body")))) == 1
-    print("1 passed, 0 failed")
 
 
-def main(words):
-    """Takes the command line; answers the exit status."""
-    if words == ["--self-check"]:
+def update():
+    """Takes what is gone off the list."""
+    text = LIST.read_text(encoding="utf-8")
+    LIST.write_text(still(text, found_twice(sources.texts_of(TOP))), encoding="utf-8")
+
+
+class DuplicateTests(Test):
+    """Nothing new is duplicated."""
+
+    def test_self_check(self):
+        """Planted duplicates are found, and a list is compared with them."""
         self_check()
-        return 0
-    if words not in ([], ["--write"]):
-        print(__doc__, file=sys.stderr)
-        return 2
-    found, text = found_twice(sources.texts_of(TOP)), LIST.read_text(encoding="utf-8")
-    if words:
-        text = still(text, found)
-        LIST.write_text(text, encoding="utf-8")
-    faults = faults_of(found, listed(text))
-    for fault in faults:
-        print(f"tests/twice: {fault}")
-    print(f"{len(found) - sum('stands twice: ' in it for it in faults)} passed, {len(faults)} failed")
-    return 1 if faults or not found else 0
+
+    def test_sources(self):
+        """What is duplicated is listed in `duplicates.list`, and what is listed is duplicated."""
+        found = found_twice(sources.texts_of(TOP))
+        self.see(faults_of(found, listed(LIST.read_text(encoding="utf-8"))), max(len(found), 1))

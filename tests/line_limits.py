@@ -1,9 +1,9 @@
 """Counts what is too wide or too long to be read, and sees that there is never more of it.
 
-    tests/walls                 over the sources as they stand
-    tests/walls --write         writes lower counts to tests/walls.counts; it writes no higher one
-    tests/walls --say           each such line and file, the worst first
-    tests/walls --self-check    sees that each kind is counted, and that a count that rises fails
+    tests/found                 over the sources as they stand
+    tests/update_lists         writes lower counts to tests/found.counts; it writes no higher one
+    tests/found --say           each such line and file, the worst first
+    tests/found --self-check    sees that each kind is counted, and that a count that rises fails
 
 What is counted, for each crate, and for `tools/` and `tests/`:
 
@@ -13,21 +13,20 @@ What is counted, for each crate, and for `tools/` and `tests/`:
 - `proofs`: files of proofs over 300 lines;
 - `files`: files of code over 300 lines.
 
-Imports and what `rt` writes by itself (`specs/declared/`) don't count. tests/walls.counts has what there
+Imports and what `rt` writes by itself (`specs/declared/`) don't count. tests/found.counts has what there
 was when this check was made, less what was mended since; what isn't in it is 0. A higher count fails,
 and so does a lower one until it is written down, so that it can't rise again. The last line is
 `N passed, M failed`.
 """
 
 import re
-import sys
 from collections import Counter, defaultdict
-from pathlib import Path
 
 from tests.support import sources
 from irvtools.paths import TOP
+from tests.support.harness import Test
 
-COUNTS = TOP / "tests/walls.counts"
+COUNTS = TOP / "tests/found.counts"
 KINDS = ("wide", "wider", "proof-lines", "proofs", "files")
 CLAUSE_WIDTH, WIDEST_CLAUSE, PROOF_WIDTH, MOST_LINES = 100, 120, 250, 300
 CLAUSE = re.compile(r" *(?:requires|ensures|lends|invariant|ghost)\b(?! use).*\{")
@@ -48,7 +47,7 @@ def clause_lines(lines):
             depth = max(0, depth + line.count("{") - line.count("}"))
 
 
-def walls_of(file, text):
+def found_of(file, text):
     """What is too wide or too long in a file: its kind, the number of the line, how wide or long."""
     lines = text.rstrip("\n").split("\n")
     is_proof, is_code = "/proofs/" in file, not file.endswith(".antt")
@@ -63,10 +62,10 @@ def walls_of(file, text):
         yield "proofs" if is_proof else "files", 1, len(lines)
 
 
-def all_walls(texts):
+def over_limit(texts):
     """All of them: where it is counted, its kind, its file, its line, and how wide or long it is."""
     return [(place_of(file), kind, file, number, size) for file, text in texts.items()
-            if "/declared/" not in file for kind, number, size in walls_of(file, text)]
+            if "/declared/" not in file for kind, number, size in found_of(file, text)]
 
 
 def scripts_of(root):
@@ -76,9 +75,9 @@ def scripts_of(root):
     return {str(path.relative_to(root)): path.read_text(encoding="utf-8") for path in [*found, root / "irv"]}
 
 
-def counted(walls):
+def counted(found):
     """How many there are of each kind at each place."""
-    return Counter((place, kind) for place, kind, *_ in walls)
+    return Counter((place, kind) for place, kind, *_ in found)
 
 
 def read_counts(text):
@@ -94,7 +93,7 @@ def written(counts):
     for place, kind in sorted(counts, key=lambda it: (it[0], KINDS.index(it[1]))):
         if counts[place, kind]:
             rows[place].append(f"{kind}={counts[place, kind]}")
-    return "# tests/walls says what is counted. These numbers may only fall.\n" + "".join(
+    return "# tests/found says what is counted. These numbers may only fall.\n" + "".join(
         f"{place} {' '.join(row)}\n" for place, row in rows.items())
 
 
@@ -105,7 +104,7 @@ def faults_of(now, allowed):
         if have > most:
             yield f"{place}: {have} {kind}, where there were {most}"
         elif have < most:
-            yield f"{place}: {have} {kind}, fewer than the {most} written down (tests/walls --write)"
+            yield f"{place}: {have} {kind}, fewer than the {most} written down (tests/update_lists)"
 
 
 def lowered(now, allowed):
@@ -129,7 +128,7 @@ def self_check():
     }
     wanted = {("a", "wide"): 2, ("a", "wider"): 1, ("a", "proof-lines"): 2, ("a", "proofs"): 1,
               ("b", "files"): 1, ("tools", "files"): 1}
-    now = counted(all_walls(texts))
+    now = counted(over_limit(texts))
     assert now == Counter(wanted), now
     assert read_counts(written(now)) == now, written(now)
     assert list(faults_of(now, now)) == []
@@ -138,28 +137,23 @@ def self_check():
         assert len(list(faults_of(now, less))) == 1, key
         assert lowered(now, less)[key] == wanted[key] - 1, key
         assert len(list(faults_of(less, now))) == 1 and lowered(less, now) == less, key
-    print("1 passed, 0 failed")
 
 
-def main(words):
-    """Takes the command line; answers the exit status."""
-    if words == ["--self-check"]:
+def update():
+    """Lowers the counts to what there is now."""
+    now = counted(over_limit(sources.texts_of(TOP) | scripts_of(TOP)))
+    COUNTS.write_text(written(lowered(now, read_counts(COUNTS.read_text(encoding="utf-8")))), encoding="utf-8")
+
+
+class LineLimitTests(Test):
+    """No line is wider and no file longer than the limits, but for those that are counted."""
+
+    def test_self_check(self):
+        """Each kind is counted where it should be."""
         self_check()
-        return 0
-    if words not in ([], ["--write"], ["--say"]):
-        print(__doc__, file=sys.stderr)
-        return 2
-    walls = all_walls(sources.texts_of(TOP) | scripts_of(TOP))
-    if words == ["--say"]:
-        for _, kind, file, number, size in sorted(walls, key=lambda it: (KINDS.index(it[1]), -it[4])):
-            print(f"{kind} {size} {file}:{number}")
-        return 0
-    now, allowed = counted(walls), read_counts(COUNTS.read_text(encoding="utf-8"))
-    if words:
-        allowed = lowered(now, allowed)
-        COUNTS.write_text(written(allowed), encoding="utf-8")
-    faults = list(faults_of(now, allowed))
-    for fault in faults:
-        print(f"tests/walls: {fault}")
-    print(f"{len(set(now) | set(allowed)) - len(faults)} passed, {len(faults)} failed")
-    return 1 if faults or not walls else 0
+
+    def test_sources(self):
+        """There are as many as `line_limits.counts` says."""
+        now = counted(over_limit(sources.texts_of(TOP) | scripts_of(TOP)))
+        allowed = read_counts(COUNTS.read_text(encoding="utf-8"))
+        self.see(faults_of(now, allowed), max(len(set(now) | set(allowed)), 1))

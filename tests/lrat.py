@@ -1,34 +1,25 @@
-"""Has the certificates of the worked plants, written as LRAT, judged by a checker of LRAT.
+"""Tests of `tools/lrat` and `tools/audit`: certificates of worked plants, judged by a checker of LRAT.
 
-    tests/lrat PROGRAM         prints each failure, and at last `N passed, M failed`
-    tests/lrat --self-check    tries the checker alone, on refutations that were made by hand
-
-The plants are those of examples/ that are safe, and lines of 1, 2 and 4 made stations. `tools/lrat`
-writes their queries, and tests/lib/lrat.py judges each. Then a digit of a refutation is changed, one
-at a time, at places all over it: that has to be refused, or, in the rare case that the change leaves
-a refutation, to be what the checker of certificates says too. `tools/audit` is tried on the same
-certificates, as they are and with a hint changed.
+The plants are the safe ones of `examples/`, and lines of 1, 2 and 4 generated stations. Each query that
+`tools/lrat` writes has to be a refutation. Then a digit is changed, one at a time, all over it: the checker has
+to refuse it, or, in the rare case that the change leaves a refutation, the checker of certificates has to agree.
 """
 
 import subprocess
-import sys
 import tempfile
-from concurrent.futures import ThreadPoolExecutor
 from pathlib import Path
-
-
 from tests.support import case_files
 from irvtools.checkers import certificate
 from irvtools.generators import configurations
 from irvtools.checkers import dimacs
 from irvtools.checkers import lrat
 from irvtools.paths import TOP
+from tests.support.harness import ProgramTest, Test
 
 EXAMPLES = ("line-with-boards", "platforms", "station", "station-protected", "terminus-throat")
 STATIONS = (1, 2, 4)
 # of a refutation with many steps few changes are tried, since each is judged whole
 CHANGES, MOST_STEPS, FEWER_CHANGES = 12, 200, 2
-AT_ONCE = 4
 
 # every assignment of two variables breaks a clause
 CNF = "p cnf 2 4\n1 2 0\n1 -2 0\n-1 2 0\n-1 -2 0\n"
@@ -149,33 +140,33 @@ def plant_faults(program, plant):
     return faults, len(found), sum(part[1] for part in found), sum(part[2] for part in found)
 
 
-def check_plants(program):
-    """Checks each plant; answers the exit status."""
+class CheckerTests(Test):
+    """The checker alone, on hand-written refutations."""
+
+    def test_self_check(self):
+        """The hand-written texts have their answers."""
+        self.see(self_check(), len(BY_HAND))
+
+
+class LratTests(ProgramTest):
+    """The certificates of worked plants."""
+
+    def see_plant(self, plant):
+        """Checks a plant's queries; at least nine of ten changed digits are refused."""
+        faults, queries, tried, refused = plant_faults(self.program, plant)
+        if 10 * refused < 9 * tried:
+            faults.append(f"only {refused} of {tried} changed digits are refused")
+        self.see(faults, max(queries, 1))
+
+
+def add_plants():
+    """Adds a test for each plant."""
     plants = {name: (case_files.EXAMPLES / f"{name}.json").read_bytes() for name in EXAMPLES}
     plants |= {f"stations {count}": configurations.made("stations", str(count)) for count in STATIONS}
-    failed = tried = refused = 0
-    with ThreadPoolExecutor(AT_ONCE) as pool:
-        found = pool.map(lambda plant: plant_faults(program, plant), plants.values())
-        for name, (faults, queries, changes, refusals) in zip(plants, found):
-            failed, tried, refused = failed + bool(faults), tried + changes, refused + refusals
-            for fault in faults:
-                print(f"FAILED {name}: {fault}")
-            print(f"{name}: {queries} queries")
-    well = 10 * refused >= 9 * tried
-    print(f"{refused} of {tried} changed digits are refused{'' if well else ', and that is too few'}")
-    print(f"{len(plants) - failed} passed, {failed} failed")
-    return 0 if well and not failed else 1
+    for name, plant in plants.items():
+        def test(self, plant=plant):
+            self.see_plant(plant)
+        setattr(LratTests, "test_" + name.replace("-", "_").replace(" ", "_"), test)
 
 
-def main(words):
-    """Takes the command line; answers the exit status."""
-    if len(words) != 1 or words[0].startswith("--") and words != ["--self-check"]:
-        print(__doc__, file=sys.stderr)
-        return 2
-    faults = list(self_check())
-    for fault in faults:
-        print(f"FAILED {fault}")
-    if words == ["--self-check"] or faults:
-        print(f"{len(BY_HAND) - len(faults)} passed, {len(faults)} failed")
-        return 1 if faults else 0
-    return check_plants(Path(words[0]).resolve())
+add_plants()

@@ -1,19 +1,17 @@
-"""Tries `tools/wrong_bodies` in a small copy of a repository, with a toolchain that only pretends.
+"""Tests of `tools/mutants`, in a small copy of a repository with a fake toolchain.
 
-    tests/wrong_bodies        prints each failure, and at last `N passed, M failed`
-
-The pretended prover calls a function wrong whose body has the word `wrong`, and one that calls such a
-function unproved. What the tool does of itself is what is tried: which edits it tries together, what
-it takes for a refusal and what for a bad edit, and what it doesn't try again.
+The fake prover calls a function wrong whose body has the word `wrong`, and one that calls such a function
+unproved. The tests are about the tool: which mutants it tries together, what it takes for a refusal and what
+for a bad edit, and what it does not try again.
 """
 
 import os
 import shutil
 import subprocess
-import sys
 import tempfile
 from pathlib import Path
 from irvtools.paths import TOP
+from tests.support.harness import Test
 
 
 RT = """#!/usr/bin/env bash
@@ -95,7 +93,7 @@ def lay_out(top):
     shutil.copytree(TOP / "tools", top / "tools", ignore=shutil.ignore_patterns("__pycache__"))
 
 
-def write(top, folder="wrong-bodies", **edits):
+def write(top, folder="mutants", **edits):
     """Writes edits of `high`, each by its old and its new text."""
     (top / "crates/high" / folder).mkdir(exist_ok=True)
     for name, (old, new) in edits.items():
@@ -108,7 +106,7 @@ def call(top, *words):
     (top / "calls").write_text("")
     environment = dict(os.environ, PATH=f"{top}/bin:{os.environ['PATH']}",
                        XDG_CACHE_HOME=str(top / "cache"))
-    done = subprocess.run([top / "tools/wrong_bodies", *words], env=environment,
+    done = subprocess.run([top / "tools/mutants", *words], env=environment,
                           stdout=subprocess.PIPE, stderr=subprocess.STDOUT, text=True)
     checks = [line for line in (top / "calls").read_text().splitlines() if line.startswith("check")]
     return done.stdout.splitlines(), done.returncode, checks
@@ -118,7 +116,7 @@ FIRST, SECOND, THIRD = ("    1", "    wrong"), ("first() + 1", "wrong"), ("secon
 
 
 def tries_together(top):
-    """Wrong bodies of three functions are refused by one check."""
+    """Mutants of three functions are refused by one check."""
     write(top, a=FIRST, b=SECOND, c=THIRD)
     lines, status, checks = call(top)
     return (lines[-1], status, checks) == ("3 passed, 0 failed", 0, ["check first second third"])
@@ -132,7 +130,7 @@ def tries_by_itself(top):
 
 
 def tries_one_function_in_two_checks(top):
-    """Two wrong bodies of one function don't share a check."""
+    """Two mutants of one function don't share a check."""
     write(top, a=FIRST, b=("    1", "    wrong + 1"), c=SECOND)
     return call(top)[1:] == (0, ["check first second", "check first"])
 
@@ -151,7 +149,7 @@ def lets_none_through(top):
             and any(line.startswith("high/b: LET THROUGH") for line in lines))
 
 
-def caller_of_a_wrong_body_is_not_refused(top):
+def caller_of_a_mutant_is_not_refused(top):
     """One that isn't proved only for what it calls is tried by itself, and let through."""
     write(top, a=FIRST, b=("first() + 1", "1 + first()"))
     lines, status, checks = call(top)
@@ -189,7 +187,7 @@ def others_see_a_constant(top):
 
 def refuses_what_an_edit_adds(top):
     """A function that the edit adds is its own too: where that isn't proved, the edit is refused."""
-    path = top / "crates/high/wrong-bodies/a.edit"
+    path = top / "crates/high/mutants/a.edit"
     path.parent.mkdir()
     path.write_text("file: src/lib.rt\nold: const LIMIT: u8 = 1;\n"
                     "new: fn helper() -> u8 { wrong } const LIMIT: u8 = 1;\n"
@@ -242,20 +240,27 @@ def passes_over(top):
     return (status, lines[-1], checks) == (1, "0 passed, 1 failed", []) and "BAD EDIT" in lines[0]
 
 
-def main():
-    """Tries each; answers the exit status."""
-    failed = 0
-    trials = (tries_together, tries_by_itself, tries_one_function_in_two_checks,
+CHECKS = (tries_together, tries_by_itself, tries_one_function_in_two_checks,
               tries_apart_what_hides_another, lets_none_through,
-              caller_of_a_wrong_body_is_not_refused, unread_spoils_no_other,
+              caller_of_a_mutant_is_not_refused, unread_spoils_no_other,
               names_gone_show_nothing, reads_what_is_said_of_recursion, others_see_a_constant,
               refuses_what_an_edit_adds, applies_once, tries_nothing_twice, names_what_there_is,
               wants_proved_libraries, passes_over)
-    for trial in trials:
-        with tempfile.TemporaryDirectory(prefix="irv-wrong-bodies-trial-") as folder:
-            lay_out(Path(folder))
-            if not trial(Path(folder)):
-                failed += 1
-                print(f"FAILED {trial.__name__}: {trial.__doc__}")
-    print(f"{len(trials) - failed} passed, {failed} failed")
-    return 1 if failed else 0
+
+
+class MutantToolTests(Test):
+    """The tool over the small repository."""
+
+
+def add_checks():
+    """Adds a test for each check, which returns whether it is well."""
+    for check in CHECKS:
+        def test(self, check=check):
+            with tempfile.TemporaryDirectory(prefix="irv-mutants-test-") as folder:
+                lay_out(Path(folder))
+                self.assertTrue(check(Path(folder)), check.__doc__)
+        test.__doc__ = check.__doc__
+        setattr(MutantToolTests, "test_" + check.__name__, test)
+
+
+add_checks()

@@ -10,16 +10,13 @@ have to be those of tests/plants, or of as many sections, points and routes as t
 """
 
 import json
-import sys
 import xml.etree.ElementTree
-from pathlib import Path
-
-
 from irvtools.generators import double_track
 from irvtools.performance import measurements
 from irvtools.performance import chart
 from irvtools.performance import tables
 from irvtools.paths import TOP
+from tests.support.harness import Test
 
 MADE_UP = """\
 machine: A Processor, 2 processors, 8 GiB of memory
@@ -179,13 +176,17 @@ def line_faults():
         yield "words of lines are read wrongly"
 
 
-def main():
-    """Tries all; answers the exit status."""
-    passed = failed = 0
-    for trial in (table_faults, several_faults, refusal_faults, picture_faults, repository_faults, line_faults):
-        faults = list(trial())
-        passed, failed = passed + (not faults), failed + bool(faults)
-        for fault in faults:
-            print(f"FAILED {trial.__name__}: {fault}")
-    print(f"{passed} passed, {failed} failed")
-    return 1 if failed else 0
+class PerformanceTests(Test):
+    """What makes the performance page, and that the page is made of what was measured."""
+
+
+def add_checks():
+    """Adds a test for each check."""
+    for check in (table_faults, several_faults, refusal_faults, picture_faults, repository_faults, line_faults):
+        def test(self, check=check):
+            self.see(check())
+        test.__doc__ = check.__doc__
+        setattr(PerformanceTests, "test_" + check.__name__.removesuffix("_faults"), test)
+
+
+add_checks()

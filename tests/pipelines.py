@@ -16,22 +16,21 @@ It prints each failure, and at last `N passed, M failed`.
 import collections
 import json
 import random
-import sys
 import tempfile
 import threading
 from concurrent.futures import ThreadPoolExecutor
 from pathlib import Path
-
-
 from tests.support import case_files
 from irvtools.generators import configurations
 from tests.support import drive_model
 from tests.support import random_networks
 from tests.support import program as programs
 from irvtools.generators import route_tables
+from tests.support.harness import ProgramTest
 
 AT_ONCE = 4
 NETWORKS = 60
+MANY_NETWORKS = 10000
 SCENES = 8              # for each plant
 MOST_COMMANDS = 24
 LONG_LINE, LONG_SCENE = 60, 900     # sections, and trains that run through them one after another
@@ -203,23 +202,17 @@ def tasks(calls, count, counted):
         yield f"network {seed}", plant_faults(calls, random_networks.network(seed)[0], seed, counted)
 
 
-def main(words):
-    """Takes the command line; answers the exit status."""
-    if not words or words[0].startswith("--") or not all(word.isdigit() for word in words[1:2]):
-        print(__doc__, file=sys.stderr)
-        return 2
-    counted, tried, failed = collections.Counter(), 0, 0
-    with tempfile.TemporaryDirectory(prefix="irv-together-") as folder:
-        calls = Calls(Path(words[0]).resolve(), Path(folder))
-        every = list(tasks(calls, int((words[1:2] or [NETWORKS])[0]), counted))
-        with ThreadPoolExecutor(AT_ONCE) as pool:
-            found = pool.map(lambda task: list(task[1]), every)
-            for (name, _), faults in zip(every, found):
-                tried, failed = tried + 1, failed + bool(faults)
-                for fault in faults:
-                    print(f"FAILED {name}: {fault}")
-    rests = sorted(f"{counted[kind]} {kind}" for kind in drive_model.STATUS_OF)
-    well = all(counted[kind] for kind in drive_model.STATUS_OF)
-    print(f"drives: {', '.join(rests)}{'' if well else ': a kind of rest is missing'}")
-    print(f"{tried - failed} passed, {failed} failed")
-    return 0 if well and tried and not failed else 1
+class PipelineTests(ProgramTest):
+    """Commands of which one reads what another prints."""
+
+    def test_tasks(self):
+        """Each task is well, and drives come to each kind of rest."""
+        counted, faults = collections.Counter(), []
+        with tempfile.TemporaryDirectory(prefix="irv-pipelines-") as folder:
+            every = list(tasks(Calls(self.program, Path(folder)), MANY_NETWORKS if self.is_long else NETWORKS,
+                               counted))
+            with ThreadPoolExecutor(AT_ONCE) as pool:
+                for (name, _), found in zip(every, pool.map(lambda task: list(task[1]), every)):
+                    faults += [f"{name}: {fault}" for fault in found]
+        faults += [f"no drive came to {kind}" for kind in drive_model.STATUS_OF if not counted[kind]]
+        self.see(faults, len(every))

@@ -1,25 +1,18 @@
-"""Has texts judged that refute the formula of a query, or were changed so that they may not.
+"""Tests of `rup`: refutations from the steps of certificates, and changes of them.
 
-    tests/rup PROGRAM         prints each failure, and at last `N passed, M failed`
-    tests/rup --self-check    tries the checker alone, on texts that were made by hand
-
-The texts are the clauses of the certificates that verify wrote, without their hints; each of them
-refutes its query. Then they are changed by chance, the same at each run: a literal's sign, an item left
-out, the text cut, and more. What is answered has to be what lib/rup.py finds over the formula that
-`irv export` prints, with the number of the item. tests/try_rup has the texts of other solvers judged.
+Each answer has to be what the independent checker of refutations finds. `tests/fuzz_rup` tries many more,
+and what other solvers write.
 """
 
-import sys
 import tempfile
 from concurrent.futures import ThreadPoolExecutor
 from pathlib import Path
-
-
 from tests.support import case_files
 from irvtools.checkers import certificate
 from irvtools.checkers import refutations
 from irvtools.checkers import rup
 from tests.support import handmade_certificates
+from tests.support.harness import ProgramTest, Test
 
 # each plant with the number of changes of each of its texts
 PLANTS = (("line-with-boards", 60), ("platforms", 15), ("station", 15))
@@ -85,22 +78,33 @@ def plant_faults(program, name, count, folder):
                 if wanted != got or (other == text and not wanted.startswith("refuted")):
                     faults.append(f"{name}, {kind} {number}: wanted {wanted}, answered {got} "
                                   f"to {other[-200:]!r}")
-    print(f"{name}: {tried} texts, {refuted} of them refute")
     return faults, tried
 
 
-def main(words):
-    """Takes the command line; answers the exit status."""
-    if len(words) != 1 or words[0].startswith("--") and words != ["--self-check"]:
-        print(__doc__, file=sys.stderr)
-        return 2
-    faults, tried = list(self_check()), len(BY_HAND)
-    if words != ["--self-check"]:
-        for name, count in PLANTS:
-            with tempfile.TemporaryDirectory(prefix="irv-rup-") as folder:
-                found, number = plant_faults(Path(words[0]).resolve(), name, count, Path(folder))
-            faults, tried = faults + found, tried + number
-    for fault in faults:
-        print(f"FAILED {fault}")
-    print(f"{tried - len(faults)} passed, {len(faults)} failed")
-    return 1 if faults else 0
+class CheckerTests(Test):
+    """The checker alone, on hand-written refutations."""
+
+    def test_self_check(self):
+        """The hand-written texts have their answers."""
+        self.see(self_check(), len(BY_HAND))
+
+
+class RupTests(ProgramTest):
+    """The program beside the checker, on changed refutations."""
+
+    def see_plant(self, name, count):
+        """Compares the answers to the changes of a plant's refutations."""
+        with tempfile.TemporaryDirectory(prefix="irv-rup-") as folder:
+            faults, tried = plant_faults(self.program, name, count, Path(folder))
+        self.see(faults, tried)
+
+
+def add_plants():
+    """Adds a test for each plant."""
+    for name, count in PLANTS:
+        def test(self, name=name, count=count):
+            self.see_plant(name, count)
+        setattr(RupTests, "test_" + name.replace("-", "_"), test)
+
+
+add_plants()

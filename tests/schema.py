@@ -1,23 +1,15 @@
-"""Tries docs/configuration.schema.json against every configuration of tests/cases and examples/.
+"""Tests of the schema of a configuration, on every configuration of `tests/cases` and `examples/`.
 
-    tests/schema        prints each failure, and at last `N passed, M failed`
-
-The schema has to accept what the form of a configuration accepts, and to refuse what breaks one of the
-rules F3 to F6, but for the few cases that are listed below, of which no schema can say what is wrong.
-It is judged by tests/lib/schema.py, and by the library `jsonschema` too where that is installed and
-the configuration isn't large.
+The schema has to accept what the rules F accept, and to refuse what breaks one of the rules F3 to F6, except
+for the few cases listed below, which no schema can express. Debian's python3-jsonschema judges it.
 """
 
 import json
 import re
-import sys
-from pathlib import Path
-
-
 from tests.support import case_files
 from tests.cases import member_cases
-from tests.support import schema
 from irvtools.paths import TOP
+from tests.support.harness import Test
 
 SCHEMA = json.loads((TOP / "docs/configuration.schema.json").read_text(encoding="utf-8"))
 
@@ -27,20 +19,7 @@ UNSAID = {"version 1.0", "version 1e0"}
 # commands that read no configuration
 READ_NONE = ("make", "demo")
 
-MOST_BYTES = 20000
-
-
-def judges():
-    """What judges a value by the schema: by name, whether it is accepted, and of how many bytes."""
-    found = {"tests/lib/schema.py": (lambda value: schema.accepts(SCHEMA, value), sys.maxsize)}
-    try:
-        import jsonschema
-    except ImportError:
-        print("skipped: the library jsonschema isn't here, so one judge is asked")
-    else:
-        jsonschema.Draft7Validator.check_schema(SCHEMA)
-        found["jsonschema"] = jsonschema.Draft7Validator(SCHEMA).is_valid, MOST_BYTES
-    return found
+MOST_BYTES = 20000          # the library takes long for more
 
 
 def rule_of_form(case):
@@ -73,29 +52,30 @@ def all_cases():
     yield third
 
 
-def faults(case, rule, judged):
-    """What is wrong with the schema's answer to a case."""
-    value = json.loads(case.conf)
+def fault_of(case, rule, accepts):
+    """Returns what is wrong with the schema's answer to a case, or None."""
     wanted = rule == "right" or case.name in UNSAID
-    for name, (accepts, most) in judged.items():
-        if len(case.conf) <= most and accepts(value) != wanted:
-            yield f"{name} {'refuses' if wanted else 'accepts'} it, and the form says {rule}"
+    if accepts(json.loads(case.conf)) != wanted:
+        return f"{case.where}: {case.name}: the schema {'refuses' if wanted else 'accepts'} it, the rules say {rule}"
+    return None
 
 
-def main():
-    """Tries all; answers the exit status."""
-    judged, told, failed = judges(), {}, 0
-    for case in all_cases():
-        rule = rule_of_form(case)
-        if rule in (None, "F1", "F2"):
-            continue
-        told[rule] = told.get(rule, 0) + 1
-        found = list(faults(case, rule, judged))
-        failed += bool(found)
-        for fault in found:
-            print(f"FAILED {case.where}: {case.name}: {fault}")
-    few = [rule for rule in ("right", "F3", "F4", "F5", "F6") if told.get(rule, 0) < 5]
-    if few:
-        print(f"FAILED: hardly a case is {' or '.join(few)}")
-    print(f"{sum(told.values()) - failed} passed, {failed} failed")
-    return 1 if failed or few else 0
+class SchemaTests(Test):
+    """The schema beside the rules F."""
+
+    def test_cases(self):
+        """The schema answers each case as the rules do."""
+        try:
+            import jsonschema
+        except ImportError:
+            self.skipTest("the library jsonschema is not installed (python3-jsonschema)")
+        jsonschema.Draft7Validator.check_schema(SCHEMA)
+        accepts, told, faults = jsonschema.Draft7Validator(SCHEMA).is_valid, {}, []
+        for case in all_cases():
+            rule = rule_of_form(case)
+            if rule not in (None, "F1", "F2") and len(case.conf) <= MOST_BYTES:
+                told[rule] = told.get(rule, 0) + 1
+                faults.append(fault_of(case, rule, accepts))
+        faults += [f"hardly a case is {rule}" for rule in ("right", "F3", "F4", "F5", "F6")
+                   if told.get(rule, 0) < 5]
+        self.see(filter(None, faults), sum(told.values()))

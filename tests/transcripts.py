@@ -1,28 +1,22 @@
-"""Runs each session of the documents over the built program, and compares what is printed.
+"""Runs each transcript of the documents over the program, and compares what is printed.
 
-    tests/sessions PROGRAM [DOCUMENT]..   prints each failure, and at last `N passed, M failed`
-    tests/sessions --self-check           sees that wrong documents are refused; runs no program
-
-tests/lib/sessions.py says what a session is. Each document has a folder of its own, with copies of
-examples/ and of the tools, where `./irv` is PROGRAM. A session that calls a program which isn't on
-this machine, as another solver, is left out, and that is said. The status is 0 only where a command
-ran and all passed.
+`support/transcripts.py` says what a transcript is. Each document has a directory of its own, with copies of
+`examples/` and of the tools, in which `./irv` is the program. A transcript that calls a program which is not
+installed, such as another solver, is skipped.
 """
 
+import re
 import shlex
 import shutil
-import sys
 import tempfile
 from pathlib import Path
-
-
 from tests.support import transcripts
 from irvtools.paths import TOP
+from tests.support.harness import ProgramTest, Test
 
-DOCUMENTS = "README.md", "docs/COMMANDS.md", "docs/FORMATS.md"
-PARTS = "examples", "tools", "tests/lib"
+PARTS = "examples", "tools"
 # documents by hand, with how many commands pass, fail and are left out
-TRIALS = [
+HAND_WRITTEN = [
     ("```\n$ echo a; echo b\na\nb\n```\n", 1, 0, 0),
     ("```\n$ echo a\nb\n```\n", 0, 1, 0),
     ("```\n$ echo a\n```\n", 0, 1, 0),
@@ -38,19 +32,6 @@ TRIALS = [
 ]
 
 
-def self_check():
-    """Runs the documents by hand; answers the exit status."""
-    wrong = 0
-    for text, *wanted in TRIALS:
-        with tempfile.TemporaryDirectory(prefix="irv-sessions-") as folder:
-            passed, faults, left_out = transcripts.run(text, folder)
-        if [passed, len(faults), len(left_out)] != wanted:
-            wrong += 1
-            print(f"FAILED {text!r}: {passed, faults, left_out}")
-    print(f"{len(TRIALS) - wrong} passed, {wrong} failed")
-    return 1 if wrong else 0
-
-
 def lay_out(folder, program):
     """Lays out the folder in which the sessions of a document are run."""
     for part in PARTS:
@@ -60,24 +41,44 @@ def lay_out(folder, program):
     launcher.chmod(0o755)
 
 
-def main(words):
-    """Takes the words; answers the exit status."""
-    if words == ["--self-check"]:
-        return self_check()
-    if not words or words[0].startswith("-"):
-        print(__doc__.split("\n\n")[1], file=sys.stderr)
-        return 2
-    program, passed, failed = Path(words[0]).resolve(), 0, 0
-    for name in words[1:] or DOCUMENTS:
-        with tempfile.TemporaryDirectory(prefix="irv-sessions-") as folder:
+class ReaderTests(Test):
+    """The reader of transcripts alone."""
+
+    def test_self_check(self):
+        """Hand-written documents have as many commands that pass, fail and are skipped."""
+        faults = []
+        for text, *wanted in HAND_WRITTEN:
+            with tempfile.TemporaryDirectory(prefix="irv-transcripts-") as folder:
+                passed, failed, left_out = transcripts.run(text, folder)
+            if [passed, len(failed), len(left_out)] != wanted:
+                faults.append(f"{text!r}: {passed, failed, left_out}")
+        self.see(faults, len(HAND_WRITTEN))
+
+
+class TranscriptTests(ProgramTest):
+    """The transcripts of the documents."""
+
+    def see_document(self, name):
+        """Runs the transcripts of a document."""
+        with tempfile.TemporaryDirectory(prefix="irv-transcripts-") as folder:
             here = Path(folder) / "irv"
             here.mkdir()
-            lay_out(here, program)
-            well, faults, left_out = transcripts.run((TOP / name).read_text(encoding="utf-8"), here)
-        passed, failed = passed + well, failed + len(faults)
-        for fault in faults:
-            print(f"FAILED {name}, {fault}", end="")
-        for why in left_out:
-            print(f"left out: {name}, {why}")
-    print(f"{passed} passed, {failed} failed")
-    return 0 if passed and not failed else 1
+            lay_out(here, self.program)
+            passed, faults, left_out = transcripts.run((TOP / name).read_text(encoding="utf-8"), here)
+        self.see(faults, passed)
+        if left_out:
+            self.skipTest(f"{len(left_out)} of {passed + len(left_out)} commands: {left_out[0]}")
+
+
+def add_documents():
+    """Adds a test for each document that has a transcript."""
+    for path in sorted(TOP.glob("docs/**/*.md")) + [TOP / "README.md", TOP / "CONTRIBUTING.md"]:
+        if path.is_file() and re.search(r"^```\w*\n(?:[^`].*\n)*?\$ ", path.read_text(encoding="utf-8"), re.M):
+            name = path.relative_to(TOP).as_posix()
+
+            def test(self, name=name):
+                self.see_document(name)
+            setattr(TranscriptTests, "test_" + re.sub(r"\W", "_", name.removesuffix(".md")), test)
+
+
+add_documents()

@@ -6,6 +6,7 @@ import xml.etree.ElementTree
 
 from tests.batch.workspace import differs, without_progress
 from irvtools.batch.report_verification import texts_of
+from tests.batch.workspace import batch_case
 
 # names that a shell, a page, or a table could take for something else
 NAMES = {"platforms.json": b"a 'quoted\" $(touch broken) name.json",
@@ -36,7 +37,7 @@ def fill(room):
     (room.folder / "questions.csv").write_text(WANTED, encoding="utf-8")
 
 
-def trial_names(room):
+def check_names(room):
     """Each answer is the one that the documents tell, whatever the names are; a page and JUnit show them as
     they are. A second call does nothing; one after a change does that alone."""
     fill(room)
@@ -145,4 +146,4 @@ def changes(room):
             yield f"{what} was changed: {status} {lines}"
 
 
-TRIALS = (trial_names,)
+FileNameTests = batch_case("FileNameTests", (check_names,))

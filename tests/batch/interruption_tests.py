@@ -9,12 +9,13 @@ import xml.etree.ElementTree
 from pathlib import Path
 
 from tests.batch.workspace import differs, done_line, run
+from tests.batch.workspace import batch_case
 
 LONG = 300              # seconds in which what is waited for comes, however loaded the machine is
 SMALL_DISK, LARGE_DISK = "2m", "64m"    # below the certificate of a terminus, and far above
 
 
-def trial_no_answer(room):
+def check_no_answer(room):
     """What is no answer is told as that, and the next call asks again; a certificate that is none is found."""
     room.add("platforms.json")
     words = ["--ask", "verify"]
@@ -35,7 +36,7 @@ def trial_no_answer(room):
                        ["platforms.json: verify: irv audit says rejected line 1, and accepted k=1 is told"])
 
 
-def trial_killed(room):
+def check_killed(room):
     """Where tools/batch is killed in the middle, the next call ends the work."""
     room.add("platforms.json")
     room.fake("wait")
@@ -54,7 +55,7 @@ def trial_killed(room):
         ("platforms.json", "check"): ("good", "clean"), ("platforms.json", "verify"): ("good", "safe k=1")}))
 
 
-def trial_full(room):
+def check_full(room):
     """Where the certificate can't be written, that is told, and the next call ends the work."""
     room.add("terminus-throat.json")
     checks, both = room.words("--ask", "check"), room.words("--ask", "check", "--ask", "verify")
@@ -66,7 +67,7 @@ def trial_full(room):
     yield from differs("afterwards", run(both).stdout, done_line(1, 1, 1, 1, room))
 
 
-def trial_worker_killed(room):
+def check_worker_killed(room):
     """Where a worker is killed in the middle, what it ran ends with it, the others go on, and the next call does
     its job alone."""
     room.add("platforms.json")
@@ -99,7 +100,7 @@ def small_disk(folder):
             run(["umount", str(folder)])
 
 
-def trial_full_disk(room):
+def check_full_disk(room):
     """On a full disk that is told, no half of a result is taken, and once there is room the next call ends the
     work."""
     room.add("terminus-throat.json")
@@ -119,4 +120,4 @@ def trial_full_disk(room):
         yield from differs("verified", room.verify()[0], 0)
 
 
-TRIALS = (trial_no_answer, trial_killed, trial_worker_killed, trial_full, trial_full_disk)
+InterruptionTests = batch_case("InterruptionTests", (check_no_answer, check_killed, check_worker_killed, check_full, check_full_disk))

@@ -6,6 +6,7 @@ import json
 
 from tests.batch.workspace import EXAMPLES, differs, done_line
 from irvtools.batch.job_groups import SHORT_QUERIES
+from tests.batch.workspace import batch_case
 
 WANTS = ("--ask", "check", "--ask", "verify", "--ask", "audit")
 # six groups where one job is done at a time, each of a third of what is left: of 3, 2, 1, 1, 1 and 1
@@ -24,7 +25,7 @@ def keys_in(room):
     return set(json.loads((room.out / "report.json").read_bytes())["jobs"])
 
 
-def trial_lots(room):
+def check_lots(room):
     """Small ones come together into groups, with the answers and the keys that each has by itself; where they are
     wanted apart, each job is one for Snakemake. A second call knows them, however they were done."""
     for name in ("platforms.json", "platforms-wrong-position.json", "three-sections.json"):
@@ -41,7 +42,7 @@ def trial_lots(room):
     yield from differs("the answers", (room.answers(), keys_in(room)), (found, keys))
 
 
-def trial_large_apart(room):
+def check_large_apart(room):
     """The jobs of one that fills a group are apart, so that Snakemake does them side by side; so are the queries of
     one that isn't short, beside a group of its other jobs."""
     room.add("platforms.json")
@@ -56,7 +57,7 @@ def trial_large_apart(room):
     yield from differs("queries", rules_in(room), {"several": 2, "export": 5, "solve": 5, "rup": 5, "verify_with": 1})
 
 
-def trial_lot_killed(room):
+def check_lot_killed(room):
     """Where the worker of a group is killed, what it had done stands, what was under way ended without a word, and
     the rest wasn't begun. The next call does what was under way apart, and the rest in groups."""
     platforms = (EXAMPLES / "platforms.json").read_bytes()
@@ -80,7 +81,7 @@ def trial_lot_killed(room):
     yield from differs("verified", room.verify()[0], 0)
 
 
-def trial_one_word(room):
+def check_one_word(room):
     """A single word for Snakemake may begin with a dash. Where nothing is done it says that nothing was begun."""
     room.add("platforms.json")
     done = room.call("--ask", "check", "--snakemake", "--dry-run")
@@ -88,4 +89,4 @@ def trial_one_word(room):
         ("platforms.json", "check"): ("no answer", "no answer: it wasn't begun")}))
 
 
-TRIALS = (trial_lots, trial_large_apart, trial_lot_killed, trial_one_word)
+JobGroupTests = batch_case("JobGroupTests", (check_lots, check_large_apart, check_lot_killed, check_one_word))

@@ -17,7 +17,6 @@ import os
 import random
 import resource
 import subprocess
-import sys
 import time
 
 from tests.batch.workspace import EXAMPLES, TOP, differs

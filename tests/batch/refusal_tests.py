@@ -4,9 +4,10 @@ import os
 import sys
 
 from tests.batch.workspace import EXAMPLES, differs, run
+from tests.batch.workspace import batch_case
 
 
-def trial_missing(room):
+def check_missing(room):
     """Without Snakemake it says in a sentence what to install, and makes nothing."""
     room.add("platforms.json")
     done = run([sys.executable, *room.words()], env={"PATH": str(room.folder)})
@@ -16,7 +17,7 @@ def trial_missing(room):
     yield from differs("made", room.out.exists(), False)
 
 
-def trial_refusals(room):
+def check_refusals(room):
     """Each refusal is told, and nothing is made."""
     room.add("platforms.json")
     outside = room.room / "outside.json"
@@ -53,4 +54,4 @@ def trial_refusals(room):
         listed.unlink(missing_ok=True)
 
 
-TRIALS = (trial_missing, trial_refusals)
+RefusalTests = batch_case("RefusalTests", (check_missing, check_refusals))

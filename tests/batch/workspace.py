@@ -6,8 +6,11 @@ import os
 import re
 import shutil
 import subprocess
+import sys
+import tempfile
 from pathlib import Path
 from irvtools.paths import TOP
+from tests.support.harness import SETTINGS, ProgramTest
 
 MANY = TOP / "tools/batch"
 EXAMPLES = TOP / "examples"
@@ -100,3 +103,21 @@ def done_line(configurations, good, done, known, room):
     """The line that a call prints at its end."""
     return (f"{configurations} configurations, {good} good; {done} jobs were done, {known} were known; "
             f"{room.out / 'index.html'}\n")
+
+
+WITHOUT_SNAKEMAKE = ("check_missing",)      # what is tested where Snakemake is not installed
+
+
+def batch_case(name, functions):
+    """Returns a test case class with a method for each function, which takes a room and yields faults."""
+    def method(function):
+        def test(self):
+            if not shutil.which("snakemake") and function.__name__ not in WITHOUT_SNAKEMAKE:
+                self.skipTest("Snakemake is not installed (Debian's package snakemake)")
+            with tempfile.TemporaryDirectory(prefix="irv-batch-") as room:
+                self.see(function(Room(room, SETTINGS.program)))
+        test.__doc__ = function.__doc__
+        return test
+
+    methods = {"test_" + each.__name__.removeprefix("check_"): method(each) for each in functions}
+    return type(name, (ProgramTest,), {**methods, "__module__": sys._getframe(1).f_globals["__name__"]})

@@ -1,37 +1,20 @@
-"""Runs the cases of tests/cases over the built program.
-
-    tests/run PROGRAM [WORD..]     runs the cases whose file or name has each WORD
-    tests/run --self-check         reads the cases and the examples, and runs nothing
-"""
+"""Runs the cases of `tests/cases/*.cases` over the program."""
 
 import concurrent.futures
-import json
 import os
 import shlex
-import sys
 import tempfile
 from pathlib import Path
-
-
 from tests.cases import answer_checks
 from tests.support import case_files
-from irvtools.checkers import certificate
 from irvtools.calls import first_lines
 from tests.cases import member_cases
 from tests.support import program as programs
 from tests.cases import well_formed
+from tests.support.harness import ProgramTest, Test
 
-THREADS = 4
+THREADS = 2
 SHOWN_BYTES = 2000
-
-
-def all_cases():
-    """Every case, those of the table of members at the end."""
-    cases = []
-    for path in sorted(case_files.CASES.glob("*.cases")):
-        cases.extend(case_files.read_case_file(path))
-    cases.extend(member_cases.member_cases())
-    return cases
 
 
 def lay_out(program, case, folder):
@@ -90,34 +73,38 @@ def fault_of(program, case):
     return "\n".join(f"    {fault}" for fault in faults)
 
 
-def run_cases(program, cases):
-    """Runs cases in parallel and prints the failures and the count; true where all pass."""
-    failed = 0
-    with concurrent.futures.ThreadPoolExecutor(THREADS) as pool:
-        faults = pool.map(lambda case: fault_of(program, case), cases)
-        for case, fault in zip(cases, faults):
-            if fault:
-                failed += 1
-                print(f"FAILED {case.where}: {case.name}\n    why: {case.why}\n{fault}")
-    print(f"{len(cases) - failed} passed, {failed} failed")
-    return failed == 0 and bool(cases)
+def cases_by_file():
+    """Returns every case, by the name of its file; those of the table of members are together."""
+    found = {path.stem: case_files.read_case_file(path) for path in sorted(case_files.CASES.glob("*.cases"))}
+    return {**found, "members": list(member_cases.member_cases())}
 
 
-def main(words):
-    """Takes the command line; answers the exit status."""
-    try:
-        cases = all_cases()
-        if words == ["--self-check"]:
-            told, count = well_formed.check(cases)
-            print(f"{told}\n{count} passed, 0 failed")
-            return 0
-    except (case_files.CaseError, certificate.CertificateError, json.JSONDecodeError) as fault:
-        print(f"tests/run: {fault}", file=sys.stderr)
-        return 2
-    if not words or words[0].startswith("--"):
-        print(__doc__, file=sys.stderr)
-        return 2
-    program = Path(words[0]).resolve()
-    wanted = [case for case in cases
-              if all(word in f"{case.where} {case.name}" for word in words[1:])]
-    return 0 if run_cases(program, wanted) else 1
+class WellFormedTests(Test):
+    """The cases by themselves."""
+
+    def test_well_formed(self):
+        """Each case and each example is well formed."""
+        cases = [case for each in cases_by_file().values() for case in each]
+        self.checks = well_formed.check(cases)[1]
+
+
+class CaseTests(ProgramTest):
+    """The cases over the program."""
+
+    def see_cases(self, cases):
+        """Runs cases, some at once."""
+        with concurrent.futures.ThreadPoolExecutor(THREADS) as pool:
+            found = list(pool.map(lambda case: fault_of(self.program, case), cases))
+        self.see([f"{case.where}: {case.name}\n    why: {case.why}\n{fault}"
+                  for case, fault in zip(cases, found) if fault], len(cases))
+
+
+def add_files():
+    """Adds a test for each file of cases."""
+    for name, cases in cases_by_file().items():
+        def test(self, cases=cases):
+            self.see_cases(cases)
+        setattr(CaseTests, "test_" + name, test)
+
+
+add_files()

@@ -1,32 +1,16 @@
-"""Tries tools/sheet.
-
-    tests/sheet PROGRAM           what takes seconds: for the gate
-    tests/sheet PROGRAM --long    besides: each random configuration through LibreOffice as files of its
-                                  own, and ten times as many tables compared
-    tests/sheet PROGRAM NAME..    only the trials that have one of these words in their names
-
-It prints each failure, and at last `N passed, M failed`. Where LibreOffice or a browser isn't there it
-says so.
-"""
+"""Tests of `irv --csv`."""
 
 import json
 import os
 import subprocess
-import sys
 import tempfile
 from pathlib import Path
 
-HERE = Path(__file__).resolve().parent
-TOP = HERE.parent
-for folder in (HERE / "lib", HERE / "page_lib", HERE / "sheet_lib", TOP / "tools/sheet_parts",
-               TOP / "tools/page_parts"):
-    sys.path.insert(0, str(folder))
 
 from tests.support import browser
 from tests.csv import comparison_cases
 from irvtools.csvtables import comparing
 from irvtools.generators import configurations
-from tests.support import each_trial
 from tests.csv import editing_cases
 from tests.support import markup_check
 from tests.csv import libreoffice
@@ -37,6 +21,8 @@ from tests.support import transcripts
 from tests.csv import handwritten_tables
 from tests.csv.tool_calls import call, compare_faults, refusal_faults
 from tests.csv.round_trips import call_faults, joined, office_faults, plants, randoms, trip_faults
+from irvtools.paths import TOP
+from tests.support.harness import test_case
 
 ALONE = 60              # random configurations that go through LibreOffice as files of their own
 # `./irv` of a session, with the program that is tried in place of the one that the launcher would build
@@ -50,20 +36,20 @@ esac
 
 # -- round trips
 
-def trial_round_trips(_, __):
+def check_round_trips(_, __):
     """From configurations to sheets and back nothing changes: examples, stations, 500 by chance."""
     read = {name: json.loads(given) for name, given in plants().items()}
     for name, value in {**read, **randoms()}.items():
         yield from (f"{name}: {fault}" for fault in trip_faults(value))
 
 
-def trial_round_trips_by_calls(program, _):
+def check_round_trips_by_calls(program, _):
     """The same by calls, with files; the program says the same of what comes back."""
     for name, given in plants().items():
         yield from call_faults(program, name, given)
 
 
-def trial_office(_, is_long):
+def check_office(_, is_long):
     """Through LibreOffice, as text, in its own form and in that of Excel, in several languages, the sheets
     come back."""
     program = libreoffice.find()
@@ -80,7 +66,7 @@ def trial_office(_, is_long):
 
 # -- what is written and read, by hand
 
-def trial_spelled(program, _):
+def check_spelled(program, _):
     """Sheets that were written by hand, also as spreadsheets write them, and what they say."""
     for name, sheets, value, is_own in handwritten_tables.cases():
         with tempfile.TemporaryDirectory(prefix="irv-sheet-") as room:
@@ -101,14 +87,14 @@ def trial_spelled(program, _):
                     yield f"{name}: {file} is written otherwise again"
 
 
-def trial_configuration(program, _):
+def check_configuration(program, _):
     """The text of a configuration has a line for each section and each route."""
     done = call(program, ["--rename", "a=a"], refusal_cases.CONF.encode())
     if done.stdout.decode() != refusal_cases.CONF:
         yield done.stdout.decode() + done.stderr.decode()
 
 
-def trial_refusals(program, _):
+def check_refusals(program, _):
     """Each refusal is told, and nothing is written."""
     for case in refusal_cases.cases():
         yield from refusal_faults(program, *case)
@@ -120,7 +106,7 @@ def trial_refusals(program, _):
                 yield f"{words}: {done.stderr!r}, and {why!r} is wanted"
 
 
-def trial_full_output(program, _):
+def check_full_output(program, _):
     """Where standard output takes nothing, that is told."""
     with open("/dev/full", "wb") as full:
         done = subprocess.run([TOP / "tools/sheet", "--named"], input=refusal_cases.CONF.encode(), stdout=full,
@@ -130,7 +116,7 @@ def trial_full_output(program, _):
         yield f"{done.returncode} {done.stderr!r}"
 
 
-def trial_full_disk(program, _):
+def check_full_disk(program, _):
     """Where the second sheet can't be written whole, neither is left, and no folder."""
     with tempfile.TemporaryDirectory(prefix="irv-sheet-") as room:
         done = subprocess.run(["bash", "-c", f"ulimit -f 1; exec '{TOP}/tools/sheet' --out new"], cwd=room,
@@ -141,7 +127,7 @@ def trial_full_disk(program, _):
         yield f"{done.returncode} {done.stderr!r} {left}"
 
 
-def trial_help(program, _):
+def check_help(program, _):
     """--help prints how it is called."""
     done = subprocess.run([TOP / "tools/sheet", "--help"], capture_output=True, check=False)
     if done.returncode or done.stderr or b"--with-network NEW" not in done.stdout:
@@ -150,15 +136,15 @@ def trial_help(program, _):
 
 # -- changes and comparisons
 
-def trial_changes(program, _):
+def check_changes(program, _):
     """Other names and dropped routes go through all lists."""
     for words, given, value in editing_cases.cases():
-        done = call(program, words, json.dumps(given).encode(), HERE / "sheet_lib")
+        done = call(program, words, json.dumps(given).encode(), TOP / "tests/csv")
         if done.returncode or json.loads(done.stdout) != value:
             yield f"{words}: {done.stderr.decode()} {done.stdout.decode()}"
 
 
-def trial_compare(program, _):
+def check_compare(program, _):
     """What two configurations have otherwise is told, entry by entry, as worked out by hand."""
     for name, old, new, wanted in comparison_cases.cases():
         yield from (f"{name}: {fault}" for fault in compare_faults(program, old, new, wanted))
@@ -166,14 +152,14 @@ def trial_compare(program, _):
         yield from (f"{name}: {fault}" for fault in compare_faults(program, None, new, wanted))
 
 
-def trial_compare_chance(_, is_long):
+def check_compare_chance(_, is_long):
     """Over networks by chance: another order, other names, dropped routes and changed entries are told as
     what was done, and nothing else."""
     for seed in range(400 if is_long else 40):
         yield from (f"network {seed}: {fault}" for fault in comparison_cases.chance_faults(seed))
 
 
-def trial_large_pages(_, __):
+def check_large_pages(_, __):
     """A page with many differences has pictures of the first, and cuts what is too long; names are text."""
     names = [f"{n:0>32}" for n in range(256)]
     wide = json.loads(configurations.made("routes", "256", "listed"))
@@ -188,13 +174,13 @@ def trial_large_pages(_, __):
         yield from markup_check.faults(page)
 
 
-def trial_page(_, __):
+def check_page(_, __):
     """The sheet on the page of a configuration says what routes.csv says."""
     for name, given in {**plants(), **{name: json.dumps(one) for name, one in randoms().items()}}.items():
         yield from (f"{name}: {fault}" for fault in report_table.page_faults(given))
 
 
-def trial_browser(program, _):
+def check_browser(program, _):
     """The page of a comparison in a browser."""
     found = browser.find()
     if found is None:
@@ -211,7 +197,7 @@ def trial_browser(program, _):
             return
 
 
-def trial_session(program, _):
+def check_session(program, _):
     """What docs/SHEETS.md shows is what is printed."""
     with tempfile.TemporaryDirectory(prefix="irv-sheet-") as room:
         irv = Path(room, "irv")
@@ -223,6 +209,6 @@ def trial_session(program, _):
         yield "there is no session"
 
 
-TRIALS = [trial_round_trips, trial_round_trips_by_calls, trial_office, trial_spelled, trial_configuration,
-          trial_refusals, trial_full_output, trial_full_disk, trial_help, trial_changes, trial_compare,
-          trial_compare_chance, trial_page, trial_large_pages, trial_browser, trial_session]
+CsvTests = test_case("CsvTests", [check_round_trips, check_round_trips_by_calls, check_office, check_spelled, check_configuration,
+          check_refusals, check_full_output, check_full_disk, check_help, check_changes, check_compare,
+          check_compare_chance, check_page, check_large_pages, check_browser, check_session])

@@ -5,7 +5,7 @@ import subprocess
 import tempfile
 from pathlib import Path
 
-from irvtools.generators import configurations
+from irvtools.generators import configurations as generated
 from irvtools.csvtables import configurations
 from tests.csv import libreoffice
 from tests.csv import random_configurations
@@ -21,8 +21,8 @@ def plants():
     """The configurations of the repository and made stations, by name, as bytes."""
     files = [*(TOP / "examples").glob("*.json"), *(TOP / "tests/plants").glob("*.json")]
     found = {path.stem: path.read_bytes() for path in sorted(files)}
-    found.update({f"stations {n}": configurations.made("stations", str(n)) for n in range(1, 17)})
-    found["largest"] = configurations.made("largest")
+    found.update({f"stations {n}": generated.made("stations", str(n)) for n in range(1, 17)})
+    found["largest"] = generated.made("largest")
     return found
 
 

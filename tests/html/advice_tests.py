@@ -4,6 +4,7 @@ of which it isn't. They are worked out by hand."""
 from irvtools.html.advice_section import advice_part
 from irvtools.rules.flank_protection import guards
 from tests.support.html_reports import part_of, plant_of
+from tests.support.harness import test_case
 
 FORK = """linear a . p . m1
     point p up a t u
@@ -97,7 +98,7 @@ ADVICE = [
     (FORK + "route r1 from m1 to . path p t points p=minus", [], ["exchanged"])]
 
 
-def trial_advice(program, _):
+def check_advice(program, _):
     """Each piece of advice is given where it is so, and not where it isn't."""
     for text, wanted, unwanted in ADVICE:
         said = part_of(program, text, advice_part, [])
@@ -110,7 +111,7 @@ def trial_advice(program, _):
         yield f"a route without a use: {said}"
 
 
-def trial_advice_asks(program, _):
+def check_advice_asks(program, _):
     """Where table gives no ways the page says so; a flank is walked back through each section once."""
     endless = "\n".join(["linear s0 . s1 . m1"] + [f"linear s{i} s{i - 1} s{i + 1} . ." for i in
                                                   range(1, 34)] + ["linear s34 s33 . m2 ."])
@@ -131,4 +132,4 @@ def trial_advice_asks(program, _):
         yield f"the ladder: {len(found)} ways back"
 
 
-TRIALS = [trial_advice, trial_advice_asks]
+AdviceTests = test_case("AdviceTests", [check_advice, check_advice_asks])

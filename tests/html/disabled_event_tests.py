@@ -13,6 +13,7 @@ from tests.support.report_plants import plants
 from tests.support.random_runs import a_run, all_events, muddled
 from irvtools.model.state import State, read_event
 from irvtools.model.waiting import waiting
+from tests.support.harness import test_case
 
 MANY = 10
 SET_IN1 = "mark in1, allocate in1, lock in1"
@@ -80,7 +81,7 @@ def reached(plant, words):
     return state
 
 
-def trial_demands(_, is_long):
+def check_demands(_, is_long):
     """An event has an unmet demand exactly where the model of events refuses it."""
     chance, refused = random.Random(53), set()
     for name in ("line", "station-protected", "facing-point-wrong", "four-sections"):
@@ -98,7 +99,7 @@ def trial_demands(_, is_long):
                 for is_enabled in (True, False) if (word, is_enabled) not in refused)
 
 
-def trial_demand_words(_, __):
+def check_demand_words(_, __):
     """Why an event isn't enabled, by names, and what trains and routes wait for."""
     plant = Plant(json.loads((TOP / "examples/platforms.json").read_text()))
     for before, event, wanted in PLATFORMS:
@@ -138,4 +139,4 @@ def protected_faults():
         yield f"lock {name}: {said!r}"
 
 
-TRIALS = [trial_demands, trial_demand_words]
+DisabledEventTests = test_case("DisabledEventTests", [check_demands, check_demand_words])

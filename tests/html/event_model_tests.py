@@ -15,6 +15,7 @@ from tests.support.random_runs import a_run, a_walk, all_events, is_enabled, mud
 from irvtools.model.bitset_events import HAZARD, Facts, Simulation
 from irvtools.model.state import State, read_event, read_run, run_text
 from irvtools.search.route_uses import is_use, uses
+from tests.support.harness import test_case
 
 THREADS = 4
 MANY = 10               # times as much under --long
@@ -116,7 +117,7 @@ def pair_faults(plant, irv, pairs):
             yield f"replay says {said!r}, the model {wanted!r}, of {text!r}"
 
 
-def trial_model(program, is_long):
+def check_model(program, is_long):
     """The model of events agrees with replay over random runs and random states."""
     count, met = 16 * (MANY if is_long else 1), set()
     with concurrent.futures.ThreadPoolExecutor(THREADS) as pool:
@@ -132,7 +133,7 @@ def trial_model(program, is_long):
                 if (cause, "hinders") not in met)
 
 
-def trial_simulation(_, is_long):
+def check_simulation(_, is_long):
     """The model by which the hunt runs agrees with the one by which the page draws, event by event."""
     chance, met, count = random.Random(7), set(), 12 * (MANY if is_long else 1)
     for name, given in plants().items():
@@ -194,7 +195,7 @@ def difference(plant, state, simulation, event, met):
     return None, at is not None
 
 
-def trial_is_use(_, __):
+def check_is_use(_, __):
     """A route isn't used by a train that passes its source where another train is sensed on its path."""
     plant = crossed()
     words = ANOTHER_SENSED.replace("sense", "head a,sense") + ",finish r3"
@@ -203,7 +204,7 @@ def trial_is_use(_, __):
         yield "another train uses a route"
 
 
-def trial_after_use(program, _):
+def check_after_use(program, _):
     """After each route's whole use, the model and replay agree on which routes can be set next."""
     for name in PROTECTED:
         given = plants()[name]
@@ -220,4 +221,4 @@ def trial_after_use(program, _):
             yield from (f"{name}: {fault}" for fault in pair_faults(plant, irv, pairs))
 
 
-TRIALS = [trial_model, trial_simulation, trial_is_use, trial_after_use]
+EventModelTests = test_case("EventModelTests", [check_model, check_simulation, check_is_use, check_after_use])

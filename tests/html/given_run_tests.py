@@ -12,6 +12,7 @@ from tests.support.html_reports import page, shown_by
 from irvtools.model.plant import Plant
 from tests.support.report_plants import plants
 from irvtools.html.options import Refused
+from tests.support.harness import test_case
 
 RUNS = [
     # plant, the run's events, what the page has to say, and what it has to print
@@ -71,7 +72,7 @@ def text_of(head, words):
     return "".join(f"{line}\n" for line in (*head, *words.split(", "), "end"))
 
 
-def trial_given_runs(program, _):
+def check_given_runs(program, _):
     """A run that is given is drawn up to its hazard or to the event that isn't enabled, and why."""
     for name, words, wanted, line in RUNS:
         said, printed = shown_by(program, plants()[name], text_of(("run 1", "start"), words))
@@ -80,7 +81,7 @@ def trial_given_runs(program, _):
             yield f"{words}: {printed}"
 
 
-def trial_given_scenes(program, _):
+def check_given_scenes(program, _):
     """A scenario is drawn with each command where it acts, and what waits where it is stuck."""
     for name, words, wanted, line in SCENES:
         said, printed = shown_by(program, plants()[name], text_of(("drive 1",), words))
@@ -89,7 +90,7 @@ def trial_given_scenes(program, _):
             yield f"{words}: {printed}"
 
 
-def trial_bad_lines(program, _):
+def check_bad_lines(program, _):
     """Of a text with a bad line the page says which and why; replay and drive name the same line."""
     given = plants()["platforms"]
     plant = Plant(json.loads(given))
@@ -109,7 +110,7 @@ def trial_bad_lines(program, _):
             yield f"{wanted!r} isn't on the page"
 
 
-def trial_given_files(program, _):
+def check_given_files(program, _):
     """What is neither a run nor a scenario is refused; names are text; a plant that is none has no
     run."""
     with tempfile.TemporaryDirectory(prefix="irv-page-files-") as room:
@@ -138,7 +139,7 @@ def trial_given_files(program, _):
             yield f"without a plant: {printed}"
 
 
-def trial_long_run(program, _):
+def check_long_run(program, _):
     """Of a run that is longer than is drawn the last events are drawn, and the page says so."""
     words = ", ".join(["mark in1, cancel in1"] * 300 + ["enter line"])
     said, printed = shown_by(program, plants()["platforms"], text_of(("run 1", "start"), words))
@@ -147,4 +148,4 @@ def trial_long_run(program, _):
             yield f"{wanted!r} isn't on the page; {printed}"
 
 
-TRIALS = [trial_given_runs, trial_given_scenes, trial_bad_lines, trial_given_files, trial_long_run]
+GivenRunTests = test_case("GivenRunTests", [check_given_runs, check_given_scenes, check_bad_lines, check_given_files, check_long_run])

@@ -21,6 +21,7 @@ from tests.support.report_plants import plants
 from tests.support.random_runs import a_run, all_events, muddled
 from irvtools.search.state_shrinking import leads_out, smaller
 from irvtools.model.state import read_run
+from tests.support.harness import test_case
 
 MANY = 10               # times as much under --long
 AT_ONCE = 4
@@ -38,7 +39,7 @@ def near(plant, state, rnd):
         else muddled(plant, state, rnd)
 
 
-def trial_families(program, is_long):
+def check_families(program, is_long):
     """The page's reading of the invariant fits what irv answers of safe and of wrong tables."""
     # on tables that are safe at 1 each state that is reached meets it, and each event leads from a
     # state that meets it to another; on wrong tables verify's run leaves it with its last event
@@ -63,7 +64,7 @@ def trial_families(program, is_long):
         yield from leaving_faults(program, name)
 
 
-def trial_family_states(_, __):
+def check_family_states(_, __):
     """Each condition of a family: a state of the line that breaks just that, worked out by hand."""
     plant = Plant(fifteen_section_line.right())
     for wanted, changes in invariant_states.STATES:
@@ -140,7 +141,7 @@ def shown_faults(plant, answer, left):
         left[what[0][0] if what else "hazard"] += 1
 
 
-def trial_not_inductive(program, is_long):
+def check_not_inductive(program, is_long):
     """Of the states behind `not inductive` all meet the invariant but the last, which doesn't."""
     left, found = Counter(), configurations(is_long)
     with ThreadPoolExecutor(AT_ONCE) as pool:
@@ -154,4 +155,4 @@ def trial_not_inductive(program, is_long):
         yield f"too few of a kind: {dict(left)}"
 
 
-TRIALS = [trial_families, trial_family_states, trial_not_inductive]
+InvariantTests = test_case("InvariantTests", [check_families, check_family_states, check_not_inductive])

@@ -13,9 +13,10 @@ from tests.support.random_runs import a_run
 from irvtools.search.state_shrinking import leads_out, shrunk, smaller
 from irvtools.model.state import read_event, run_text
 from irvtools.search.route_uses import is_use, uses
+from tests.support.harness import test_case
 
 
-def trial_shrink(_, __):
+def check_shrink(_, __):
     """A state is shrunk as far as it goes, and still leads out of the invariant."""
     plant = Plant(fifteen_section_line.with_fault("path-ends-early"))
     chance, tried = random.Random(5), 0
@@ -39,7 +40,7 @@ def trial_shrink(_, __):
         yield "no event that leads out was tried"
 
 
-def trial_uses(program, _):
+def check_uses(program, _):
     """Each route of tables that break no rule is used whole by a train, as replay answers."""
     document = json.loads((TOP / "examples/four-sections.json").read_text())
     document["sections"][3]["board_down"] = None
@@ -63,4 +64,4 @@ def trial_uses(program, _):
                 yield f"{name}: the use of {route.name} isn't a run without a hazard"
 
 
-TRIALS = [trial_shrink, trial_uses]
+RouteUseTests = test_case("RouteUseTests", [check_shrink, check_uses])

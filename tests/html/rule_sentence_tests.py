@@ -10,6 +10,7 @@ from irvtools.rules import broken_rules
 from tests.cases import well_formed
 from irvtools.model.plant import Plant
 from tests.html.expected_sentences import LINE_SENTENCES, NOT_RESTING, RESTING, SENTENCES, WORDLESS
+from tests.support.harness import test_case
 
 PARTLY = {"C2": broken_rules.IDLE_END, "C3": broken_rules.IDLE_OVERLAP}    # where safety rests on another part of it
 
@@ -36,7 +37,7 @@ def words_of(given, refusal):
     return broken_rules.sentences(plant, rule, places), broken_rules.safety(plant, rule, places)
 
 
-def trial_sentences(_, __):
+def check_sentences(_, __):
     """Each rule's sentence names what is there and what should be."""
     found = cases()
     for file, name, refusal, words, *count in SENTENCES:
@@ -57,7 +58,7 @@ def trial_sentences(_, __):
     yield from (f"no sentence of {rule} is tried" for rule in sorted(wanted - told))
 
 
-def trial_all_refusals(_, __):
+def check_all_refusals(_, __):
     """Every refusal of the cases of check has a sentence, and says what safety rests on."""
     for (file, name), case in cases().items():
         for refusal in case.stdout.decode().splitlines():
@@ -73,4 +74,4 @@ def trial_all_refusals(_, __):
                 yield f"{file}, {name}: {refusal}: {safety}"
 
 
-TRIALS = [trial_sentences, trial_all_refusals]
+RuleSentenceTests = test_case("RuleSentenceTests", [check_sentences, check_all_refusals])

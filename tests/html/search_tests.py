@@ -19,6 +19,7 @@ from irvtools.search.run_shortening import readable
 from irvtools.model.bitset_events import Facts, Simulation, to_hazard
 from irvtools.model.state import ROUTE_WORDS
 from irvtools.paths import TOP
+from tests.support.harness import test_case
 
 ENDED = 60              # seconds after which a process that has to end is left over
 # what starts this in the background may have it ignore SIGINT, which goes on to what is called
@@ -55,7 +56,7 @@ def run_faults(plant, run):
     yield from (f"event {place + 1} of {len(run)} can be left out" for place in left_out(plant, run))
 
 
-def trial_hunt(_, is_long):
+def check_hunt(_, is_long):
     """The hunt finds a hazard on a table with a fault that makes one possible, and no event of what it
     found can be left out."""
     for name, (_, is_possible, _) in fifteen_section_line.FAULTS.items():
@@ -70,7 +71,7 @@ def trial_hunt(_, is_long):
                 yield from (f"{name}: {fault}" for fault in run_faults(plant, run))
 
 
-def trial_hunt_cancel(_, __):
+def check_hunt_cancel(_, __):
     """A hazard that needs a route to be cancelled after it was allocated is found."""
     # h commands P to minus, and no train can come to its source; f doesn't list P
     plant = Plant(json.loads(configurations.plant_text([
@@ -87,7 +88,7 @@ def trial_hunt_cancel(_, __):
             yield f"{run} comes to a hazard without a cancel"
 
 
-def trial_hunt_far(_, __):
+def check_hunt_far(_, __):
     """A hazard ten routes away from where trains come in is found within some runs: in the middle of
     nine stations in a row, a route lists a point wrongly."""
     document = json.loads(configurations.made("stations", "9"))
@@ -101,7 +102,7 @@ def trial_hunt_far(_, __):
             yield from run_faults(plant, run)
 
 
-def trial_hunt_right(_, is_long):
+def check_hunt_right(_, is_long):
     """The hunt finds nothing on tables that break no rule, or one that safety doesn't rest on."""
     found = {"line": fifteen_section_line.right(), "stations": json.loads(configurations.made("stations", "3")),
              "throat": json.loads((TOP / "examples/terminus-throat.json").read_text())}
@@ -114,7 +115,7 @@ def trial_hunt_right(_, is_long):
                 break
 
 
-def trial_shortening(_, __):
+def check_shortening(_, __):
     """Events that do nothing for the hazard are left out of a run, wherever they stand."""
     plant = Plant(fifteen_section_line.with_fault("facing-point-wrong"))
     run = Hunt(plant, 2).for_hazard(600)
@@ -134,7 +135,7 @@ def trial_shortening(_, __):
         yield f"{len(run)} events became {len(longer)}, and aren't shortened again"
 
 
-def trial_hunters(_, __):
+def check_hunters(_, __):
     """Several hunts at once find what one finds, and end with the first run, with their time, and when
     they are stopped."""
     plant = Plant(fifteen_section_line.with_fault("facing-point-wrong"))
@@ -160,7 +161,7 @@ def trial_hunters(_, __):
     yield from (f"process {pid} is left after its searchers were stopped" for pid in alive(pids))
 
 
-def trial_hunters_end(_, __):
+def check_hunters_end(_, __):
     """The processes of a hunt end with the one that started them, however that ends."""
     paths = [path for path in sys.path if path.startswith(str(TOP))]
     for number in (signal.SIGINT, signal.SIGTERM, signal.SIGKILL):
@@ -191,7 +192,7 @@ def alive(pids):
     return found
 
 
-def trial_hunt_alone(program, _):
+def check_hunt_alone(program, _):
     """tools/hunt prints a run that replay answers with a hazard."""
     given = json.dumps(fifteen_section_line.with_fault("border-without-board")).encode()
     done = subprocess.run([TOP / "tools/hunt", "--program", program, "--seconds", "20"], input=given,
@@ -208,5 +209,5 @@ def trial_hunt_alone(program, _):
             yield f"{given}: status {done.returncode}"
 
 
-TRIALS = [trial_hunt, trial_hunt_cancel, trial_hunt_far, trial_hunt_right, trial_shortening,
-          trial_hunters, trial_hunters_end, trial_hunt_alone]
+SearchTests = test_case("SearchTests", [check_hunt, check_hunt_cancel, check_hunt_far, check_hunt_right, check_shortening,
+          check_hunters, check_hunters_end, check_hunt_alone])

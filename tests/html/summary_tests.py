@@ -15,10 +15,11 @@ from irvtools.rules import broken_rules
 from tests.support.html_reports import TOP, page, plain, plant_of
 from irvtools.model.plant import Plant
 from tests.support.report_plants import plants
+from tests.support.harness import test_case
 
 AT_ONCE = 4
 
-# words that the page refuses, in the folder of trial_refused_words
+# words that the page refuses, in the folder of check_refused_words
 WORDS = (
     ("x.html", "--depth", "99"), ("x.html", "--depth=0"), ("x.html", "--conflicts", "-1"),
     ("x.html", "--conflicts=200001"), ("x.html", "--columns", "loose"),
@@ -70,7 +71,7 @@ RESTING = [
      broken_rules.RESTS)]
 
 
-def trial_resting(program, _):
+def check_resting(program, _):
     """Safety is said to rest on a rule only where it does, and of a wrong direction that comes first."""
     for text, refusal, first, safety in RESTING:
         plant, given = plant_of(text)
@@ -91,7 +92,7 @@ def first_lines(text):
             text.partition('<ul class="sum">')[2].partition("</ul>")[0].split("</li>") if item]
 
 
-def trial_first_lines(program, _):
+def check_first_lines(program, _):
     """The page's first lines, and the line that is printed, tell what was found first, what check says,
     under which columns the verdict is, and where no train can move."""
     given = plants()
@@ -122,7 +123,7 @@ def trial_first_lines(program, _):
             yield f"{name}: {said}"
 
 
-def trial_side_by_side(_, __):
+def check_side_by_side(_, __):
     """A hazard that is hunted ends a verify that takes long; one that verify finds first comes first; a
     hunt isn't begun where check says clean."""
     wrong = json.dumps(fifteen_section_line.with_fault("border-without-board")).encode()
@@ -156,7 +157,7 @@ def trial_side_by_side(_, __):
 TIME = re.compile(r"[0-9] s\b|after [0-9]+ seconds")
 
 
-def trial_times(program, _):
+def check_times(program, _):
     """A page tells how long the answers and the hunt took. With --without-times neither it nor what is
     printed does, and it tells the rest."""
     wrong = json.dumps(fifteen_section_line.with_fault("border-without-board")).encode()
@@ -184,7 +185,7 @@ UNHEARD = [("refused C0 routes[0]", True, broken_rules.UNKNOWN), ("refused C0 ro
            ("refused R0 routes[1]", False, broken_rules.NEEDED), ("refused D0 document", False, broken_rules.UNKNOWN)]
 
 
-def trial_unheard_rules(_, __):
+def check_unheard_rules(_, __):
     """A rule that the page has no words for is told as broken, with its line, and the page goes on."""
     wrong = json.dumps(fifteen_section_line.with_fault("conflict-missing")).encode()
     plant = Plant(json.loads(wrong))
@@ -222,7 +223,7 @@ def files_in(room):
     return {file: file.read_bytes() for file in Path(room).iterdir() if file.is_file()}
 
 
-def trial_refused_words(program, _):
+def check_refused_words(program, _):
     """Words that neither the page nor verify knows, and files that would be written over one another,
     end with status 125 and change nothing."""
     with tempfile.TemporaryDirectory(prefix="irv-page-words-") as room:
@@ -241,5 +242,5 @@ def trial_refused_words(program, _):
             yield "a file was changed"
 
 
-TRIALS = [trial_resting, trial_first_lines, trial_side_by_side, trial_times, trial_unheard_rules,
-          trial_refused_words]
+SummaryTests = test_case("SummaryTests", [check_resting, check_first_lines, check_side_by_side, check_times, check_unheard_rules,
+          check_refused_words])

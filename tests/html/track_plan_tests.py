@@ -9,6 +9,7 @@ from irvtools.trackplan.layout import CHARACTER
 from irvtools.model.plant import Plant
 from tests.support.report_plants import plants
 from tests.html.rule_sentence_tests import cases
+from tests.support.harness import test_case
 
 
 def texts_of(drawing):
@@ -38,7 +39,7 @@ def plan_faults(name, drawing):
     yield from (f"{name}: {word} isn't shown" for word in sorted(wanted - everywhere))
 
 
-def trial_plans(_, is_long):
+def check_plans(_, is_long):
     """Plans: no name lies on another or is cut, and a plant has one plan."""
     found = plants()
     for count in (1, 2, 5, 16, *((51,) if is_long else ())):
@@ -50,7 +51,7 @@ def trial_plans(_, is_long):
             yield f"{name}: two plans differ"
 
 
-def trial_broken_plans(_, __):
+def check_broken_plans(_, __):
     """Networks that break rules have a plan too."""
     for (file, name), case in cases().items():
         lines = case.stdout.decode().splitlines()
@@ -62,4 +63,4 @@ def trial_broken_plans(_, __):
                     yield f"{name}: no place"
 
 
-TRIALS = [trial_plans, trial_broken_plans]
+TrackPlanTests = test_case("TrackPlanTests", [check_plans, check_broken_plans])

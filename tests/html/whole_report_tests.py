@@ -18,6 +18,7 @@ from irvtools.calls.program import Program
 from tests.support.html_reports import TOP, page
 from tests.support.report_plants import plants
 from irvtools.html.run_frames import MOST_PICTURED
+from tests.support.harness import LongTest, test_case
 
 MOST_SHEETS = 6         # of paper for a station
 SHEET = "<h2>The table of routes"
@@ -29,7 +30,7 @@ WORDS = (
     (("--columns", "free", "f.html"), "--columns free --cert f.cert"))
 
 
-def trial_premises(_, __):
+def check_premises(_, __):
     """The premises are found by their numbers under their heading."""
     document = ("# A page\n1. no premise\n## The premises\nwords\n\n1. **It `is` so.** More.\n"
                 "2. [This](there.md) too\n\n## What else\n\n3. nothing\n")
@@ -40,7 +41,7 @@ def trial_premises(_, __):
         yield "docs/QUALIFICATION.md has no premises that are found"
 
 
-def trial_pages(program, is_long):
+def check_pages(program, is_long):
     """Pages are well-formed, open nothing from elsewhere, and say what irv answered."""
     chosen = ["two-sections", "line-with-boards", "platforms-wrong-position", "facing-point-wrong"]
     found = plants()
@@ -55,7 +56,7 @@ def trial_pages(program, is_long):
             yield f"{name}: the page stops"
 
 
-def trial_unreadable(program, _):
+def check_unreadable(program, _):
     """A configuration that isn't JSON, or has another form, makes a page too, and names are text."""
     name = '<img src=x onerror=alert(1)>&"'
     wrong = fifteen_section_line.right()
@@ -71,7 +72,7 @@ def trial_unreadable(program, _):
             yield f"{given[:40]}: {words!r} isn't on the page; {said}"
 
 
-def trial_words(program, _):
+def check_words(program, _):
     """The words of the page, the file of the certificate, and what the page tells of files."""
     given = plants()["line-with-boards"]
     with tempfile.TemporaryDirectory(prefix="irv-page-test-") as room:
@@ -93,7 +94,7 @@ def trial_words(program, _):
                     yield f"{words}: {wanted} isn't on the page"
 
 
-def trial_fakes(_, __):
+def check_fakes(_, __):
     """A program that is slow, silent, or says what isn't so: the page says it in a plain word."""
     given = json.dumps(fifteen_section_line.right()).encode()
     clean = {"says": "clean\n"}
@@ -116,7 +117,7 @@ def trial_fakes(_, __):
         yield f"without a program: {said}"
 
 
-def trial_browser(program, is_long):
+def check_browser(program, is_long):
     """In a browser: nothing on its console, names lie in their frames and not on each other."""
     found = browser.find()
     if found is None:
@@ -152,7 +153,7 @@ def paper_faults(found, program):
         yield "on paper: what is closed is printed too"
 
 
-def trial_largest(program, _):
+def check_largest(program, _):
     """The page of a configuration of 4 MB and 256 sections comes within a minute, under 30 MB."""
     begin = time.monotonic()
     text, said = page(program, largest_configuration.given())
@@ -163,5 +164,5 @@ def trial_largest(program, _):
     yield from markup_check.faults(text)
 
 
-TRIALS = [trial_premises, trial_pages, trial_words, trial_unreadable, trial_fakes, trial_browser]
-LONG_TRIALS = [trial_largest]
+WholeReportTests = test_case("WholeReportTests", [check_premises, check_pages, check_words, check_unreadable, check_fakes, check_browser])
+LongTests = test_case("LongTests", [check_largest], LongTest)

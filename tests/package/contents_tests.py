@@ -9,6 +9,7 @@ from tests.support import markup_check
 from tests.support.package_calls import (
     TOP, changed, differing, example, flip, made, renew_sums, repeat, text_of_page,
 )
+from tests.support.harness import test_case
 
 # two trains meet in a plant of two sections without a route and without a board at one border
 MEET = TOP / "examples/two-trains-meet.run"
@@ -46,7 +47,7 @@ def faults_of_form(folder):
         yield f"it isn't repeated: {lines}"
 
 
-def trial_safe(program, _):
+def check_safe(program, _):
     """A safe table: the answers, the certificate, its judges, and no difference when repeated."""
     given = example("platforms.json")
     with made(program, given) as (folder, said):
@@ -80,7 +81,7 @@ def without_conflicts(value):
         route["conflicts"] = []
 
 
-def trial_deviations(program, _):
+def check_deviations(program, _):
     """A table that breaks C6 fourteen times, on which safety doesn't rest: each is told, with its way."""
     given = changed(example("station.json"), without_conflicts)
     scene = ("--run", CROSSING, "--run", CROSSING, "--solvers", "0")
@@ -100,7 +101,7 @@ def trial_deviations(program, _):
             yield "the second scenario isn't driven"
 
 
-def trial_unsafe(program, _):
+def check_unsafe(program, _):
     """A table that isn't safe: the deviation, that safety rests on it, and the run that shows it."""
     with made(program, example("platforms-wrong-position.json"), "--depth", "8") as (folder, said):
         if said != "with deviations, under free columns: not safe: hazard two pl1, by verify.run":
@@ -119,7 +120,7 @@ def trial_unsafe(program, _):
             yield "another run isn't found"
 
 
-def trial_not_shown(program, _):
+def check_not_shown(program, _):
     """Where verify finds neither, and no run is hunted, the case says that nothing is shown."""
     words = ("--hunt", "0", "--depth", "1")
     with made(program, example("platforms-wrong-position.json"), *words) as (folder, said):
@@ -131,7 +132,7 @@ def trial_not_shown(program, _):
             yield "case.html doesn't say that nothing is shown"
 
 
-def trial_run_is_kept(program, _):
+def check_run_is_kept(program, _):
     """A run that is given is replayed, and a hazard that it comes to is told of it, not of the search."""
     with made(program, example("two-sections.json"), "--run", MEET, "--hunt", "0", "--depth", "2") \
             as (folder, said):
@@ -140,7 +141,7 @@ def trial_run_is_kept(program, _):
             yield f"{said}; {answer!r}"
 
 
-def trial_no_plant(program, _):
+def check_no_plant(program, _):
     """What isn't a plant gets a case that says so, and is asked nothing but its rules."""
     def twice(value):
         value["sections"].append(value["sections"][0])
@@ -155,7 +156,7 @@ def trial_no_plant(program, _):
                 yield f"{rule}: something further is asked"
 
 
-def trial_changes(program, _):
+def check_changes(program, _):
     """Each changed, missing and new file is found by the sums, and a changed configuration, certificate,
     answer and program also where the sums are made anew."""
     with made(program, example("line-with-boards.json"), "--solvers", "0") as (folder, said):
@@ -192,7 +193,7 @@ def hidden(folder, name):
     (folder / "SHA256SUMS").write_bytes(sums)
 
 
-def trial_moved(program, _):
+def check_moved(program, _):
     """A case is repeated from a copy elsewhere, by a program that is named, and changes nothing."""
     with made(program, example("line-with-boards.json"), "--solvers", "0") as (folder, _):
         copy = folder.parent / "a copy with spaces"
@@ -203,7 +204,7 @@ def trial_moved(program, _):
             yield f"{status} {lines}, or the folder isn't as it was"
 
 
-def trial_made_again(program, _):
+def check_made_again(program, _):
     """A case that is made again, in another folder, is the same byte for byte."""
     for name, words in (("platforms.json", ()), ("two-sections.json", ("--run", MEET, "--hunt", "0"))):
         with made(program, example(name), *words) as (one, _), made(program, example(name), *words) as (other, _):
@@ -212,5 +213,5 @@ def trial_made_again(program, _):
                 yield f"{name}: {told.stdout.decode()}{told.stderr.decode()}"
 
 
-TRIALS = (trial_safe, trial_deviations, trial_unsafe, trial_not_shown, trial_run_is_kept, trial_no_plant,
-          trial_changes, trial_moved, trial_made_again)
+ContentsTests = test_case("ContentsTests", (check_safe, check_deviations, check_unsafe, check_not_shown, check_run_is_kept, check_no_plant,
+          check_changes, check_moved, check_made_again))

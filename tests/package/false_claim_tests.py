@@ -7,6 +7,7 @@ import shutil
 import subprocess
 
 from tests.support.package_calls import TOP, call, example, made, place, repeat, text_of_page
+from tests.support.harness import test_case
 
 PRETENDED = """#!/bin/sh
 case $1 in {command}) {does} ;; esac
@@ -25,7 +26,7 @@ def pretended(room, program, command, does):
     return path
 
 
-def trial_contradiction(program, _):
+def check_contradiction(program, _):
     """Where what judges a certificate rejects it, or a scenario ends in a hazard under a table that is told to
     be safe, the case says that one of them is wrong, and not that the table is safe."""
     scene = TOP / "examples/station-crossing.scene"
@@ -42,7 +43,7 @@ def trial_contradiction(program, _):
                 yield f"{command}: case.html doesn't say that nothing counts"
 
 
-def trial_no_answer(program, _):
+def check_no_answer(program, _):
     """Of a configuration of which check gave no answer there is no case; what ended verify is told as that."""
     given = example("line-with-boards.json")
     with place() as folder:
@@ -56,7 +57,7 @@ def trial_no_answer(program, _):
             yield f"verify said nothing: {done}"
 
 
-def trial_names(program, _):
+def check_names(program, _):
     """Names with quotes, blanks, markup, a dash at the beginning, an end of a line and bytes that aren't UTF-8
     are shown as they are, and a case is repeated where its folder has one, whatever CDPATH says."""
     with place() as folder:
@@ -81,7 +82,7 @@ def trial_names(program, _):
             yield f"repeated: {done}"
 
 
-def trial_notes(program, _):
+def check_notes(program, _):
     """A note of a proof counts for the program beside which it stands alone; that of a build that isn't proved
     counts for none, and of a program of other sources no version is told."""
     given, total = example("line-with-boards.json"), hashlib.sha256(program.read_bytes()).hexdigest()
@@ -100,7 +101,7 @@ def trial_notes(program, _):
             shutil.rmtree(folder, ignore_errors=True)
 
 
-def trial_sums_that_name_nothing(program, _):
+def check_sums_that_name_nothing(program, _):
     """A sum that is none, and a link that came new, are found."""
     with made(program, example("line-with-boards.json"), "--solvers", "0") as (folder, _):
         sums = folder / "SHA256SUMS"
@@ -116,4 +117,4 @@ def trial_sums_that_name_nothing(program, _):
                 yield f"{wanted}: {status} {told}"
 
 
-TRIALS = (trial_contradiction, trial_no_answer, trial_names, trial_notes, trial_sums_that_name_nothing)
+FalseClaimTests = test_case("FalseClaimTests", (check_contradiction, check_no_answer, check_names, check_notes, check_sums_that_name_nothing))

@@ -5,6 +5,7 @@ import time
 
 from tests.package.contents_tests import faults_of_form
 from tests.support.package_calls import TOP, flip, made
+from tests.support.harness import LongTest, test_case
 
 PLANT = TOP / "tests/plants/bs.json"
 CHANGED = ("configuration.json", "verify.cert", "answers/verify.txt", "program/irv")
@@ -23,7 +24,7 @@ def first_difference(folder):
         repeating.wait()
 
 
-def trial_large(program, _):
+def check_large(program, _):
     """A line of two stations with crossovers, with a certificate of some 90 MB: its case is repeated without a
     difference, and each changed byte is found."""
     begin = time.monotonic()
@@ -48,4 +49,4 @@ def trial_large(program, _):
             print(f"    {name}, changed: {found.strip()}", flush=True)
 
 
-TRIALS = (trial_large,)
+LargePackageTests = test_case("LargePackageTests", (check_large,), LongTest)

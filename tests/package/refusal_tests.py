@@ -5,6 +5,7 @@ import tempfile
 from pathlib import Path
 
 from tests.support.package_calls import TOP, call, example
+from tests.support.harness import test_case
 
 
 def refusals(room):
@@ -35,7 +36,7 @@ def state_of(room):
             for path in room.rglob("*")}
 
 
-def trial_refusals(program, _):
+def check_refusals(program, _):
     """Each refusal is told with status 125, and what stands stays as it is."""
     with tempfile.TemporaryDirectory(prefix="irv-case-") as name:
         room = Path(name)
@@ -56,7 +57,7 @@ def call_in(room, program, words):
                           capture_output=True, check=False)
 
 
-def trial_empty_folder(program, _):
+def check_empty_folder(program, _):
     """An empty folder is taken."""
     with tempfile.TemporaryDirectory(prefix="irv-case-") as name:
         folder = Path(name) / "empty"
@@ -66,4 +67,4 @@ def trial_empty_folder(program, _):
             yield f"{done.returncode} {done.stderr.decode()}"
 
 
-TRIALS = (trial_refusals, trial_empty_folder)
+RefusalTests = test_case("RefusalTests", (check_refusals, check_empty_folder))

@@ -10,6 +10,7 @@ import tempfile
 from irvtools.release.ci_log import COUNT, checks_of
 from tests.support.package_calls import TOP
 from tests.release.small_repository import LOG, called, git, release, repository
+from tests.support.harness import test_case
 
 # of the checks that the gate has of checks the one that takes long
 LONG_CHECK = "tests/docs --self-check"
@@ -26,7 +27,7 @@ RECORD = ("| `tests/first` | 3 | Tries the first thing. |", "| `rt ci` | 40 | ",
           "| `tests/first P` | 7 | 8 passed, 0 failed | battery-3.log |")
 
 
-def trial_release(_, __):
+def check_release(_, __):
     """A release has what the gate printed, check by check, the axioms by name, the libraries with versions and
     licences, the batteries, and the sources as an archive; made twice it is the same, byte for byte."""
     with repository() as top:
@@ -100,7 +101,7 @@ def changes():
         "No such file": lambda top: (top.parent / "gate.log").unlink()}
 
 
-def trial_release_refused(_, __):
+def check_release_refused(_, __):
     """Refused, without a folder, are a gate that failed, isn't whole or is of another tree, other axioms than the
     gate counted, a changed checkout, a program of other sources, and a folder in which something stands."""
     for why, change in changes().items():
@@ -124,7 +125,7 @@ def can_hide():
     return can
 
 
-def trial_same_bytes(_, __):
+def check_same_bytes(_, __):
     """tests/same_bytes finds builds with the same bytes the same and others not, builds where nothing is seen of
     what is kept, and takes no folder in which something else stands."""
     if not can_hide():
@@ -154,7 +155,7 @@ def trial_same_bytes(_, __):
             yield f"other bytes: {done}"
 
 
-def trial_given_build(_, __):
+def check_given_build(_, __):
     """tests/same_bytes takes a build of the gate for one of its two where the gate passed over this tree, from
     nothing, and the program is noted to be of these sources and to have these bytes; else it is refused."""
     if not can_hide():
@@ -192,7 +193,7 @@ def same_bytes(top, room, *words):
     return done
 
 
-def trial_counts(_, __):
+def check_counts(_, __):
     """Each check of a check that the gate calls ends with a count, by which a release reads the log of the gate;
     tests/docs, whose check takes long, isn't asked."""
     asked = [command for command in checks_of((TOP / ".ci/run").read_text(encoding="utf-8"))
@@ -206,4 +207,4 @@ def trial_counts(_, __):
             yield f"{command} ends with status {done.returncode} and {last!r}"
 
 
-TRIALS = (trial_release, trial_release_refused, trial_same_bytes, trial_given_build, trial_counts)
+ReleaseTests = test_case("ReleaseTests", (check_release, check_release_refused, check_same_bytes, check_given_build, check_counts))

@@ -7,10 +7,11 @@ import time
 from tests.simulate import model_checks
 from tests.simulate.page_tests import largest
 from tests.simulate.browser_page import Shown, faults, in_browser
+from tests.support.harness import test_case
 
 
 @in_browser
-def trial_browser_keys(program, running, _):
+def check_browser_keys(program, running, _):
     """By keys alone: to the plan, from sign to sign, a train in, a route set, back and forth."""
     with Shown(program, running, model_checks.plants()["station"]) as shown:
         one = shown.page
@@ -68,7 +69,7 @@ CONTROLS = ("button", "textbox", "searchbox", "radio", "checkbox", "listbox", "l
 
 
 @in_browser
-def trial_browser_reader(program, running, _):
+def check_browser_reader(program, running, _):
     """Names for a screen reader: of each sign of the plan, and of each control."""
     with Shown(program, running, model_checks.plants()["station-protected"]) as shown:
         shown.press("entry", "b1")
@@ -92,7 +93,7 @@ SIZES = {"a desk": (1400, 1000, False), "400 percent": (350, 250, False), "a tab
 
 
 @in_browser
-def trial_browser_sizes(program, running, _):
+def check_browser_sizes(program, running, _):
     """At 400 percent and on a tablet nothing is cut, signs are large enough for a finger, and a touch is a
     click."""
     for name in ("station", "terminus-throat"):
@@ -150,7 +151,7 @@ IN_USE = ("enter b1", "mark r1", "allocate r1", "lock r1", "head b1", "sense r1"
 
 
 @in_browser
-def trial_browser_dark(program, running, _):
+def check_browser_dark(program, running, _):
     """In the dark as in the light each text stands out from its ground, and what differs by colour differs
     by shape too."""
     for scheme in ("light", "dark"):
@@ -167,7 +168,7 @@ def trial_browser_dark(program, running, _):
 
 
 @in_browser
-def trial_browser_largest(program, running, is_long):
+def check_browser_largest(program, running, is_long):
     """Of 256 sections and 256 routes an event is shown after no more than 50 ms of work of the page, and a
     route is found by a search; with --long the times are printed."""
     for name, given in largest().items():
@@ -212,5 +213,5 @@ def times(one):
         yield words.split(" ")[0], clock, one.busy() - before
 
 
-TRIALS = [trial_browser_keys, trial_browser_reader, trial_browser_sizes, trial_browser_dark,
-          trial_browser_largest]
+AccessibilityTests = test_case("AccessibilityTests", [check_browser_keys, check_browser_reader, check_browser_sizes, check_browser_dark,
+          check_browser_largest])

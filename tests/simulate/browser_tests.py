@@ -8,6 +8,7 @@ from pathlib import Path
 from tests.simulate import model_checks
 from tests.simulate.browser_page import Shown, faults, in_browser
 from irvtools.paths import TOP
+from tests.support.harness import test_case
 
 SCRIPT = Path(__file__).resolve().parent / "battery.js"
 SHORT, LONG = (150, 3), (6000, 40)      # events and drives of each plant
@@ -15,7 +16,7 @@ FEW = ("two-sections", "station-protected", "trailing-point-wrong")     # withou
 
 
 @in_browser
-def trial_browser_model(program, running, is_long):
+def check_browser_model(program, running, is_long):
     """In the browser: the model agrees with replay, drive and the other model over random runs."""
     count = model_checks.Count()
     script = SCRIPT.read_text(encoding="utf-8")
@@ -34,7 +35,7 @@ def trial_browser_model(program, running, is_long):
 
 
 @in_browser
-def trial_browser_crossing(program, running, _):
+def check_browser_crossing(program, running, _):
     """Two trains cross in a passing loop, by clicks; what is saved is answered by replay and drive."""
     with Shown(program, running, model_checks.plants()["station"]) as shown:
         shown.press("entry", "b1")
@@ -53,7 +54,7 @@ def trial_browser_crossing(program, running, _):
 
 
 @in_browser
-def trial_browser_refused(program, running, _):
+def check_browser_refused(program, running, _):
     """A route that waits and an event that isn't possible: both with their reasons; trains that block each
     other."""
     with Shown(program, running, model_checks.plants()["station"]) as shown:
@@ -89,7 +90,7 @@ def trial_browser_refused(program, running, _):
 
 
 @in_browser
-def trial_browser_collision(program, running, _):
+def check_browser_collision(program, running, _):
     """A collision on a wrong table, by hand in under twenty clicks; saved, answered by replay, loaded, and
     played on from an earlier event."""
     with Shown(program, running, model_checks.plants()["platforms-wrong-position"]) as shown:
@@ -127,7 +128,7 @@ BAD_TEXTS = [
 
 
 @in_browser
-def trial_browser_texts(program, running, _):
+def check_browser_texts(program, running, _):
     """Runs of verify and of a state, scenarios and links are loaded; what isn't one is refused, and changes
     nothing."""
     given = model_checks.plants()["station"]
@@ -162,7 +163,7 @@ def trial_browser_texts(program, running, _):
 
 
 @in_browser
-def trial_browser_events(program, running, _):
+def check_browser_events(program, running, _):
     """Each event is asked for by its button where the plant does nothing by itself; a train goes on step by
     step, or runs as far as its boards allow."""
     with Shown(program, running, model_checks.plants()["station"]) as shown:
@@ -192,5 +193,5 @@ def trial_browser_events(program, running, _):
             (shown.page.ask("game.state.mode[1]"), "free"), (list(shown.page.faults()), [])])
 
 
-TRIALS = [trial_browser_model, trial_browser_crossing, trial_browser_refused, trial_browser_collision,
-          trial_browser_texts, trial_browser_events]
+BrowserTests = test_case("BrowserTests", [check_browser_model, check_browser_crossing, check_browser_refused, check_browser_collision,
+          check_browser_texts, check_browser_events])

@@ -10,6 +10,7 @@ from irvtools.simulate import script_engine
 from tests.simulate import expected_reasons
 from irvtools.simulate import scripts
 from irvtools.model.plant import Plant
+from tests.support.harness import test_case
 
 SCRIPT = Path(__file__).resolve().parent / "battery.js"
 EVENTS, DRIVES = 60, 2          # of each plant, in the gate
@@ -32,7 +33,7 @@ def is_there():
     return True
 
 
-def trial_model(program, _):
+def check_model(program, _):
     """The model agrees with replay, drive and the other model of events, over random runs."""
     if not is_there():
         return
@@ -52,7 +53,7 @@ def replay_cases():
                        case.files[case.words[-1]].decode("latin-1"), line)
 
 
-def trial_cases(_, __):
+def check_cases(_, __):
     """The model answers the cases of replay and drive in tests/cases as they expect."""
     if not is_there():
         return
@@ -88,7 +89,7 @@ route b from Y to . path p y3 points p=minus"""
 SCENE = "drive 1\nmark r\nenter x1\nenter y1\nmark a\nmark b\nenter c1\nend\n"
 
 
-def trial_order(program, _):
+def check_order(program, _):
     """What the plant does by itself comes in the order of drive, also where trains and points could move at
     once."""
     if not is_there():
@@ -105,7 +106,7 @@ def examples():
     return {name: Plant(json.loads(given)) for name, given in model_checks.plants().items()}
 
 
-def trial_reasons(_, __):
+def check_reasons(_, __):
     """What isn't possible, waits or is blocked is said with its reason, as it was worked out by hand."""
     if not is_there():
         return
@@ -124,7 +125,7 @@ def trial_reasons(_, __):
                 yield f"{name}, {expression}: {words!r} is said, and not {wanted!r}"
 
 
-def trial_back_and_forth(_, __):
+def check_back_and_forth(_, __):
     """A play that goes back and forth, and on from there, is in the state to which its events lead."""
     if not is_there():
         return
@@ -150,7 +151,7 @@ end
 """
 
 
-def trial_begun(_, __):
+def check_begun(_, __):
     """Where a route that is allocated already may let a train go on, nothing is said of blocking."""
     if not is_there():
         return
@@ -161,7 +162,7 @@ def trial_begun(_, __):
             yield f"{text!r}: {said}"
 
 
-def trial_blockades(_, is_long):
+def check_blockades(_, is_long):
     """Trains that are said to block each other never go on, whatever else happens."""
     if not is_there():
         return
@@ -175,5 +176,5 @@ def trial_blockades(_, is_long):
         yield f"it was said only {said} times"
 
 
-TRIALS = [trial_model, trial_cases, trial_order, trial_reasons, trial_back_and_forth,
-          trial_begun, trial_blockades]
+ModelTests = test_case("ModelTests", [check_model, check_cases, check_order, check_reasons, check_back_and_forth,
+          check_begun, check_blockades])

@@ -13,6 +13,7 @@ from tests.support import largest_configuration
 from tests.support import fifteen_section_line
 from tests.support import markup_check
 from irvtools.paths import TOP
+from tests.support.harness import test_case
 
 MOST_BYTES = 2000000
 NAME = '<img src=x onerror=alert(1)>&"'
@@ -42,7 +43,7 @@ def largest():
     return {"one line": configurations.made("largest"), "stations": configurations.document(*largest_configuration.stations())}
 
 
-def trial_pages(program, _):
+def check_pages(program, _):
     """Pages are well-formed, open nothing from elsewhere, and are small, also the largest."""
     for name, given in {**model_checks.plants(), **largest()}.items():
         text, said = page(program, given)
@@ -53,7 +54,7 @@ def trial_pages(program, _):
             yield f"{name}: {len(text.encode())} bytes"
 
 
-def trial_no_plants(program, _):
+def check_no_plants(program, _):
     """What isn't a plant makes a page that says why, and names are text."""
     wrong, unknown, two = fifteen_section_line.right(), fifteen_section_line.right(), fifteen_section_line.right()
     wrong["sections"][0]["name"] = NAME
@@ -70,7 +71,7 @@ def trial_no_plants(program, _):
             yield f"{given[:40]}: {words!r} isn't on the page; {said}"
 
 
-def trial_no_answer(_, __):
+def check_no_answer(_, __):
     """Where the program gives no answer the page doesn't say that the configuration isn't a plant."""
     with tempfile.TemporaryDirectory(prefix="irv-fake-") as room:
         text, said = page(fake_program.program(room, {"check": {"status": 139}}), model_checks.plants()["station"])
@@ -79,7 +80,7 @@ def trial_no_answer(_, __):
             yield f"no answer is taken for a refusal; {said}"
 
 
-def trial_names(program, _):
+def check_names(program, _):
     """The name of the file is text too, and a table that breaks rules of the columns is told so."""
     given = json.dumps(fifteen_section_line.with_fault("facing-point-wrong")).encode()
     with tempfile.TemporaryDirectory(prefix="irv-play-") as room:
@@ -94,7 +95,7 @@ def trial_names(program, _):
             yield "the name of the file or the broken rule isn't told"
 
 
-def trial_words(program, _):
+def check_words(program, _):
     """Wrong words, a page over its own configuration, and no program: status 125, and nothing is written."""
     given = model_checks.plants()["station"]
     with tempfile.TemporaryDirectory(prefix="irv-play-") as room:
@@ -129,7 +130,7 @@ RUN = "run 1\nstart\nenter a\nenter b\nhead a\nend\n"
 SCENE = "drive 1\nenter b1\nmark r1\nend\n"
 
 
-def trial_check(program, _):
+def check_check(program, _):
     """--check asks replay and drive, and says where the page doesn't agree with them."""
     two, station = model_checks.plants()["two-sections"], model_checks.plants()["station"]
     answers = [(two, played(two, "hazard two b", ["1 enter a", "0 leave b"], RUN), 0,
@@ -157,7 +158,7 @@ def trial_check(program, _):
             yield "a file that isn't there: another status than 125"
 
 
-def trial_no_engine(program, _):
+def check_no_engine(program, _):
     """Without a script engine --check answers all the same, and says that the page isn't asked."""
     with tempfile.TemporaryDirectory(prefix="irv-play-") as room:
         Path(room, "file").write_text(RUN, encoding="utf-8")
@@ -172,4 +173,4 @@ def trial_no_engine(program, _):
         yield f"{done.returncode}: {said!r}"
 
 
-TRIALS = [trial_pages, trial_no_plants, trial_no_answer, trial_names, trial_words, trial_check, trial_no_engine]
+PageTests = test_case("PageTests", [check_pages, check_no_plants, check_no_answer, check_names, check_words, check_check, check_no_engine])

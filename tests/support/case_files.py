@@ -2,7 +2,6 @@
 
 import json
 import shlex
-from pathlib import Path
 
 from irvtools.generators import configurations
 from tests.support import long_runs

@@ -5,7 +5,6 @@ Tracks are numbered; each has an open end, behind which the next piece goes.
 """
 
 import json
-import random
 import subprocess
 
 from irvtools.generators.configurations import linear, point

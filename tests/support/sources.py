@@ -4,9 +4,7 @@ texts are, but for white space and the name that they declare."""
 
 import ast
 import re
-import sys
 from collections import namedtuple
-from pathlib import Path
 
 from irvtools.mutants.functions import functions_of
 

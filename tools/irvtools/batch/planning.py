@@ -15,7 +15,7 @@ FORM = 1                        # another number where a kind of job comes to do
 
 def page_tool_sum():
     """The sum of all that makes a page."""
-    files = [HTML_TOOL, *sorted((HTML_TOOL.parent / "page_parts").glob("*.py"))]
+    files = [HTML_TOOL, *sorted((HTML_TOOL.parent / "irvtools").rglob("*.py"))]
     return sum_of("\n".join(f"{file.name} {sum_of_file(file)}" for file in files).encode())
 
 

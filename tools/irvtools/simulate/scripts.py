@@ -7,7 +7,7 @@ from irvtools.html.style import CSS
 
 HERE = Path(__file__).resolve().parent
 # what the page knows of plants, without a document; in this order, since each uses those before it
-MODEL = ("plant", "route_events", "train_events", "model", "texts", "waiting", "words", "play")
+MODEL = ("plant", "route_events", "train_events", "model", "texts", "waiting", "words", "simulator")
 # what shows it
 VIEW = ("elements", "train_lines", "plan", "lists", "choosing", "files", "keys", "page")
 

@@ -1,0 +1,218 @@
+"""The runner of all tests: finds them, runs them in parallel, and counts what they checked.
+
+A test's name is its module below `tests/`, without `_tests`, and its method, as `html.advice.asks`. Tests of
+one module run one after the other if the module has something to take down, otherwise each by itself."""
+
+from __future__ import annotations
+
+import importlib
+import multiprocessing
+import os
+import sys
+import time
+import traceback
+import unittest
+from dataclasses import dataclass
+
+from irvtools.arguments import Parser, whole_number
+from irvtools.paths import PROGRAM, TOP
+from tests.support.harness import SETTINGS, Test
+
+TESTS = TOP / "tests"
+PASSED, FAILED, SKIPPED = "passed", "FAILED", "skipped"
+
+
+@dataclass
+class Outcome:
+    """What came of a test: its name, whether it passed, how many checks it made, why it did not pass."""
+
+    name: str
+    result: str
+    checks: int
+    seconds: float
+    why: str
+    says: str
+
+
+def test_modules() -> list[str]:
+    """Returns the modules of tests: those of `tests/` but its support and this directory's scripts."""
+    files = [path for path in sorted(TESTS.rglob("*.py")) if path.name not in ("__init__.py", "entry.py")]
+    names = [path.relative_to(TOP).with_suffix("").as_posix().replace("/", ".") for path in files]
+    return [name for name in names if name.count(".") == 1 or name.endswith("_tests")
+            and not name.startswith("tests.support.")]
+
+
+def name_of(test: unittest.TestCase) -> str:
+    """Returns a test's name."""
+    module = type(test).__module__.removeprefix("tests.").removesuffix("_tests")
+    return f"{module}.{test._testMethodName.removeprefix('test_')}"
+
+
+def flat(suite):
+    """Yields the tests of a suite."""
+    for each in suite:
+        if isinstance(each, unittest.TestSuite):
+            yield from flat(each)
+        else:
+            yield each
+
+
+def all_tests() -> list[unittest.TestCase]:
+    """Returns all tests, in the order of their modules. A module that cannot be imported is a test that
+    fails."""
+    found = []
+    for name in test_modules():
+        try:
+            module = importlib.import_module(name)
+        except Exception:
+            found.append(broken_module(name, traceback.format_exc()))
+            continue
+        tests = list(flat(unittest.defaultTestLoader.loadTestsFromModule(module)))
+        tests = [test for test in tests if type(test).__module__ == name]
+        found += tests or [broken_module(name, "the module has no test")]
+    return found
+
+
+def broken_module(name: str, why: str) -> unittest.TestCase:
+    """Returns a test that fails because its module gives none."""
+    def test_import(self):
+        self.fail(why)
+    return type("Broken", (Test,), {"__module__": name, "test_import": test_import})("test_import")
+
+
+def units_of(tests) -> list[list[unittest.TestCase]]:
+    """Returns the tests in units, each of which runs in one process."""
+    units, by_module = [], {}
+    for test in tests:
+        module = sys.modules.get(type(test).__module__)
+        if hasattr(module, "tearDownModule"):
+            if module.__name__ not in by_module:
+                units.append(by_module.setdefault(module.__name__, []))
+            by_module[module.__name__].append(test)
+        else:
+            units.append([test])
+    return units
+
+
+class Recorder(unittest.TestResult):
+    """Records what comes of each test."""
+
+    def __init__(self):
+        super().__init__()
+        self.outcomes, self.begin = [], 0.0
+
+    def startTest(self, test):
+        """Notes when a test begins."""
+        super().startTest(test)
+        self.begin = time.monotonic()
+
+    def note(self, test, result, why=""):
+        """Notes what came of a test."""
+        checks = getattr(test, "checks", 1)
+        name = name_of(test) if hasattr(test, "_testMethodName") else str(test)
+        said = (getattr(test, "_testMethodDoc", "") or "").strip().split("\n")[0]
+        self.outcomes.append(Outcome(name, result, checks, time.monotonic() - self.begin, why, said))
+
+    def addSuccess(self, test):
+        """Notes a test that passed."""
+        self.note(test, PASSED)
+
+    def addSkip(self, test, reason):
+        """Notes a test that was skipped."""
+        self.note(test, SKIPPED, reason)
+
+    def addFailure(self, test, err):
+        """Notes a test that failed."""
+        self.note(test, FAILED, str(err[1]))
+
+    def addError(self, test, err):
+        """Notes a test that crashed: that is its failure."""
+        self.note(test, FAILED, "".join(traceback.format_exception(*err)))
+
+
+_UNITS: list[list[unittest.TestCase]] = []
+
+
+def run_unit(number: int) -> list[Outcome]:
+    """Runs a unit; returns what came of its tests."""
+    recorder = Recorder()
+    unittest.TestSuite(_UNITS[number]).run(recorder)
+    return recorder.outcomes
+
+
+def run_all(tests, jobs: int):
+    """Runs tests, `jobs` at once; yields what came of each as soon as it is known."""
+    _UNITS[:] = units_of(tests)
+    if jobs == 1:
+        for number in range(len(_UNITS)):
+            yield from run_unit(number)
+        return
+    with multiprocessing.get_context("fork").Pool(jobs, maxtasksperchild=1) as pool:
+        for outcomes in pool.imap_unordered(run_unit, range(len(_UNITS)), chunksize=1):
+            yield from outcomes
+
+
+def tell(outcome: Outcome, again: str) -> None:
+    """Prints what came of a test, and for a failure the command that repeats it."""
+    checks = f"{outcome.checks} checks, " if outcome.checks != 1 else ""
+    why = f": {outcome.why}" if outcome.result == SKIPPED else f": {outcome.says}" if outcome.says else ""
+    print(f"{outcome.result} {outcome.name} ({checks}{outcome.seconds:.1f} s){why}", flush=True)
+    if outcome.result == FAILED:
+        print("\n".join("    " + line for line in outcome.why.rstrip().split("\n")))
+        print(f"    again: {again} {outcome.name}", flush=True)
+
+
+def parser() -> Parser:
+    """Returns the parser of the command line."""
+    line = Parser("tests/run", "Runs the tests of the program, its tools and its sources, many at once.\n\n"
+                  "NAME is a test's name or the beginning of one, as html or html.advice. The last line is\n"
+                  "`N passed, N failed, N skipped`, which counts checks; the exit status is 0 only if none "
+                  "failed.", 2, "tests/run [OPTIONS] [NAME ..]")
+    line.add_argument("names", nargs="*", metavar="NAME", help="the tests that run (all)")
+    line.program()
+    line.once("--jobs", f"tests that run at once ({os.cpu_count() or 1} here)", metavar="N",
+              type=whole_number(1, 1024), default=os.cpu_count() or 1)
+    line.flag("--long", "also run tests that take long")
+    line.flag("--without-program", "run only tests that need no program")
+    line.flag("--list", "print the tests' names, and run none")
+    return line
+
+
+def is_named(name: str, wanted: str) -> bool:
+    """Returns whether a test is one of those that a word names."""
+    return name == wanted or name.startswith(f"{wanted}.")
+
+
+def chosen(tests, given):
+    """Returns the tests that the arguments name, and those names that no test has."""
+    unknown = [word for word in given.names if not any(is_named(name_of(test), word) for test in tests)]
+    found = [test for test in tests
+             if not given.names or any(is_named(name_of(test), word) for word in given.names)]
+    if given.without_program:
+        found = [test for test in found if not test.needs_program]
+    return found, unknown
+
+
+def main(words: list[str]) -> int:
+    """Runs the tests that the arguments name; returns the exit status."""
+    given = parser().parse_args(words)
+    SETTINGS.program, SETTINGS.is_long = given.program.resolve(), given.long
+    tests, unknown = chosen(all_tests(), given)
+    if unknown:
+        print(f"tests/run: no test is called {' or '.join(unknown)}; see tests/run --list", file=sys.stderr)
+        return 2
+    if given.list:
+        print(*map(name_of, tests), sep="\n")
+        return 0
+    if any(test.needs_program for test in tests) and not SETTINGS.program.is_file():
+        print(f"tests/run: the program {SETTINGS.program} does not exist; build it with ./irv --build, or "
+              "give --program FILE", file=sys.stderr)
+        return 2
+    same = SETTINGS.program == PROGRAM.resolve()
+    again = "tests/run" + ("" if same else f" --program {given.program}") + (" --long" * given.long)
+    counts = {PASSED: 0, FAILED: 0, SKIPPED: 0}
+    for outcome in run_all(tests, given.jobs):
+        tell(outcome, again)
+        counts[outcome.result] += outcome.checks if outcome.result == PASSED else 1
+    print(", ".join(f"{count} {result.lower()}" for result, count in counts.items()))
+    return 0 if counts[PASSED] and not counts[FAILED] else 1
