@@ -631,7 +631,7 @@ CHANGES = {
         see_lists, "docs/ARCHITECTURE.md", r"as `ilk_drive/`, ", "",
         "ilk_drive/src/automatic.rt is left out, which names the command drive"),
     "a file that comes to name an event": (
-        see_lists, "tools/page_parts/crews.py", r"\A", "CREWS = ['cancel']\n",
+        see_lists, "tools/irvtools/search/route_groups.py", r"\A", "CREWS = ['cancel']\n",
         "crews.py is left out, which names the event cancel"),
     "a bare number for the depth": (
         see_lists, "crates/ilk_copy/src/lib.rt", r"\A", "// a run has at most 16 events\n",

@@ -217,7 +217,7 @@ def names_what_there_is(top):
     """An edit of `must-fail/` is tried where it is named, and what isn't there is refused."""
     write(top, "must-fail", a=FIRST)
     return (call(top)[0] == ["0 passed, 0 failed"] and call(top, "high/a")[1] == 0
-            and [call(top, it)[1] for it in ("high/b", "higher", "--together")] == [1, 1, 1])
+            and [call(top, it)[1] for it in ("high/b", "higher", "--together")] == [1, 1, 2])
 
 
 def wants_proved_libraries(top):
@@ -233,7 +233,7 @@ def passes_over(top):
     write(top, a=FIRST)
     (top / "old").write_text("")
     lines, status, checks = call(top)
-    if (status, lines[-1], checks) != (0, "0 passed, 0 failed", []) or "hasn't" not in lines[0]:
+    if (status, lines[-1], checks) != (0, "0 passed, 0 failed", []) or "lacks" not in lines[0]:
         return False
     write(top, b=("what is gone", "1"))
     lines, status, checks = call(top)

@@ -1,11 +1,11 @@
 """Tries what makes docs/SPEED.md and the short table of README.md, and sees that they were made of
-tools/speed.txt.
+tools/irvtools/performance/measurements.txt.
 
     tests/speed       prints each failure, and at last `N passed, M failed`
 
 A measurement that was made up is read, and what stands in the tables and the picture is compared with
 what was worked out by hand; lines that tools/benchmark doesn't print are refused. Then the tables and the
-picture of the repository have to be those of tools/speed.txt. And the lines of tests/lib/double_track.py
+picture of the repository have to be those of tools/irvtools/performance/measurements.txt. And the lines of irvtools/generators/double_track.py
 have to be those of tests/plants, or of as many sections, points and routes as their parts have.
 """
 
@@ -148,16 +148,16 @@ def picture_faults():
 
 
 def repository_faults():
-    """What of the repository isn't made of tools/speed.txt."""
-    found = measurements.Measured((TOP / "tools/speed.txt").read_text(encoding="utf-8"))
+    """What of the repository isn't made of tools/irvtools/performance/measurements.txt."""
+    found = measurements.Measured((TOP / "tools/irvtools/performance/measurements.txt").read_text(encoding="utf-8"))
     page = (TOP / "docs/SPEED.md").read_text(encoding="utf-8")
     if tables.renewed(page, found) != page:
-        yield "docs/SPEED.md isn't what tools/speed --of tools/speed.txt makes"
+        yield "docs/SPEED.md isn't what tools/update_performance --of tools/irvtools/performance/measurements.txt makes"
     front = (TOP / "README.md").read_text(encoding="utf-8")
     if tables.renewed(front, found, tables.short) != front:
-        yield "README.md isn't what tools/speed --of tools/speed.txt makes"
+        yield "README.md isn't what tools/update_performance --of tools/irvtools/performance/measurements.txt makes"
     if (TOP / "docs" / tables.PICTURE).read_text(encoding="utf-8") != chart.Picture(found.plants).drawn():
-        yield f"docs/{tables.PICTURE} isn't what tools/speed --of tools/speed.txt makes"
+        yield f"docs/{tables.PICTURE} isn't what tools/update_performance --of tools/irvtools/performance/measurements.txt makes"
 
 
 def line_faults():

@@ -5,7 +5,7 @@ import os
 import subprocess
 import tempfile
 from pathlib import Path
-
+from unittest import SkipTest
 
 from tests.support import browser
 from tests.csv import comparison_cases
@@ -28,7 +28,7 @@ ALONE = 60              # random configurations that go through LibreOffice as f
 # `./irv` of a session, with the program that is tried in place of the one that the launcher would build
 IRV = """#!/usr/bin/env bash
 case ${{1-}} in
-    --sheet | --page) exec "{top}/tools/${{1#--}}" --program "{program}" "${{@:2}}" ;;
+    --csv | --html) exec "{top}/tools/${{1#--}}" --program "{program}" "${{@:2}}" ;;
     *) exec "{program}" "$@" ;;
 esac
 """
@@ -54,8 +54,7 @@ def check_office(_, is_long):
     come back."""
     program = libreoffice.find()
     if program is None:
-        print("no LibreOffice here: sheets aren't opened in it")
-        return
+        raise SkipTest("LibreOffice is not installed (Debian's package libreoffice-calc)")
     values = list(randoms().values())
     all_ = {f"all{version}": joined(values + [json.loads(given) for given in plants().values()], version)
             for version in (1, 2)}
@@ -101,17 +100,17 @@ def check_refusals(program, _):
     for words, why in refusal_cases.USAGES:
         with tempfile.TemporaryDirectory(prefix="irv-sheet-") as room:
             done = call(program, words, b"", room)
-            wanted = f"irv --sheet: {why}\n\n"
+            wanted = f"irv --csv: {why}; see irv --csv --help\n"
             if (done.stderr.decode(), done.stdout, done.returncode) != (wanted, b"", 125):
-                yield f"{words}: {done.stderr!r}, and {why!r} is wanted"
+                yield f"{words}: {done.stderr!r}, expected {wanted!r}"
 
 
 def check_full_output(program, _):
     """Where standard output takes nothing, that is told."""
     with open("/dev/full", "wb") as full:
-        done = subprocess.run([TOP / "tools/sheet", "--named"], input=refusal_cases.CONF.encode(), stdout=full,
+        done = subprocess.run([TOP / "tools/csv", "--named"], input=refusal_cases.CONF.encode(), stdout=full,
                               stderr=subprocess.PIPE, check=False)
-    wanted = b"irv --sheet: standard output: it can't be written: No space left on device\n"
+    wanted = b"irv --csv: standard output: it can't be written: No space left on device\n"
     if (done.stderr, done.returncode) != (wanted, 125):
         yield f"{done.returncode} {done.stderr!r}"
 
@@ -119,17 +118,17 @@ def check_full_output(program, _):
 def check_full_disk(program, _):
     """Where the second sheet can't be written whole, neither is left, and no folder."""
     with tempfile.TemporaryDirectory(prefix="irv-sheet-") as room:
-        done = subprocess.run(["bash", "-c", f"ulimit -f 1; exec '{TOP}/tools/sheet' --out new"], cwd=room,
+        done = subprocess.run(["bash", "-c", f"ulimit -f 1; exec '{TOP}/tools/csv' --out new"], cwd=room,
                               input=configurations.made("stations", "4"), capture_output=True, check=False)
         left = os.listdir(room)
-    wanted = b"irv --sheet: new/routes.csv: it can't be written: File too large\n"
+    wanted = b"irv --csv: new/routes.csv: it can't be written: File too large\n"
     if (done.stderr, done.returncode, left) != (wanted, 125, []):
         yield f"{done.returncode} {done.stderr!r} {left}"
 
 
 def check_help(program, _):
     """--help prints how it is called."""
-    done = subprocess.run([TOP / "tools/sheet", "--help"], capture_output=True, check=False)
+    done = subprocess.run([TOP / "tools/csv", "--help"], capture_output=True, check=False)
     if done.returncode or done.stderr or b"--with-network NEW" not in done.stdout:
         yield f"{done.returncode} {done.stdout!r}"
 
@@ -184,15 +183,14 @@ def check_browser(program, _):
     """The page of a comparison in a browser."""
     found = browser.find()
     if found is None:
-        print("no browser here: pages aren't looked at in one")
-        return
+        raise SkipTest("no browser is installed (Debian's package chromium)")
     station = json.loads(plants()["station"])
     for _, old, new, _ in comparison_cases.cases():
         if old == station:
             with tempfile.TemporaryDirectory(prefix="irv-sheet-") as room:
                 Path(room, "old").write_text(json.dumps(old), encoding="utf-8")
                 Path(room, "new").write_text(json.dumps(new), encoding="utf-8")
-                call(program, ["--compare", "old", "new", "--page", "page"], b"", room)
+                call(program, ["--compare", "old", "new", "--html", "page"], b"", room)
                 yield from browser.faults(found, Path(room, "page").read_text(encoding="utf-8"))
             return
 

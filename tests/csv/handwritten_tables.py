@@ -4,7 +4,7 @@ import json
 
 from tests.csv.refusal_cases import CONF, ROUTES, SECTIONS
 
-# as tools/sheet writes it: what a spreadsheet would change has an apostrophe
+# as tools/csv writes it: what a spreadsheet would change has an apostrophe
 CHANGED = {
     "sections.csv": b"name,kind,down,up,board down,board up,stem,plus,minus,faces\r\n"
                     b"'007,linear,,'1-2,,TRUE1,,,,\r\n"
@@ -66,7 +66,7 @@ NO_ROUTES = {"sections.csv": SECTIONS.replace("\n", "\r\n").encode(),
 
 
 def cases():
-    """Of each case its name, the sheets, what they say, and whether they are as tools/sheet writes them."""
+    """Of each case its name, the sheets, what they say, and whether they are as tools/csv writes them."""
     two = json.loads(CONF)
     own = {"sections.csv": SECTIONS.replace("\n", "\r\n").encode(),
            "routes.csv": ROUTES.replace("\n", "\r\n").encode()}

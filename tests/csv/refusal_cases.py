@@ -1,4 +1,4 @@
-"""What tools/sheet refuses: of each case the words, the files, standard input, and what is told.
+"""What tools/csv refuses: of each case the words, the files, standard input, and what is told.
 
 In a case's folder lie `conf`, a configuration of two sections, and the folder `two` with its sheets. A
 case names other contents of these, or further files; None takes one away.
@@ -210,9 +210,9 @@ OTHERS = [
      ["two: path of the route r1 (number 0) has 0 entries, and may have 1 to 32"]),
     (["--compare", "two", "conf"], {S: SECTIONS.splitlines()[0]}, "",
      ["two: there are 0 sections, and may be 1 to 256"]),
-    (["--compare", "two", "conf", "--page", "two/page"], {"two/page": "mine"}, "",
+    (["--compare", "two", "conf", "--html", "two/page"], {"two/page": "mine"}, "",
      ["two/page: it is there already, and isn't written over"]),
-    (["--compare", "two", "conf", "--page", "no/page"], {}, "",
+    (["--compare", "two", "conf", "--html", "no/page"], {}, "",
      ["no/page: it can't be written: No such file or directory"]),
     (["--compare", "--with-network", "conf"], {"conf": other('"down": "a"', '"down": null')}, "",
      ["the network has no table of its own: irv table: refused N5 sections[0]"]),
@@ -220,22 +220,22 @@ OTHERS = [
      ["the network has no table of its own: irv table: not called: [Errno 2] No such file or directory: 'none'"]),
 ]
 
-# Words that ask for nothing, and why.
+# Arguments that ask for nothing, and why.
 USAGES = [
-    ([], "a word that says what is wanted is missing"),
-    (["--into", "two"], "--into is no option"),
-    (["--named=yes"], "--named takes no value"),
-    (["--in"], "--in wants a value"),
-    (["two"], "two stands behind no option"),
-    (["--in", "two", "out"], "out stands behind no option"),
-    (["--in", "two", "--in", "two"], "--in stands twice"),
-    (["--named", "--named"], "--named stands twice"),
-    (["--compare", "conf"], "--compare wants two files or folders, with --with-network one"),
+    ([], "give --in, --out, --compare or a change"),
+    (["--into", "two"], "unrecognized arguments: --into"),
+    (["--named=yes"], "argument --named: ignored explicit argument 'yes'"),
+    (["--in"], "argument --in: expected one argument"),
+    (["two"], "unexpected argument two"),
+    (["--in", "two", "out"], "unexpected argument out"),
+    (["--in", "two", "--in", "two"], "--in is given twice"),
+    (["--named", "--named"], "--named is given twice"),
+    (["--compare", "conf"], "--compare takes two files or directories, with --with-network one"),
     (["--compare", "--with-network", "conf", "two"],
-     "--compare wants two files or folders, with --with-network one"),
-    (["--compare", "conf", "two", "--drop", "r1"], "--drop doesn't stand with --compare"),
-    (["--with-network", "--in", "two"], "--with-network doesn't stand without --compare"),
-    (["--page", "page"], "--page doesn't stand without --compare"),
+     "--compare takes two files or directories, with --with-network one"),
+    (["--compare", "conf", "two", "--drop", "r1"], "changes do not go with --compare"),
+    (["--with-network", "--in", "two"], "--with-network does not go without --compare"),
+    (["--html", "page"], "--html does not go without --compare"),
 ]
 
 

@@ -7,7 +7,7 @@ import sys
 import tempfile
 from pathlib import Path
 
-from irvtools.csvtables import csv_commands
+from irvtools.csvtables import cli
 from tests.support import markup_check
 from tests.csv import refusal_cases
 
@@ -26,12 +26,22 @@ def call(program, words, given=b"", where="."):
     sys.stdin, sys.stdout, sys.stderr = streams
     os.chdir(where)
     try:
-        status = csv_commands.main([str(word) for word in words], "", str(program))
+        # a program that the words name comes first
+        own = [] if "--program" in words else ["--program", str(program)]
+        status = status_of([*map(str, words), *own])
         sys.stderr.flush()
     finally:
         sys.stdin, sys.stdout, sys.stderr = before[:3]
         os.chdir(before[3])
     return Done(status, *(stream.buffer.getvalue() for stream in streams[1:]))
+
+
+def status_of(words):
+    """Calls the tool; returns its exit status, also if its parser ends it."""
+    try:
+        return cli.main(words)
+    except SystemExit as end:
+        return end.code
 
 
 def lay_out(room, files):
@@ -56,7 +66,7 @@ def refusal_faults(program, words, files, given, told):
         before = contents(room)
         done = call(program, words, given.encode(), room)
         after = contents(room)
-    wanted = "".join(f"irv --sheet: {line}\n" for line in told)
+    wanted = "".join(f"irv --csv: {line}\n" for line in told)
     if (done.stdout, done.stderr.decode(), done.returncode) != (b"", wanted, 125):
         yield f"{words} {list(files)}: {done.stderr.decode()!r}, {wanted!r} is wanted; {done.stdout[:90]!r}"
     if before != after:
@@ -69,7 +79,7 @@ def compare_faults(program, old, new, wanted):
         for name, value in (("old", old), ("new", new)):
             Path(room, name).write_text(json.dumps(value), encoding="utf-8")
         words = ["--with-network", "new"] if old is None else ["old", "new"]
-        done = call(program, ["--compare", *words, "--page", "page"], b"", room)
+        done = call(program, ["--compare", *words, "--html", "page"], b"", room)
         if done.stdout.decode().splitlines() != wanted or done.stderr:
             yield f"{done.stdout.decode()}{done.stderr.decode()}"
         if done.returncode != (0 if wanted[0].startswith("the same") else 1):

@@ -126,12 +126,12 @@ def check_given_files(program, _):
         if made or "can't be read" not in printed:
             yield f"a file that isn't there: {printed}"
         file.write_bytes(b"run 1\nstart\nenter line\nend\n")
-        made, _ = page(program, plants()["platforms"], "--run", str(file), "--hunt", "0")
+        made, _ = page(program, plants()["platforms"], "--run", str(file), "--search-seconds", "0")
         yield from markup_check.faults(made)
         if "&lt;i&gt;&amp;.run" not in made:
             yield "the file's name isn't on the page as text"
         file.write_text("drive 1\n" + "enter line\n" * 800 + "end\n")
-        made, _ = page(program, plants()["platforms"], "--run", str(file), "--hunt", "0")
+        made, _ = page(program, plants()["platforms"], "--run", str(file), "--search-seconds", "0")
         if "refused F1 extra" not in made or "longer than is read" not in made:
             yield "a scenario that is too long: no word of it"
         made, printed = page(program, b"{}", "--run", str(file))

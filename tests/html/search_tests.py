@@ -13,7 +13,7 @@ from irvtools.model import events
 from tests.support import fifteen_section_line
 from irvtools.calls.program import Program
 from irvtools.search.parallel_search import Searchers
-from irvtools.search.random_search import Hunt
+from irvtools.search.random_search import RandomSearch
 from irvtools.model.plant import Plant
 from irvtools.search.run_shortening import readable
 from irvtools.model.bitset_events import Facts, Simulation, to_hazard
@@ -24,13 +24,12 @@ from tests.support.harness import test_case
 ENDED = 60              # seconds after which a process that has to end is left over
 # what starts this in the background may have it ignore SIGINT, which goes on to what is called
 PARENT = """
-import signal, sys
+import signal
 signal.signal(signal.SIGINT, signal.default_int_handler)
-sys.path[:0] = {paths!r}
-import line
-from searchers import Searchers
-from plant import Plant
-searchers = Searchers(Plant(line.right()), count=3)
+from irvtools.model.plant import Plant
+from irvtools.search.parallel_search import Searchers
+from tests.support import fifteen_section_line
+searchers = Searchers(Plant(fifteen_section_line.right()), count=3)
 searchers.start(600)
 print(*(process.pid for process in searchers.processes.values()), flush=True)
 searchers.wait(600)
@@ -56,7 +55,7 @@ def run_faults(plant, run):
     yield from (f"event {place + 1} of {len(run)} can be left out" for place in left_out(plant, run))
 
 
-def check_hunt(_, is_long):
+def check_search(_, is_long):
     """The hunt finds a hazard on a table with a fault that makes one possible, and no event of what it
     found can be left out."""
     for name, (_, is_possible, _) in fifteen_section_line.FAULTS.items():
@@ -64,14 +63,14 @@ def check_hunt(_, is_long):
             continue
         plant = Plant(fifteen_section_line.with_fault(name))
         for seed in range(1, 9 if is_long else 2):
-            run = Hunt(plant, seed).for_hazard(600, 6000)
+            run = RandomSearch(plant, seed).for_hazard(600, 6000)
             if run is None:
                 yield f"{name}: nothing found with the seed {seed}"
             else:
                 yield from (f"{name}: {fault}" for fault in run_faults(plant, run))
 
 
-def check_hunt_cancel(_, __):
+def check_search_cancel(_, __):
     """A hazard that needs a route to be cancelled after it was allocated is found."""
     # h commands P to minus, and no train can come to its source; f doesn't list P
     plant = Plant(json.loads(configurations.plant_text([
@@ -79,7 +78,7 @@ def check_hunt_cancel(_, __):
         "linear d c . dD .", "route f from aU to . path P b",
         "route h from cD to . path P a points P=minus"])))
     for seed in (1, 2, 3):
-        run = Hunt(plant, seed, [0]).for_hazard(600, 2000)
+        run = RandomSearch(plant, seed, [0]).for_hazard(600, 2000)
         if run is None:
             yield f"nothing found with the seed {seed}"
             continue
@@ -88,27 +87,27 @@ def check_hunt_cancel(_, __):
             yield f"{run} comes to a hazard without a cancel"
 
 
-def check_hunt_far(_, __):
+def check_search_far(_, __):
     """A hazard ten routes away from where trains come in is found within some runs: in the middle of
     nine stations in a row, a route lists a point wrongly."""
     document = json.loads(configurations.made("stations", "9"))
     fifteen_section_line.lists(document, "s5r2", "p5", "plus")
     plant = Plant(document)
     for seed in (1, 2, 3):
-        run = Hunt(plant, seed, [plant.route_named["s5r2"]]).for_hazard(600, 60)
+        run = RandomSearch(plant, seed, [plant.route_named["s5r2"]]).for_hazard(600, 60)
         if run is None:
             yield f"nothing found with the seed {seed}"
         else:
             yield from run_faults(plant, run)
 
 
-def check_hunt_right(_, is_long):
+def check_search_right(_, is_long):
     """The hunt finds nothing on tables that break no rule, or one that safety doesn't rest on."""
     found = {"line": fifteen_section_line.right(), "stations": json.loads(configurations.made("stations", "3")),
              "throat": json.loads((TOP / "examples/terminus-throat.json").read_text())}
     found.update({name: fifteen_section_line.with_fault(name) for name, fault in fifteen_section_line.FAULTS.items() if not fault[1]})
     for name, document in found.items():
-        hunt = Hunt(Plant(document))
+        hunt = RandomSearch(Plant(document))
         while hunt.events < (200000 if is_long else 8000):
             if hunt.for_hazard(600, hunt.runs + 20) is not None:
                 yield f"{name}: a run to a hazard"
@@ -118,7 +117,7 @@ def check_hunt_right(_, is_long):
 def check_shortening(_, __):
     """Events that do nothing for the hazard are left out of a run, wherever they stand."""
     plant = Plant(fifteen_section_line.with_fault("facing-point-wrong"))
-    run = Hunt(plant, 2).for_hazard(600)
+    run = RandomSearch(plant, 2).for_hazard(600)
     routes = {number for word, number in run if word in ROUTE_WORDS}
     borders = {number for word, number in run if word == "enter"}
     idle = [(word, r) for r in range(len(plant.routes)) if r not in routes
@@ -135,7 +134,7 @@ def check_shortening(_, __):
         yield f"{len(run)} events became {len(longer)}, and aren't shortened again"
 
 
-def check_hunters(_, __):
+def check_parallel_search(_, __):
     """Several hunts at once find what one finds, and end with the first run, with their time, and when
     they are stopped."""
     plant = Plant(fifteen_section_line.with_fault("facing-point-wrong"))
@@ -146,7 +145,7 @@ def check_hunters(_, __):
             yield f"{run}, over: {searchers.is_over}, found by {searchers.found_by}"
         else:
             yield from run_faults(plant, run)
-            if Hunt(plant, searchers.found_by).for_hazard(600) != run:
+            if RandomSearch(plant, searchers.found_by).for_hazard(600) != run:
                 yield "the seed that found it doesn't find it again"
     right = Plant(fifteen_section_line.right())
     with Searchers(right, count=2) as searchers:
@@ -161,11 +160,11 @@ def check_hunters(_, __):
     yield from (f"process {pid} is left after its searchers were stopped" for pid in alive(pids))
 
 
-def check_hunters_end(_, __):
+def check_processes_end(_, __):
     """The processes of a hunt end with the one that started them, however that ends."""
-    paths = [path for path in sys.path if path.startswith(str(TOP))]
+    where = {**os.environ, "PYTHONPATH": f"{TOP}:{TOP / 'tools'}"}
     for number in (signal.SIGINT, signal.SIGTERM, signal.SIGKILL):
-        parent = subprocess.Popen([sys.executable, "-B", "-c", PARENT.format(paths=paths)],
+        parent = subprocess.Popen([sys.executable, "-B", "-c", PARENT], env=where,
                                   stdout=subprocess.PIPE, stderr=subprocess.DEVNULL)
         pids = [int(word) for word in parent.stdout.readline().split()]
         parent.send_signal(number)
@@ -192,10 +191,10 @@ def alive(pids):
     return found
 
 
-def check_hunt_alone(program, _):
-    """tools/hunt prints a run that replay answers with a hazard."""
+def check_search_alone(program, _):
+    """tools/search prints a run that replay answers with a hazard."""
     given = json.dumps(fifteen_section_line.with_fault("border-without-board")).encode()
-    done = subprocess.run([TOP / "tools/hunt", "--program", program, "--seconds", "20"], input=given,
+    done = subprocess.run([TOP / "tools/search", "--program", program, "--seconds", "20"], input=given,
                           capture_output=True, check=False)
     if done.returncode != 0:
         yield f"status {done.returncode}: {done.stderr.decode()}"
@@ -203,11 +202,11 @@ def check_hunt_alone(program, _):
     if not said.startswith("hazard "):
         yield f"replay says {said!r} of the printed run"
     for given, status in ((b"{", 2), (b'{"version":1,"sections":[],"routes":[]}', 2)):
-        done = subprocess.run([TOP / "tools/hunt", "--program", program], input=given,
+        done = subprocess.run([TOP / "tools/search", "--program", program], input=given,
                               capture_output=True, check=False)
         if done.returncode != status:
             yield f"{given}: status {done.returncode}"
 
 
-SearchTests = test_case("SearchTests", [check_hunt, check_hunt_cancel, check_hunt_far, check_hunt_right, check_shortening,
-          check_hunters, check_hunters_end, check_hunt_alone])
+SearchTests = test_case("SearchTests", [check_search, check_search_cancel, check_search_far, check_search_right, check_shortening,
+          check_parallel_search, check_processes_end, check_search_alone])

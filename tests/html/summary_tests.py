@@ -24,8 +24,8 @@ WORDS = (
     ("x.html", "--depth", "99"), ("x.html", "--depth=0"), ("x.html", "--conflicts", "-1"),
     ("x.html", "--conflicts=200001"), ("x.html", "--columns", "loose"),
     ("x.html", "--colums", "free"), ("x.html", "y.html"), ("x.html", "check"),
-    ("x.html", "verify", "verify"), ("x.html", "--depth"), ("x.html", "--wait", "soon"),
-    ("x.html", "--hunt", "²"), ("x.html", "--depth", "2", "--depth", "2"),
+    ("x.html", "verify", "verify"), ("x.html", "--depth"), ("x.html", "--verify-seconds", "soon"),
+    ("x.html", "--search-seconds", "²"), ("x.html", "--depth", "2", "--depth", "2"),
     ("x.html", "--without-times", "--without-times"), ("x.html", "--without-times=yes"),
     ("--columns", "free"), ("x.html", "--run", "nothing"), ("x.html", "--run", "conf.json"),
     ("conf.json",), ("./conf.json",), ("link.html",), ("hard.html",), ("/dev/stdin",),
@@ -99,7 +99,7 @@ def check_first_lines(program, _):
     bare = json.dumps({**json.loads(given["line-with-boards"]), "routes": []}).encode()
     for name, data, words, firsts, printed in (
             ("clean", given["station"], (), ["Rules: clean", "Verdict: safe k=1"], "x: safe k=1"),
-            ("unsafe", given["two-sections"], ("--hunt", "0"),
+            ("unsafe", given["two-sections"], ("--search-seconds", "0"),
              ["Verdict: under free columns: unsafe steps=3", "Rules: check refuses it: 2 rules broken, "
               "C7", "The table has no routes, so no board ever opens: no train can move but those that "
               "come in where the border has no board, at a and b."],
@@ -115,7 +115,7 @@ def check_first_lines(program, _):
             ("bare", bare, (), ["Rules: clean", "The table has no routes, so no board ever opens: no "
                                 "train can move but come in, to the board of the border.",
                                 "Verdict: safe k=1"], "x: safe k=1")):
-        text, said = page(program, data, "--wait", "600", *words)
+        text, said = page(program, data, "--verify-seconds", "600", *words)
         found = first_lines(text)
         if not all(one.startswith(first) for one, first in zip([*found, "", "", ""], firsts)):
             yield f"{name}: {found}"
@@ -131,7 +131,7 @@ def check_side_by_side(_, __):
     with tempfile.TemporaryDirectory(prefix="irv-fake-") as room:
         slow = fake_program.program(room, {"check": refused, "verify": {"sleeps": 900}, "table": {"status": 5},
                                     "replay": {"says": "hazard wrong PC\n"}})
-        text, said = page(slow, wrong, "--wait", "600", "--hunt", "300")
+        text, said = page(slow, wrong, "--verify-seconds", "600", "--search-seconds", "300")
         if "since a run to a hazard was found" not in said:
             yield f"a slow verify: {said}"
         late = [word for word in ("wasn't waited for",) if word in plain(text)]
@@ -140,7 +140,7 @@ def check_side_by_side(_, __):
     with tempfile.TemporaryDirectory(prefix="irv-fake-") as room:
         liar = fake_program.program(room, {"check": refused, "verify": {"sleeps": 900}, "table": {"status": 5},
                                     "replay": {"says": "no hazard\n"}})
-        text, said = page(liar, wrong, "--wait", "600", "--hunt", "300")
+        text, said = page(liar, wrong, "--verify-seconds", "600", "--search-seconds", "300")
         if "Here the page stops" not in text or "hazard" in first_lines(text)[0] \
                 or ": hazard" in said:
             yield f"a replay that says otherwise: {said}"
@@ -148,7 +148,7 @@ def check_side_by_side(_, __):
         spent = fake_program.program(room, {"check": {"says": "clean\n"}, "table": {"status": 5},
                                      "verify": {"says": "spent conflicts=1\n", "status": 4},
                                      "replay": {"says": "no hazard\n"}})
-        text, said = page(spent, json.dumps(fifteen_section_line.right()).encode(), "--hunt", "60")
+        text, said = page(spent, json.dumps(fifteen_section_line.right()).encode(), "--search-seconds", "60")
         if "No hunt: check under strict columns answered “clean”" not in text:
             yield f"a clean table: {said}"
 
@@ -166,9 +166,9 @@ def check_times(program, _):
                                     "verify": {"sleeps": 900}, "table": {"status": 5},
                                     "replay": {"says": "hazard wrong PC\n"}})
         for asked, given, words, parts in (
-                (program, plants()["platforms-wrong-position"], ("--wait", "600", "--depth", "1"),
+                (program, plants()["platforms-wrong-position"], ("--verify-seconds", "600", "--depth", "1"),
                  ("(status 5", "hunts at once")),
-                (slow, wrong, ("--wait", "600", "--hunt", "300"),
+                (slow, wrong, ("--verify-seconds", "600", "--search-seconds", "300"),
                  ("(no status", "since a run to a hazard was found"))):
             for option, is_told in (((), True), (("--without-times",), False)):
                 text, said = page(asked, given, *words, *option)
@@ -202,7 +202,7 @@ def check_unheard_rules(_, __):
         newer = fake_program.program(room, {"check": {"says": lines + "\n", "status": 5}, "table": {"status": 5},
                                      "verify": {"says": "spent conflicts=1\n", "status": 4},
                                      "replay": {"says": "no hazard\n"}})
-        text, said = page(newer, wrong, "--hunt", "0")
+        text, said = page(newer, wrong, "--search-seconds", "0")
         if plain(text).count("The page has no words for the rule C0") != 3 \
                 or not all(refusal in plain(text) for refusal, *_ in UNHEARD[:3]) or "spent conflicts=1" not in said:
             yield f"a rule of the columns that is new: {said}"
@@ -211,7 +211,7 @@ def check_unheard_rules(_, __):
 def refused_by(program, room, words):
     """What is wrong where the page takes these words."""
     with open(Path(room, "conf.json"), "rb") as given, open(Path(room, "told"), "ab") as told:
-        done = subprocess.run([TOP / "tools/page", "--program", program, *words], cwd=room, stdin=given,
+        done = subprocess.run([TOP / "tools/html", "--program", program, *words], cwd=room, stdin=given,
                               stdout=told, stderr=subprocess.PIPE, check=False)
     if done.returncode != 125 or done.stderr.count(b"\n") != 1:
         return f"{words}: status {done.returncode}: {done.stderr}"

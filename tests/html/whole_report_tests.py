@@ -6,6 +6,7 @@ import subprocess
 import tempfile
 import time
 from pathlib import Path
+from unittest import SkipTest
 
 from tests.support import browser
 from irvtools.generators import configurations
@@ -46,7 +47,7 @@ def check_pages(program, is_long):
     chosen = ["two-sections", "line-with-boards", "platforms-wrong-position", "facing-point-wrong"]
     found = plants()
     for name in (found if is_long else chosen):
-        text, said = page(program, found[name], "--wait", "20" if is_long else "5", "--hunt", "4")
+        text, said = page(program, found[name], "--verify-seconds", "20" if is_long else "5", "--search-seconds", "4")
         yield from (f"{name}: {fault}" for fault in markup_check.faults(text))
         check = Program(program, found[name]).ask(["check"], 60).line
         for words in (check, "Track plan", "For the safety case", "isn't proved"):
@@ -77,9 +78,9 @@ def check_words(program, _):
     given = plants()["line-with-boards"]
     with tempfile.TemporaryDirectory(prefix="irv-page-test-") as room:
         def called(*words):
-            return subprocess.run([TOP / "tools/page", "--program", program, *words], input=given, cwd=room,
+            return subprocess.run([TOP / "tools/html", "--program", program, *words], input=given, cwd=room,
                                   capture_output=True, check=False)
-        for words in ((), ("--wait",), ("a.html", "--wait", "x"), ("a.html", "--columns", "loose"),
+        for words in ((), ("--verify-seconds",), ("a.html", "--verify-seconds", "x"), ("a.html", "--columns", "loose"),
                       ("a.html", "b.html"), ("no/folder.html",)):
             if called(*words).returncode != 125 or list(Path(room).iterdir()):
                 yield f"{words}: another status than 125, or something was written"
@@ -108,12 +109,12 @@ def check_fakes(_, __):
                 ({"check": clean, "verify": unsafe, "replay": {"says": "hazard two U1\n"}},
                  "Here the page stops")):
             program = fake_program.program(room, answers)
-            text, said = page(program, given, "--wait", "1", "--hunt", "1")
+            text, said = page(program, given, "--verify-seconds", "1", "--search-seconds", "1")
             if wanted not in text:
                 yield f"{answers}: {wanted!r} isn't on the page; {said}"
             yield from markup_check.faults(text)
     text, said = page(Path(room, "nothing"), given)
-    if text or "there is no program" not in said:
+    if text or "does not exist; build it" not in said:
         yield f"without a program: {said}"
 
 
@@ -121,13 +122,12 @@ def check_browser(program, is_long):
     """In a browser: nothing on its console, names lie in their frames and not on each other."""
     found = browser.find()
     if found is None:
-        print("no browser here: pages aren't looked at in one")
-        return
+        raise SkipTest("no browser is installed (Debian's package chromium)")
     chosen = plants() if is_long else {"facing-point-wrong": plants()["facing-point-wrong"]}
     if is_long:
         chosen["stations 16"] = configurations.made("stations", "16")
     for name, given in chosen.items():
-        text, _ = page(program, given, "--wait", "5", "--hunt", "4")
+        text, _ = page(program, given, "--verify-seconds", "5", "--search-seconds", "4")
         yield from (f"{name}: {fault}" for fault in browser.faults(found, text))
     yield from paper_faults(found, program)
 
@@ -136,7 +136,7 @@ def paper_faults(found, program):
     """What is wrong with a station's page on paper: its plan, rules, verdict, run to a hazard and safety
     case take more than six pages, the table of routes isn't on pages of its own in their width, or a run
     that uses a route is printed."""
-    text, _ = page(program, plants()["facing-point-wrong"], "--wait", "5")
+    text, _ = page(program, plants()["facing-point-wrong"], "--verify-seconds", "5")
     begin, _, rest = text.partition(SHEET)
     sheet, _, rest = rest.partition("<h2>What each route is good for")
     end = rest[rest.index("<h2>For the safety case"):]

@@ -84,7 +84,7 @@ def without_conflicts(value):
 def check_deviations(program, _):
     """A table that breaks C6 fourteen times, on which safety doesn't rest: each is told, with its way."""
     given = changed(example("station.json"), without_conflicts)
-    scene = ("--run", CROSSING, "--run", CROSSING, "--solvers", "0")
+    scene = ("--run", CROSSING, "--run", CROSSING, "--solver-seconds", "0")
     with made(program, given, *scene) as (folder, said):
         if said != "with deviations, under free columns: safe k=1":
             yield said
@@ -122,7 +122,7 @@ def check_unsafe(program, _):
 
 def check_not_shown(program, _):
     """Where verify finds neither, and no run is hunted, the case says that nothing is shown."""
-    words = ("--hunt", "0", "--depth", "1")
+    words = ("--search-seconds", "0", "--depth", "1")
     with made(program, example("platforms-wrong-position.json"), *words) as (folder, said):
         if not said.startswith("with deviations, under free columns: not shown to be safe: not inductive "):
             yield said
@@ -134,7 +134,7 @@ def check_not_shown(program, _):
 
 def check_run_is_kept(program, _):
     """A run that is given is replayed, and a hazard that it comes to is told of it, not of the search."""
-    with made(program, example("two-sections.json"), "--run", MEET, "--hunt", "0", "--depth", "2") \
+    with made(program, example("two-sections.json"), "--run", MEET, "--search-seconds", "0", "--depth", "2") \
             as (folder, said):
         answer = (folder / "answers/replay-1.txt").read_text() if folder.exists() else ""
         if answer != "hazard two b\n" or not said.endswith("not safe: hazard two b, by runs/1.run"):
@@ -159,7 +159,7 @@ def check_no_plant(program, _):
 def check_changes(program, _):
     """Each changed, missing and new file is found by the sums, and a changed configuration, certificate,
     answer and program also where the sums are made anew."""
-    with made(program, example("line-with-boards.json"), "--solvers", "0") as (folder, said):
+    with made(program, example("line-with-boards.json"), "--solver-seconds", "0") as (folder, said):
         if said != "safe k=1":
             yield said
             return
@@ -195,7 +195,7 @@ def hidden(folder, name):
 
 def check_moved(program, _):
     """A case is repeated from a copy elsewhere, by a program that is named, and changes nothing."""
-    with made(program, example("line-with-boards.json"), "--solvers", "0") as (folder, _):
+    with made(program, example("line-with-boards.json"), "--solver-seconds", "0") as (folder, _):
         copy = folder.parent / "a copy with spaces"
         subprocess.run(["cp", "-r", folder, copy], check=True)
         before = sorted((path.as_posix(), path.stat().st_mtime_ns) for path in copy.rglob("*"))
@@ -206,7 +206,7 @@ def check_moved(program, _):
 
 def check_made_again(program, _):
     """A case that is made again, in another folder, is the same byte for byte."""
-    for name, words in (("platforms.json", ()), ("two-sections.json", ("--run", MEET, "--hunt", "0"))):
+    for name, words in (("platforms.json", ()), ("two-sections.json", ("--run", MEET, "--search-seconds", "0"))):
         with made(program, example(name), *words) as (one, _), made(program, example(name), *words) as (other, _):
             told = subprocess.run(["diff", "-rq", one, other], capture_output=True, check=False)
             if told.returncode or not (one / "SHA256SUMS").is_file():

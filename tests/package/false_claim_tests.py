@@ -36,7 +36,7 @@ def check_contradiction(program, _):
              "a contradiction: safe k=1, and hazard two a steps=1, by runs/1.scene")):
         with place() as folder:
             fake = pretended(folder.parent, program, command, does)
-            done = call(fake, folder, example("station.json"), "--solvers", "0", "--run", scene)
+            done = call(fake, folder, example("station.json"), "--solver-seconds", "0", "--run", scene)
             if done.returncode or f": {wanted}\n" not in done.stdout.decode():
                 yield f"{command}: {done}"
             elif "nothing of this case counts" not in text_of_page(folder):
@@ -52,7 +52,7 @@ def check_no_answer(program, _):
         if done.returncode != 125 or b"irv check was ended by SIGKILL" not in done.stderr or folder.exists():
             yield f"check was killed: {done}"
         fake = pretended(folder.parent, program, "verify", "exit 0")
-        done = call(fake, folder, given, "--hunt", "0")
+        done = call(fake, folder, given, "--search-seconds", "0")
         if b"clean, and so safe, without a certificate: no answer: irv verify ended with status 0" not in done.stdout:
             yield f"verify said nothing: {done}"
 
@@ -68,7 +68,7 @@ def check_names(program, _):
         shutil.copy(TOP / "examples/two-trains-meet.run", run)
         (room / "elsewhere/-a 'case").mkdir(parents=True)
         with open(given, "rb") as source:
-            done = subprocess.run([TOP / "tools/case", "./-a 'case", b"--run=" + RUN, "--solvers", "0", "--program",
+            done = subprocess.run([TOP / "tools/package", "./-a 'case", b"--run=" + RUN, "--solver-seconds", "0", "--program",
                                    program], cwd=room, stdin=source, capture_output=True, check=False)
         if done.returncode:
             yield f"{done}"
@@ -95,7 +95,7 @@ def check_notes(program, _):
             shutil.copy(program, copy)
             note = f"sources elsewhere\nprogram {of}\ntoolchain kit 1\n"
             copy.with_name(f"{name}.built").write_text(note)
-            done = call(copy, folder, given, "--solvers", "0")
+            done = call(copy, folder, given, "--solver-seconds", "0")
             told = (folder / "version.txt").read_text() if done.returncode == 0 else f"{done}"
             yield from (f"{name} {of}: {word!r} isn't told: {told}" for word in wanted if word not in told)
             shutil.rmtree(folder, ignore_errors=True)
@@ -103,7 +103,7 @@ def check_notes(program, _):
 
 def check_sums_that_name_nothing(program, _):
     """A sum that is none, and a link that came new, are found."""
-    with made(program, example("line-with-boards.json"), "--solvers", "0") as (folder, _):
+    with made(program, example("line-with-boards.json"), "--solver-seconds", "0") as (folder, _):
         sums = folder / "SHA256SUMS"
         lines = sums.read_text().splitlines()
         place = next(number for number, line in enumerate(lines) if line.endswith("  page.html"))

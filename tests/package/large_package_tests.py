@@ -10,7 +10,7 @@ from tests.support.harness import LongTest, test_case
 PLANT = TOP / "tests/plants/bs.json"
 CHANGED = ("configuration.json", "verify.cert", "answers/verify.txt", "program/irv")
 # rup takes minutes over what another solver writes of step 1
-WORDS = ("--solvers", "0")
+WORDS = ("--solver-seconds", "0")
 
 
 def first_difference(folder):

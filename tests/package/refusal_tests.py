@@ -25,7 +25,7 @@ def refusals(room):
             ("new", "--run", "other.txt"): "is neither a run nor a scenario",
             ("new", "--depth", "17"): "--depth wants a whole number, 1 to 16, and not '17'",
             ("new", "--depth", "0"): "--depth wants", ("new", "--conflicts", "-1"): "--conflicts wants",
-            ("new", "--hunt", "x"): "--hunt wants", ("new", "--columns", "free"): "there is no option --columns",
+            ("new", "--search-seconds", "x"): "--hunt wants", ("new", "--columns", "free"): "there is no option --columns",
             ("new", "--depth", "1", "--depth", "1"): "--depth is given twice",
             ("new", "--program", "nowhere"): "there is no program"}
 
@@ -53,7 +53,7 @@ def check_refusals(program, _):
 def call_in(room, program, words):
     """Calls the tool in a folder, with these words."""
     own = [] if "--program" in words else ["--program", program]
-    return subprocess.run([TOP / "tools/case", *words, *own], input=example("two-sections.json"), cwd=room,
+    return subprocess.run([TOP / "tools/package", *words, *own], input=example("two-sections.json"), cwd=room,
                           capture_output=True, check=False)
 
 
@@ -62,7 +62,7 @@ def check_empty_folder(program, _):
     with tempfile.TemporaryDirectory(prefix="irv-case-") as name:
         folder = Path(name) / "empty"
         folder.mkdir()
-        done = call(program, folder, example("line-with-boards.json"), "--solvers", "0")
+        done = call(program, folder, example("line-with-boards.json"), "--solver-seconds", "0")
         if done.returncode or not (folder / "SHA256SUMS").is_file() or len(list(Path(name).iterdir())) != 1:
             yield f"{done.returncode} {done.stderr.decode()}"
 

@@ -6,6 +6,7 @@ import shutil
 import subprocess
 import tarfile
 import tempfile
+from unittest import SkipTest
 
 from irvtools.release.ci_log import COUNT, checks_of
 from tests.support.package_calls import TOP
@@ -121,12 +122,12 @@ def can_hide():
              "mount", "-t", "tmpfs", "tmpfs", tempfile.gettempdir()]
     can = shutil.which(words[0]) and subprocess.run(words, capture_output=True, check=False).returncode == 0
     if not can:
-        print("no folder can be hidden here from a build: tests/same_bytes isn't tried")
+        raise SkipTest("no directory can be hidden from a build here")
     return can
 
 
 def check_same_bytes(_, __):
-    """tests/same_bytes finds builds with the same bytes the same and others not, builds where nothing is seen of
+    """tests/reproducible_build finds builds with the same bytes the same and others not, builds where nothing is seen of
     what is kept, and takes no folder in which something else stands."""
     if not can_hide():
         return
@@ -156,7 +157,7 @@ def check_same_bytes(_, __):
 
 
 def check_given_build(_, __):
-    """tests/same_bytes takes a build of the gate for one of its two where the gate passed over this tree, from
+    """tests/reproducible_build takes a build of the gate for one of its two where the gate passed over this tree, from
     nothing, and the program is noted to be of these sources and to have these bytes; else it is refused."""
     if not can_hide():
         return
@@ -187,8 +188,8 @@ def check_given_build(_, __):
 
 
 def same_bytes(top, room, *words):
-    """What tests/same_bytes of the small repository says."""
-    done = called(top, top / "tests/same_bytes", room, *words)
+    """What tests/reproducible_build of the small repository says."""
+    done = called(top, top / "tests/reproducible_build", room, *words)
     done.stdout, done.stderr = done.stdout.decode(), done.stderr.decode()
     return done
 

@@ -93,7 +93,7 @@ def lay_out(top):
         (top / place).write_text(text)
     (top / "irv").chmod(0o755)
     (top / "tools").mkdir()
-    for tool in ("tools/release", "tests/same_bytes"):
+    for tool in ("tools/release", "tests/reproducible_build"):
         shutil.copy(TOP / tool, top / tool)
     for part in ("release_parts", "case_parts", "page_parts", "bodies"):
         shutil.copytree(TOP / "tools" / part, top / "tools" / part,

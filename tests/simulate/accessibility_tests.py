@@ -6,7 +6,7 @@ import time
 
 from tests.simulate import model_checks
 from tests.simulate.page_tests import largest
-from tests.simulate.browser_page import Shown, faults, in_browser
+from tests.simulate.browser_page import Shown, close, faults, in_browser
 from tests.support.harness import test_case
 
 
@@ -215,3 +215,8 @@ def times(one):
 
 AccessibilityTests = test_case("AccessibilityTests", [check_browser_keys, check_browser_reader, check_browser_sizes, check_browser_dark,
           check_browser_largest])
+
+
+def tearDownModule():
+    """Ends the browser."""
+    close()

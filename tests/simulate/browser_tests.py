@@ -6,11 +6,11 @@ import time
 from pathlib import Path
 
 from tests.simulate import model_checks
-from tests.simulate.browser_page import Shown, faults, in_browser
+from tests.simulate.browser_page import Shown, close, faults, in_browser
 from irvtools.paths import TOP
 from tests.support.harness import test_case
 
-SCRIPT = Path(__file__).resolve().parent / "battery.js"
+SCRIPT = Path(__file__).resolve().parent / "model_checks.js"
 SHORT, LONG = (150, 3), (6000, 40)      # events and drives of each plant
 FEW = ("two-sections", "station-protected", "trailing-point-wrong")     # without --long these alone
 
@@ -77,7 +77,7 @@ def check_browser_refused(program, running, _):
         shown.press("board", "m5")
         shown.press("entry", "b2")
         file = shown.saved("save-played", ".played")
-        checked = subprocess.run([TOP / "tools/play", "--check", file, "--program", program],
+        checked = subprocess.run([TOP / "tools/simulate", "--compare", file, "--program", program],
                                  input=shown.given, capture_output=True, check=False)
         yield from faults("refused", [
             ("It waits: t1 is occupied by train 1." in waits, True),
@@ -195,3 +195,8 @@ def check_browser_events(program, running, _):
 
 BrowserTests = test_case("BrowserTests", [check_browser_model, check_browser_crossing, check_browser_refused, check_browser_collision,
           check_browser_texts, check_browser_events])
+
+
+def tearDownModule():
+    """Ends the browser."""
+    close()

@@ -1,5 +1,5 @@
 """What the page's model says of random runs, beside `irv replay`, `irv drive` and the other model of
-events, that of tools/page_parts/events.py."""
+events, that of irvtools/model/events.py."""
 
 import json
 import subprocess

@@ -2,6 +2,7 @@
 
 import json
 from pathlib import Path
+from unittest import SkipTest
 
 from tests.simulate import model_checks
 from tests.support import case_files
@@ -12,7 +13,7 @@ from irvtools.simulate import scripts
 from irvtools.model.plant import Plant
 from tests.support.harness import test_case
 
-SCRIPT = Path(__file__).resolve().parent / "battery.js"
+SCRIPT = Path(__file__).resolve().parent / "model_checks.js"
 EVENTS, DRIVES = 60, 2          # of each plant, in the gate
 CASES = ("events", "states", "runtext", "drive")
 BLOCKADES = {"station": 40, "line-with-boards": 10, "line": 15, "stations 2": 10, "path-ends-early": 15}
@@ -26,10 +27,9 @@ def asks(name, plant, expression):
 
 
 def is_there():
-    """Whether there is an engine; else it is said."""
+    """Returns true if there is a script engine, otherwise skips the test."""
     if script_engine.find() is None:
-        print(f"no script engine here ({', '.join(script_engine.NAMES)}): the model isn't tried by itself")
-        return False
+        raise SkipTest(f"no script engine is installed ({', '.join(script_engine.NAMES)})")
     return True
 
 

@@ -24,8 +24,8 @@ markup_check.ALLOWED |= {"header", "main", "section", "footer", "noscript", "but
 
 
 def call(program, given, *words, room=None):
-    """Calls tools/play; its status, and what it printed."""
-    done = subprocess.run([TOP / "tools/play", *words, "--program", program], input=given, cwd=room,
+    """Calls tools/simulate; its status, and what it printed."""
+    done = subprocess.run([TOP / "tools/simulate", *words, "--program", program], input=given, cwd=room,
                           capture_output=True, check=False)
     return done.returncode, done.stdout.decode() + done.stderr.decode()
 
@@ -87,7 +87,7 @@ def check_names(program, _):
         file = Path(room, "</title><script>alert(1)<!--PLANT-->.json".replace("/", "_"))
         file.write_bytes(given)
         with open(file, "rb") as source:
-            subprocess.run([TOP / "tools/play", "p.html", "--program", program], stdin=source, cwd=room,
+            subprocess.run([TOP / "tools/simulate", "p.html", "--program", program], stdin=source, cwd=room,
                            capture_output=True, check=False)
         text = Path(room, "p.html").read_text(encoding="utf-8")
         yield from markup_check.faults(text)
@@ -101,12 +101,12 @@ def check_words(program, _):
     with tempfile.TemporaryDirectory(prefix="irv-play-") as room:
         conf_ = Path(room, "conf.json")
         conf_.write_bytes(given)
-        for words in ((), ("a.html", "b.html"), ("--check",), ("a.html", "--check", "conf.json"), ("-x",),
-                      ("--wait", "3", "a.html"), ("no/folder.html",)):
+        for words in ((), ("a.html", "b.html"), ("--check",), ("a.html", "--compare", "conf.json"), ("-x",),
+                      ("--verify-seconds", "3", "a.html"), ("no/folder.html",)):
             if call(program, given, *words, room=room)[0] != 125:
                 yield f"{words}: another status than 125"
         with open(conf_, "rb") as source:
-            done = subprocess.run([TOP / "tools/play", "conf.json", "--program", program], stdin=source,
+            done = subprocess.run([TOP / "tools/simulate", "conf.json", "--program", program], stdin=source,
                                   cwd=room, capture_output=True, check=False)
         if done.returncode != 125 or conf_.read_bytes() != given or len(list(Path(room).iterdir())) != 1:
             yield "a page is written over the configuration, or another file is there"
@@ -149,12 +149,12 @@ def check_check(program, _):
     with tempfile.TemporaryDirectory(prefix="irv-play-") as room:
         for given, text, wanted, words in answers:
             Path(room, "file").write_text(text, encoding="utf-8")
-            status, said = call(program, given, "--check", "file", room=room)
+            status, said = call(program, given, "--compare", "file", room=room)
             if (status, words in said) != (wanted, True):
                 yield f"{text!r}: {status}, {said!r}; expected were {wanted} and {words!r}"
             if wanted == 0 and script_engine.find() and "isn't asked" in said:
                 yield f"{text!r}: the page isn't asked: {said!r}"
-        if call(program, two, "--check", "nothing", room=room)[0] != 125:
+        if call(program, two, "--compare", "nothing", room=room)[0] != 125:
             yield "a file that isn't there: another status than 125"
 
 
@@ -165,7 +165,7 @@ def check_no_engine(program, _):
         python = Path(room, "python3")
         python.symlink_to(subprocess.run(["which", "python3"], capture_output=True, check=True)
                           .stdout.decode().strip())
-        done = subprocess.run([TOP / "tools/play", "--check", "file", "--program", program], cwd=room,
+        done = subprocess.run([TOP / "tools/simulate", "--compare", "file", "--program", program], cwd=room,
                               env={"PATH": f"{room}:/bin-that-is-not"}, capture_output=True, check=False,
                               input=model_checks.plants()["two-sections"], executable=None)
     said = done.stdout.decode() + done.stderr.decode()

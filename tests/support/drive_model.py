@@ -1,6 +1,6 @@
 """A scenario run to its rest, by the page's own model of events, which shares nothing with the program.
 
-    tests/lib/driver.py CONFIGURATION SCENARIO
+    support/drive_model.py CONFIGURATION SCENARIO
 
 prints what `irv drive --columns free` has to answer to a scenario of the right form.
 """

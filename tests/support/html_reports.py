@@ -19,7 +19,7 @@ def page(program, given, *words):
     """A page of a configuration; its text and what was printed."""
     with tempfile.TemporaryDirectory(prefix="irv-page-test-") as room:
         out = Path(room, "page.html")
-        done = subprocess.run([TOP / "tools/page", out, "--program", program, *words], input=given,
+        done = subprocess.run([TOP / "tools/html", out, "--program", program, *words], input=given,
                               capture_output=True, check=False)
         text = out.read_text(encoding="utf-8") if out.exists() else ""
         return text, done.stdout.decode() + done.stderr.decode()
@@ -30,7 +30,7 @@ def shown_by(program, given, text, *words):
     with tempfile.TemporaryDirectory(prefix="irv-page-run-") as room:
         file = Path(room, "given.run")
         file.write_text(text)
-        made, printed = page(program, given, "--run", file, "--hunt", "0", *words)
+        made, printed = page(program, given, "--run", file, "--search-seconds", "0", *words)
     return plain(made), printed
 
 

@@ -12,8 +12,8 @@ from irvtools.paths import TOP
 
 
 def call(program, folder, given, *words):
-    """What tools/case answers, with the program that is tried."""
-    return subprocess.run([TOP / "tools/case", folder, *words, "--program", program], input=given,
+    """What tools/package answers, with the program that is tried."""
+    return subprocess.run([TOP / "tools/package", folder, *words, "--program", program], input=given,
                           capture_output=True, check=False)
 
 

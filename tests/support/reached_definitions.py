@@ -9,7 +9,6 @@ them, is no part of a contract."""
 import importlib.machinery
 import importlib.util
 import re
-import sys
 
 # what the first line of a file says that denies it
 DENIES = re.compile(r"-- .*\b(?:private contracts|proofs alone)\b")
@@ -21,12 +20,12 @@ KEPT = re.compile(r" +ghost (?!Value\b)")
 
 
 def tool_of(root):
-    """tools/definitions of a copy of the repository, as a module."""
-    loader = importlib.machinery.SourceFileLoader("definitions", str(root / "tools/definitions"))
-    module = importlib.util.module_from_spec(importlib.util.spec_from_loader("definitions", loader))
-    writes, sys.dont_write_bytecode = sys.dont_write_bytecode, True
+    """Returns the lister of definitions of a copy of the repository, as a module."""
+    file = root / "tools/irvtools/docs/definitions.py"
+    loader = importlib.machinery.SourceFileLoader("definitions_of_copy", str(file))
+    module = importlib.util.module_from_spec(importlib.util.spec_from_loader(loader.name, loader))
     loader.exec_module(module)
-    sys.dont_write_bytecode = writes
+    module.use(root)
     return module
 
 

@@ -8,7 +8,6 @@ import json
 import subprocess
 
 from irvtools.generators.configurations import linear, point
-from tests.support.fifteen_section_line import listed_conflicts
 
 BOTH, DOWN, UP, NONE = ("down", "up"), ("down",), ("up",), ()
 

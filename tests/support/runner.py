@@ -8,11 +8,13 @@ from __future__ import annotations
 import importlib
 import multiprocessing
 import os
+import signal
 import sys
 import time
 import traceback
 import unittest
 from dataclasses import dataclass
+from multiprocessing import connection
 
 from irvtools.arguments import Parser, whole_number
 from irvtools.paths import PROGRAM, TOP
@@ -130,26 +132,46 @@ class Recorder(unittest.TestResult):
         self.note(test, FAILED, "".join(traceback.format_exception(*err)))
 
 
-_UNITS: list[list[unittest.TestCase]] = []
-
-
-def run_unit(number: int) -> list[Outcome]:
+def run_unit(unit) -> list[Outcome]:
     """Runs a unit; returns what came of its tests."""
     recorder = Recorder()
-    unittest.TestSuite(_UNITS[number]).run(recorder)
+    unittest.TestSuite(unit).run(recorder)
     return recorder.outcomes
 
 
+def answer_unit(unit, answer) -> None:
+    """Runs a unit in this process, and sends what came of it."""
+    signal.signal(signal.SIGINT, signal.default_int_handler)
+    answer.send(run_unit(unit))
+
+
+def ended(unit, process, answer) -> list[Outcome]:
+    """Returns what came of a unit whose process has answered or ended."""
+    try:
+        outcomes = answer.recv()
+    except EOFError:
+        outcomes = []
+    process.join()
+    if outcomes:
+        return outcomes
+    why = f"the test's process ended with status {process.exitcode} and no result"
+    return [Outcome(name_of(test), FAILED, 1, 0.0, why, "") for test in unit]
+
+
 def run_all(tests, jobs: int):
-    """Runs tests, `jobs` at once; yields what came of each as soon as it is known."""
-    _UNITS[:] = units_of(tests)
-    if jobs == 1:
-        for number in range(len(_UNITS)):
-            yield from run_unit(number)
-        return
-    with multiprocessing.get_context("fork").Pool(jobs, maxtasksperchild=1) as pool:
-        for outcomes in pool.imap_unordered(run_unit, range(len(_UNITS)), chunksize=1):
-            yield from outcomes
+    """Runs tests, `jobs` units at once; yields what came of each test as soon as it is known."""
+    context, waiting, running = multiprocessing.get_context("fork"), units_of(tests), {}
+    while waiting or running:
+        while waiting and len(running) < jobs:
+            unit = waiting.pop(0)
+            answer, sends = context.Pipe(duplex=False)
+            process = context.Process(target=answer_unit, args=(unit, sends))
+            process.start()
+            sends.close()
+            running[answer] = unit, process
+        for answer in connection.wait(list(running)):
+            unit, process = running.pop(answer)
+            yield from ended(unit, process, answer)
 
 
 def tell(outcome: Outcome, again: str) -> None:

@@ -14,7 +14,7 @@ from dataclasses import dataclass
 TIMEOUT_SECONDS = 300
 BLOCK = re.compile(r"^```\w*\n(.*?)^```$", re.S | re.M)
 # which program a tool calls besides
-CALLS = {"tools/safe_by": "cadical"}
+CALLS = {"tools/verify_with": "cadical"}
 
 
 @dataclass

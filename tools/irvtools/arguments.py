@@ -43,8 +43,8 @@ class Parser(argparse.ArgumentParser):
         self.add_argument(name, action=_Once, help=text, **how)
 
     def flag(self, name: str, text: str) -> None:
-        """Adds an option without a value."""
-        self.add_argument(name, action="store_true", help=text)
+        """Adds an option without a value, which may be given once."""
+        self.add_argument(name, action=_Once, nargs=0, default=False, help=text)
 
     def program(self) -> None:
         """Adds the option that names the program."""

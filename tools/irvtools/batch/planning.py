@@ -80,7 +80,7 @@ class Planner:
         """The page."""
         says = want.says
         words = ["--columns", says.columns, "--depth", str(says.depth), "--conflicts",
-                 str(says.conflicts), "--wait", f"{says.wait:g}", "--hunt", f"{says.hunt:g}"]
+                 str(says.conflicts), "--verify-seconds", f"{says.verify_seconds:g}", "--search-seconds", f"{says.search_seconds:g}"]
         return self.job("html", configuration=configuration, words=words, columns=says.columns,
                         tool=self.page_tool)
 

@@ -64,8 +64,8 @@ OPTIONS = {
     "--k": {"type": number(1, MOST_EVENTS), "default": 1},
     "--solver": {"type": solver, "default": CADICAL},
     "--seconds": {"type": seconds},
-    "--wait": {"type": seconds, "default": 20.0},
-    "--hunt": {"type": seconds, "default": 15.0},
+    "--verify-seconds": {"type": seconds, "default": 20.0},
+    "--search-seconds": {"type": seconds, "default": 15.0},
 }
 TAKES = {
     "check": ("--columns",),

@@ -1,7 +1,7 @@
 """Checks a refutation without hints, in the text of clauses that solvers write. It shares nothing with the
 program but the grammar: an item is tried by setting the opposites of its literals, in plain lists.
 
-    tests/lib/rup.py FORMULA TEXT
+    checkers/rup.py FORMULA TEXT
 
 prints `refuted`, or `rejected item I` with the number of the first bad item.
 """

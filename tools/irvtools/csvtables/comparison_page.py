@@ -86,7 +86,7 @@ class Picture:
             tag("h2", text("The table of routes")), self.sheet()])
         return ("<!doctype html>\n<html lang=\"en\"><head><meta charset=\"utf-8\">"
                 f"<title>{text(title)}: irv</title><style>{CSS}{OWN}</style></head><body>\n{body}\n"
-                + tag("p", text("By tools/sheet, which isn't proved."), class_="foot small")
+                + tag("p", text("By tools/csv, which isn't proved."), class_="foot small")
                 + "\n</body></html>\n")
 
     def network_plan(self, side, number):

@@ -14,6 +14,14 @@ from irvtools.paths import TOP
 
 CRATES = TOP / "crates"
 PAGE = TOP / "docs/ASSESSOR.md"
+
+
+def use(root):
+    """Reads another copy of the repository from now on."""
+    global CRATES, PAGE
+    CRATES, PAGE = root / "crates", root / PAGE.relative_to(TOP)
+
+
 # the call that does all that the program does: its file, and its name there
 TOP_CALL = "ilk_top.src.program", "run"
 # Each stage of the reading: what it is about, where it begins, and the crates that it has. What an

@@ -145,7 +145,7 @@ class Report:
         """The page as a document."""
         foot = ("Proved is what <code>irv</code> answered: the lines of check, verify and replay, in "
                 "blue or in the letters of a machine beside its name. The pictures, the sentences, the "
-                "hunt, the runs through the routes and what is marked in yellow are by tools/page, "
+                "hunt, the runs through the routes and what is marked in yellow are by tools/html, "
                 "which isn't proved; each run that is drawn was answered by <code>irv replay</code>.")
         return ("<!doctype html>\n<html lang=\"en\"><head><meta charset=\"utf-8\">"
                 f"<title>{text(self.options.name)}: irv</title><style>{CSS}</style></head><body>\n"

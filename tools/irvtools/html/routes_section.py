@@ -3,7 +3,7 @@
 import time
 from concurrent.futures import ThreadPoolExecutor
 
-from irvtools.search.random_search import Hunt
+from irvtools.search.random_search import RandomSearch
 from irvtools.html.markup import table, tag, text
 from irvtools.html.run_frames import AT_ONCE, RunView
 from irvtools.model.state import event_line
@@ -24,7 +24,7 @@ def routes_part(page, columns):
         return []
     found, is_all = uses(page.plant, USE_SECONDS)
     if len(found) < len(page.plant.routes) and page.options.search_seconds:
-        hunt = Hunt(page.plant, suspects=page.suspects)
+        hunt = RandomSearch(page.plant, suspects=page.suspects)
         hunt.for_hazard(min(HUNT_SECONDS, page.options.search_seconds))
         found = {**hunt.used, **found}
     answers = answered(RunView(page.program, columns, page.plant, page.drawing), found)

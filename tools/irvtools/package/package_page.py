@@ -157,10 +157,10 @@ class PackagePage:
                  "they are a second check of it, and where they draw or hunt, what counts is what the program "
                  "answers.")
         for version, call in self.package.solvers:
-            self.say(f"Asked besides: {version}. What tools/safe_by says of it: {call.last}.")
+            self.say(f"Asked besides: {version}. What tools/verify_with says of it: {call.last}.")
         if self.package.solvers:
             self.say("Nothing rests on a solver: irv rup judged each refutation, and those that it accepted are "
-                     "kept. That all queries were asked rests on tools/safe_by.")
+                     "kept. That all queries were asked rests on tools/verify_with.")
         elif self.package.is_safe:
             self.say("No solver was asked: none that writes refutations was on the machine, or none was wanted.")
         self.table_of(calls)

@@ -14,14 +14,14 @@ PLANTS = ["1", "2", "4", "8", "16", "examples/terminus-throat.json", "s", "2s", 
           "sLs", "2b", "b2s3L", "bsbsb"]
 LIMITS = ["seconds=200", "conflicts=200000"]
 TEXT = TOP / "tools/irvtools/performance/measurements.txt"
-PAGE, FRONT = TOP / "docs/dev/performance.md", TOP / "README.md"
+PAGE, FRONT = TOP / "docs/SPEED.md", TOP / "README.md"
 PICTURES = TOP / "docs/pictures"
 
 
 def parser():
     """Returns the parser of the command line."""
     line = Parser("tools/update_performance", "Measures the program by tools/benchmark, keeps what it prints, "
-                  "and updates the tables and the chart of\ndocs/dev/performance.md and the short table of "
+                  "and updates the tables and the chart of\ndocs/SPEED.md and the short table of "
                   "README.md. It takes an hour or more; run nothing else meanwhile.", 2,
                   "tools/update_performance [OPTIONS] [WORD ..]")
     line.add_argument("words", nargs="*", metavar="WORD", help="plants and limits for tools/benchmark "

@@ -1,4 +1,4 @@
-"""The parts of docs/SPEED.md and of README.md that are made of a measurement."""
+"""The parts of docs/dev/performance.md and of README.md that are made of a measurement."""
 
 import re
 

@@ -57,7 +57,7 @@ class Record:
     def of_edits(self):
         """How many edits each crate has."""
         yield from ("## Edits that must fail, and wrong bodies", "",
-                    "How many stand in the sources; rt ci tries those that must fail, tools/wrong_bodies the rest.",
+                    "How many stand in the sources; rt ci tries those that must fail, tools/mutants the rest.",
                     "", "| crate | must fail | wrong bodies |", "|---|---|---|")
         total = [0, 0]
         for crate in sorted((self.top / "crates").iterdir()):

@@ -16,7 +16,7 @@ import signal
 import time
 from multiprocessing import connection
 
-from irvtools.search.random_search import Hunt
+from irvtools.search.random_search import RandomSearch
 
 SLICE = 0.5             # seconds after which a process tells its figures, and so whether it is wanted
 TO_END = 2.0            # seconds in which a process that is told to end has to
@@ -38,7 +38,7 @@ def hunting(plant, seed, suspects, seconds, pipe, parents):
     signal.signal(signal.SIGTERM, signal.SIG_DFL)
     for other in parents:
         other.close()
-    hunt, run = Hunt(plant, seed, suspects, keeps_uses=False), None
+    hunt, run = RandomSearch(plant, seed, suspects, keeps_uses=False), None
     end = time.monotonic() + seconds
     try:
         while run is None and time.monotonic() < end:

@@ -29,7 +29,7 @@ def suspects_of(plant, broken):
             if broken_rules.rests(plant, rule, places)]
 
 
-class Hunt:
+class RandomSearch:
     """A hunt over a plant. `suspects` are where it should look first: routes by number, or pairs as
     `suspects_of` gives them. A seed gives one hunt. `used` has for each route that a run set, used and
     finished this run, where uses are kept."""

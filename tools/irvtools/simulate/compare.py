@@ -119,10 +119,10 @@ def check(file, program, given):
         else:
             agree = check_run(asked, text)
     except UnicodeDecodeError:
-        print(f"tools/play: {file} is neither a run text nor a scenario: it has bytes that no name has",
+        print(f"tools/simulate: {file} is neither a run text nor a scenario: it has bytes that no name has",
               file=sys.stderr)
         return NO_ANSWER
     except (OSError, Refused) as fault:
-        print(f"tools/play: {fault}", file=sys.stderr)
+        print(f"tools/simulate: {fault}", file=sys.stderr)
         return NO_ANSWER
     return AGREE if agree else DIFFER

@@ -1,4 +1,4 @@
-"""The plan of tools/page_parts as the script of the page draws it: where lines, signs and trains lie."""
+"""The plan of `trackplan` as the script of the page draws it: where lines, signs and trains lie."""
 
 import re
 

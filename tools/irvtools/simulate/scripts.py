@@ -19,7 +19,7 @@ def script(names):
 
 
 def style():
-    """The style of the page: that of tools/page, and what it has besides."""
+    """The style of the page: that of tools/html, and what it has besides."""
     return CSS + (HERE / "simulator.css").read_text(encoding="utf-8")
 
 

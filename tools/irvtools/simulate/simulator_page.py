@@ -1,6 +1,6 @@
 """The page on which a plant is played: what stands on it before its script runs.
 
-A configuration that isn't a plant has the page say why, in the words of tools/page.
+A configuration that isn't a plant has the page say why, in the words of tools/html.
 """
 
 import base64

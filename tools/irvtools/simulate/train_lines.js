@@ -1,4 +1,4 @@
-// Where a train lies in the plan, as tools/page_parts/drawing.py draws it.
+// Where a train lies in the plan, as trackplan/drawing.py draws it.
 
 function toward([x, y], [toX, toY], part) { return [x + (toX - x) * part, y + (toY - y) * part]; }
 
