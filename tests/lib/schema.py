@@ -1,4 +1,4 @@
-"""Judges values by a JSON schema, as far as docs/configuration.schema.json uses one (draft 7)."""
+"""Judges values by a JSON schema, as far as docs/reference/configuration.schema.json uses one (draft 7)."""
 
 import re
 
