@@ -11,7 +11,7 @@ from tests.cases import member_cases
 from irvtools.paths import TOP
 from tests.support.harness import Test
 
-SCHEMA = json.loads((TOP / "docs/configuration.schema.json").read_text(encoding="utf-8"))
+SCHEMA = json.loads((TOP / "docs/reference/configuration.schema.json").read_text(encoding="utf-8"))
 
 # to a schema 1.0 and 1 are one number, however it is written
 UNSAID = {"version 1.0", "version 1e0"}
