@@ -34,10 +34,10 @@ def check_lots(room):
     found, keys = room.answers(), keys_in(room)
     yield from differs("in groups", rules_in(room), {"several": 3})
     yield from differs("verified", room.verify()[0], 0)
-    again = room.call(*WANTS, "--group", "0")
+    again = room.call(*WANTS, "--batch-bytes", "0")
     yield from differs("again", again.stdout, first.stdout.replace("9 jobs were done, 0", "0 jobs were done, 9"))
     room.out = room.room / "apart"
-    room.call(*WANTS, "--group", "0")
+    room.call(*WANTS, "--batch-bytes", "0")
     yield from differs("apart", rules_in(room), {"check": 3, "verify": 3, "audit": 3})
     yield from differs("the answers", (room.answers(), keys_in(room)), (found, keys))
 
@@ -47,7 +47,7 @@ def check_large_apart(room):
     one that isn't short, beside a group of its other jobs."""
     room.add("platforms.json")
     room.add("station.json")
-    room.call(*WANTS, "--group", str((EXAMPLES / "station.json").stat().st_size))
+    room.call(*WANTS, "--batch-bytes", str((EXAMPLES / "station.json").stat().st_size))
     yield from differs("rules", rules_in(room), {"several": 1, "check": 1, "verify": 1, "audit": 1})
     path = room.folder / "station.json"
     path.write_bytes(path.read_bytes() + b" " * SHORT_QUERIES)

@@ -47,9 +47,9 @@ class Parser(argparse.ArgumentParser):
         self.add_argument(name, action=_Once, nargs=0, default=False, help=text)
 
     def program(self) -> None:
-        """Adds the option that names the program."""
-        self.once("--program", "the program that is called (crates/irv/out/irv)", type=Path,
-                  default=PROGRAM, metavar="FILE")
+        """Adds the option that names the program; the launcher gives it first, and the last one counts."""
+        self.add_argument("--program", help="the program that is called (crates/irv/out/irv)", type=Path,
+                          default=PROGRAM, metavar="FILE")
 
 
 def whole_number(least: int, greatest: int):

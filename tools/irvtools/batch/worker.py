@@ -36,16 +36,22 @@ def tell(store, key, why):
         print(f"irv --batch: nor can that be kept: {fault}", file=sys.stderr)
 
 
+def module_for(kind):
+    """Returns the module that does a kind of job. Only that is imported, since most jobs take less time than
+    the imports."""
+    return importlib.import_module(f"irvtools.batch.{'job_kinds' if kind in OF_PROGRAM else 'solver_jobs'}")
+
+
 def doer(kind):
-    """What does a kind of job. Read is only what it needs, since most jobs take less time than that."""
-    return importlib.import_module("doing" if kind in OF_PROGRAM else "refuting").DOES[kind]
+    """Returns the function that does a kind of job."""
+    return module_for(kind).DOES[kind]
 
 
 def prepare(store, job):
     """Reads what a job needs besides its own files, so that it is read once for all jobs of a group."""
     doer(job["kind"])
     with contextlib.suppress(NoAnswer, OSError):
-        importlib.import_module("doing").handed(store, job["program"])
+        module_for("check").handed(store, job["program"])
 
 
 def work(store, key):
