@@ -1,28 +1,22 @@
 """Checks the documents against what they speak of.
 
-    tests/docs                prints each failure, and at last `N passed, M failed`
-    tests/docs --self-check   sees that wrong documents are refused: makes changes on a copy, each of
-                              which has to fail for its own reason
+- The tables of crates in the map are crates.txt: each crate has its row, in the same order. In crates.txt each
+  crate comes after those that it depends on. The diagram and the page of what is proved have each crate but
+  those of tests.
+- No crate of the search is a dependency of the theorems and the checker by which a plant is safe without one.
+- The list of definitions is what `tools/definitions --page` prints. What the clauses of `run` reach without a
+  formula comes before its last section.
+- Each link leads to a file, each heading that is named after a link is in that file, and each name in the
+  words of a link is declared in the file to which it leads.
+- Each path in backquotes exists, and each name in backquotes is declared (`Names.is_known`).
+- The commands, options and exit statuses of the commands page are those of the program's tables.
+- The lists that say where a change goes have each file that names what they are compared with
+  (`support/change_lists.py`).
+- A file of definitions that says that only private contracts or proofs cite it is reached from no public
+  contract (`support/reached_definitions.py`).
+- No old name is left in options, files, tools, tests or modules (`OLD_NAMES`).
 
-What is asked:
-
-- "stands on" of docs/ARCHITECTURE.md is crates.txt: each crate has its row, in the same order, with
-  the same crates in the same order; in crates.txt each stands after those that it stands on. The
-  picture and docs/PROVED.md have each crate but those of tests.
-- No crate of the search, the top floor of crates.txt, stands below the laws and the checker by which a
-  plant is safe without a search.
-- docs/ASSESSOR.md is what `tools/definitions --page` prints: each definition, each count. What the
-  clauses of `run` reach without a formula stands before its last section.
-- Each link leads to a file, each heading that is named after a link is in that file, and each name in
-  the words of a link is declared in the file to which it leads.
-- Each path in backquotes is there, and each name in backquotes is declared (`Names.is_known`).
-- The commands, options and statuses of docs/COMMANDS.md are those that the program's tables have.
-- The lists of docs/ARCHITECTURE.md that say where a change goes have each file that names what they are
-  held against (`lib/witnesses.py`).
-- A file of definitions that says of itself that private contracts or proofs alone cite it is reached from
-  no public contract (`lib/reached.py`).
-- docs/TRACEABILITY.md has a row for each requirement of docs/MODEL.md and each limit of docs/FORMATS.md,
-  with the same definitions, a law or a contract, and tests that speak of it (`see_requirements`).
+The self-check makes changes on a copy, each of which has to fail for its own reason.
 """
 
 import functools
@@ -37,7 +31,8 @@ from tests.support import change_lists
 from irvtools.paths import TOP
 from tests.support.harness import Test
 
-DOCUMENTS = ("README.md", "docs/*.md", "tests/README.md", "tools/README.md", "examples/README.md")
+DOCUMENTS = ("README.md", "CONTRIBUTING.md", "docs/**/*.md", "tests/README.md", "tests/cases/README.md",
+             "tools/README.md", "examples/README.md")
 FENCE = re.compile(r"^```.*?^```", re.S | re.M)
 SPAN = re.compile(r"``? ?(.+?) ?``?(?!`)")
 LINK = re.compile(r"\[([^\]]*)\]\(([^)\s]+)\)(?:, \"([^\"]+)\")?")
@@ -120,10 +115,10 @@ def see_map(repository, seen):
     """The map has the crates and the edges of crates.txt, in their order."""
     root = repository.root
     crates = crates_of(root)
-    page = read(root / "docs/ARCHITECTURE.md")
+    page = read(root / "docs/dev/architecture.md")
     table = rows(page, "crate", "what it is for", "stands on")
     told = {spans(cells[0])[0]: spans(cells[-1]) for cells in table}
-    where = "ARCHITECTURE.md, stands on"
+    where = "architecture.md, stands on"
     for name in crates:
         seen.ask(name in told, f"{where}: {name} has no row")
     for name, edges in told.items():
@@ -139,10 +134,10 @@ def see_map(repository, seen):
               [name for name in crates if name in told])
     drawn = [name for line in reversed(FENCE.search(page)[0].splitlines())
              for name in reversed(re.findall(r"\bilk_\w+|\birv\b", line))]
-    seen.same("ARCHITECTURE.md, the picture", drawn, [it for it in crates if not it.endswith("_tests")])
-    proved = [name for cells in rows(read(root / "docs/PROVED.md"), "crate", "what is proved")
+    seen.same("architecture.md, the picture", drawn, [it for it in crates if not it.endswith("_tests")])
+    proved = [name for cells in rows(read(root / "docs/assurance/proved.md"), "crate", "what is proved")
               for name in spans(cells[0])]
-    seen.same("PROVED.md, the crates", sorted(proved),
+    seen.same("proved.md, the crates", sorted(proved),
               sorted(name for name in crates if not name.endswith("_tests")))
 
 
@@ -151,14 +146,14 @@ def see_assessor(repository, seen):
     root = repository.root
     printed = subprocess.run([root / "tools/definitions", "--page"], stdout=subprocess.PIPE,
                              stderr=subprocess.PIPE)
-    page = read(root / "docs/ASSESSOR.md").splitlines()
+    page = read(root / "docs/assurance/definition-list.md").splitlines()
     wanted = printed.stdout.decode().splitlines()
     seen.ask(printed.returncode == 0, f"tools/definitions: {printed.stderr.decode().strip()}")
     for line in wanted:
-        seen.ask(line in page, f"ASSESSOR.md: this line isn't there (tools/definitions --write): {line}")
+        seen.ask(line in page, f"definition-list.md: this line isn't there (tools/definitions --write): {line}")
     for line in page:
-        seen.ask(line in wanted, f"ASSESSOR.md: this line isn't so (tools/definitions --write): {line}")
-    seen.same("ASSESSOR.md, its number of lines", len(page), len(wanted))
+        seen.ask(line in wanted, f"definition-list.md: this line isn't so (tools/definitions --write): {line}")
+    seen.same("definition-list.md, its number of lines", len(page), len(wanted))
 
 
 def see_left(repository, seen):
@@ -168,7 +163,7 @@ def see_left(repository, seen):
                              stderr=subprocess.PIPE)
     seen.ask(printed.returncode == 0, f"tools/definitions --left: {printed.stderr.decode().strip()}")
     left = printed.stdout.decode().splitlines()
-    seen.ask(not left, f"ASSESSOR.md, the last section: who relies on an answer reads {', '.join(left)}")
+    seen.ask(not left, f"definition-list.md, the last section: who relies on an answer reads {', '.join(left)}")
 
 
 def search_of(root):
@@ -225,11 +220,11 @@ class Names:
             kind = path.relative_to(root / "crates").parts[1:2]
             if path.suffix in (".antt", ".rt") and kind in (("src",), ("specs",), ("proofs",)):
                 self.enter(path, kind[0])
-        for path in (*(root / "tests/lib").glob("*.py"), *(root / "tests/cases").iterdir(),
-                     *(root / "examples").glob("*.json")):
-            self.enter_words(read(path))
-        for path in (*(root / "tools").iterdir(), *(root / "tests").iterdir(), root / "irv"):
-            if path.is_file() and path.suffix != ".md" and path.name != "docs":
+        for path in (*(root / "tests/cases").iterdir(), *(root / "examples").glob("*.json")):
+            if path.is_file():
+                self.enter_words(read(path))
+        for path in (*(root / "tools").rglob("*"), *(root / "tests").rglob("*"), root / "irv"):
+            if path.is_file() and path.suffix in ("", ".py", ".bash", ".js", ".txt") and path.name != "docs.py":
                 self.enter_script(read(path))
 
     def enter(self, path, kind):
@@ -304,6 +299,8 @@ class Places:
     def all(self, named):
         """The files and folders of that name. `..` in a name, and `*`, stand for anything."""
         pattern = re.sub(r"(?<=[\w-])\.\.|(?<=/)\.\.(?=[\w])", "*", named).rstrip("/")
+        if pattern.startswith("/"):
+            return []
         for base in (*self.last, *self.bases):
             found = sorted(base.glob(pattern))
             if found:
@@ -389,13 +386,13 @@ def see_spans(repository, seen):
 
 
 def see_contracts(repository, seen):
-    """Each call that a row of docs/PROVED.md names is in the code of one of its crates."""
+    """Each call that a row of docs/assurance/proved.md names is in the code of one of its crates."""
     root, names = repository.root, repository.names
-    for cells in rows(read(root / "docs/PROVED.md"), "crate", "what is proved"):
+    for cells in rows(read(root / "docs/assurance/proved.md"), "crate", "what is proved"):
         declared = set().union(*(names.by_crate.get((crate, "src"), set()) for crate in spans(cells[0])))
         for span in spans(cells[-1]):
             for part in span.split("::"):
-                seen.ask(part in declared, f"PROVED.md, {cells[0]}: {span} isn't in its code")
+                seen.ask(part in declared, f"proved.md, {cells[0]}: {span} isn't in its code")
 
 
 class Tables:
@@ -473,8 +470,8 @@ def told_values(cell):
 def see_commands(repository, seen):
     """The commands, options and statuses are those of the program."""
     root = repository.root
-    tables, text = Tables(root), read(root / "docs/COMMANDS.md")
-    where = "COMMANDS.md"
+    tables, text = Tables(root), read(root / "docs/reference/commands.md")
+    where = "commands.md"
     first, *told = rows(text, "word", "values", "default", "commands")
     seen.same(f"{where}, the commands", spans(first[1]),
               [tables.name(it) for it in tables.commands.values()])
@@ -503,7 +500,7 @@ def see_commands(repository, seen):
 
 def see_lists(repository, seen):
     """Each list that says where a change goes has every file that names its witness."""
-    root, where = repository.root, "ARCHITECTURE.md, where a change goes"
+    root, where = repository.root, "architecture.md, where a change goes"
     for heading, witness, count, missing in change_lists.left_out(root, lambda: Places(root, root / change_lists.MAP)):
         seen.ask(missing is not None, f"{where}: there is no list {heading!r}")
         seen.ask(count > 1, f"{where}, {heading}: nothing names {witness}")
@@ -523,30 +520,30 @@ def see_denied(repository, seen):
                               f"reaches {name}")
 
 
-# the tables of docs/MODEL.md whose rows are requirements, by their first heads
-REQUIRING = (("rule", "what must hold"), ("rule", "broken where", "place", "definition"),
-             ("event", "enabled where"), ("hazard", "what it is"), ("family", "what holds"),
-             ("verdict", "where"), ("query", "asks for"))
+# the tables of docs/reference/model.md whose rows are requirements, by their first heads
+REQUIRING = (("rule", "what must hold"), ("rule", "broken if", "place", "definition"),
+             ("event", "enabled if"), ("hazard", "what it is"), ("family", "what holds"),
+             ("verdict", "given if"), ("query", "asks for"))
 LIMITS = ("what", "limit", "rule")
 
 
 def requirements(root):
     """Each requirement: what it is called in the tables of requirements, the word by which tests speak of
     it, and the links of its definitions where its row has any. Limits have neither."""
-    model = read(root / "docs/MODEL.md")
+    model = read(root / "docs/reference/model.md")
     for heads in REQUIRING:
         for cells in rows(model, *heads):
             first = cells[0].partition("(")[0]
             name = first.split()[0] if heads[0] == "event" else first.partition(" at ")[0]
             yield name, name.removesuffix(" n"), LINK.findall(cells[-1])
-    for cells in rows(read(root / "docs/FORMATS.md"), *LIMITS):
+    for cells in rows(read(root / "docs/reference/formats.md"), *LIMITS):
         yield cells[0], None, []
 
 
 def see_requirements(repository, seen):
     """Each requirement has its row, with its definitions, a law or contract, and tests that name it."""
     root = repository.root
-    page = root / "docs/TRACEABILITY.md"
+    page = root / "docs/assurance/traceability.md"
     told = rows(read(page), "requirement", "definition")
     wanted = list(requirements(root))
     seen.same(f"{page.name}, the requirements", [cells[0] for cells in told], [it[0] for it in wanted])
@@ -587,12 +584,12 @@ CHANGES = {
     "an edge of crates.txt that the map leaves out": (
         see_map, "crates.txt", r"^(ilk_model:.*)$", r"\1 ilk_lines", "stands on, ilk_model"),
     "a crate that the map leaves out": (
-        see_map, "docs/ARCHITECTURE.md", r"^\| `ilk_replay` \|.*\n", "", "ilk_replay has no row"),
+        see_map, "docs/dev/architecture.md", r"^\| `ilk_replay` \|.*\n", "", "ilk_replay has no row"),
     "a crate that stands on a later one": (
         see_map, "crates.txt", r"^(ilk_ints:.*)\n((?:.*\n)*?)(ilk_copy:.*\n)", r"\3\1\n\2",
         "crates.txt: ilk_copy stands before ilk_ints"),
     "two crates that the map has in another order": (
-        see_map, "docs/ARCHITECTURE.md", r"^(\| `ilk_motion` \|.*\n)(\| `ilk_routes` \|.*\n)", r"\2\1",
+        see_map, "docs/dev/architecture.md", r"^(\| `ilk_motion` \|.*\n)(\| `ilk_routes` \|.*\n)", r"\2\1",
         "the order of the crates"),
     "a crate of the search below the laws": (
         see_search, "crates.txt", r"^(ilk_forever:.*)$", r"\1 ilk_induct",
@@ -601,34 +598,34 @@ CHANGES = {
         see_left, "tools/definitions", r'^ +\("ilk_words\.specs\.Plan", "plan_of"\)\], None\),$',
         "                          ], None),", "Plan.antt: plan_of"),
     "a stale count": (
-        see_assessor, "docs/ASSESSOR.md", r"^(## 3\. .*: )\d+ lines", r"\g<1>1 lines",
-        "ASSESSOR.md: this line isn't so"),
+        see_assessor, "docs/assurance/definition-list.md", r"^(## 3\. .*: )\d+ lines", r"\g<1>1 lines",
+        "definition-list.md: this line isn't so"),
     "a dead link": (
-        see_links, "docs/MODEL.md", r"\(\.\./crates/ilk_model/specs/Run\.antt\)",
+        see_links, "docs/reference/model.md", r"\(\.\./crates/ilk_model/specs/Run\.antt\)",
         "(../crates/ilk_model/specs/Runs.antt)", "Runs.antt: it isn't there"),
     "a file that isn't there": (
-        see_spans, "docs/ARCHITECTURE.md", r"`ilk_model/src/event\.rt`", "`ilk_model/src/events.rt`",
+        see_spans, "docs/dev/architecture.md", r"`ilk_model/src/event\.rt`", "`ilk_model/src/events.rt`",
         "`ilk_model/src/events.rt` isn't there"),
     "a definition renamed": (
         see_links, "crates/ilk_plant/specs/NetworkRules.antt", r"\bstands_alone\b", "has_no_neighbour",
         "NetworkRules.antt: stands_alone isn't declared there"),
     "a definition renamed that no link leads to": (
         see_spans, "crates/ilk_answers/specs/Strict.antt", r"\bSaysSafeAtOneOrSpent\b", "SaysSafeOrSpent",
-        "docs/ASSESSOR.md: `SaysSafeAtOneOrSpent` is declared nowhere"),
+        "docs/assurance/definition-list.md: `SaysSafeAtOneOrSpent` is declared nowhere"),
     "a call renamed": (
         see_contracts, "crates/ilk_engine/src/deciding.rt", r"\bpub fn decide\b", "pub fn decides",
         "`ilk_engine`: decide isn't in its code"),
     "an option left out": (
-        see_commands, "docs/COMMANDS.md", r"^\| `--cert` \|.*\n", "", "COMMANDS.md, the options"),
+        see_commands, "docs/reference/commands.md", r"^\| `--cert` \|.*\n", "", "commands.md, the options"),
     "a limit that isn't so": (
         see_commands, "crates/ilk_words/src/limits.rt", r"MAX_DEPTH: u64 = \d+", "MAX_DEPTH: u64 = 15",
         "values of --depth"),
     "a file that a list leaves out": (
-        see_lists, "docs/ARCHITECTURE.md", r"`pairs\.rt`, ", "", "pairs.rt is left out, which names the rule C8"),
+        see_lists, "docs/dev/architecture.md", r"`pairs\.rt`, ", "", "pairs.rt is left out, which names the rule C8"),
     "a document that a list leaves out": (
-        see_lists, "docs/ARCHITECTURE.md", r"`docs/PAGE\.md`, ", "", "PAGE.md is left out, which names the rule C8"),
+        see_lists, "docs/dev/architecture.md", r"`docs/guides/html-report\.md`, ", "", "html-report.md is left out, which names the rule C8"),
     "a folder that a list leaves out": (
-        see_lists, "docs/ARCHITECTURE.md", r"as `ilk_drive/`, ", "",
+        see_lists, "docs/dev/architecture.md", r"as `ilk_drive/`, ", "",
         "ilk_drive/src/automatic.rt is left out, which names the command drive"),
     "a file that comes to name an event": (
         see_lists, "tools/irvtools/search/route_groups.py", r"\A", "CREWS = ['cancel']\n",
@@ -637,7 +634,7 @@ CHANGES = {
         see_lists, "crates/ilk_copy/src/lib.rt", r"\A", "// a run has at most 16 events\n",
         "ilk_copy/src/lib.rt is left out, which names the depth"),
     "a list under another heading": (
-        see_lists, "docs/ARCHITECTURE.md", r"^### A family of the invariant$", "### A family",
+        see_lists, "docs/dev/architecture.md", r"^### A family of the invariant$", "### A family",
         "there is no list 'A family of the invariant'"),
     "a file that denies what reaches it": (
         see_denied, "crates/ilk_solver/specs/Answered.antt", r"\A.*",
@@ -647,18 +644,18 @@ CHANGES = {
         see_denied, "crates/ilk_solver/src/lib.rt", r"^pub use solver::Solver;$",
         r"\g<0>\npub use search::Search;", "ilk_solver/specs/Learned.antt says that no public contract"),
     "a requirement without its row": (
-        see_requirements, "docs/TRACEABILITY.md", r"^\| N4 \|.*\n", "", "the requirements: ['N4'] left out"),
+        see_requirements, "docs/assurance/traceability.md", r"^\| N4 \|.*\n", "", "the requirements: ['N4'] left out"),
     "a new requirement": (
-        see_requirements, "docs/MODEL.md", r"^(\| V9 )(\|.*\n)", r"\1\2| V10 \2",
+        see_requirements, "docs/reference/model.md", r"^(\| V9 )(\|.*\n)", r"\1\2| V10 \2",
         "the requirements: ['V10'] left out"),
     "a definition that isn't that of its requirement": (
-        see_requirements, "docs/TRACEABILITY.md", r"^(\| N2 \| \[`)is_named_before", r"\1stands_alone",
+        see_requirements, "docs/assurance/traceability.md", r"^(\| N2 \| \[`)is_named_before", r"\1stands_alone",
         "N2, the definitions"),
     "a test that doesn't speak of its requirement": (
-        see_requirements, "docs/TRACEABILITY.md", r"^(\| R8 \|.*)routes\.cases\]\(../tests/cases/routes\.cases",
+        see_requirements, "docs/assurance/traceability.md", r"^(\| R8 \|.*)routes\.cases\]\(../tests/cases/routes\.cases",
         r"\1words.cases](../tests/cases/words.cases", "R8: words.cases doesn't speak of it"),
     "a wrong body that isn't there": (
-        see_links, "docs/TRACEABILITY.md", r"wrong-bodies/n2_left_out\.edit", "wrong-bodies/n2_out.edit",
+        see_links, "docs/assurance/traceability.md", r"wrong-bodies/n2_left_out\.edit", "wrong-bodies/n2_out.edit",
         "n2_out.edit: it isn't there"),
     "a status renamed": (
         see_commands, "crates/*/specs/Status.antt", r"^code Spent", "code UsedUp", "the statuses"),

@@ -1,19 +1,19 @@
-"""The lists of docs/ARCHITECTURE.md that say where a change goes, held against a witness each: one thing
-of the kind that the list is about, and every file that names it. Whoever adds another one has to open
-just these files, so the list has each of them, by its name or by a folder above it."""
+"""The lists of files that a change touches, each compared with a witness: one thing of the kind that the list is
+about, and every file that names it. To add another thing of that kind one opens just these files, so the list
+has each of them, by its name or by a directory above it."""
 
 import re
 
-MAP = "docs/ARCHITECTURE.md"
+MAP = "docs/dev/architecture.md"
 SPAN = re.compile(r"``? ?(.+?) ?``?(?!`)")
 # Where a thing may be named: code, definitions, proofs, tools, tests, documents.
 SOURCES = ("crates/*/src/**/*.rt", "crates/*/specs/**/*.antt", "crates/*/proofs/**/*.antt", "tools/**/*",
-           "tests/**/*", "irv", "*.md", "docs/*.md", "examples/*.md")
+           "tests/**/*", "irv", "*.md", "docs/**/*.md", "examples/*.md")
 # What isn't asked of each list: rt writes the first; tests/cases has what is tried; two are lists of what
 # all files have; and of the last, which are documents, the page says once that they come with each change.
-APART = re.compile(r"/declared/|^tests/cases/|__pycache__|/lib/witnesses\.py$|^tests/docs$|\.json$|"
-                   r"^tests/(?:twice\.list|walls\.counts)$|"
-                   r"^(?:README|CHANGELOG)\.md$|^docs/(?:ARCHITECTURE|PROVED|TRACEABILITY)\.md$")
+APART = re.compile(r"/declared/|^tests/cases/|__pycache__|/change_lists\.py$|^tests/docs\.py$|\.json$|"
+                   r"^tests/(?:duplicates\.list|line_limits\.counts)$|"
+                   r"^(?:README|CHANGELOG)\.md$|^docs/(?:dev/architecture|assurance/proved|assurance/traceability|assurance/definition-list|reference/glossary|DECISIONS)\.md$")
 RULES = "A rule of the network (N), of the table (R), of the columns (C)"
 
 
