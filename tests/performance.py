@@ -1,12 +1,9 @@
-"""Tries what makes docs/SPEED.md and the short table of README.md, and sees that they were made of
-tools/irvtools/performance/measurements.txt.
+"""Tests of the performance page: that its tables and chart match the kept measurement, and of the
+code that makes them.
 
-    tests/speed       prints each failure, and at last `N passed, M failed`
-
-A measurement that was made up is read, and what stands in the tables and the picture is compared with
-what was worked out by hand; lines that tools/benchmark doesn't print are refused. Then the tables and the
-picture of the repository have to be those of tools/irvtools/performance/measurements.txt. And the lines of irvtools/generators/double_track.py
-have to be those of tests/plants, or of as many sections, points and routes as their parts have.
+A made-up measurement is read, and the tables and the chart are compared with values derived by hand.
+Texts that tools/benchmark does not print are rejected. The double-track lines of the benchmark have to
+be those of `tests/plants/`, and to have as many sections, points and routes as their parts.
 """
 
 import json
