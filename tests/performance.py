@@ -1,12 +1,9 @@
-"""Tries what makes docs/SPEED.md and the short table of README.md, and sees that they were made of
-tools/irvtools/performance/measurements.txt.
+"""Tests of the performance page: that its tables and chart match the kept measurement, and of the
+code that makes them.
 
-    tests/speed       prints each failure, and at last `N passed, M failed`
-
-A measurement that was made up is read, and what stands in the tables and the picture is compared with
-what was worked out by hand; lines that tools/benchmark doesn't print are refused. Then the tables and the
-picture of the repository have to be those of tools/irvtools/performance/measurements.txt. And the lines of irvtools/generators/double_track.py
-have to be those of tests/plants, or of as many sections, points and routes as their parts have.
+A made-up measurement is read, and the tables and the chart are compared with values derived by hand.
+Texts that tools/benchmark does not print are rejected. The double-track lines of the benchmark have to
+be those of `tests/plants/`, and to have as many sections, points and routes as their parts.
 """
 
 import json
@@ -15,6 +12,7 @@ from irvtools.generators import double_track
 from irvtools.performance import measurements
 from irvtools.performance import chart
 from irvtools.performance import tables
+from irvtools.performance.cli import PAGE, TEXT
 from irvtools.paths import TOP
 from tests.support.harness import Test
 
@@ -39,25 +37,16 @@ line 11L, 112 sections, 44 points, 176 routes: spent conflicts=100000; 123.45 s 
 load: 2.5
 """
 ROWS = [
-    "| 1 made station | 6, 2, 8 | safe k=1 | 0.09 | 20 | 1430 | 0.75 | over 50.5 | - |",
-    "| 2 made stations | 11, 4, 16 | safe k=1 | 1.50 | 30 | 2000 | 12.3 | 0.01 | - |",
+    "| 1 generated station | 6, 2, 8 | safe k=1 | 0.09 | 20 | 1430 | 0.75 | over 50.5 | - |",
+    "| 2 generated stations | 11, 4, 16 | safe k=1 | 1.50 | 30 | 2000 | 12.3 | 0.01 | - |",
     "| line 11L | 112, 44, 176 | spent conflicts=100000 | 123 | 300 | 0 | - | - | - |",
-    "| 1 made station | 0.7 | 0.01 | 21 | 0.5 | 0.17 | 23 |",
-    "| 2 made stations | 1.5 | 0.01 | 20 | - | - | - |",
+    "| 1 generated station | 0.7 | 0.01 | 21 | 0.5 | 0.17 | 23 |",
+    "| 2 generated stations | 1.5 | 0.01 | 20 | - | - | - |",
     "| line 11L | - | - | - | - | - | - |",
 ]
-SHORT = """
-Seconds of a processor of the proved program, on A Processor, 2 processors, 8 GiB of memory:
-
-| line | sections, points, routes | answer | `verify`, s | MiB | `audit`, s | cadical, s | minisat, s |
-|---|---|---|---|---|---|---|---|
-| 1 made station | 6, 2, 8 | safe k=1 | 0.09 | 20 | 0.01 | 0.75 | over 50.5 |
-| line 11L | 112, 44, 176 | spent conflicts=100000 | 123 | 300 | - | - | - |
-
-"""
 SENTENCES = ["Measured on 2020-02-29: A Processor, 2 processors, 8 GiB of memory.", "The program was the proved one",
-             "`verify` was called with `--conflicts 300000`.", "ended after 50 seconds of a processor",
-             "before a beginning or an end: 0.1 to 2.5."]
+             "`verify` was called with `--conflicts 300000`.", "ended after 50 seconds of CPU time",
+             "at the beginning and the end: 0.1 to 2.5."]
 # another call's print behind it, and the sentences by which each is told then
 ANOTHER = """\
 machine: Another, 1 processors, 4 GiB of memory
@@ -68,9 +57,9 @@ load: 0.3
 line s, 14 sections, 8 points, 20 routes: safe k=1; 0.65 s user, 0.70 s, 16 MiB
 load: 0.3
 """
-EACH = ["1 made station to line 11L, measured on 2020-02-29: A Processor, 2 processors, 8 GiB of memory.",
+EACH = ["1 generated station to line 11L, measured on 2020-02-29: A Processor, 2 processors, 8 GiB of memory.",
         "line s, measured on 2020-03-01: Another, 1 processors, 4 GiB of memory.", "(sha256 0123)", "(sha256 4567)",
-        "cadical 1, minisat 2", "cadical 2, minisat 2", "end: 0.1 to 2.5.", "end: 0.3.",
+        "cadical 1, minisat 2", "cadical 2, minisat 2", "the end: 0.1 to 2.5.", "the end: 0.3.",
         "| line 11L | 112, 44, 176 | spent conflicts=100000 | 123 | 300 | 0 | - | - | - |",
         "| line s | 14, 8, 20 | safe k=1 | 0.65 | 16 | 0 | - | - | - |"]
 # a change of the measurement, by what it is no longer one
@@ -94,10 +83,8 @@ def table_faults():
         yield "not that part alone was made anew"
     if tables.renewed(text, measurements.Measured(MADE_UP)) != text:
         yield "made again, it is another text"
-    if tables.short(measurements.Measured(MADE_UP), ("stations 1", "line 11L")) != SHORT:
-        yield "the short table is another"
     unproved = measurements.Measured(MADE_UP.replace("program: crates/irv/out/irv", "program: irv-unproved"))
-    if "**The program wasn't proved**" not in tables.renewed(document, unproved) or "wasn't proved" in text:
+    if "**The program was not proved**" not in tables.renewed(document, unproved) or "not proved" in text:
         yield "it isn't said which program is proved"
 
 
@@ -106,10 +93,8 @@ def several_faults():
     several = measurements.Measured(MADE_UP + ANOTHER)
     text = tables.part(several)
     yield from (f"not said of several: {sentence}" for sentence in EACH if text.count(sentence) != 1)
-    if "on A Processor, 2 processors, 8 GiB of memory and Another, 1 processors" not in tables.short(several):
-        yield "the short table doesn't name both machines"
     half = measurements.Measured(MADE_UP + ANOTHER.replace("program: crates/irv/out/irv", "program: irv-unproved"))
-    if tables.part(half).count("**The program wasn't proved**") != 1 or "wasn't proved" not in tables.short(half):
+    if tables.part(half).count("**The program was not proved**") != 1:
         yield "it isn't said which call's program is proved"
 
 
@@ -148,16 +133,13 @@ def picture_faults():
 
 
 def repository_faults():
-    """What of the repository isn't made of tools/irvtools/performance/measurements.txt."""
-    found = measurements.Measured((TOP / "tools/irvtools/performance/measurements.txt").read_text(encoding="utf-8"))
-    page = (TOP / "docs/SPEED.md").read_text(encoding="utf-8")
+    """Yields what of the repository does not match the kept measurement."""
+    found = measurements.Measured(TEXT.read_text(encoding="utf-8"))
+    page = PAGE.read_text(encoding="utf-8")
     if tables.renewed(page, found) != page:
-        yield "docs/SPEED.md isn't what tools/update_performance --of tools/irvtools/performance/measurements.txt makes"
-    front = (TOP / "README.md").read_text(encoding="utf-8")
-    if tables.renewed(front, found, tables.short) != front:
-        yield "README.md isn't what tools/update_performance --of tools/irvtools/performance/measurements.txt makes"
-    if (TOP / "docs" / tables.PICTURE).read_text(encoding="utf-8") != chart.Picture(found.plants).drawn():
-        yield f"docs/{tables.PICTURE} isn't what tools/update_performance --of tools/irvtools/performance/measurements.txt makes"
+        yield "docs/dev/performance.md is not what tools/update_performance --of measurements.txt makes"
+    if (PAGE.parent / tables.PICTURE).read_text(encoding="utf-8") != chart.Picture(found.plants).drawn():
+        yield "the chart is not what tools/update_performance --of measurements.txt makes"
 
 
 def line_faults():

@@ -1,6 +1,6 @@
 """The picture of a measurement: seconds over the number of sections, both by their logarithms.
 
-The made stations are joined by a line, other plants stand apart, as squares; what was ended before its
+The generated stations are joined by a line, other plants stand apart, as squares; what was ended before its
 answer is hollow, and stands where it was ended.
 """
 
@@ -82,7 +82,7 @@ class Picture:
         yield label(LEFT - 6, TOP - 12, "seconds of a processor", "start")
 
     def line(self, name):
-        """The line that joins the made stations."""
+        """The line that joins the generated stations."""
         places = [self.place(plant, name) for plant in self.plants
                   if MADE.fullmatch(plant.name) and seconds_of(plant, name)]
         way = "L".join(f"{x:.1f} {y:.1f}" for x, y in places)
@@ -102,7 +102,7 @@ class Picture:
         for name in self.names:
             yield mark(x, y - 4, COLOURS[name], True, False) + label(x + 12, y, name, "start")
             y += 20
-        for is_round, is_over, word in ((True, False, "made stations"), (False, False, "other plants"),
+        for is_round, is_over, word in ((True, False, "generated stations"), (False, False, "other plants"),
                                         (False, True, "ended there")):
             y += 20
             yield mark(x, y - 4, "#444", is_round, is_over) + label(x + 12, y, word, "start")

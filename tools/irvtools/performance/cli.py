@@ -8,21 +8,21 @@ from irvtools.arguments import Parser
 from irvtools.paths import PROGRAM, TOP
 from irvtools.performance.chart import Picture
 from irvtools.performance.measurements import Measured, NotMeasured
-from irvtools.performance.tables import PICTURE, NoPlace, part, renewed, short
+from irvtools.performance.tables import PICTURE, NoPlace, renewed
 
 PLANTS = ["1", "2", "4", "8", "16", "examples/terminus-throat.json", "s", "2s", "8L", "11L", "2s3L", "bs",
           "sLs", "2b", "b2s3L", "bsbsb"]
 LIMITS = ["seconds=200", "conflicts=200000"]
 TEXT = TOP / "tools/irvtools/performance/measurements.txt"
-PAGE, FRONT = TOP / "docs/SPEED.md", TOP / "README.md"
+PAGE = TOP / "docs/dev/performance.md"
 PICTURES = TOP / "docs/pictures"
 
 
 def parser():
     """Returns the parser of the command line."""
     line = Parser("tools/update_performance", "Measures the program by tools/benchmark, keeps what it prints, "
-                  "and updates the tables and the chart of\ndocs/SPEED.md and the short table of "
-                  "README.md. It takes an hour or more; run nothing else meanwhile.", 2,
+                  "and updates the tables and the chart of\ndocs/dev/performance.md. It takes an hour "
+                  "or more; run nothing else meanwhile.", 2,
                   "tools/update_performance [OPTIONS] [WORD ..]")
     line.add_argument("words", nargs="*", metavar="WORD", help="plants and limits for tools/benchmark "
                       "(the lines of the page)")
@@ -46,16 +46,14 @@ def measure(program, words):
 
 
 def write(path):
-    """Makes the tables and the chart of what was printed."""
+    """Writes the tables and the chart from what was printed."""
     measured = Measured(Path(path).read_text(encoding="utf-8"))
-    for document, made in ((PAGE, part), (FRONT, short)):
-        document.write_text(renewed(document.read_text(encoding="utf-8"), measured, made),
-                            encoding="utf-8")
+    PAGE.write_text(renewed(PAGE.read_text(encoding="utf-8"), measured), encoding="utf-8")
     (PICTURES / Path(PICTURE).name).write_text(Picture(measured.plants).drawn(), encoding="utf-8")
 
 
 def main(words):
-    """Measures or reads, and updates the pages; returns the exit status."""
+    """Measures or reads, and updates the page; returns the exit status."""
     given = parser().parse_args(words)
     try:
         if given.of is None:

@@ -1,4 +1,4 @@
-"""The parts of docs/dev/performance.md and of README.md that are made of a measurement."""
+"""The generated part of docs/dev/performance.md: the tables and the link to the chart."""
 
 import re
 
@@ -7,19 +7,18 @@ from irvtools.performance.measurements import PROVED, Time
 BEGIN, END = "<!-- measured: begins -->\n", "<!-- measured: ends -->\n"
 SOLVERS = ("cadical", "minisat", "picosat")
 MADE = re.compile(r"stations ([0-9]+)")
-PICTURE = "pictures/speed.svg"
-FEW = ("stations 8", "line bs", "line 11L", "line bsbsb")    # the plants of the short form
+PICTURE = "../pictures/performance.svg"
 
 
 class NoPlace(Exception):
-    """A document without the two marks."""
+    """A document without the two markers."""
 
 
 def shown(name):
-    """A plant's name: so many made stations, a line by its letters, or a file."""
+    """Returns a plant's name: a number of generated stations, a line by its letters, or a file."""
     made = MADE.fullmatch(name)
     if made:
-        return f"{made[1]} made station{'' if made[1] == '1' else 's'}"
+        return f"{made[1]} generated station{'' if made[1] == '1' else 's'}"
     return name
 
 
@@ -68,18 +67,17 @@ def checks(plants):
 
 
 def origin(run, whose):
-    """What was measured of these plants, where, and beside what."""
+    """Returns where and how a run of tools/benchmark was measured; `whose` begins the first sentence."""
     name, _, rest = run.head["program"].partition(", ")
     program = (f"The program was the proved one, `{PROVED}` ({rest})." if name == PROVED else
-               f"**The program wasn't proved**: it was made of this repository's sources as they were then, "
-               f"without their proofs ({name}, {rest}).")
+               f"**The program was not proved**: it was built from the sources of that day without "
+               f"their proofs ({name}, {rest}).")
     loads, budget = sorted(run.loads, key=float), run.head.get("conflicts")
     if budget:
         program += f" `verify` was called with `--conflicts {budget}`."
     return (f"{whose} on {run.head['day']}: {run.head['machine']}. {program} Other solvers: "
-            f"{run.head['solvers']} of a processor. Processes at work in the minute before a beginning or an end: "
-            f"{' to '.join(dict.fromkeys((loads[0], loads[-1])))}. Where they are more than there are processors, "
-            "the seconds are longer than they would be alone.\n")
+            f"{run.head['solvers']} of CPU time. Load average over one minute, at the beginning and "
+            f"the end: {' to '.join(dict.fromkeys((loads[0], loads[-1])))}.\n")
 
 
 def origins(measured):
@@ -91,27 +89,15 @@ def origins(measured):
 
 
 def part(measured):
-    """The whole part, without its marks."""
+    """Returns the whole generated part, without its markers."""
     return (f"\n{origins(measured)}\n{answers(measured.plants)}\n"
             f"![Seconds over the number of sections]({PICTURE})\n\n{checks(measured.plants)}\n")
 
 
-def short(measured, few=FEW):
-    """The short form, without its marks: a few of the plants, and of the checks that of the certificate alone."""
-    head = ["line", "sections, points, routes", "answer", "`verify`, s", "MiB", "`audit`, s",
-            *(f"{name}, s" for name in SOLVERS[:2])]
-    rows = [[shown(plant.name), f"{plant.sections}, {plant.points}, {plant.routes}", plant.answer,
-             seconds(Time(plant.seconds)), str(plant.memory), check(plant.audit)[0],
-             *(seconds(plant.solvers.get(name)) for name in SOLVERS[:2])]
-            for plant in measured.plants if plant.name in few]
-    whose = "of the proved program" if measured.is_proved else "of a program that **wasn't proved**"
-    return f"\nSeconds of a processor {whose}, on {' and '.join(measured.machines)}:\n\n{table(head, rows)}\n"
-
-
 def renewed(document, measured, made=part):
-    """A document with the part made anew."""
+    """Returns the document with a new generated part."""
     before, begin, rest = document.partition(BEGIN)
     _, end, behind = rest.partition(END)
     if not begin or not end:
-        raise NoPlace("the document lacks the marks of what is measured")
+        raise NoPlace("the document lacks the markers of the generated part")
     return before + begin + made(measured) + end + behind
