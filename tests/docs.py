@@ -112,25 +112,23 @@ class Seen:
 
 
 def see_map(repository, seen):
-    """The map has the crates and the edges of crates.txt, in their order."""
+    """The map has the crates of crates.txt, in their order; in crates.txt each comes after what it depends on."""
     root = repository.root
     crates = crates_of(root)
     page = read(root / "docs/dev/architecture.md")
-    table = rows(page, "crate", "what it is for", "stands on")
-    told = {spans(cells[0])[0]: spans(cells[-1]) for cells in table}
-    where = "architecture.md, stands on"
+    table = rows(page, "crate", "purpose", "in the literature")
+    told = [spans(cells[0])[0] for cells in table]
+    where = "architecture.md, the crates"
     for name in crates:
         seen.ask(name in told, f"{where}: {name} has no row")
-    for name, edges in told.items():
-        seen.ask(name in crates, f"{where}: {name} is no crate of crates.txt")
-        if name in crates:
-            seen.same(f"{where}, {name}", edges, crates[name])
-    seen.ask(len(told) == len(table), f"{where}: a crate has two rows")
+    for name in told:
+        seen.ask(name in crates, f"{where}: {name} is not a crate of crates.txt")
+    seen.ask(len(set(told)) == len(told), f"{where}: a crate has two rows")
     place = {name: number for number, name in enumerate(crates)}
     for name, edges in crates.items():
         for low in (low for low in edges if low in place):
             seen.ask(place[low] < place[name], f"crates.txt: {name} stands before {low}, its own library")
-    seen.same(f"{where}, the order of the crates", [name for name in told if name in crates],
+    seen.same(f"{where}, their order", [name for name in told if name in crates],
               [name for name in crates if name in told])
     drawn = [name for line in reversed(FENCE.search(page)[0].splitlines())
              for name in reversed(re.findall(r"\bilk_\w+|\birv\b", line))]
@@ -581,8 +579,6 @@ def see_all(root, checks=CHECKS):
 # Changes that make a document wrong: which check refuses it, the file, what is replaced there and by
 # what, and a part of what is said of it.
 CHANGES = {
-    "an edge of crates.txt that the map leaves out": (
-        see_map, "crates.txt", r"^(ilk_model:.*)$", r"\1 ilk_lines", "stands on, ilk_model"),
     "a crate that the map leaves out": (
         see_map, "docs/dev/architecture.md", r"^\| `ilk_replay` \|.*\n", "", "ilk_replay has no row"),
     "a crate that stands on a later one": (
@@ -590,7 +586,7 @@ CHANGES = {
         "crates.txt: ilk_copy stands before ilk_ints"),
     "two crates that the map has in another order": (
         see_map, "docs/dev/architecture.md", r"^(\| `ilk_motion` \|.*\n)(\| `ilk_routes` \|.*\n)", r"\2\1",
-        "the order of the crates"),
+        "the crates, their order"),
     "a crate of the search below the laws": (
         see_search, "crates.txt", r"^(ilk_forever:.*)$", r"\1 ilk_induct",
         "ilk_forever stands on the search: ilk_arena"),
@@ -625,11 +621,11 @@ CHANGES = {
     "a document that a list leaves out": (
         see_lists, "docs/dev/architecture.md", r"`docs/guides/html-report\.md`, ", "", "html-report.md is left out, which names the rule C8"),
     "a folder that a list leaves out": (
-        see_lists, "docs/dev/architecture.md", r"as `ilk_drive/`, ", "",
+        see_lists, "docs/dev/architecture.md", r", such as `ilk_drive/`", "",
         "ilk_drive/src/automatic.rt is left out, which names the command drive"),
     "a file that comes to name an event": (
-        see_lists, "tools/irvtools/search/route_groups.py", r"\A", "CREWS = ['cancel']\n",
-        "crews.py is left out, which names the event cancel"),
+        see_lists, "tools/irvtools/trackplan/rows.py", r"\A", "CREWS = ['cancel']\n",
+        "rows.py is left out, which names the event cancel"),
     "a bare number for the depth": (
         see_lists, "crates/ilk_copy/src/lib.rt", r"\A", "// a run has at most 16 events\n",
         "ilk_copy/src/lib.rt is left out, which names the depth"),

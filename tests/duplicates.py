@@ -1,20 +1,15 @@
-"""Sees that nothing new stands twice: equal bodies of functions, equal contracts of those that are no
-methods, equal statements of lemmas, equal definitions.
+"""Finds duplicates: equal bodies of functions, contracts, statements of lemmas and definitions.
 
-    tests/twice                 over the sources as they stand
-    tests/twice --write         takes out of tests/twice.list what stands twice no more; it adds nothing
-    tests/twice --self-check    sees that it finds what was planted, and nothing else
+Two of them are equal if their texts are, except for white space, comments and the names that they declare
+(`support/sources.py`). `duplicates.list` has a line for each known duplicate, which begins with the reason why it
+may stay:
 
-Two bodies, contracts, statements or definitions are equal where their texts are, but for white space, remarks and
-the names that they declare (`lib/sources.py`). What was found when this check was made is in
-tests/twice.list, a line for each, which begins with the reason why it may stay:
-
-- `debt`: it should stand once, and it waits until one of the two crates is changed anyway;
+- `debt`: one of the two should go when its crate is changed anyway;
 - `example`: a worked example that is read by itself, with all that it is about;
-- `apart`: the two mean different things, or must not share what they stand on.
+- `apart`: the two mean different things, or must not share what they depend on.
 
-That list may only get shorter. A finding that isn't in it fails, and so does a line of it that is no
-longer so. The last line is `N passed, M failed`.
+The list only gets shorter: a duplicate that is not in it fails, and so does a line that no longer holds
+(`tests/update_lists` takes such lines off).
 """
 
 from collections import defaultdict
@@ -23,7 +18,7 @@ from tests.support import sources
 from irvtools.paths import TOP
 from tests.support.harness import Test
 
-LIST = TOP / "tests/twice.list"
+LIST = TOP / "tests/duplicates.list"
 REASONS = ("debt", "example", "apart")
 
 

@@ -1,11 +1,6 @@
-"""Counts what is too wide or too long to be read, and sees that there is never more of it.
+"""Counts lines that are too wide and files that are too long, and sees that there are never more.
 
-    tests/found                 over the sources as they stand
-    tests/update_lists         writes lower counts to tests/found.counts; it writes no higher one
-    tests/found --say           each such line and file, the worst first
-    tests/found --self-check    sees that each kind is counted, and that a count that rises fails
-
-What is counted, for each crate, and for `tools/` and `tests/`:
+Counted for each crate, and for `tools/` and `tests/`:
 
 - `wide`: lines of clauses in the code over 100 columns;
 - `wider`: those of them over 120;
@@ -13,10 +8,9 @@ What is counted, for each crate, and for `tools/` and `tests/`:
 - `proofs`: files of proofs over 300 lines;
 - `files`: files of code over 300 lines.
 
-Imports and what `rt` writes by itself (`specs/declared/`) don't count. tests/found.counts has what there
-was when this check was made, less what was mended since; what isn't in it is 0. A higher count fails,
-and so does a lower one until it is written down, so that it can't rise again. The last line is
-`N passed, M failed`.
+Imports and what `rt` writes by itself (`specs/declared/`) do not count. `line_limits.counts` has the counts that are
+allowed; what is not in it is 0. A higher count fails, and so does a lower one until `tests/update_lists` lowers the
+allowed count, so that it cannot rise again.
 """
 
 import re
@@ -26,7 +20,7 @@ from tests.support import sources
 from irvtools.paths import TOP
 from tests.support.harness import Test
 
-COUNTS = TOP / "tests/found.counts"
+COUNTS = TOP / "tests/line_limits.counts"
 KINDS = ("wide", "wider", "proof-lines", "proofs", "files")
 CLAUSE_WIDTH, WIDEST_CLAUSE, PROOF_WIDTH, MOST_LINES = 100, 120, 250, 300
 CLAUSE = re.compile(r" *(?:requires|ensures|lends|invariant|ghost)\b(?! use).*\{")

@@ -13,7 +13,7 @@ SOURCES = ("crates/*/src/**/*.rt", "crates/*/specs/**/*.antt", "crates/*/proofs/
 # all files have; and of the last, which are documents, the page says once that they come with each change.
 APART = re.compile(r"/declared/|^tests/cases/|__pycache__|/change_lists\.py$|^tests/docs\.py$|\.json$|"
                    r"^tests/(?:duplicates\.list|line_limits\.counts)$|"
-                   r"^(?:README|CHANGELOG)\.md$|^docs/(?:dev/architecture|assurance/proved|assurance/traceability|assurance/definition-list|reference/glossary|DECISIONS)\.md$")
+                   r"^(?:README|CHANGELOG|CONTRIBUTING)\.md$|^docs/(?:dev/architecture|assurance/proved|assurance/traceability|assurance/definition-list|reference/glossary|DECISIONS)\.md$")
 RULES = "A rule of the network (N), of the table (R), of the columns (C)"
 
 
