@@ -8,18 +8,17 @@ in bounds, which is proved. What is the standard library's or a ported crate's i
 
 import functools
 import re
-import sys
-from irvtools.arguments import Parser
+
 from irvtools.paths import TOP
 
 CRATES = TOP / "crates"
-PAGE = TOP / "docs/ASSESSOR.md"
 
 
 def use(root):
     """Reads another copy of the repository from now on."""
-    global CRATES, PAGE
-    CRATES, PAGE = root / "crates", root / PAGE.relative_to(TOP)
+    global CRATES
+    CRATES = root / "crates"
+    declared_in.cache_clear()
 
 
 # the call that does all that the program does: its file, and its name there
@@ -42,7 +41,7 @@ STAGES = [
     ("Reading and writing", [TOP_CALL], ["ilk_io"]),
     ("Scenarios and drives", [("ilk_answers.specs.Drives", "TellsDrive")], ["ilk_drive"]),
     ("The routes of a network", [("ilk_answers.specs.Tables", "HasTable")], ["ilk_tablegen"]),
-    ("Made stations", [TOP_CALL], ["ilk_gen"]),
+    ("Generated stations", [TOP_CALL], ["ilk_gen"]),
     ("Configurations as texts", [TOP_CALL], ["ilk_conf_write", "ilk_tablegen"]),
     ("Formulas", [("ilk_dimacs.specs.DimacsText", "dimacs_text"),
                   ("ilk_unroll.specs.Satisfied", "IsSatisfiable")], None),
@@ -56,21 +55,14 @@ STAGES = [
 # Where the making of a formula begins: the formula of a query, and the system and the goal of a plant.
 # The last stage alone goes on from these.
 FORMULA = frozenset({"query_formula", "system_of", "goal_of"})
-WHOLE_STAGES = 4
-# Counts in the sentences of the page: what stands before the number, where it begins, which names are
-# left out with what only they use; and whether what they have alone is counted in place of the rest.
+# where some statements begin, and the rules of a configuration
 FOREVER = [("ilk_forever.specs.Forever", "IsForeverSafe")]
 EVENTS = [("ilk_queries.specs.Asked", "HasEvents")]
 EVIDENCE = [("ilk_evidence.specs.Evidence", name) for name in ("IsNever", "Endangers", "Breaks")]
-RULES = {"network_rules_broken", "table_rules_broken", "column_rules_broken", "column_rule_broken"}
-SENTENCES = [
-    ("`IsForeverSafe` and what it speaks of: ", FOREVER, set(), False),
-    ("the nine families and what only they use, ", FOREVER, {"families"}, True),
-    ("with what it speaks of ", EVENTS, set(), False),
-    ("with the definitions that it speaks of these are ", FOREVER + EVENTS + EVIDENCE, set(), False),
-]
-# and of what the fifth stage has
-PLANT_SENTENCE = "How the bytes become the plant, in 5, without the rules: "
+PLANT = [("ilk_answers.specs.Answer", "plant_of")]
+CLEAN = [("ilk_answers.specs.Strict", "IsCleanAndSafe")]
+RULES = frozenset({"network_rules_broken", "table_rules_broken", "column_rules_broken",
+                   "column_rule_broken"})
 USE = re.compile(r"use Rattle\.([\w.]+)(?:\.\{(.*)\}| as (\w+));?")
 RUST_USE = re.compile(r"^use (crate|ilk_\w+)::(?:\{([\w, \n]*)\}|(\w+));", re.M)
 HEAD = re.compile(r"(?:unfoldable |abbrev |infixr? \d+ )*pub (?:record |syntax |data )?(◌?[^\s(:{]+)")
@@ -232,113 +224,6 @@ def left_over(last):
             if (CRATES / place, name) in reached]
 
 
-def label_of(place):
-    """What a file is called in the tables."""
-    return place.stem if place.suffix == ".antt" else place.name
-
-
-def table_of_files(by_file):
-    """A table of files, with the names of their definitions."""
-    rows = ["| file | definitions | lines |", "|---|---|---|"]
-    for place, items in by_file.items():
-        names = ", ".join(f"`{name}`" for name, _ in items)
-        label = f"{place.parts[0]}, {label_of(place)}"
-        rows.append(f"| [{label}](../crates/{place}) | {names} | {lines_of(items)} |")
-    return rows
-
-
-def table_of_crates(by_file):
-    """A table of crates, with their files."""
-    by_crate = {}
-    for place, items in by_file.items():
-        by_crate.setdefault(place.parts[0], []).append((place, lines_of(items)))
-    rows = ["| crate | files | lines |", "|---|---|---|"]
-    for crate, files in by_crate.items():
-        links = ", ".join(f"[{label_of(place)}](../crates/{place})" for place, _ in files)
-        rows.append(f"| `{crate}` | {links} | {lines_of(files)} |")
-    return rows
-
-
-def lines_of(items):
-    """How many lines these have together."""
+def lines_of(items: list) -> int:
+    """Returns the number of lines of these definitions together."""
     return sum(lines for _, lines in items)
-
-
-def sentences(fifth):
-    """What stands before each number of lines in a sentence of the page, and the number; `fifth` is
-    what the fifth stage has, by file."""
-    for words, roots, without, alone in SENTENCES:
-        whole, rest = (sum(needed(roots, it).values()) for it in (set(), without))
-        yield words, whole - rest if alone else rest
-    listed = {(CRATES / place, name) for place, items in fifth.items() for name, _ in items}
-    plant = needed([("ilk_answers.specs.Answer", "plant_of")], RULES)
-    yield PLANT_SENTENCE, sum(lines for it, lines in plant.items() if it in listed)
-
-
-def page_with(text, tables, counts, said):
-    """The page with these tables below its headings, with these counts of lines, and with those that
-    its sentences say."""
-    made, number = [], 0
-    for line in text.split("\n"):
-        head = re.match(r"## (\d+)\. ", line)
-        if head:
-            number = int(head[1])
-            title, rows = tables[number - 1]
-            line = f"## {number}. {title}: {counts[number - 1]} lines"
-        elif line.startswith("## "):
-            number = 0
-        elif number and line.startswith("|---"):
-            made.pop()
-            line = "\n".join(rows)
-        elif number and line.startswith("|"):
-            if made[-1].split("\n")[-1] == rows[-1]:
-                continue
-        made.append(line)
-    if number != len(tables):
-        sys.exit(f"definitions: the page has {number} sections of {len(tables)}")
-    text = "\n".join(made)
-    for words, count in said:
-        text, found = re.subn(rf"(?<={re.escape(words)})\d+", str(count), text)
-        if found != 1:
-            sys.exit(f"definitions: the page says {found} times {words!r}")
-    text = re.sub(r"\d+(?=( lines(?: more)? \((\d+)(?: to (\d+))? below\)))",
-                  lambda it: str(sum(counts[int(it[2]) - 1:int(it[3] or it[2])])), text)
-    return re.sub(r"In all \d+ lines", f"In all {sum(counts)} lines", text)
-
-
-def parser():
-    """Returns the parser of the command line."""
-    line = Parser("tools/definitions", "Lists the definitions that the contract of `run` depends on: for each stage "
-                  "of reading a table of files,\ndefinitions and lines.", 2, "tools/definitions [OPTION]")
-    kind = line.add_mutually_exclusive_group()
-    for name, text in (("--total", "print the stages only, with their lines"),
-                       ("--page", "print the page with the tables as they are now"),
-                       ("--write", "write that page"),
-                       ("--left", "print definitions that no stage but the last one has; there should be none")):
-        kind.add_argument(name, action="store_const", const=[name], dest="kind", help=text)
-    return line
-
-
-def main(words):
-    """Prints the tables, the totals or the page."""
-    words = parser().parse_args(words).kind or []
-    found = list(stages())
-    counts = [sum(map(lines_of, by_file.values())) for _, by_file in found]
-    if words == ["--total"]:
-        for (title, _), count in zip(found, counts):
-            print(f"{count:5} {title}")
-        print(f"{sum(counts):5} in all")
-    elif words == ["--left"]:
-        print(*left_over(found[-1][1]), sep="\n", end="")
-    elif words in (["--page"], ["--write"]):
-        tables = [(title, (table_of_crates if number >= WHOLE_STAGES else table_of_files)(by_file))
-                  for number, (title, by_file) in enumerate(found)]
-        page = page_with(PAGE.read_text(encoding="utf-8"), tables, counts, sentences(found[4][1]))
-        if words == ["--write"]:
-            PAGE.write_text(page, encoding="utf-8")
-        else:
-            print(page, end="")
-    else:
-        for number, ((title, by_file), count) in enumerate(zip(found, counts), 1):
-            print(f"\n## {number}. {title}: {count} lines\n", *table_of_files(by_file), sep="\n")
-        print(f"\nIn all {sum(counts)} lines.")
