@@ -1,7 +1,8 @@
 """Writes the list of definitions and the reading plan for assessors.
 
-`docs/assurance/definition-list.md` is generated as a whole. In `docs/assurance/definitions.md` the part between two
-marks is generated: how much each answer needs, and the files of a strict table in reading order.
+`docs/assurance/definition-list.md` is generated as a whole. In `docs/assurance/definitions.md` the
+part between two marks is generated: how much each answer needs, and the files of a strict table in
+reading order.
 """
 
 from __future__ import annotations
@@ -13,80 +14,13 @@ from pathlib import Path
 from irvtools.arguments import Parser
 from irvtools.docs import definitions
 from irvtools.docs.definitions import CRATES, RULES, lines_of, needed
+from irvtools.docs.reading_order import ABOUT, ANSWERS, NAMED_STAGES, STEPS
 from irvtools.paths import TOP
 
 LIST = TOP / "docs/assurance/definition-list.md"
 PLAN = TOP / "docs/assurance/definitions.md"
 MARKS = ("<!-- reading plan: begins -->", "<!-- reading plan: ends -->")
 LINES_AN_HOUR = 100
-# the stages of which each definition is named; of the others the list has the files
-NAMED_STAGES = 4
-# what each stage is about, in the order of the stages
-ABOUT = (
-    "What is answered to arguments and bytes, with which exit status, and what happens to sources and sinks.",
-    "Which verdict is right, and what `safe` says of runs of any length.",
-    "What a run is, what each event asks and changes, what a hazard is, and the nine families.",
-    "What a plant and its states are: initial state, shape, neighbours.",
-    "Which bytes give which plant, and which rules F, N, R and C a configuration breaks.",
-    "How a run is written and read, and what a replay shows.",
-    "What the arguments mean; how `clap` reads them is its own definition.",
-    "What a source and a sink are, and how faults are counted.",
-    "Which commands a scenario has, and what they cause.",
-    "The paths of a network, the route of each, and when there are none.",
-    "The sections and routes of a line of stations.",
-    "How a configuration is written.",
-    "How a formula is written, and when an assignment satisfies it.",
-    "Which queries a certificate has, what refutes each, and the grammar of its lines.",
-    "The lines of a certificate one after another, and the first that is wrong.",
-    "How another solver's text is cut into items, and which item is the first wrong one.",
-    "What is written for a verdict, and what a spent text is.",
-    "How the formula of a query is made. No answer needs these definitions to be believed.",
-)
-# the answers of the reading plan: which, where their definitions begin, and what is left out
-ANSWERS = (
-    ("`clean` of `check` with strict columns", definitions.CLEAN, RULES),
-    ("`accepted` of `audit`", definitions.FOREVER + definitions.PLANT, RULES),
-    ("output of `table` with strict columns", [("ilk_answers.specs.Tables", "HasTable")]
-     + definitions.PLANT, RULES),
-    ("`safe`, `unsafe`, `breach`, `not inductive` of `verify`", definitions.VERDICT + definitions.PLANT, RULES),
-    ("`refuted` of `rup`", definitions.EVENTS + definitions.PLANT, RULES),
-    ("`refuted` for each query that `safe` depends on",
-     definitions.FOREVER + definitions.EVENTS + definitions.EVIDENCE + definitions.PLANT, RULES),
-    ("formula of `export`", [("ilk_dimacs.specs.DimacsText", "dimacs_text"),
-                             ("ilk_unroll.specs.Satisfied", "IsSatisfiable")]
-     + definitions.EVENTS + definitions.PLANT, RULES | definitions.FORMULA),
-    ("`driven`, `stuck`, `hazard` of `drive`", [("ilk_answers.specs.Drives", "TellsDrive")]
-     + definitions.PLANT, RULES),
-    ("`hazard`, `no hazard`, `not a run` of `replay`", [("ilk_answers.specs.Answer", "tale_reply"),
-                                                        ("ilk_replay.specs.Told", "tale_of"),
-                                                        ("ilk_replay.specs.Seen", "seen_of")]
-     + definitions.PLANT, RULES),
-)
-# the files of a strict table in reading order, by step: places below crates/, without their endings
-STEPS = (
-    ("What `clean` says", "ilk_answers/specs/Strict ilk_forever/specs/Forever ilk_model/specs/Meets"
-     " ilk_model/specs/Run"),
-    ("The plant", "ilk_plant/src/network ilk_plant/src/table ilk_base/src/row ilk_plant/specs/Plant"
-     " ilk_plant/specs/Network ilk_plant/specs/TableRules"),
-    ("Its states", "ilk_plant/src/state ilk_plant/specs/Start ilk_plant/specs/State ilk_plant/specs/Shape"),
-    ("Hazards", "ilk_model/src/hazards ilk_model/specs/Hazard ilk_motion/specs/Ahead"),
-    ("Events of routes and points", "ilk_model/src/event ilk_model/specs/Event ilk_routes/specs/Routes"
-     " ilk_routes/specs/Points ilk_routes/specs/Modes ilk_routes/specs/Boards ilk_routes/specs/Locks"
-     " ilk_routes/specs/Lies ilk_routes/specs/Claims"),
-    ("Events of trains", "ilk_motion/specs/Trains ilk_motion/specs/Body"),
-    ("From bytes to a plant or refusals", "ilk_answers/specs/Answer ilk_answers/specs/Stages"
-     " ilk_answers/src/refusals ilk_words/src/plan ilk_words/src/lengths ilk_words/src/command"
-     " ilk_net_read/src/fault ilk_net_read/specs/Fault"),
-    ("From bytes to drafts", "ilk_net_read/specs/Network ilk_net_read/specs/Document ilk_net_read/src/version"
-     " ilk_net_read/specs/Version ilk_net_read/specs/Member ilk_net_read/specs/Section"
-     " ilk_table_read/specs/Table ilk_table_read/specs/Route ilk_tablegen/specs/Rules"),
-    ("From drafts to the plant", "ilk_plant/src/draft ilk_plant/specs/Draft ilk_plant/specs/Name"
-     " ilk_plant/specs/Words ilk_plant/specs/Limits ilk_plant/src/limits ilk_plant/src/broken"),
-    ("Small helpers", "ilk_base/specs/Option ilk_base/specs/Result ilk_base/specs/Numbers"
-     " ilk_base/specs/Numbered ilk_base/specs/Each ilk_base/specs/Words"),
-    ("The nine families (need not be believed)", "ilk_model/specs/Families ilk_model/specs/Holding"
-     " ilk_model/specs/Commanded ilk_plant/specs/ColumnRules"),
-)
 
 
 def by_place(found: dict) -> dict:
@@ -98,7 +32,7 @@ def by_place(found: dict) -> dict:
 
 
 def short_name(place: Path) -> str:
-    """Returns the name of a file of definitions without its ending, and of a file of code with it."""
+    """Returns the name of a file; that of definitions without its ending."""
     return place.stem if place.suffix == ".antt" else place.name
 
 
@@ -143,12 +77,22 @@ def table_of_steps() -> list[str]:
 
 def reading_plan() -> str:
     """Returns the generated part of the page for assessors."""
-    whole, needless = (sum(needed(definitions.CLEAN, RULES | without).values())
-                       for without in (frozenset(), frozenset({"families"})))
-    return "\n".join([
-        f"A strict table needs {whole} lines. {whole - needless} of them, the nine families and what only they "
-        "use, need not be believed.", "", *table_of_steps(), "",
-        "The next table has each answer.", "", *table_of_answers()])
+    whole, needless = (
+        sum(needed(definitions.CLEAN, RULES | without).values())
+        for without in (frozenset(), frozenset({"families"}))
+    )
+    return "\n".join(
+        [
+            f"A strict table needs {whole} lines. {whole - needless} of them, the nine families "
+            "and what only they use, need not be believed.",
+            "",
+            *table_of_steps(),
+            "",
+            "The next table has each answer.",
+            "",
+            *table_of_answers(),
+        ]
+    )
 
 
 def table_of_files(by_file: dict) -> list[str]:
@@ -158,7 +102,10 @@ def table_of_files(by_file: dict) -> list[str]:
         crates.setdefault(place.parts[0], []).append((place, items))
     rows = ["| crate | definitions, by file | lines |", "|---|---|---|"]
     for crate, files in crates.items():
-        named = [f"*{short_name(place)}* {' '.join(f'`{name}`' for name, _ in items)}" for place, items in files]
+        named = [
+            f"*{short_name(place)}* {' '.join(f'`{name}`' for name, _ in items)}"
+            for place, items in files
+        ]
         lines = sum(lines_of(items) for _, items in files)
         rows.append(f"| [{crate}](../../crates/{crate}) | {'; '.join(named)} | {lines} |")
     return rows
@@ -180,15 +127,24 @@ def list_page() -> str:
     """Returns the list of definitions."""
     found = list(definitions.stages())
     counts = [sum(map(lines_of, by_file.values())) for _, by_file in found]
-    page = ["# List of definitions (generated by tools/definitions: do not edit)", "",
-            "It lists the definitions that the contract of `run` depends on, in reading order, for assessors.",
-            "[Definitions](definitions.md) says which of them an answer needs.",
-            "Each definition is in the first part that needs it. Names in italics are files; those without an ending are in `specs/`.", "",
-            "The lines are those of definitions, types, traits, constants and of the clauses of `run`. Comments, "
-            "imports, empty lines, libraries and ported crates are left out. Of parts 5 to 18 the list names the "
-            "files; `tools/definitions` prints each definition.", ""]
-    page += [f"{number}. [{title}](#{anchor_of(number, title)}): {count} lines"
-             for number, ((title, _), count) in enumerate(zip(found, counts), 1)]
+    page = [
+        "# List of definitions (generated by tools/definitions: do not edit)",
+        "",
+        "It lists the definitions that the contract of `run` depends on, in reading order, for "
+        "assessors.",
+        "[Definitions](definitions.md) says which of them an answer needs.",
+        "Each definition is in the first part that needs it. Names in italics are files; those "
+        "without an ending are in `specs/`.",
+        "",
+        "The lines are those of definitions, types, traits, constants and of the clauses of `run`. "
+        "Comments, imports, empty lines, libraries and ported crates are left out. For parts 5 to "
+        "18 the list names the files; `tools/definitions` prints each definition.",
+        "",
+    ]
+    page += [
+        f"{number}. [{title}](#{anchor_of(number, title)}): {count} lines"
+        for number, ((title, _), count) in enumerate(zip(found, counts), 1)
+    ]
     page += ["", f"In all {sum(counts)} lines."]
     for number, (title, by_file) in enumerate(found, 1):
         table = (table_of_files if number <= NAMED_STAGES else table_of_crates)(by_file)
@@ -221,7 +177,9 @@ def differences() -> list[str]:
     for path, text in pages().items():
         now = path.read_text(encoding="utf-8").splitlines() if path.exists() else []
         wanted = text.splitlines()
-        found += [f"{path.name}: this line is missing: {line}" for line in wanted if line not in now]
+        found += [
+            f"{path.name}: this line is missing: {line}" for line in wanted if line not in now
+        ]
         found += [f"{path.name}: this line is wrong: {line}" for line in now if line not in wanted]
         if not found and now != wanted:
             found.append(f"{path.name}: its lines are in another order")
@@ -243,19 +201,29 @@ def print_stages(with_files: bool) -> None:
 
 def parser() -> Parser:
     """Returns the parser of the command line."""
-    line = Parser("tools/definitions", "Lists the definitions that the contract of `run` depends on: for each stage "
-                  "of reading a table of files,\ndefinitions and lines.", 2, "tools/definitions [OPTION]")
+    line = Parser(
+        "tools/definitions",
+        "Lists the definitions that the contract of `run` depends on: for each stage "
+        "of reading a table of files,\ndefinitions and lines.",
+        2,
+        "tools/definitions [OPTION]",
+    )
     kind = line.add_mutually_exclusive_group()
-    for name, text in (("--total", "print the stages only, with their lines"),
-                       ("--check", "print each line of the two pages that is missing or wrong; status 1 if any is"),
-                       ("--write", "write docs/assurance/definition-list.md and the reading plan"),
-                       ("--left", "print definitions that no stage but the last one has; there should be none")):
+    for name, text in (
+        ("--total", "print the stages only, with their lines"),
+        (
+            "--check",
+            "print each line of the two pages that is missing or wrong; status 1 if any is",
+        ),
+        ("--write", "write docs/assurance/definition-list.md and the reading plan"),
+        ("--left", "print definitions that no stage but the last one has; there should be none"),
+    ):
         kind.add_argument(name, action="store_const", const=name, dest="kind", help=text)
     return line
 
 
 def main(words: list[str]) -> int:
-    """Prints the tables, the totals or the differences, or writes the pages; returns the exit status."""
+    """Prints what is asked, or writes the pages; returns the exit status."""
     kind = parser().parse_args(words).kind
     if kind == "--left":
         print(*definitions.left_over(list(definitions.stages())[-1][1]), sep="\n", end="")

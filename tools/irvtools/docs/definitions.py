@@ -50,7 +50,7 @@ STAGES = [
     ("Refutations", [("ilk_answers.specs.Refutations", "TellsRefutation")], None),
     ("Spent texts, and the certificate of a verdict",
      [("ilk_engine.specs.CertificateOf", "IsCertificateOf")], None),
-    ("How a formula is made", [TOP_CALL], None),
+    ("Construction of formulas", [TOP_CALL], None),
 ]
 # Where the making of a formula begins: the formula of a query, and the system and the goal of a plant.
 # The last stage alone goes on from these.

@@ -1,124 +1,20 @@
-"""Writes and checks docs/assurance/traceability.md: which evidence each line has, and which lines each file serves.
-
-Lines are requirements, commands, exit statuses and tools, whose evidence is in `requirements.txt` beside this file,
-and assumptions, application conditions and failure modes, whose evidence is in docs/assurance/qualification.md.
-"""
+"""Writes and checks docs/assurance/traceability.md: evidence of each line, lines of each file."""
 
 from __future__ import annotations
 
 import re
 import stat
 import sys
-from dataclasses import dataclass, field
 from pathlib import Path
 
 from irvtools.arguments import Parser
+from irvtools.docs.evidence import KINDS, QUALIFICATION, Item, Line, lines_of
 from irvtools.paths import TOP
 
 PAGE = Path("docs/assurance/traceability.md")
-QUALIFICATION = Path("docs/assurance/qualification.md")
-DATA = Path("tools/irvtools/docs/requirements.txt")
-KINDS = ("definitions", "contracts and laws", "tests", "mutants")
-HEADING = re.compile(r"### ((AS|SRAC|FM)-\d\d): (.*)")
-LINK = re.compile(r"\[([^\]]*)\]\(([^)\s#]+)\)")
-RUN = re.compile(r"`tests/run (\w+)`")
 LINE_NAME = re.compile(r"\b(?:AS|SRAC|FM)-\d\d\b")
-TITLES = {"AS": "Assumptions", "SRAC": "Application conditions", "FM": "Failure modes"}
 # what the code declares, besides definitions
 DECLARED = r"(?:fn|struct|enum|trait|const|type|ensures) {}\b"
-
-
-@dataclass(frozen=True)
-class Item:
-    """One piece of evidence: its kind, its file below the top, and its name there if it has one."""
-    kind: str
-    file: str
-    name: str = ""
-
-    def shown(self) -> str:
-        """Returns the item as a table shows it."""
-        if self.file.startswith("tests/run "):
-            return f"`{self.file[6:]}`"
-        return f"`{self.name}`" if self.name else Path(self.file).name
-
-
-@dataclass
-class Line:
-    """A line that needs evidence: its section, its name, its items, and whether the user gives evidence."""
-    section: str
-    name: str
-    items: list[Item] = field(default_factory=list)
-    by_user: bool = False
-
-    def of(self, kind: str) -> list[Item]:
-        """Returns the items of a kind."""
-        return [item for item in self.items if item.kind == kind]
-
-
-def test_item(word: str) -> Item:
-    """Returns the item of a test in `requirements.txt`."""
-    if word.startswith("+"):
-        return Item("tests", f"tests/run {word[1:]}")
-    return Item("tests", word if "/" in word else f"tests/cases/{word}")
-
-
-def items_of(kind: str, cell: str) -> list[Item]:
-    """Returns the items of a cell of `requirements.txt`; one with a directory and no name is a file."""
-    words = [] if cell == "-" else cell.split()
-    if kind == "tests":
-        return [Item("tests", f"crates/{word}") if word.startswith("ilk_") else test_item(word) for word in words]
-    if kind == "mutants":
-        return [Item(kind, f"crates/{word}.edit", word.rpartition("/")[2]) for word in words]
-    return [Item(kind, f"crates/{file}", name) for file, _, name in (word.partition(":") for word in words)]
-
-
-def data_lines(text: str) -> list[Line]:
-    """Returns the lines of `requirements.txt`."""
-    found, section = [], ""
-    for row in text.splitlines():
-        if row.startswith("## "):
-            section = row[3:]
-        elif row and not row.startswith("#"):
-            name, *cells = (cell.strip() for cell in row.split(" | "))
-            items = [item for kind, cell in zip(KINDS, cells) for item in items_of(kind, cell)]
-            found.append(Line(section, name, items))
-    return found
-
-
-def linked_items(text: str) -> list[Item]:
-    """Returns the items to which a paragraph of the qualification page links."""
-    items = []
-    for label, target in LINK.findall(text):
-        file = target.replace("../../", "", 1)
-        if file.startswith("crates/") and file.endswith(".edit"):
-            items.append(Item("mutants", file, Path(file).stem))
-        elif file.startswith("crates/") and "/proofs/" not in file and not file.endswith("tests.rt"):
-            kind = "definitions" if file.endswith(".antt") else "contracts and laws"
-            items += [Item(kind, file, name) for name in re.findall(r"`(\w+)`", label)]
-        elif file.startswith(("tests/", "crates/")):
-            items.append(Item("tests", file))
-    return items + [Item("tests", f"tests/run {name}") for name in RUN.findall(text)]
-
-
-def qualification_lines(text: str) -> list[Line]:
-    """Returns the assumptions, application conditions and failure modes with their evidence."""
-    found: list[Line] = []
-    for row in text.splitlines():
-        heading = HEADING.match(row)
-        if heading:
-            found.append(Line(TITLES[heading[2]], heading[1]))
-        elif row.startswith("## "):
-            found.append(Line("", ""))      # what follows belongs to no line
-        elif row.startswith("- Evidence:") and found and found[-1].name:
-            found[-1].items += linked_items(row)
-            found[-1].by_user = "by the user" in row.lower()
-    return [line for line in found if line.name]
-
-
-def lines_of(root: Path) -> list[Line]:
-    """Returns every line that needs evidence."""
-    return (data_lines((root / DATA).read_text(encoding="utf-8"))
-            + qualification_lines((root / QUALIFICATION).read_text(encoding="utf-8")))
 
 
 def sections_of(lines: list[Line]) -> dict[str, list[Line]]:
@@ -131,29 +27,47 @@ def sections_of(lines: list[Line]) -> dict[str, list[Line]]:
 
 def table_of(lines: list[Line]) -> list[str]:
     """Returns a section's table. What all of its lines share is said once, above the table."""
-    shared = {kind: [item for item in lines[0].of(kind) if len(lines) > 1
-                     and all(item in line.items for line in lines)] for kind in KINDS}
-    said = [f"{kind} {', '.join(item.shown() for item in items)}" for kind, items in shared.items() if items]
+    shared = {
+        kind: [
+            item
+            for item in lines[0].of(kind)
+            if len(lines) > 1 and all(item in line.items for line in lines)
+        ]
+        for kind in KINDS
+    }
+    said = [
+        f"{kind} {', '.join(item.shown() for item in items)}"
+        for kind, items in shared.items()
+        if items
+    ]
     rows = [f"All lines: {'; '.join(said)}.", ""] if said else []
-    kinds = [kind for kind in KINDS if any(set(line.of(kind)) - set(shared[kind]) for line in lines)]
+    kinds = [
+        kind for kind in KINDS if any(set(line.of(kind)) - set(shared[kind]) for line in lines)
+    ]
     rows += [f"| line | {' | '.join(kinds)} |", f"|---|{'---|' * len(kinds)}"]
     for line in lines:
-        cells = [", ".join(item.shown() for item in line.of(kind) if item not in shared[kind]) or "–"
-                 for kind in kinds]
+        cells = [
+            ", ".join(item.shown() for item in line.of(kind) if item not in shared[kind]) or "–"
+            for kind in kinds
+        ]
         name = f"{line.name} (user)" if line.by_user else line.name
         rows.append(f"| {name} | {' | '.join(cells)} |")
     return rows
 
 
 def place_of(item: Item) -> str:
-    """Returns the file of an item; of a mutant the directory, and of a test of `tests/run` its name."""
+    """Returns the file of an item; of a mutant its directory."""
     return item.file.rpartition("/")[0] if item.kind == "mutants" else item.file
 
 
 def follows(one: str, other: str) -> bool:
     """Returns whether a name has the other's word and the next number."""
-    (word, number), (next_word, next_number) = (re.fullmatch(r"(.*?)(\d*)", it).groups() for it in (one, other))
-    return bool(number and next_number) and word == next_word and int(next_number) == int(number) + 1
+    (word, number), (next_word, next_number) = (
+        re.fullmatch(r"(.*?)(\d*)", it).groups() for it in (one, other)
+    )
+    return (
+        bool(number and next_number) and word == next_word and int(next_number) == int(number) + 1
+    )
 
 
 def ranges_of(names: list[str]) -> str:
@@ -164,7 +78,9 @@ def ranges_of(names: list[str]) -> str:
             groups[-1].append(name)
         else:
             groups.append([name])
-    return ", ".join(f"{group[0]}–{group[-1]}" if len(group) > 2 else ", ".join(group) for group in groups)
+    return ", ".join(
+        f"{group[0]}–{group[-1]}" if len(group) > 2 else ", ".join(group) for group in groups
+    )
 
 
 def files_served(lines: list[Line]) -> dict[str, list[str]]:
@@ -177,13 +93,17 @@ def files_served(lines: list[Line]) -> dict[str, list[str]]:
 
 
 def where_of(place: str) -> tuple[str, str, str]:
-    """Returns what a row of the last table begins with, its sorting key, and what it calls a place."""
+    """Returns the first cell for a place, its sorting key, and its name in the second cell."""
     parts = place.split("/")
     if place.startswith("tests/run "):
         return "`tests/run`", "z", f"`{place[10:]}`"
     if parts[0] == "crates":
         kind = {"specs": "", "src": "", "proofs": "proofs/"}.get(parts[2], "")
-        return f"[{parts[1]}](../../crates/{parts[1]})", parts[1], kind + parts[-1].removesuffix(".antt")
+        return (
+            f"[{parts[1]}](../../crates/{parts[1]})",
+            parts[1],
+            kind + parts[-1].removesuffix(".antt"),
+        )
     where = "/".join(parts[:-1])
     return f"[{where}](../../{where})", f"y{where}", parts[-1]
 
@@ -195,24 +115,33 @@ def back_table(lines: list[Line]) -> list[str]:
         where, key, shown = where_of(place)
         groups.setdefault((key, where), []).append(f"{shown}: {ranges_of(names)}")
     rows = ["| where | files, each with the lines that it serves |", "|---|---|"]
-    return rows + [f"| {where} | {'; '.join(found)} |" for (_, where), found in sorted(groups.items())]
+    return rows + [
+        f"| {where} | {'; '.join(found)} |" for (_, where), found in sorted(groups.items())
+    ]
 
 
 def page_of(root: Path) -> str:
     """Returns the page."""
     lines = lines_of(root)
-    page = ["# Traceability (generated by tools/traceability: do not edit)", "",
-            "It leads from each requirement, command, exit status, tool, assumption, application condition and "
-            "failure mode to its evidence, and from each file back, for assessors.",
-            "The last section has the place of each name. There `mutants` and `must-fail` are directories.", "",
-            "- Proved is what a definition says. A person judges that the definition says what the requirement "
-            "says ([AS-03](qualification.md#as-03-definitions)).",
-            "- A contract or law is the nearest one. All are below the contract of `run` ([proved](proved.md)).",
-            "- A mutant is named for what it does wrong. The prover has to reject it. A dash means that no mutant "
-            "is specific to the line.",
-            "- *(user)* marks a line whose evidence the user has to add.",
-            "- `run NAME` means `tests/run NAME`.", "",
-            "Sources: `tools/irvtools/docs/requirements.txt` and [qualification](qualification.md)."]
+    page = [
+        "# Traceability (generated by tools/traceability: do not edit)",
+        "",
+        "It leads from each requirement, command, exit status, tool, assumption, condition and "
+        "failure mode to its evidence, and from each file back, for assessors.",
+        "The last section has the place of each name. There `mutants` and `must-fail` are "
+        "directories, and files without an ending are in `specs/`.",
+        "",
+        "- Proved is what a definition says. A person judges that it says what the requirement "
+        "says ([AS-03](qualification.md#as-03-definitions)).",
+        "- A contract or law is the nearest one. All are below the contract of `run` "
+        "([proved](proved.md)).",
+        "- A mutant is named for what it does wrong; the prover has to reject it. Without a mutant "
+        "of its own, a line depends on the contract only.",
+        "- *(user)* marks a line whose evidence the user has to add.",
+        "- `run NAME` means `tests/run NAME`.",
+        "",
+        "Sources: `tools/irvtools/docs/requirements.txt` and [qualification](qualification.md).",
+    ]
     for section, found in sections_of(lines).items():
         page += ["", f"## {section}", "", *table_of(found)]
     page += ["", "## Files and the lines they serve", "", *back_table(lines)]
@@ -220,10 +149,13 @@ def page_of(root: Path) -> str:
 
 
 def declares(path: Path, name: str) -> bool:
-    """Returns whether a file declares a definition, a call, a type, a constant or a clause of this name."""
+    """Returns whether a file declares a definition, call, type, constant or clause of a name."""
     text = path.read_text(encoding="utf-8")
-    pattern = rf"pub (?:record |syntax |data )?{re.escape(name)}[\s(:{{]" if path.suffix == ".antt" \
+    pattern = (
+        rf"pub (?:record |syntax |data )?{re.escape(name)}[\s(:{{]"
+        if path.suffix == ".antt"
         else DECLARED.format(re.escape(name))
+    )
     return re.search(pattern, text) is not None
 
 
@@ -232,7 +164,9 @@ def fault_of(root: Path, item: Item) -> str | None:
     if item.file.startswith("tests/run "):
         name = item.file[10:]
         places = (f"tests/{name}", f"tests/{name}.py")
-        return None if any((root / place).exists() for place in places) else f"there is no test {name}"
+        return (
+            None if any((root / place).exists() for place in places) else f"there is no test {name}"
+        )
     path = root / item.file
     if not path.is_file():
         return f"{item.file} does not exist"
@@ -258,21 +192,32 @@ def names_in_code(root: Path) -> dict[str, list[str]]:
     """Returns the commands, exit statuses and tools that the repository has."""
     commands = (root / "crates/ilk_words/specs/Commands.antt").read_text(encoding="utf-8")
     statuses = (root / "crates/ilk_answers/specs/Status.antt").read_text(encoding="utf-8")
-    scripts = [path.name for path in (root / "tools").iterdir()
-               if path.is_file() and not path.suffix and path.stat().st_mode & stat.S_IXUSR]
-    return {"Commands": re.findall(r'name = codes "(\w+)"', commands),
-            "Exit statuses": [f"{number} {name}" for name, number
-                              in re.findall(r"^code (\w+) = (\d+)", statuses, re.M)] + ["125 (launcher)"],
-            "Tools": scripts}
+    scripts = [
+        path.name
+        for path in (root / "tools").iterdir()
+        if path.is_file() and not path.suffix and path.stat().st_mode & stat.S_IXUSR
+    ]
+    return {
+        "Commands": re.findall(r'name = codes "(\w+)"', commands),
+        "Exit statuses": [
+            f"{number} {name}"
+            for name, number in re.findall(r"^code (\w+) = (\d+)", statuses, re.M)
+        ]
+        + ["125 (launcher)"],
+        "Tools": scripts,
+    }
 
 
 def faults(root: Path = TOP) -> list[str]:
-    """Returns each line without evidence, each dangling item, and each name that is missing or too much."""
+    """Returns lines without evidence, dangling items, and names that are missing or too much."""
     lines, found = lines_of(root), []
     for line in lines:
         found += [f"{line.section}, {line.name}: no {kind}" for kind in missing_evidence(line)]
-        found += [f"{line.section}, {line.name}: {fault}" for fault
-                  in (fault_of(root, item) for item in line.items) if fault]
+        found += [
+            f"{line.section}, {line.name}: {fault}"
+            for fault in (fault_of(root, item) for item in line.items)
+            if fault
+        ]
     names = [f"{line.section}, {line.name}" for line in lines]
     found += [f"{name}: listed twice" for name in dict.fromkeys(names) if names.count(name) > 1]
     for section, wanted in names_in_code(root).items():
@@ -281,8 +226,11 @@ def faults(root: Path = TOP) -> list[str]:
         found += [f"{section}: {name} does not exist" for name in listed if name not in wanted]
     known = {line.name for line in lines}
     cited = LINE_NAME.findall((root / QUALIFICATION).read_text(encoding="utf-8"))
-    return found + [f"{QUALIFICATION.name} cites {name}, which does not exist" for name in dict.fromkeys(cited)
-                    if name not in known]
+    return found + [
+        f"{QUALIFICATION.name} cites {name}, which does not exist"
+        for name in dict.fromkeys(cited)
+        if name not in known
+    ]
 
 
 def differences(root: Path = TOP) -> list[str]:
@@ -296,12 +244,21 @@ def differences(root: Path = TOP) -> list[str]:
 
 def main(words: list[str]) -> int:
     """Prints, checks or writes the page; returns the exit status."""
-    line = Parser("tools/traceability", "Writes docs/assurance/traceability.md, which leads from each requirement, "
-                  "condition and tool to its\nevidence and back. Without an option it prints the page.", 2,
-                  "tools/traceability [OPTION]")
+    line = Parser(
+        "tools/traceability",
+        "Writes docs/assurance/traceability.md, which leads from each requirement, "
+        "condition and tool to its\nevidence and back. Without an option it prints the page.",
+        2,
+        "tools/traceability [OPTION]",
+    )
     kind = line.add_mutually_exclusive_group()
-    for name, text in (("--check", "print lines without evidence, and what is wrong in the page; status 1 if any is"),
-                       ("--write", "write the page")):
+    for name, text in (
+        (
+            "--check",
+            "print lines without evidence, and what is wrong in the page; status 1 if any is",
+        ),
+        ("--write", "write the page"),
+    ):
         kind.add_argument(name, action="store_const", const=name, dest="kind", help=text)
     asked = line.parse_args(words).kind
     if asked == "--check":
