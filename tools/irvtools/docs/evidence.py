@@ -1,7 +1,7 @@
 """The evidence of each line of docs/assurance/traceability.md.
 
 Requirements, commands, exit statuses and tools have their evidence in `requirements.txt` beside
-this file. Assumptions, application conditions and failure modes have it in the page on qualification.
+this file. Assumptions, application conditions and failure modes have it in the qualification page.
 """
 
 from __future__ import annotations
