@@ -30,7 +30,9 @@ class Item:
     def shown(self) -> str:
         """Returns the item as a table shows it."""
         if self.file.startswith("tests/run "):
-            return f"`{self.file[6:]}`"
+            return self.file[6:]
+        if self.kind == "mutants":
+            return self.name
         return f"`{self.name}`" if self.name else Path(self.file).name
 
 

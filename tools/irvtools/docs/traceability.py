@@ -96,7 +96,7 @@ def where_of(place: str) -> tuple[str, str, str]:
     """Returns the first cell for a place, its sorting key, and its name in the second cell."""
     parts = place.split("/")
     if place.startswith("tests/run "):
-        return "`tests/run`", "z", f"`{place[10:]}`"
+        return "`tests/run`", "z", place[10:]
     if parts[0] == "crates":
         kind = {"specs": "", "src": "", "proofs": "proofs/"}.get(parts[2], "")
         return (
@@ -138,7 +138,7 @@ def page_of(root: Path) -> str:
         "- A mutant is named for what it does wrong; the prover has to reject it. Without a mutant "
         "of its own, a line depends on the contract only.",
         "- *(user)* marks a line whose evidence the user has to add.",
-        "- `run NAME` means `tests/run NAME`.",
+        "- *run NAME* means `tests/run NAME`.",
         "",
         "Sources: `tools/irvtools/docs/requirements.txt` and [qualification](qualification.md).",
     ]
