@@ -9,7 +9,8 @@ import tempfile
 from pathlib import Path
 
 from irvtools.docs import definition_pages, traceability
-from irvtools.docs.evidence import DATA, QUALIFICATION
+from irvtools.docs.evidence import DATA
+from irvtools.docs.qualification import PAGE as QUALIFICATION
 from irvtools.paths import TOP
 from tests.support.harness import Test
 
@@ -32,6 +33,24 @@ CHANGES = {
         r"(### AS-09: (?:.|\n)*?)\n- Evidence:.*",
         r"\1",
         "Assumptions, AS-09: no tests",
+    ),
+    "a condition without shall": (
+        QUALIFICATION,
+        r"The railway operator shall check that",
+        "The railway operator checks that",
+        "SRAC-18: no sentence with shall",
+    ),
+    "a condition without a duty holder": (
+        QUALIFICATION,
+        r"(### SRAC-06: (?:.|\n)*?)\n- Duty holder:.*",
+        r"\1",
+        "SRAC-06: no duty holder",
+    ),
+    "a number that is left out": (
+        QUALIFICATION,
+        r"^### FM-05:",
+        "### FM-50:",
+        "FM-50 is out of order",
     ),
     "a mutant that does not exist": (
         QUALIFICATION,

@@ -13,12 +13,11 @@ from pathlib import Path
 
 from irvtools.arguments import Parser
 from irvtools.docs import definitions
-from irvtools.docs.definitions import CRATES, RULES, lines_of, needed
+from irvtools.docs.definitions import RULES, lines_of, needed
 from irvtools.docs.reading_order import ABOUT, ANSWERS, NAMED_STAGES, STEPS
-from irvtools.paths import TOP
 
-LIST = TOP / "docs/assurance/definition-list.md"
-PLAN = TOP / "docs/assurance/definitions.md"
+LIST = Path("docs/assurance/definition-list.md")
+PLAN = Path("docs/assurance/definitions.md")
 MARKS = ("<!-- reading plan: begins -->", "<!-- reading plan: ends -->")
 LINES_AN_HOUR = 100
 
@@ -27,7 +26,7 @@ def by_place(found: dict) -> dict:
     """Returns the definitions of `needed` by their files below crates/."""
     places = {}
     for (path, name), lines in found.items():
-        places.setdefault(path.relative_to(CRATES), []).append((name, lines))
+        places.setdefault(path.relative_to(definitions.CRATES), []).append((name, lines))
     return places
 
 
@@ -168,7 +167,9 @@ def plan_page(text: str) -> str:
 
 def pages() -> dict[Path, str]:
     """Returns each page that is generated, or has a generated part, as it should be."""
-    return {LIST: list_page(), PLAN: plan_page(PLAN.read_text(encoding="utf-8"))}
+    root = definitions.CRATES.parent
+    plan = plan_page((root / PLAN).read_text(encoding="utf-8"))
+    return {root / LIST: list_page(), root / PLAN: plan}
 
 
 def differences() -> list[str]:

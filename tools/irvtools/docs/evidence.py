@@ -10,10 +10,11 @@ import re
 from dataclasses import dataclass, field
 from pathlib import Path
 
-QUALIFICATION = Path("docs/assurance/qualification.md")
+from irvtools.docs.qualification import PAGE as QUALIFICATION
+from irvtools.docs.qualification import entries_in
+
 DATA = Path("tools/irvtools/docs/requirements.txt")
 KINDS = ("definitions", "contracts and laws", "tests", "mutants")
-HEADING = re.compile(r"### ((AS|SRAC|FM)-\d\d): (.*)")
 LINK = re.compile(r"\[([^\]]*)\]\(([^)\s#]+)\)")
 RUN = re.compile(r"`tests/run (\w+)`")
 TITLES = {"AS": "Assumptions", "SRAC": "Application conditions", "FM": "Failure modes"}
@@ -105,17 +106,18 @@ def linked_items(text: str) -> list[Item]:
 
 def qualification_lines(text: str) -> list[Line]:
     """Returns the assumptions, application conditions and failure modes with their evidence."""
-    found: list[Line] = []
-    for row in text.splitlines():
-        heading = HEADING.match(row)
-        if heading:
-            found.append(Line(TITLES[heading[2]], heading[1]))
-        elif row.startswith("## "):
-            found.append(Line("", ""))  # what follows belongs to no line
-        elif row.startswith("- Evidence:") and found and found[-1].name:
-            found[-1].items += linked_items(row)
-            found[-1].by_user = "by the user" in row.lower()
-    return [line for line in found if line.name]
+    found = []
+    for entry in entries_in(text):
+        evidence = entry.fields.get("Evidence", "")
+        found.append(
+            Line(
+                TITLES[entry.kind],
+                entry.name,
+                linked_items(evidence),
+                "by the user" in evidence.lower(),
+            )
+        )
+    return found
 
 
 def lines_of(root: Path) -> list[Line]:

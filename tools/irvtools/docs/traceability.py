@@ -8,7 +8,9 @@ import sys
 from pathlib import Path
 
 from irvtools.arguments import Parser
-from irvtools.docs.evidence import KINDS, QUALIFICATION, Item, Line, lines_of
+from irvtools.docs.evidence import KINDS, Item, Line, lines_of
+from irvtools.docs.qualification import PAGE as QUALIFICATION
+from irvtools.docs.qualification import WANTED, entries_in
 from irvtools.paths import TOP
 
 PAGE = Path("docs/assurance/traceability.md")
@@ -224,11 +226,28 @@ def faults(root: Path = TOP) -> list[str]:
         listed = [line.name for line in lines if line.section == section]
         found += [f"{section}: {name} has no line" for name in wanted if name not in listed]
         found += [f"{section}: {name} does not exist" for name in listed if name not in wanted]
-    known = {line.name for line in lines}
-    cited = LINE_NAME.findall((root / QUALIFICATION).read_text(encoding="utf-8"))
+    return found + faults_of_qualification((root / QUALIFICATION).read_text(encoding="utf-8"))
+
+
+def faults_of_qualification(text: str) -> list[str]:
+    """Returns fields that an entry of the qualification page lacks, wrong numbers, conditions without
+    "shall", and names that are cited and do not exist."""
+    entries, found, counts = entries_in(text), [], dict.fromkeys(WANTED, 0)
+    for entry in entries:
+        counts[entry.kind] += 1
+        if entry.name != f"{entry.kind}-{counts[entry.kind]:02}":
+            found.append(f"{QUALIFICATION.name}: {entry.name} is out of order")
+        found += [
+            f"{QUALIFICATION.name}, {entry.name}: no {name.lower()}"
+            for name in WANTED[entry.kind]
+            if not entry.fields.get(name)
+        ]
+        if entry.kind == "SRAC" and " shall " not in entry.sentence:
+            found.append(f"{QUALIFICATION.name}, {entry.name}: no sentence with shall")
+    known = {entry.name for entry in entries}
     return found + [
         f"{QUALIFICATION.name} cites {name}, which does not exist"
-        for name in dict.fromkeys(cited)
+        for name in dict.fromkeys(LINE_NAME.findall(text))
         if name not in known
     ]
 
