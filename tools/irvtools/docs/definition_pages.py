@@ -52,11 +52,11 @@ def hours_of(lines: int) -> str:
 
 
 def table_of_answers() -> list[str]:
-    """Returns the table of answers with their lines and hours."""
-    rows = ["| answer | lines | hours |", "|---|---|---|"]
-    for answer, roots, without in ANSWERS:
+    """Returns the table of answers with their parts, lines and hours."""
+    rows = ["| answer | parts | lines | hours |", "|---|---|---|---|"]
+    for answer, parts, roots, without in ANSWERS:
         lines = sum(needed(roots, without).values())
-        rows.append(f"| {answer} | {lines} | {hours_of(lines)} |")
+        rows.append(f"| {answer} | {parts} | {lines} | {hours_of(lines)} |")
     return rows
 
 
@@ -87,7 +87,8 @@ def reading_plan() -> str:
             "",
             *table_of_steps(),
             "",
-            "The next table has each answer.",
+            "The next table has each answer, with the parts of [the list](definition-list.md) that "
+            "it needs besides part 1. For part 5 read only how bytes become the plant.",
             "",
             *table_of_answers(),
         ]

@@ -1,9 +1,9 @@
 """Lists the definitions that the contract of `run` depends on, in reading order.
 
-It begins with the clauses of `run`. A definition is needed if these name it, or a needed definition does;
-so are the types, the traits and the constants of the code that they speak of. Names are looked up by the
-`use` lines of a file. Comments and imports are no lines of a definition, nor is what keeps a type's values
-in bounds, which is proved. What is the standard library's or a ported crate's is left out.
+It begins with the clauses of `run`. A definition is needed if these name it, or a needed definition
+does. So are the types, traits and constants of the code that they use. Names are looked up by the
+`use` lines of a file. Comments, imports and the invariants of types are not counted as lines. The
+standard library and ported crates are left out.
 """
 
 import functools
@@ -23,12 +23,13 @@ def use(root):
 
 # the call that does all that the program does: its file, and its name there
 TOP_CALL = "ilk_top.src.program", "run"
-# Each stage of the reading: what it is about, where it begins, and the crates that it has. What an
-# earlier stage has isn't repeated.
+# Each stage of the reading: its title, where it begins, and its crates. A definition is only in the
+# first stage that has it.
 VERDICT = [("ilk_engine.specs.Right", "IsRightFor"), ("ilk_engine.specs.Forever", "LastsFor")]
 STAGES = [
     ("The answer", [TOP_CALL], ["ilk_top", "ilk_answers"]),
-    ("Verdicts", VERDICT, ["ilk_engine", "ilk_forever", "ilk_induct", "ilk_evidence", "ilk_queries", "ilk_unroll"]),
+    ("Verdicts", VERDICT,
+     ["ilk_engine", "ilk_forever", "ilk_induct", "ilk_evidence", "ilk_queries", "ilk_unroll"]),
     ("Runs, events, hazards and the invariant", VERDICT, ["ilk_model", "ilk_motion", "ilk_routes"]),
     ("The plant and its states", VERDICT, ["ilk_plant", "ilk_base"]),
     ("From the configuration to the plant", [("ilk_answers.specs.Answer", "plant_of"),
@@ -52,8 +53,8 @@ STAGES = [
      [("ilk_engine.specs.CertificateOf", "IsCertificateOf")], None),
     ("Construction of formulas", [TOP_CALL], None),
 ]
-# Where the making of a formula begins: the formula of a query, and the system and the goal of a plant.
-# The last stage alone goes on from these.
+# Where the construction of a formula begins: the formula of a query, the system and the goal of a
+# plant. Only the last stage goes on from these.
 FORMULA = frozenset({"query_formula", "system_of", "goal_of"})
 # where some statements begin, and the rules of a configuration
 FOREVER = [("ilk_forever.specs.Forever", "IsForeverSafe")]
@@ -73,7 +74,7 @@ VIEW = re.compile(r"impl(?:<.*?>)? Model for (\w+)")
 
 
 def uses_of(text):
-    """What the `use` lines of a file bring in: each name with its module and its name there."""
+    """Returns the names that the `use` lines import, each with its module and its name there."""
     names = {}
     for module, listed, alias in USE.findall(text):
         if alias:
@@ -85,7 +86,7 @@ def uses_of(text):
 
 
 class File:
-    """A file of definitions: each with its lines, and the names it has from elsewhere."""
+    """A file of definitions: each with its lines, and the names that the file imports."""
 
     def __init__(self, path):
         text = path.read_text(encoding="utf-8")
@@ -108,14 +109,14 @@ class File:
                 self.items[name].append(line)
 
     def named(self, module, word):
-        """The definition that a word of this file names, if it names one."""
+        """Returns the definition that a word of this file names, or `None`."""
         if word in self.uses:
             return self.uses[word]
         return (module, word) if word in self.items else None
 
 
 class Code:
-    """A file of the code: what it declares, each with its lines, and the names it has from elsewhere."""
+    """A file of the code: its declarations with their lines, and the names that it imports."""
 
     def __init__(self, path):
         text = path.read_text(encoding="utf-8")
@@ -138,7 +139,7 @@ class Code:
                 name = None
 
     def named(self, module, word):
-        """What a word of this file names, if it names a definition or a declared thing."""
+        """Returns the definition or declaration that a word of this file names, or `None`."""
         if word in self.uses:
             return self.uses[word]
         if word in self.items:
@@ -148,7 +149,7 @@ class Code:
 
 @functools.cache
 def declared_in(crate):
-    """What the code of a crate declares: each name with its module."""
+    """Returns the names that the code of a crate declares, each with its module."""
     found = {}
     for path in sorted((CRATES / crate / "src").rglob("*.rt")):
         for head in map(RUST_HEAD.match, path.read_text(encoding="utf-8").split("\n")):
@@ -159,7 +160,7 @@ def declared_in(crate):
 
 
 def place_of(module, name):
-    """The file of what is named, and its name there; none where it isn't the repository's."""
+    """Returns the file and the name there; `None` if it is not in this repository."""
     crate, *rest = module.split(".")
     if not crate.startswith("ilk_"):
         return None
@@ -174,20 +175,20 @@ def place_of(module, name):
 
 
 def names_in(line):
-    """The names in a line, its strings left out: of an operator, and of a `do` block, the name too."""
+    """Returns the names in a line without its strings, with those of operators and `do` blocks."""
     words = WORD.findall(re.sub(r'"[^"]*"', "", line))
     return words + [f"◌{word}◌" for word in words] + (["◌>>=◌"] if "do" in words else [])
 
 
 @functools.cache
 def file_at(path):
-    """The definitions of a file, or what it declares."""
+    """Returns the definitions or declarations of a file."""
     return File(path) if path.suffix == ".antt" else Code(path)
 
 
 def needed(roots, without=frozenset()):
-    """The needed definitions, each file and name with its number of lines. What is named first comes
-    first."""
+    """Returns the needed definitions, each file and name with its number of lines, in the order in
+    which they are named."""
     found, queue = {}, list(roots)
     while queue:
         module, name = queue.pop(0)
@@ -204,7 +205,7 @@ def needed(roots, without=frozenset()):
 
 
 def stages():
-    """Each stage's title, and by file the names and lines of its definitions."""
+    """Yields each stage's title, and its definitions by file, with their lines."""
     listed = set()
     for number, (title, roots, crates) in enumerate(STAGES, 1):
         by_file = {}
@@ -218,7 +219,7 @@ def stages():
 
 
 def left_over(last):
-    """What stands in the last stage, and is needed without the making of a formula."""
+    """Returns the definitions of the last stage that are needed without a formula."""
     reached = needed([TOP_CALL], FORMULA)
     return [f"{place}: {name}" for place, items in last.items() for name, _ in items
             if (CRATES / place, name) in reached]

@@ -26,51 +26,61 @@ ABOUT = (
     "The text written for a verdict, and spent texts.",
     "The formula of a query, from the plant to its clauses. No answer needs it to be believed.",
 )
-# the answers of the reading plan: which, where their definitions begin, and what is left out
+# where the definitions of some answers begin, besides those of the module `definitions`
+TABLE = [("ilk_answers.specs.Tables", "HasTable")]
+FORMULA = [
+    ("ilk_dimacs.specs.DimacsText", "dimacs_text"),
+    ("ilk_unroll.specs.Satisfied", "IsSatisfiable"),
+]
+DRIVE = [("ilk_answers.specs.Drives", "TellsDrive")]
+REPLAY = [
+    ("ilk_answers.specs.Answer", "tale_reply"),
+    ("ilk_replay.specs.Told", "tale_of"),
+    ("ilk_replay.specs.Seen", "seen_of"),
+]
+# the answers of the reading plan: which, the parts of the list that each needs besides part 1,
+# where its definitions begin, and what is left out; 5 is only how bytes become the plant
 ANSWERS = (
-    ("`clean` of `check` with strict columns", definitions.CLEAN, RULES),
-    ("`accepted` of `audit`", definitions.FOREVER + definitions.PLANT, RULES),
+    ("`clean` of `check` with strict columns", "2 to 5", definitions.CLEAN, RULES),
+    ("`accepted` of `audit`", "2 to 5", definitions.FOREVER + definitions.PLANT, RULES),
     (
         "output of `table` with strict columns",
-        [("ilk_answers.specs.Tables", "HasTable")] + definitions.PLANT,
+        "2 to 5; 10 for completeness",
+        TABLE + definitions.PLANT,
         RULES,
     ),
     (
         "`safe`, `unsafe`, `breach`, `not inductive` of `verify`",
+        "2 to 5; 6 for the run",
         definitions.VERDICT + definitions.PLANT,
         RULES,
     ),
-    ("`refuted` of `rup`", definitions.EVENTS + definitions.PLANT, RULES),
+    (
+        "output of `demo`",
+        "2 to 4, 11",
+        definitions.VERDICT + [("ilk_answers.specs.Made", "stations_plant")],
+        RULES,
+    ),
+    ("`refuted` of `rup`", "2 to 5", definitions.EVENTS + definitions.PLANT, RULES),
     (
         "`refuted` for each query that `safe` depends on",
+        "2 to 5",
         definitions.FOREVER + definitions.EVENTS + definitions.EVIDENCE + definitions.PLANT,
         RULES,
     ),
     (
         "formula of `export`",
-        [
-            ("ilk_dimacs.specs.DimacsText", "dimacs_text"),
-            ("ilk_unroll.specs.Satisfied", "IsSatisfiable"),
-        ]
-        + definitions.EVENTS
-        + definitions.PLANT,
+        "2 to 5, 13",
+        FORMULA + definitions.EVENTS + definitions.PLANT,
         RULES | definitions.FORMULA,
     ),
     (
         "`driven`, `stuck`, `hazard` of `drive`",
-        [("ilk_answers.specs.Drives", "TellsDrive")] + definitions.PLANT,
+        "3 to 5, 9; 6 for the run",
+        DRIVE + definitions.PLANT,
         RULES,
     ),
-    (
-        "`hazard`, `no hazard`, `not a run` of `replay`",
-        [
-            ("ilk_answers.specs.Answer", "tale_reply"),
-            ("ilk_replay.specs.Told", "tale_of"),
-            ("ilk_replay.specs.Seen", "seen_of"),
-        ]
-        + definitions.PLANT,
-        RULES,
-    ),
+    ("`hazard`, `no hazard`, `not a run` of `replay`", "3 to 6", REPLAY + definitions.PLANT, RULES),
 )
 # the files of a strict table in reading order, by step: places below crates/, without their endings
 STEPS = (

@@ -85,12 +85,21 @@ def ranges_of(names: list[str]) -> str:
     )
 
 
+def short_name(line: Line) -> str:
+    """Returns what the last table calls a line: limits together, exit statuses by their numbers."""
+    if line.section == "Limits":
+        return "limits"
+    return f"exit {line.name.split()[0]}" if line.section == "Exit statuses" else line.name
+
+
 def files_served(lines: list[Line]) -> dict[str, list[str]]:
     """Returns the lines that each file, directory of mutants or test serves."""
     served: dict[str, list[str]] = {}
     for line in lines:
         for place in dict.fromkeys(place_of(item) for item in line.items):
-            served.setdefault(place, []).append(line.name.partition(" (")[0])
+            names = served.setdefault(place, [])
+            if short_name(line) not in names:
+                names.append(short_name(line))
     return served
 
 
@@ -230,8 +239,8 @@ def faults(root: Path = TOP) -> list[str]:
 
 
 def faults_of_qualification(text: str) -> list[str]:
-    """Returns fields that an entry of the qualification page lacks, wrong numbers, conditions without
-    "shall", and names that are cited and do not exist."""
+    """Returns missing fields of the entries of the qualification page, wrong numbers, conditions
+    without "shall", and cited names that do not exist."""
     entries, found, counts = entries_in(text), [], dict.fromkeys(WANTED, 0)
     for entry in entries:
         counts[entry.kind] += 1
