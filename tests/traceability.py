@@ -11,6 +11,7 @@ from pathlib import Path
 from irvtools.docs import definition_pages, traceability
 from irvtools.docs.evidence import DATA
 from irvtools.docs.qualification import PAGE as QUALIFICATION
+from irvtools.docs.requirements import FORMATS, MODEL
 from irvtools.paths import TOP
 from tests.support.harness import Test
 
@@ -92,6 +93,36 @@ CHANGES = {
     "an exit status left out": (DATA, r"^4 Spent \|.*\n", "", "Exit statuses: 4 Spent has no line"),
     "a tool left out": (DATA, r"^csv \|.*\n", "", "Tools: csv has no line"),
     "a tool that does not exist": (DATA, r"^csv \|", "sheet |", "Tools: sheet does not exist"),
+    "a requirement without a line": (
+        DATA,
+        r"^N4 \|.*\n",
+        "",
+        "N4 is a requirement and has no line",
+    ),
+    "a new requirement": (
+        MODEL,
+        r"^(\| V9 )(\|.*\n)",
+        r"\1\2| V10 \2",
+        "V10 is a requirement and has no line",
+    ),
+    "a new limit": (
+        FORMATS,
+        r"^(\| routes \| .*\n)",
+        r"\1| trains | 9 | F6 |\n",
+        "trains is a requirement and has no line",
+    ),
+    "a requirement with another definition": (
+        DATA,
+        r"^(N2 \| ilk_plant/specs/Draft\.antt:)is_named_before",
+        r"\1numbered",
+        "N2: the model has other definitions",
+    ),
+    "a test that does not name its requirement": (
+        DATA,
+        r"^(R8 \| .* \| )routes\.cases",
+        r"\1words.cases",
+        "words.cases does not say R8",
+    ),
     "a requirement that is listed twice": (
         DATA,
         r"^(N4 \|.*\n)",
@@ -108,7 +139,10 @@ def faults_after(change):
         root = Path(folder)
         for name in ("crates", "tests"):
             (root / name).symlink_to(TOP / name)
-        for path in (*TOP.glob("tools/*"), TOP / DATA, TOP / QUALIFICATION):
+        for path in (
+            *TOP.glob("tools/*"),
+            *(TOP / page for page in (DATA, QUALIFICATION, MODEL, FORMATS)),
+        ):
             if path.is_file():
                 copy = root / path.relative_to(TOP)
                 copy.parent.mkdir(parents=True, exist_ok=True)

@@ -34,8 +34,9 @@ STAGES = [
     ("The plant and its states", VERDICT, ["ilk_plant", "ilk_base"]),
     ("From the configuration to the plant", [("ilk_answers.specs.Answer", "plant_of"),
                                              ("ilk_answers.specs.Refusal", "refusal_line")], None),
-    ("Runs as texts", [("ilk_replay.specs.RunText", "run_text"), ("ilk_replay.specs.Told", "tale_of"),
-                       ("ilk_replay.specs.Told", "told_of"), ("ilk_replay.specs.Seen", "seen_of")], None),
+    ("Runs as texts",
+     [("ilk_replay.specs.RunText", "run_text"), ("ilk_replay.specs.Told", "tale_of"),
+      ("ilk_replay.specs.Told", "told_of"), ("ilk_replay.specs.Seen", "seen_of")], None),
     ("The command line", [("ilk_words.specs.Words", "command_of"),
                           ("ilk_words.specs.Limits", "has_option_limits"),
                           ("ilk_words.specs.Plan", "plan_of")], None),
@@ -66,7 +67,8 @@ RULES = frozenset({"network_rules_broken", "table_rules_broken", "column_rules_b
                    "column_rule_broken"})
 USE = re.compile(r"use Rattle\.([\w.]+)(?:\.\{(.*)\}| as (\w+));?")
 RUST_USE = re.compile(r"^use (crate|ilk_\w+)::(?:\{([\w, \n]*)\}|(\w+));", re.M)
-HEAD = re.compile(r"(?:unfoldable |abbrev |infixr? \d+ )*pub (?:record |syntax |data )?(◌?[^\s(:{]+)")
+HEAD = re.compile(r"(?:unfoldable |abbrev |infixr? \d+ )*pub "
+                  r"(?:record |syntax |data )?(◌?[^\s(:{]+)")
 WORD = re.compile(r"[^\s(){}.,;:λ\[\]<>&]+")
 # what the code declares: a type, a trait, a constant, or the call that is named above
 RUST_HEAD = re.compile(rf"pub (?:struct|enum|trait|const|type|fn(?= {TOP_CALL[1]}\b)) (\w+)")
@@ -133,7 +135,8 @@ class Code:
                 name = head[1]
                 self.items.setdefault(name, [])
             shown = line.strip()
-            if name and shown and not shown.startswith(("//", "#[", "ghost use", "ghost invariant")):
+            left_out = ("//", "#[", "ghost use", "ghost invariant")
+            if name and shown and not shown.startswith(left_out):
                 self.items[name].append(line)
             if line in ("}", "{") or (not line.startswith(" ") and line.endswith(("}", ";"))):
                 name = None

@@ -10,6 +10,7 @@ from irvtools.paths import TOP
 
 PAGE = Path("docs/assurance/qualification.md")
 HEADING = re.compile(r"### ((AS|SRAC|FM)-\d\d): (.*)")
+NAME = re.compile(r"\b(?:AS|SRAC|FM)-\d\d\b")
 FIELDS = (
     "Statement",
     "Ensured by",
@@ -68,3 +69,26 @@ def entries(kind: str, root: Path = TOP) -> list[Entry]:
     except OSError:
         return []
     return [entry for entry in entries_in(text) if entry.kind == kind]
+
+
+def faults_in(text: str) -> list[str]:
+    """Returns missing fields of the entries of the qualification page, wrong numbers, conditions
+    without "shall", and cited names that do not exist."""
+    entries, found, counts = entries_in(text), [], dict.fromkeys(WANTED, 0)
+    for entry in entries:
+        counts[entry.kind] += 1
+        if entry.name != f"{entry.kind}-{counts[entry.kind]:02}":
+            found.append(f"{PAGE.name}: {entry.name} is out of order")
+        found += [
+            f"{PAGE.name}, {entry.name}: no {name.lower()}"
+            for name in WANTED[entry.kind]
+            if not entry.fields.get(name)
+        ]
+        if entry.kind == "SRAC" and " shall " not in entry.sentence:
+            found.append(f"{PAGE.name}, {entry.name}: no sentence with shall")
+    known = {entry.name for entry in entries}
+    return found + [
+        f"{PAGE.name} cites {name}, which does not exist"
+        for name in dict.fromkeys(NAME.findall(text))
+        if name not in known
+    ]

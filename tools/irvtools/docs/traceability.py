@@ -10,11 +10,11 @@ from pathlib import Path
 from irvtools.arguments import Parser
 from irvtools.docs.evidence import KINDS, Item, Line, lines_of
 from irvtools.docs.qualification import PAGE as QUALIFICATION
-from irvtools.docs.qualification import WANTED, entries_in
+from irvtools.docs.qualification import faults_in
+from irvtools.docs.requirements import requirement_faults
 from irvtools.paths import TOP
 
 PAGE = Path("docs/assurance/traceability.md")
-LINE_NAME = re.compile(r"\b(?:AS|SRAC|FM)-\d\d\b")
 # what the code declares, besides definitions
 DECLARED = r"(?:fn|struct|enum|trait|const|type|ensures) {}\b"
 
@@ -235,30 +235,8 @@ def faults(root: Path = TOP) -> list[str]:
         listed = [line.name for line in lines if line.section == section]
         found += [f"{section}: {name} has no line" for name in wanted if name not in listed]
         found += [f"{section}: {name} does not exist" for name in listed if name not in wanted]
-    return found + faults_of_qualification((root / QUALIFICATION).read_text(encoding="utf-8"))
-
-
-def faults_of_qualification(text: str) -> list[str]:
-    """Returns missing fields of the entries of the qualification page, wrong numbers, conditions
-    without "shall", and cited names that do not exist."""
-    entries, found, counts = entries_in(text), [], dict.fromkeys(WANTED, 0)
-    for entry in entries:
-        counts[entry.kind] += 1
-        if entry.name != f"{entry.kind}-{counts[entry.kind]:02}":
-            found.append(f"{QUALIFICATION.name}: {entry.name} is out of order")
-        found += [
-            f"{QUALIFICATION.name}, {entry.name}: no {name.lower()}"
-            for name in WANTED[entry.kind]
-            if not entry.fields.get(name)
-        ]
-        if entry.kind == "SRAC" and " shall " not in entry.sentence:
-            found.append(f"{QUALIFICATION.name}, {entry.name}: no sentence with shall")
-    known = {entry.name for entry in entries}
-    return found + [
-        f"{QUALIFICATION.name} cites {name}, which does not exist"
-        for name in dict.fromkeys(LINE_NAME.findall(text))
-        if name not in known
-    ]
+    found += requirement_faults(root, lines)
+    return found + faults_in((root / QUALIFICATION).read_text(encoding="utf-8"))
 
 
 def differences(root: Path = TOP) -> list[str]:
