@@ -74,8 +74,8 @@ def entries(kind: str, root: Path = TOP) -> list[Entry]:
 def faults_in(text: str) -> list[str]:
     """Returns missing fields of the entries of the qualification page, wrong numbers, conditions
     without "shall", and cited names that do not exist."""
-    entries, found, counts = entries_in(text), [], dict.fromkeys(WANTED, 0)
-    for entry in entries:
+    listed, found, counts = entries_in(text), [], dict.fromkeys(WANTED, 0)
+    for entry in listed:
         counts[entry.kind] += 1
         if entry.name != f"{entry.kind}-{counts[entry.kind]:02}":
             found.append(f"{PAGE.name}: {entry.name} is out of order")
@@ -86,7 +86,7 @@ def faults_in(text: str) -> list[str]:
         ]
         if entry.kind == "SRAC" and " shall " not in entry.sentence:
             found.append(f"{PAGE.name}, {entry.name}: no sentence with shall")
-    known = {entry.name for entry in entries}
+    known = {entry.name for entry in listed}
     return found + [
         f"{PAGE.name} cites {name}, which does not exist"
         for name in dict.fromkeys(NAME.findall(text))
