@@ -139,19 +139,12 @@ def see_map(repository, seen):
               sorted(name for name in crates if not name.endswith("_tests")))
 
 
-def see_assessor(repository, seen):
-    """The assessor's page is as the tool prints it."""
-    root = repository.root
-    printed = subprocess.run([root / "tools/definitions", "--page"], stdout=subprocess.PIPE,
+def see_definitions(repository, seen):
+    """The list of definitions and the reading plan are as the tool prints them."""
+    checked = subprocess.run([repository.root / "tools/definitions", "--check"], stdout=subprocess.PIPE,
                              stderr=subprocess.PIPE)
-    page = read(root / "docs/assurance/definition-list.md").splitlines()
-    wanted = printed.stdout.decode().splitlines()
-    seen.ask(printed.returncode == 0, f"tools/definitions: {printed.stderr.decode().strip()}")
-    for line in wanted:
-        seen.ask(line in page, f"definition-list.md: this line isn't there (tools/definitions --write): {line}")
-    for line in page:
-        seen.ask(line in wanted, f"definition-list.md: this line isn't so (tools/definitions --write): {line}")
-    seen.same("definition-list.md, its number of lines", len(page), len(wanted))
+    said = checked.stdout.decode().splitlines()
+    seen.ask(checked.returncode == 0, f"tools/definitions --check: {checked.stderr.decode().strip()}{said[:3]}")
 
 
 def see_left(repository, seen):
@@ -224,6 +217,17 @@ class Names:
         for path in (*(root / "tools").rglob("*"), *(root / "tests").rglob("*"), root / "irv"):
             if path.is_file() and path.suffix in ("", ".py", ".bash", ".js", ".txt") and path.name != "docs.py":
                 self.enter_script(read(path))
+                self.words.add(path.stem.removesuffix("_tests"))
+            elif path.is_dir():
+                self.words.add(path.name)
+        self.others.update(re.findall(r"^(?:class|def) (\w+)", read(root / "tests/support/harness.py"), re.M))
+
+    def is_test(self, word):
+        """Returns whether a word is the name of a test: its module, and its method."""
+        module, _, method = word.rpartition(".")
+        file = self.root / "tests" / (module.replace(".", "/") + "_tests.py")
+        file = file if file.is_file() else self.root / "tests" / (module.replace(".", "/") + ".py")
+        return file.is_file() and re.search(rf"(?:check|test)_{method}\b", read(file)) is not None
 
     def enter(self, path, kind):
         """Enters what a file of a crate declares."""
@@ -266,6 +270,8 @@ class Names:
         of the tests; or a sign, a number, or a place for something, in capitals."""
         if word.startswith("ilk_"):
             return word in self.crates
+        if re.fullmatch(r"[a-z_]+(\.[a-z_]+)+", word) and self.is_test(word):
+            return True
         if re.fullmatch(r"\w+\.\.", word):
             return any(name.startswith(word[:-2]) for name in self.declared)
         if "::" in word:
@@ -498,7 +504,7 @@ def see_commands(repository, seen):
 
 def see_lists(repository, seen):
     """Each list that says where a change goes has every file that names its witness."""
-    root, where = repository.root, "architecture.md, where a change goes"
+    root, where = repository.root, "CONTRIBUTING.md, files that a change touches"
     for heading, witness, count, missing in change_lists.left_out(root, lambda: Places(root, root / change_lists.MAP)):
         seen.ask(missing is not None, f"{where}: there is no list {heading!r}")
         seen.ask(count > 1, f"{where}, {heading}: nothing names {witness}")
@@ -518,54 +524,8 @@ def see_denied(repository, seen):
                               f"reaches {name}")
 
 
-# the tables of docs/reference/model.md whose rows are requirements, by their first heads
-REQUIRING = (("rule", "what must hold"), ("rule", "broken if", "place", "definition"),
-             ("event", "enabled if"), ("hazard", "what it is"), ("family", "what holds"),
-             ("verdict", "given if"), ("query", "asks for"))
-LIMITS = ("what", "limit", "rule")
-
-
-def requirements(root):
-    """Each requirement: what it is called in the tables of requirements, the word by which tests speak of
-    it, and the links of its definitions where its row has any. Limits have neither."""
-    model = read(root / "docs/reference/model.md")
-    for heads in REQUIRING:
-        for cells in rows(model, *heads):
-            first = cells[0].partition("(")[0]
-            name = first.split()[0] if heads[0] == "event" else first.partition(" at ")[0]
-            yield name, name.removesuffix(" n"), LINK.findall(cells[-1])
-    for cells in rows(read(root / "docs/reference/formats.md"), *LIMITS):
-        yield cells[0], None, []
-
-
-def see_requirements(repository, seen):
-    """Each requirement has its row, with its definitions, a law or contract, and tests that name it."""
-    root = repository.root
-    page = root / "docs/assurance/traceability.md"
-    told = rows(read(page), "requirement", "definition")
-    wanted = list(requirements(root))
-    seen.same(f"{page.name}, the requirements", [cells[0] for cells in told], [it[0] for it in wanted])
-    seen.ask(len(wanted) > 60, f"{page.name}: only {len(wanted)} requirements are found")
-    by_name = {cells[0]: cells for cells in told}
-    for name, word, definitions in wanted:
-        if name not in by_name or len(by_name[name]) != 5:
-            seen.ask(False, f"{page.name}, {name}: no row with five cells")
-            continue
-        _, own, laws, tests, _ = by_name[name]
-        if definitions:
-            seen.same(f"{page.name}, {name}, the definitions", LINK.findall(own), definitions)
-        seen.ask(LINK.findall(own), f"{page.name}, {name}: it has no definition")
-        seen.ask(LINK.findall(laws), f"{page.name}, {name}: it has no law and no contract")
-        seen.ask(LINK.findall(tests), f"{page.name}, {name}: it has no test")
-        for _, target, _ in LINK.findall(tests):
-            file = page.parent / target
-            seen.ask(word is None or file.is_file() and re.search(
-                rf"(?<![A-Za-z0-9]){re.escape(word)}(?![A-Za-z0-9])", read(file), re.I),
-                f"{page.name}, {name}: {file.name} doesn't speak of it")
-
-
-CHECKS = (see_map, see_search, see_assessor, see_left, see_links, see_spans, see_contracts, see_commands,
-          see_lists, see_denied, see_requirements)
+CHECKS = (see_map, see_search, see_definitions, see_left, see_links, see_spans, see_contracts, see_commands,
+          see_lists, see_denied)
 
 
 def see_all(root, checks=CHECKS):
@@ -591,23 +551,23 @@ CHANGES = {
         see_search, "crates.txt", r"^(ilk_forever:.*)$", r"\1 ilk_induct",
         "ilk_forever stands on the search: ilk_arena"),
     "a definition that fits no section": (
-        see_left, "tools/definitions", r'^ +\("ilk_words\.specs\.Plan", "plan_of"\)\], None\),$',
+        see_left, "tools/irvtools/docs/definitions.py", r'^ +\("ilk_words\.specs\.Plan", "plan_of"\)\], None\),$',
         "                          ], None),", "Plan.antt: plan_of"),
     "a stale count": (
-        see_assessor, "docs/assurance/definition-list.md", r"^(## 3\. .*: )\d+ lines", r"\g<1>1 lines",
-        "definition-list.md: this line isn't so"),
+        see_definitions, "docs/assurance/definition-list.md", r"^(3\. .*: )\d+ lines", r"\g<1>1 lines",
+        "tools/definitions --check"),
     "a dead link": (
-        see_links, "docs/reference/model.md", r"\(\.\./crates/ilk_model/specs/Run\.antt\)",
-        "(../crates/ilk_model/specs/Runs.antt)", "Runs.antt: it isn't there"),
+        see_links, "docs/reference/model.md", r"\(\.\./\.\./crates/ilk_model/specs/Run\.antt\)",
+        "(../../crates/ilk_model/specs/Runs.antt)", "Runs.antt: it isn't there"),
     "a file that isn't there": (
-        see_spans, "docs/dev/architecture.md", r"`ilk_model/src/event\.rt`", "`ilk_model/src/events.rt`",
+        see_spans, "CONTRIBUTING.md", r"`ilk_model/src/event\.rt`", "`ilk_model/src/events.rt`",
         "`ilk_model/src/events.rt` isn't there"),
     "a definition renamed": (
         see_links, "crates/ilk_plant/specs/NetworkRules.antt", r"\bstands_alone\b", "has_no_neighbour",
         "NetworkRules.antt: stands_alone isn't declared there"),
     "a definition renamed that no link leads to": (
         see_spans, "crates/ilk_answers/specs/Strict.antt", r"\bSaysSafeAtOneOrSpent\b", "SaysSafeOrSpent",
-        "docs/assurance/definition-list.md: `SaysSafeAtOneOrSpent` is declared nowhere"),
+        "`SaysSafeAtOneOrSpent` is declared nowhere"),
     "a call renamed": (
         see_contracts, "crates/ilk_engine/src/deciding.rt", r"\bpub fn decide\b", "pub fn decides",
         "`ilk_engine`: decide isn't in its code"),
@@ -617,11 +577,11 @@ CHANGES = {
         see_commands, "crates/ilk_words/src/limits.rt", r"MAX_DEPTH: u64 = \d+", "MAX_DEPTH: u64 = 15",
         "values of --depth"),
     "a file that a list leaves out": (
-        see_lists, "docs/dev/architecture.md", r"`pairs\.rt`, ", "", "pairs.rt is left out, which names the rule C8"),
+        see_lists, "CONTRIBUTING.md", r"`pairs\.rt`, ", "", "pairs.rt is left out, which names the rule C8"),
     "a document that a list leaves out": (
-        see_lists, "docs/dev/architecture.md", r"`docs/guides/html-report\.md`, ", "", "html-report.md is left out, which names the rule C8"),
+        see_lists, "CONTRIBUTING.md", r"`docs/guides/html-report\.md`, ", "", "html-report.md is left out, which names the rule C8"),
     "a folder that a list leaves out": (
-        see_lists, "docs/dev/architecture.md", r", such as `ilk_drive/`", "",
+        see_lists, "CONTRIBUTING.md", r", such as `ilk_drive/`", "",
         "ilk_drive/src/automatic.rt is left out, which names the command drive"),
     "a file that comes to name an event": (
         see_lists, "tools/irvtools/trackplan/rows.py", r"\A", "CREWS = ['cancel']\n",
@@ -630,7 +590,7 @@ CHANGES = {
         see_lists, "crates/ilk_copy/src/lib.rt", r"\A", "// a run has at most 16 events\n",
         "ilk_copy/src/lib.rt is left out, which names the depth"),
     "a list under another heading": (
-        see_lists, "docs/dev/architecture.md", r"^### A family of the invariant$", "### A family",
+        see_lists, "CONTRIBUTING.md", r"^### A family of the invariant$", "### A family",
         "there is no list 'A family of the invariant'"),
     "a file that denies what reaches it": (
         see_denied, "crates/ilk_solver/specs/Answered.antt", r"\A.*",
@@ -639,20 +599,6 @@ CHANGES = {
     "a private call that is handed on": (
         see_denied, "crates/ilk_solver/src/lib.rt", r"^pub use solver::Solver;$",
         r"\g<0>\npub use search::Search;", "ilk_solver/specs/Learned.antt says that no public contract"),
-    "a requirement without its row": (
-        see_requirements, "docs/assurance/traceability.md", r"^\| N4 \|.*\n", "", "the requirements: ['N4'] left out"),
-    "a new requirement": (
-        see_requirements, "docs/reference/model.md", r"^(\| V9 )(\|.*\n)", r"\1\2| V10 \2",
-        "the requirements: ['V10'] left out"),
-    "a definition that isn't that of its requirement": (
-        see_requirements, "docs/assurance/traceability.md", r"^(\| N2 \| \[`)is_named_before", r"\1stands_alone",
-        "N2, the definitions"),
-    "a test that doesn't speak of its requirement": (
-        see_requirements, "docs/assurance/traceability.md", r"^(\| R8 \|.*)routes\.cases\]\(../tests/cases/routes\.cases",
-        r"\1words.cases](../tests/cases/words.cases", "R8: words.cases doesn't speak of it"),
-    "a wrong body that isn't there": (
-        see_links, "docs/assurance/traceability.md", r"wrong-bodies/n2_left_out\.edit", "wrong-bodies/n2_out.edit",
-        "n2_out.edit: it isn't there"),
     "a status renamed": (
         see_commands, "crates/*/specs/Status.antt", r"^code Spent", "code UsedUp", "the statuses"),
 }

@@ -4,14 +4,14 @@ has each of them, by its name or by a directory above it."""
 
 import re
 
-MAP = "docs/dev/architecture.md"
+MAP = "CONTRIBUTING.md"
 SPAN = re.compile(r"``? ?(.+?) ?``?(?!`)")
 # Where a thing may be named: code, definitions, proofs, tools, tests, documents.
 SOURCES = ("crates/*/src/**/*.rt", "crates/*/specs/**/*.antt", "crates/*/proofs/**/*.antt", "tools/**/*",
            "tests/**/*", "irv", "*.md", "docs/**/*.md", "examples/*.md")
 # What isn't asked of each list: rt writes the first; tests/cases has what is tried; two are lists of what
 # all files have; and of the last, which are documents, the page says once that they come with each change.
-APART = re.compile(r"/declared/|^tests/cases/|__pycache__|/change_lists\.py$|^tests/docs\.py$|\.json$|"
+APART = re.compile(r"/declared/|^tests/cases/|__pycache__|/change_lists\.py$|^tests/(?:docs|traceability)\.py$|^tools/irvtools/docs/|\.json$|"
                    r"^tests/(?:duplicates\.list|line_limits\.counts)$|"
                    r"^(?:README|CHANGELOG|CONTRIBUTING)\.md$|^docs/(?:dev/architecture|assurance/proved|assurance/traceability|assurance/definition-list|reference/glossary|DECISIONS)\.md$")
 RULES = "A rule of the network (N), of the table (R), of the columns (C)"
