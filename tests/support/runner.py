@@ -196,6 +196,7 @@ def parser() -> Parser:
               type=whole_number(1, 1024), default=os.cpu_count() or 1)
     line.flag("--long", "also run tests that take long")
     line.flag("--without-program", "run only tests that need no program")
+    line.flag("--with-program", "run only tests that need the program")
     line.flag("--list", "print the tests' names, and run none")
     return line
 
@@ -210,8 +211,8 @@ def chosen(tests, given):
     unknown = [word for word in given.names if not any(is_named(name_of(test), word) for test in tests)]
     found = [test for test in tests
              if not given.names or any(is_named(name_of(test), word) for word in given.names)]
-    if given.without_program:
-        found = [test for test in found if not test.needs_program]
+    if given.without_program or given.with_program:
+        found = [test for test in found if test.needs_program == given.with_program]
     return found, unknown
 
 
