@@ -73,7 +73,7 @@ def follows(one: str, other: str) -> bool:
 
 
 def ranges_of(names: list[str]) -> str:
-    """Returns names in one text, three or more that follow each other as in N1–N8."""
+    """Returns names in one text, three or more that follow each other as in N1–N3."""
     groups: list[list[str]] = []
     for name in names:
         if groups and follows(groups[-1][-1], name):
