@@ -139,8 +139,8 @@ def list_page() -> str:
         "without an ending are in `specs/`.",
         "",
         "The lines are those of definitions, types, traits, constants and of the clauses of `run`. "
-        "Comments, imports, empty lines, libraries and ported crates are left out. For parts 5 to "
-        "18 the list names the files; `tools/definitions` prints each definition.",
+        "Comments, imports, empty lines, libraries and ported crates are left out. Parts 2 to 4 "
+        "name each definition, the others only files; `tools/definitions` prints all names.",
         "",
     ]
     page += [
@@ -149,7 +149,7 @@ def list_page() -> str:
     ]
     page += ["", f"In all {sum(counts)} lines."]
     for number, (title, by_file) in enumerate(found, 1):
-        table = (table_of_files if number <= NAMED_STAGES else table_of_crates)(by_file)
+        table = (table_of_files if number in NAMED_STAGES else table_of_crates)(by_file)
         page += ["", f"## {number}. {title}", "", ABOUT[number - 1], "", *table]
     return "\n".join(page) + "\n"
 
