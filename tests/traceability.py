@@ -101,7 +101,7 @@ CHANGES = {
     ),
     "a new requirement": (
         MODEL,
-        r"^(\| V9 )(\|.*\n)",
+        r"^(\| V1 )(\|.*\n)",
         r"\1\2| V10 \2",
         "V10 is a requirement and has no line",
     ),
@@ -119,9 +119,9 @@ CHANGES = {
     ),
     "a test that does not name its requirement": (
         DATA,
-        r"^(R8 \| .* \| )routes\.cases",
+        r"^(R3 \| .* \| )routes\.cases",
         r"\1words.cases",
-        "words.cases does not say R8",
+        "words.cases does not say R3",
     ),
     "a requirement that is listed twice": (
         DATA,

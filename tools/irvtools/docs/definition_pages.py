@@ -137,8 +137,8 @@ def list_page() -> str:
         "without an ending are in `specs/`.",
         "",
         "The lines are those of definitions, types, traits, constants and of the clauses of `run`. "
-        "Comments, imports, empty lines, libraries and ported crates are left out. For parts 5 to "
-        "18 the list names the files; `tools/definitions` prints each definition.",
+        "Comments, imports, empty lines, libraries and ported crates are left out. Parts 2 to 4 "
+        "name each definition, the others only files; `tools/definitions` prints all names.",
         "",
     ]
     page += [
@@ -147,7 +147,7 @@ def list_page() -> str:
     ]
     page += ["", f"In all {sum(counts)} lines."]
     for number, (title, by_file) in enumerate(found, 1):
-        table = (table_of_files if number <= NAMED_STAGES else table_of_crates)(by_file)
+        table = (table_of_files if number in NAMED_STAGES else table_of_crates)(by_file)
         page += ["", f"## {number}. {title}", "", ABOUT[number - 1], "", *table]
     return "\n".join(page) + "\n"
 
@@ -213,6 +213,7 @@ def parser() -> Parser:
     kind = line.add_mutually_exclusive_group()
     for name, text in (
         ("--total", "print the stages only, with their lines"),
+        ("--page", "print docs/assurance/definition-list.md as it should be"),
         (
             "--check",
             "print each line of the two pages that is missing or wrong; status 1 if any is",
@@ -229,9 +230,11 @@ def main(words: list[str]) -> int:
     kind = parser().parse_args(words).kind
     if kind == "--left":
         print(*definitions.left_over(list(definitions.stages())[-1][1]), sep="\n", end="")
+    elif kind == "--page":
+        print(list_page(), end="")
     elif kind == "--check":
         found = differences()
-        print(*found, sep="\n" if found else "", end="\n" if found else "")
+        sys.stdout.writelines(f"{fault}\n" for fault in found)
         return 1 if found else 0
     elif kind == "--write":
         for path, text in pages().items():

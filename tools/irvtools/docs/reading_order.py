@@ -4,7 +4,7 @@ from irvtools.docs import definitions
 from irvtools.docs.definitions import RULES
 
 # the stages of which each definition is named; of the others the list has the files
-NAMED_STAGES = 4
+NAMED_STAGES = (2, 3, 4)
 # what each stage is about, in the order of the stages
 ABOUT = (
     "Answers to arguments and bytes, with exit statuses, and the effects on sources and sinks.",

@@ -11,10 +11,12 @@ from irvtools.arguments import Parser
 from irvtools.docs.evidence import KINDS, Item, Line, lines_of
 from irvtools.docs.qualification import PAGE as QUALIFICATION
 from irvtools.docs.qualification import faults_in
-from irvtools.docs.requirements import requirement_faults
+from irvtools.docs.requirements import SECTIONS, requirement_faults
 from irvtools.paths import TOP
 
 PAGE = Path("docs/assurance/traceability.md")
+# sections whose definitions are in tables of the model page, beside the requirements
+DEFINED_IN_MODEL = SECTIONS[:-2]
 # what the code declares, besides definitions
 DECLARED = r"(?:fn|struct|enum|trait|const|type|ensures) {}\b"
 
@@ -37,10 +39,12 @@ def table_of(lines: list[Line]) -> list[str]:
         ]
         for kind in KINDS
     }
+    if lines[0].section in DEFINED_IN_MODEL:
+        shared["definitions"] = [item for line in lines for item in line.of("definitions")]
     said = [
         f"{kind} {', '.join(item.shown() for item in items)}"
         for kind, items in shared.items()
-        if items
+        if items and (kind != "definitions" or lines[0].section not in DEFINED_IN_MODEL)
     ]
     rows = [f"All lines: {'; '.join(said)}.", ""] if said else []
     kinds = [
@@ -73,7 +77,7 @@ def follows(one: str, other: str) -> bool:
 
 
 def ranges_of(names: list[str]) -> str:
-    """Returns names in one text, three or more that follow each other as in N1–N8."""
+    """Returns names in one text, three or more that follow each other as in N1–N3."""
     groups: list[list[str]] = []
     for name in names:
         if groups and follows(groups[-1][-1], name):
@@ -150,6 +154,8 @@ def page_of(root: Path) -> str:
         "of its own, a line depends on the contract only.",
         "- *(user)* marks a line whose evidence the user has to add.",
         "- *run NAME* means `tests/run NAME`.",
+        "- The definitions of requirements, up to the verdicts, are in the tables of "
+        "[the model](../reference/model.md).",
         "",
         "Sources: `tools/irvtools/docs/requirements.txt` and [qualification](qualification.md).",
     ]
