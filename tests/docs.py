@@ -39,6 +39,21 @@ LINK = re.compile(r"\[([^\]]*)\]\(([^)\s]+)\)(?:, \"([^\"]+)\")?")
 FILE_NAME = re.compile(r"[\w.*-]+\.(?:antt|rt|md|py|js|cases|table|json|run|scene|edit|txt|list|counts)")
 # What isn't in the repository, though a document names it as if it were: what a build makes.
 MADE = ("out/", "crates/irv/out/irv")
+# Names of earlier versions, which are left nowhere but in the changelog and here.
+OLD_NAMES = {
+    "an option": r"(?<![\w-])--(?:try|page|wait|hunt|play|sheet|case|want|wanted|lot|battery)\b",
+    "a tool": r"\btools/(?:hunt|many|safe_by|speed|case|page|play|sheet|bodies|wrong_bodies)\b",
+    "a test": r"\btests/(?:twice|walls|called|together|hunted|largest|try_audit|try_rup|try_memory|wrong_bodies"
+              r"|sessions|same_bytes|case|page|play|sheet|many|speed|lib)\b",
+    "a directory": r"\bwrong-bodies\b|\b(?:page|case|play|sheet|many|launcher|release|speed)_parts\b"
+                   r"|\b(?:page|play|sheet|many|case|launcher)_lib\b",
+    "a module": r"\b(?:twins|crews|wishes|told|beside|pulling|marks_of|asking|hunting|hunters|hunted|lots|wants)\.py\b"
+                r"|\b\w+_trials\b",
+    "a job word": r"\bsafe_by\b|\bwanted\.csv\b",
+    "a document": r"\bdocs/(?:ARCHITECTURE|ASSESSOR|CASES|COMMANDS|FORMATS|MANY|MODEL|PAGE|PLAY|PROVED"
+                  r"|QUALIFICATION|RELEASES|SHEETS|SPEED|TRACEABILITY)\.md",
+}
+KEEPS_OLD_NAMES = ("CHANGELOG.md", "tests/docs.py")
 # What says that a plant is safe without any search: laws, and the checker of certificates.
 APART_FROM_SEARCH = ("ilk_evidence", "ilk_forever", "ilk_plant_audit", "ilk_strict")
 # What is no name of this repository, and why a document has it in backquotes.
@@ -524,8 +539,28 @@ def see_denied(repository, seen):
                               f"reaches {name}")
 
 
+def tracked(root):
+    """Returns the files of the repository by their paths; in a copy without git, those that are not made."""
+    listed = subprocess.run(["git", "-C", TOP, "ls-files"], capture_output=True, text=True).stdout.split("\n")
+    return [name for name in listed if name and (root / name).is_file()]
+
+
+def see_old_names(repository, seen):
+    """No old name is left in a text, or as the name of a file."""
+    for name in tracked(repository.root):
+        if name in KEEPS_OLD_NAMES:
+            continue
+        try:
+            text = f"{name}\n{read(repository.root / name)}"
+        except UnicodeDecodeError:
+            text = name
+        for what, pattern in OLD_NAMES.items():
+            found = re.search(pattern, text)
+            seen.ask(not found, f"{name}: {found and found[0]!r} is the old name of {what}")
+
+
 CHECKS = (see_map, see_search, see_definitions, see_left, see_links, see_spans, see_contracts, see_commands,
-          see_lists, see_denied)
+          see_lists, see_denied, see_old_names)
 
 
 def see_all(root, checks=CHECKS):
@@ -599,6 +634,8 @@ CHANGES = {
     "a private call that is handed on": (
         see_denied, "crates/ilk_solver/src/lib.rt", r"^pub use solver::Solver;$",
         r"\g<0>\npub use search::Search;", "ilk_solver/specs/Learned.antt says that no public contract"),
+    "an old name": (
+        see_old_names, "tools/README.md", r"\A", "`tools/hunt` searches.\n", "'tools/hunt' is the old name of a tool"),
     "a status renamed": (
         see_commands, "crates/*/specs/Status.antt", r"^code Spent", "code UsedUp", "the statuses"),
 }

@@ -1,4 +1,4 @@
-"""Checks certificates, by the rules of docs/FORMATS.md alone, over formulas that another gives.
+"""Checks certificates, by the rules of docs/reference/formats.md alone, over formulas that another gives.
 
 Nothing of a search is needed for it: each step names the clauses from which it follows. `audited`
 reads the bytes of a certificate line by line and names the first bad one. `check` tells what is wrong

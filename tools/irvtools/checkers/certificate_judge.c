@@ -1,4 +1,4 @@
-/* Judges a certificate, line by line, by what docs/FORMATS.md says of how audit reads one ("Certificates").
+/* Judges a certificate, line by line, by what docs/reference/formats.md says of how audit reads one ("Certificates").
 
        certificate_judge FORMULAS CERTIFICATE..
 

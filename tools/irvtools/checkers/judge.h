@@ -1,5 +1,5 @@
 /* What both judges need: lists of numbers, files, numbers and literals as the formats write them, and
-   the formula of a query as `irv export` prints it ("Formulas" in docs/FORMATS.md).
+   the formula of a query as `irv export` prints it ("Formulas" in docs/reference/formats.md).
 
    A literal of variable v is the number 2v, and its negative 2v + 1. */
 

@@ -1,4 +1,4 @@
-/* Judges a refutation without hints, item by item, by what docs/FORMATS.md says of it ("Refutations").
+/* Judges a refutation without hints, item by item, by what docs/reference/formats.md says of it ("Refutations").
 
        rup_judge FORMULA TEXT
 

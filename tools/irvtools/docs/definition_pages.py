@@ -213,7 +213,7 @@ def parser() -> Parser:
     kind = line.add_mutually_exclusive_group()
     for name, text in (
         ("--total", "print the stages only, with their lines"),
-        ("--page", "print docs/assurance/definition-list.md as it should be"),
+        ("--print", "print docs/assurance/definition-list.md as it should be"),
         (
             "--check",
             "print each line of the two pages that is missing or wrong; status 1 if any is",
@@ -230,7 +230,7 @@ def main(words: list[str]) -> int:
     kind = parser().parse_args(words).kind
     if kind == "--left":
         print(*definitions.left_over(list(definitions.stages())[-1][1]), sep="\n", end="")
-    elif kind == "--page":
+    elif kind == "--print":
         print(list_page(), end="")
     elif kind == "--check":
         found = differences()
