@@ -4,7 +4,7 @@
   crate comes after those that it depends on. The diagram and the page of what is proved have each crate but
   those of tests.
 - No crate of the search is a dependency of the theorems and the checker by which a plant is safe without one.
-- The list of definitions is what `tools/definitions --page` prints. What the clauses of `run` reach without a
+- The list of definitions is what `tools/definitions` makes. What the clauses of `run` reach without a
   formula comes before its last section.
 - Each link leads to a file, each heading that is named after a link is in that file, and each name in the
   words of a link is declared in the file to which it leads.
