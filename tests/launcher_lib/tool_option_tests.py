@@ -62,7 +62,7 @@ def tests_the_proved_program(top):
     program = top.resolve() / "crates/irv/out/irv"
     answers = [call(top, "--test", *words) for words in ([], ["html", "csv"])]
     return answers == [(b"", b"", 3, [f"run: --program {program}{words}"])
-                       for words in (" ", " html csv")]
+                       for words in ("", " html csv")]
 
 
 def tests_the_unproved_build(top):
@@ -79,7 +79,7 @@ def tests_the_unproved_build(top):
     return (is_cached(top) and first[::2] == again[::2] == (b"", 3)
             and [line for line in first[3] if line.endswith(": try")] == ["irv: try"]
             and not has_built(first[3]) and first[3][-1] == f"run: --program {unproved} html"
-            and again[3] == [f"run: --program {unproved} "]
+            and again[3] == [f"run: --program {unproved}"]
             and first[1].decode().splitlines()[-1] == again[1].decode().splitlines()[-1] == last)
 
 

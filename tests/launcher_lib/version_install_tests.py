@@ -121,6 +121,7 @@ def installs(top):
 
 def installs_its_version(top):
     """The installed version file has the checksums of sources and program, and no date."""
+    give_licences(top)
     call(top, "--install", top / "there")
     printed = call(top, "--version")[0].decode().splitlines()
     lines = (top / "there/irv.version").read_text().splitlines()
@@ -129,11 +130,20 @@ def installs_its_version(top):
             and f"program sha256 {total}" in lines and len(lines) == 5)
 
 
+def names_missing_licences(top):
+    """If the toolchain's libraries are not found, `--install` says so with status 125, and copies
+    nothing."""
+    output, errors, status, _ = call(top, "--install", top / "there")
+    return ((output, status) == (b"", 125) and not (top / "there").exists()
+            and b"irv: cannot find the licences of the toolchain's libraries: " in errors)
+
+
 def refuses_wrong_counts(top):
     """`--install`, `--build` and `--version` with too few or too many arguments end with status 125 and a
     line that shows the call, and build nothing."""
     cases = {("--install",): "./irv --install DIRECTORY", ("--install", "a", "b"): "./irv --install "
              "DIRECTORY", ("--build", "a"): "./irv --build", ("--version", "a"): "./irv --version"}
+    give_licences(top)
     barred = call(top, "--install", top / "irv/below")
     return (all(call(top, *words) == (b"", f"irv: call it so: {line}\n".encode(), 125, [])
                 for words, line in cases.items())
@@ -142,4 +152,4 @@ def refuses_wrong_counts(top):
 
 
 TRIALS = (names_what_is_missing, prints_its_version, fails_if_output_fails, prints_no_other_commit,
-          installs, installs_its_version, refuses_wrong_counts)
+          installs, installs_its_version, names_missing_licences, refuses_wrong_counts)

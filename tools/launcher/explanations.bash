@@ -45,7 +45,7 @@ explain_usage() {
         [ -z "$fault" ] || break
         command -v iconv >/dev/null || break
         printf %s "$word" | iconv -f UTF-8 -t UTF-8 >/dev/null 2>&1 \
-            || fault="an argument is not UTF-8: $(printf %q "$word")"
+            || fault="an argument is not UTF-8: $(printf %q "${word#"$PWD/"}")"
     done
     echo "irv: ${fault:-"./irv --help lists the commands and their options"}" >&2
 }

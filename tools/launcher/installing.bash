@@ -105,6 +105,8 @@ install_program() {
     need python3
     know_sums
     [ -f "$program.licences" ] || { need rt && keep_licences; }
+    [ -f "$program.licences" ] \
+        || no_answer "cannot find the licences of the toolchain's libraries: rt doc names no toolchain"
     install_files "$1" \
         || no_answer "cannot install the program in $1: name a directory that you may write"
 }

@@ -110,10 +110,12 @@ ensure_unproved() {
     echo "irv: making the unproved build: this takes a minute or two" >&2
     prepare_faster
     sources=$sources_sum
-    try_watched "$rt" make --stations 1 </dev/null >/dev/null \
-        || no_answer "cannot compile the sources"
+    # a program that ended was compiled, whatever its status
+    try_watched "$rt" make --stations 1 </dev/null >/dev/null
+    [ $? -ne "$none" ] || no_answer "cannot compile the sources"
     { [ -f "$making/module.bc" ] && make_faster "$sources"; } \
         || no_answer "cannot make the unproved build: $log has the cause"
+    trap - EXIT
     [ "$(sum_of_sources)" = "$sources" ] \
         || no_answer "sources were edited during the build: call again to build the new ones"
     exec {turns}>&-
