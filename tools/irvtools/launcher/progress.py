@@ -20,9 +20,10 @@ import sys
 import threading
 import time
 from pathlib import Path
-from typing import BinaryIO, Callable, Dict, Iterable, Iterator, Optional, Set, TextIO
+from typing import Callable, Dict, Iterable, Iterator, Optional, Set, TextIO
 
-from bodies.libraries import TOP, Crates
+from irvtools.mutants.crates import Crates
+from irvtools.paths import TOP
 
 LISTED = TOP / "tools/crate_seconds.txt"
 NOTED = TOP / "out/seconds"

@@ -22,8 +22,8 @@ import tempfile
 from pathlib import Path
 from typing import BinaryIO, Dict, List, Set
 
-from bodies.libraries import Crates
 from irvtools.launcher.progress import follow
+from irvtools.mutants.crates import Crates
 
 PROGRAM = "irv"
 # `rt ci` ends if this process is killed

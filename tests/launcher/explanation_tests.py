@@ -3,8 +3,8 @@
 import os
 import subprocess
 
-from .build_tests import has_built
-from .repository_copy import call, environment
+from tests.launcher.build_tests import has_built
+from tests.launcher.repository_copy import call, copy_tests, environment
 
 OWN = "irv: its own line"
 
@@ -158,6 +158,7 @@ def adds_nothing_else(top):
     return others == [(status, [OWN]) for status in (0, 1, 2, 3, 4, 5, 6, 10)]
 
 
-TRIALS = (names_what_is_wrong, refuses_without_a_build, accepts_what_is_right,
-          names_bytes_that_are_not_text, names_what_is_read, names_what_is_written,
-          names_the_other_command, adds_nothing_else)
+ExplanationTests = copy_tests("ExplanationTests", (
+    names_what_is_wrong, refuses_without_a_build, accepts_what_is_right,
+    names_bytes_that_are_not_text, names_what_is_read, names_what_is_written,
+    names_the_other_command, adds_nothing_else))

@@ -4,7 +4,7 @@ import re
 
 from irvtools.launcher import command_table
 
-from .repository_copy import TOOLS, call, write_scripts
+from tests.launcher.repository_copy import TOOLS, call, copy_tests, write_scripts
 
 COMMANDS = [entry.name for entry in command_table.of_kind("command")]
 LAUNCHER = [entry.name for entry in command_table.of_kind("launcher")]
@@ -124,6 +124,7 @@ def names_no_old_option(_):
                          r"|check)\b", text)
 
 
-TRIALS = (helps_with_nothing_there, calls_nothing_for_help, prints_usage_for_no_arguments,
-          asks_for_help_only_before_the_end, lists_everything, lists_what_a_command_takes,
-          lists_what_a_tool_takes, names_no_old_option)
+HelpTests = copy_tests("HelpTests", (
+    helps_with_nothing_there, calls_nothing_for_help, prints_usage_for_no_arguments,
+    asks_for_help_only_before_the_end, lists_everything, lists_what_a_command_takes,
+    lists_what_a_tool_takes, names_no_old_option))

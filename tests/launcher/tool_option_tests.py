@@ -1,8 +1,14 @@
 """Tests of the options of the launcher that call a tool, and of `--test`."""
 
-from .build_tests import has_built
-from .repository_copy import TOOLS, call, give_kit
-from .unproved_tests import is_cached
+import re
+import subprocess
+
+from irvtools.launcher import command_table
+from irvtools.paths import TOP
+
+from tests.launcher.build_tests import has_built
+from tests.launcher.repository_copy import TOOLS, call, copy_tests, give_kit
+from tests.launcher.unproved_tests import is_cached
 
 
 def calls_each_tool(top):
@@ -100,5 +106,46 @@ def tests_nothing_without_a_build(top):
             and lines[2].startswith("irv: sources were edited during the build: "))
 
 
-TRIALS = (calls_each_tool, names_a_missing_tool, builds_for_csv_if_asked, takes_no_other_program,
-          tests_the_proved_program, tests_the_unproved_build, tests_nothing_without_a_build)
+def options_of_tool(tool):
+    """Returns the options that a tool's own help lists, each with its value and its default or `None`."""
+    text = subprocess.run(["python3", TOP / "tools" / tool, "--help"], stdin=subprocess.DEVNULL,
+                          stdout=subprocess.PIPE, check=True).stdout.decode()
+    listed = re.split(r"\n  (?=-)", text.partition("\noption")[2])[1:]
+    found = {}
+    for item in listed:
+        line = " ".join(item.split("\n\n")[0].split())
+        name, value, default = re.fullmatch(
+            r"(?:-h, )?(--[a-z-]+)(?: ([A-Z]\S*|\{\S+\}))?(?: .*?)?(?:\(([^()]*)\))?", line).groups()
+        if name not in ("--help", "--program"):
+            value = value and value.strip("{}").replace(",", "|" if "{" in value else ",")
+            found[name] = value, default and re.sub(r"^\d+ here$", "the processors here", default)
+    return found
+
+
+def options_of_table(entry):
+    """Returns the same of an entry of the table."""
+    found = {}
+    for words, _, *default in entry.parts("option"):
+        name, _, value = words.partition(" ")
+        is_stated = default and default[0] != "needed"
+        found[name] = value or None, default[0] if is_stated else None
+    return found
+
+
+def lists_the_options_of_each_tool(_):
+    """The table has the options of each tool, with the values and defaults that the tool's help has."""
+    tools = [entry for entry in command_table.of_kind("launcher") if entry.value("tool")]
+    faults = []
+    for entry in tools:
+        if not (TOP / "tools" / entry.value("tool")).is_file():
+            continue
+        told, listed = options_of_tool(entry.value("tool")), options_of_table(entry)
+        faults += [f"{entry.name} {name}: {told.get(name)}, and in the table {listed.get(name)}"
+                   for name in sorted({*told, *listed}) if told.get(name) != listed.get(name)]
+    assert not faults, faults
+    return len(tools) == len(TOOLS)
+
+
+ToolOptionTests = copy_tests("ToolOptionTests", (
+    lists_the_options_of_each_tool, calls_each_tool, names_a_missing_tool, builds_for_csv_if_asked, takes_no_other_program,
+    tests_the_proved_program, tests_the_unproved_build, tests_nothing_without_a_build))

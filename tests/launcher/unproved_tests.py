@@ -2,8 +2,8 @@
 
 from concurrent.futures import ThreadPoolExecutor
 
-from .build_tests import has_built
-from .repository_copy import UNCHECKED, call, comes_to_be, give_kit
+from tests.launcher.build_tests import has_built
+from tests.launcher.repository_copy import UNCHECKED, call, comes_to_be, copy_tests, give_kit
 
 NOTICE = "irv: this answer is by an unproved build"
 BEHIND = "irv: a faster unproved build is made in the background, and cached for --unproved"
@@ -145,6 +145,7 @@ def leaves_no_link(top):
                 for it in path.rglob("*") if it.is_symlink()]
 
 
-TRIALS = (answers_without_proof, fails_if_the_build_fails, caches_the_faster_build,
-          removes_the_checks, builds_anew_after_a_change, is_never_the_proved_one,
-          builds_one_at_a_time, caches_nothing_edited, works_without_the_faster_build, leaves_no_link)
+UnprovedTests = copy_tests("UnprovedTests", (
+    answers_without_proof, fails_if_the_build_fails, caches_the_faster_build,
+    removes_the_checks, builds_anew_after_a_change, is_never_the_proved_one,
+    builds_one_at_a_time, caches_nothing_edited, works_without_the_faster_build, leaves_no_link))

@@ -7,7 +7,7 @@ import subprocess
 
 from irvtools.launcher import command_table
 
-from .repository_copy import TOP
+from tests.launcher.repository_copy import TOP, copy_tests
 
 
 def described(part):
@@ -101,4 +101,5 @@ def is_the_same_for_bash(top):
     return sorted(done.stdout.decode().splitlines()) == sorted(read.splitlines()) != []
 
 
-TRIALS = (has_a_manual, is_right_troff, completes, finds_each_fault_of_a_page, is_the_same_for_bash)
+ManualTests = copy_tests("ManualTests", (
+    has_a_manual, is_right_troff, completes, finds_each_fault_of_a_page, is_the_same_for_bash))

@@ -8,7 +8,7 @@ import subprocess
 import time
 from concurrent.futures import ThreadPoolExecutor
 
-from .repository_copy import CRATES, call, environment
+from tests.launcher.repository_copy import CRATES, call, copy_tests, environment
 
 # the call that proves the program and its dependencies, lowest first
 PROVING = "low beside middle high irv : ci"
@@ -31,8 +31,7 @@ def builds_in_a_directory_of_its_own(top):
     """The proof runs over a copy without mutants and without what was made of the crates; nothing of the
     copy is left."""
     (top / "look").write_text("")
-    for name in ("specs/Lib.antt", "must-fail/a.edit", "mutants/b.edit", "wrong-bodies/b.edit",
-                 "out/rlib/low.rlib"):
+    for name in ("specs/Lib.antt", "must-fail/a.edit", "mutants/b.edit", "out/rlib/low.rlib"):
         (top / "crates/low" / name).parent.mkdir(parents=True, exist_ok=True)
         (top / "crates/low" / name).write_text("")
     status = call(top, "--build")[2]
@@ -40,7 +39,7 @@ def builds_in_a_directory_of_its_own(top):
     sources = [f"./crates/{name}/src/main.rt" for name in names]
     seen = (top / "seen").read_text().split()
     wanted = ["./HANDLES", "./crates.txt", "./crates/low/specs/Lib.antt", *sources]
-    return (status == 0 and [name for name in seen if "/mutants/" not in name] == sorted(wanted)
+    return (status == 0 and seen == sorted(wanted)
             and not list(top.glob("irv-proving-*")) and (top / "crates/low/out/rlib/low.rlib").exists())
 
 
@@ -188,7 +187,8 @@ def refuses_an_absent_crate(top):
                                     b" no such directory\n")
 
 
-TRIALS = (builds_once, builds_in_a_directory_of_its_own, builds_twice_at_once, builds_alone,
-          builds_what_changed, builds_nothing_for_the_rest, builds_again_after_an_edit,
-          notes_what_it_built, builds_after_ci, fails_without_proof, prints_a_fault_at_once,
-          puts_nothing_that_is_refused, refuses_other_arguments, refuses_an_absent_crate)
+BuildTests = copy_tests("BuildTests", (
+    builds_once, builds_in_a_directory_of_its_own, builds_twice_at_once, builds_alone,
+    builds_what_changed, builds_nothing_for_the_rest, builds_again_after_an_edit,
+    notes_what_it_built, builds_after_ci, fails_without_proof, prints_a_fault_at_once,
+    puts_nothing_that_is_refused, refuses_other_arguments, refuses_an_absent_crate))

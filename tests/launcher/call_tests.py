@@ -7,7 +7,7 @@ import signal
 import subprocess
 import time
 
-from .repository_copy import call, comes_to_be, environment
+from tests.launcher.repository_copy import call, comes_to_be, copy_tests, environment
 
 
 def keeps_what_is_read(top):
@@ -144,5 +144,6 @@ def announces_a_terminal(top):
             and made == ("make --stations 1\r\n", 6))
 
 
-TRIALS = (keeps_what_is_read, shows_that_it_works, reports_a_signal, ends_with_the_launcher,
-          announces_a_terminal)
+CallTests = copy_tests("CallTests", (
+    keeps_what_is_read, shows_that_it_works, reports_a_signal, ends_with_the_launcher,
+    announces_a_terminal))

@@ -6,7 +6,7 @@ import subprocess
 import tempfile
 from pathlib import Path
 
-from .repository_copy import call, environment, lay_out, path_without
+from tests.launcher.repository_copy import call, copy_tests, environment, lay_out, path_without
 
 
 def names_what_is_missing(top):
@@ -151,5 +151,6 @@ def refuses_wrong_counts(top):
             and barred[1].decode().splitlines()[-1].startswith("irv: cannot install the program in "))
 
 
-TRIALS = (names_what_is_missing, prints_its_version, fails_if_output_fails, prints_no_other_commit,
-          installs, installs_its_version, names_missing_licences, refuses_wrong_counts)
+VersionInstallTests = copy_tests("VersionInstallTests", (
+    names_what_is_missing, prints_its_version, fails_if_output_fails, prints_no_other_commit,
+    installs, installs_its_version, names_missing_licences, refuses_wrong_counts))

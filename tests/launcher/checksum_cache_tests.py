@@ -3,8 +3,8 @@
 import os
 import time
 
-from .build_tests import has_built
-from .repository_copy import call, write_scripts
+from tests.launcher.build_tests import has_built
+from tests.launcher.repository_copy import call, copy_tests, write_scripts
 
 SUMS = r"""#!/usr/bin/env bash
 echo "sha256sum" >>@TOP@/summed
@@ -87,4 +87,5 @@ def works_without_cache(top):
     return call(top, "check") == (b"check\n", b"", 6, [])
 
 
-TRIALS = reads_once, sees_a_change, caches_nothing_young, works_without_cache
+ChecksumCacheTests = copy_tests("ChecksumCacheTests", (
+    reads_once, sees_a_change, caches_nothing_young, works_without_cache))

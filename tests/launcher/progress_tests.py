@@ -5,8 +5,8 @@ import subprocess
 
 from irvtools.launcher import progress
 
-from .call_tests import left_on_screen, on_a_terminal
-from .repository_copy import call
+from tests.launcher.call_tests import left_on_screen, on_a_terminal
+from tests.launcher.repository_copy import call, copy_tests
 
 
 def prints_each_crate(top):
@@ -130,5 +130,6 @@ def shows_how_it_is_called(top):
             and answers[1].stderr.startswith(b"usage: progress "))
 
 
-TRIALS = (prints_each_crate, renews_a_line, estimates, counts_no_pace_of_cached_proofs, sees_running_proofs,
-          passes_ci_on, renews_the_list, shows_how_it_is_called)
+ProgressTests = copy_tests("ProgressTests", (
+    prints_each_crate, renews_a_line, estimates, counts_no_pace_of_cached_proofs,
+    sees_running_proofs, passes_ci_on, renews_the_list, shows_how_it_is_called))

@@ -6,9 +6,9 @@ byte changed, and a program of other sources. The note of the last build is left
 
 import shutil
 
-from .build_tests import has_built
-from .repository_copy import TOOLS, call, give_kit
-from .unproved_tests import is_cached
+from tests.launcher.build_tests import has_built
+from tests.launcher.repository_copy import TOOLS, call, copy_tests, give_kit
+from tests.launcher.unproved_tests import is_cached
 
 SCRIPT = """#!/bin/sh
 echo clean
@@ -141,5 +141,6 @@ def adopts_nothing(top):
     return True
 
 
-TRIALS = (calls_no_script, calls_no_unproved_build, calls_no_changed_program, calls_no_other_program,
-          calls_no_program_without_note, adopts_nothing)
+SwappedProgramTests = copy_tests("SwappedProgramTests", (
+    calls_no_script, calls_no_unproved_build, calls_no_changed_program, calls_no_other_program,
+    calls_no_program_without_note, adopts_nothing))

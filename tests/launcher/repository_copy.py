@@ -3,10 +3,14 @@
 import os
 import shutil
 import subprocess
+import sys
+import tempfile
 import time
 from pathlib import Path
+from typing import Callable, Iterable
 
-TOP = Path(__file__).resolve().parent.parent.parent
+from irvtools.paths import TOP
+from tests.support.harness import Test
 
 RT = r"""#!/usr/bin/env bash
 top=@TOP@
@@ -168,8 +172,9 @@ TOOLS = {"--html": "html", "--simulate": "simulate", "--csv": "csv", "--batch": 
          "--package": "package", "--verify-package": "verify_package", "--import": "import",
          "--sumo": "sumo", "--search": "search", "--release": "release"}
 # what of tools/ is copied: what the launcher itself uses
-COPIED = ("launcher", "irvtools/launcher", "bodies", "progress.py", "prove_program.py",
-          "irvtools/__init__.py", "crate_seconds.txt")
+COPIED = ("launcher", "irvtools/launcher", "irvtools/__init__.py", "irvtools/paths.py",
+          "irvtools/mutants/__init__.py", "irvtools/mutants/crates.py", "progress.py",
+          "prove_program.py", "crate_seconds.txt")
 
 
 def lay_out(top):
@@ -245,3 +250,18 @@ def comes_to_be(holds):
             return True
         time.sleep(0.1)
     return False
+
+
+def copy_tests(name: str, trials: Iterable[Callable[[Path], object]]) -> type:
+    """Returns a test case class with a method for each function, which takes the directory of a new copy
+    and returns whether it saw what its docstring says."""
+    def method(trial):
+        def test(self):
+            with tempfile.TemporaryDirectory(prefix="irv-launcher-") as directory:
+                lay_out(Path(directory))
+                self.assertTrue(trial(Path(directory)), trial.__doc__)
+        test.__doc__ = trial.__doc__
+        return test
+
+    methods = {"test_" + trial.__name__: method(trial) for trial in trials}
+    return type(name, (Test,), {**methods, "__module__": sys._getframe(1).f_globals["__name__"]})
