@@ -20,7 +20,8 @@ def has_built(calls):
 
 
 def builds_once(top):
-    """The first call proves the program and its dependencies, and no other crate; the next only runs."""
+    """The first call proves the program and its dependencies, and no other crate; the next only
+    runs."""
     first = call(top, "check", data=b"in")
     again = call(top, "check", data=b"in")
     return ((first[0], first[2], first[3]) == (b"check\nin", 6, [PROVING])
@@ -28,8 +29,8 @@ def builds_once(top):
 
 
 def builds_in_a_directory_of_its_own(top):
-    """The proof runs over a copy without mutants and without what was made of the crates; nothing of the
-    copy is left."""
+    """The proof runs over a copy without mutants and without what was made of the crates; nothing
+    of the copy is left."""
     (top / "look").write_text("")
     for name in ("specs/Lib.antt", "must-fail/a.edit", "mutants/b.edit", "out/rlib/low.rlib"):
         (top / "crates/low" / name).parent.mkdir(parents=True, exist_ok=True)
@@ -40,7 +41,8 @@ def builds_in_a_directory_of_its_own(top):
     seen = (top / "seen").read_text().split()
     wanted = ["./HANDLES", "./crates.txt", "./crates/low/specs/Lib.antt", *sources]
     return (status == 0 and seen == sorted(wanted)
-            and not list(top.glob("irv-proving-*")) and (top / "crates/low/out/rlib/low.rlib").exists())
+            and not list(top.glob("irv-proving-*"))
+            and (top / "crates/low/out/rlib/low.rlib").exists())
 
 
 def builds_twice_at_once(top):
@@ -59,8 +61,9 @@ def builds_alone(top):
 
 
 def builds_what_changed(top):
-    """The program is built again if a source has other contents, another name, or is gone, if crates.txt
-    gives a crate other dependencies, and if the program is not the one that was built."""
+    """The program is built again if a source has other contents, another name, or is gone, if
+    crates.txt gives a crate other dependencies, and if the program is not the one that was
+    built."""
     call(top, "--build")
     low, irv = top / "crates/low/specs", top / "crates/irv/out/irv"
     low.mkdir()
@@ -80,8 +83,8 @@ def builds_what_changed(top):
 
 
 def builds_nothing_for_the_rest(top):
-    """No build starts for a source that is only newer, a mutant, a crate of tests, and what a crate keeps
-    in out/."""
+    """No build starts for a source that is only newer, a mutant, a crate of tests, and what a crate
+    keeps in out/."""
     call(top, "--build")
     later = time.time() + 1000
     for path in (top / "crates").rglob("*.rt"):
@@ -103,14 +106,14 @@ def builds_again_after_an_edit(top):
     (top / "edit").unlink()
     again = call(top, "check")
     return ((edited[0], edited[2]) == (b"", 125)
-            and edited[1].endswith(b"sources were edited during the build: call again to build the new "
-                                   b"ones\n")
+            and edited[1].endswith(b"sources were edited during the build: call again to build the "
+                                   b"new ones\n")
             and (again[0], again[2]) == (b"check\n", 6) and has_built(again[3]))
 
 
 def notes_what_it_built(top):
-    """The note has the checksums of sources and program, the toolchain and the date. `--version` prints
-    the same, and another date in the note changes no checksum."""
+    """The note has the checksums of sources and program, the toolchain and the date. `--version`
+    prints the same, and another date in the note changes no checksum."""
     call(top, "--build")
     program = top / "crates/irv/out/irv"
     note = dict(line.split(" ", 1) for line in
@@ -135,12 +138,13 @@ def builds_after_ci(top):
 
 
 def fails_without_proof(top):
-    """If a crate is not proved, the status is 125, no program is made, and what was printed of that crate
-    is printed, and of no other."""
+    """If a crate is not proved, the status is 125, no program is made, and what was printed of that
+    crate is printed, and of no other."""
     (top / "unproved").write_text("middle")
     output, errors, status, calls = call(top, "check")
     return ((output, status, calls) == (b"", 125, [PROVING])
-            and b"== middle\nits proof\nrt: middle NOT PROVED\n" in errors and b"== low" not in errors
+            and b"== middle\nits proof\nrt: middle NOT PROVED\n" in errors
+            and b"== low" not in errors
             and errors.endswith(b"irv: the program is not built\n")
             and not (top / "crates/irv/out/irv").exists() and not list(top.glob("irv-proving-*")))
 
@@ -159,7 +163,8 @@ def prints_a_fault_at_once(top):
 
 
 def puts_nothing_that_is_refused(top):
-    """A program that `rt ci` refuses is not put in its place, and what was printed last is printed."""
+    """A program that `rt ci` refuses is not put in its place, and what was printed last is
+    printed."""
     (top / "otherwise").write_text("")
     status, printed, _ = proving(top)
     return ((status, printed.splitlines()[-1]) == (1, b"rt: irv wrote something else")
@@ -183,8 +188,8 @@ def refuses_other_arguments(top):
 def refuses_an_absent_crate(top):
     """A crate without directory is refused before anything is proved."""
     shutil.rmtree(top / "crates/middle")
-    return proving(top) == (1, b"", b"prove_program: cannot read crates/middle, which crates.txt names:"
-                                    b" no such directory\n")
+    return proving(top) == (1, b"", b"prove_program: cannot read crates/middle, which crates.txt "
+                                    b"names: no such directory\n")
 
 
 BuildTests = copy_tests("BuildTests", (

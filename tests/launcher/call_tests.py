@@ -11,8 +11,9 @@ from tests.launcher.repository_copy import call, comes_to_be, copy_tests, enviro
 
 
 def keeps_what_is_read(top):
-    """A certificate that would be written over the file that standard input or output is, by whatever
-    name, is refused before anything is built; a device, another file or another command is not."""
+    """A certificate that would be written over the file that standard input or output is, by
+    whatever name, is refused before anything is built; a device, another file or another command is
+    not."""
     conf, told = top / "conf", top / "told"
     conf.write_text("in")
     (top / "link").symlink_to(conf)
@@ -41,9 +42,9 @@ def keeps_what_is_read(top):
 
 
 def on_a_terminal(top, *words, output=None, script="irv", reads_it=False):
-    """Calls the launcher, or another script of the copy, on a terminal. Returns what had come there when
-    it ended, and the status. Standard output is the terminal too unless a file is given, and standard
-    input is if `reads_it`; then the terminal gives it the end of input."""
+    """Calls the launcher, or another script of the copy, on a terminal. Returns what had come there
+    when it ended, and the status. Standard output is the terminal too unless a file is given, and
+    standard input is if `reads_it`; then the terminal gives it the end of input."""
     ours, theirs = pty.openpty()
     os.set_blocking(ours, False)
     if reads_it:
@@ -81,8 +82,9 @@ def left_on_screen(shown):
 
 
 def shows_that_it_works(top):
-    """On a terminal a call of more than two seconds shows that it works, and at its end only the answer is
-    there. If standard output is a file, it has only the answer. A short call shows nothing."""
+    """On a terminal a call of more than two seconds shows that it works, and at its end only the
+    answer is there. If standard output is a file, it has only the answer. A short call shows
+    nothing."""
     call(top, "--build")
     short = on_a_terminal(top, "check")
     slow = on_a_terminal(top, "slow")
@@ -112,8 +114,8 @@ def ends_with_the_launcher(top):
 
 
 def reports_a_signal(top):
-    """The status shows that a signal ended the program, as in a shell; and a signal to the launcher ends
-    the program."""
+    """The status shows that a signal ended the program, as in a shell; and a signal to the launcher
+    ends the program."""
     call(top, "--build")
     shell = subprocess.run(["bash", "-c", f"{top}/irv killed; exit $?"], stdin=subprocess.DEVNULL,
                            stderr=subprocess.DEVNULL)
@@ -132,11 +134,11 @@ def reports_a_signal(top):
 
 
 def announces_a_terminal(top):
-    """If a configuration is expected from a terminal, the launcher says so, and says nothing for a command
-    that reads none."""
+    """If a configuration is expected from a terminal, the launcher says so, and says nothing for a
+    command that reads none."""
     call(top, "--build")
-    line = ("irv: check reads its configuration from standard input, which is this terminal: add < FILE,"
-            " or type it and press Ctrl-D\r\n")
+    line = ("irv: check reads its configuration from standard input, which is this terminal: add < "
+            "FILE, or type it and press Ctrl-D\r\n")
     asked = on_a_terminal(top, "check", reads_it=True)
     page = on_a_terminal(top, "--html", "p.html", reads_it=True)
     made = on_a_terminal(top, "make", "--stations", "1", reads_it=True)

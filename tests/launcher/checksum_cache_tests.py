@@ -43,13 +43,14 @@ def change_unseen_by_time(path, text):
 
 
 def sees_a_change(top):
-    """Other contents of the same length, name and time of change are seen. So are a new file in a new
-    directory, a removed file, another line of crates.txt, and another program."""
+    """Other contents of the same length, name and time of change are seen. So are a new file in a
+    new directory, a removed file, another line of crates.txt, and another program."""
     source, program = top / "crates/low/src/main.rt", top / "crates/irv/out/irv"
     source.write_text("// one")
     settled(top)
     changes = [lambda: change_unseen_by_time(source, "// two"),
-               lambda: ((top / "crates/low/specs").mkdir(), (top / "crates/low/specs/a").write_text("")),
+               lambda: ((top / "crates/low/specs").mkdir(),
+                        (top / "crates/low/specs/a").write_text("")),
                (top / "crates/low/specs/a").unlink,
                lambda: (top / "crates.txt").write_text("# \n" + (top / "crates.txt").read_text()
                                                        .replace("high: low middle", "high: low")),

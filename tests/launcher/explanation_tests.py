@@ -1,4 +1,5 @@
-"""Tests of the line that the launcher adds after a refusal of the arguments, a fault or a rejection."""
+"""Tests of the line that the launcher adds after a refusal of the arguments, a fault or a
+rejection."""
 
 import os
 import subprocess
@@ -10,8 +11,8 @@ OWN = "irv: its own line"
 
 
 def printed(top, status, words, before="", **streams):
-    """Calls the launcher with a program that ends with this status. Returns the status and the lines of
-    standard error. `before` is what a shell does to the streams."""
+    """Calls the launcher with a program that ends with this status. Returns the status and the
+    lines of standard error. `before` is what a shell does to the streams."""
     (top / "ends").write_text(f"{status}\n")
     command = ["bash", "-c", f'exec "$0" "$@" {before}', top / "irv", *words]
     done = subprocess.run(command, cwd=top, env=environment(top), stderr=subprocess.PIPE,
@@ -36,10 +37,12 @@ WRONG = (
     (["--", "--cert"], "'--cert' is not a command: ./irv --help lists the commands"),
     (["--columns", "free"], "no command is given: ./irv --help lists the commands"),
     (["--adopt", "0"], "'--adopt' is not an option: ./irv --help lists the options"),
-    (["check", "--sources"], "'--sources' is not an option of check: ./irv check --help lists its options"),
+    (["check", "--sources"],
+     "'--sources' is not an option of check: ./irv check --help lists its options"),
     (["check", "-q"], "'-q' is not an option of check: ./irv check --help lists its options"),
     (["check", "--html", "x"], "--html has to be the first argument"),
-    (["check", "--depth", "4"], "check does not take --depth: ./irv check --help lists its options"),
+    (["check", "--depth", "4"],
+     "check does not take --depth: ./irv check --help lists its options"),
     (["check", "plant.json"],
      "check reads its configuration from standard input: add < before 'plant.json'"),
     (["make", "--stations", "2", "3"], "make takes options only, not '3'"),
@@ -51,8 +54,10 @@ WRONG = (
     (["verify"], "verify needs --cert FILE"),
     (["replay", "--columns", "free"], "replay needs --run FILE"),
     (["rup", "--cert", "c", "--number", "1"], "rup needs --query hazard|breach|step"),
-    (["verify", "--cert", "c", "--depth", "17"], "--depth takes a whole number from 1 to 16, not '17'"),
-    (["verify", "--cert", "c", "--depth", "4 "], "--depth takes a whole number from 1 to 16, not '4 '"),
+    (["verify", "--cert", "c", "--depth", "17"],
+     "--depth takes a whole number from 1 to 16, not '17'"),
+    (["verify", "--cert", "c", "--depth", "4 "],
+     "--depth takes a whole number from 1 to 16, not '4 '"),
     (["verify", "--cert", "c", "--conflicts=99999999999999999999"],
      "--conflicts takes a whole number from 0 to 200000, not '99999999999999999999'"),
     (["export", "--query", "step", "--number", "0"],
@@ -66,8 +71,8 @@ def names_what_is_wrong(top):
 
 
 def refuses_without_a_build(top):
-    """If the program is not built, the launcher refuses wrong arguments as the program does, with status
-    7, and starts no build; so it does with `--unproved`."""
+    """If the program is not built, the launcher refuses wrong arguments as the program does, with
+    status 7, and starts no build; so it does with `--unproved`."""
     for words, line in WRONG:
         for first in ([], ["--unproved"]):
             answer = call(top, *first, *words)
@@ -80,8 +85,9 @@ def accepts_what_is_right(top):
     """Arguments that the program accepts are not refused: the program is built for them."""
     right = (["verify", "--cert="], ["--depth=007", "verify", "--cert", "-", "--conflicts", "+7"],
              ["verify", "--cert=--cert", "--columns=free"], ["--run=--help", "replay"],
-             ["export", "--query", "step", "--number=16"], ["export", "--query=hazard", "--number", "0"],
-             ["check", "--"], ["--columns", "free", "--", "table"])
+             ["export", "--query", "step", "--number=16"],
+             ["export", "--query=hazard", "--number", "0"], ["check", "--"],
+             ["--columns", "free", "--", "table"])
     (top / "unproved").write_text("low")
     for words in right:
         output, _, status, calls = call(top, *words)
@@ -120,7 +126,8 @@ def names_what_is_read(top):
 
 
 def names_what_is_written(top):
-    """After a write fault a line names what cannot be written, and why, as far as that can be seen."""
+    """After a write fault a line names what cannot be written, and why, as far as that can be
+    seen."""
     output, cert = "cannot write standard output", "cannot write the certificate to"
     cases = [
         (["verify", "--cert", "directory"], "", f"{cert} 'directory': it is a directory"),
@@ -138,8 +145,8 @@ def names_what_is_written(top):
 
 
 def names_the_other_command(top):
-    """After a rejected scenario that was given to replay a line names drive, and the other way round. A
-    file of the right kind, or another file, gets no line."""
+    """After a rejected scenario that was given to replay a line names drive, and the other way
+    round. A file of the right kind, or another file, gets no line."""
     for name, text in (("s.scene", "drive 1\nend\n"), ("r.run", "run 1\nstart\n"), ("x", "driver")):
         (top / name).write_text(text)
     scene = "irv: s.scene: this is a scenario: use drive"

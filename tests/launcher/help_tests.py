@@ -18,7 +18,8 @@ def forms():
     found = [(["--help"], first), (["-h"], first), (["chekc", "--help"], first)]
     for name in COMMANDS:
         found += [([name, word], f"./irv {name} ") for word in ("--help", "-h")]
-        found += [(["--help", name], f"./irv {name} "), (["--unproved", name, "-h"], f"./irv {name} ")]
+        found += [(words, f"./irv {name} ")
+                  for words in (["--help", name], ["--unproved", name, "-h"])]
     for name in LAUNCHER[:-1]:
         found += [([name, "--help"], f"./irv {name}")]
     found += [(["--html", "p.html", "--depth", "4", "-h"], "./irv --html "),
@@ -29,8 +30,8 @@ def forms():
 
 
 def helps_with_nothing_there(top):
-    """With nothing built, and neither `rt` nor Python nor any program but bash on the path, each form of
-    help is printed, with status 0."""
+    """With nothing built, and neither `rt` nor Python nor any program but bash on the path, each
+    form of help is printed, with status 0."""
     path = top / "only-bash"
     path.mkdir()
     (path / "bash").symlink_to("/bin/bash")
@@ -42,17 +43,18 @@ def helps_with_nothing_there(top):
 
 
 def calls_nothing_for_help(top):
-    """Neither `rt` nor Python nor a tool is called for any form of help, though each is on the path; and
-    what is at the program's place is not called."""
-    write_scripts(top, {"bin/rt": CALLED, "bin/python3": CALLED, "crates/irv/out/irv": CALLED,
-                        "tests/run": CALLED, **{f"tools/{name}": CALLED for name in TOOLS.values()}})
+    """Neither `rt` nor Python nor a tool is called for any form of help, though each is on the
+    path; and what is at the program's place is not called."""
+    places = ["bin/rt", "bin/python3", "crates/irv/out/irv", "tests/run",
+              *(f"tools/{name}" for name in TOOLS.values())]
+    write_scripts(top, dict.fromkeys(places, CALLED))
     answers = [call(top, *words) for words, _ in [*forms(), ([], "")]]
     return all(calls == [] for *_, calls in answers)
 
 
 def prints_usage_for_no_arguments(top):
-    """Without arguments the launcher prints `irv: usage` and the help to standard error, with status 7, and
-    builds nothing; so it does after `--unproved`."""
+    """Without arguments the launcher prints `irv: usage` and the help to standard error, with
+    status 7, and builds nothing; so it does after `--unproved`."""
     text = call(top, "--help")[0]
     wanted = b"", b"irv: usage\n" + text, 7, []
     return call(top) == wanted and call(top, "--unproved") == wanted
@@ -72,8 +74,8 @@ def asks_for_help_only_before_the_end(top):
 
 
 def lists_everything(top):
-    """`--help` has a sentence for each command and each option of the launcher, each option with its
-    default, each exit status, and two examples."""
+    """`--help` has a sentence for each command and each option of the launcher, each option with
+    its default, each exit status, and two examples."""
     text = call(top, "--help")[0].decode()
     words = " ".join(text.split())
     options, statuses = command_table.of_kind("option"), command_table.of_kind("status")
@@ -91,7 +93,8 @@ def lists_everything(top):
 
 
 def lists_what_a_command_takes(top):
-    """The help of a command has how it is called, exactly its options, and each answer with its status."""
+    """The help of a command has how it is called, exactly its options, and each answer with its
+    status."""
     for command in command_table.of_kind("command"):
         text = call(top, command.name, "--help")[0].decode()
         options = re.findall(r"^  (--[a-z]+) ", text, re.M)
@@ -105,7 +108,8 @@ def lists_what_a_command_takes(top):
 
 
 def lists_what_a_tool_takes(top):
-    """The help of an option of the launcher has how it is called, and exactly its tool's options."""
+    """The help of an option of the launcher has how it is called, and exactly its tool's
+    options."""
     for entry in command_table.of_kind("launcher")[:-1]:
         text = call(top, entry.name, "--help")[0].decode()
         calls = [f"./irv {entry.name} {usage}".strip() for usage in entry.fields["usage"]]
@@ -120,8 +124,8 @@ def lists_what_a_tool_takes(top):
 def names_no_old_option(_):
     """The table has no name of earlier versions."""
     text = command_table.TABLE.read_text()
-    return not re.search(r"--(try|page|play|sheet|case|adopt|sources|hunt|wait|want|wanted|lot|battery"
-                         r"|check)\b", text)
+    return not re.search(r"--(try|page|play|sheet|case|adopt|sources|hunt|wait|want|wanted|lot"
+                         r"|battery|check)\b", text)
 
 
 HelpTests = copy_tests("HelpTests", (

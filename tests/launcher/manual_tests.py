@@ -4,6 +4,7 @@ import os
 import re
 import shutil
 import subprocess
+import unittest
 
 from irvtools.launcher import command_table
 
@@ -18,8 +19,8 @@ def described(part):
 
 
 def has_a_manual(_):
-    """The manual page has the call of each command, what it prints, each option and each exit status of
-    the program, and nothing of the launcher."""
+    """The manual page has the call of each command, what it prints, each option and each exit
+    status of the program, and nothing of the launcher."""
     page = described("page").replace("\\-", "-")
     statuses = [status for status in command_table.of_kind("status") if status.name != "125"]
     commands, options = command_table.of_kind("command"), command_table.of_kind("option")
@@ -33,11 +34,12 @@ def has_a_manual(_):
 
 
 def is_right_troff(_):
-    """`man` reads the page without a warning; this is not tried if there is no `groff`."""
+    """`groff` reads the manual page without a warning."""
     if shutil.which("groff") is None:
-        return True
-    done = subprocess.run(["groff", "-man", "-Tascii", "-ww", "-z"], input=described("page").encode(),
-                          stderr=subprocess.PIPE, stdout=subprocess.PIPE, check=False)
+        raise unittest.SkipTest("there is no groff")
+    done = subprocess.run(["groff", "-man", "-Tascii", "-ww", "-z"], check=False,
+                          input=described("page").encode(), stdout=subprocess.PIPE,
+                          stderr=subprocess.PIPE)
     return (done.returncode, done.stderr) == (0, b"")
 
 
@@ -66,7 +68,8 @@ def completes(top):
 def page_of_table():
     """Returns a commands page with all that the table asks for."""
     calls = [f"./{command_table.usage(command)}" for command in command_table.of_kind("command")]
-    launcher = [f"| `{entry.name} ARGUMENTS` | text |" for entry in command_table.of_kind("launcher")]
+    launcher = [f"| `{entry.name} ARGUMENTS` | text |"
+                for entry in command_table.of_kind("launcher")]
     statuses = [f"| {entry.name} | {entry.value('name')} | text |"
                 for entry in command_table.of_kind("status") if entry.name != "125"]
     options = command_table.table().replace("0 to 16 |", "0 to 16; 1 to 16 for a step query |")
@@ -74,8 +77,8 @@ def page_of_table():
 
 
 def finds_each_fault_of_a_page(_):
-    """The check accepts a page made of the table. It names each line that is missing, each default or
-    range that differs, and an option that the table does not have."""
+    """The check accepts a page made of the table. It names each line that is missing, each default
+    or range that differs, and an option that the table does not have."""
     page = page_of_table()
     if command_table.page_faults(page):
         return False
@@ -83,18 +86,29 @@ def finds_each_fault_of_a_page(_):
         if not line.startswith(("| ---", "| option")) \
                 and len(command_table.page_faults(page.replace(line, "other", 1))) != 1:
             return False
-    edits = (("| `4` |", "| `5` |"), ("1 to 16 | `4`", "1 to 17 | `4`"), ("`strict`, `free` |", "`strict` |"),
-             ("verify, demo |", "verify |"), ("| 5 | Refused", "| 5 | Denied"))
+    edits = (("| `4` |", "| `5` |"), ("1 to 16 | `4`", "1 to 17 | `4`"),
+             ("`strict`, `free` |", "`strict` |"), ("verify, demo |", "verify |"),
+             ("| 5 | Refused", "| 5 | Denied"))
     return (all(command_table.page_faults(page.replace(old, new, 1)) for old, new in edits)
             and command_table.page_faults(page + "\n| `--try` | text |")
             == ["a row is about --try, which is not in the table"])
 
 
+def is_the_table_of_the_commands_page(_):
+    """docs/reference/commands.md has the calls, options, statuses and launcher options of the
+    table."""
+    page = TOP / "docs/reference/commands.md"
+    faults = command_table.page_faults(page.read_text(encoding="utf-8"))
+    assert not faults, faults
+    return True
+
+
 def is_the_same_for_bash(top):
     """Bash and Python read the same entries, fields and values from the table."""
-    script = ('top=$1; none=125; no_answer() { exit 1; }; . "$1/tools/launcher/table.bash"; read_table; '
+    script = ('top=$1; no_answer() { exit 1; }; . "$1/tools/launcher/table.bash"; read_table; '
               'for entry in "${!fields[@]}"; do printf "%s:%s" "$entry" "${fields[$entry]}"; done')
-    done = subprocess.run(["bash", "-c", script, "bash", str(top)], stdout=subprocess.PIPE, check=True)
+    done = subprocess.run(["bash", "-c", script, "bash", str(top)], stdout=subprocess.PIPE,
+                          check=True)
     read = "".join(f"{entry.kind} {entry.name} {key}:" + "".join(f" {value}\n" if value else "\n"
                                                                  for value in values)
                    for entry in command_table.read() for key, values in entry.fields.items())
@@ -102,4 +116,5 @@ def is_the_same_for_bash(top):
 
 
 ManualTests = copy_tests("ManualTests", (
-    has_a_manual, is_right_troff, completes, finds_each_fault_of_a_page, is_the_same_for_bash))
+    has_a_manual, is_right_troff, completes, finds_each_fault_of_a_page,
+    is_the_table_of_the_commands_page, is_the_same_for_bash))

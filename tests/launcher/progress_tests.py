@@ -1,4 +1,5 @@
-"""Tests of the progress of a proof: how many crates are proved, and about how much longer it takes."""
+"""Tests of the progress of a proof: how many crates are proved, and about how much longer it
+takes."""
 
 import re
 import subprocess
@@ -10,7 +11,8 @@ from tests.launcher.repository_copy import call, copy_tests
 
 
 def prints_each_crate(top):
-    """A build whose standard error is not a terminal prints a line for each crate, the program last."""
+    """A build whose standard error is not a terminal prints a line for each crate, the program
+    last."""
     printed = call(top, "--build")[1].decode().splitlines()
     lines = [re.fullmatch(r"irv: (\w+): (\d) of 5 crates proved in \d+ \w+(, about \d+ \w+ more)?",
                           line) for line in printed[1:]]
@@ -40,8 +42,8 @@ class Clock:
 
 
 def estimates(top):
-    """The remaining time is the longest chain, or the shared seconds if they are more, at the pace of the
-    finished proofs."""
+    """The remaining time is the longest chain, or the shared seconds if they are more, at the pace
+    of the finished proofs."""
     clock = Clock()
     seconds = {"low": 100.0, "left": 40.0, "right": 300.0, "top": 60.0}
     crates = {"low": set(), "left": {"low"}, "right": {"low"}, "top": {"low", "left", "right"}}
@@ -75,8 +77,8 @@ def counts_no_pace_of_cached_proofs(_):
 
 
 def sees_running_proofs(top):
-    """The running proofs are seen by the processes of the prover: not by other processes, by its tests,
-    or by proofs in another directory."""
+    """The running proofs are seen by the processes of the prover: not by other processes, by its
+    tests, or by proofs in another directory."""
     here = (top / "crates").resolve()
     shown = {"1": ("rattle", here / "low", b"rattle\0build\0--lib"),
              "2": ("rattle", here / "middle", b"rattle\0build\0--test\0--lib"),

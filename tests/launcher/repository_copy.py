@@ -63,8 +63,8 @@ case $1 in
 esac
 """
 
-# the compiler of the pretended toolchain: it gives the module as text, and compiles one with checks or
-# one without them
+# the compiler of the pretended toolchain: it gives the module as text, and compiles one with checks
+# or one without them
 CLANG = r"""#!/usr/bin/env bash
 while [ $# -gt 0 ]; do
     case $1 in
@@ -155,8 +155,8 @@ exit 3
 
 # what the launcher may call, and the pretended toolchain with it
 COMMANDS = ("basename bash cat chmod cmp cp cut date df dirname env find flock git grep head iconv"
-            " install ls mkdir mktemp mv nice python3 readlink rm rt sed seq setpriv sha256sum sleep"
-            " sort tail touch tr xargs").split()
+            " install ls mkdir mktemp mv nice python3 readlink rm rt sed seq setpriv sha256sum"
+            " sleep sort tail touch tr xargs").split()
 
 CRATES = """# a crate, and its dependencies
 aside: low
@@ -253,8 +253,8 @@ def comes_to_be(holds):
 
 
 def copy_tests(name: str, trials: Iterable[Callable[[Path], object]]) -> type:
-    """Returns a test case class with a method for each function, which takes the directory of a new copy
-    and returns whether it saw what its docstring says."""
+    """Returns a test case class with a method for each function, which takes the directory of a new
+    copy and returns whether it saw what its docstring says."""
     def method(trial):
         def test(self):
             with tempfile.TemporaryDirectory(prefix="irv-launcher-") as directory:

@@ -1,7 +1,7 @@
 """Tests of programs that were not proved and are at the program's place: none of them is called.
 
-Four programs are tried: a script that prints `clean`, the unproved build, the proved program with one
-byte changed, and a program of other sources. The note of the last build is left beside each.
+Four programs are tried: a script that prints `clean`, the unproved build, the proved program with
+one byte changed, and a program of other sources. The note of the last build is left beside each.
 """
 
 import shutil
@@ -54,26 +54,30 @@ def put_other(top):
 
 
 def is_refused(top, put):
-    """Returns whether a program that `put` puts at the place answers nothing: if the build fails, each call
-    ends with status 125 and calls no tool; otherwise the program is built again and answers."""
+    """Returns whether a program that `put` puts at the place answers nothing: if the build fails,
+    each call ends with status 125 and calls no tool; otherwise the program is built again and
+    answers."""
     genuine = (top / "program").read_bytes()
     put(top)
     swapped = place(top).read_bytes()
     (top / "unproved").write_text("low")
     for words in NEED_PROGRAM:
         output, errors, status, calls = call(top, *words)
-        if (output, status) != (b"", 125) or not errors.endswith(b"irv: the program is not built\n") \
+        if (output, status) != (b"", 125) \
+                or not errors.endswith(b"irv: the program is not built\n") \
                 or [line for line in calls if not line.endswith((": ci", ": version"))]:
             return False
     if (top / "there").exists() or not is_out_of_reach(top, swapped) or not is_not_told(top):
         return False
     (top / "unproved").unlink()
     output, _, status, calls = call(top, "check")
-    return (output, status) == (b"check\n", 6) and has_built(calls) and place(top).read_bytes() == genuine
+    return ((output, status) == (b"check\n", 6) and has_built(calls)
+            and place(top).read_bytes() == genuine)
 
 
 def is_out_of_reach(top, swapped):
-    """Returns whether `--csv`, which needs no program here, and `--test` are handed another file."""
+    """Returns whether `--csv`, which needs no program here, and `--test` are handed another
+    file."""
     give_kit(top)
     lines = [call(top, *words)[3][-1] for words in (["--csv", "--in", "d"], ["--test"])]
     handed = [line.split(" ")[2] for line in lines]
@@ -82,8 +86,8 @@ def is_out_of_reach(top, swapped):
 
 
 def is_not_told(top):
-    """Returns whether `--version` does not take it for the program, `--help` prints help, and `--unproved`
-    answers by the unproved build."""
+    """Returns whether `--version` does not take it for the program, `--help` prints help, and
+    `--unproved` answers by the unproved build."""
     version = call(top, "--version")[0].decode().splitlines()
     helped, answered = call(top, "--help"), call(top, "--unproved", "check")
     return ("program not built of these sources" in version
@@ -114,7 +118,8 @@ def calls_no_other_program(top):
 
 
 def calls_no_program_without_note(top):
-    """Without the note, or with one of an unknown form, no program is called, not even the right one."""
+    """Without the note, or with one of an unknown form, no program is called, not even the right
+    one."""
     call(top, "--build")
     note = place(top).with_name("irv.built")
     right = note.read_text()
@@ -129,7 +134,8 @@ def calls_no_program_without_note(top):
 
 
 def adopts_nothing(top):
-    """`--adopt` and `--sources` are refused as unknown arguments, whether the program is built or not."""
+    """`--adopt` and `--sources` are refused as unknown arguments, whether the program is built or
+    not."""
     for _ in range(2):
         for words in (["--adopt", "0" * 64], ["--sources"]):
             output, errors, status, calls = call(top, *words)

@@ -12,8 +12,8 @@ from tests.launcher.unproved_tests import is_cached
 
 
 def calls_each_tool(top):
-    """Each option passes its arguments on to its tool, with the program, which is built before. The tool's
-    status is the answer."""
+    """Each option passes its arguments on to its tool, with the program, which is built before. The
+    tool's status is the answer."""
     program = top.resolve() / "crates/irv/out/irv"
     is_first = True
     for option, tool in TOOLS.items():
@@ -39,31 +39,34 @@ def names_a_missing_tool(top):
 
 
 def builds_for_csv_if_asked(top):
-    """`--csv` builds only for `--with-network`, also if that is shortened. Otherwise the tool gets a name
-    where no program is, unless the program is built."""
+    """`--csv` builds only for `--with-network`, also if that is shortened. Otherwise the tool gets
+    a name where no program is, unless the program is built."""
     program = top.resolve() / "crates/irv/out/irv"
     plain = call(top, "--csv", "--in", "a b")
-    network = [call(top, "--csv", "--compare", word, "x")[3] for word in ("--with-network", "--w")]
+    words = ("--with-network", "--w")
+    network = [call(top, "--csv", "--compare", word, "x")[3] for word in words]
     built = call(top, "--csv", "--in", "a b")
     return (plain == (b"", b"", 3, [f"csv: --program {program}.unbuilt --in a b"])
             and [calls[-1] for calls in network]
-            == [f"csv: --program {program} --compare {word} x" for word in ("--with-network", "--w")]
+            == [f"csv: --program {program} --compare {word} x" for word in words]
             and has_built(network[0]) and built[3] == [f"csv: --program {program} --in a b"])
 
 
 def takes_no_other_program(top):
     """An argument that names another program is refused, and no tool is called."""
     for option in (*TOOLS, "--test"):
-        for words in (["--program", "x"], ["a", "--program=x"], ["a", "--prog", "x"]):
+        for words, named in ((["--program", "x"], "--program"), (["a", "--prog", "x"], "--prog"),
+                             (["a", "--program=x"], "--program=x")):
             output, errors, status, calls = call(top, option, *words)
-            line = f"irv: {option} takes no {words[-1] if '=' in words[-1] else words[-2]}: it calls "
+            line = f"irv: {option} takes no {named}: it calls "
             if (output, status, calls) != (b"", 125, []) or not errors.decode().startswith(line):
                 return False
     return True
 
 
 def tests_the_proved_program(top):
-    """`--test` runs the tests over the program if it is built of these sources, and builds nothing."""
+    """`--test` runs the tests over the program if it is built of these sources, and builds
+    nothing."""
     call(top, "--build")
     program = top.resolve() / "crates/irv/out/irv"
     answers = [call(top, "--test", *words) for words in ([], ["html", "csv"])]
@@ -72,8 +75,8 @@ def tests_the_proved_program(top):
 
 
 def tests_the_unproved_build(top):
-    """Otherwise `--test` makes the unproved build, once, runs the tests over it, and says that nothing is
-    proved by this."""
+    """Otherwise `--test` makes the unproved build, once, runs the tests over it, and says that
+    nothing is proved by this."""
     give_kit(top)
     (top / "crates/irv/out").mkdir()
     (top / "crates/irv/out/irv").write_text("#!/bin/sh\n")
@@ -90,8 +93,8 @@ def tests_the_unproved_build(top):
 
 
 def tests_nothing_without_a_build(top):
-    """If the unproved build cannot be made, or a source is edited meanwhile, `--test` says so with status
-    125, and runs no test."""
+    """If the unproved build cannot be made, or a source is edited meanwhile, `--test` says so with
+    status 125, and runs no test."""
     give_kit(top)
     lines = []
     for name in ("broken", "unmade", "edit"):
@@ -107,7 +110,8 @@ def tests_nothing_without_a_build(top):
 
 
 def options_of_tool(tool):
-    """Returns the options that a tool's own help lists, each with its value and its default or `None`."""
+    """Returns the options that a tool's own help lists, each with its value and its default or
+    `None`."""
     text = subprocess.run(["python3", TOP / "tools" / tool, "--help"], stdin=subprocess.DEVNULL,
                           stdout=subprocess.PIPE, check=True).stdout.decode()
     listed = re.split(r"\n  (?=-)", text.partition("\noption")[2])[1:]
@@ -115,7 +119,8 @@ def options_of_tool(tool):
     for item in listed:
         line = " ".join(item.split("\n\n")[0].split())
         name, value, default = re.fullmatch(
-            r"(?:-h, )?(--[a-z-]+)(?: ([A-Z]\S*|\{\S+\}))?(?: .*?)?(?:\(([^()]*)\))?", line).groups()
+            r"(?:-h, )?(--[a-z-]+)(?: ([A-Z]\S*|\{\S+\}))?(?: .*?)?(?:\(([^()]*)\))?",
+            line).groups()
         if name not in ("--help", "--program"):
             value = value and value.strip("{}").replace(",", "|" if "{" in value else ",")
             found[name] = value, default and re.sub(r"^\d+ here$", "the processors here", default)
@@ -133,7 +138,8 @@ def options_of_table(entry):
 
 
 def lists_the_options_of_each_tool(_):
-    """The table has the options of each tool, with the values and defaults that the tool's help has."""
+    """The table has the options of each tool, with the values and defaults that the tool's help
+    has."""
     tools = [entry for entry in command_table.of_kind("launcher") if entry.value("tool")]
     faults = []
     for entry in tools:
@@ -147,5 +153,6 @@ def lists_the_options_of_each_tool(_):
 
 
 ToolOptionTests = copy_tests("ToolOptionTests", (
-    lists_the_options_of_each_tool, calls_each_tool, names_a_missing_tool, builds_for_csv_if_asked, takes_no_other_program,
-    tests_the_proved_program, tests_the_unproved_build, tests_nothing_without_a_build))
+    lists_the_options_of_each_tool, calls_each_tool, names_a_missing_tool,
+    builds_for_csv_if_asked, takes_no_other_program, tests_the_proved_program,
+    tests_the_unproved_build, tests_nothing_without_a_build))

@@ -10,8 +10,8 @@ BEHIND = "irv: a faster unproved build is made in the background, and cached for
 
 
 def answers_without_proof(top):
-    """With `--unproved` nothing is proved. Arguments, input, output and status are passed on, and the file
-    of a run or a certificate is the one in the caller's directory."""
+    """With `--unproved` nothing is proved. Arguments, input, output and status are passed on, and
+    the file of a run or a certificate is the one in the caller's directory."""
     output, errors, status, calls = call(top, "--unproved", "replay", "--run", "a.run", data=b"in")
     here = top.resolve()
     named = [call(top, "--unproved", *words)[0].decode() for words in
@@ -30,7 +30,8 @@ def answers_without_proof(top):
 
 
 def fails_if_the_build_fails(top):
-    """If the unproved build fails too, the status is 125, and what the toolchain printed is printed."""
+    """If the unproved build fails too, the status is 125, and what the toolchain printed is
+    printed."""
     (top / "broken").write_text("")
     output, errors, status, _ = call(top, "--unproved", "check")
     return (output, status) == (b"", 125) and b"no such word" in errors
@@ -48,8 +49,8 @@ def builds_of(calls):
 
 
 def caches_the_faster_build(top):
-    """The first `--unproved` is answered by the quick build, and the faster one is made in the background;
-    the next is answered by that, in the caller's directory, and builds nothing."""
+    """The first `--unproved` is answered by the quick build, and the faster one is made in the
+    background; the next is answered by that, in the caller's directory, and builds nothing."""
     give_kit(top)
     first = call(top, "--unproved", "check", data=b"in")
     made = is_cached(top)
@@ -68,7 +69,8 @@ def removes_the_checks(top):
 
 
 def builds_anew_after_a_change(top):
-    """The cached build is not called once a source changed, nor if it is not the program that was made."""
+    """The cached build is not called once a source changed, nor if it is not the program that was
+    made."""
     give_kit(top)
     call(top, "--unproved", "check")
     first, program = is_cached(top), top / "out/unproved/irv-unproved"
@@ -102,8 +104,8 @@ def is_never_the_proved_one(top):
 
 
 def builds_one_at_a_time(top):
-    """Of calls at the same time one makes the builds; the others wait for it, and are answered by what it
-    cached."""
+    """Of calls at the same time one makes the builds; the others wait for it, and are answered by
+    what it cached."""
     give_kit(top)
     with ThreadPoolExecutor(3) as pool:
         answers = list(pool.map(lambda _: call(top, "--unproved", "check"), range(3)))
@@ -122,8 +124,8 @@ def caches_nothing_edited(top):
 
 
 def works_without_the_faster_build(top):
-    """If the faster build fails, each `--unproved` is answered by the quick one. The cause is in the log,
-    and nothing else is left."""
+    """If the faster build fails, each `--unproved` is answered by the quick one. The cause is in
+    the log, and nothing else is left."""
     give_kit(top)
     (top / "unmade").write_text("")
     outputs, log = [], top / "out/making.log"
@@ -137,7 +139,8 @@ def works_without_the_faster_build(top):
 
 
 def leaves_no_link(top):
-    """No link is in the repository while the faster build is made, nor afterwards: CI refuses links."""
+    """No link is in the repository while the faster build is made, nor afterwards: CI refuses
+    links."""
     give_kit(top)
     (top / "unmade").write_text("")
     call(top, "--unproved", "check")

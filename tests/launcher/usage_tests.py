@@ -37,20 +37,23 @@ VALUES = {"--columns": ("strict", "free", "Free", "", "strict|free"),
           "--query": ("hazard", "breach", "step", "steps", ""),
           "--number": ("0", "1", "16", "17", "+0", "00", "-0", "1.0"),
           "--depth": ("1", "16", "17", "0", "007", "+7", "++7", "4 ", " 4", "0x4", "4294967297"),
-          "--conflicts": ("0", "200000", "200001", "99999999999999999999", "-1", "000000000000000005"),
+          "--conflicts": ("0", "200000", "200001", "99999999999999999999", "-1",
+                          "000000000000000005"),
           "--cert": ("c", "-", "", "--cert", "a b", "a=b"), "--run": ("r", "-", "", "-r", "=")}
-OTHERS = ("--", "-", "-x", "--html", "--help=", "--=x", "--col", "--columns", "x", "", "---", "CHECK",
-          "--depth", "--cert", "-h=", "=", "--Cert")
+OTHERS = ("--", "-", "-x", "--html", "--help=", "--=x", "--col", "--columns", "x", "", "---",
+          "CHECK", "--depth", "--cert", "-h=", "=", "--Cert")
 
 
 def random_words(draw):
-    """Returns random arguments: mostly a command with some of its options, and then a few changes."""
+    """Returns random arguments: mostly a command with some of its options, and then a few
+    changes."""
     command = draw.choice(command_table.of_kind("command")).name
     words = [command] if draw.random() < 0.95 else []
     for option in command_table.of_kind("option"):
         is_own = command in option.value("commands").split()
         if draw.random() < (0.8 if is_own else 0.05):
-            value = draw.choice(VALUES[option.name][:2] if draw.random() < 0.8 else VALUES[option.name])
+            values = VALUES[option.name]
+            value = draw.choice(values[:2] if draw.random() < 0.8 else values)
             pair = [f"{option.name}={value}"] if draw.random() < 0.5 else [option.name, value]
             place = draw.randint(0, len(words))
             words[place:place] = pair
@@ -60,17 +63,19 @@ def random_words(draw):
 
 
 # arguments in which a reader could be wrong
-WRITTEN = ([], ["check"], ["check", "--"], ["--", "check"], ["check", "--", "x"], ["--", "--", "check"],
-           ["check", "-"], ["-"], ["verify", "--cert", "--"], ["verify", "--cert=--"],
-           ["verify", "--cert", "-"], ["verify", "--cert", "-x"], ["verify", "--cert="],
-           ["verify", "--cert", ""], ["--cert", "c", "verify"], ["verify", "--cert", "c", "--cert", "c"],
-           ["check", "--columns", "strict", "--columns", "strict"], ["check", "--cert", "c"],
-           ["make", "--stations", "16"], ["make", "--stations=0016"], ["make", "--stations=+0"],
-           ["make", "--stations", "1", "--", "make"], ["export", "--query", "step", "--number", "0"],
-           ["export", "--query", "step", "--number", "1"], ["export", "--number", "0", "--query", "step"],
-           ["rup", "--query", "breach", "--number", "0", "--cert", "c"], ["replay", "--run", "--help"],
-           ["replay", "--run=-h"], ["check", "verify"], ["check", ""], [""], ["", "check"],
-           ["check", "--columns= strict"], ["check", "--columns", "strict "])
+WRITTEN = (
+    [], ["check"], ["check", "--"], ["--", "check"], ["check", "--", "x"], ["--", "--", "check"],
+    ["check", "-"], ["-"], ["verify", "--cert", "--"], ["verify", "--cert=--"],
+    ["verify", "--cert", "-"], ["verify", "--cert", "-x"], ["verify", "--cert="],
+    ["verify", "--cert", ""], ["--cert", "c", "verify"],
+    ["verify", "--cert", "c", "--cert", "c"], ["check", "--cert", "c"],
+    ["check", "--columns", "strict", "--columns", "strict"], ["make", "--stations", "16"],
+    ["make", "--stations=0016"], ["make", "--stations=+0"],
+    ["make", "--stations", "1", "--", "make"], ["export", "--query", "step", "--number", "0"],
+    ["export", "--query", "step", "--number", "1"], ["export", "--number", "0", "--query", "step"],
+    ["rup", "--query", "breach", "--number", "0", "--cert", "c"], ["replay", "--run", "--help"],
+    ["replay", "--run=-h"], ["check", "verify"], ["check", ""], [""], ["", "check"],
+    ["check", "--columns= strict"], ["check", "--columns", "strict "])
 
 
 class UsageTests(ProgramTest):
@@ -99,8 +104,9 @@ class UsageTests(ProgramTest):
                 is_refused = self.status_of(words, directory) == USAGE
                 refused += is_refused
                 if is_refused != bool(fault):
-                    faults.append(f"{words}: the program {'refuses' if is_refused else 'takes'} them, "
-                                  f"and the launcher finds {fault or 'nothing'}")
+                    how = "refuses" if is_refused else "takes"
+                    faults.append(f"{words}: the program {how} them, and the launcher finds "
+                                  f"{fault or 'nothing'}")
         if not 400 < refused < len(cases) - 400:
             faults.append(f"{refused} of {len(cases)} are refused: too few or too many to compare")
         self.assertEqual(len(found), len(cases))

@@ -101,8 +101,8 @@ help_all() {
     printf '  %s\n' "${examples[@]}"
     printf '\n'
     wrap "" 0 "If the program is not built of these sources, a command first has it proved and \
-built, which takes 40 minutes with four processors. ./irv --unproved answers in a minute or two, without \
-proof. docs/reference/commands.md describes each answer."
+built, which takes 40 minutes with four processors. ./irv --unproved answers in a minute or two, \
+without proof. docs/reference/commands.md describes each answer."
 }
 
 # Prints what a command may print, each with its exit status.

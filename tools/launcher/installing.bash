@@ -106,7 +106,7 @@ install_program() {
     know_sums
     [ -f "$program.licences" ] || { need rt && keep_licences; }
     [ -f "$program.licences" ] \
-        || no_answer "cannot find the licences of the toolchain's libraries: rt doc names no toolchain"
+        || no_answer "cannot find the licences of the toolchain's libraries: does rt doc name it?"
     install_files "$1" \
         || no_answer "cannot install the program in $1: name a directory that you may write"
 }

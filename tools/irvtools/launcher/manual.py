@@ -31,8 +31,8 @@ sign. A whole number is decimal digits; zeros or one plus sign may come first.""
 CERTIFICATE = """With `safe` and `spent`, verify and demo write a certificate to the file of
 `--cert`, before the report. With other answers the file stays as it was. The name /dev/null
 discards the certificate."""
-COMPLETIONS = """# Completions of irv for bash: call `. irv.bash`, or copy the file as `irv` into the
-# directory of bash-completion.
+COMPLETIONS = """# Completions of irv for bash: call `. irv.bash`, or copy the file as `irv`
+# into the directory of bash-completion.
 _irv() {
     local word=${COMP_WORDS[COMP_CWORD]} before=${COMP_WORDS[COMP_CWORD-1]} options='' given
     for given in "${COMP_WORDS[@]:1:COMP_CWORD-1}"; do

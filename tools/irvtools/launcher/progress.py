@@ -27,8 +27,9 @@ from irvtools.paths import TOP
 
 LISTED = TOP / "tools/crate_seconds.txt"
 NOTED = TOP / "out/seconds"
-COMMENT = """# How many seconds the proof of each crate takes beside others, on four processors. The progress of
-# a build is estimated by it. `tools/progress.py --renew` writes it by what the last proofs here took.
+COMMENT = """# How many seconds the proof of each crate takes beside others, on four processors. The
+# progress of a build is estimated by it. `tools/progress.py --renew` writes it by what the last
+# proofs here took.
 """
 # an estimate for a crate that is not listed: these seconds, and one more for so many bytes of code
 LEAST_SECONDS, BYTES_PER_SECOND = 20.0, 250
