@@ -6,6 +6,7 @@ import subprocess
 from pathlib import Path
 
 from irvtools.calls import provenance
+from irvtools.launcher.source_checksum import source_checksum
 
 UNPROVED = "irv-unproved"       # the name of the build that isn't proved, beside which a note stands too
 
@@ -44,7 +45,8 @@ def version_lines(program, copy):
     that is known to be built of these alone."""
     note, total = note_beside(program), sum_of(copy)
     is_noted = note.get("program") == total
-    is_of_here = is_noted and note["sources"] == provenance.said_by(["./irv", "--sources"])
+    here = source_checksum(provenance.said_by(["./irv", "--version"]))
+    is_of_here = is_noted and note["sources"] == here
     version, commit = provenance.version() or "of no version", provenance.sources()
     unknown = "unknown; that of the tools and documents is "
     return [f"irv {version if is_of_here else unknown + version}",

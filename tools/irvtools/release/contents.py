@@ -6,6 +6,7 @@ import shlex
 import shutil
 import subprocess
 
+from irvtools.launcher.source_checksum import source_checksum
 from irvtools.release import ci_log
 from irvtools.release.axioms import Unlisted, axioms
 from irvtools.mutants.crates import Toolchain
@@ -62,7 +63,8 @@ class Release:
     def see_program(self):
         """Sees that the program is the one that was built of these sources."""
         self.program = self.given.program.absolute()
-        self.note, self.sources = note_beside(self.program), self.line("./irv", "--sources")
+        self.note = note_beside(self.program)
+        self.sources = source_checksum(self.line("./irv", "--version"))
         is_built = self.program.is_file() and self.note.get("program") == sum_of(self.program)
         if not is_built or self.note.get("sources") != self.sources:
             raise NotReleased(f"{self.program} isn't known to be built of these sources: ./irv --build builds it")

@@ -1,12 +1,16 @@
-"""A small copy of the repository, with a toolchain that only pretends."""
+"""A small copy of the repository, with a pretended toolchain and pretended tools."""
 
 import os
 import shutil
 import subprocess
+import sys
+import tempfile
 import time
 from pathlib import Path
+from typing import Callable, Iterable
 
-TOP = Path(__file__).resolve().parent.parent.parent
+from irvtools.paths import TOP
+from tests.support.harness import Test
 
 RT = r"""#!/usr/bin/env bash
 top=@TOP@
@@ -20,14 +24,14 @@ echo "$name: $1" >> "$top/calls"
 case $1 in
     ci)
         [ ! -e "$top/look" ] || find . -type f | LC_ALL=C sort > "$top/seen"
-        # what stood in the folders out/ is moved away
+        # the real one moves the directories out/ away
         rm -rf crates/*/out
         for crate in $name; do
             [ ! -e "$top/slow" ] || sleep 0.5
             printf '== %s\nits proof\n' "$crate"
             if [ -e "$top/unproved" ] && [ "$(cat "$top/unproved")" = "$crate" ]; then
                 echo "rt: $crate NOT PROVED"
-                # it goes on until that has been shown
+                # goes on until that has been printed
                 for _ in $(seq 3000); do
                     [ ! -e "$top/patient" ] || [ -e "$top/shown" ] && break
                     sleep 0.1
@@ -59,14 +63,14 @@ case $1 in
 esac
 """
 
-# the compiler of the pretended toolchain: it gives the module as text, and compiles a watched one, or
-# one that has nothing left of what watches it
+# the compiler of the pretended toolchain: it gives the module as text, and compiles one with checks
+# or one without them
 CLANG = r"""#!/usr/bin/env bash
 while [ $# -gt 0 ]; do
     case $1 in
         -S) as_text=1 ;;
         -O3) is_fast=1 ;;
-        -fsanitize=address) is_watched=1 ;;
+        -fsanitize=address) is_checked=1 ;;
         -Werror) is_strict=1 ;;
         -o) made=$2 ;;
         *.bc | *.ll) given=$1 ;;
@@ -94,14 +98,14 @@ false:
 attributes #0 = { nounwind sanitize_address "frame-pointer"="all" "target-cpu"="x86-64" }
 attributes #1 = { sanitize_address "frame-pointer"="all" }
 TEXT
-elif [ -n "${is_watched-}" ]; then
+elif [ -n "${is_checked-}" ]; then
     touch "$made"
 else
     [ -n "${is_fast-}" ] && [ -z "${is_strict-}" ] && [ ! -e @TOP@/unmade ] && cp "$given" "$made"
 fi
 """
 
-UNWATCHED = r"""define i8 @"a::b"(i8 %a0) #0 {
+UNCHECKED = r"""define i8 @"a::b"(i8 %a0) #0 {
 start:
   call void @"rattle-llvm-checks::Value"(i8 %a0)
   call void @llvm.trap()
@@ -143,17 +147,18 @@ sleep 0.5
 PATH=/bin:/usr/bin exec cat "$@"
 """
 
-PAGE = r"""#!/usr/bin/env bash
-echo "page: $*" >> "$(dirname "$0")/../calls"
+# a pretended tool, and the pretended runner of the tests
+TOOL = r"""#!/usr/bin/env bash
+echo "$(basename "$0"): $*" >> "$(dirname "$0")/../calls"
 exit 3
 """
 
 # what the launcher may call, and the pretended toolchain with it
-COMMANDS = ("basename bash cat chmod cmp cp cut df dirname env find flock git grep head install ls mkdir"
-            " mktemp mv nice python3 readlink rm rt sed seq setpriv sha256sum sleep sort tail touch tr"
-            " xargs").split()
+COMMANDS = ("basename bash cat chmod cmp cp cut date df dirname env find flock git grep head iconv"
+            " install ls mkdir mktemp mv nice python3 readlink rm rt sed seq setpriv sha256sum"
+            " sleep sort tail touch tr xargs").split()
 
-CRATES = """# a crate, and what it stands on
+CRATES = """# a crate, and its dependencies
 aside: low
 beside: low
 high: low middle
@@ -162,27 +167,42 @@ low:
 middle: low
 """
 
+# the tools by the options of the launcher that call them
+TOOLS = {"--html": "html", "--simulate": "simulate", "--csv": "csv", "--batch": "batch",
+         "--package": "package", "--verify-package": "verify_package", "--import": "import",
+         "--sumo": "sumo", "--search": "search", "--release": "release"}
+# what of tools/ is copied: what the launcher itself uses
+COPIED = ("launcher", "irvtools/launcher", "irvtools/__init__.py", "irvtools/paths.py",
+          "irvtools/mutants/__init__.py", "irvtools/mutants/crates.py", "progress.py",
+          "prove_program.py", "crate_seconds.txt")
+
 
 def lay_out(top):
     """Writes the copy."""
-    scripts = {"bin/rt": RT, "program": PROGRAM, "slow-cat": SLOW_CAT, "tools/page": PAGE,
-               "tools/play": PAGE, "tools/case": PAGE, "tools/release": PAGE}
     for name in ("aside", "beside", "high", "irv", "low", "middle"):
         (top / "crates" / name / "src").mkdir(parents=True)
         (top / "crates" / name / "src/main.rt").write_text("")
     (top / "VERSION").write_text("1.2.3\n")
     (top / "HANDLES").write_text("Handles allowed: none.\n")
     (top / "crates.txt").write_text(CRATES)
-    (top / "docs").mkdir()
-    shutil.copy(TOP / "docs/COMMANDS.md", top / "docs")
     shutil.copy(TOP / "irv", top / "irv")
-    others = shutil.ignore_patterns("__pycache__", "page*", "play*", "case*", "release*")
-    shutil.copytree(TOP / "tools", top / "tools", ignore=others)
-    write_scripts(top, scripts)
+    for name in COPIED:
+        copy(TOP / "tools" / name, top / "tools" / name)
+    write_scripts(top, {"bin/rt": RT, "program": PROGRAM, "slow-cat": SLOW_CAT, "tests/run": TOOL,
+                        **{f"tools/{name}": TOOL for name in TOOLS.values()}})
+
+
+def copy(source, target):
+    """Copies a file or a directory."""
+    target.parent.mkdir(parents=True, exist_ok=True)
+    if source.is_dir():
+        shutil.copytree(source, target, ignore=shutil.ignore_patterns("__pycache__"))
+    else:
+        shutil.copy(source, target)
 
 
 def write_scripts(top, scripts):
-    """Writes scripts, by their places in the copy."""
+    """Writes scripts by their places in the copy."""
     for place, text in scripts.items():
         path = top / place
         path.parent.mkdir(parents=True, exist_ok=True)
@@ -191,19 +211,20 @@ def write_scripts(top, scripts):
 
 
 def give_kit(top):
-    """Gives the pretended toolchain what a build that isn't proved is made by."""
+    """Gives the pretended toolchain what makes the faster unproved build."""
     write_scripts(top, {"kit/bin/rt": RT, "kit/bin/rtlib.py": "", "kit/bin/rattle-link": LINK,
                         "kit/toolchain/bin/clang": CLANG, "kit/c/libos_c.a": "",
                         "kit/c/liblibc_c.a": ""})
 
 
 def environment(top):
-    """The environment, in which `rt` is the pretended one, and what is made meanwhile is in the copy."""
+    """Returns an environment with the pretended `rt`, in which temporary files are in the copy."""
     return dict(os.environ, PATH=f"{top}/bin:{os.environ['PATH']}", TERM="xterm", TMPDIR=str(top))
 
 
 def call(top, *words, data=b"", path=None):
-    """Calls the copy: what it printed, its status, and the calls of the toolchain."""
+    """Calls the launcher of the copy. Returns standard output, standard error, the status, and the
+    calls of pretended commands."""
     calls = top / "calls"
     calls.write_text("")
     given = environment(top) if path is None else dict(os.environ, PATH=str(path))
@@ -213,19 +234,34 @@ def call(top, *words, data=b"", path=None):
 
 
 def path_without(top, *names):
-    """A folder with all commands that the launcher may call, but these."""
-    folder = top / f"path-without-{'-'.join(names)}"
-    folder.mkdir()
+    """Returns a directory with all commands that the launcher may call, but these."""
+    directory = top / f"path-without-{'-'.join(names)}"
+    directory.mkdir()
     for name in COMMANDS:
         if name not in names:
-            (folder / name).symlink_to(top / "bin/rt" if name == "rt" else shutil.which(name))
-    return folder
+            (directory / name).symlink_to(top / "bin/rt" if name == "rt" else shutil.which(name))
+    return directory
 
 
 def comes_to_be(holds):
-    """Waits until something holds, however busy the machine is; whether it came to."""
+    """Waits until something holds, for five minutes. Returns whether it does."""
     for _ in range(3000):
         if holds():
             return True
         time.sleep(0.1)
     return False
+
+
+def copy_tests(name: str, trials: Iterable[Callable[[Path], object]]) -> type:
+    """Returns a test case class with a method for each function, which takes the directory of a new
+    copy and returns whether it saw what its docstring says."""
+    def method(trial):
+        def test(self):
+            with tempfile.TemporaryDirectory(prefix="irv-launcher-") as directory:
+                lay_out(Path(directory))
+                self.assertTrue(trial(Path(directory)), trial.__doc__)
+        test.__doc__ = trial.__doc__
+        return test
+
+    methods = {"test_" + trial.__name__: method(trial) for trial in trials}
+    return type(name, (Test,), {**methods, "__module__": sys._getframe(1).f_globals["__name__"]})

@@ -1,23 +1,21 @@
-"""Trials of what is told while a proof goes on: how many crates are proved, and about how much longer."""
+"""Tests of the progress of a proof: how many crates are proved, and about how much longer it
+takes."""
 
-import io
 import re
 import subprocess
-import sys
 
-from calling import left_on_screen, on_a_terminal
-from copy_of import TOP, call
+from irvtools.launcher import progress
 
-sys.path.insert(0, str(TOP / "tools"))
-
-import progress  # noqa: E402
+from tests.launcher.call_tests import left_on_screen, on_a_terminal
+from tests.launcher.repository_copy import call, copy_tests
 
 
-def tells_each_crate(top):
-    """A build whose standard error is no terminal tells each crate in a line, the program at last."""
-    told = call(top, "--build")[1].decode().splitlines()
+def prints_each_crate(top):
+    """A build whose standard error is not a terminal prints a line for each crate, the program
+    last."""
+    printed = call(top, "--build")[1].decode().splitlines()
     lines = [re.fullmatch(r"irv: (\w+): (\d) of 5 crates proved in \d+ \w+(, about \d+ \w+ more)?",
-                          line) for line in told[1:]]
+                          line) for line in printed[1:]]
     if len(lines) != 5 or None in lines:
         return False
     return ([line[2] for line in lines] == list("12345") and lines[0][1] == "low"
@@ -25,7 +23,7 @@ def tells_each_crate(top):
 
 
 def renews_a_line(top):
-    """On a terminal there is one line, which is renewed, and is taken away at the end."""
+    """On a terminal there is one line, which is renewed, and is removed at the end."""
     (top / "slow").write_text("")
     shown, status = on_a_terminal(top, script="tools/prove_program.py")
     counts = re.findall(r"\r\x1b\[Kirv: (\d) of 5 crates proved in", shown)
@@ -34,7 +32,7 @@ def renews_a_line(top):
 
 
 class Clock:
-    """A clock that stands, unless it is set."""
+    """A clock that stands still unless it is set."""
 
     def __init__(self):
         self.now = 1000.0
@@ -44,8 +42,8 @@ class Clock:
 
 
 def estimates(top):
-    """What is left is the longest chain, or the shared seconds where they are more, at the pace of
-    what is done."""
+    """The remaining time is the longest chain, or the shared seconds if they are more, at the pace
+    of the finished proofs."""
     clock = Clock()
     seconds = {"low": 100.0, "left": 40.0, "right": 300.0, "top": 60.0}
     crates = {"low": set(), "left": {"low"}, "right": {"low"}, "top": {"low", "left", "right"}}
@@ -60,27 +58,27 @@ def estimates(top):
     clock.now += 150
     took = two.end("low")
     # 100 listed seconds took 200, and a tenth of 460 is trusted to take as long as it is listed
-    third = two.remaining(), two.told()
+    third = two.remaining(), two.sentence()
     slow = 360 * (200 + 46) / (100 + 46)
     return (first == (460.0, 500.0) and second == 410.0 and took == 200
             and abs(third[0] - slow) < 1e-9
             and third[1] == "1 of 4 crates proved in 3 minutes, about 10 minutes more")
 
 
-def counts_no_pace_of_what_is_kept(_):
-    """What an earlier run proved is done, and what is left takes what it took before."""
+def counts_no_pace_of_cached_proofs(_):
+    """A crate that an earlier run proved is finished, and the others take as long as before."""
     clock = Clock()
     crates = {"low": set(), "left": {"low"}, "right": {"low"}}
     kept = progress.Progress(crates, 1, {"low": 100.0, "left": 40.0, "right": 60.0}, clock)
     clock.now += 1
     kept.keep("low")
     return (abs(kept.remaining() - 100 * (1 + 10) / 10) < 1e-9
-            and kept.told().startswith("1 of 3 crates proved in 1 second, about "))
+            and kept.sentence().startswith("1 of 3 crates proved in 1 second, about "))
 
 
-def sees_what_goes_on(top):
-    """The proofs of crates that go on are seen by the processes of the prover: no other's, no test's, and
-    none in another folder."""
+def sees_running_proofs(top):
+    """The running proofs are seen by the processes of the prover: not by other processes, by its
+    tests, or by proofs in another directory."""
     here = (top / "crates").resolve()
     shown = {"1": ("rattle", here / "low", b"rattle\0build\0--lib"),
              "2": ("rattle", here / "middle", b"rattle\0build\0--test\0--lib"),
@@ -95,24 +93,25 @@ def sees_what_goes_on(top):
         (process / "cwd").symlink_to(place)
     (top / "proc/6").mkdir()
     (top / "proc/self").mkdir()
-    return sorted(progress.at_work(here, top / "proc")) == ["irv", "low"]
+    return sorted(progress.running(here, top / "proc")) == ["irv", "low"]
 
 
-def hands_on_the_gate(top):
-    """What the gate prints is handed on as it is, and after each proved crate the progress is told."""
+def passes_ci_on(top):
+    """What CI prints is passed on as it is, and after each proved crate the progress is printed."""
     given = (b"== low\nrt: low proved\nrt: low: its tests are proved\nrt: nothing proved\n"
              b"rt: middle is kept: an earlier run on this machine proved the same files\nrt: ok\n")
     done = subprocess.run([top / "tools/progress.py"], cwd=top, input=given, stdout=subprocess.PIPE,
                           stderr=subprocess.PIPE)
-    told = done.stderr.decode().splitlines()
-    wanted = ("irv: low: 1 of 6", "irv: middle is kept: 2 of 6")
-    return (done.returncode, done.stdout) == (0, given) and len(told) == 2 \
+    printed = done.stderr.decode().splitlines()
+    wanted = ("irv: low: 1 of 6", "irv: middle was proved before: 2 of 6")
+    return (done.returncode, done.stdout) == (0, given) and len(printed) == 2 \
         and all(re.match(rf"{begin} crates proved in \d+ \w+, about \d+ \w+ more", line)
-                for begin, line in zip(wanted, told))
+                for begin, line in zip(wanted, printed))
 
 
 def renews_the_list(top):
-    """The list is written anew by what was noted of proofs; a crate of which nothing was keeps its own."""
+    """The list is written by what was noted of proofs; a crate of which nothing was noted keeps its
+    seconds."""
     (top / "tools/crate_seconds.txt").write_text("# old\nlow 7\naside 9\n")
     (top / "out").mkdir()
     (top / "out/seconds").write_text("low 31.4\nirv 12.6\n")
@@ -124,13 +123,15 @@ def renews_the_list(top):
             and [line for line in lines if line[0] != "#"] == ["aside 9", "irv 13", "low 31"])
 
 
-def says_how_it_is_called(top):
-    """Other words are refused in a line."""
-    done = subprocess.run([top / "tools/progress.py", "--anew"], stdin=subprocess.DEVNULL,
-                          stdout=subprocess.PIPE, stderr=subprocess.PIPE)
-    told = io.StringIO(done.stderr.decode()).readlines()
-    return done.returncode == 2 and told == ["usage: tools/progress.py [--renew]\n"]
+def shows_how_it_is_called(top):
+    """`--help` prints each option; a wrong argument is refused, and nothing is read."""
+    answers = [subprocess.run([top / "tools/progress.py", word], stdin=subprocess.DEVNULL,
+                              stdout=subprocess.PIPE, stderr=subprocess.PIPE, check=False)
+               for word in ("--help", "--anew")]
+    return ([done.returncode for done in answers] == [0, 2] and b"--renew" in answers[0].stdout
+            and answers[1].stderr.startswith(b"usage: progress "))
 
 
-TRIALS = (tells_each_crate, renews_a_line, estimates, counts_no_pace_of_what_is_kept, sees_what_goes_on,
-          hands_on_the_gate, renews_the_list, says_how_it_is_called)
+ProgressTests = copy_tests("ProgressTests", (
+    prints_each_crate, renews_a_line, estimates, counts_no_pace_of_cached_proofs,
+    sees_running_proofs, passes_ci_on, renews_the_list, shows_how_it_is_called))

@@ -1,30 +1,31 @@
-# How programs are run: signals are handed on to them, and where someone watches, it is shown that
-# work goes on.
+# Runs programs: passes signals on to them, and shows on a terminal that work goes on.
+# shellcheck disable=SC2034,SC2154     # the parts of the launcher share their variables
 
-# Hands on what comes. Until something does it says from the second second on that work goes on, and
-# takes that away.
+# Passes its input on to standard error. Before the first byte it shows from the second second on
+# that work goes on, and then removes that line.
 show_work() {
     trap '' INT QUIT
     local first seconds=0 status
     while IFS= read -r -N 1 -t 1 first; status=$?; [ "$status" -gt 128 ] && [ -z "$first" ]; do
         seconds=$((seconds + 1))
-        [ "$seconds" -lt 2 ] || printf '\r\033[Kirv: at work for %d seconds' "$seconds"
+        [ "$seconds" -lt 2 ] || printf '\r\033[Kirv: working for %d seconds' "$seconds"
     done
     [ "$seconds" -lt 2 ] || printf '\r\033[K'
     [ -z "$first" ] || { printf %s "$first" && cat; }
 } >&2
 
-# whether standard error is a terminal on which a line can be taken away
+# Returns whether standard error is a terminal on which a line can be removed.
 is_watched() {
     [ -t 2 ] && [ "${TERM:-dumb}" != dumb ]
 }
 
-# whether a stream of the caller is open
+# Returns whether a stream of the caller is open.
 is_open() {
     [ -e "/proc/$$/fd/$1" ]
 }
 
-# Runs these words, which end with the launcher, however it ends. Standard input is the caller's.
+# Replaces this process by a command that ends with the launcher, however the launcher ends.
+# Standard input is the caller's.
 run_tied() {
     trap - INT QUIT
     local tie=()
@@ -32,10 +33,11 @@ run_tied() {
     exec ${tie[@]+"${tie[@]}"} "$@"
 }
 
-# Waits for the process of this number, and hands signals on to it; its status is the answer.
+# Waits for the process with this number, and passes signals on to it. Returns its status.
 await() {
     local running=$1 signal status
     for signal in HUP INT QUIT TERM; do
+        # shellcheck disable=SC2064     # both are known now
         trap "kill -s $signal $running 2>/dev/null" "$signal"
     done
     while wait "$running" 2>/dev/null; status=$?
@@ -46,7 +48,7 @@ await() {
     return "$status"
 }
 
-# Runs these words beside the launcher.
+# Runs a command as a child of the launcher.
 run_alone() {
     if is_open 0; then
         (run_tied "$@") <&0 &
@@ -56,8 +58,8 @@ run_alone() {
     await $!
 }
 
-# Runs these words. Where someone watches, it is shown on standard error that work goes on; what the
-# words write to that terminal takes the same way, so that it comes once this is taken away.
+# Runs a command. If standard error is a terminal, a line shows there that work goes on. What the
+# command writes to that terminal takes the same way, so that the line is removed before it.
 run_shown() {
     is_watched || { run_alone "$@"; return; }
     local line output=1 shown status
@@ -76,15 +78,15 @@ run_shown() {
     return "$status"
 }
 
-# Calls a program with these words, and ends with its status. After a fault a line says what the
-# program can't know of it.
+# Calls a program with these arguments, and ends with its status. A line explains a fault.
 call() {
     local status
     run_shown "$@"
     status=$?
     [ "$status" -le 128 ] || [ "$status" -eq 130 ] || ! is_watched \
-        || echo "irv: the signal $(kill -l "$status") ended the program" >&2
-    [ "$status" -ne 126 ] && [ "$status" -ne 127 ] || no_answer "the program doesn't start"
-    say_why "$status"
+        || echo "irv: signal $(kill -l "$status") ended the program" >&2
+    [[ $status -ne 126 && $status -ne 127 ]] \
+        || no_answer "cannot start $1: ./irv --version shows its state"
+    explain "$status"
     exit "$status"
 }

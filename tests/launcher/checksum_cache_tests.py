@@ -1,10 +1,10 @@
-"""Trials of what the launcher remembers of the sources: their sum, as long as no file changed."""
+"""Tests of the cached checksums of sources and programs."""
 
 import os
 import time
 
-from building import has_built
-from copy_of import call, write_scripts
+from tests.launcher.build_tests import has_built
+from tests.launcher.repository_copy import call, copy_tests, write_scripts
 
 SUMS = r"""#!/usr/bin/env bash
 echo "sha256sum" >>@TOP@/summed
@@ -13,14 +13,15 @@ PATH=/bin:/usr/bin exec sha256sum "$@"
 
 
 def sums(top, *words):
-    """Calls the launcher: how often it read the contents of files, and the calls of the toolchain."""
+    """Calls the launcher. Returns how often it read the contents of files, and the calls of the
+    toolchain."""
     (top / "summed").write_text("")
     _, _, _, calls = call(top, *words)
     return len((top / "summed").read_text().splitlines()), calls
 
 
 def settled(top):
-    """Waits until no file is younger than a second, and has the launcher remember the sums."""
+    """Waits until no file is younger than a second, and has the launcher cache the checksums."""
     write_scripts(top, {"bin/sha256sum": SUMS})
     call(top, "--build")
     time.sleep(1.2)
@@ -28,13 +29,13 @@ def settled(top):
 
 
 def reads_once(top):
-    """Where nothing changed no contents are read again."""
+    """If nothing changed, no contents are read again."""
     first = settled(top)
     return first[0] > 0 and first[1] == [] and sums(top, "check") == (0, [])
 
 
 def change_unseen_by_time(path, text):
-    """Gives a file other contents, with the same length, name and time of change."""
+    """Gives a file other contents of the same length, and keeps its time of change."""
     times = path.stat()
     assert len(text) == times.st_size
     path.write_text(text)
@@ -42,13 +43,14 @@ def change_unseen_by_time(path, text):
 
 
 def sees_a_change(top):
-    """Other contents under the same length, name and time of change are seen; so are a new file in a
-    new folder, one that is gone, another line of crates.txt, and another program."""
+    """Other contents of the same length, name and time of change are seen. So are a new file in a
+    new directory, a removed file, another line of crates.txt, and another program."""
     source, program = top / "crates/low/src/main.rt", top / "crates/irv/out/irv"
     source.write_text("// one")
     settled(top)
     changes = [lambda: change_unseen_by_time(source, "// two"),
-               lambda: ((top / "crates/low/specs").mkdir(), (top / "crates/low/specs/a").write_text("")),
+               lambda: ((top / "crates/low/specs").mkdir(),
+                        (top / "crates/low/specs/a").write_text("")),
                (top / "crates/low/specs/a").unlink,
                lambda: (top / "crates.txt").write_text("# \n" + (top / "crates.txt").read_text()
                                                        .replace("high: low middle", "high: low")),
@@ -63,28 +65,28 @@ def sees_a_change(top):
     return True
 
 
-def trusts_nothing_young(top):
-    """Of a file that is younger than a second nothing is remembered."""
+def caches_nothing_young(top):
+    """Nothing is cached of a file that is younger than a second."""
     settled(top)
     later = time.time() + 1000
     os.utime(top / "crates/low/src/main.rt", (later, later))
     return [sums(top, "check")[0] > 0 for _ in range(3)] == [True] * 3
 
 
-def does_without(top):
-    """Where nothing can be remembered, or what is remembered is no such thing, the answers are the
-    same."""
+def works_without_cache(top):
+    """If nothing can be cached, or the cache is broken, the answers are the same."""
     call(top, "--build")
     for text in ("", "x", "\n\n\n\n", "irv low\na\nb\nc\n"):
-        (top / "out/sums").unlink(missing_ok=True)
+        (top / "out/checksums").unlink(missing_ok=True)
         (top / "out").mkdir(exist_ok=True)
-        (top / "out/sums").write_text(text)
+        (top / "out/checksums").write_text(text)
         if call(top, "check") != (b"check\n", b"", 6, []):
             return False
-    (top / "out/sums").unlink()
+    (top / "out/checksums").unlink()
     (top / "out").rmdir()
     (top / "out").write_text("")
     return call(top, "check") == (b"check\n", b"", 6, [])
 
 
-TRIALS = reads_once, sees_a_change, trusts_nothing_young, does_without
+ChecksumCacheTests = copy_tests("ChecksumCacheTests", (
+    reads_once, sees_a_change, caches_nothing_young, works_without_cache))

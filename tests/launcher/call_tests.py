@@ -1,4 +1,4 @@
-"""Trials of calls of the built program: its words, streams, signals and faults."""
+"""Tests of calls of the built program: arguments, streams, signals and progress."""
 
 import os
 import pty
@@ -7,12 +7,13 @@ import signal
 import subprocess
 import time
 
-from copy_of import call, comes_to_be, environment
+from tests.launcher.repository_copy import call, comes_to_be, copy_tests, environment
 
 
 def keeps_what_is_read(top):
-    """A certificate that would be written over the file that standard input or output is, by whatever
-    name, is refused before anything is built; a device, another file or another command isn't."""
+    """A certificate that would be written over the file that standard input or output is, by
+    whatever name, is refused before anything is built; a device, another file or another command is
+    not."""
     conf, told = top / "conf", top / "told"
     conf.write_text("in")
     (top / "link").symlink_to(conf)
@@ -26,25 +27,31 @@ def keeps_what_is_read(top):
     refused = [ends("verify", "--cert", "conf"), ends("--cert=link", "verify"),
                ends("verify", "--depth", "2", "--cert", "./conf"), ends("demo", "--cert", conf),
                ends("--cert", "conf", "--", "verify"), ends("verify", "--cert", "told"),
-               ends("verify", "--cert=/dev/stdout"), ends("--try", "verify", "--cert", "conf"),
-               ends("--page", "p.html", "--cert", "conf")]
+               ends("verify", "--cert=/dev/stdout"),
+               ends("--unproved", "verify", "--cert", "conf"),
+               ends("--html", "p.html", "--cert", "conf"), ends("--html", "conf"),
+               ends("--simulate", "./link")]
     unbuilt = not (top / "crates/irv/out").exists()
     call(top, "--build")
     passed = [ends("verify", "--cert", "new"),
               ends("verify", "--cert", "/dev/null", source="/dev/null"),
               ends("replay", "--run", "conf"), ends("check", "--cert", "conf"),
               ends("check", "--columns", "verify", "--cert", "conf"), ends("verify", "--cert")]
-    return (refused == [(125, 1)] * 9 and unbuilt and passed == [(6, 0)] * 6
+    return (refused == [(125, 1)] * 11 and unbuilt and passed == [(6, 0)] * 6
             and conf.read_text() == "in")
 
 
-def on_a_terminal(top, *words, output=None, script="irv"):
-    """Calls the copy, or another script of it, on a terminal: what had come there when it ended, and
-    the status. Standard output is the terminal too, unless a file is given."""
+def on_a_terminal(top, *words, output=None, script="irv", reads_it=False):
+    """Calls the launcher, or another script of the copy, on a terminal. Returns what had come there
+    when it ended, and the status. Standard output is the terminal too unless a file is given, and
+    standard input is if `reads_it`; then the terminal gives it the end of input."""
     ours, theirs = pty.openpty()
     os.set_blocking(ours, False)
+    if reads_it:
+        os.write(ours, b"\x04")
     with subprocess.Popen([top / script, *words], cwd=top, env=environment(top),
-                          stdin=subprocess.DEVNULL, stdout=output or theirs, stderr=theirs) as called:
+                          stdin=theirs if reads_it else subprocess.DEVNULL,
+                          stdout=output or theirs, stderr=theirs) as called:
         status = called.wait()
     shown = b""
     try:
@@ -58,7 +65,7 @@ def on_a_terminal(top, *words, output=None, script="irv"):
 
 
 def left_on_screen(shown):
-    """The lines that stand on a terminal's screen at last."""
+    """Returns the lines that are on a terminal's screen at the end."""
     lines, column = [""], 0
     for part in re.findall(r"\r|\n|\x1b\[K|[^\r\n\x1b]+", shown):
         if part == "\r":
@@ -75,28 +82,28 @@ def left_on_screen(shown):
 
 
 def shows_that_it_works(top):
-    """On a terminal a call of more than two seconds says so until its end, and then only the answer
-    stands there; where standard output is a file it has the answer alone; a short call says nothing
-    of itself."""
+    """On a terminal a call of more than two seconds shows that it works, and at its end only the
+    answer is there. If standard output is a file, it has only the answer. A short call shows
+    nothing."""
     call(top, "--build")
     short = on_a_terminal(top, "check")
     slow = on_a_terminal(top, "slow")
     with open(top / "told", "wb") as told:
         beside = on_a_terminal(top, "slow", output=told)
-    # what comes late comes before the end all the same
+    # what comes late comes before the end too
     (top / "slow-cat").rename(top / "bin/cat")
     fault = on_a_terminal(top, "fault")
-    ends = [(re.findall("at work for ([0-9]+)", shown)[:1], left_on_screen(shown), status)
+    ends = [(re.findall("working for ([0-9]+)", shown)[:1], left_on_screen(shown), status)
             for shown, status in (slow, beside, fault)]
     begin = ["2"]
-    lines = ["irv: read fault", "irv: what was to be read is standard input", ""]
+    lines = ["irv: read fault", "irv: cannot read standard input", ""]
     return (ends == [(begin, ["slow", ""], 6), (begin, [""], 6), (begin, lines, 8)]
             and (top / "told").read_text() == "slow\n"
             and short == ("check\r\n", 6))
 
 
 def ends_with_the_launcher(top):
-    """Where the launcher is killed, the program ends too, and what waits for its output goes on."""
+    """If the launcher is killed, the program ends too, and what waits for its output goes on."""
     call(top, "--build")
     with subprocess.Popen([top / "irv", "slow"], cwd=top, env=environment(top),
                           stdin=subprocess.DEVNULL, stdout=subprocess.PIPE) as called:
@@ -106,13 +113,13 @@ def ends_with_the_launcher(top):
     return output == b""
 
 
-def tells_of_a_signal(top):
-    """A program that a signal ended is told by its status, as a shell does; and a signal to the
-    launcher ends the program."""
+def reports_a_signal(top):
+    """The status shows that a signal ended the program, as in a shell; and a signal to the launcher
+    ends the program."""
     call(top, "--build")
     shell = subprocess.run(["bash", "-c", f"{top}/irv killed; exit $?"], stdin=subprocess.DEVNULL,
                            stderr=subprocess.DEVNULL)
-    told = on_a_terminal(top, "killed")
+    printed = on_a_terminal(top, "killed")
     ours, theirs = pty.openpty()
     with subprocess.Popen([top / "irv", "slow"], cwd=top, env=environment(top),
                           stdin=subprocess.DEVNULL, stdout=theirs, stderr=theirs) as called:
@@ -122,8 +129,23 @@ def tells_of_a_signal(top):
         called.send_signal(signal.SIGTERM)
         ended = called.wait()
     os.close(ours)
-    line = "irv: the signal KILL ended the program\r\n"
-    return (shell.returncode, told, ended) == (137, (line, 137), 143)
+    line = "irv: signal KILL ended the program\r\n"
+    return (shell.returncode, printed, ended) == (137, (line, 137), 143)
 
 
-TRIALS = keeps_what_is_read, shows_that_it_works, tells_of_a_signal, ends_with_the_launcher
+def announces_a_terminal(top):
+    """If a configuration is expected from a terminal, the launcher says so, and says nothing for a
+    command that reads none."""
+    call(top, "--build")
+    line = ("irv: check reads its configuration from standard input, which is this terminal: add < "
+            "FILE, or type it and press Ctrl-D\r\n")
+    asked = on_a_terminal(top, "check", reads_it=True)
+    page = on_a_terminal(top, "--html", "p.html", reads_it=True)
+    made = on_a_terminal(top, "make", "--stations", "1", reads_it=True)
+    return (asked == (line + "check\r\n", 6) and page == (line.replace("check", "--html"), 3)
+            and made == ("make --stations 1\r\n", 6))
+
+
+CallTests = copy_tests("CallTests", (
+    keeps_what_is_read, shows_that_it_works, reports_a_signal, ends_with_the_launcher,
+    announces_a_terminal))

@@ -1,0 +1,158 @@
+"""Tests of the options of the launcher that call a tool, and of `--test`."""
+
+import re
+import subprocess
+
+from irvtools.launcher import command_table
+from irvtools.paths import TOP
+
+from tests.launcher.build_tests import has_built
+from tests.launcher.repository_copy import TOOLS, call, copy_tests, give_kit
+from tests.launcher.unproved_tests import is_cached
+
+
+def calls_each_tool(top):
+    """Each option passes its arguments on to its tool, with the program, which is built before. The
+    tool's status is the answer."""
+    program = top.resolve() / "crates/irv/out/irv"
+    is_first = True
+    for option, tool in TOOLS.items():
+        words = ["--with-network", "a b", "--columns=free", "-x", "--", "y"]
+        output, _, status, calls = call(top, option, *words)
+        if calls[-1] != f"{tool}: --program {program} {' '.join(words)}" \
+                or (output, status) != (b"", 3) or has_built(calls) != is_first:
+            return False
+        is_first = False
+    return True
+
+
+def names_a_missing_tool(top):
+    """A tool that does not exist is named with status 125, and nothing is built."""
+    for option, tool in TOOLS.items():
+        (top / "tools" / tool).unlink()
+        line = f"irv: tools/{tool}, which {option} calls, does not exist\n"
+        if call(top, option, "x") != (b"", line.encode(), 125, []):
+            return False
+    (top / "tests/run").unlink()
+    line = b"irv: tests/run, which --test calls, does not exist\n"
+    return call(top, "--test") == (b"", line, 125, [])
+
+
+def builds_for_csv_if_asked(top):
+    """`--csv` builds only for `--with-network`, also if that is shortened. Otherwise the tool gets
+    a name where no program is, unless the program is built."""
+    program = top.resolve() / "crates/irv/out/irv"
+    plain = call(top, "--csv", "--in", "a b")
+    words = ("--with-network", "--w")
+    network = [call(top, "--csv", "--compare", word, "x")[3] for word in words]
+    built = call(top, "--csv", "--in", "a b")
+    return (plain == (b"", b"", 3, [f"csv: --program {program}.unbuilt --in a b"])
+            and [calls[-1] for calls in network]
+            == [f"csv: --program {program} --compare {word} x" for word in words]
+            and has_built(network[0]) and built[3] == [f"csv: --program {program} --in a b"])
+
+
+def takes_no_other_program(top):
+    """An argument that names another program is refused, and no tool is called."""
+    for option in (*TOOLS, "--test"):
+        for words, named in ((["--program", "x"], "--program"), (["a", "--prog", "x"], "--prog"),
+                             (["a", "--program=x"], "--program=x")):
+            output, errors, status, calls = call(top, option, *words)
+            line = f"irv: {option} takes no {named}: it calls "
+            if (output, status, calls) != (b"", 125, []) or not errors.decode().startswith(line):
+                return False
+    return True
+
+
+def tests_the_proved_program(top):
+    """`--test` runs the tests over the program if it is built of these sources, and builds
+    nothing."""
+    call(top, "--build")
+    program = top.resolve() / "crates/irv/out/irv"
+    answers = [call(top, "--test", *words) for words in ([], ["html", "csv"])]
+    return answers == [(b"", b"", 3, [f"run: --program {program}{words}"])
+                       for words in ("", " html csv")]
+
+
+def tests_the_unproved_build(top):
+    """Otherwise `--test` makes the unproved build, once, runs the tests over it, and says that
+    nothing is proved by this."""
+    give_kit(top)
+    (top / "crates/irv/out").mkdir()
+    (top / "crates/irv/out/irv").write_text("#!/bin/sh\n")
+    (top / "crates/irv/out/irv").chmod(0o755)
+    unproved = top.resolve() / "out/unproved/irv-unproved"
+    first = call(top, "--test", "html")
+    again = call(top, "--test")
+    last = "irv: nothing is proved by this: the tests ran over the unproved build"
+    return (is_cached(top) and first[::2] == again[::2] == (b"", 3)
+            and [line for line in first[3] if line.endswith(": try")] == ["irv: try"]
+            and not has_built(first[3]) and first[3][-1] == f"run: --program {unproved} html"
+            and again[3] == [f"run: --program {unproved}"]
+            and first[1].decode().splitlines()[-1] == again[1].decode().splitlines()[-1] == last)
+
+
+def tests_nothing_without_a_build(top):
+    """If the unproved build cannot be made, or a source is edited meanwhile, `--test` says so with
+    status 125, and runs no test."""
+    give_kit(top)
+    lines = []
+    for name in ("broken", "unmade", "edit"):
+        (top / name).write_text("")
+        output, errors, status, calls = call(top, "--test")
+        (top / name).unlink()
+        lines.append(errors.decode().splitlines()[-1])
+        if (output, status) != (b"", 125) or any(line.startswith("run:") for line in calls):
+            return False
+    return (lines[0] == "irv: cannot compile the sources"
+            and lines[1].startswith("irv: cannot make the unproved build: ")
+            and lines[2].startswith("irv: sources were edited during the build: "))
+
+
+def options_of_tool(tool):
+    """Returns the options that a tool's own help lists, each with its value and its default or
+    `None`."""
+    text = subprocess.run(["python3", TOP / "tools" / tool, "--help"], stdin=subprocess.DEVNULL,
+                          stdout=subprocess.PIPE, check=True).stdout.decode()
+    listed = re.split(r"\n  (?=-)", text.partition("\noption")[2])[1:]
+    found = {}
+    for item in listed:
+        line = " ".join(item.split("\n\n")[0].split())
+        name, value, default = re.fullmatch(
+            r"(?:-h, )?(--[a-z-]+)(?: ([A-Z]\S*|\{\S+\}))?(?: .*?)?(?:\(([^()]*)\))?",
+            line).groups()
+        if name not in ("--help", "--program"):
+            value = value and value.strip("{}").replace(",", "|" if "{" in value else ",")
+            found[name] = value, default and re.sub(r"^\d+ here$", "the processors here", default)
+    return found
+
+
+def options_of_table(entry):
+    """Returns the same of an entry of the table."""
+    found = {}
+    for words, _, *default in entry.parts("option"):
+        name, _, value = words.partition(" ")
+        is_stated = default and default[0] != "needed"
+        found[name] = value or None, default[0] if is_stated else None
+    return found
+
+
+def lists_the_options_of_each_tool(_):
+    """The table has the options of each tool, with the values and defaults that the tool's help
+    has."""
+    tools = [entry for entry in command_table.of_kind("launcher") if entry.value("tool")]
+    faults = []
+    for entry in tools:
+        if not (TOP / "tools" / entry.value("tool")).is_file():
+            continue
+        told, listed = options_of_tool(entry.value("tool")), options_of_table(entry)
+        faults += [f"{entry.name} {name}: {told.get(name)}, and in the table {listed.get(name)}"
+                   for name in sorted({*told, *listed}) if told.get(name) != listed.get(name)]
+    assert not faults, faults
+    return len(tools) == len(TOOLS)
+
+
+ToolOptionTests = copy_tests("ToolOptionTests", (
+    lists_the_options_of_each_tool, calls_each_tool, names_a_missing_tool,
+    builds_for_csv_if_asked, takes_no_other_program, tests_the_proved_program,
+    tests_the_unproved_build, tests_nothing_without_a_build))

@@ -1,0 +1,114 @@
+"""Proves the program as CI does, and builds it.
+
+`rt ci` does it in a temporary directory, over a copy of the crates that `irv` is made of, without
+their mutants and without the crates of tests. What it proves is cached on this machine by the
+checksums of all that it read: CI takes it from there, and the other way round.
+
+Standard error shows the progress. What `rt ci` prints of a crate is printed as soon as that crate
+is not proved; the proofs that run beside it go on to their ends.
+
+The exit status is 0 if all is proved and the program is in crates/irv/out, 1 if not, 2 if the
+arguments are wrong, 130 after a signal.
+"""
+
+import argparse
+import os
+import re
+import shutil
+import signal
+import subprocess
+import sys
+import tempfile
+from pathlib import Path
+from typing import BinaryIO, Dict, List, Set
+
+from irvtools.launcher.progress import follow
+from irvtools.mutants.crates import Crates
+
+PROGRAM = "irv"
+# `rt ci` ends if this process is killed
+TIE = ("setpriv", "--pdeathsig", "TERM", "--")
+INTERRUPTED = 130
+NOT_PROVED = re.compile(rb"^rt: \w+ NOT PROVED")
+
+
+class UnprovedCrates:
+    """Prints what `rt ci` printed of the crates that are not proved."""
+
+    def __init__(self, sink: BinaryIO):
+        self.sink, self.part = sink, []
+
+    def take(self, line: bytes) -> None:
+        """Takes a line of `rt ci`. Each crate's part begins with its name."""
+        if line.startswith(b"== "):
+            self.part.clear()
+        self.part.append(line)
+        if NOT_PROVED.match(line):
+            self.print()
+
+    def print(self) -> None:
+        """Prints the crate's part so far."""
+        self.sink.writelines(self.part)
+        self.sink.flush()
+        self.part.clear()
+
+
+def prove(room: Path, crates: Dict[str, Set[str]], options: List[str]) -> bool:
+    """Proves the crates in a directory. Returns whether all are proved."""
+    tie, printed = TIE if shutil.which(TIE[0]) else (), UnprovedCrates(sys.stdout.buffer)
+    with subprocess.Popen([*tie, "rt", "ci", *options], cwd=room, stdin=subprocess.DEVNULL,
+                          stdout=subprocess.PIPE, stderr=subprocess.STDOUT) as running:
+        try:
+            follow(running.stdout, crates, room / "crates", printed.take)
+        except BaseException:
+            running.terminate()
+            raise
+    if running.returncode:
+        printed.print()
+    return not running.returncode
+
+
+def put(made: Path, place: Path) -> None:
+    """Copies the program to its place in one step, since another build may do so at the same
+    time."""
+    place.parent.mkdir(exist_ok=True)
+    new = place.with_name(f"{place.name}.{os.getpid()}")
+    shutil.copy(made, new)
+    new.replace(place)
+
+
+def build(options: List[str]) -> int:
+    """Proves and builds the program. Returns the exit status."""
+    crates = Crates()
+    names = [*crates.below(PROGRAM), PROGRAM]
+    absent = sorted(name for name in names if not crates.folder(name).is_dir())
+    if absent:
+        print(f"prove_program: cannot read crates/{absent[0]}, which crates.txt names: no such "
+              "directory", file=sys.stderr)
+        return 1
+    with tempfile.TemporaryDirectory(prefix="irv-proving-") as name:
+        room = Path(name)
+        crates.lay_out(names, room)
+        if not prove(room, {name: {*crates.below(name)} for name in names}, options):
+            return 1
+        put(room / "crates" / PROGRAM / "out" / PROGRAM, crates.folder(PROGRAM) / "out" / PROGRAM)
+    return 0
+
+
+def end(*_: object) -> None:
+    """Ends as after Ctrl-C, so that the temporary directory is removed."""
+    raise KeyboardInterrupt
+
+
+def main() -> int:
+    """Reads the command line, proves and builds. Returns the exit status."""
+    parser = argparse.ArgumentParser(prog="prove_program", description=__doc__,
+                                     formatter_class=argparse.RawDescriptionHelpFormatter)
+    parser.add_argument("--anew", action="store_true",
+                        help="proves everything again; default: what is cached is taken")
+    options = ["--anew"] if parser.parse_args().anew else []
+    signal.signal(signal.SIGTERM, end)
+    try:
+        return build(options)
+    except KeyboardInterrupt:
+        return INTERRUPTED

@@ -1,0 +1,112 @@
+# The line that the launcher adds on standard error after the program's own: which argument was
+# wrong, or which file or stream failed, and why, as far as the launcher can see.
+# shellcheck disable=SC2034,SC2154     # the parts of the launcher share their variables
+
+# Prints why a file cannot be read, if that can be seen.
+why_unreadable() {
+    if [ ! -e "$1" ]; then
+        echo "no such file"
+    elif [ -d "$1" ]; then
+        echo "it is a directory"
+    elif [ ! -r "$1" ]; then
+        echo "permission denied"
+    fi
+}
+
+# Returns whether the disk of a file or a directory is full.
+is_full() {
+    [ "$(df --output=avail -- "$1" 2>/dev/null | tail -n 1 | tr -d ' ')" = 0 ]
+}
+
+# Prints why a file cannot be written, if that can be seen.
+why_unwritable() {
+    local directory=.
+    [[ $1 != */* ]] || directory=${1%/*}
+    directory=${directory:-/}
+    if [ -z "$1" ]; then
+        echo "the name is empty"
+    elif [ -d "$1" ]; then
+        echo "it is a directory"
+    elif [ ! -e "$directory" ]; then
+        echo "the directory $directory does not exist"
+    elif [ ! -d "$directory" ]; then
+        echo "$directory is not a directory"
+    elif [ -e "$1" ] && [ ! -w "$1" ] || [ ! -e "$1" ] && [ ! -w "$directory" ]; then
+        echo "permission denied"
+    elif [ "$1" -ef /dev/full ] || is_full "$directory"; then
+        echo "the disk is full"
+    fi
+}
+
+# Explains `irv: usage`: by what was found in the arguments, or by bytes that are not UTF-8.
+explain_usage() {
+    local word
+    for word in ${words[@]+"${words[@]}"}; do
+        [ -z "$fault" ] || break
+        command -v iconv >/dev/null || break
+        printf %s "$word" | iconv -f UTF-8 -t UTF-8 >/dev/null 2>&1 \
+            || fault="an argument is not UTF-8: $(printf %q "${word#"$PWD/"}")"
+    done
+    echo "irv: ${fault:-"./irv --help lists the commands and their options"}" >&2
+}
+
+explain_read_fault() {
+    local why=
+    if ! is_open 0; then
+        why="cannot read standard input: it is closed"
+    elif [ -d "/proc/$$/fd/0" ]; then
+        why="cannot read standard input: it is a directory"
+    elif [ -n "$names_input" ]; then
+        why=$(why_unreadable "$input")
+        why=${why:+"cannot read $input: $why"}
+    fi
+    echo "irv: ${why:-"cannot read standard input${names_input:+ or $input}"}" >&2
+}
+
+explain_write_fault() {
+    local why='' output=/proc/$$/fd/1 sinks="standard output"
+    if [ -n "$names_certificate" ]; then
+        why=$(why_unwritable "$certificate")
+        why=${why:+"cannot write the certificate to '$certificate': $why"}
+    fi
+    if [ -n "$why" ]; then
+        :
+    elif ! is_open 1; then
+        why="cannot write standard output: it is closed"
+    elif [ -d "$output" ]; then
+        why="cannot write standard output: it is a directory"
+    elif [ "$output" -ef /dev/full ] || { [ -f "$output" ] && is_full "$output"; }; then
+        why="cannot write standard output: the disk is full"
+    fi
+    [ -z "$names_certificate" ] || sinks="the certificate to '$certificate', or $sinks"
+    echo "irv: ${why:-"cannot write $sinks"}" >&2
+}
+
+# Explains the rejection of a file that is meant for another command: of a scenario that was given
+# to replay, and of a run that was given to drive.
+explain_rejection() {
+    local head=
+    [ -n "$names_input" ] && [ -f "$input" ] && [ -r "$input" ] || return
+    IFS= read -r -n 8 head <"$input"
+    case $command,$head in
+        replay,'drive '*) echo "irv: $input: this is a scenario: use drive" >&2 ;;
+        drive,'run '*) echo "irv: $input: this is a run: use replay" >&2 ;;
+    esac
+}
+
+# Adds a line after an answer with this status, if one helps.
+explain() {
+    case $1 in
+        6) explain_rejection ;;
+        "$usage_status") explain_usage ;;
+        8) explain_read_fault ;;
+        9) explain_write_fault ;;
+    esac
+}
+
+# Says what is waited for if the configuration is expected from a terminal.
+announce_terminal() {
+    [ -t 0 ] && reads_configuration "$1" || return 0
+    echo "irv: ${1#* } reads its configuration from standard input, which is this terminal:" \
+        "add < FILE, or type it and press Ctrl-D" >&2
+}

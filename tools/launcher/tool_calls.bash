@@ -1,0 +1,87 @@
+# Calls the tools of tools/, which are handed the program that was proved, and the tests.
+# shellcheck disable=SC2034,SC2154     # the parts of the launcher share their variables
+
+# Ends if a tool does not exist.
+need_tool() {
+    [ -x "$top/$1" ] || no_answer "$1, which $2 calls, does not exist"
+}
+
+# Ends if a certificate would be written over what is read or printed.
+guard_certificate() {
+    [ -f "$certificate" ] || return 0
+    [ ! "$certificate" -ef /dev/stdin ] \
+        || no_answer "--cert names the file that standard input is: name another file"
+    [ ! "$certificate" -ef /dev/stdout ] \
+        || no_answer "--cert names the file that standard output is: name another file"
+}
+
+# Ends if a tool would write its page over the configuration.
+guard_output() {
+    local value
+    get "launcher $1" output
+    [ -z "$value" ] || [ ! -f "${2-}" ] || [ ! "$2" -ef /dev/stdin ] \
+        || no_answer "$1 names the file that standard input is: name another file"
+}
+
+# Ends if the arguments name a program: the launcher hands on none but the one that was proved.
+guard_program() {
+    local word
+    for word in "${@:2}"; do
+        [[ $word != --prog* ]] \
+            || no_answer "$1 takes no $word: it calls the program that ./irv --build proves"
+    done
+}
+
+# Returns whether a tool needs the program for these arguments. An option may be shortened.
+needs_program() {
+    local value word option
+    get "launcher $1" needs-program
+    [ -n "$value" ] || return 0
+    for word in "${@:2}"; do
+        word=${word%%=*}
+        for option in $value; do
+            [[ ${#word} -lt 3 || $option != "$word"* ]] || return 0
+        done
+    done
+    return 1
+}
+
+# Calls the tool of an option of the launcher with the arguments that follow it.
+call_tool() {
+    local value tool called=$program
+    get "launcher $1" tool
+    tool=tools/$value
+    need python3
+    need_tool "$tool" "$1"
+    guard_program "$@"
+    read_arguments verify "${@:2}"
+    guard_certificate
+    guard_output "$@"
+    if needs_program "$@"; then
+        ensure_built
+    else
+        know_sums
+        # a program that is not known to be proved is never within a tool's reach
+        is_built_of_sources "$program" "$program_sum" || called=$program.unbuilt
+    fi
+    announce_terminal "launcher $1"
+    exec "$top/$tool" --program "$called" "${@:2}"
+}
+
+# Runs the tests over the program if it is built of these sources, otherwise over the unproved
+# build.
+run_tests() {
+    local status
+    need python3
+    need_tool tests/run --test
+    guard_program --test "$@"
+    know_sums
+    ! is_built_of_sources "$program" "$program_sum" \
+        || exec "$top/tests/run" --program "$program" "$@"
+    echo "irv: the program is not built of these sources: the tests run over the unproved build" >&2
+    ensure_unproved
+    run_alone "$top/tests/run" --program "$unproved" "$@"
+    status=$?
+    echo "irv: nothing is proved by this: the tests ran over the unproved build" >&2
+    exit "$status"
+}
