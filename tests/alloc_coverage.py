@@ -1,14 +1,9 @@
-"""Sees that each public call that can answer want of memory is called.
+"""Finds public calls that may run out of memory and that nothing calls.
 
-    tests/called                 over the crates as they stand
-    tests/called --self-check    sees that it finds a call that nothing calls
-
-No clause refuses a body that always answers want of memory: memory is never promised. Such a body is
-found where the program or a test makes the call with memory enough, and only there. So each public
-function of the crates whose result can be want of memory is called somewhere outside its own body: by
-the program, on the way from `run`, or by a test. A function is called by its name; a method by its
-type's name before it, or after a dot in a file that names its type. The last line is
-`N passed, M failed`.
+No clause refuses a body that always answers out of memory, because memory is never promised. Such a body is found
+only if the program or a test calls it with ample memory. So each public function of the crates whose result may be
+out of memory has to be called outside its own body: by the program, on the way from `run`, or by a test. A function
+is called by its name; a method by its type's name before it, or after a dot in a file that names its type.
 """
 
 import re

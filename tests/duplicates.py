@@ -37,11 +37,11 @@ def listed(text):
 
 
 def faults_of(found, allowed):
-    """What is wrong where so much was found and so much may stay."""
-    faults = [f"stands twice: {finding}" for finding in found if finding not in allowed]
-    faults += [f"the list has what stands twice no more (tests/twice --write): {finding}"
+    """Returns what is wrong with what was found, compared with what may stay."""
+    faults = [f"duplicate: {finding}" for finding in found if finding not in allowed]
+    faults += [f"the list has what is no longer a duplicate (tests/update_lists): {finding}"
                for finding in allowed if finding not in found]
-    return faults + [f"{reason!r} is no reason: {finding}" for finding, reason in allowed.items()
+    return faults + [f"{reason!r} is not a reason: {finding}" for finding, reason in allowed.items()
                      if reason not in REASONS]
 
 
@@ -174,9 +174,9 @@ def self_check():
     text = "# remarks\n" + "".join(f"debt {finding}\n" for finding in WANTED)
     assert faults_of(found, listed(text)) == []
     less = listed(text.replace(f"debt {WANTED[0]}\n", ""))
-    assert faults_of(found, less) == [f"stands twice: {WANTED[0]}"]
+    assert faults_of(found, less) == [f"duplicate: {WANTED[0]}"]
     gone = faults_of(WANTED[1:], listed(text))
-    assert len(gone) == 1 and gone[0].endswith(WANTED[0]) and "no more" in gone[0], gone
+    assert len(gone) == 1 and gone[0].endswith(WANTED[0]) and "no longer" in gone[0], gone
     assert still(text, WANTED[1:]) == text.replace(f"debt {WANTED[0]}\n", "")
     assert still(text, WANTED + ["python a:b c:d"]) == text
     assert len(faults_of(found, listed(text.replace("debt body", "so body")))) == 1

@@ -1,16 +1,15 @@
-"""Tries commands together: what one prints, another reads.
+"""Tests commands together: one reads what another prints.
 
-    tests/together PROGRAM [N]    over N networks made by chance, by default 60; each run makes the same
-
-- `make` prints for 1 to 16 stations what lib/conf.py writes by itself, and `check` finds it clean.
+- `make` prints for 1 to 16 stations what `irvtools/generators/configurations.py` writes by itself, and `check` finds
+  it clean.
 - `demo` prints the same line and writes the same certificate at each run, and `audit` accepts it.
-- `table` prints the routes that lib/tablegen.py finds by itself, or is refused as that says, for each
-  plant of examples/ and each network made by chance; `check` finds what it prints clean, but for C7 where
-  the columns were free; and `table` of what it printed prints it once more.
-- `drive` prints what lib/driver.py finds by itself, over those plants and their tables, for scenarios
-  made by chance; and `replay` of the run that is printed shows the hazard that it tells, or none.
+- `table` prints the routes that `irvtools/generators/route_tables.py` finds by itself, or is refused as that says,
+  for each plant of `examples/` and each random network; `check` finds what it prints clean, except for C7 if the
+  columns were free; and `table` of what it printed prints it once more.
+- `drive` prints what `support/drive_model.py` finds by itself, over those plants and their tables, for random
+  scenarios; and `replay` of the run that is printed shows the hazard that it names, or none.
 
-It prints each failure, and at last `N passed, M failed`.
+Each run makes the same 60 networks; with --long it makes 10,000.
 """
 
 import collections

@@ -32,12 +32,23 @@ HAND_WRITTEN = [
 ]
 
 
+LAUNCHER = """#!/bin/sh
+case ${{1-}} in
+    --?*) tool=$(printf %s "${{1#--}}" | tr - _); [ ! -x "{here}/tools/$tool" ] || {{
+        shift; exec "{here}/tools/$tool" --program {program} "$@"; }} ;;
+esac
+exec {program} "$@"
+"""
+
+
 def lay_out(folder, program):
-    """Lays out the folder in which the sessions of a document are run."""
+    """Lays out the directory in which the transcripts of a document run: there `./irv` calls the program, and the
+    tools that the launcher's options name."""
     for part in PARTS:
         shutil.copytree(TOP / part, folder / part, ignore=shutil.ignore_patterns("__pycache__"))
+    shutil.copy(TOP / "VERSION", folder / "VERSION")
     launcher = folder / "irv"
-    launcher.write_text(f'#!/bin/sh\nexec {shlex.quote(str(program))} "$@"\n')
+    launcher.write_text(LAUNCHER.format(here=folder, program=shlex.quote(str(program))))
     launcher.chmod(0o755)
 
 

@@ -118,6 +118,6 @@ def check(cases):
         text = path.read_text(encoding="ascii")
         if not (text.startswith("run 1\n") and text.endswith("\nend\n")):
             raise CaseError(f"{path}: no run's text")
-    told = handmade_certificates.check_trials()
+    told = handmade_certificates.check_all()
     return (f"{len(cases)} cases, {len(plants)} plants and {len(runs)} runs are well formed; "
             f"{told} certificates are told apart"), len(cases) + len(plants) + len(runs) + told

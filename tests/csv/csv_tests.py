@@ -196,12 +196,12 @@ def check_browser(program, _):
 
 
 def check_session(program, _):
-    """What docs/SHEETS.md shows is what is printed."""
+    """What docs/guides/csv.md shows is what is printed."""
     with tempfile.TemporaryDirectory(prefix="irv-sheet-") as room:
         irv = Path(room, "irv")
         irv.write_text(IRV.format(top=TOP, program=program), encoding="utf-8")
         irv.chmod(0o755)
-        passed, faults, left_out = transcripts.run((TOP / "docs/SHEETS.md").read_text(encoding="utf-8"), room)
+        passed, faults, left_out = transcripts.run((TOP / "docs/guides/csv.md").read_text(encoding="utf-8"), room)
     yield from faults + left_out
     if not passed:
         yield "there is no session"

@@ -99,8 +99,8 @@ def said_of(text, formula):
         return str(fault)
 
 
-def check_trials():
-    """Tries each, and the counting of assignments; answers how many there are."""
+def check_all():
+    """Checks each, and the counting of assignments; returns how many there are."""
     for formula, lines, wanted in TRIALS:
         said = said_of(f"irv certificate 3|{lines}|end|".replace("|", "\n").encode(), formula)
         if (wanted not in said) if wanted else said:
