@@ -90,8 +90,8 @@ def finds_each_fault_of_a_page(_):
              ("`strict`, `free` |", "`strict` |"), ("verify, demo |", "verify |"),
              ("| 5 | Refused", "| 5 | Denied"))
     return (all(command_table.page_faults(page.replace(old, new, 1)) for old, new in edits)
-            and command_table.page_faults(page + "\n| `--try` | text |")
-            == ["a row is about --try, which is not in the table"])
+            and command_table.page_faults(page + "\n| `--nosuch` | text |")
+            == ["a row is about --nosuch, which is not in the table"])
 
 
 def is_the_table_of_the_commands_page(_):

@@ -64,6 +64,13 @@ def takes_no_other_program(top):
     return True
 
 
+def passes_similar_options_on(top):
+    """An option that only begins like `--program` is passed on."""
+    call(top, "--build")
+    calls = [call(top, "--html", "p.html", *words)[3] for words in (["--progress"], ["--p-x=y"])]
+    return [line[0].split(" p.html ")[1] for line in calls] == ["--progress", "--p-x=y"]
+
+
 def tests_the_proved_program(top):
     """`--test` runs the tests over the program if it is built of these sources, and builds
     nothing."""
@@ -154,5 +161,5 @@ def lists_the_options_of_each_tool(_):
 
 ToolOptionTests = copy_tests("ToolOptionTests", (
     lists_the_options_of_each_tool, calls_each_tool, names_a_missing_tool,
-    builds_for_csv_if_asked, takes_no_other_program, tests_the_proved_program,
-    tests_the_unproved_build, tests_nothing_without_a_build))
+    builds_for_csv_if_asked, takes_no_other_program, passes_similar_options_on,
+    tests_the_proved_program, tests_the_unproved_build, tests_nothing_without_a_build))

@@ -23,24 +23,29 @@ guard_output() {
         || no_answer "$1 names the file that standard input is: name another file"
 }
 
+# Returns whether an argument is an option, in full or shortened, with or without a value.
+is_short_for() {
+    local word=${1%%=*}
+    [[ ${#word} -ge 3 && $2 == "$word"* ]]
+}
+
 # Ends if the arguments name a program: the launcher hands on none but the one that was proved.
 guard_program() {
     local word
     for word in "${@:2}"; do
-        [[ $word != --prog* ]] \
+        ! is_short_for "$word" --program \
             || no_answer "$1 takes no $word: it calls the program that ./irv --build proves"
     done
 }
 
-# Returns whether a tool needs the program for these arguments. An option may be shortened.
+# Returns whether a tool needs the program for these arguments.
 needs_program() {
     local value word option
     get "launcher $1" needs-program
     [ -n "$value" ] || return 0
     for word in "${@:2}"; do
-        word=${word%%=*}
         for option in $value; do
-            [[ ${#word} -lt 3 || $option != "$word"* ]] || return 0
+            ! is_short_for "$word" "$option" || return 0
         done
     done
     return 1
