@@ -47,7 +47,7 @@ table.routes td:last-child{min-width:15ch}
 @media (min-width:701px){table.calls td:first-child,table.sums td:last-child{min-width:36ch}}
 @media (max-width:1100px){.f3{grid-template-columns:repeat(2,minmax(0,1fr))}}
 @media (max-width:700px){body{padding:0 12px;margin:12px auto}.f2,.f3{grid-template-columns:minmax(0,1fr)}
-  .box svg.plan{max-width:none}h1{font-size:20px}h2{font-size:17px}
+  .box svg.plan{max-width:none}.last .box svg.plan{max-width:100%}h1{font-size:20px}h2{font-size:17px}
   table{display:block;overflow-x:auto;max-width:100%}}
 @page{size:A4;margin:11mm}@page wide{size:A4 landscape}
 @media print{body{margin:0;padding:0;max-width:none;font-size:9.5pt;line-height:1.3}

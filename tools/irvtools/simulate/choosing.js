@@ -1,27 +1,28 @@
-// What is chosen on the plan: what is marked for it, and what can be asked of it.
+// What is selected on the plan: what is marked for it, and which events it can be asked for.
 
-const EVENT_BUTTONS = { mark: "Set (mark)", allocate: "Allocate", lock: "Lock", sense: "Sense", release: "Release",
-  finish: "Finish", cancel: "Cancel", throw: "Throw", settle: "Settle", enter: "Let a train in" };
+const EVENT_BUTTONS = { mark: "Request (mark)", allocate: "Allocate", lock: "Lock", sense: "Sense", release: "Release",
+  finish: "Finish", cancel: "Cancel", throw: "Throw", settle: "Settle", enter: "Train enters" };
 
 function noMarks() {
-  return { path: [], beside: [], sections: [], goals: [], boards: new Set(), targets: new Set(), hazard: null };
+  return { path: [], overlap: [], protecting: [], sections: [], goals: [], boards: new Set(), targets: new Set(), hazard: null };
 }
 
 // the sections of a route, each with the leg by which it leads there
 function legsOf(plant, r) {
   const legs = new Map(plant.routes[r].wanted);
   const withLeg = (x) => [x, plant.sections[x].point ? legs.get(x) ?? "plus" : null];
-  return { path: plant.routes[r].path.map(withLeg), beside: plant.routes[r].beside.map(withLeg) };
+  const { path, overlap, protecting_points: protecting } = plant.routes[r];
+  return { path: path.map(withLeg), overlap: overlap.map(withLeg), protecting: protecting.map(([x]) => withLeg(x)) };
 }
 
-// the routes from the chosen board that end at a board, or lead out over a section
+// the routes from the selected board that end at a board, or lead out over a section
 function routesTo(plant, chosen, kind, number) {
   if (chosen?.kind !== "board") return [];
   return plant.routesFrom[chosen.number].filter((r) => (kind === "board" ? plant.routes[r].destination === number
     : plant.routes[r].path.at(-1) === number));
 }
 
-// what is marked: what is chosen, or else what the last event was about
+// what is marked: what is selected, otherwise what the last event was about
 function marksOf(game) {
   const { plant, state, chosen } = game;
   const marks = noMarks();
@@ -29,9 +30,12 @@ function marksOf(game) {
   const [kind, number] = chosen ? [chosen.kind, chosen.number] : subjectOf(game);
   const routes = kind === "route" ? [number] : kind === "board" && chosen ? plant.routesFrom[number] : [];
   for (const r of routes) {
-    const { path, beside } = legsOf(plant, r);
+    const { path, overlap, protecting } = legsOf(plant, r);
     marks.path.push(...path);
-    if (kind === "route") marks.beside.push(...beside);
+    if (kind === "route") {
+      marks.overlap.push(...overlap);
+      marks.protecting.push(...protecting);
+    }
     const { destination } = plant.routes[r];
     if (kind === "board" && destination !== null) marks.targets.add(destination);
     if (kind === "board" && destination === null) marks.goals.push(path.at(-1));
@@ -51,10 +55,10 @@ function subjectOf({ play }) {
   return !event ? [null, 0] : [isOfRoute(event.word) ? "route" : "section", event.number];
 }
 
-// what is said of the chosen thing, and what can be asked of it
+// what is said about the selected thing, and its buttons
 function chosenParts(game) {
   const { plant, state, chosen } = game;
-  if (!chosen) return [element("p", { class: "small" }, "Nothing is chosen.")];
+  if (!chosen) return [element("p", { class: "small" }, "Nothing is selected.")];
   const { kind, number } = chosen;
   if (kind === "board") return boardParts(game, number, plant.routesFrom[number]);
   if (kind === "pair") return boardParts(game, number, chosen.routes);
@@ -79,20 +83,21 @@ function boardParts(game, b, routes) {
       ` ${routeWords(plant, r)}, over ${way}; ${modeWords(plant, state, r)}`);
   });
   return [element("h3", {}, boardWords(plant, state, b)),
-    rows.length ? element("p", {}, "Its routes; a click on the board or the end to which one leads sets it:")
+    rows.length ? element("p", {}, "Its routes. A click on the exit board or on the last section of a route requests it:")
       : element("p", {}, "No route begins at this board."), element("ul", {}, ...rows)];
 }
 
 function routeParts(game, r) {
   const { plant, state } = game;
-  const { path, overlap, wanted, conflicts, protecting_boards: kept } = plant.routes[r];
+  const { path, overlap, points, conflicts, protecting_points: protecting, protecting_boards: kept } = plant.routes[r];
   const facts = [["Path", path.map((x) => plant.name(x))], ["Overlap", overlap.map((x) => plant.name(x))],
-    ["Points", wanted.map(([x, position]) => `${plant.name(x)} ${position}`)],
+    ["Points", points.map(([x, position]) => `${plant.name(x)} ${position}`)],
+    ["Protecting points", protecting.map(([x, position]) => `${plant.name(x)} ${position}`)],
     ["Protecting boards", kept.map((b) => plant.boards[b].name)],
     ["Conflicts", conflicts.map((c) => plant.routes[c].name)]];
   const waits = waitsFor(plant, state, r);
   return [element("h3", {}, `Route ${routeWords(plant, r)}, ${modeWords(plant, state, r)}`),
-    element("p", { class: "waits" }, waits.length ? `It waits: ${waits.join("; ")}.` : ""),
+    element("p", { class: "waits" }, waits.length ? `${stays(state, r) ? STAYS : ""}It waits: ${waits.join("; ")}.` : ""),
     element("div", { class: "bar" }, ...ROUTE_EVENTS.map((word) => eventButton(game, word, r))),
     element("p", { class: "small" }, facts.filter(([, words]) => words.length)
       .map(([head, words]) => `${head}: ${words.join(", ")}.`).join(" "))];
@@ -111,5 +116,5 @@ function sectionParts(game, x) {
 function trainParts({ plant, state }, train) {
   const why = refusal(plant, state, { word: "head", number: train.body.at(-1) });
   return [element("h3", {}, trainWords(plant, state, train)),
-    element("p", {}, why ?? "Its head can go on.")];
+    element("p", {}, why ?? "Its front can move on.")];
 }

@@ -1,4 +1,4 @@
-"""The command line of `irv --simulate`: writes the interactive simulator, and checks saved runs."""
+"""The command line of `irv --simulate`: writes the interactive simulator, and compares saved runs."""
 
 import sys
 from pathlib import Path
@@ -28,11 +28,11 @@ def parser():
 def write(out, program):
     """Writes the simulator; returns the exit status."""
     if is_same(str(out), "/proc/self/fd/0"):
-        print(f"irv --simulate: {out} is standard input's own file and would be overwritten",
+        print(f"irv --simulate: {out} is the file of standard input and would be overwritten",
               file=sys.stderr)
         return NOT_WRITTEN
-    page = SimulatorPage(SimpleNamespace(name=name_of_input(), program=program),
-                         sys.stdin.buffer.read())
+    options = SimpleNamespace(name=name_of_input(), program=program, program_file=Path(program))
+    page = SimulatorPage(options, sys.stdin.buffer.read())
     try:
         out.write_text(page.make(), encoding="utf-8", errors="replace")
     except OSError as fault:

@@ -1,7 +1,7 @@
-"""What was played, asked of `irv`: a file that the page saved, or a run text or a scenario.
+"""Asks `irv` about what was simulated: a file that the simulator saved, or a run text or a scenario.
 
-A file that the page saved says what the page answered of the run, and which events it refused on the
-way. Of other files the page's model says it here, by a script engine, where there is one.
+A file that the simulator saved has what it said about the run, and which events it refused. For other files
+the simulator's model says it here, by a script engine if there is one.
 """
 
 import hashlib
@@ -25,14 +25,14 @@ class Refused(Exception):
 
 
 class Asked:
-    """The program over a configuration, under the columns under which it is a plant."""
+    """The program over a configuration, with the columns with which it is a plant."""
 
-    def __init__(self, program, given):
-        self.irv, self.given = Program(program, given), given
+    def __init__(self, program, given, file):
+        self.irv, self.given, self.file = Program(program, given), given, file
         clean = [columns for columns in ("strict", "free")
                  if self.irv.ask(["check", "--columns", columns], ASK_SECONDS).status == 0]
         if not clean:
-            raise Refused("the configuration isn't a plant: irv check --columns free says why")
+            raise Refused("the configuration is not a plant; irv check --columns free says why")
         self.columns = clean[0]
 
     def replay(self, text):
@@ -45,7 +45,7 @@ class Asked:
         return answer.said, answer.output.partition("\n")[2]
 
     def own(self, expression):
-        """What the page's model says, by an engine; None where there is none."""
+        """What the simulator's model says, by an engine; None if there is none."""
         file = script_engine.find()
         value, unread = schema_rules.read(self.given)
         if file is None or unread is not None:
@@ -54,26 +54,26 @@ class Asked:
 
 
 def compared(what, said, own):
-    """Prints an answer with what the page says; answers whether they agree."""
+    """Prints an answer with what the simulator says; returns whether they agree."""
     if own is None:
-        print(f"{what}: {said}; the page isn't asked, since there is no script engine here ("
+        print(f"{what}: {said}; the simulator is not compared, because no script engine is installed ("
               f"{', '.join(script_engine.NAMES)})")
         return True
-    print(f"{what}: {said}; the page says {'the same' if own == said else own}")
+    print(f"{what}: {said}; the simulator says {'the same' if own == said else own}")
     return own == said
 
 
 def check_played(asked, found):
-    """A file that the page saved."""
+    """A file that the simulator saved."""
     sum_, _, says, refused, run = found.groups()
     if sum_ != hashlib.sha256(asked.given).hexdigest():
-        raise Refused("it was played on another configuration: its sha256 is another one")
+        raise Refused(f"{asked.file} belongs to another configuration, with another SHA-256")
     agree = [compared("irv replay", asked.replay(run), says)]
     head, events = split_run(run)
     for line in refused.splitlines():
         _, place, event = line.split(" ", 2)
         if int(place) > len(events):
-            raise Refused(f"the line “{line}” names a place that the run doesn't have")
+            raise Refused(f"the line “{line}” names a place that the run does not have")
         text = "".join(f"{one}\n" for one in [*head, *events[:int(place)], event, "end"])
         agree.append(compared(f"irv replay, with {event} as event {int(place) + 1}", asked.replay(text),
                               f"not a run at {int(place) + 1}"))
@@ -81,7 +81,7 @@ def check_played(asked, found):
 
 
 def split_run(text):
-    """The lines of a run before its events, and its events."""
+    """Returns the lines of a run before its events, and its events."""
     lines = text.splitlines()[:-1]
     at = lines.index("events") + 1 if lines[1:2] == ["state"] and "events" in lines else 2
     return lines[:at], lines[at:]
@@ -99,30 +99,30 @@ def check_scene(asked, text, file):
     own = asked.own(f"answerToScene(plant, {script_engine.as_text(text)})")
     agree = compared("irv drive", said, own and own.partition("\n")[0])
     if own is not None and agree and own.partition("\n")[2] != run:
-        print("irv drive prints another run than the page's")
+        print("irv drive prints a different run than the simulator")
         return False
     return agree
 
 
 def check(file, program, given):
-    """Asks `irv` about a file; answers the exit status."""
+    """Asks `irv` about a file; returns the exit status."""
     try:
         text = Path(file).read_bytes().decode("ascii")
-        asked = Asked(program, given)
+        asked = Asked(program, given, file)
         found = PLAYED.fullmatch(text)
         if found:
             agree = check_played(asked, found)
         elif text.startswith("played "):
-            raise Refused("it isn't as the page saves it")
+            raise Refused(f"{file} is not as the simulator saves it")
         elif text.startswith("drive "):
             agree = check_scene(asked, text, file)
         else:
             agree = check_run(asked, text)
     except UnicodeDecodeError:
-        print(f"tools/simulate: {file} is neither a run text nor a scenario: it has bytes that no name has",
+        print(f"irv --simulate: {file} is neither a run text nor a scenario: it has bytes that no name has",
               file=sys.stderr)
         return NO_ANSWER
     except (OSError, Refused) as fault:
-        print(f"tools/simulate: {fault}", file=sys.stderr)
+        print(f"irv --simulate: {fault}", file=sys.stderr)
         return NO_ANSWER
     return AGREE if agree else DIFFER

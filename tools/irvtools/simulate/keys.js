@@ -1,4 +1,4 @@
-// What keys do; docs/PLAY.md lists them.
+// What keys do; docs/guides/simulator.md lists them.
 
 const ARROWS = { ArrowLeft: [-1, 0], ArrowRight: [1, 0], ArrowUp: [0, -1], ArrowDown: [0, 1] };
 

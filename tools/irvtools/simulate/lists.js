@@ -15,7 +15,7 @@ class Routes {
     const { name } = this.plant.routes[r];
     const words = routeWords(this.plant, r);
     const choose = button(words, () => game.choose("route", r), `Show route ${words}`);
-    const set = button("Set", () => game.ask({ word: "mark", number: r }), `Set ${name}`);
+    const set = button("Request", () => game.ask({ word: "mark", number: r }), `Request ${name}`);
     const cancel = button("Cancel", () => game.ask({ word: "cancel", number: r }), `Cancel ${name}`);
     const [mode, waits] = [element("span", { class: "mode" }), element("span", { class: "waits" })];
     const node = element("li", {}, element("div", { class: "row" }, choose, set, cancel, mode), waits);
@@ -52,7 +52,7 @@ class Routes {
       setText(mode, modeWords(this.plant, state, r));
       setShown(set, !isPending);
       setShown(cancel, isPending);
-      setText(waits, what.length ? `waits: ${what.join("; ")}` : "");
+      setText(waits, what.length ? `${isPending ? "stays until it locks; " : ""}waits: ${what.join("; ")}` : "");
     });
   }
 }
@@ -65,12 +65,12 @@ function showTrains(game, list) {
     return element("li", { "data-train": train.number },
       element("div", {}, trainWords(plant, state, train)),
       element("div", { class: "row" },
-        button("Head on", () => game.ask({ word: "head", number: last }), `The head of ${of} goes on`),
-        button("Tail", () => game.ask({ word: "tail", number: first }), `The tail of ${of} follows`),
-        button("Leave", () => game.ask({ word: "leave", number: last }), `Let ${of} leave the network`),
+        button("Front on", () => game.ask({ word: "head", number: last }), `The front of ${of} moves on`),
+        button("Rear", () => game.ask({ word: "tail", number: first }), `The rear of ${of} follows`),
+        button("Leave", () => game.ask({ word: "leave", number: last }), `Let ${of} leave the area`),
         button("Run on", () => game.run(train.number), `Let ${of} run as far as its boards allow`)));
   });
-  keepFocus(list, () => list.replaceChildren(...rows.length ? rows : [element("li", {}, "There is no train.")]));
+  keepFocus(list, () => list.replaceChildren(...rows.length ? rows : [element("li", {}, "No trains.")]));
 }
 
 // writes a list anew; a button that had the focus has it again

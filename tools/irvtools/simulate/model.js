@@ -1,22 +1,22 @@
-// The page's own model: the thirteen events, hazards, and what a plant does by itself. No answer of `irv`
-// stands on it; tests/play compares it with `irv replay` and `irv drive`.
+// The simulator's own model: the thirteen events, hazards, and the automatic events. No answer of `irv`
+// depends on it; tests/simulate compares it with `irv replay` and `irv drive`.
 //
 // An event is { word, number }: of a route, or of a section.
 
 const RULES = { ...ROUTE_RULES, ...POINT_RULES, ...TRAIN_RULES };
 
-// what `irv drive` has a plant do by itself, in this order, each by ascending number
+// the automatic events of `irv drive`, in this order, each by ascending number
 const AUTOMATIC = ["allocate", "lock", "sense", "release", "finish", "throw", "settle", "head", "tail", "leave"];
 const COMMANDS = ["mark", "enter", "cancel"];
 
 const CANNOT = {
-  mark: (name) => `${name} can't be set`, allocate: (name) => `${name} can't be allocated`,
-  lock: (name) => `${name} can't be locked`, sense: (name) => `${name} can't sense a train`,
-  release: (name) => `${name} can't give back a section`, finish: (name) => `${name} can't be finished`,
-  cancel: (name) => `${name} can't be cancelled`, throw: (name) => `${name} can't be thrown`,
-  settle: (name) => `${name} can't settle`, enter: (name) => `No train can enter at ${name}`,
-  head: (name) => `No train can go on from ${name}`, tail: (name) => `No tail can leave ${name}`,
-  leave: (name) => `No train can leave the network at ${name}`,
+  mark: (name) => `${name} cannot be requested`, allocate: (name) => `${name} cannot be allocated`,
+  lock: (name) => `${name} cannot be locked`, sense: (name) => `${name} cannot detect a train`,
+  release: (name) => `${name} cannot release a section`, finish: (name) => `${name} cannot be finished`,
+  cancel: (name) => `${name} cannot be cancelled`, throw: (name) => `Points ${name} cannot be thrown`,
+  settle: (name) => `Points ${name} cannot settle`, enter: (name) => `No train can enter at ${name}`,
+  head: (name) => `No train can move on from ${name}`, tail: (name) => `No rear of a train can leave ${name}`,
+  leave: (name) => `No train can leave the area at ${name}`,
 };
 
 function isOfRoute(word) { return ROUTE_EVENTS.includes(word); }
@@ -25,17 +25,17 @@ function thingsOf(plant, word) { return isOfRoute(word) ? plant.routes : plant.s
 
 function eventLine(plant, { word, number }) { return `${word} ${thingsOf(plant, word)[number].name}`; }
 
-// what an event asks and isn't so, in a state without a hazard
+// the unmet demands of an event, in a state without a hazard
 function obstacles(plant, state, { word, number }) { return [...RULES[word].asks(plant, state, number)]; }
 
 // whether an event is enabled in a state without a hazard
 function isEnabled(plant, state, word, number) { return RULES[word].asks(plant, state, number).next().done; }
 
-// why an event isn't possible, as a sentence; null where it is
+// why an event isn't enabled, as a sentence; null if it is
 function refusal(plant, state, event) {
   const cannot = CANNOT[event.word](thingsOf(plant, event.word)[event.number].name);
   const stands = hazard(plant, state);
-  if (stands) return `${cannot}: a hazard stands (${hazardLine(plant, stands)}), and ends the run.`;
+  if (stands) return `${cannot}: the run has ended in a hazard (${hazardLine(plant, stands)}).`;
   const asked = obstacles(plant, state, event);
   return asked.length ? `${cannot}: ${asked.join("; ")}.` : null;
 }
@@ -43,7 +43,7 @@ function refusal(plant, state, event) {
 // does an enabled event in place
 function apply(plant, state, { word, number }) { RULES[word].does(plant, state, number); }
 
-// whether a body has, next to a point on it, the leg at which the point doesn't lie
+// whether a train is, next to points under it, on the leg that isn't set
 function strays(plant, state, x, body) {
   const wrong = plant.sections[x].ends[OTHER_LEG[state.at[x]]];
   const place = body.indexOf(x);
@@ -55,7 +55,7 @@ function isWrong(plant, state, x) {
     || state.in(x).some((train) => strays(plant, state, x, train.body)));
 }
 
-// the hazard of the least section, Two before Wrong: { kind, section }; null where there is none
+// the hazard of the least section, Two before Wrong: { kind, section }; null if there is none
 function hazard(plant, state) {
   for (let x = 0; x < state.on.length; x += 1) {
     if (state.on[x] > 1) return { kind: "two", section: x };
@@ -80,7 +80,7 @@ function firstAutomatic(plant, state, kinds) {
   return null;
 }
 
-// The drive of a scenario: its events, and the line by which `irv drive` tells how it rests.
+// The simulation run of a scenario: its events, and the line by which `irv drive` says how it ends.
 function drive(plant, commands) {
   const [state, events] = [new State(plant), []];
   let given = 0;

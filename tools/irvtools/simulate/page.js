@@ -1,4 +1,4 @@
-// The page: what is played, and what is shown of it.
+// The page: the run, and what is shown of it.
 
 const MOST_EVENTS = 20000;      // of a run to which events are added; its text may have a megabyte
 const BY_ITSELF = { all: AUTOMATIC, plant: AUTOMATIC.filter((word) => !["head", "leave"].includes(word)), none: [] };
@@ -12,6 +12,8 @@ class Game {
     this.mode = "all";
     this.chosen = null;
     this.timer = null;
+    this.keepsAddress = false;
+    this.isUnkept = false;      // whether the address can't keep the run
     this.plan = new Plan(this.plant, given.plan, (kind, number) => this.click(kind, number));
     this.routes = new Routes(this.plant, byId("routes"), byId("found"), this);
   }
@@ -20,14 +22,14 @@ class Game {
 
   // -- what is asked
 
-  // Asks for an event: what isn't possible is refused with its reason, and changes nothing. After one that
-  // is, the plant does by itself what the choice says.
+  // Asks for an event: one that isn't enabled is refused with its reason, and changes nothing. After one that
+  // is, the automatic events that were selected follow.
   ask(event) {
     this.stopShowing();
     const why = refusal(this.plant, this.state, event) ?? this.tooLong();
     if (why) {
       if (!this.tooLong()) this.play.refuse(event);
-      // where a hazard stands that stays told
+      // a hazard stays on the screen
       if (hazard(this.plant, this.state)) this.say(why);
       else this.alert(why);
       this.show();
@@ -42,21 +44,25 @@ class Game {
 
   tooLong() {
     return this.play.place < MOST_EVENTS ? null
-      : `A run that is played has at most ${MOST_EVENTS} events: go back, or load it anew from a state.`;
+      : `A run of the simulator has at most ${MOST_EVENTS} events. Go back, or load it again from a state.`;
   }
 
-  // does what adds events, and says what came of it; the words are about the first of them
+  // Does what adds events, and says what followed; the words are about the first of them. A request that stays
+  // is announced, and one that is locked at last too.
   done(words, act) {
     const before = this.play.place;
+    const queued = this.plant.routes.map((_, r) => r).filter((r) => stays(this.state, r));
     act();
     const more = this.play.place - before - 1;
     this.alert("");
-    this.say(more > 0 ? `${words} Then ${more} more ${more === 1 ? "event" : "events"} came.` : words);
+    const then = more > 0 ? [`Then ${more} automatic ${more === 1 ? "event" : "events"} followed.`] : [];
+    const events = this.play.events.slice(before, this.play.place);
+    this.say([words, ...then, ...queueWords(this.plant, this.state, events, queued)].join(" "));
     if (byId("slowly").checked && more > 0) this.showSlowly(before + 1);
     else this.show();
   }
 
-  // the plant does by itself all that it can
+  // does the automatic events
   goOn() {
     while (!hazard(this.plant, this.state) && !this.tooLong()) {
       const event = firstAutomatic(this.plant, this.state, BY_ITSELF[this.mode]);
@@ -96,7 +102,7 @@ class Game {
       return this.ask(readEvent(this.plant, lines, Object.keys(RULES)));
     } catch (fault) {
       if (!(fault instanceof BadLine)) throw fault;
-      this.alert(fault.message.replace("Line 1 is bad", "That is no event"));
+      this.alert(fault.message.replace("Line 1 is bad", "This is not an event"));
       return false;
     }
   }
@@ -109,7 +115,7 @@ class Game {
     this.alert("");
     const { events } = this.play;
     this.say(this.play.place ? `After event ${this.play.place} of ${events.length}: `
-      + `${eventLine(this.plant, events[this.play.place - 1])}.` : "At the beginning.");
+      + `${eventLine(this.plant, events[this.play.place - 1])}.` : "In the first state.");
     this.show();
   }
 
@@ -126,7 +132,7 @@ class Game {
     return events.length;
   }
 
-  // begins with other events; what was played can be brought back
+  // begins with other events; the run before can be brought back
   begin(first, events, words) {
     this.stopShowing();
     const before = this.play;
@@ -140,7 +146,7 @@ class Game {
 
   uncut() {
     const { cut } = this.play;
-    if (cut) this.begin(cut.first, cut.events, "What was cut off is back; what was played instead can come back.");
+    if (cut) this.begin(cut.first, cut.events, "The events that were cut off are back. The events that replaced them can be brought back.");
   }
 
   showSlowly(place) {
@@ -179,11 +185,11 @@ class Game {
 
   choosePair(routes) {
     this.chosen = { kind: "pair", number: this.chosen.number, routes };
-    this.say("Several routes lead there: choose one below the plan.");
+    this.say("Several routes lead there. Select one below the plan.");
     this.show();
   }
 
-  // a train that is clicked goes on by one section, or leaves
+  // a train that is clicked moves on by one section, or leaves
   step(number) {
     const { body } = this.state.trains.find((train) => train.number === number);
     const canLeave = !refusal(this.plant, this.state, { word: "leave", number: body.at(-1) });
@@ -210,14 +216,14 @@ class Game {
     setShown(byId("offer"), false);
   }
 
-  // says why a text isn't loaded; of one that is a run up to some event, that much can be
+  // says why a text isn't loaded; if it is a run up to some event, that part can be loaded
   refuseText(words, notARun) {
     this.alert(words);
     if (!notARun) return;
     const offer = byId("offer");
     const { first, before } = notARun;
     offer.onclick = () => this.begin(first, before, `Loaded: a run of ${before.length} events.`);
-    setText(offer, `Load what is before it (events: ${before.length})`);
+    setText(offer, `Load the events before it (${before.length})`);
     setShown(offer, true);
   }
 
@@ -225,7 +231,7 @@ class Game {
     const { play, plant, state } = this;
     const stands = hazard(plant, state);
     if (stands) {
-      setText(byId("alert"), `${hazardWords(plant, stands)} The play stops here: go back to try something else.`);
+      setText(byId("alert"), `${hazardWords(plant, stands)} The run ends here. Go back to try something else.`);
     }
     setAttribute(document.body, "class", stands ? "hazard" : "");
     this.plan.show(state, marksOf(this));
@@ -237,6 +243,7 @@ class Game {
     showTrains(this, byId("trains"));
     this.routes.show(state);
     showRun(this, byId("run"));
+    if (this.keepsAddress) this.isUnkept = !keepInAddress(this);
   }
 }
 

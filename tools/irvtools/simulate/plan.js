@@ -1,8 +1,8 @@
 // The track plan: made once, and then only what an event changes is written. A long plan is cut into
-// strips, one below the other, each a window on the whole; a part that lies in two strips is in both.
+// strips, one below the other, each a window on the whole; a part in two strips is made for both. The signs
+// are those of the report.
 
 const BETWEEN_STRIPS = 8;
-const LETTER = { free: "", locked: "L", used: "U" };
 const LOCK_CLASS = { free: "f", locked: "l", used: "u" };
 
 class Plan {
@@ -22,7 +22,7 @@ class Plan {
       at += strip[3] + BETWEEN_STRIPS;
     }
     this.node = drawn("svg", { class: "plan live", viewBox: `0 0 ${width} ${at}`, role: "group",
-      "aria-label": "Track plan. The arrow keys go from sign to sign." }, ...this.strips.map(({ node }) => node));
+      "aria-label": "Track plan. The arrow keys move from sign to sign." }, ...this.strips.map(({ node }) => node));
     this.width = width;
     this.node.addEventListener("click", ({ target }) => {
       const part = target.closest("[data-kind]");
@@ -65,40 +65,35 @@ class Plan {
       if (Math.min(...places) > strip.high || Math.max(...places) < strip.low) return;
       const lines = Object.fromEntries(Object.entries(legs).map(([leg, points]) =>
         [leg, drawn("path", { d: lineOf(points), class: "t f" })]));
-      const [atX, atY] = this.letterPlace(x);
+      const cores = Object.fromEntries(Object.entries(legs).map(([leg, points]) =>
+        [leg, drawn("path", { d: lineOf(points), class: "core none" })]));
+      const [atX, atY] = this.geometry.letters[x];
       const letter = drawn("text", { x: atX, y: atY, class: "letter", "aria-hidden": "true" });
       const hits = Object.values(legs).map((points) => drawn("path", { d: lineOf(points), class: "hit" }));
       const under = this.plant.sections[x].point
         ? ["plus", "minus"].map((leg) => drawn("path", { d: lineOf(legs[leg]), class: "w" })) : [];
       const node = this.part(strip, "section", x, this.geometry.middles[x], ...hits, ...under,
-        ...Object.values(lines), letter);
+        ...Object.values(lines), ...Object.values(cores), letter);
       const dot = this.plant.sections[x].point
         ? drawn("circle", { cx: legs.stem[1][0], cy: legs.stem[1][1], r: 4, class: "g" }) : null;
       if (dot) node.append(dot);
       strip.lines.append(node);
       strip.sections.add(x);
-      this.sections[x].push({ node, lines, letter, dot });
+      this.sections[x].push({ node, lines, cores, letter, dot });
     });
-  }
-
-  letterPlace(x) {
-    const [middle, y] = this.geometry.middles[x];
-    if (!this.plant.sections[x].point) return [middle, y - 8];
-    const [frog] = this.geometry.legs[x].stem[1];
-    return [frog + (this.plant.sections[x].faces === "up" ? -11 : 11), y + 16];
   }
 
   addSigns(strip) {
     const isIn = ([x]) => x >= strip.low && x <= strip.high;
     this.geometry.signs.forEach((place, b) => {
       if (!isIn(place)) return;
-      const way = this.plant.boards[b].direction === "up" ? 1 : -1;
+      const { bar, way } = this.geometry.shapes[this.plant.boards[b].direction];
       const node = this.part(strip, "board", b, place,
         drawn("circle", { r: 14, class: "hit" }), drawn("circle", { r: 10.5, class: "target" }),
         drawn("rect", { x: -6, y: -6, width: 12, height: 12, class: "shut" }),
-        drawn("path", { d: `M${4 * way} -4.5V4.5M${-3 * way} 0H${3 * way}`, class: "bar" }),
-        drawn("circle", { r: 7.5, class: "open" }),
-        drawn("path", { d: `M${-3.5 * way} -4L${4.5 * way} 0L${-3.5 * way} 4z`, class: "way" }));
+        drawn("path", { d: bar, class: "bar" }),
+        drawn("circle", { r: 7.5, class: "clear" }),
+        drawn("path", { d: way, class: "way" }));
       node.setAttribute("transform", `translate(${place.join(" ")})`);
       strip.signs.append(node);
       this.boards[b].push({ node });
@@ -108,7 +103,7 @@ class Plan {
       const node = this.part(strip, "entry", x, place, drawn("circle", { r: 14, class: "hit" }),
         drawn("circle", { r: 8 }), drawn("path", { d: "M-4.5 0H4.5M0 -4.5V4.5" }));
       setAttribute(node, "transform", `translate(${place.join(" ")})`);
-      setAttribute(node, "aria-label", `Let a train in at ${this.plant.name(x)}`);
+      setAttribute(node, "aria-label", `Train enters at ${this.plant.name(x)}`);
       strip.signs.append(node);
     }
   }
@@ -127,18 +122,19 @@ class Plan {
     const words = sectionWords(this.plant, state, x);
     if (made.shown === words) return;
     made.shown = words;
-    const { node, lines, letter, dot } = made;
+    const { node, lines, cores, letter, dot } = made;
     const lock = LOCK_CLASS[state.lock[x]];
     for (const [leg, line] of Object.entries(lines)) {
       const isAside = dot !== null && leg !== "stem" && leg !== state.at[x];
       setAttribute(line, "class", `${isAside ? "d" : "t"} ${lock}`);
+      setAttribute(cores[leg], "class", lock === "u" && !isAside ? "core" : "core none");
     }
     if (dot) {
       const isMoving = state.at[x] === "moving";
       setAttribute(dot, "class", isMoving ? "g mv" : "g");
       setAttribute(dot, "r", isMoving ? "6" : "4");
     }
-    setText(letter, LETTER[state.lock[x]]);
+    setText(letter, this.geometry.marks[state.lock[x]]);
     setAttribute(node, "aria-label", words);
   }
 
@@ -150,7 +146,7 @@ class Plan {
     made.shown = class_;
     const { node } = made;
     setAttribute(node, "class", class_);
-    const sets = isTarget ? ", a route leads here: sets it" : "";
+    const sets = isTarget ? ", exit of a route: requests it" : "";
     setAttribute(node, "aria-label", `${boardWords(this.plant, state, b)}${sets}`);
   }
 
@@ -202,7 +198,7 @@ class Plan {
   }
 
   showMarks(strip, marks) {
-    const kinds = { on: marks.path, ov: marks.beside, mk: marks.sections, goal: marks.goals };
+    const kinds = { on: marks.path, ov: marks.overlap, pp: marks.protecting, mk: marks.sections, goal: marks.goals };
     const found = Object.entries(kinds).flatMap(([kind, legs]) =>
       legs.filter(([x]) => strip.sections.has(x)).map(([x, leg]) => [kind, x, leg]));
     const key = `${marks.hazard} ${found.join(" ")}`;

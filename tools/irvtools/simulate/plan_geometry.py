@@ -1,6 +1,9 @@
-"""The plan of `trackplan` as the script of the page draws it: where lines, signs and trains lie."""
+"""The plan of `trackplan` as the script of the page draws it: where lines, signs, letters and trains are, and
+the shapes of the signs."""
 
 import re
+
+from irvtools.trackplan import signs
 
 EDGE_OF_ENTRY = 15      # from the end of a border to the sign at which a train comes in
 JOINT = re.compile(r'<path d="M([-0-9 L]+)" class="(j|torn)"/>')
@@ -27,11 +30,14 @@ def joints(drawing):
 
 
 def geometry(drawing):
-    """The plan's strips, the joints, the lines of each section, and where boards and entries stand."""
+    """Returns the plan's strips, the joints, the lines of each section, the places of letters, boards and
+    entries, and the shapes of the signs, which are those of the report."""
     sections = range(len(drawing.plant.sections))
     return {"strips": [[round(value) for value in strip] for strip in drawing.strips],
             "joints": list(joints(drawing)),
             "legs": [{leg: points(line) for leg, line in drawing.legs(x).items()} for x in sections],
+            "letters": points(drawing.letter_place(x) for x in sections),
+            "shapes": {way: signs.shapes(way) for way in ("up", "down")}, "marks": signs.LETTERS,
             "signs": points(drawing.signs[b] for b in range(len(drawing.plant.boards))),
             "middles": points((drawing.middle(x), drawing.y(x)) for x in sections),
             "entries": {x: entry_place(drawing, x) for x in drawing.plant.inward}}

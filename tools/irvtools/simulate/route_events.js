@@ -1,9 +1,9 @@
-// The events of routes and of points. Of each: what it asks and isn't so, in words, one after the other
-// (`asks`; the event is enabled exactly where nothing comes), and what it changes (`does`).
+// The events of routes and of points. For each: its unmet demands in words, one after the other (`asks`; the
+// event is enabled exactly if there is none), and what it changes (`does`).
 
 const HOLDING = ["allocating", "locked", "occupied"];
 
-// whether a route holds a section: it took its lock and hasn't given it back
+// whether a route has a section locked
 function holds(plant, state, r, x) {
   const route = plant.routes[r];
   return HOLDING.includes(state.mode[r])
@@ -14,7 +14,7 @@ function holders(plant, state, x) {
   return numbersWhere(plant.routes.map((_, r) => holds(plant, state, r, x)), (isHeld) => isHeld);
 }
 
-// what of these sections isn't free and vacant
+// which of these sections are not free and vacant
 function* unclear(plant, state, sections) {
   for (const x of sections) {
     if (state.lock[x] !== "free") {
@@ -31,15 +31,15 @@ function trainsIn(state, x) {
 }
 
 function* unless(state, r, name, ...modes) {
-  if (!modes.includes(state.mode[r])) yield `${name} is ${state.mode[r]}, and not ${modes.join(" or ")}`;
+  if (!modes.includes(state.mode[r])) yield `${name} is ${state.mode[r]}, not ${modes.join(" or ")}`;
 }
 
 function pointFault(plant, state, x, position, name) {
   if (state.to[x] !== position) {
-    return `point ${plant.name(x)} is commanded to ${state.to[x]}, and ${name} wants ${position}`;
+    return `points ${plant.name(x)} are commanded to ${state.to[x]}, but ${name} needs ${position}`;
   }
-  return state.at[x] === "moving" ? `point ${plant.name(x)} still moves to ${position}`
-    : `point ${plant.name(x)} lies ${state.at[x]}, and isn't thrown to ${position} yet`;
+  return state.at[x] === "moving" ? `points ${plant.name(x)} are still moving to ${position}`
+    : `points ${plant.name(x)} are in position ${state.at[x]} and do not move to ${position} yet`;
 }
 
 const ROUTE_RULES = {
@@ -80,7 +80,7 @@ const ROUTE_RULES = {
       }
       for (const [other, { name, protecting_boards: kept }] of plant.routes.entries()) {
         if (state.mode[other] === "locked" && kept.includes(route.source)) {
-          yield `${name} is locked, and keeps board ${plant.boards[route.source].name} closed`;
+          yield `${name} is locked and keeps board ${plant.boards[route.source].name} closed`;
         }
       }
     },
@@ -96,11 +96,11 @@ const ROUTE_RULES = {
       yield* unless(state, r, name, "locked", "occupied");
       const x = path[state.seen[r]];
       if (x === undefined) {
-        yield "its whole path is sensed already";
+        yield "its whole path is detected already";
         return;
       }
       if (!state.on[x]) yield `${plant.name(x)}, the next section of its path, is vacant`;
-      if (state.lock[x] !== "locked") yield `the lock of ${plant.name(x)} is ${state.lock[x]}, and not locked`;
+      if (state.lock[x] !== "locked") yield `the lock of ${plant.name(x)} is ${state.lock[x]}, not locked`;
     },
     does(plant, state, r) {
       const { path, source } = plant.routes[r];
@@ -117,13 +117,13 @@ const ROUTE_RULES = {
       const [seen, rel] = [state.seen[r], state.rel[r]];
       yield* unless(state, r, name, "occupied");
       if (rel + 2 > seen) {
-        yield rel + 1 < path.length ? `${plant.name(path[rel + 1])}, the section after, isn't sensed yet`
-          : "the last section of its path is given back by finish";
+        yield rel + 1 < path.length ? `${plant.name(path[rel + 1])}, the section after it, is not detected yet`
+          : "finish releases the last section of its path";
       }
       const x = path[rel];
       if (x === undefined) return;
       if (state.on[x]) yield `${plant.name(x)} is occupied by ${trainsIn(state, x)}`;
-      if (state.lock[x] !== "used") yield `the lock of ${plant.name(x)} is ${state.lock[x]}, and not used`;
+      if (state.lock[x] !== "used") yield `the lock of ${plant.name(x)} is ${state.lock[x]}, not used`;
     },
     does(plant, state, r) {
       state.lock[plant.routes[r].path[state.rel[r]]] = "free";
@@ -135,10 +135,10 @@ const ROUTE_RULES = {
     * asks(plant, state, r) {
       const { name, path } = plant.routes[r];
       yield* unless(state, r, name, "occupied");
-      if (state.seen[r] !== path.length) yield `${plant.name(path[state.seen[r]])} of its path isn't sensed yet`;
+      if (state.seen[r] !== path.length) yield `${plant.name(path[state.seen[r]])} of its path is not detected yet`;
       if (state.rel[r] + 1 !== path.length) {
-        yield state.rel[r] < path.length ? `${plant.name(path[state.rel[r]])} of its path isn't given back yet`
-          : "its whole path is given back already";
+        yield state.rel[r] < path.length ? `${plant.name(path[state.rel[r]])} of its path is not released yet`
+          : "its whole path is released already";
       }
     },
     does(plant, state, r) {
@@ -166,9 +166,9 @@ const POINT_RULES = {
   throw: {
     * asks(plant, state, x) {
       const name = plant.name(x);
-      if (!plant.sections[x].point) yield `${name} isn't a point`;
-      else if (state.at[x] === "moving") yield `point ${name} moves already`;
-      else if (state.at[x] === state.to[x]) yield `point ${name} lies ${state.at[x]}, where it is commanded`;
+      if (!plant.sections[x].point) yield `${name} has no points`;
+      else if (state.at[x] === "moving") yield `points ${name} are moving already`;
+      else if (state.at[x] === state.to[x]) yield `points ${name} are in position ${state.at[x]}, as commanded`;
     },
     does(plant, state, x) { state.at[x] = "moving"; },
   },
@@ -176,8 +176,8 @@ const POINT_RULES = {
   settle: {
     * asks(plant, state, x) {
       const name = plant.name(x);
-      if (!plant.sections[x].point) yield `${name} isn't a point`;
-      else if (state.at[x] !== "moving") yield `point ${name} doesn't move: it lies ${state.at[x]}`;
+      if (!plant.sections[x].point) yield `${name} has no points`;
+      else if (state.at[x] !== "moving") yield `points ${name} are not moving: they are in position ${state.at[x]}`;
     },
     does(plant, state, x) { state.at[x] = state.to[x]; },
   },

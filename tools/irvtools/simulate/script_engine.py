@@ -1,4 +1,4 @@
-"""The page's model by a script engine outside of a browser, where there is one."""
+"""The simulator's model by a script engine outside of a browser, if there is one."""
 
 import json
 import shutil

@@ -1,4 +1,4 @@
-"""The page's script: files of this folder in one text, and the plant as they read it."""
+"""The simulator's script: files of this directory in one text, and the plant as they read it."""
 
 import json
 from pathlib import Path
@@ -6,7 +6,7 @@ from pathlib import Path
 from irvtools.html.style import CSS
 
 HERE = Path(__file__).resolve().parent
-# what the page knows of plants, without a document; in this order, since each uses those before it
+# what knows plants, without a document; in this order, because each uses those before it
 MODEL = ("plant", "route_events", "train_events", "model", "texts", "waiting", "words", "simulator")
 # what shows it
 VIEW = ("elements", "train_lines", "plan", "lists", "choosing", "files", "keys", "page")
@@ -19,12 +19,12 @@ def script(names):
 
 
 def style():
-    """The style of the page: that of tools/html, and what it has besides."""
+    """The style of the page: that of the report, and its own."""
     return CSS + (HERE / "simulator.css").read_text(encoding="utf-8")
 
 
 def section_value(section):
-    """A section by numbers: its ends are neighbours by leg, or by side; null where there is none."""
+    """A section by numbers: its ends are neighbours by leg, or by side; null if there is none."""
     keys = ("stem", "plus", "minus") if section.is_point else ("down", "up")
     return {"name": section.name, "point": section.is_point, "faces": section.faces,
             "ends": {key: section.neighbours.get(key) for key in keys}}
@@ -47,11 +47,11 @@ def plant_value(plant):
 
 
 def as_json(value):
-    """A value as JSON that may stand in a script: no end of an element is in it."""
+    """A value as JSON inside a script: no end of an element is in it."""
     text = json.dumps(value, separators=(",", ":"), ensure_ascii=True)
     return text.replace("<", "\\u003c").replace(">", "\\u003e").replace("&", "\\u0026")
 
 
 def page():
-    """What stands in the page's body, with marks for what a plant puts there."""
+    """The page's body, with marks for what a plant puts there."""
     return (HERE / "simulator.html").read_text(encoding="utf-8")

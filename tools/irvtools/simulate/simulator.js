@@ -1,5 +1,5 @@
-// A play: the state in which it begins, its events, and the place at which it stands. A new event cuts off
-// what came after that place; what was cut off last can be brought back.
+// A run: the state in which it begins, its events, and the selected place. A new event cuts off what came
+// after that place; what was cut off last can be brought back.
 
 const BETWEEN = 40;         // events from one kept state to the next
 const MOST_REFUSED = 200;   // refused events that are kept
@@ -7,17 +7,17 @@ const MOST_REFUSED = 200;   // refused events that are kept
 class Play {
   constructor(plant, first, events) {
     this.plant = plant;
-    this.first = first;     // null for the start
+    this.first = first;     // null for the initial state
     this.events = [];
     this.kept = [first ? first.copy() : new State(plant)];
     this.cut = null;
-    this.refused = [];      // events that weren't possible, each with the place at which it was asked for
+    this.refused = [];      // events that were not enabled, each with the place at which it was asked for
     this.place = 0;
     this.state = this.kept[0].copy();
     for (const event of events) this.add(event);
   }
 
-  // does an event that is possible
+  // does an event that is enabled
   add(event) {
     if (this.place < this.events.length) this.cutOff();
     apply(this.plant, this.state, event);
@@ -33,7 +33,7 @@ class Play {
     this.kept.length = Math.floor(this.place / BETWEEN) + 1;
   }
 
-  // goes back or forth, to the state after so many events
+  // goes back or forward, to the state after so many events
   go(place) {
     this.place = Math.min(Math.max(place, 0), this.events.length);
     this.state = this.stateAt(this.place);
@@ -51,14 +51,14 @@ class Play {
 
   runText() { return runText(this.plant, this.first, this.done); }
 
-  // keeps that an event wasn't possible
+  // notes that an event was not enabled
   refuse(event) {
     const isKept = this.refused.some((one) => one.place === this.place && one.event.word === event.word
       && one.event.number === event.number);
     if (!isKept && this.refused.length < MOST_REFUSED) this.refused.push({ place: this.place, event });
   }
 
-  // the run with what this page says of it, for --check
+  // the run with what the simulator says of it, for --compare
   playedText({ sum, columns }) {
     const refused = this.refused.filter(({ place }) => place <= this.place)
       .map(({ place, event }) => `refused ${place} ${eventLine(this.plant, event)}`);
@@ -66,7 +66,7 @@ class Play {
       `says ${hazardLine(this.plant, hazard(this.plant, this.state))}`, ...refused, ""].join("\n") + this.runText();
   }
 
-  // the number of the first event that isn't possible, from 1, with why; null where all are
+  // the number of the first event that isn't enabled, from 1, with why; null if all are
   static firstRefused(plant, first, events) {
     const state = first ? first.copy() : new State(plant);
     for (const [place, event] of events.entries()) {

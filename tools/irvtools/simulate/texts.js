@@ -1,11 +1,11 @@
-// Run texts and scenarios, as docs/FORMATS.md has them, and links that have one in itself.
+// Run texts and scenarios, as docs/reference/formats.md defines them, and links that contain one.
 
 const MOST_RUN_BYTES = 1048576;
 const MOST_SCENE_BYTES = 8192;
 const MODES = ["free", "marked", "allocating", "locked", "occupied"];
 const LIES = ["plus", "minus", "moving"];
 
-// why something that was asked for isn't done, in a sentence
+// why something isn't done, in a sentence
 class Refusal extends Error {}
 
 // the first bad line of a text, by its number from 1, and why it is bad
@@ -26,7 +26,7 @@ function stateLines(plant, state) {
   ];
 }
 
-// the text of a run, from a state or, where that is null, from the start
+// the text of a run, from a state or, if that is null, from the initial state
 function runText(plant, first, events) {
   const begin = first ? ["state", ...stateLines(plant, first), "events"] : ["start"];
   return ["run 1", ...begin, ...events.map((event) => eventLine(plant, event)), "end", ""].join("\n");
@@ -38,8 +38,8 @@ function sceneText(plant, commands) {
   return ["drive 1", ...commands.map((event) => eventLine(plant, event)), "end", ""].join("\n");
 }
 
-// The lines of a text, taken one by one. One that no line feed ends is bad at its number, and so is one
-// that is missing.
+// The lines of a text, taken one by one. A line without a line feed is bad at its number, and so is one that
+// is missing.
 class Lines {
   constructor(text) {
     this.lines = text.split("\n");
@@ -49,33 +49,33 @@ class Lines {
 
   get number() { return this.at + 1; }
 
-  // the next line, or undefined where no more is ended
+  // the next line, or undefined if no more line feed follows
   get next() { return this.lines[this.at]; }
 
   bad(why) {
     const isEnded = this.next !== undefined;
-    throw new BadLine(this.number, isEnded ? why : this.rest ? "no line feed ends it" : "it is missing");
+    throw new BadLine(this.number, isEnded ? why : this.rest ? "it has no line feed" : "it is missing");
   }
 
   take(line) {
-    if (this.next !== line) this.bad(`“${line}” has to stand there`);
+    if (this.next !== line) this.bad(`it must be “${line}”`);
     this.at += 1;
   }
 
   end() {
     this.take("end");
-    if (this.next !== undefined || this.rest) throw new BadLine(this.number, "nothing may stand after the end");
+    if (this.next !== undefined || this.rest) throw new BadLine(this.number, "nothing may follow the end");
   }
 }
 
 function readEvent(plant, lines, words) {
   const line = lines.next ?? "";
   const [word, name, ...more] = line.split(" ");
-  if (!words.includes(word)) lines.bad(`“${word}” is none of ${words.join(", ")}`);
+  if (!words.includes(word)) lines.bad(`“${word}” is not one of ${words.join(", ")}`);
   const kind = isOfRoute(word) ? "route" : "section";
   const number = plant.named[kind].get(name);
-  if (more.length || number === undefined) lines.bad(`“${line}” doesn't name a ${kind}`);
-  if (word in POINT_RULES && !plant.sections[number].point) lines.bad(`${name} isn't a point`);
+  if (more.length || number === undefined) lines.bad(`“${line}” does not name a ${kind}`);
+  if (word in POINT_RULES && !plant.sections[number].point) lines.bad(`${name} has no points`);
   lines.at += 1;
   return { word, number };
 }
@@ -87,12 +87,12 @@ function readEvents(plant, lines, words) {
   return events;
 }
 
-// takes a line of `kind name word word ..`, each word one of those that may stand there
+// takes a line of `kind name word word ..`, each word one of its choices
 function readPart(lines, kind, name, choices) {
   const words = (lines.next ?? "").split(" ");
   const isRight = words.length === choices.length + 2 && words[0] === kind && words[1] === name
     && choices.every((choice, place) => choice.includes(words[place + 2]));
-  if (!isRight) lines.bad(`“${kind} ${name}” with its words has to stand there`);
+  if (!isRight) lines.bad(`it must be “${kind} ${name}” with its words`);
   lines.at += 1;
   return words.slice(2);
 }
@@ -105,7 +105,7 @@ function readTrain(plant, lines, state) {
   const leadsOn = body.every((x, place) => x !== undefined
     && (place === 0 || plant.next(body[place - 1], direction).includes(x)));
   if (!(direction in OPPOSITE) || !body.length || !leadsOn) {
-    lines.bad("a train has a direction, and sections each next to the one before");
+    lines.bad("a train needs a direction and sections, each next to the one before");
   }
   state.addTrain(direction, body);
   lines.at += 1;
@@ -132,9 +132,9 @@ function readState(plant, lines) {
   return state;
 }
 
-function tooLong(length, most) { return `The text has ${length} bytes, and irv reads ${most}.`; }
+function tooLong(length, most) { return `The text has ${length} bytes, but irv reads at most ${most}.`; }
 
-// a run text: the state in which it begins, null for the start, and its events
+// a run text: the state in which it begins, null for the initial state, and its events
 function readRun(plant, text) {
   if (text.length > MOST_RUN_BYTES) throw new Refusal(tooLong(text.length, MOST_RUN_BYTES));
   const lines = new Lines(text);
@@ -157,13 +157,13 @@ function readScene(plant, text) {
   return readEvents(plant, lines, COMMANDS);
 }
 
-// what verify, drive and this page write before a run
+// what verify, drive and the simulator write before a run
 function withoutVerdict(text) {
   const begin = text.indexOf("\nrun 1\n");
   return begin >= 0 && !/^(run|drive) /.test(text) ? text.slice(begin + 1) : text;
 }
 
-// A text in a link: names have none of the characters that stand there for a space and a line feed.
+// A text in a link: names have none of the characters that replace a space and a line feed.
 function asFragment(text) { return text.replaceAll(" ", ".").replaceAll("\n", "~"); }
 
 function fromFragment(fragment) { return fragment.replaceAll(".", " ").replaceAll("~", "\n"); }

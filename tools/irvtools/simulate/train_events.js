@@ -1,9 +1,9 @@
-// The events of trains, each with what it asks and what it changes, as those of routes.
+// The events of trains, each with its unmet demands and what it changes, as those of routes.
 
 const TRAIN_RULES = {
   enter: {
     * asks(plant, state, x) {
-      if (plant.inward[x] === null) yield `${plant.name(x)} isn't a border of the network`;
+      if (plant.inward[x] === null) yield `${plant.name(x)} is not a border of the network`;
       yield* unclear(plant, state, [x]);
     },
     does(plant, state, x) { state.addTrain(plant.inward[x], [x]); },
@@ -13,7 +13,7 @@ const TRAIN_RULES = {
     * asks(plant, state, x) {
       const train = state.withHead(x);
       if (!train) {
-        yield `no train has its head in ${plant.name(x)}`;
+        yield `no train has its front in ${plant.name(x)}`;
         return;
       }
       const board = plant.board(x, train.direction);
@@ -21,7 +21,7 @@ const TRAIN_RULES = {
         yield `board ${plant.boards[board].name} is closed`;
       }
       if (ahead(plant, state, x, train.direction) === null) {
-        yield state.at[x] === "moving" ? `point ${plant.name(x)} moves under its head`
+        yield state.at[x] === "moving" ? `points ${plant.name(x)} are moving under its front`
           : `the network ends there`;
       }
     },
@@ -39,7 +39,7 @@ const TRAIN_RULES = {
       if (state.withTail(x)) return;
       const train = state.standingOn(x);
       yield train ? `${plant.name(x)} is the only section of train ${train.number}`
-        : `no train has its tail in ${plant.name(x)}`;
+        : `no train has its rear in ${plant.name(x)}`;
     },
     does(plant, state, x) {
       state.withTail(x).body.shift();

@@ -81,11 +81,11 @@ class Drawing:
 
     def name_place(self, x):
         """The place of a section's name, by its middle: below its line, but above where a leg leads
-        down; a point's name stands at where its legs part."""
+        down; a point's name begins near where its legs part."""
         section = self.plant.sections[x]
         if not section.is_point:
             return self.middle(x), self.y(x) + 17
-        aside = (len(section.name) * CHARACTER / 2 - 4) * (1 if section.faces == "up" else -1)
+        aside = (len(section.name) * CHARACTER / 2 - 1) * (1 if section.faces == "up" else -1)
         leads_down = self.end(x, "minus")[1] > self.y(x)
         return self.frog(x)[0] + aside, self.y(x) + (-9 if leads_down else 17)
 
