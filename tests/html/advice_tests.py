@@ -1,5 +1,5 @@
-"""Trials of the page's advice: each sentence over the smallest plant of which it is true, and over one
-of which it isn't. They are worked out by hand."""
+"""Tests of the page's advice: each sentence over the smallest plant of which it is true, and over one of
+which it isn't. They are derived by hand."""
 
 from irvtools.html.advice_section import advice_part
 from irvtools.rules.flank_protection import guards
@@ -36,60 +36,59 @@ BARE_FORK = FORK.replace("u p . m3", "u p . .")
 # a plant, what is said of it, and what isn't
 ADVICE = [
     # ways into a path over a point
-    (BARE_FORK + R1, ["On one way a vehicle could run into a route's path over a point.",
-                      "nothing: 1.", "r1: over the minus leg of p nothing keeps out what comes from "
+    (BARE_FORK + R1, ["In one place a vehicle could run into a route's path over points.",
+                      "nothing 1.", "r1: over the minus leg of p nothing stops a vehicle that comes from "
                       "border u."], []),
-    (FORK + R1, ["a board that it would pass closed: 1; nothing: 0.",
-                 "r1 the minus leg of p u a board that it would pass closed: m3"],
-     ["nothing keeps out", "no overlap"]),
-    (FORK + R1 + " protecting_boards m3", ["a protecting board: 1;", "a protecting board: m3"],
-     ["nothing keeps out"]),
-    (TRAP + R1 + " protecting_points q=minus", ["a protecting point: 1;", "a protecting point: q"],
-     ["nothing keeps out"]),
-    (TRAP + R1 + " protecting_points q=plus", ["a protecting point: 0;", "pass closed: m3"], []),
-    (TRAP.replace("u q . m3", "u q . .") + R1, ["what comes from border u"], ["border x"]),
+    (FORK + R1, ["a closed board 1; nothing 0.", "r1 the minus leg of p u a closed board: m3"],
+     ["nothing stops a", "without an overlap"]),
+    (FORK + R1 + " protecting_boards m3", ["a protecting board 1;", "a protecting board: m3"],
+     ["nothing stops a"]),
+    (TRAP + R1 + " protecting_points q=minus", ["a protecting point 1;", "a protecting point: q"],
+     ["nothing stops a"]),
+    (TRAP + R1 + " protecting_points q=plus", ["a protecting point 0;", "a closed board: m3"], []),
+    (TRAP.replace("u q . m3", "u q . .") + R1, ["a vehicle that comes from border u"], ["border x"]),
     (CROSSING + "route r1 from m1 to . path p q c points p=plus q=plus",
-     ["On 2 ways", "r1 the minus leg of p (where lines cross at p and q) b a board that it would pass "
-      "closed: m2", "r1 the minus leg of q (where lines cross at q and p) d a board that it would pass "
-      "closed: m4"], ["nothing keeps out"]),
-    (LINE + "route r1 from m1 to m3 path b", ["No route leads over a point"], ["On "]),
+     ["In 2 places", "r1 the minus leg of p (lines cross at p and q) b a closed board: m2",
+      "r1 the minus leg of q (lines cross at q and p) d a closed board: m4"], ["nothing stops a"]),
+    (LINE + "route r1 from m1 to m3 path b", ["No route leads over points"], ["Flank protection"]),
     # overlaps
-    (LINE + "route r1 from m1 to m3 path b", ["1 route has no overlap behind the last board: r1."], []),
+    (LINE + "route r1 from m1 to m3 path b", ["1 route without an overlap beyond the exit board: r1."], []),
     (LINE + "route r1 from m1 to m3 path b overlap c",
-     ["The overlap of r1 ends at nothing: at the end of c no board stands for trains that run up, and "
-      "the line goes on to d."], ["no overlap"]),
+     ["The overlap of r1 does not end at a board: c has no board for trains that run up, and the line "
+      "continues to d."], ["without an overlap"]),
     (LINE + "route r1 from m1 to m3 path b overlap c d",
-     ["At the end of the network, behind which nothing is known, the overlap of r1 ends."],
-     ["ends at nothing", "no overlap"]),
+     ["The overlap of r1 ends where the network ends."],
+     ["does not end at a board", "without an overlap"]),
     (LINE.replace("c b d . .", "c b d . m4") + "route r1 from m1 to m3 path b overlap c", [],
-     ["ends at nothing", "no overlap", "the overlap of"]),
+     ["does not end at a board", "without an overlap", "The overlap of"]),
     # ways of the network
     (LINE + "route r1 from m1 to m3 path b\nroute r2 from m3 to . path c d\n"
-     "route r3 from m2 to . path c b a", ["The network has 3 ways", "the table has 3 routes."],
-     ["no route:", "no way"]),
+     "route r3 from m2 to . path c b a", ["The network has 3 candidate routes", "The table has 3 routes."],
+     ["not in the table", "not a candidate"]),
     (LINE + "route r2 from m3 to . path c d\nroute r3 from m2 to . path c b a",
-     ["1 way from one board to the next has no route: m1 to m3 over b."], ["no way", "trap road"]),
+     ["1 candidate route from board to board is not in the table: m1 to m3 over b."],
+     ["not a candidate", "trap road"]),
     (LINE + "route r1 from m1 to m3 path b\nroute r3 from m2 to . path c b a",
-     ["1 way out over a border that the table uses has no route: m3 to out over c d."],
-     ["trap road", "no way"]),
+     ["1 candidate route out of the area over a border that the table uses is not in the table: m3 to out "
+      "over c d."], ["trap road", "not a candidate"]),
     (FORK + "route r1 from m1 to . path p t points p=plus\nroute r2 from m2 to . path p a points p=plus",
-     ["2 ways into or out of a border that the table doesn't use, as one does with a dead end or a trap "
-      "road have no route: m1 to out over p u; m3 to out over p a."], ["out over a border that the"]),
-    (LINE + "route r1 from m1 to . path b c", ["1 route is no way of the network: r1."], []),
+     ["2 candidate routes to or from a border that the table does not use, such as a dead end or a trap "
+      "road are not in the table: m1 to out over p u; m3 to out over p a."], ["out of the area over a border"]),
+    (LINE + "route r1 from m1 to . path b c", ["1 route of the table is not a candidate route of the network: r1."], []),
     # use
-    (LINE + "route r1 from m1 to m3 path b", ["No route begins or ends at 1 board: m2."], []),
-    (FORK + R1, ["The one route that locks point p wants it plus.",
-                 "No route begins or ends at 2 boards: m2 and m3."], ["No route locks"]),
+    (LINE + "route r1 from m1 to m3 path b", ["1 board at which no route begins or ends: m2."], []),
+    (FORK + R1, ["The only route that locks points p needs them in position plus.",
+                 "2 boards at which no route begins or ends: m2 and m3."], ["Points that no route"]),
     (FORK + R1 + "\nroute r2 from m2 to . path p a points p=plus",
-     ["Each of the 2 routes that lock point p wants it plus."], []),
-    (FORK + R1 + "\nroute r2 from m1 to . path p u points p=minus", [], ["wants it"]),
-    (TRAP + R1, ["No route locks 1 point: q."], []),
+     ["All 2 routes that lock points p need them in position plus."], []),
+    (FORK + R1 + "\nroute r2 from m1 to . path p u points p=minus", [], ["in position"]),
+    (TRAP + R1, ["Points that no route locks: q."], []),
     # one cause
     (FORK + "route r1 from m1 to . path p t points p=minus\n"
      "route r2 from m3 to . path p a points p=plus",
-     ["All 2 routes that lead over point p and list it, list it in the other position than the one that "
-      "leads along their path (r1 and r2). That may be one fault, and not 2: the legs plus and minus of "
-      "p may be exchanged in the network."], []),
+     ["All 2 routes that lead over points p and list them, list them in the position that does not lead "
+      "along their path (r1 and r2). This may be one mistake instead of 2: the legs plus and minus of p may "
+      "be exchanged in the network."], []),
     (FORK + "route r1 from m1 to . path p t points p=minus\n"
      "route r2 from m3 to . path p a points p=minus", [], ["exchanged"]),
     (FORK + "route r1 from m1 to . path p t points p=minus\n"
@@ -99,24 +98,24 @@ ADVICE = [
 
 
 def check_advice(program, _):
-    """Each piece of advice is given where it is so, and not where it isn't."""
+    """Each piece of advice is given if it is so, and only then."""
     for text, wanted, unwanted in ADVICE:
         said = part_of(program, text, advice_part, [])
         yield from (f"{text}: {one!r} isn't in {said}" for one in wanted if one not in said)
         yield from (f"{text}: {one!r} is in {said}" for one in unwanted if one in said)
-        if "advice, and no answer" not in said:
+        if "This is advice, not an answer of irv." not in said:
             yield f"{text}: not marked as advice"
     said = part_of(program, FORK + R1, advice_part, [0])
-    if "No run was found in which a train uses r1 whole." not in said:
+    if "No run was found in which a train uses the whole route: r1." not in said:
         yield f"a route without a use: {said}"
 
 
 def check_advice_asks(program, _):
-    """Where table gives no ways the page says so; a flank is walked back through each section once."""
+    """If table gives no routes the page says so; a flank is walked back through each section once."""
     endless = "\n".join(["linear s0 . s1 . m1"] + [f"linear s{i} s{i - 1} s{i + 1} . ." for i in
                                                   range(1, 34)] + ["linear s34 s33 . m2 ."])
     said = part_of(program, endless, advice_part, [])
-    for wanted in ("refused G1 boards[0]", "doesn't know the ways"):
+    for wanted in ("refused G1 boards[0]", "does not know the candidate routes"):
         if wanted not in said:
             yield f"{wanted!r} isn't in {said}"
     ladder = ["linear a . p . m1", "point p up a t q0", "linear t p . m2 ."]

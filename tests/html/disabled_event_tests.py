@@ -1,5 +1,5 @@
-"""Trials of what an event asks and doesn't get, and of what trains and routes wait for. The sentences
-are worked out by hand from the table of docs/MODEL.md."""
+"""Tests of the unmet demands of events, and of what trains and routes wait for. The sentences are derived by
+hand from the table of docs/reference/model.md."""
 
 import json
 import random
@@ -18,40 +18,39 @@ from tests.support.harness import test_case
 MANY = 10
 SET_IN1 = "mark in1, allocate in1, lock in1"
 
-# over examples/platforms.json: what comes before, an event that isn't enabled then, and why
+# over examples/platforms.json: the events before, an event that isn't enabled then, and why
 PLATFORMS = [
-    ("mark in1", "mark in1", "route in1 is marked, and not free"),
-    ("", "allocate in1", "route in1 is free, and not marked"),
+    ("mark in1", "mark in1", "route in1 is marked, not free"),
+    ("", "allocate in1", "route in1 is free, not marked"),
     ("mark in1, allocate in1, mark in2", "allocate in2",
-     "its conflict in1 is allocating; the lock of section w1 is locked, and not free: route in1 holds "
-     "it"),
+     "its conflict in1 is allocating; the lock of section w1 is locked, not free: route in1 has it locked"),
     ("enter pl1, mark in1", "allocate in1",
-     "section pl1 isn't vacant: a train that runs down is in pl1"),
-    ("", "lock in1", "route in1 is free, and not allocating"),
-    ("mark in2, allocate in2", "lock in2", "point w1 lies plus, and route in2 wants it minus"),
-    ("mark in2, allocate in2, throw w1", "lock in2", "point w1 moves, and route in2 wants it minus"),
-    (SET_IN1, "sense in1", "no train is in section w1, the next one of its path"),
+     "section pl1 is occupied: a train that runs down is in pl1"),
+    ("", "lock in1", "route in1 is free, not allocating"),
+    ("mark in2, allocate in2", "lock in2", "points w1 are in position plus, but route in2 needs minus"),
+    ("mark in2, allocate in2, throw w1", "lock in2", "points w1 are moving, but route in2 needs minus"),
+    (SET_IN1, "sense in1", "no train is in section w1, the next section of its path"),
     (SET_IN1 + ", enter line, head line, sense in1, head w1, sense in1", "sense in1",
-     "all sections of the path of route in1 are sensed"),
+     "all sections of the path of route in1 are detected already"),
     (SET_IN1 + ", enter line, head line, sense in1", "release in1",
-     "section pl1 of its path isn't sensed yet; section w1 isn't vacant: a train that runs up is in "
-     "line and w1"),
+     "section pl1 of its path is not detected yet; section w1 is occupied: a train that runs up is in line "
+     "and w1"),
     (SET_IN1 + ", enter line, head line, sense in1", "finish in1",
-     "of the path of route in1 1 of 2 sections are sensed; of the path of route in1 0 sections are "
-     "given back, and not 1"),
-    (SET_IN1, "cancel in1", "route in1 is locked, and not marked or allocating"),
-    ("", "throw w1", "point w1 lies plus, and isn't commanded elsewhere"),
-    ("mark in2, allocate in2, throw w1", "throw w1", "point w1 moves already"),
-    ("", "settle w1", "point w1 doesn't move: it lies plus"),
-    ("", "enter w1", "section w1 is no border: trains come in where the network ends"),
+     "1 of 2 sections of the path of route in1 are detected; 0 sections of the path of route in1 are "
+     "released, not 1"),
+    (SET_IN1, "cancel in1", "route in1 is locked, not marked or allocating"),
+    ("", "throw w1", "points w1 are in position plus, as commanded"),
+    ("mark in2, allocate in2, throw w1", "throw w1", "points w1 are moving already"),
+    ("", "settle w1", "points w1 are not moving: they are in position plus"),
+    ("", "enter w1", "section w1 is not a border: trains enter at the ends of the network"),
     ("mark in1, allocate in1", "enter pl1",
-     "the lock of section pl1 is locked, and not free: route in1 holds it"),
-    ("", "head line", "no train has its head in section line"),
-    ("enter line", "head line", "board home, at which the train stands, is closed"),
-    ("enter line", "tail line", "no train that has two sections or more has its tail in line"),
-    ("", "leave line", "no train is in section line alone"),
+     "the lock of section pl1 is locked, not free: route in1 has it locked"),
+    ("", "head line", "no train has its front in section line"),
+    ("enter line", "head line", "board home, at which the train waits, is closed"),
+    ("enter line", "tail line", "no train of two or more sections has its rear in line"),
+    ("", "leave line", "no train is in section line only"),
     ("enter line", "leave line",
-     "the network goes on from section line: a train leaves where it ends"),
+     "the network continues after section line: trains leave at its ends"),
     ("enter pl1, mark out1, allocate out1, lock out1, head pl1, head w1", "head line",
      "the network ends at section line")]
 
@@ -59,17 +58,17 @@ PLATFORMS = [
 WAITING = [
     ("", []),
     ("enter pl1, mark in1", [
-        "The train in pl1, which runs down, stands before start1, which is closed: no route that begins "
-        "there is asked for (out1).",
-        "in1 waits for pl1, where a train is."]),
+        "The train in pl1, which runs down, waits at start1, which is closed: no route from there is "
+        "requested (out1).",
+        "in1 waits for pl1, which a train occupies."]),
     ("mark in1, allocate in1, lock in1, mark in2, enter line", [
-        "The train in line, which runs up, may go on.",
-        "in1 is set, with board home open, and waits for a train to come there.",
-        "in2 waits for its conflict in1, which is locked, and for w1, which in1 holds."]),
-    ("mark in2, allocate in2", ["in2 waits for w1, which lies plus, to lie minus."]),
+        "The train in line, which runs up, can move on.",
+        "in1 is locked, with board home open. It waits for a train there.",
+        "in2 waits for its conflict in1, which is locked and for w1, which in1 has locked."]),
+    ("mark in2, allocate in2", ["in2 waits for points w1, which are in position plus, to be in position minus."]),
     (SET_IN1 + ", enter line, head line, sense in1", [
-        "The train in line and w1, which runs up, may go on.",
-        "in1 is used by a train, and waits for a train in pl1."])]
+        "The train in line and w1, which runs up, can move on.",
+        "in1 is used by a train and waits for a train in pl1."])]
 
 
 def reached(plant, words):
@@ -82,7 +81,7 @@ def reached(plant, words):
 
 
 def check_demands(_, is_long):
-    """An event has an unmet demand exactly where the model of events refuses it."""
+    """An event has an unmet demand exactly if the model of events refuses it."""
     chance, refused = random.Random(53), set()
     for name in ("line", "station-protected", "facing-point-wrong", "four-sections"):
         plant = Plant(json.loads(plants()[name]))
@@ -108,7 +107,7 @@ def check_demand_words(_, __):
         if said != wanted:
             yield f"{before}: {event}: {said!r}"
     told = {event.split(" ")[0] for _, event, _ in PLATFORMS}
-    yield from (f"no demand of {word} is tried" for word in sorted(set(events.EVENTS) - told))
+    yield from (f"no demand of {word} is tested" for word in sorted(set(events.EVENTS) - told))
     for before, wanted in WAITING:
         said = waiting(plant, reached(plant, before))
         if said != wanted:
@@ -135,7 +134,7 @@ def protected_faults():
     for x, position in plant.routes[other].wanted:
         state.at[x] = position
     said = unmet_words(plant, state, ("lock", other))
-    if said != "route r1 is locked, and its source m4 is a protecting board of that route":
+    if said != "route r1 is locked, and m4 is one of its protecting boards":
         yield f"lock {name}: {said!r}"
 
 

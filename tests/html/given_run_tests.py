@@ -1,5 +1,5 @@
-"""Trials of runs and scenarios that the caller gives: what the page says of them. The sentences are
-worked out by hand over examples/platforms.json, examples/station.json and two-sections.json."""
+"""Tests of runs and scenarios that the caller gives: what the page says of them. The sentences are derived
+by hand over examples/platforms.json, examples/station.json and two-sections.json."""
 
 import json
 import tempfile
@@ -17,54 +17,51 @@ from tests.support.harness import test_case
 RUNS = [
     # plant, the run's events, what the page has to say, and what it has to print
     ("two-sections", "enter a, enter b, head a",
-     ["The run of", "hazard two b", "3. head a", "Two trains are in section b: a collision."],
-     "run: hazard two b"),
+     ["Run ", "hazard two b", "3. head a", "Two trains are in section b: a collision."],
+     ".run: hazard two b"),
     ("platforms", "mark in1, allocate in1, mark in2, allocate in2, lock in2",
-     ["Event 4, allocate in2, isn't enabled: its conflict in1 is allocating; the lock of section w1 is "
-      "locked, and not free: route in1 holds it.", "3. mark in2"], "run: not a run at 4"),
+     ["Event 4, allocate in2, is not enabled: its conflict in1 is allocating; the lock of section w1 is "
+      "locked, not free: route in1 has it locked.", "3. mark in2"], ".run: not a run at 4"),
     ("two-sections", "enter a, enter b, head a, tail a",
-     ["Event 4, tail a, isn't enabled: a hazard stands before it, and ends the run: Two trains are in "
-      "section b: a collision."], "run: not a run at 4"),
+     ["Event 4, tail a, is not enabled: the run has already ended in a hazard. Two trains are in section b: "
+      "a collision."], ".run: not a run at 4"),
     ("platforms", "mark in1, cancel in1",
-     ["2. cancel in1", "Route in1 is cancelled."], "run: no hazard")]
+     ["2. cancel in1", "Route in1 is cancelled."], ".run: no hazard")]
 
 SCENES = [
     ("station", "enter b1, mark r1, mark r3",
-     ["Given were 3 of 3 commands", "Command 2 of 3: mark r1", "driven steps="], "scenario: driven"),
+     ["3 of 3 commands acted", "Command 2 of 3: mark r1", "driven steps="], ".run: driven"),
     ("station", "enter b1, enter b2, mark r1, mark r5",
-     ["All commands are given, and the drive doesn't come to its end",
-      "The train in t1, which runs up, stands before m3, which is closed: no route that begins there is "
-      "asked for (r3).",
-      "The train in b2, which runs down, stands before m2, which is closed: of the routes that begin "
-      "there r5 is marked.", "r5 waits for t1, where a train is."], "scenario: stuck at 5 steps=14"),
+     ["All commands acted, but the scenario does not end",
+      "The train in t1, which runs up, waits at m3, which is closed: no route from there is requested (r3).",
+      "The train in b2, which runs down, waits at m2, which is closed: r5 is marked.",
+      "r5 waits for t1, which a train occupies."], ".run: stuck at 5 steps=14"),
     ("station", "mark r1, mark r1, enter b1",
-     ["Given were 1 of 3 commands", "The drive is stuck at command 2, mark r1, which isn't enabled: "
-      "route r1 is locked, and not free.",
-      "r1 is set, with board m1 open, and waits for a train to come there."],
-     "scenario: stuck at 2 steps=3"),
+     ["1 of 3 commands acted", "The scenario is stuck at command 2, mark r1, which is not enabled: route "
+      "r1 is locked, not free.", "r1 is locked, with board m1 open. It waits for a train there."],
+     ".run: stuck at 2 steps=3"),
     ("three-sections", "enter c, enter a, mark r1",
-     ["Given were 3 of 3 commands; 6 events", "hazard two c steps=9",
-      "Two trains are in section c: a collision."], "scenario: hazard two c steps=9")]
+     ["3 of 3 commands acted; 6 events", "hazard two c steps=9",
+      "Two trains are in section c: a collision."], ".run: hazard two c steps=9")]
 
 # over platforms: a text, the first bad line, and what is said of it
 BAD = [
-    ("run 1\nstart\nmark r9\nend\n", 3, "Line 3 is “mark r9”: there is no route “r9”."),
+    ("run 1\nstart\nmark r9\nend\n", 3, "Line 3 is “mark r9”: route “r9” does not exist."),
     ("run 1\nstart\nthrow line\nend\n", 3,
-     "Line 3 is “throw line”: section line isn't a point, and throw is of points."),
-    ("run 1\nstart\nenter nowhere\nend\n", 3, "Line 3 is “enter nowhere”: there is no section "
-     "“nowhere”."),
-    ("run 1\nstart\ngo line\nend\n", 3, "Line 3 is “go line”: “go” isn't one of mark, allocate, "
+     "Line 3 is “throw line”: section line has no points, so throw does not apply."),
+    ("run 1\nstart\nenter nowhere\nend\n", 3, "Line 3 is “enter nowhere”: section “nowhere” does "
+     "not exist."),
+    ("run 1\nstart\ngo line\nend\n", 3, "Line 3 is “go line”: “go” is not one of mark, allocate, "
      "lock, sense, release, finish, cancel, throw, settle, enter, head, tail, leave and “end”."),
-    ("run 1\nstart\nmark in1\n", 4, "Line 4 is missing: the last line has to be “end”."),
-    ("run 1\nstart\nmark in1\nend", 4, "Line 4 is “end”, and no line feed ends it."),
-    ("run 1\nstart\nend\nmark in1\n", 4, "Line 4 is “mark in1”, and nothing may stand after “end”."),
-    ("run 1\nbegin\nend\n", 2, "Line 2 is “begin”; it has to be “start” or “state”."),
+    ("run 1\nstart\nmark in1\n", 4, "Line 4 is missing: the last line must be “end”."),
+    ("run 1\nstart\nmark in1\nend", 4, "Line 4 is “end”, without a line feed."),
+    ("run 1\nstart\nend\nmark in1\n", 4, "Line 4 is “mark in1”, but nothing may follow “end”."),
+    ("run 1\nbegin\nend\n", 2, "Line 2 is “begin”, but must be “start” or “state”."),
     ("run 1\nstate\nroute in2 free 0 0\nevents\nend\n", 3,
-     "Line 3 is “route in2 free 0 0”; here stands the line of route in1, as “route in1 free 0 0” is "
-     "one."),
+     "Line 3 is “route in2 free 0 0”; this must be the line of route in1, for example “route in1 free 0 0”."),
     ("drive 1\nlock in1\nend\n", 2,
-     "Line 2 is “lock in1”: “lock” isn't one of mark, enter, cancel and “end”."),
-    ("drive 1\nmark <b>\nend\n", 2, "Line 2 is “mark <b>”: there is no route “<b>”.")]
+     "Line 2 is “lock in1”: “lock” is not one of mark, enter, cancel and “end”."),
+    ("drive 1\nmark <b>\nend\n", 2, "Line 2 is “mark <b>”: route “<b>” does not exist.")]
 
 
 def text_of(head, words):
@@ -77,7 +74,7 @@ def check_given_runs(program, _):
     for name, words, wanted, line in RUNS:
         said, printed = shown_by(program, plants()[name], text_of(("run 1", "start"), words))
         yield from (f"{words}: {one!r} isn't on the page" for one in wanted if one not in said)
-        if line not in printed or "Here the page stops" in said:
+        if line not in printed or "The page stops here" in said:
             yield f"{words}: {printed}"
 
 
@@ -86,7 +83,7 @@ def check_given_scenes(program, _):
     for name, words, wanted, line in SCENES:
         said, printed = shown_by(program, plants()[name], text_of(("drive 1",), words))
         yield from (f"{words}: {one!r} isn't on the page" for one in wanted if one not in said)
-        if line not in printed or "Here the page stops" in said:
+        if line not in printed or "The page stops here" in said:
             yield f"{words}: {printed}"
 
 
@@ -105,7 +102,7 @@ def check_bad_lines(program, _):
             if bad_line(one, plant, number) != wanted:
                 yield f"{text!r}: {bad_line(one, plant, number)!r}"
     said, _ = shown_by(program, given, BAD[0][0].replace("mark r9", "mark in1\nmark r9"))
-    for wanted in ("Line 4 is “mark r9”", "1. mark in1", "Drawn are the events before that line."):
+    for wanted in ("Line 4 is “mark r9”", "1. mark in1", "The events before that line are drawn."):
         if wanted not in said:
             yield f"{wanted!r} isn't on the page"
 
@@ -123,7 +120,7 @@ def check_given_files(program, _):
             except Refused:
                 pass
         made, printed = page(program, plants()["platforms"], "--run", str(Path(room, "nothing")))
-        if made or "can't be read" not in printed:
+        if made or "cannot read --run" not in printed:
             yield f"a file that isn't there: {printed}"
         file.write_bytes(b"run 1\nstart\nenter line\nend\n")
         made, _ = page(program, plants()["platforms"], "--run", str(file), "--search-seconds", "0")
@@ -132,10 +129,10 @@ def check_given_files(program, _):
             yield "the file's name isn't on the page as text"
         file.write_text("drive 1\n" + "enter line\n" * 800 + "end\n")
         made, _ = page(program, plants()["platforms"], "--run", str(file), "--search-seconds", "0")
-        if "refused F1 extra" not in made or "longer than is read" not in made:
+        if "refused F1 extra" not in made or "longer than irv reads" not in made:
             yield "a scenario that is too long: no word of it"
         made, printed = page(program, b"{}", "--run", str(file))
-        if "without a plant it is neither a run nor a scenario" not in made:
+        if "a configuration that is not a plant has no runs" not in made:
             yield f"without a plant: {printed}"
 
 
@@ -143,7 +140,7 @@ def check_long_run(program, _):
     """Of a run that is longer than is drawn the last events are drawn, and the page says so."""
     words = ", ".join(["mark in1, cancel in1"] * 300 + ["enter line"])
     said, printed = shown_by(program, plants()["platforms"], text_of(("run 1", "start"), words))
-    for wanted in ("Left out: frames of the first 201 events.", "400. enter line"):
+    for wanted in ("Left out: the frames of the first 201 events.", "400. enter line"):
         if wanted not in said:
             yield f"{wanted!r} isn't on the page; {printed}"
 

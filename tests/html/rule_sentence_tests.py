@@ -1,4 +1,4 @@
-"""Trials of the sentences that the page has for each rule that is broken."""
+"""Tests of the sentences for each broken rule."""
 
 import json
 
@@ -12,7 +12,7 @@ from irvtools.model.plant import Plant
 from tests.html.expected_sentences import LINE_SENTENCES, NOT_RESTING, RESTING, SENTENCES, WORDLESS
 from tests.support.harness import test_case
 
-PARTLY = {"C2": broken_rules.IDLE_END, "C3": broken_rules.IDLE_OVERLAP}    # where safety rests on another part of it
+PARTLY = {"C2": broken_rules.IDLE_END, "C3": broken_rules.IDLE_OVERLAP}    # if safety depends on another part of it
 
 
 def cases():
@@ -27,7 +27,7 @@ def cases():
 
 
 def words_of(given, refusal):
-    """The sentences of the page for a line of check, with what it says of safety."""
+    """The sentences for a line of check, with what is said of safety."""
     _, rule, place, *_ = refusal.split(" ")
     if rule[0] == "F":
         return schema_rules.faults(rule, place, given), ""
@@ -38,7 +38,7 @@ def words_of(given, refusal):
 
 
 def check_sentences(_, __):
-    """Each rule's sentence names what is there and what should be."""
+    """Each rule's sentence names what the configuration has and what it should have."""
     found = cases()
     for file, name, refusal, words, *count in SENTENCES:
         case = found[file, name]
@@ -55,11 +55,11 @@ def check_sentences(_, __):
             yield f"{name}: {sentences}"
     told = {entry[2].split(" ")[1] for entry in SENTENCES}
     wanted = {rule for rule in well_formed.RULES if rule[0] in "FNRC"}
-    yield from (f"no sentence of {rule} is tried" for rule in sorted(wanted - told))
+    yield from (f"no sentence of {rule} is tested" for rule in sorted(wanted - told))
 
 
 def check_all_refusals(_, __):
-    """Every refusal of the cases of check has a sentence, and says what safety rests on."""
+    """Every refusal of the cases of check has a sentence, and says whether safety depends on it."""
     for (file, name), case in cases().items():
         for refusal in case.stdout.decode().splitlines():
             if not refusal.startswith("refused "):

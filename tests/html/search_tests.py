@@ -1,4 +1,4 @@
-"""Trials of the hunt: what it finds, what it must not find, and that its processes end."""
+"""Tests of the search: what it finds, what it must not find, and that its processes end."""
 
 import json
 import os
@@ -38,9 +38,10 @@ searchers.wait(600)
 
 def left_out(plant, run):
     """The places of a run at which an event can be left out, with those that aren't enabled without
-    it: by the model that draws."""
+    it: by the model that draws. Rears of trains, which are added for credible lengths, don't count."""
     for place in range(len(run)):
-        state = None
+        if run[place][0] == "tail":
+            continue
         trial = run[:place] + run[place + 1:]
         state = events.State(plant)
         if any(events.apply(plant, state, event) and events.hazard(plant, state) for event in trial):
@@ -56,8 +57,8 @@ def run_faults(plant, run):
 
 
 def check_search(_, is_long):
-    """The hunt finds a hazard on a table with a fault that makes one possible, and no event of what it
-    found can be left out."""
+    """The search finds a hazard on a table with a fault that makes one possible, and no event of what it
+    found can be left out, except that the rear of a train follows."""
     for name, (_, is_possible, _) in fifteen_section_line.FAULTS.items():
         if not is_possible:
             continue
@@ -102,14 +103,14 @@ def check_search_far(_, __):
 
 
 def check_search_right(_, is_long):
-    """The hunt finds nothing on tables that break no rule, or one that safety doesn't rest on."""
+    """The search finds nothing on tables that break no rule, or one on which safety doesn't depend."""
     found = {"line": fifteen_section_line.right(), "stations": json.loads(configurations.made("stations", "3")),
              "throat": json.loads((TOP / "examples/terminus-throat.json").read_text())}
     found.update({name: fifteen_section_line.with_fault(name) for name, fault in fifteen_section_line.FAULTS.items() if not fault[1]})
     for name, document in found.items():
-        hunt = RandomSearch(Plant(document))
-        while hunt.events < (200000 if is_long else 8000):
-            if hunt.for_hazard(600, hunt.runs + 20) is not None:
+        search = RandomSearch(Plant(document))
+        while search.events < (200000 if is_long else 8000):
+            if search.for_hazard(600, search.runs + 20) is not None:
                 yield f"{name}: a run to a hazard"
                 break
 
@@ -134,9 +135,29 @@ def check_shortening(_, __):
         yield f"{len(run)} events became {len(longer)}, and aren't shortened again"
 
 
+def longest_train(plant, run):
+    """The most sections that a train has in a run."""
+    return max(len(body) for state in events.replayed(plant, run) for _, body in state.trains)
+
+
+def check_credible_trains(_, __):
+    """In a run that was found the rear of each train follows its front: no train has more than three
+    sections, though trains pass more."""
+    moves = 0
+    for name in ("facing-point-wrong", "border-without-board", "path-ends-early"):
+        plant = Plant(fifteen_section_line.with_fault(name))
+        run = RandomSearch(plant, 1).for_hazard(600, 6000)
+        moves = max(moves, sum(word == "head" for word, _ in run))
+        yield from (f"{name}: {fault}" for fault in run_faults(plant, run))
+        if longest_train(plant, run) > 3:
+            yield f"{name}: a train of {longest_train(plant, run)} sections"
+    if moves < 5:
+        yield f"no run moves trains over more than {moves} sections"
+
+
 def check_parallel_search(_, __):
-    """Several hunts at once find what one finds, and end with the first run, with their time, and when
-    they are stopped."""
+    """Parallel searches find what one finds, and end with the first run, with their time, and if they are
+    stopped."""
     plant = Plant(fifteen_section_line.with_fault("facing-point-wrong"))
     with Searchers(plant, count=3) as searchers:
         searchers.start(600)
@@ -155,13 +176,13 @@ def check_parallel_search(_, __):
     with Searchers(right, count=2) as searchers:
         searchers.start(600)
         if searchers.poll() is not None or searchers.is_over:
-            yield "a hunt over a table that breaks no rule is over at once"
+            yield "a search over a table that breaks no rule is over at once"
         pids = [process.pid for process in searchers.processes.values()]
     yield from (f"process {pid} is left after its searchers were stopped" for pid in alive(pids))
 
 
 def check_processes_end(_, __):
-    """The processes of a hunt end with the one that started them, however that ends."""
+    """The processes of a search end with the one that started them, however that ends."""
     where = {**os.environ, "PYTHONPATH": f"{TOP}:{TOP / 'tools'}"}
     for number in (signal.SIGINT, signal.SIGTERM, signal.SIGKILL):
         parent = subprocess.Popen([sys.executable, "-B", "-c", PARENT], env=where,
@@ -209,4 +230,4 @@ def check_search_alone(program, _):
 
 
 SearchTests = test_case("SearchTests", [check_search, check_search_cancel, check_search_far, check_search_right, check_shortening,
-          check_parallel_search, check_processes_end, check_search_alone])
+          check_credible_trains, check_parallel_search, check_processes_end, check_search_alone])

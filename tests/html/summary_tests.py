@@ -1,4 +1,4 @@
-"""Trials of what the page says first, of what it says that safety rests on, and of the words and files
+"""Tests of what the report says first, of what it says that safety depends on, and of the arguments and files
 that it refuses."""
 
 import json
@@ -19,7 +19,7 @@ from tests.support.harness import test_case
 
 AT_ONCE = 4
 
-# words that the page refuses, in the folder of check_refused_words
+# arguments that the report refuses, in the directory of check_refused_words
 WORDS = (
     ("x.html", "--depth", "99"), ("x.html", "--depth=0"), ("x.html", "--conflicts", "-1"),
     ("x.html", "--conflicts=200001"), ("x.html", "--columns", "loose"),
@@ -32,7 +32,8 @@ WORDS = (
     ("x.cert",), ("x.html", "--cert", "x.html"), ("x.html", "--cert=conf.json"),
     ("x.html", "--cert", "hard.html"), ("hanging.html", "--cert", "y.cert"),
     ("one.run", "--run", "one.run"), ("x.html", "--cert", "one.run", "--run", "one.run"),
-    ("told",), ("/dev/stdout",), ("x.html", "--cert", "told"), ("no/folder.html",))
+    ("x.html", "--no-cert", "--cert", "y.cert"), ("x.html", "--title", ""), ("x.html", "--author", "a\nb"),
+    ("x.html", "--issue", "x" * 201), ("told",), ("/dev/stdout",), ("x.html", "--cert", "told"), ("no/folder.html",))
 
 # a plant that breaks a rule, the line of check, the first sentence, and what is said of safety
 RESTING = [
@@ -50,29 +51,28 @@ RESTING = [
     # C1: the source is a board of the other direction; the path the other way round; both
     ("linear a . b . m1\nlinear b a c m4 m3\nlinear c b . m2 .\nroute r1 from m4 to . path c",
      "refused C1 routes[0]",
-     "Route r1 is in the wrong direction: its source m4 stands for trains that run down, and its path "
-     "leads up from section b on. Its source should be a board for trains that run up, as m3 on the "
-     "same section is.", broken_rules.RESTS),
+     "Route r1 is in the wrong direction: its entry board m4 is for trains that run down, but its path leads "
+     "up from section b. It needs an entry board for trains that run up, for example m3 on the same section.", broken_rules.RESTS),
     ("linear a . b . m1\nlinear b a c . .\nlinear c b . m2 .\nroute r1 from m1 to . path c b",
      "refused C1 routes[0]",
-     "Route r1 lists its path in the wrong direction, from its end to its beginning: it runs up, as its "
-     "source m1 does, and should list b and c.", broken_rules.RESTS),
+     "Route r1 lists its path in the wrong direction, from its end to its beginning. Its entry board m1 is for "
+     "trains that run up, so it should list b and c.", broken_rules.RESTS),
     ("linear a . b . m1\nlinear b a c . .\nlinear c b d . .\nlinear d c . m2 .\n"
      "route r1 from m1 to . path d c", "refused C1 routes[0]",
-     "Route r1 is in the wrong direction: it runs up, as its source m1 does, and its path leads down, "
-     "from section d to section c.", broken_rules.RESTS),
+     "Route r1 is in the wrong direction: its entry board m1 is for trains that run up, but its path leads "
+     "down, from section d to section c.", broken_rules.RESTS),
     ("linear a . b . m1\nlinear b a c m4 m3\nlinear c b . m2 .\nroute r1 from m4 to m3 path c",
      "refused C2 routes[0]",
-     "Route r1 is in the wrong direction, as is said at C1: this may follow from it.", broken_rules.IDLE_END),
+     "Route r1 is in the wrong direction (see C1), which may be the cause of this.", broken_rules.IDLE_END),
     # C1 without a wrong direction
     ("linear a . b . m1\nlinear b a c . .\nlinear c b . m2 .\nroute r1 from m1 to . path c",
      "refused C1 routes[0]",
-     "Route r1, which runs up, begins at m1, on section a, and its path goes on with c; after a comes b.",
+     "Route r1, which runs up, begins at m1 on section a, but its path starts with c; after a comes b.",
      broken_rules.RESTS)]
 
 
 def check_resting(program, _):
-    """Safety is said to rest on a rule only where it does, and of a wrong direction that comes first."""
+    """Safety is said to depend on a rule only if it does, and a wrong direction comes first."""
     for text, refusal, first, safety in RESTING:
         plant, given = plant_of(text)
         done = subprocess.run([program, "check"], input=given, capture_output=True, check=False)
@@ -87,40 +87,58 @@ def check_resting(program, _):
 
 
 def first_lines(text):
-    """The page's first lines."""
-    return [plain(item) for item in
-            text.partition('<ul class="sum">')[2].partition("</ul>")[0].split("</li>") if item]
+    """The verdict's line of a report, and the lines below it."""
+    verdict = plain(text.partition('id="verdict"')[2].partition(">")[2].partition("</p>")[0])
+    return [verdict, *(plain(item) for item in
+                       text.partition('<ul class="sum">')[2].partition("</ul>")[0].split("</li>") if item)]
+
+
+def expected_lines(given):
+    """Configurations by name with arguments, the begin of each of the first lines, and of what is printed."""
+    bare = json.dumps({**json.loads(given["line-with-boards"]), "routes": []}).encode()
+    idle = json.dumps(fifteen_section_line.with_fault("conflict-missing")).encode()
+    return (
+        ("clean", given["station"], (), ["SAFE No run of any length ends in a hazard (irv check",
+                                         "Rules: clean", "verify: strict columns: safe k=1"],
+         "x: SAFE. No run"),
+        ("late", given["station"], ("--verify-seconds", "0"),
+         ["SAFE No run of any length ends in a hazard (irv check", "Rules: clean",
+          "verify: strict columns: no answer within 0 seconds (--verify-seconds). This does not change the "
+          "verdict."], "x: SAFE. No run"),
+        ("unsafe", given["two-sections"], ("--search-seconds", "0"),
+         ["HAZARD FOUND A run from the initial state ends in a collision in section ",
+          "Rules: 2 rules broken: C7", "Movements: The table has no routes, so no board opens. Only trains "
+          "that enter at a border without a board can move: a and b.",
+          "verify: free columns: unsafe steps=3"], "x: HAZARD FOUND. A run"),
+        ("found", given["platforms-wrong-position"], ("--depth", "1"),
+         ["HAZARD FOUND A run from the initial state ends in a collision in section pl1 (irv replay: hazard "
+          "two pl1).", "Rules: 1 rule broken: C3",
+          "Search: a run of 8 events from the initial state to a hazard. Two trains are in section pl1",
+          "verify: free columns: "], "x: HAZARD FOUND. A run"),
+        ("no search", given["platforms-wrong-position"], ("--depth", "1", "--search-seconds", "0"),
+         ["REFUSED Broken rules: C3 (irv check with strict columns). No statement about safety.",
+          "Rules: 1 rule broken: C3", "verify: free columns: not inductive"], "x: REFUSED. Broken rules: C3"),
+        ("deviation", idle, (), ["SAFE WITH DEVIATIONS: proved No run of any length ends in a hazard. The table "
+                                 "deviates from C6", "Rules: 1 rule broken: C6",
+                                 "verify: free columns: safe k=1"], "x: SAFE WITH DEVIATIONS: proved. No run"),
+        ("bare", bare, (), ["SAFE ", "Rules: clean", "Movements: The table has no routes, so no board opens. A "
+                            "train can enter, but it stops at the board of its border.",
+                            "verify: strict columns: safe k=1"], "x: SAFE. "))
 
 
 def check_first_lines(program, _):
-    """The page's first lines, and the line that is printed, tell what was found first, what check says,
-    under which columns the verdict is, and where no train can move."""
-    given = plants()
-    bare = json.dumps({**json.loads(given["line-with-boards"]), "routes": []}).encode()
-    for name, data, words, firsts, printed in (
-            ("clean", given["station"], (), ["Rules: clean", "Verdict: safe k=1"], "x: safe k=1"),
-            ("unsafe", given["two-sections"], ("--search-seconds", "0"),
-             ["Verdict: under free columns: unsafe steps=3", "Rules: check refuses it: 2 rules broken, "
-              "C7", "The table has no routes, so no board ever opens: no train can move but those that "
-              "come in where the border has no board, at a and b."],
-             "x: under free columns: unsafe steps=3 hazard=two "),
-            ("hunted", given["platforms-wrong-position"], ("--depth", "1"),
-             ["A run of 7 events from the start to a hazard: Two trains are in section pl1",
-              "Rules: check refuses it: 1 rule broken, C3", "Verdict: under free columns: "],
-             "x: hazard two pl1, by a run of 7 events that was hunted; refused C3 routes[1]; under free "
-             "columns: "),
-            ("idle", json.dumps(fifteen_section_line.with_fault("conflict-missing")).encode(), (),
-             ["Rules: check refuses it: 1 rule broken, C6", "Verdict: under free columns: safe k=1"],
-             "x: refused C6 routes[1] routes[11]; under free columns: safe k=1"),
-            ("bare", bare, (), ["Rules: clean", "The table has no routes, so no board ever opens: no "
-                                "train can move but come in, to the board of the border.",
-                                "Verdict: safe k=1"], "x: safe k=1")):
-        text, said = page(program, data, "--verify-seconds", "600", *words)
+    """The verdict is the report's first line and the first that is printed. The lines below it say what was
+    answered. A timeout is said below the verdict and doesn't change it."""
+    for name, data, words, firsts, printed in expected_lines(plants()):
+        text, said = page(program, data, "--verify-seconds", "600", *words) \
+            if "--verify-seconds" not in words else page(program, data, *words)
         found = first_lines(text)
         if not all(one.startswith(first) for one, first in zip([*found, "", "", ""], firsts)):
             yield f"{name}: {found}"
         if not ("x" + said[said.index(".html") + 5:]).startswith(printed):
             yield f"{name}: {said}"
+        if text.index('id="verdict"') > text.index("<h2"):
+            yield f"{name}: the verdict is not first"
 
 
 def check_side_by_side(_, __):
@@ -132,34 +150,33 @@ def check_side_by_side(_, __):
         slow = fake_program.program(room, {"check": refused, "verify": {"sleeps": 900}, "table": {"status": 5},
                                     "replay": {"says": "hazard wrong PC\n"}})
         text, said = page(slow, wrong, "--verify-seconds", "600", "--search-seconds", "300")
-        if "since a run to a hazard was found" not in said:
+        if "because the search found a run to a hazard" not in said:
             yield f"a slow verify: {said}"
-        late = [word for word in ("wasn't waited for",) if word in plain(text)]
+        late = [word for word in ("ended before it answered",) if word in plain(text)]
         if late:
             yield f"a slow verify: {late}"
     with tempfile.TemporaryDirectory(prefix="irv-fake-") as room:
         liar = fake_program.program(room, {"check": refused, "verify": {"sleeps": 900}, "table": {"status": 5},
                                     "replay": {"says": "no hazard\n"}})
         text, said = page(liar, wrong, "--verify-seconds", "600", "--search-seconds", "300")
-        if "Here the page stops" not in text or "hazard" in first_lines(text)[0] \
-                or ": hazard" in said:
+        if "The page stops here" not in text or "HAZARD" in first_lines(text)[0] or "HAZARD" in said:
             yield f"a replay that says otherwise: {said}"
     with tempfile.TemporaryDirectory(prefix="irv-fake-") as room:
         spent = fake_program.program(room, {"check": {"says": "clean\n"}, "table": {"status": 5},
                                      "verify": {"says": "spent conflicts=1\n", "status": 4},
                                      "replay": {"says": "no hazard\n"}})
         text, said = page(spent, json.dumps(fifteen_section_line.right()).encode(), "--search-seconds", "60")
-        if "No hunt: check under strict columns answered “clean”" not in text:
+        if "No search: check with strict columns answered “clean”" not in text:
             yield f"a clean table: {said}"
 
 
-# what tells on a page how long something took
+# what says on a page how long something took
 TIME = re.compile(r"[0-9] s\b|after [0-9]+ seconds")
 
 
 def check_times(program, _):
-    """A page tells how long the answers and the hunt took. With --without-times neither it nor what is
-    printed does, and it tells the rest."""
+    """A report says how long the answers and the search took. With --without-times neither it nor what is
+    printed does, and it says the rest."""
     wrong = json.dumps(fifteen_section_line.with_fault("border-without-board")).encode()
     with tempfile.TemporaryDirectory(prefix="irv-fake-") as room:
         slow = fake_program.program(room, {"check": {"says": "refused C7 sections[8]\n", "status": 5},
@@ -167,9 +184,9 @@ def check_times(program, _):
                                     "replay": {"says": "hazard wrong PC\n"}})
         for asked, given, words, parts in (
                 (program, plants()["platforms-wrong-position"], ("--verify-seconds", "600", "--depth", "1"),
-                 ("(status 5", "hunts at once")),
+                 ("(status 5", "searches in parallel")),
                 (slow, wrong, ("--verify-seconds", "600", "--search-seconds", "300"),
-                 ("(no status", "since a run to a hazard was found"))):
+                 ("(no status", "because the search found a run to a hazard"))):
             for option, is_told in (((), True), (("--without-times",), False)):
                 text, said = page(asked, given, *words, *option)
                 found = TIME.findall(plain(text) + said)
@@ -178,15 +195,15 @@ def check_times(program, _):
                 yield from (f"{option}: {part!r} isn't there" for part in parts if part not in plain(text))
 
 
-# lines of check with rules that the page has no words for, since no rule has the number 0: whether a hunt
-# begins there, what is said of safety
+# lines of check with rules without a sentence, because no rule has the number 0: whether a search begins
+# there, what is said of safety
 UNHEARD = [("refused C0 routes[0]", True, broken_rules.UNKNOWN), ("refused C0 routes[0] routes[1]", True, broken_rules.UNKNOWN),
            ("refused C0 sections[0]", True, broken_rules.UNKNOWN), ("refused N0 boards[0]", False, broken_rules.NEEDED),
            ("refused R0 routes[1]", False, broken_rules.NEEDED), ("refused D0 document", False, broken_rules.UNKNOWN)]
 
 
 def check_unheard_rules(_, __):
-    """A rule that the page has no words for is told as broken, with its line, and the page goes on."""
+    """A rule without a sentence is shown as broken, with its line, and the report goes on."""
     wrong = json.dumps(fifteen_section_line.with_fault("conflict-missing")).encode()
     plant = Plant(json.loads(wrong))
     for refusal, is_suspect, safety in UNHEARD:
@@ -194,7 +211,7 @@ def check_unheard_rules(_, __):
         broken_rules.where(plant, rule, places)
         found = [" ".join(broken_rules.sentences(plant, rule, places)), broken_rules.rests(plant, rule, places),
                  broken_rules.safety(plant, rule, places)]
-        if found != [f"The page has no words for the rule {rule}: docs/MODEL.md says what it asks for.",
+        if found != [f"This version has no sentence for the rule {rule}; docs/reference/model.md has the rule.",
                      is_suspect, safety]:
             yield f"{refusal}: {found}"
     with tempfile.TemporaryDirectory(prefix="irv-fake-") as room:
@@ -203,7 +220,7 @@ def check_unheard_rules(_, __):
                                      "verify": {"says": "spent conflicts=1\n", "status": 4},
                                      "replay": {"says": "no hazard\n"}})
         text, said = page(newer, wrong, "--search-seconds", "0")
-        if plain(text).count("The page has no words for the rule C0") != 3 \
+        if plain(text).count("This version has no sentence for the rule C0") != 3 \
                 or not all(refusal in plain(text) for refusal, *_ in UNHEARD[:3]) or "spent conflicts=1" not in said:
             yield f"a rule of the columns that is new: {said}"
 
@@ -224,7 +241,7 @@ def files_in(room):
 
 
 def check_refused_words(program, _):
-    """Words that neither the page nor verify knows, and files that would be written over one another,
+    """Arguments that neither the report nor verify knows, and files that would be written over one another,
     end with status 125 and change nothing."""
     with tempfile.TemporaryDirectory(prefix="irv-page-words-") as room:
         conf = Path(room, "conf.json")

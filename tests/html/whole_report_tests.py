@@ -1,7 +1,8 @@
-"""Trials of whole pages: their form, their words and files, what they say where the program answers nothing or
+"""Tests of whole reports: their form, their options and files, what they say if the program answers nothing or
 what isn't so, and how they look in a browser and on paper."""
 
 import json
+import re
 import subprocess
 import tempfile
 import time
@@ -22,7 +23,7 @@ from irvtools.html.run_frames import MOST_PICTURED
 from tests.support.harness import LongTest, test_case
 
 MOST_SHEETS = 6         # of paper for a station
-SHEET = "<h2>The table of routes"
+SHEET = '<h2 id="table">'
 # words of the page, and those of verify that they give; the last is the file of the certificate
 WORDS = (
     (("a.html",), "--columns strict --cert a.cert"),
@@ -50,10 +51,10 @@ def check_pages(program, is_long):
         text, said = page(program, found[name], "--verify-seconds", "20" if is_long else "5", "--search-seconds", "4")
         yield from (f"{name}: {fault}" for fault in markup_check.faults(text))
         check = Program(program, found[name]).ask(["check"], 60).line
-        for words in (check, "Track plan", "For the safety case", "isn't proved"):
+        for words in (check, "Track plan", "For the safety case", "is not proved"):
             if words not in text:
                 yield f"{name}: {words!r} isn't on the page; {said}"
-        if "Here the page stops" in text:
+        if "The page stops here" in text:
             yield f"{name}: the page stops"
 
 
@@ -66,7 +67,7 @@ def check_unreadable(program, _):
                          (b"\xff", "UTF-8"), (b"<script>alert(1)</script>", "Line 1, column 1"),
                          (json.dumps(wrong).encode(), "&lt;img src=x"), (b"[]", "an array"),
                          (b'{"version": 1, "sections": [{"\\ud800": 1}], "routes": []}', "refused F2"),
-                         (b'{"version": 3, "sections": [], "routes": []}', "should be 1 or 2")):
+                         (b'{"version": 3, "sections": [], "routes": []}', "must be 1 or 2")):
         text, said = page(program, given)
         yield from (f"{given[:40]}: {fault}" for fault in markup_check.faults(text))
         if words not in text or "refused F" not in text:
@@ -103,11 +104,11 @@ def check_fakes(_, __):
     quiet = {"says": "no hazard\n", "status": 6}
     with tempfile.TemporaryDirectory(prefix="irv-fake-") as room:
         for answers, wanted in (
-                ({"check": clean, "verify": {"sleeps": 5}, "replay": quiet}, "wasn&#x27;t waited for"),
-                ({"check": clean, "verify": {"status": 10}, "replay": quiet}, "couldn&#x27;t answer"),
+                ({"check": clean, "verify": {"sleeps": 5}, "replay": quiet}, "verify was ended before it answered"),
+                ({"check": clean, "verify": {"status": 10}, "replay": quiet}, "verify could not answer"),
                 ({"check": {"status": 139}}, "the page ends here"),
                 ({"check": clean, "verify": unsafe, "replay": {"says": "hazard two U1\n"}},
-                 "Here the page stops")):
+                 "The page stops here")):
             program = fake_program.program(room, answers)
             text, said = page(program, given, "--verify-seconds", "1", "--search-seconds", "1")
             if wanted not in text:
@@ -137,16 +138,16 @@ def paper_faults(found, program):
     case take more than six pages, the table of routes isn't on pages of its own in their width, or a run
     that uses a route is printed."""
     text, _ = page(program, plants()["facing-point-wrong"], "--verify-seconds", "5")
-    begin, _, rest = text.partition(SHEET)
-    sheet, _, rest = rest.partition("<h2>What each route is good for")
-    end = rest[rest.index("<h2>For the safety case"):]
+    begin, _, rest = text.partition('<h2 id="routes">')
+    sheet, _, end = rest.partition(SHEET)[2].partition('<h2 id="safety-case">')
+    end = '<h2 id="safety-case">' + end
     pages = browser.sheets(found, begin + end)
     if not 2 <= len(pages) <= MOST_SHEETS or any(width > height for width, height in pages):
         yield f"on paper: {pages}"
     wide = [width > height for width, height in browser.sheets(found, begin + SHEET + sheet + end)]
     if sum(wide) != 1 or len(wide) < len(pages) + 1:
         yield f"on paper with the table of routes: {wide}"
-    pictures = text.count('<div class="frame">')
+    pictures = len(re.findall('<div id="[a-z0-9-]+" class="frame">', text))
     if pictures != MOST_PICTURED + 1:
         yield f"on paper: {pictures} pictures of a run"
     if "<details open" in text or "details-content" in text:

@@ -1,4 +1,4 @@
-"""Trials of the page in a browser without a screen: without a mouse, without colours, at other sizes, and
+"""Tests of the simulator in a browser without a screen: without a mouse, without colours, at other sizes, and
 of the largest plants."""
 
 import json
@@ -51,7 +51,7 @@ def check_browser_keys(program, running, _):
         one.key("ArrowLeft")
         one.key("Enter")
         yield from faults("keys", [
-            (entered, ("Let a train in at b1", "1 of 1")), (any("Board m1" in words for words in while_), True),
+            (entered, ("Train enters at b1", "1 of 1")), (any("Board m1" in words for words in while_), True),
             (chosen, "Board m1 on b1 for trains that run up, closed"), (after, "12 of 12"),
             (unmoved, 12), (places, [11, 0, 1, 12, 12, 1, 2, 1, 0]), (one.ask("game.play.events.length"), 1),
             (one.ask("eventLine(game.plant, game.play.events[0])"), "enter b2"), (list(one.faults()), [])])
@@ -76,8 +76,8 @@ def check_browser_reader(program, running, _):
         shown.page.ask("game.askLine('mark r2')")
         told = names_of(shown.page)
         yield from (f"a {role} without a name" for role, name in told if role in CONTROLS and not name)
-        for words in ("Board m1 on b1 for trains that run up, closed", "Let a train in at b2",
-                      "Point p1, lies minus, free, vacant", "Train 1, up, in t2, before board m5",
+        for words in ("Board m1 on b1 for trains that run up, closed", "Train enters at b2",
+                      "Points p1, in position minus, free, vacant", "Train 1, up, in t2, waiting at board m5",
                       "Section t2, free, occupied by train 1"):
             if ("button", words) not in told:
                 yield f"{words!r} isn't told"
@@ -162,7 +162,7 @@ def check_browser_dark(program, running, _):
             shown.press("section", "p2")
             shown.page.ask("game.askLine('lock r2')")
             yield from (f"{scheme}: {low}" for low in shown.page.ask(CONTRAST))
-            letters = "[...document.querySelectorAll('.letter')].map((one) => one.textContent).join()"
+            letters = "[...document.querySelectorAll('.live .letter')].map((one) => one.textContent).join()"
             yield from faults(scheme, [(shown.page.ask(letters), ",U,L,,L,L"),
                                        (shown.page.ask(SHAPES), ["circle+path", "rect+path"])])
 

@@ -1,4 +1,4 @@
-"""Trials of the page in a browser without a screen: its model, and the page played by clicks."""
+"""Tests of the simulator in a browser without a screen: its model, and runs by clicks."""
 
 import json
 import subprocess
@@ -55,7 +55,7 @@ def check_browser_crossing(program, running, _):
 
 @in_browser
 def check_browser_refused(program, running, _):
-    """A route that waits and an event that isn't possible: both with their reasons; trains that block each
+    """A route that waits and an event that isn't enabled: both with their reasons; trains that block each
     other."""
     with Shown(program, running, model_checks.plants()["station"]) as shown:
         shown.press("entry", "b1")
@@ -67,7 +67,7 @@ def check_browser_refused(program, running, _):
         waits = shown.text("chosen")
         shown.button("Allocate")
         refused = shown.text("alert")
-        shown.button("Set (mark)")
+        shown.button("Request (mark)")
         again = shown.text("alert")
         shown.press("entry", "b1")
         closed = shown.text("alert")
@@ -81,18 +81,18 @@ def check_browser_refused(program, running, _):
                                  input=shown.given, capture_output=True, check=False)
         yield from faults("refused", [
             ("It waits: t1 is occupied by train 1." in waits, True),
-            (refused, "r1 can't be allocated: t1 is occupied by train 1."),
-            (again, "r1 can't be set: r1 is marked, and not free."),
+            (refused, "r1 cannot be allocated: t1 is occupied by train 1."),
+            (again, "r1 cannot be requested: r1 is marked, not free."),
             (closed, "No train can enter at b1: b1 is occupied by train 2."), (place, "15 of 15"),
             (shown.text("blocked").partition(":")[0], "Train 1, Train 2, Train 3 block each other"),
-            (checked.returncode, 0), (checked.stdout.decode().count("the page says the same"), 4),
+            (checked.returncode, 0), (checked.stdout.decode().count("the simulator says the same"), 4),
             (list(shown.page.faults()), [])])
 
 
 @in_browser
 def check_browser_collision(program, running, _):
     """A collision on a wrong table, by hand in under twenty clicks; saved, answered by replay, loaded, and
-    played on from an earlier event."""
+    continued from an earlier event."""
     with Shown(program, running, model_checks.plants()["platforms-wrong-position"]) as shown:
         shown.press("entry", "pl1")
         shown.press("entry", "line")
@@ -110,9 +110,8 @@ def check_browser_collision(program, running, _):
         shown.press("entry", "pl2")
         yield from faults("the collision", [
             (clicks < 20, True), (shown.answer("replay", run), "hazard two pl1\n"), (loaded, text),
-            (alert, "Two trains are in section pl1: a collision. The play stops here: go back to try "
-                    "something else."),
-            (after, "No train can enter at pl2: a hazard stands (hazard two pl1), and ends the run."),
+            (alert, "Two trains are in section pl1: a collision. The run ends here. Go back to try something else."),
+            (after, "No train can enter at pl2: the run has ended in a hazard (hazard two pl1)."),
             (shown.page.ask("game.play.runText()"), "run 1\nstart\nenter pl1\nenter pl2\nend\n"),
             (shown.page.ask("document.body.className"), ""), (list(shown.page.faults()), [])])
         shown.click("#uncut")
@@ -120,16 +119,16 @@ def check_browser_collision(program, running, _):
 
 
 BAD_TEXTS = [
-    ("run 1\nstart\nhead b1\nend\n", "Not a run at 1: No train can go on from b1: no train has its head in b1."),
-    ("run 1\nstart\nenter b1\nenter zz\nend\n", "Line 4 is bad: “enter zz” doesn't name a section."),
+    ("run 1\nstart\nhead b1\nend\n", "Not a run at 1: No train can move on from b1: no train has its front in b1."),
+    ("run 1\nstart\nenter b1\nenter zz\nend\n", "Line 4 is bad: “enter zz” does not name a section."),
     ("run 1\nstart\nenter b1\n", "Line 4 is bad: it is missing"), ("", "Line 1 is bad"),
     ("drive 1\nlock r1\nend\n", "Line 2 is bad"), ("<img src=x onerror=alert(1)>", "Line 1 is bad"),
-    ("run 1\nstart\nenter <b>x</b>\nend\n", "Line 3 is bad: “enter <b>x</b>” doesn't name")]
+    ("run 1\nstart\nenter <b>x</b>\nend\n", "Line 3 is bad: “enter <b>x</b>” does not name")]
 
 
 @in_browser
 def check_browser_texts(program, running, _):
-    """Runs of verify and of a state, scenarios and links are loaded; what isn't one is refused, and changes
+    """Runs of verify and of a state, scenarios and links are loaded; other texts are refused, and change
     nothing."""
     given = model_checks.plants()["station"]
     state = (TOP / "examples/point-thrown-under-train.run").read_text()
@@ -149,7 +148,7 @@ def check_browser_texts(program, running, _):
         shown.click("#offer")
         scene = (TOP / "examples/station-crossing.scene").read_text()
         yield from faults("texts", [
-            (first, "run 1\nstart\nenter b1\nend\n"), (offered, "Load what is before it (events: 1)"),
+            (first, "run 1\nstart\nenter b1\nend\n"), (offered, "Load the events before it (1)"),
             (load(f"unsafe steps=1 hazard=two x\n{state}"), state), (shown.text("own"), "hazard wrong p1"),
             (load(scene).count("\n"), 57), (shown.page.ask("linkOf(game.play.runText()).split('#')[1].slice(0, 18)"),
                                             "run.1~start~enter."),
@@ -164,8 +163,8 @@ def check_browser_texts(program, running, _):
 
 @in_browser
 def check_browser_events(program, running, _):
-    """Each event is asked for by its button where the plant does nothing by itself; a train goes on step by
-    step, or runs as far as its boards allow."""
+    """Without automatic events each event is asked for by its button; a train moves on step by step, or runs as
+    far as its boards allow."""
     with Shown(program, running, model_checks.plants()["station"]) as shown:
         shown.click("input[value=none]")
         shown.press("entry", "b1")
@@ -185,7 +184,7 @@ def check_browser_events(program, running, _):
         shown.button("Run on")
         run = shown.page.ask("game.play.done.map((event) => eventLine(game.plant, event)).join(',')")
         yield from faults("events", [
-            (refused, "r2 can't be locked: point p1 lies plus, and isn't thrown to minus yet."),
+            (refused, "r2 cannot be locked: points p1 are in position plus and do not move to minus yet."),
             (run, "enter b1,mark r2,allocate r2,throw p1,settle p1,lock r2,head b1,sense r2,tail b1,head p1,"
                   "tail p1")])
         shown.click("input[value=plant]")

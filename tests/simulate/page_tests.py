@@ -1,4 +1,4 @@
-"""Trials of the page as it is written, and of `--check`; no browser is needed."""
+"""Tests of the simulator as it is written, and of `--compare`; no browser is needed."""
 
 import json
 import subprocess
@@ -67,16 +67,16 @@ def check_no_plants(program, _):
                          (json.dumps(two).encode(), "refused N1 sections[1]")):
         text, said = page(program, given)
         yield from (f"{given[:40]}: {fault}" for fault in markup_check.faults(text))
-        if words not in text or "nothing to play" not in text or "<script" in text:
+        if words not in text or "nothing to simulate" not in text or "<script" in text:
             yield f"{given[:40]}: {words!r} isn't on the page; {said}"
 
 
 def check_no_answer(_, __):
-    """Where the program gives no answer the page doesn't say that the configuration isn't a plant."""
+    """If the program gives no answer the page doesn't say that the configuration isn't a plant."""
     with tempfile.TemporaryDirectory(prefix="irv-fake-") as room:
         text, said = page(fake_program.program(room, {"check": {"status": 139}}), model_checks.plants()["station"])
         yield from markup_check.faults(text)
-        if "gave no answer" not in text or "isn&#x27;t a plant" in text:
+        if "gave no answer" not in text or "is not a plant" in text:
             yield f"no answer is taken for a refusal; {said}"
 
 
@@ -101,7 +101,7 @@ def check_words(program, _):
     with tempfile.TemporaryDirectory(prefix="irv-play-") as room:
         conf_ = Path(room, "conf.json")
         conf_.write_bytes(given)
-        for words in ((), ("a.html", "b.html"), ("--check",), ("a.html", "--compare", "conf.json"), ("-x",),
+        for words in ((), ("a.html", "b.html"), ("--compare",), ("a.html", "--compare", "conf.json"), ("-x",),
                       ("--verify-seconds", "3", "a.html"), ("no/folder.html",)):
             if call(program, given, *words, room=room)[0] != 125:
                 yield f"{words}: another status than 125"
@@ -131,35 +131,35 @@ SCENE = "drive 1\nenter b1\nmark r1\nend\n"
 
 
 def check_check(program, _):
-    """--check asks replay and drive, and says where the page doesn't agree with them."""
+    """--compare asks replay and drive, and says if the simulator doesn't agree with them."""
     two, station = model_checks.plants()["two-sections"], model_checks.plants()["station"]
     answers = [(two, played(two, "hazard two b", ["1 enter a", "0 leave b"], RUN), 0,
-                "hazard two b; the page says the same"),
-               (two, played(two, "hazard two a", [], RUN), 1, "the page says hazard two a"),
+                "hazard two b; the simulator says the same"),
+               (two, played(two, "hazard two a", [], RUN), 1, "the simulator says hazard two a"),
                (two, played(two, "hazard two b", ["1 enter b"], RUN), 1, "with enter b as event 2: no hazard"),
                (two, played(station, "hazard two b", [], RUN), 125, "another configuration"),
-               (two, played(two, "hazard two b", ["7 enter b"], RUN), 125, "a place that the run doesn't have"),
-               (two, played(two, "hazard two b", [], RUN).replace("says", "say"), 125, "as the page saves it"),
+               (two, played(two, "hazard two b", ["7 enter b"], RUN), 125, "a place that the run does not have"),
+               (two, played(two, "hazard two b", [], RUN).replace("says", "say"), 125, "as the simulator saves it"),
                (two, "run 1\nstärt\n", 125, "bytes that no name has"),
-               (b"{}", RUN, 125, "isn't a plant"),
-               (two, RUN, 0, "irv replay: hazard two b; the page"),
-               (two, "run 1\nstart\nhead a\nend\n", 0, "irv replay: not a run at 1; the page"),
-               (two, "run 1\nstart\n", 0, "irv replay: rejected line 3; the page"),
-               (station, SCENE, 0, "irv drive: stuck at 3 steps=12; the page")]
+               (b"{}", RUN, 125, "is not a plant"),
+               (two, RUN, 0, "irv replay: hazard two b; the simulator"),
+               (two, "run 1\nstart\nhead a\nend\n", 0, "irv replay: not a run at 1; the simulator"),
+               (two, "run 1\nstart\n", 0, "irv replay: rejected line 3; the simulator"),
+               (station, SCENE, 0, "irv drive: stuck at 3 steps=12; the simulator")]
     with tempfile.TemporaryDirectory(prefix="irv-play-") as room:
         for given, text, wanted, words in answers:
             Path(room, "file").write_text(text, encoding="utf-8")
             status, said = call(program, given, "--compare", "file", room=room)
             if (status, words in said) != (wanted, True):
                 yield f"{text!r}: {status}, {said!r}; expected were {wanted} and {words!r}"
-            if wanted == 0 and script_engine.find() and "isn't asked" in said:
-                yield f"{text!r}: the page isn't asked: {said!r}"
+            if wanted == 0 and script_engine.find() and "is not compared" in said:
+                yield f"{text!r}: the simulator is not compared: {said!r}"
         if call(program, two, "--compare", "nothing", room=room)[0] != 125:
             yield "a file that isn't there: another status than 125"
 
 
 def check_no_engine(program, _):
-    """Without a script engine --check answers all the same, and says that the page isn't asked."""
+    """Without a script engine --compare answers too, and says that the simulator is not compared."""
     with tempfile.TemporaryDirectory(prefix="irv-play-") as room:
         Path(room, "file").write_text(RUN, encoding="utf-8")
         python = Path(room, "python3")
@@ -169,7 +169,7 @@ def check_no_engine(program, _):
                               env={"PATH": f"{room}:/bin-that-is-not"}, capture_output=True, check=False,
                               input=model_checks.plants()["two-sections"], executable=None)
     said = done.stdout.decode() + done.stderr.decode()
-    if done.returncode != 0 or "hazard two b; the page isn't asked" not in said:
+    if done.returncode != 0 or "hazard two b; the simulator is not compared" not in said:
         yield f"{done.returncode}: {said!r}"
 
 

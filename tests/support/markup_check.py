@@ -3,7 +3,7 @@
 from html.parser import HTMLParser
 
 EMPTY = {"meta", "br", "path", "rect", "circle", "use", "line"}     # may have no end
-ALLOWED = {"html", "head", "meta", "title", "style", "body", "h1", "h2", "h3", "p", "div", "span", "b", "i",
+ALLOWED = {"nav", "a", "html", "head", "meta", "title", "style", "body", "h1", "h2", "h3", "p", "div", "span", "b", "i",
            "code", "pre", "ul", "li", "table", "thead", "tbody", "tr", "td", "th", "details", "summary", "svg", "g",
            "defs", "use", "path", "rect", "circle", "text"}
 OPENING = {"src", "href", "srcset", "data", "action", "background", "xlink:href", "poster", "style"}

@@ -38,11 +38,10 @@ class TimedPages:
 def faults(text, said):
     """What is wrong with the page of a table with a hazard, and with the line that is printed."""
     yield from markup_check.faults(text)
-    first = plain(text.partition('<ul class="sum">')[2].partition("</li>")[0])
-    is_hunted, is_verdict = " from the start to a hazard: " in first, ": unsafe steps=" in first
-    if not is_hunted and not is_verdict:
+    first = plain(text.partition('id="verdict"')[2].partition(">")[2].partition("</p>")[0])
+    if not first.startswith("HAZARD FOUND "):
         yield f"the first line is {first!r}"
-    if "hazard two " not in said and "hazard wrong " not in said and "hazard=" not in said:
+    if ": HAZARD FOUND. " not in said:
         yield f"printed is {said!r}"
-    if 'class="hz"' not in text or "Here the page stops" in text:
+    if 'id="hazard"' not in text or "The page stops here" in text:
         yield "the hazard isn't drawn"

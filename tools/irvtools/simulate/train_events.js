@@ -22,7 +22,7 @@ const TRAIN_RULES = {
       }
       if (ahead(plant, state, x, train.direction) === null) {
         yield state.at[x] === "moving" ? `points ${plant.name(x)} are moving under its front`
-          : `the network ends there`;
+          : "the network ends there";
       }
     },
     does(plant, state, x) {
@@ -55,7 +55,7 @@ const TRAIN_RULES = {
         yield others.length ? `train ${others[0].number} has other sections besides ${plant.name(x)}`
           : `no train is in ${plant.name(x)}`;
       } else if (plant.next(x, train.direction).length) {
-        yield `the network goes on after ${plant.name(x)}`;
+        yield `the network continues after ${plant.name(x)}`;
       }
     },
     does(plant, state, x) { state.dropTrain(state.standingOn(x)); },
