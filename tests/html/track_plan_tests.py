@@ -1,4 +1,4 @@
-"""Trials of the track plan: its names, and that a plant has one plan."""
+"""Tests of the track plan: its names and letters, and that a plant has one plan."""
 
 import json
 
@@ -10,6 +10,15 @@ from irvtools.model.plant import Plant
 from tests.support.report_plants import plants
 from tests.html.rule_sentence_tests import cases
 from tests.support.harness import test_case
+
+
+LEAST_GAP = 3           # between names of one line
+# points side by side whose names are as wide as they are, in each direction
+LONG_NAMES = [
+    "linear a . W101abcd . m1", "point W101abcd up a W102abcd x", "point W102abcd down b W101abcd y",
+    "linear b W102abcd . m2 .", "linear x W101abcd . m3 .", "linear y . W102abcd . m4",
+    "linear c . W103abcd . m5", "point W103abcd down W104abcd c d", "linear d . W103abcd . m6",
+    "point W104abcd up W103abcd e f", "linear e W104abcd . m7 .", "linear f W104abcd . m8 ."]
 
 
 def texts_of(drawing):
@@ -24,24 +33,36 @@ def texts_of(drawing):
         yield strip, shown
 
 
+def letter_faults(name, drawing):
+    """Letters of sections that lie on a name or on one another."""
+    names = [(text, low, high, y) for _, text, low, high, y in drawing.labels()]
+    letters = [("a letter", x - CHARACTER / 2, x + CHARACTER / 2, y)
+               for x, y in map(drawing.letter_place, range(len(drawing.plant.sections)))]
+    for place, (_, low, high, y) in enumerate(letters):
+        for word, first, last, line_ in names + letters[:place]:
+            if abs(y - line_) < 10 and low < last and first < high:
+                yield f"{name}: a letter lies on {word}"
+
+
 def plan_faults(name, drawing):
-    """Names that lie on each other or leave their strip; names that stand nowhere."""
+    """Names that touch each other or leave their strip; names that are nowhere; letters on names."""
     everywhere = set()
+    yield from letter_faults(name, drawing)
     for (left, _, width, _), shown in texts_of(drawing):
         everywhere |= {text[0] for text in shown}
         for place, (word, begin, end, y) in enumerate(shown):
             if begin < left - 1 or end > left + width + 1:
                 yield f"{name}: {word} leaves its strip"
             for other, first, last, line_ in shown[:place]:
-                if abs(y - line_) < 10 and begin < last and first < end:
-                    yield f"{name}: {word} lies on {other}"
-    wanted = {one.name for one in drawing.plant.sections + drawing.plant.boards}
-    yield from (f"{name}: {word} isn't shown" for word in sorted(wanted - everywhere))
+                if abs(y - line_) < 10 and begin < last + LEAST_GAP and first < end + LEAST_GAP:
+                    yield f"{name}: {word} touches {other}"
+    named = {one.name for one in drawing.plant.sections + drawing.plant.boards}
+    yield from (f"{name}: {word} isn't shown" for word in sorted(named - everywhere))
 
 
 def check_plans(_, is_long):
-    """Plans: no name lies on another or is cut, and a plant has one plan."""
-    found = plants()
+    """Plans: no name touches another or is cut, and a plant has one plan."""
+    found = {**plants(), "long names": configurations.plant_text(LONG_NAMES)}
     for count in (1, 2, 5, 16, *((51,) if is_long else ())):
         found[f"stations {count}"] = configurations.made("stations", str(count))
     for name, given in found.items():

@@ -23,7 +23,7 @@ from irvtools.html.run_frames import MOST_PICTURED
 from tests.support.harness import LongTest, test_case
 
 MOST_SHEETS = 6         # of paper for a station
-SHEET = '<h2 id="table">'
+SHEET = '<div class="wide"><h2 id="table">'
 # words of the page, and those of verify that they give; the last is the file of the certificate
 WORDS = (
     (("a.html",), "--columns strict --cert a.cert"),

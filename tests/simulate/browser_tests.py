@@ -118,6 +118,61 @@ def check_browser_collision(program, running, _):
         yield from faults("brought back", [(shown.page.ask("game.play.runText()"), text)])
 
 
+@in_browser
+def check_browser_queue(program, running, _):
+    """A request that can't lock yet is announced as one that stays, and it is said when it locks; the signs of
+    a route's path, overlap and protecting points differ."""
+    with Shown(program, running, model_checks.plants()["station"]) as shown:
+        for line in ("enter b1", "mark r1", "mark r3", "mark r2"):
+            shown.page.ask(f"game.askLine({line!r})")
+        shown.page.ask("game.go(0)")
+        shown.page.ask("game.begin(null, [], '')")
+        for line in ("mark r1", "mark r2"):
+            shown.page.ask(f"game.askLine({line!r})")
+        queued = shown.text("said")
+        waits = shown.page.ask("[...document.querySelectorAll('#routes .waits')][1].textContent")
+        shown.page.ask("game.askLine('enter b1')")
+        locked = shown.text("said")
+        yield from faults("a queue", [
+            ("Route r2 stays requested until it locks: its conflict r1 is locked" in queued, True),
+            (waits.startswith("stays until it locks; waits: its conflict r1 is locked"), True),
+            ("Route r2, requested before, is locked now." in queued, False),
+            (list(shown.page.faults()), [])])
+        shown.page.ask("game.askLine('mark r3')")
+        locked = [locked, shown.text("said")]
+        if not any("Route r2, requested before, is locked now." in words for words in locked):
+            yield f"it isn't said that r2 is locked: {locked}"
+    with Shown(program, running, model_checks.plants()["station-protected"]) as shown:
+        shown.page.ask("game.choose('route', 0)")
+        dashes = shown.page.ask(
+            "['on', 'ov', 'pp'].map((kind) => { const one = document.querySelector(`.live .${kind}`);"
+            "return one ? getComputedStyle(one).strokeDasharray : null; })")
+        if dashes[0] != "none" or dashes[2] in (None, "none"):
+            yield f"protecting points are drawn as the path: {dashes}"
+
+
+@in_browser
+def check_browser_reload(program, running, _):
+    """A reload keeps the run and the place; a run that the address can't keep makes the browser ask."""
+    with Shown(program, running, model_checks.plants()["station"]) as shown:
+        for line in ("enter b1", "mark r1", "mark r3"):
+            shown.page.ask(f"game.askLine({line!r})")
+        shown.page.ask("game.go(4)")
+        before = shown.page.ask("[runText(game.plant, null, game.play.events), game.play.place]")
+        shown.page.call("Page.reload")
+        time.sleep(0.5)
+        after = shown.page.ask("[runText(game.plant, null, game.play.events), game.play.place]")
+        asks = ("(() => { const leaving = new Event('beforeunload', { cancelable: true });"
+                "window.dispatchEvent(leaving); return leaving.defaultPrevented; })()")
+        short = shown.page.ask(asks)
+        shown.page.ask("game.go(0); game.begin(null, [], ''); game.mode = 'none'; for (let n = 0; n < 1600; n += 1) "
+                       "{ game.play.add({ word: 'mark', number: 0 }); game.play.add({ word: 'cancel', number: 0 }); }"
+                       "game.show()")
+        yield from faults("a reload", [(after, before), (before[1], 4), (short, False),
+                                       (shown.page.ask(asks), True), (list(shown.page.faults()), [])])
+        shown.page.ask("game.isUnkept = false")
+
+
 BAD_TEXTS = [
     ("run 1\nstart\nhead b1\nend\n", "Not a run at 1: No train can move on from b1: no train has its front in b1."),
     ("run 1\nstart\nenter b1\nenter zz\nend\n", "Line 4 is bad: “enter zz” does not name a section."),
@@ -193,7 +248,7 @@ def check_browser_events(program, running, _):
 
 
 BrowserTests = test_case("BrowserTests", [check_browser_model, check_browser_crossing, check_browser_refused, check_browser_collision,
-          check_browser_texts, check_browser_events])
+          check_browser_texts, check_browser_events, check_browser_queue, check_browser_reload])
 
 
 def tearDownModule():

@@ -1,4 +1,4 @@
-"""A program that only pretends, for what the true one never answers: it says what a file says."""
+"""A fake program, for what the true one never answers: it answers what a file says."""
 
 import json
 import stat
@@ -8,6 +8,8 @@ FAKE = """#!/usr/bin/env python3
 import json, sys, time
 sys.stdin.buffer.read()
 said = json.load(open(sys.argv[0] + ".json"))[sys.argv[1]]
+if "writes" in said and "--cert" in sys.argv:
+    open(sys.argv[sys.argv.index("--cert") + 1], "w").write(said["writes"])
 time.sleep(said.get("sleeps", 0))
 sys.stdout.write(said.get("says", ""))
 sys.exit(said.get("status", 0))
@@ -15,7 +17,8 @@ sys.exit(said.get("status", 0))
 
 
 def program(folder, answers):
-    """A program in a folder that gives each command its answer."""
+    """Writes a program into a directory that gives each command its answer. `writes` is what it writes into the
+    file of --cert before it sleeps."""
     file = Path(folder, "fake")
     file.write_text(FAKE, encoding="utf-8")
     file.chmod(file.stat().st_mode | stat.S_IXUSR)

@@ -1,4 +1,4 @@
-"""Pages for trials: whole ones, and parts of one."""
+"""Reports for tests: whole ones, and parts of one."""
 
 import json
 import re
@@ -32,6 +32,19 @@ def shown_by(program, given, text, *words):
         file.write_text(text)
         made, printed = page(program, given, "--run", file, "--search-seconds", "0", *words)
     return plain(made), printed
+
+
+def shown_at(running, text, expression, width, height, **features):
+    """The value of an expression on a page that a browser shows in a window of a size."""
+    with tempfile.TemporaryDirectory(prefix="irv-shown-") as room:
+        file = Path(room, "page.html")
+        file.write_text(text, encoding="utf-8")
+        shown = running.page(width=width, height=height, **features)
+        shown.resize(width, height, touch=width < 500)
+        shown.open(file)
+        value = shown.ask(expression)
+        running.call("Target.closeTarget", targetId=shown.target)
+    return value
 
 
 def plain(markup):

@@ -13,10 +13,10 @@ def sheet_part(page):
     """The interlocking table, on the page."""
     if not page.plant.routes:
         return
-    page.head("Interlocking table", "table")
     known = route_members(page.plant.version)
     rows = [row(str(route.number), route.member, known) for route in page.plant.routes]
-    page.add(tag("div", sheet("no.", known, rows), class_="wide"))
+    # the heading is on the sheet's own paper, which is wide
+    page.add(tag("div", page.titled("Interlocking table", "table") + sheet("no.", known, rows), class_="wide"))
 
 
 def heading(member):

@@ -49,10 +49,14 @@ class Report:
         """Writes on."""
         self.parts.extend(markup)
 
-    def head(self, title, id_):
-        """A part's title, to which the table of contents leads."""
+    def titled(self, title, id_):
+        """A part's title as markup, to which the table of contents leads."""
         self.heads.append((title, id_))
-        self.add(tag("h2", text(title), id=id_))
+        return tag("h2", text(title), id=id_)
+
+    def head(self, title, id_):
+        """Writes a part's title."""
+        self.add(self.titled(title, id_))
 
     def own(self, words):
         """A comment on what is the report's own."""
