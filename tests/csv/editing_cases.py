@@ -89,9 +89,29 @@ def cases():
            put(STATION, {**NAMED, "r1": "x", "r8": "y"}))
     yield (["--named"], with_routes([("g0", "m1", "m2", ["b"], ["g1"]), ("g1", "m1", "m2", ["a"], ["g0", "g2"]),
                                      ("g2", "m1", "m2-1", ["b"], ["g3"]), ("g3", "m1", None, ["b", "a"], [])]),
-           with_routes([("m1-m2-2", "m1", "m2", ["b"], ["m1-m2-3"]),
-                        ("m1-m2-3", "m1", "m2", ["a"], ["m1-m2-2", "m1-m2-1"]),
+           with_routes([("m1-m2-b", "m1", "m2", ["b"], ["m1-m2-a"]),
+                        ("m1-m2-a", "m1", "m2", ["a"], ["m1-m2-b", "m1-m2-1"]),
                         ("m1-m2-1", "m1", "m2-1", ["b"], ["m1-a"]), ("m1-a", "m1", None, ["b", "a"], [])]))
-    yield (["--named", "--drop", "m1-m2-1"],
+    yield (["--named", "--drop", "m1-m2-a"],
            with_routes([("a", "m1", "m2", ["b"], ["b"]), ("b", "m1", "m2", ["a"], ["a"])]),
-           with_routes([("m1-m2-2", "m1", "m2", ["a"], [])]))
+           with_routes([("m1-m2-b", "m1", "m2", ["b"], [])]))
+    # routes over the same sections, and names that others have, get a number
+    yield (["--named"], with_routes([("g0", "m1", "m2", ["b"], ["g1"]), ("g1", "m1", "m2", ["b"], ["g0"]),
+                                     ("g2", "m1", "m2-1", ["b"], [])]),
+           with_routes([("m1-m2-2", "m1", "m2", ["b"], ["m1-m2-3"]), ("m1-m2-3", "m1", "m2", ["b"], ["m1-m2-2"]),
+                        ("m1-m2-1", "m1", "m2-1", ["b"], [])]))
+    yield (["--named"], with_routes([("g0", "m1", "m2", ["b"], []), ("g1", "m1", "m2", ["a"], []),
+                                     ("g2", "m1", "m2-b", ["b"], [])]),
+           with_routes([("m1-m2-1", "m1", "m2", ["b"], []), ("m1-m2-a", "m1", "m2", ["a"], []),
+                        ("m1-m2-b", "m1", "m2-b", ["b"], [])]))
+    yield ["--named"], alternatives(), put(json.dumps(alternatives()), {
+        "g0": "m1-m2-p1", "g1": "m1-m2-p2", "g2": "m1-m2-1"})
+
+
+def alternatives():
+    """A network whose routes g0 and g1 lead over a point that only one of them has, and g2 over both."""
+    points = [{"name": name, "kind": "point", "faces": "up", "stem": "a", "plus": "b", "minus": "a"}
+              for name in ("p1", "p2")]
+    value = with_routes([("g0", "m1", "m2", ["a", "p1"], ["g1"]), ("g1", "m1", "m2", ["b", "p2"], ["g2"]),
+                         ("g2", "m1", "m2", ["a", "b"], ["g0"])])
+    return {**value, "sections": value["sections"] + points}

@@ -222,7 +222,7 @@ OTHERS = [
 
 # Arguments that ask for nothing, and why.
 USAGES = [
-    ([], "give --in, --out, --compare or a change"),
+    ([], "give --in, --out, --fill, --control-table, --compare or a change"),
     (["--into", "two"], "unrecognized arguments: --into"),
     (["--named=yes"], "argument --named: ignored explicit argument 'yes'"),
     (["--in"], "argument --in: expected one argument"),
@@ -236,6 +236,19 @@ USAGES = [
     (["--compare", "conf", "two", "--drop", "r1"], "changes do not go with --compare"),
     (["--with-network", "--in", "two"], "--with-network does not go without --compare"),
     (["--html", "page"], "--html does not go without --compare"),
+    (["--fill", "points,path"], "argument --fill: 'points,path' is not conflicts or points or conflicts,points"),
+    (["--fill", "points,points"],
+     "argument --fill: 'points,points' is not conflicts or points or conflicts,points"),
+    (["--fill", "points", "conf", "two"], "unexpected argument two"),
+    (["--fill", "points", "--in", "two", "conf"], "--in and FILE do not go together"),
+    (["--fill", "points", "--write"], "--write needs FILE or --in: standard input cannot be written over"),
+    (["--fill", "points", "--in", "two", "--write", "--out", "new"], "--write and --out do not go together"),
+    (["--fill", "points", "--compare", "conf", "two"], "--fill does not go with --compare"),
+    (["--named", "--exact"], "--exact does not go without --fill"),
+    (["--out", "new", "--write"], "--write does not go without --fill"),
+    (["--control-table", "new", "--fill", "points"], "--control-table does not go with --fill"),
+    (["--control-table", "new", "--out", "other"], "--control-table does not go with --out"),
+    (["--control-table", "new", "--compare", "conf", "two"], "--control-table does not go with --compare"),
 ]
 
 

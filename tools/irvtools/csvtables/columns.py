@@ -7,6 +7,13 @@ from irvtools.rules.schema_rules import CHOICES, LINEAR, POINT, ROUTE, SECOND
 from irvtools.html.control_table import heading
 
 SECTIONS, ROUTES = "sections.csv", "routes.csv"
+COMMENT = "#"           # a heading that begins with it is that of a comment
+LABEL = "label"         # the column of what a section or a route is called on screen and paper
+BOARD_LABELS = {"down": "board down label", "up": "board up label"}
+LABELS = {SECTIONS: (LABEL, *BOARD_LABELS.values()), ROUTES: (LABEL,)}
+# Where comments and labels are kept, as texts by their headings: a member that no configuration has, of an
+# entry; and of the whole, with the headings of each file.
+EXTRA = "#"
 
 
 class Column:

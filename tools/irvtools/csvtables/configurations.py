@@ -8,6 +8,7 @@ import json
 from irvtools.rules import schema_rules
 from irvtools.rules.schema_rules import LINEAR, MOST_BYTES, POINT, route_members
 from irvtools.calls.refusal import Refused, reason
+from irvtools.csvtables import spreadsheets
 
 
 def read(given, name):
@@ -53,9 +54,11 @@ def read_bytes(path):
     """The bytes of a file, or the first of them where there are too many."""
     try:
         with open(path, "rb") as file:
-            return file.read(MOST_BYTES + 1)
+            given = file.read(MOST_BYTES + 1)
     except OSError as fault:
         raise Refused(f"{path}: it can't be read: {reason(fault)}") from None
+    spreadsheets.refuse_file(path, given)
+    return given
 
 
 def read_text(path, what):

@@ -116,7 +116,12 @@ def first_row(text, separator):
     return [cell.strip(' "') for cell in line.split(separator)]
 
 
+def quoted(cell):
+    """Returns a cell as it is written. Only comments and labels need quotation marks: they have any
+    characters."""
+    return f'"{cell.replace(QUOTE, QUOTE * 2)}"' if re.search('[",;\r\n]', cell) else cell
+
+
 def written(rows):
-    """The text of rows of cells. No cell has a comma, a quotation mark or an end of a line, so none needs
-    quotation marks."""
-    return "".join(",".join(row) + "\r\n" for row in rows)
+    """Returns the text of rows of cells."""
+    return "".join(",".join(map(quoted, row)) + "\r\n" for row in rows)

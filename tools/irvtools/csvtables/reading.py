@@ -7,32 +7,35 @@ from pathlib import Path
 from irvtools.csvtables import cells
 from irvtools.csvtables import columns
 from irvtools.csvtables import csv_text
+from irvtools.csvtables import spreadsheets
 from irvtools.csvtables.configurations import read_text
 from irvtools.calls.refusal import Refused, shown
 
 
 class Sheet:
-    """The rows of a sheet, with the place of each column. Rows and columns in which nothing stands are
-    passed over."""
+    """The rows of a CSV file, with the place of each column. Empty rows and columns are passed over.
+    `extra` has the places of comments and of the optional columns `labels`, by their headings."""
 
-    def __init__(self, file, text, known):
-        self.file = file
+    def __init__(self, file, text, known, labels=()):
+        self.file, self.labels = file, labels
         rows = [row for row in csv_text.read(file, text, separator_of(text, known))
                 if any(cell.strip() for cell in row.cells)]
         if not rows:
             raise Refused(f"{file}: nothing stands in it; a line of headings was expected")
         self.head, self.rows = rows[0], rows[1:]
-        self.places = {}
+        self.places, self.extra = {}, {}
         self.faults = list(self.read_head([one.heading for one in known]))
 
     def read_head(self, known):
         """Reads the headings, and tells what is wrong with them."""
         for place, cell in enumerate(self.head.cells):
             heading = heading_of(cell)
-            if heading in self.places:
+            if heading in self.places or heading in map(heading_of, self.extra):
                 yield self.at(self.head, place, f"the heading {heading} stands here again")
             elif heading in known:
                 self.places[heading] = place
+            elif heading in self.labels or heading.startswith(columns.COMMENT):
+                self.extra[heading if heading in self.labels else cell.strip()] = place
             elif heading or any(cell_at(row, place).strip() for row in self.rows):
                 yield self.at(self.head, place, f"{shown(cell)} is no heading; {', '.join(known)} "
                                                 "were expected")
@@ -56,6 +59,15 @@ class Sheet:
     def cell(self, row, column):
         """The cell of a column."""
         return cell_at(row, self.places[column.heading])
+
+    def with_extra(self, row, entry):
+        """Returns an entry with the comments and labels of its row, if the file has such columns."""
+        if not self.extra:
+            return entry
+        texts = {heading: cell_at(row, place) for heading, place in self.extra.items()}
+        return {**entry, columns.EXTRA: {
+            heading: cells.bare(text) if heading in self.labels else text
+            for heading, text in texts.items()}}
 
     def read_cell(self, row, column):
         """What a cell says; None where it is wrong, which is kept as a fault."""
@@ -101,40 +113,62 @@ def read_section(sheet, row):
     return {member: sheet.read_cell(row, by_member[member]) for member in columns.MEMBERS[kind]}
 
 
-def read_sections(text, file=columns.SECTIONS):
-    """The sections of a sheet, and its faults."""
-    sheet = Sheet(file, text, columns.OF_SECTIONS)
+def sections_of(text, file):
+    """Returns the CSV file of sections, read, and its sections."""
+    sheet = Sheet(file, text, columns.OF_SECTIONS, columns.LABELS[columns.SECTIONS])
     sheet.require([one.heading for one in columns.OF_SECTIONS])
     if sheet.faults:
-        return [], sheet.faults
-    return [read_section(sheet, row) for row in sheet.rows], sheet.faults
+        return sheet, []
+    return sheet, [sheet.with_extra(row, read_section(sheet, row)) for row in sheet.rows]
 
 
-def read_routes(text, file=columns.ROUTES):
-    """The version, the routes of a sheet, and its faults. It is version 2 where there is a column of
-    what protects a route."""
-    sheet = Sheet(file, text, columns.of_routes(2))
+def routes_of(text, file):
+    """Returns the CSV file of routes, read, the version and the routes. The version is 2 if there is a
+    column of protection."""
+    sheet = Sheet(file, text, columns.of_routes(2), columns.LABELS[columns.ROUTES])
     version = 2 if any(one.heading in sheet.places for one in columns.PROTECTING) else 1
     known = columns.of_routes(version)
     sheet.require([one.heading for one in known])
     if sheet.faults:
-        return version, [], sheet.faults
-    return version, [{one.member: sheet.read_cell(row, one) for one in known}
-                     for row in sheet.rows], sheet.faults
+        return sheet, version, []
+    return sheet, version, [
+        sheet.with_extra(row, {one.member: sheet.read_cell(row, one) for one in known})
+        for row in sheet.rows]
+
+
+def read_sections(text, file=columns.SECTIONS):
+    """Returns the sections of a CSV file, and its faults."""
+    sheet, sections = sections_of(text, file)
+    return sections, sheet.faults
+
+
+def read_routes(text, file=columns.ROUTES):
+    """Returns the version, the routes of a CSV file, and its faults."""
+    sheet, version, routes = routes_of(text, file)
+    return version, routes, sheet.faults
 
 
 def read_folder(folder):
-    """The configuration of the two sheets in a folder."""
+    """Returns the configuration of both CSV files of a directory."""
+    return read_with_sheets(folder)[0]
+
+
+def read_with_sheets(folder):
+    """Returns the configuration of both CSV files of a directory, and these files, read."""
+    spreadsheets.refuse_directory(folder)
     faults, found = [], []
-    for file, read in ((columns.SECTIONS, read_sections), (columns.ROUTES, read_routes)):
+    for file, read in ((columns.SECTIONS, sections_of), (columns.ROUTES, routes_of)):
         try:
             path = str(Path(folder, file))
-            *values, told = read(read_text(path, "a sheet"), path)
-            found += values
-            faults += told
+            sheet, *values = read(read_text(path, "a sheet"), path)
+            found.append((sheet, values))
+            faults += sheet.faults
         except Refused as refused:
             faults += refused.faults
     if faults:
         raise Refused(*faults)
-    sections, version, routes = found
-    return {"version": version, "sections": sections, "routes": routes}
+    (of_sections, (sections,)), (of_routes, (version, routes)) = found
+    value = {"version": version, "sections": sections, "routes": routes}
+    if of_sections.extra or of_routes.extra:
+        value[columns.EXTRA] = {"sections": list(of_sections.extra), "routes": list(of_routes.extra)}
+    return value, {"sections": of_sections, "routes": of_routes}

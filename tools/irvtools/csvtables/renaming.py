@@ -165,14 +165,16 @@ def renamed(value, new):
 
 
 def named(value):
-    """A configuration whose routes are called by their source and their destination, or by the section
-    at which they end; those that would have one name get a number besides."""
+    """Returns a configuration whose routes are called by their source and their destination, or by the
+    section at which they end. Alternative routes, which would have one name, also get the name of the
+    first point, or else section, over which only that one goes; if there is none, a number."""
     routes, faults = value["routes"], []
     olds = Counter(route["name"] for route in routes)
     faults += [f"{count} routes have the name {name}, so that lists of conflicts don't say which is meant"
                for name, count in olds.items() if count > 1]
-    wanted = [f"{route['source']}-{end_of(route, faults)}" for route in routes]
-    counts, taken = Counter(wanted), {name for name, count in Counter(wanted).items() if count == 1}
+    plain = [f"{route['source']}-{end_of(route, faults)}" for route in routes]
+    wanted, counts = by_point(value, plain), Counter(plain)
+    taken = {name for name in wanted if counts[name] < 2}
     new, last = {}, Counter()
     for route, name in zip(routes, wanted):
         if counts[name] > 1:
@@ -186,6 +188,21 @@ def named(value):
     if faults:
         raise Refused(*faults)
     return renamed(value, new)
+
+
+def by_point(value, names):
+    """Returns names of routes in which those that several routes would have say over which point, or
+    section, a route goes and the others don't. A name that another route has is left as it is."""
+    points = {section["name"] for section in value["sections"] if section["kind"] == "point"}
+    found = list(names)
+    for number, name in enumerate(names):
+        others = [value["routes"][k]["path"] for k, one in enumerate(names) if one == name and k != number]
+        own = [x for x in value["routes"][number]["path"] if not any(x in path for path in others)]
+        over = [x for x in own if x in points] or own
+        if others and over and NAME.fullmatch(f"{name}-{over[0]}"):
+            found[number] = f"{name}-{over[0]}"
+    counts = Counter([*found, *names])
+    return [new if counts[new] == 1 else old for new, old in zip(found, names)]
 
 
 def end_of(route, faults):

@@ -1,26 +1,35 @@
-"""From a configuration to two sheets."""
+"""From a configuration to both CSV files."""
 
 import os
+import shutil
 from pathlib import Path
 
+from irvtools.csvtables import cells
 from irvtools.csvtables import columns
 from irvtools.csvtables import csv_text
 from irvtools.calls.refusal import Refused, reason
 
 
-def sheet_rows(known, entries):
-    """The rows of a sheet: its headings, and a row for each entry, with an empty cell where that lacks
-    the member."""
-    yield [one.heading for one in known]
+def sheet_rows(known, entries, extra=(), labels=()):
+    """Returns the rows of a CSV file: its headings, and a row for each entry, with an empty cell if that
+    lacks the member. Behind them come the columns `extra`; of these, `labels` are protected from
+    spreadsheets, and comments are not."""
+    yield [one.heading for one in known] + list(extra)
     for entry in entries:
-        yield [one.write(entry[one.member]) if one.member in entry else "" for one in known]
+        texts = entry.get(columns.EXTRA, {})
+        row = [one.write(entry[one.member]) if one.member in entry else "" for one in known]
+        yield row + [cells.kept(texts.get(heading, "")) if heading in labels else texts.get(heading, "")
+                     for heading in extra]
 
 
 def sheets(value):
-    """The text of each sheet of a configuration, by the name of its file."""
-    return {columns.SECTIONS: csv_text.written(sheet_rows(columns.OF_SECTIONS, value["sections"])),
-            columns.ROUTES: csv_text.written(sheet_rows(columns.of_routes(value["version"]),
-                                                      value["routes"]))}
+    """Returns the text of each CSV file of a configuration, by the name of the file."""
+    extra = value.get(columns.EXTRA, {})
+    known = {columns.SECTIONS: ("sections", columns.OF_SECTIONS),
+             columns.ROUTES: ("routes", columns.of_routes(value["version"]))}
+    return {file: csv_text.written(sheet_rows(of_file, value[list_], extra.get(list_, ()),
+                                              columns.LABELS[file]))
+            for file, (list_, of_file) in known.items()}
 
 
 def write_folder(value, folder):
@@ -64,6 +73,18 @@ def write_new(path, text):
             file.write(text)
     except OSError as fault:
         Path(path).unlink()
+        raise Refused(cannot(path, fault)) from None
+
+
+def write_over(path, text):
+    """Writes a file over the one that is there. That one is kept if the new one can't be written whole."""
+    new = Path(f"{path}.new")
+    write_new(new, text)
+    try:
+        shutil.copymode(path, new)
+        os.replace(new, path)
+    except OSError as fault:
+        new.unlink()
         raise Refused(cannot(path, fault)) from None
 
 
