@@ -102,10 +102,10 @@ def cases():
                         ("m1-m2-1", "m1", "m2-1", ["b"], [])]))
     yield (["--named"], with_routes([("g0", "m1", "m2", ["b"], []), ("g1", "m1", "m2", ["a"], []),
                                      ("g2", "m1", "m2-b", ["b"], [])]),
-           with_routes([("m1-m2-1", "m1", "m2", ["b"], []), ("m1-m2-a", "m1", "m2", ["a"], []),
+           with_routes([("m1-m2", "m1", "m2", ["b"], []), ("m1-m2-a", "m1", "m2", ["a"], []),
                         ("m1-m2-b", "m1", "m2-b", ["b"], [])]))
     yield ["--named"], alternatives(), put(json.dumps(alternatives()), {
-        "g0": "m1-m2-p1", "g1": "m1-m2-p2", "g2": "m1-m2-1"})
+        "g0": "m1-m2-p1", "g1": "m1-m2-p2", "g2": "m1-m2"})
 
 
 def alternatives():

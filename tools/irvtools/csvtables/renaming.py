@@ -167,14 +167,13 @@ def renamed(value, new):
 def named(value):
     """Returns a configuration whose routes are called by their source and their destination, or by the
     section at which they end. Alternative routes, which would have one name, also get the name of the
-    first point, or else section, over which only that one goes; if there is none, a number."""
+    first point, or else section, over which only that one goes; several without one get a number."""
     routes, faults = value["routes"], []
     olds = Counter(route["name"] for route in routes)
     faults += [f"{count} routes have the name {name}, so that lists of conflicts don't say which is meant"
                for name, count in olds.items() if count > 1]
-    plain = [f"{route['source']}-{end_of(route, faults)}" for route in routes]
-    wanted, counts = by_point(value, plain), Counter(plain)
-    taken = {name for name in wanted if counts[name] < 2}
+    wanted = by_point(value, [f"{route['source']}-{end_of(route, faults)}" for route in routes])
+    counts, taken = Counter(wanted), {name for name, count in Counter(wanted).items() if count == 1}
     new, last = {}, Counter()
     for route, name in zip(routes, wanted):
         if counts[name] > 1:
