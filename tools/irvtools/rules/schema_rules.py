@@ -7,6 +7,8 @@ none, only the line of `irv` is shown.
 import json
 import re
 
+from irvtools.rules import json_limits
+
 MOST_BYTES = 4194304
 MOST_VERSION = 2 ** 64 - 1
 NAME = re.compile(r"[A-Za-z0-9_-]{1,32}")
@@ -208,11 +210,12 @@ def faults(rule, place, given):
     """Returns what is wrong, in sentences, with a schema that `irv` refused by a rule at a place."""
     value, unread = read(given) if rule != "F1" else (None, None)
     if rule == "F2" or unread:
-        return [unread] if unread else []
+        return [unread] if unread else json_limits.faults(given)
     try:
         if place == "document":
-            return [sentence[0].upper() + sentence[1:]
-                    for sentence in document_faults(rule, given, value)]
+            found = [sentence[0].upper() + sentence[1:]
+                     for sentence in document_faults(rule, given, value)]
+            return found or json_limits.version_faults(given)
         return [sentence[0].upper() + sentence[1:] for sentence in entry_faults(rule, value, place)]
     except (TypeError, KeyError, IndexError, ValueError):
         return []       # the value isn't what `irv` reads; only its line is shown

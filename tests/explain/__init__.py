@@ -1,0 +1,1 @@
+"""Tests of sentences and advice on the terminal."""

@@ -1,0 +1,1 @@
+"""Refusals of the program in sentences, and advice, on the terminal."""
