@@ -8,6 +8,7 @@ from dataclasses import dataclass, field
 from irvtools.model.phrases import SIGNS, join
 from irvtools.model.plant import OTHER_LEG, Plant, Route
 from irvtools.rules.exclusions import demanded
+from irvtools.rules.way_points import leading_along, way_of
 
 CONFLICTS, POINTS = "conflicts", "points"
 COLUMNS = (CONFLICTS, POINTS)
@@ -96,7 +97,7 @@ def fill_points(plant: Plant, route: Route, member: dict, found: Filling) -> Non
     """Adds the points of path and overlap that a route lacks, each in the position that leads along."""
     listed = dict(route.points)
     added = {}
-    way = [plant.boards[route.source].section, *route.path, *route.overlap]
+    way = way_of(plant, route)
     for place in range(1, len(way)):
         x = way[place]
         if not plant.sections[x].is_point:
@@ -114,18 +115,6 @@ def fill_points(plant: Plant, route: Route, member: dict, found: Filling) -> Non
     names = merged([entry["point"] for entry in member["points"]], list(added), order)
     member["points"] = [{"point": name, "position": of_point[name]} for name in names]
     found.counts[POINTS] += len(added)
-
-
-def leading_along(plant: Plant, way: list[int], place: int) -> list[str]:
-    """Returns the positions of the point at a place of a route's way that lead along it: one; two if the
-    way ends there and trains meet the point facing; none if the way has a gap there."""
-    legs = plant.sections[way[place]].neighbours
-    before, after = way[place - 1], way[place + 1:place + 2]
-    if before == legs["stem"]:
-        return [leg for leg in OTHER_LEG if not after or legs[leg] == after[0]]
-    if after and after[0] != legs["stem"]:
-        return []
-    return [leg for leg in OTHER_LEG if legs[leg] == before]
 
 
 def wrong_words(plant: Plant, route: Route, x: int, position: str) -> str:

@@ -10,6 +10,7 @@ from irvtools.arguments import Parser
 from irvtools.calls.refusal import Refused, reason
 from irvtools.explain.sentences import command_of, plant_of_answer, sentences
 from irvtools.explain.sources import CsvSource, JsonSource
+from irvtools.rules.table_advice import by_route
 
 NO_ANSWER = 125
 FLAGS = ("--explain", "--advise", "--help", "-h")
@@ -113,4 +114,7 @@ def advice_lines(source: JsonSource | CsvSource, output: str) -> list[str]:
     plant = plant_of_answer(source, output)
     if plant is None:
         return ["no advice: it needs a configuration in which the rules F, N and R hold"]
-    return []
+    groups = by_route(plant)
+    if not groups:
+        return ["advice: no mistakes and no notes"]
+    return [f"{one.kind}: {one.words()}" for _, group in groups for one in group]

@@ -8,8 +8,10 @@ thing that keeps it out, or to a border.
 from collections import namedtuple
 
 from irvtools.model.plant import OPPOSITE, OTHER_LEG
+from irvtools.rules.way_points import way_of
 
-# a way: the point of the path, its leg, the section at that leg, and what keeps a vehicle out
+# a way: the point of the path, its leg, the section at that leg, and what keeps a vehicle out; from beyond the
+# end of the path: its last section, None, and the section after it
 Flank = namedtuple("Flank", "point leg begin guard")
 # what keeps it out: one of KINDS, and the point, the board, or for nothing the border
 Guard = namedtuple("Guard", "kind number")
@@ -18,7 +20,8 @@ POINT, BOARD, CLOSED, NOTHING = KINDS
 
 
 def flanks(plant, route):
-    """The ways into a route's path."""
+    """The ways into a route's path: over the leg of a point that it does not use, and from beyond its end if
+    a protecting point or a protecting board is there."""
     way = [plant.boards[route.source].section, *route.path]
     for place in range(1, len(way)):
         x = way[place]
@@ -30,6 +33,17 @@ def flanks(plant, route):
             begin = section.neighbours[leg]
             for guard in dict.fromkeys(guards(plant, route, begin, OPPOSITE[section.faces], x)):
                 yield Flank(x, leg, begin, guard)
+    yield from far_ends(plant, route)
+
+
+def far_ends(plant, route):
+    """The ways into a route's path from beyond its end on which a protecting point or a protecting board
+    keeps a vehicle out."""
+    last = route.path[-1]
+    for begin in plant.nexts[last, route.direction]:
+        for guard in dict.fromkeys(guards(plant, route, begin, OPPOSITE[route.direction], last)):
+            if guard.kind in (POINT, BOARD):
+                yield Flank(last, None, begin, guard)
 
 
 def guards(plant, route, begin, direction, to):
@@ -66,3 +80,56 @@ def crossing(plant, x):
     is_one = other is not None and plant.sections[other].is_point \
         and plant.sections[other].neighbours.get("stem") == x
     return other if is_one else None
+
+
+# -- what a protecting point does
+
+PROTECTS, LEADS_IN, TRAILED, IDLE = "protects", "leads in", "is trailed", "is idle"
+
+
+def entrances(plant, route):
+    """The ends at which a vehicle could come into a route's path or overlap from beside or beyond: the
+    section outside, the direction in which it would run, and the section inside."""
+    way = way_of(plant, route)
+    for place in range(1, len(way)):
+        x = way[place]
+        used = way[place - 1:place] + way[place + 1:place + 2]
+        for side in OPPOSITE:
+            yield from ((y, OPPOSITE[side], x) for y in plant.nexts[x, side] if y not in used)
+
+
+def leading_in(plant, route, inside, stops):
+    """The points that a vehicle meets on the ways into the sections `inside` of a route, up to the first
+    board: each with the leg that leads in if the vehicle meets it facing, and with None if trailing. A way
+    also ends at a protecting point of `stops`, a position by point, that leads elsewhere."""
+    area, found, known = {*route.path, *route.overlap}, set(), set()
+    left = [one for one in entrances(plant, route) if one[2] in inside]
+    while left:
+        x, direction, to = step = left.pop()
+        if step in known or x in area:
+            continue
+        known.add(step)
+        if plant.sections[x].is_point:
+            leg = plant.leg_to(x, to) if plant.sections[x].faces == direction else None
+            found.add((x, leg))
+            if leg is not None and stops.get(x, leg) != leg:
+                continue
+        if (x, direction) not in plant.board_on:
+            left += [(y, direction, x) for y in plant.nexts[x, OPPOSITE[direction]]]
+    return found
+
+
+def effect(plant, route, x, position):
+    """What a protecting point does in a position: LEADS_IN, if a vehicle that meets it facing is led into
+    the path, or into the overlap though the other position leads away; PROTECTS, if it is led away;
+    TRAILED, if a vehicle comes in over it that meets it trailing; IDLE, if none comes in over it before it
+    meets a board."""
+    others = {y: wanted for y, wanted in route.protecting_points if y != x}
+    if (x, position) in leading_in(plant, route, route.path, others):
+        return LEADS_IN
+    found = leading_in(plant, route, route.path + route.overlap, {})
+    if (x, OTHER_LEG[position]) in found:
+        return PROTECTS
+    if (x, position) in found:
+        return LEADS_IN
+    return TRAILED if (x, None) in found else IDLE
