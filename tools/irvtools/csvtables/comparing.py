@@ -74,6 +74,8 @@ class Comparison:
                 said = [one.get(column.member) for one in (section, other)]
                 if said[0] != said[1]:
                     yield Difference(SECTION, CHANGED, x, y, f"section {name}: {changed(column, *said)}")
+            for line in self.extra("sections", section, other):
+                yield Difference(SECTION, CHANGED, x, y, f"section {name}: {line}")
         for y, section in enumerate(self.new["sections"]):
             if y not in self.match.sections.values():
                 yield Difference(SECTION, CAME, None, y,
@@ -98,6 +100,8 @@ class Comparison:
                 yield Difference("route", RENAMED, r, s,
                                  f"route {route['name']} is now called {other['name']}")
             for line in self.changes(route, other):
+                yield Difference("route", CHANGED, r, s, f"route {other['name']}: {line}")
+            for line in self.extra("routes", route, other):
                 yield Difference("route", CHANGED, r, s, f"route {other['name']}: {line}")
         for s, route in enumerate(self.new["routes"]):
             if s not in self.match.routes.values():
@@ -133,6 +137,15 @@ class Comparison:
                     yield changed(column, *said)
             else:
                 yield from listed(column.heading, *(list_words(one or []) for one in said))
+
+    def extra(self, list_, entry, other):
+        """Yields in which comments and labels an entry differs, of the columns that both have."""
+        headings = [value.get(columns.EXTRA, {}).get(list_, []) for value in (self.old, self.new)]
+        for heading in headings[0]:
+            if heading in headings[1]:
+                old, new = (one[columns.EXTRA].get(heading, "").strip() for one in (entry, other))
+                if old != new:
+                    yield f"{heading} {old or 'none'}, now {new or 'none'}"
 
     def conflicts(self, route, other):
         """Which conflicts a route has more and less. A route that went is none less, and one that came

@@ -1,0 +1,41 @@
+"""Labels: what sections, boards and routes are called on drawings, beside their names. They are columns of
+the CSV files, because a configuration has no member for them."""
+
+from __future__ import annotations
+
+from dataclasses import dataclass, field
+
+from irvtools.csvtables import columns, reading
+
+
+@dataclass(frozen=True)
+class Labels:
+    """The labels by names."""
+
+    sections: dict[str, str] = field(default_factory=dict)
+    boards: dict[str, str] = field(default_factory=dict)
+    routes: dict[str, str] = field(default_factory=dict)
+
+
+def of_value(value: dict) -> Labels:
+    """Returns the labels of a configuration that was read from CSV files."""
+    found = Labels()
+    for section in value["sections"]:
+        add(found.sections, section["name"], section, columns.LABEL)
+        for side, heading in columns.BOARD_LABELS.items():
+            add(found.boards, section.get(f"board_{side}"), section, heading)
+    for route in value["routes"]:
+        add(found.routes, route["name"], route, columns.LABEL)
+    return found
+
+
+def add(labels: dict[str, str], name: str | None, entry: dict, heading: str) -> None:
+    """Adds the label of a column of an entry, if both are there."""
+    label = " ".join(entry.get(columns.EXTRA, {}).get(heading, "").split())
+    if name is not None and label:
+        labels[name] = label
+
+
+def read(directory: str) -> Labels:
+    """Returns the labels in the CSV files of a directory."""
+    return of_value(reading.read_folder(directory))
