@@ -89,10 +89,8 @@ LINE_SENTENCES = [
      "Route S4_S6 begins at S4, a protecting board of route S1_S3, but S1_S3 does not list S4_S6 as a "
      "conflict; it should.")]
 
-# refusals for which the page finds no words, because Python reads what `irv` refuses, or the reverse
-WORDLESS = {"half of a surrogate pair", "arrays within one another, 128 levels",
-            "a version 128 levels deep in all", "objects within one another, 128 levels", "version -0",
-            "version 1e400"}
+# refusals for which the report finds no words
+WORDLESS = set()
 
 # the rules of the columns on which safety depends, and the others
 RESTING = {"C1", "C2", "C3", "C7"}
