@@ -33,6 +33,10 @@ HAND_WRITTEN = [
 
 
 LAUNCHER = """#!/bin/sh
+for word do case $word in
+    --) break ;;
+    --explain | --advise) exec "{here}/tools/explain" --program {program} "$@" ;;
+esac; done
 case ${{1-}} in
     --?*) tool=$(printf %s "${{1#--}}" | tr - _); [ ! -x "{here}/tools/$tool" ] || {{
         shift; exec "{here}/tools/$tool" --program {program} "$@"; }} ;;

@@ -16,7 +16,7 @@ REJECTED = re.compile(r"(?:rejected (?:line|item)|not a run at) ([1-9][0-9]*)")
 MOST_BYTES = 1 << 28            # of a file that is looked at
 HEADER_SECONDS = 60
 FILLED = ("refused C5", "refused C6", "refused C8")
-FILL = "irv --csv --fill conflicts adds the conflicts that C5, C6 and C8 demand"
+FILL = "to add the conflicts that C5, C6 and C8 demand, run irv --csv --fill conflicts"
 VARIABLES = re.compile(rb"p cnf ([0-9]+) ")
 
 
