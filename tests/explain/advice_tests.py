@@ -144,13 +144,13 @@ def check_notes(_, __):
              "Route S6-S12 has the protecting points P7+, which a vehicle on its way into the path meets trailing."),
             ("short overlap", with_route(PROTECTED, "r1", overlap=["p2"], protecting_points=[]),
              with_route(PROTECTED, "r1", overlap=["p2", "b2"], protecting_points=[]),
-             "Overlaps that end between points, without a board there: r1 (p2).")]:
+             "Overlaps that do not end at a board, although the line continues: r1 (p2).")]:
         said = [one.sentence for one in notes(Plant(noted))]
         if said.count(sentence) != 1 or {one.kind for one in notes(Plant(noted))} != {NOTE}:
             yield f"{name}: {said}"
         if sentence in [one.sentence for one in notes(Plant(silent))]:
             yield f"{name}: the counterpart is noted"
-    short = [one for one in notes(Plant(example(BAY))) if one.sentence.startswith("Overlaps that end")]
+    short = [one for one in notes(Plant(example(BAY))) if one.sentence.startswith("Overlaps that do not end")]
     if len(short) != 1 or len(short[0].sentence.split("), ")) != 16:
         yield f"overlaps are not in one line: {short}"
 
@@ -162,7 +162,7 @@ def check_calls(program, _):
     value = with_route(BAY, "ND1-NA1", protecting_points=positions("W3-", "E1+"))
     for given, lines in [
             (value, ["mistake: Route ND1-NA1 has the protecting points W3-,",
-                     "mistake: Route ND1-NA1 has the protecting points E1+,", "note: Overlaps that end "]),
+                     "mistake: Route ND1-NA1 has the protecting points E1+,", "note: Overlaps that do not end "]),
             (example("examples/station.json"), ["advice: no mistakes and no notes"]),
             ({**value, "routes": [{**value["routes"][0], "source": "none", "conflicts": []}]}, [
                 "standard input, line 1, column ", "no advice: it needs a configuration in which the rules F, N and R "])]:

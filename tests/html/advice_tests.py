@@ -37,30 +37,32 @@ BARE_FORK = FORK.replace("u p . m3", "u p . .")
 ADVICE = [
     # ways into a path over a point
     (BARE_FORK + R1, ["In one place a vehicle could run into a route's path over points.",
-                      "nothing 1.", "r1: over the minus leg of p nothing stops a vehicle that comes from "
-                      "border u."], []),
+                      "nothing 1.", "A vehicle from the border u can come into the path of route r1 over p-: "
+                      "neither a protecting point nor a board is in its way."], ["Mistake"]),
     (FORK + R1, ["a closed board 1; nothing 0.", "r1 the minus leg of p u a closed board: m3"],
-     ["nothing stops a", "without an overlap"]),
+     ["can come into the path", "without an overlap"]),
     (FORK + R1 + " protecting_boards m3", ["a protecting board 1;", "a protecting board: m3"],
-     ["nothing stops a"]),
+     ["can come into the path"]),
     (TRAP + R1 + " protecting_points q=minus", ["a protecting point 1;", "a protecting point: q"],
-     ["nothing stops a"]),
-    (TRAP + R1 + " protecting_points q=plus", ["a protecting point 0;", "a closed board: m3"], []),
-    (TRAP.replace("u q . m3", "u q . .") + R1, ["a vehicle that comes from border u"], ["border x"]),
+     ["can come into the path"]),
+    (TRAP + R1 + " protecting_points q=plus", ["a protecting point 0;", "a closed board: m3",
+     "Mistake: Route r1 has the protecting points q+, which lead a vehicle into its path or overlap."], []),
+    (TRAP.replace("u q . m3", "u q . .") + R1, ["A vehicle from the border u can come into the path"],
+     ["border x"]),
     (CROSSING + "route r1 from m1 to . path p q c points p=plus q=plus",
      ["In 2 places", "r1 the minus leg of p (lines cross at p and q) b a closed board: m2",
-      "r1 the minus leg of q (lines cross at q and p) d a closed board: m4"], ["nothing stops a"]),
+      "r1 the minus leg of q (lines cross at q and p) d a closed board: m4"], ["can come into the path"]),
     (LINE + "route r1 from m1 to m3 path b", ["No route leads over points"], ["Flank protection"]),
     # overlaps
     (LINE + "route r1 from m1 to m3 path b", ["1 route without an overlap beyond the exit board: r1."], []),
     (LINE + "route r1 from m1 to m3 path b overlap c",
-     ["The overlap of r1 does not end at a board: c has no board for trains that run up, and the line "
-      "continues to d."], ["without an overlap"]),
+     ["Overlaps that do not end at a board, although the line continues: r1 (c)."],
+     ["without an overlap"]),
     (LINE + "route r1 from m1 to m3 path b overlap c d",
      ["The overlap of r1 ends where the network ends."],
-     ["does not end at a board", "without an overlap"]),
+     ["do not end at a board", "without an overlap"]),
     (LINE.replace("c b d . .", "c b d . m4") + "route r1 from m1 to m3 path b overlap c", [],
-     ["does not end at a board", "without an overlap", "The overlap of"]),
+     ["do not end at a board", "without an overlap", "The overlap of"]),
     # ways of the network
     (LINE + "route r1 from m1 to m3 path b\nroute r2 from m3 to . path c d\n"
      "route r3 from m2 to . path c b a", ["The network has 3 candidate routes", "The table has 3 routes."],

@@ -1,10 +1,10 @@
 """Advice on the page: what an engineer also looks for, marked as no answer."""
 
-from irvtools.rules import advice
+from irvtools.rules import advice, table_advice
 from irvtools.rules.flank_protection import KINDS, NOTHING, POINT, crossing, flanks
 from irvtools.html.markup import table, tag, text
 from irvtools.model.descriptions import counted
-from irvtools.model.phrases import join, way_words
+from irvtools.model.phrases import join
 
 ASK_SECONDS = 30        # for table
 MOST_NAMES = 40         # that a sentence lists
@@ -19,6 +19,7 @@ def advice_part(page, unused):
                            "but no rule asks for it. Safety in the model does not depend on it: trains of "
                            "the model stop at closed boards. The engineer decides what applies."),
                  class_="small"))
+    route_advice(page)
     flank_advice(page)
     overlap_advice(page)
     way_advice(page)
@@ -38,6 +39,15 @@ def names(things):
     return join(found[:MOST_NAMES]) + (f", and {left} more" if left > 0 else "")
 
 
+# -- mistakes and notes
+
+def route_advice(page):
+    """Mistakes that no rule checks, and notes, grouped by route."""
+    for _, group in table_advice.by_route(page.plant):
+        say(page, group[0].words() if group[0].kind == table_advice.NOTE else f"Mistake: {group[0].words()}",
+            *(tag("p", text(f"{one.kind.capitalize()}: {one.words()}")) for one in group[1:]))
+
+
 # -- flank protection
 
 def flank_advice(page):
@@ -47,11 +57,9 @@ def flank_advice(page):
         say(page, "No route leads over points, so no vehicle could run into a path from the side.")
         return
     kinds = {kind: sum(flank.guard.kind == kind for _, flank in found) for kind in KINDS}
-    open_ = [one for one in found if one[1].guard.kind == NOTHING]
     count = "In one place" if len(found) == 1 else f"In {len(found)} places"
     say(page, f"Flank protection. {count} a vehicle could run into a route's path over points. It is kept "
               "out by: " + "; ".join(f"{kind_words(kind)} {number}" for kind, number in kinds.items()) + ".",
-        *(tag("p", text(open_words(page.plant, *one))) for one in open_[:MOST_NAMES]),
         flank_table(page.plant, found))
 
 
@@ -60,14 +68,10 @@ def kind_words(kind):
     return KIND_WORDS.get(kind, kind)
 
 
-def open_words(plant, route, flank):
-    """A way that nothing closes, in words."""
-    return (f"{route.name}: over {point_words(plant, flank)} nothing stops a vehicle that comes from border "
-            f"{plant.name(flank.guard.number)}.")
-
-
 def point_words(plant, flank):
     """Points of a path, and their leg from which a vehicle would come."""
+    if flank.leg is None:
+        return f"the end of the path in {plant.name(flank.point)}"
     other = crossing(plant, flank.point)
     crosses = "" if other is None else \
         f" (lines cross at {plant.name(flank.point)} and {plant.name(other)})"
@@ -101,12 +105,7 @@ def overlap_advice(page):
     bare = advice.without_overlap(plant)
     if bare:
         say(page, f"{counted(len(bare), 'route')} without an overlap beyond the exit board: {names(bare)}.")
-    going_on, outside = advice.overlap_ends(plant)
-    for route in going_on[:MOST_NAMES]:
-        last = route.overlap[-1]
-        say(page, f"The overlap of {route.name} does not end at a board: {plant.name(last)} has no board for "
-                  f"trains that run {route.direction}, and the line continues to "
-                  f"{way_words(plant, last, route.direction)}.")
+    _, outside = advice.overlap_ends(plant)
     if outside:
         say(page, f"The overlap of {names(outside)} ends where the network ends. The configuration does not "
                   "say what comes after.")

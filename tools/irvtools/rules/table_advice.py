@@ -119,7 +119,7 @@ def short_overlaps(plant: Plant) -> Iterator[Advice]:
     routes, _ = overlap_ends(plant)
     if routes:
         words = ", ".join(f"{route.name} ({plant.name(route.overlap[-1])})" for route in routes)
-        yield Advice(NOTE, (), f"Overlaps that end between points, without a board there: {words}.",
+        yield Advice(NOTE, (), f"Overlaps that do not end at a board, although the line continues: {words}.",
                      SHORT_OVERLAP)
 
 
