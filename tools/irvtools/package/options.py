@@ -1,5 +1,8 @@
 """What the caller of an evidence package asks for: its arguments, and the files that they name."""
 
+from __future__ import annotations
+
+from argparse import Namespace
 from pathlib import Path
 
 from irvtools.arguments import Parser, whole_number
@@ -10,13 +13,16 @@ from irvtools.html.run_file import Given
 
 DEPTHS, CONFLICTS = (1, 16), (0, 200000)
 MOST_SECONDS = 86400
+# texts that the caller may give, with what each is
+ABOUT = {"title": "the title", "project": "the project", "issue": "the issue of this package",
+         "author": "who makes it"}
 
 
 class Refused(Exception):
     """A package that cannot be made, with the reason."""
 
 
-def parser(status):
+def parser(status: int) -> Parser:
     """Returns the parser of the command line."""
     line = Parser("irv --package", "Makes an evidence package: a directory with the configuration, every "
                   "answer to it, the HTML report, a page that\nleads through them, and a script that "
@@ -35,6 +41,8 @@ def parser(status):
               metavar="N", type=whole_number(0, MOST_SECONDS))
     line.once("--solver-seconds", "how long each other solver may take for a query; 0: none is "
               "called (600)", default=600, metavar="N", type=whole_number(0, MOST_SECONDS))
+    for name, what in ABOUT.items():
+        line.once(f"--{name}", f"{what}, for the first lines of the page and the report", metavar="TEXT")
     line.program()
     return line
 
@@ -42,7 +50,7 @@ def parser(status):
 class Options:
     """What the caller asked for."""
 
-    def __init__(self, given):
+    def __init__(self, given: Namespace):
         if not given.directory:
             raise Refused("the directory's name is empty")
         self.directory = Path(given.directory)
@@ -54,13 +62,14 @@ class Options:
                           if (value := getattr(given, name)) is not None
                           for word in (f"--{name}", str(value))]
         self.name = shown(Path(name_of_input()).name)
+        self.about = {name: shown(value) for name in ABOUT if (value := getattr(given, name)) is not None}
         self.guard_directory()
         try:
             self.runs = [Given(name) for name in given.run]
         except RunRefused as fault:
             raise Refused(str(fault)) from fault
 
-    def guard_directory(self):
+    def guard_directory(self) -> None:
         """Refuses a directory that is not empty, and one that cannot be made."""
         if self.directory.is_symlink() or self.directory.exists() and not self.directory.is_dir():
             raise Refused(f"{self.directory} is not a directory; nothing is overwritten")
