@@ -16,7 +16,7 @@ from irvtools.package.options import Options, Refused
 from irvtools.package.program_version import version_lines, version_of
 from irvtools.package.recorded_calls import CONFIGURATION, PROGRAM, Call, Calls, tell, write_record
 from irvtools.package.source_archive import archive_of, files_here
-from irvtools.package.verify_package import ARCHIVE
+from irvtools.package.package_parts import ARCHIVE
 from irvtools.paths import TOP
 
 CERTIFICATE, FOUND_RUN, SEARCH_RUN, VERSION = "verify.cert", "verify.run", "search.run", "version.txt"
@@ -37,12 +37,7 @@ class Package:
         self.runs = []              # the file of each given run, its name, and its kind
         self.solvers = []           # each solver's version, and the name of its call
         self.calls = self.findings = None
-        self.sum_of_sums = ""
-
-    @property
-    def said(self) -> str:
-        """The result in one line."""
-        return self.findings.said
+        self.said = self.sum_of_sums = ""       # the result in one line, and the checksum to sign
 
     def make(self) -> None:
         """Makes all of it."""
@@ -54,6 +49,7 @@ class Package:
             self.ask_runs()
             self.ask_verdict()
         self.draw()
+        self.said = self.findings.said
         self.sum_up()
 
     # -- what is read
@@ -186,7 +182,7 @@ class Package:
             (self.room / "answers/report.err").write_bytes(errors)
         self.calls.all.append(call)
         write_record(self.room, self.calls.all, {
-            "name": self.options.name, "about": self.options.about, "options": self.options.of_verify,
+            "configuration": self.options.name, "about": self.options.about, "options": self.options.of_verify,
             "runs": self.runs, "solvers": self.solvers})
         redraw.draw_pages(self.room, self.room)
 

@@ -13,7 +13,7 @@ from irvtools.package.deviations import Deviation
 from irvtools.package.findings import Findings
 from irvtools.package.program_version import PROVED
 from irvtools.package.recorded_calls import CONFIGURATION
-from irvtools.package.verify_package import ARCHIVE
+from irvtools.package.package_parts import ARCHIVE
 
 # who signs, and for what
 SIGNATURES = (
@@ -73,7 +73,7 @@ class PackagePage:
     def whole(self) -> str:
         """Returns the page as a document."""
         about = self.facts["about"]
-        title = about.get("title") or f"Evidence package of {self.facts['name']}"
+        title = about.get("title") or f"Evidence package of {self.facts['configuration']}"
         self.add(tag("h1", text(title)))
         rows = [[key, value] for key, value in about.items() if key != "title"]
         if rows:
@@ -163,7 +163,7 @@ class PackagePage:
         """The configuration and the program."""
         self.head("Configuration and program")
         data = (self.room / CONFIGURATION).read_bytes()
-        rows = [("configuration", f"{self.facts['name']}: sha256 {provenance.sum_of(data)}, {len(data)} bytes, "
+        rows = [("configuration", f"{self.facts['configuration']}: sha256 {provenance.sum_of(data)}, {len(data)} bytes, "
                  f"filed as {CONFIGURATION}")]
         rows += [("program", line) for line in self.version]
         rows.append(("options", shlex.join(self.facts["options"]) or "none: the defaults of irv verify"))

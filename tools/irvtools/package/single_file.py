@@ -6,8 +6,8 @@ import re
 from pathlib import Path
 
 HERE = Path(__file__).parent
-MODULES = ("source_checksums.py", "page_links.py", "verify_package.py")
-IMPORT = re.compile(r"^(?:import|from) .*\n", re.M)
+MODULES = ("source_checksums.py", "page_links.py", "package_parts.py", "verify_package.py")
+IMPORT = re.compile(r"^(?:import|from) (?:.*\(\n(?:    .*\n)*\)|.*)\n", re.M)
 DOCSTRING = re.compile(r'\A"""(.*?)"""\n', re.S)
 
 

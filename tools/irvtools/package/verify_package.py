@@ -1,4 +1,4 @@
-"""Judges an evidence package from outside: this file needs Python 3.9, and nothing else of `irv`.
+"""Judges an evidence package from outside. A release has it as one file, which needs only Python 3.9.
 
 It runs the package's program, checkers and page tools. It changes nothing in the package.
 """
@@ -13,19 +13,15 @@ import tarfile
 import tempfile
 from pathlib import Path
 
+from irvtools.package.package_parts import (
+    ARCHIVE, CALLS_IF_SAFE, CONFIGURATION, PROGRAM, RECORD, SUMS, VERSION, contents, is_call, lines_of, unknown_names,
+)
 from irvtools.package.page_links import is_dead, links_of
 from irvtools.package.source_checksums import files_of, sha256, sum_of_sources, tree_of
 
-ARCHIVE = "sources.tar.bz2"
-SUMS, RECORD, VERSION, PROGRAM = "SHA256SUMS", "calls.json", "version.txt", "program/irv"
-CONFIGURATION = "configuration.json"
-REQUIRED = (CONFIGURATION, "index.html", "report.html", "repeat.sh", RECORD, VERSION, PROGRAM, ARCHIVE,
-            "checkers/audit", "checkers/lrat", "documents/README.md", "documents/VERSION")
-# what the calls of a safe table have to be besides those of each table
-CALLS_IF_SAFE = ("audit", "audit-outside", "lrat")
-# the first lines of what is kept from an answer: its call, the file, the line with which it begins
+# the runs that are kept from an answer: its call, the file, the line with which it begins
 KEPT_RUNS = (("verify", "verify.run", 1), ("search", "search.run", 0))
-PASSED, FAILED, LEFT_OUT, NOTE = "passed", "failed", "left out", "note"
+PASSED, FAILED, NOTE = "passed", "failed", "note"
 CANNOT_JUDGE = 125
 
 
@@ -79,10 +75,10 @@ class Judge:
         yield (PASSED, SUMS) if lines == text else (FAILED, f"{SUMS}: a line names no checksum")
 
     def check_required(self):
-        """Checks that the package has all its parts."""
-        for name in REQUIRED:
-            if name not in self.names:
-                yield FAILED, f"{name}: the package is not complete without it"
+        """Checks that the package has all its parts, and no others."""
+        unknown, missing = unknown_names(self.names, self.read(RECORD))
+        yield from ((FAILED, f"{name}: not a part of such a package") for name in unknown)
+        yield from ((FAILED, f"{name}: the package is not complete without it") for name in missing)
 
     def check_links(self):
         """Checks that each link leads to something in the package, or is a web address."""
@@ -95,29 +91,34 @@ class Judge:
                 yield (FAILED, f"{name}: dead links: {', '.join(dead)}") if dead else (PASSED, name)
 
     def check_record(self):
-        """Checks that calls.json names the calls that such a package has, with the right columns."""
+        """Checks that calls.json has the calls of such a package, with the right columns, and nothing
+        else: they are made again."""
         try:
-            self.record = json.loads(self.read(RECORD))
-            calls = {call["name"]: call["words"] for call in self.record["calls"]}
-            names = set(calls)
-        except (ValueError, KeyError, TypeError):
-            self.record = None
-            yield FAILED, f"{RECORD}: not a list of calls"
+            record = json.loads(self.read(RECORD))
+            calls = {call["name"]: call for call in record["calls"]}
+            wrong = [name for name, call in calls.items() if not is_call(call)]
+        except (ValueError, KeyError, TypeError, AttributeError) as fault:
+            yield FAILED, f"{RECORD}: not a list of calls: {fault!r}"
             return
+        for name in wrong:
+            yield FAILED, f"{RECORD}: {name} is not a call of such a package"
+        if not wrong:
+            self.record = record
+        for name, columns in self.wanted_calls().items():
+            words = calls[name]["words"] if name in calls else []
+            good = any(words[it:it + 2] == ["--columns", columns] for it in range(len(words)))
+            yield (PASSED, name) if good else (FAILED, f"{RECORD}: no call {name} with {columns} columns")
+
+    def wanted_calls(self):
+        """Returns the calls that the package has to have by its answers, with their columns."""
         lines = self.read("answers/check-strict.txt").decode(errors="replace").splitlines()
-        is_plant = lines == ["clean"] or bool(lines) and all(it.startswith("refused C") for it in lines)
-        columns = "strict" if lines == ["clean"] else "free"
-        wanted = ["check-strict", *(["verify"] if is_plant else [])]
+        is_clean, wanted = lines == ["clean"], {"check-strict": "strict"}
+        columns = "strict" if is_clean else "free"
+        if is_clean or lines and all(it.startswith("refused C") for it in lines):
+            wanted["verify"] = columns
         if self.read("answers/verify.txt").startswith(b"safe "):
-            wanted += CALLS_IF_SAFE
-        for name in wanted:
-            right = "strict" if name == "check-strict" else columns
-            good = name in names and ["--columns", right] == calls[name][
-                calls[name].index("--columns"):][:2] if "--columns" in calls.get(name, []) else False
-            yield (PASSED, name) if good else (FAILED, f"{RECORD}: no right call {name}")
-        for name in sorted(names):
-            if f"answers/{name}.txt" not in self.names:
-                yield FAILED, f"answers/{name}.txt: missing"
+            wanted.update(dict.fromkeys(CALLS_IF_SAFE, columns))
+        return wanted
 
     def check_sources(self):
         """Reads the sources archive."""
@@ -136,7 +137,7 @@ class Judge:
             good = told.get(name) == value
             yield (PASSED, name) if good else (FAILED, f"{VERSION}: the {name} here is {value}")
         version = self.sources.get("VERSION", (0, b""))[1].decode(errors="replace").strip()
-        if not told.get("irv", "").endswith(version):
+        if told.get("irv", "").split()[-1:] != [version]:
             yield FAILED, f"{VERSION}: the sources are of version {version}"
         known = "unknown" not in told.get("commit", "unknown")
         if known and told.get("sources") != sum_of_sources(self.sources):
@@ -158,6 +159,9 @@ class Judge:
                 good = name in theirs and ours.get(name) == theirs[name]
                 yield (PASSED, name) if good else (
                     FAILED, f"{VERSION}: {name} differs from the release: {theirs.get(name)}")
+            licences = (self.release / "irv.licences").read_bytes()
+            good = self.read("program/irv.licences") == licences
+            yield (PASSED, "licences") if good else (FAILED, "program/irv.licences: not those of the release")
             released = tree_of(files_of((self.release / "sources.tar.gz").read_bytes()))
             yield (PASSED, tree) if tree == released else (
                 FAILED, f"{ARCHIVE}: not the sources of the release")
@@ -185,11 +189,11 @@ class Judge:
         """Makes one answer again, with the files that it writes."""
         again = {PROGRAM: str(program), "python3": sys.executable,
                  **{name: str(room / name) for name in call["made"]}}
-        status, output = self.call([again.get(word, word) for word in call["words"]], self.top)
+        status, output, errors = self.call([again.get(word, word) for word in call["words"]], self.top)
         name = f"answers/{call['name']}.txt"
-        if status != call["status"] or output != self.read(name):
-            line = output.partition(b"\n")[0].decode(errors="replace")[:200]
-            yield FAILED, f"{name}: {by} says {line!r} with status {status}"
+        if (status, output, errors) != (call["status"], self.read(name), self.read(f"{name[:-4]}.err")):
+            line = (output or errors).partition(b"\n")[0].decode(errors="replace")[:200]
+            yield FAILED, f"{name}: the answer of {by} is {line!r} with status {status}"
         else:
             yield PASSED, name
         for made in call["made"]:
@@ -199,14 +203,14 @@ class Judge:
                 yield FAILED, f"{made}: {by} writes another one"
 
     def call(self, words, place, **more):
-        """Calls a command with the configuration; returns its status and output."""
+        """Calls a command with the configuration; returns its status, output and errors."""
         environment = {**os.environ, "PYTHONDONTWRITEBYTECODE": "1", **more}
         try:
             done = subprocess.run(words, cwd=place, input=self.read(CONFIGURATION), env=environment,
-                                  stdout=subprocess.PIPE, stderr=subprocess.DEVNULL, check=False)
+                                  capture_output=True, check=False)
         except OSError as fault:
-            return None, str(fault).encode()
-        return done.returncode, done.stdout
+            return None, b"", str(fault).encode()
+        return done.returncode, done.stdout, done.stderr
 
     def check_pages(self):
         """Makes the pages and the script again, by the tools in the sources archive."""
@@ -225,32 +229,20 @@ class Judge:
                     FAILED, f"{name}: the tools in {ARCHIVE} make another one")
 
 
-def lines_of(version):
-    """Returns the lines of a version file by their first word."""
-    lines = version.decode(errors="replace").splitlines()
-    return dict(line.split(" ", 1) for line in lines if " " in line)
-
-
-def contents(place):
-    """Returns the files of a directory, or one file, by what follows the name."""
-    if place.is_dir():
-        return {f"/{path.relative_to(place).as_posix()}": path.read_bytes()
-                for path in place.rglob("*") if path.is_file()}
-    return {"": place.read_bytes()} if place.is_file() else {}
-
-
 def parser():
     """Returns the parser of the command line."""
     line = argparse.ArgumentParser(
         "irv --verify-package", allow_abbrev=False, formatter_class=argparse.RawDescriptionHelpFormatter,
-        description="Judges an evidence package from outside: checksums, completeness, links, the "
-        "answers, pages and script\nmade again, documents and checkers compared with the sources.\n\n"
+        description="Judges an evidence package from outside. It compares checksums, looks for missing parts "
+        "and dead links, makes\nanswers, pages and script again, and compares documents and checkers with the "
+        "sources. It runs the\npackage's program and tools, and changes nothing in the package.\n\n"
         "The exit status is 0 if all checks pass, 1 if one fails, 125 if nothing can be judged.")
     line.add_argument("directory", metavar="DIRECTORY", type=Path, help="the package")
     line.add_argument("--program", metavar="FILE", type=Path,
                       help="another program that makes the answers again too")
     line.add_argument("--release", metavar="DIRECTORY", type=Path,
-                      help="the release of that version: its sources, program and version are compared")
+                      help="the release of that version: sources, program and version are compared with "
+                      "it (the directory of this script, if that is a release)")
     line.error = lambda message: line.exit(CANNOT_JUDGE, f"{line.prog}: {message}\n")
     return line
 
@@ -265,7 +257,9 @@ def main(words, checkout=None):
     if given.program and not given.program.is_file():
         print(f"irv --verify-package: the program {given.program} does not exist", file=sys.stderr)
         return CANNOT_JUDGE
-    program = given.program and given.program.resolve()
+    own, program = Path(__file__).resolve().parent, given.program and given.program.resolve()
+    if not given.release and (own / VERSION).is_file() and (own / "sources.tar.gz").is_file():
+        given.release = own
     judge, counts = Judge(given.directory.resolve(), program, given.release, checkout), {PASSED: 0, FAILED: 0}
     for result, text in judge.checks():
         counts[result] = counts.get(result, 0) + 1
