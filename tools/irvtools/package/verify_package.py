@@ -21,6 +21,8 @@ from irvtools.package.source_checksums import files_of, sha256, sum_of_sources, 
 
 # the runs that are kept from an answer: its call, the file, the line with which it begins
 KEPT_RUNS = (("verify", "verify.run", 1), ("search", "search.run", 0))
+# the sources from which pages and script are made again
+PAGE_SOURCES = ("tools/", "docs/assurance/", "VERSION")
 PASSED, FAILED, NOTE = "passed", "failed", "note"
 CANNOT_JUDGE = 125
 
@@ -218,9 +220,10 @@ class Judge:
             top, out = Path(room, "sources"), Path(room, "out")
             out.mkdir()
             for name, (mode, data) in self.sources.items():
-                (top / name).parent.mkdir(parents=True, exist_ok=True)
-                (top / name).write_bytes(data)
-                (top / name).chmod(mode)
+                if name.startswith(PAGE_SOURCES):
+                    (top / name).parent.mkdir(parents=True, exist_ok=True)
+                    (top / name).write_bytes(data)
+                    (top / name).chmod(mode)
             self.call([sys.executable, "-m", "irvtools.package.redraw", str(self.top), str(out)], out,
                       PYTHONPATH=str(top / "tools"))
             for name in ("index.html", "repeat.sh", "report.html"):
