@@ -72,8 +72,10 @@ def check_good(program, _):
         total = hashlib.sha256((directory / "SHA256SUMS").read_bytes()).hexdigest()
         file = directory.with_name("verify_package.py")
         file.write_text(script())
-        for judge in ((TOP / "tools/verify_package",), (sys.executable, "-I", "-S", file)):
-            failures, lines, status = judged(directory, judge=judge)
+        for judge, words in (((TOP / "tools/verify_package",), ("--program", program)),
+                             ((TOP / "tools/verify_package",), ("--program", "irv.unbuilt")),
+                             ((sys.executable, "-I", "-S", file), ())):
+            failures, lines, status = judged(directory, *words, judge=judge)
             if failures or status or not lines[-1] == f"sha256 of SHA256SUMS: {total}":
                 yield f"{judge}: {status} {failures} {lines}"
             if not re.match(r"[0-9]{3,} passed, 0 failed$", lines[-2]):
@@ -266,7 +268,8 @@ def check_refusals(program, _):
         empty = directory.parent / "empty"
         empty.mkdir()
         for words, why in (((empty,), "empty has no file SHA256SUMS"), ((directory, "--release", empty), "no file"),
-                           ((directory, "--program", empty / "no"), "does not exist"), ((), "DIRECTORY")):
+                           ((directory, "--program", empty / "no"), "does not exist"), ((), "DIRECTORY"),
+                           ((directory, "--program", "irv.unbuilt", "--with-program"), "does not exist")):
             done = subprocess.run([TOP / "tools/verify_package", *words], capture_output=True, check=False)
             if done.returncode != 125 or why not in done.stderr.decode():
                 yield f"{words}: {done}"

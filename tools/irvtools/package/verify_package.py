@@ -25,6 +25,7 @@ KEPT_RUNS = (("verify", "verify.run", 1), ("search", "search.run", 0))
 PAGE_SOURCES = ("tools/", "docs/assurance/", "VERSION")
 PASSED, FAILED, NOTE = "passed", "failed", "note"
 CANNOT_JUDGE = 125
+UNBUILT = ".unbuilt"    # the launcher names such a file if it knows no program that is proved
 
 
 class Judge:
@@ -53,9 +54,9 @@ class Judge:
             yield from self.check_version()
             yield from self.check_copies()
             yield from self.check_outside()
-            yield from self.check_answers(self.top / PROGRAM, "the package's program")
+            yield from self.check_answers(self.top / PROGRAM, "the package's program", FAILED)
             if self.program:
-                yield from self.check_answers(self.program, str(self.program))
+                yield from self.check_answers(self.program, str(self.program), NOTE)
             yield from self.check_pages()
 
     def check_sums(self):
@@ -175,19 +176,20 @@ class Judge:
 
     # -- what is made again
 
-    def check_answers(self, program, by):
-        """Makes each answer again by a program."""
+    def check_answers(self, program, by, other_file):
+        """Makes each answer again by a program; `other_file` is the result if it writes another file, which
+        a program of another version may do: the package's own certificate is checked by it too."""
         with tempfile.TemporaryDirectory(prefix="irv-verify-package-") as room:
             for call in self.record["calls"]:
                 if call["is_repeated"]:
-                    yield from self.check_answer(call, program, Path(room), by)
+                    yield from self.check_answer(call, program, Path(room), by, other_file)
         for name, file, first in KEPT_RUNS:
             if file in self.names:
                 lines = self.read(f"answers/{name}.txt").splitlines(keepends=True)[first:]
                 good = b"".join(lines) == self.read(file)
                 yield (PASSED, file) if good else (FAILED, f"{file}: not the run of answers/{name}.txt")
 
-    def check_answer(self, call, program, room, by):
+    def check_answer(self, call, program, room, by, other_file):
         """Makes one answer again, with the files that it writes."""
         again = {PROGRAM: str(program), "python3": sys.executable,
                  **{name: str(room / name) for name in call["made"]}}
@@ -202,7 +204,7 @@ class Judge:
             wanted = {it[len(made):]: self.read(it) for it in self.names
                       if it == made or it.startswith(f"{made}/")}
             if contents(room / made) != wanted:
-                yield FAILED, f"{made}: {by} writes another one"
+                yield other_file, f"{made}: {by} writes another one"
 
     def call(self, words, place, **more):
         """Calls a command with the configuration; returns its status, output and errors."""
@@ -243,6 +245,8 @@ def parser():
     line.add_argument("directory", metavar="DIRECTORY", type=Path, help="the package")
     line.add_argument("--program", metavar="FILE", type=Path,
                       help="another program that makes the answers again too")
+    line.add_argument("--with-program", action="store_true",
+                      help="refuse if there is no such program; ./irv builds it first")
     line.add_argument("--release", metavar="DIRECTORY", type=Path,
                       help="the release of that version: sources, program and version are compared with "
                       "it (the directory of this script, if that is a release)")
@@ -257,6 +261,8 @@ def main(words, checkout=None):
         if place and not (place / file).is_file():
             print(f"irv --verify-package: {place} has no file {file}", file=sys.stderr)
             return CANNOT_JUDGE
+    if given.program and given.program.suffix == UNBUILT and not given.with_program:
+        given.program = None
     if given.program and not given.program.is_file():
         print(f"irv --verify-package: the program {given.program} does not exist", file=sys.stderr)
         return CANNOT_JUDGE
