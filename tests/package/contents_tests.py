@@ -67,6 +67,8 @@ def check_safe(program, _):
             if {path.stem for path in solver.iterdir()} != queries:
                 yield f"{solver.name} does not have the five queries"
         text = text_of_page(directory)
+        if "<b>SAFE</b> No run of any length ends in a hazard" not in (directory / INDEX).read_text():
+            yield f"{INDEX} does not begin with the verdict"
         if "None: the table breaks no rule." not in text or "not known to be proved" not in text \
                 and "proved: the launcher" not in text:
             yield f"{INDEX} does not say that no rule is broken, or whether the program is proved"
@@ -93,6 +95,8 @@ def check_deviations(program, _):
                           r"<td>By the certificate of irv verify", page)
         if len(rows) != 14:
             yield f"{len(rows)} deviations are shown of 14"
+        if "<b>SAFE WITH DEVIATIONS: proved</b>" not in page:
+            yield f"{INDEX} has another verdict"
         if (directory / "runs/2.scene").read_bytes() != CROSSING.read_bytes():
             yield "the second scenario is not kept"
         if not (directory / "answers/drive-2.txt").read_text().startswith("driven steps=54\n"):
@@ -109,6 +113,8 @@ def check_unsafe(program, _):
         if not re.search(r"refused C3 routes\[1\]</code></td><td>[^<]+minus[^<]+</td><td>yes</td>.*?It is not safe: "
                          r"hazard two pl1", (directory / INDEX).read_text().replace("&#x27;", "'")):
             yield "the deviation is not shown with its run"
+        if '"verdict bad"><b>HAZARD FOUND</b>' not in (directory / INDEX).read_text():
+            yield f"{INDEX} has another verdict"
         if len((directory / "verify.run").read_text().splitlines()) != 10:
             yield "the run does not have seven events"
         other_run = (directory / "verify.run").read_text().replace("mark in2", "mark in1", 1)
@@ -128,6 +134,8 @@ def check_not_shown(program, _):
         yield from faults_of_form(directory)
         if "It is not shown that the table is safe" not in text_of_page(directory):
             yield f"{INDEX} does not say that nothing is shown"
+        if "<b>REFUSED</b>" not in (directory / INDEX).read_text():
+            yield f"{INDEX} has another verdict"
 
 
 def check_run_is_kept(program, _):

@@ -172,7 +172,7 @@ class Package:
         shown = SEARCH_RUN if self.findings.call("replay-search") else self.runs[0][0] if self.runs else None
         words = ["python3", redraw.HTML, redraw.REPORT, "--program", PROGRAM, "--search-seconds", "0",
                  "--verify-seconds", REPORT_SECONDS, "--without-times", "--cert", redraw.REPORT_CERTIFICATE,
-                 *self.options.of_verify, *(["--run", shown] if shown else [])]
+                 *self.options.of_verify, *(["--run", shown] if shown else []), *self.options.of_report]
         tell("report")
         status, output, errors = redraw.draw_report(self.room, words)
         call = Call("report", words, status, output.decode(errors="replace"),

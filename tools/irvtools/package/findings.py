@@ -4,6 +4,7 @@ from __future__ import annotations
 
 from pathlib import Path
 
+from irvtools.calls.verdict import Answered, Verdict, verdict
 from irvtools.package.deviations import Deviation, deviations_of
 from irvtools.package.recorded_calls import CONFIGURATION, Call
 
@@ -94,6 +95,18 @@ class Findings:
             found += [f"{call.name} was refuted before, and now: {call.told}" for call in self.calls
                       if call.name.startswith("rup-") and not call.line.startswith("refuted ")]
         return found
+
+    def verdict_of_all(self, is_proved: bool) -> Verdict:
+        """Returns the verdict's word and sentence; `is_proved` says whether the program is known to be the
+        proved one."""
+        return verdict([self.answered(call) for call in self.calls if call.is_of_program], is_proved)
+
+    def answered(self, call: Call) -> Answered:
+        """Returns a call as the verdict takes it: one that gave no answer counts as one that did not end."""
+        columns = call.words[call.words.index("--columns") + 1]
+        run = self.text(call.words[call.words.index("--run") + 1]) if call.words[1] == "replay" else ""
+        return Answered(call.words[1], columns, None if call.fault else call.status, call.output,
+                        not call.fault, run)
 
     @property
     def said(self) -> str:

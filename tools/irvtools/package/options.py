@@ -7,6 +7,7 @@ from pathlib import Path
 
 from irvtools.arguments import Parser, whole_number
 from irvtools.batch.file_names import shown
+from irvtools.html import options as html_options
 from irvtools.html.options import Refused as RunRefused
 from irvtools.html.options import name_of_input
 from irvtools.html.run_file import Given
@@ -61,6 +62,8 @@ class Options:
         self.of_verify = [word for name in ("depth", "conflicts")
                           if (value := getattr(given, name)) is not None
                           for word in (f"--{name}", str(value))]
+        self.of_report = [word for name, value in vars(given).items() if name in ABOUT and value is not None
+                          and name in getattr(html_options, "SUBJECT", ()) for word in (f"--{name}", value)]
         self.name = shown(Path(name_of_input()).name)
         self.about = {name: shown(value) for name in ABOUT if (value := getattr(given, name)) is not None}
         self.guard_directory()

@@ -92,9 +92,12 @@ class PackagePage:
     def result(self) -> None:
         """The result for the table."""
         found = self.findings
-        mark = "good" if found.is_safe and not found.contradictions else "bad"
         self.head("Result")
-        self.add(tag("p", tag("b", text(found.said), class_=mark)))
+        if not found.contradictions:
+            verdict = found.verdict_of_all(self.version[-1] == PROVED)
+            _, _, rest = verdict.line.partition(". ")
+            self.add(tag("p", f"{tag('b', text(verdict.word))} {text(rest)}", class_=f"verdict {verdict.tone}"))
+        self.say("In one line:", (code(found.said),))
         if not found.is_plant:
             self.say("The configuration is not a plant. Only its rules were checked, and this package shows "
                      "nothing about its safety.")

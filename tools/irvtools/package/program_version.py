@@ -4,6 +4,7 @@ proved."""
 from __future__ import annotations
 
 import hashlib
+import os
 import subprocess
 from pathlib import Path
 
@@ -22,7 +23,12 @@ def sum_of(file) -> str:
 
 def note_beside(program: Path) -> dict[str, str]:
     """Returns what the launcher noted beside a program that it had proved and built: of which sources, its
-    checksum, and by which toolchain; nothing if it is not known to be proved."""
+    checksum, and by which toolchain; nothing if it is not known to be proved. For the program in a package
+    the version file says so."""
+    if provenance.VERSION_FILE in os.environ:
+        is_proved = PROVED in Path(os.environ[provenance.VERSION_FILE]).read_text(encoding="utf-8").splitlines()
+        said = {name: provenance.filed(name) for name in ("sources", "program", "toolchain")}
+        return {**said, "program": said["program"].removeprefix("sha256 ")} if is_proved else {}
     note = program.with_name(program.name + ".built")
     try:
         said = dict(line.split(" ", 1) for line in note.read_text(encoding="utf-8").splitlines())
