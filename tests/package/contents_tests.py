@@ -20,8 +20,8 @@ ANSWERS = ("configuration.json", "verify.cert", "program/irv", "answers/verify.t
 
 
 def faults_of_form(directory):
-    """What each package has to have: checksums of all files, a page whose links lead somewhere, assumptions
-    and application conditions, and answers that come again."""
+    """What each package has to have: checksums of all files, a page whose links lead somewhere,
+    assumptions and application conditions, and answers that come again."""
     named = [line[66:] for line in (directory / "SHA256SUMS").read_text().splitlines()]
     here = sorted(path.relative_to(directory).as_posix() for path in directory.rglob("*")
                   if path.is_file() and path.name != "SHA256SUMS")
@@ -81,8 +81,8 @@ def without_conflicts(value):
 
 
 def check_deviations(program, _):
-    """A table that breaks C6 fourteen times, on which safety does not depend: each is shown, and how the
-    table is safe with it."""
+    """A table that breaks C6 fourteen times, on which safety does not depend: each is shown, and
+    how the table is safe with it."""
     given = changed(example("station.json"), without_conflicts)
     scene = ("--run", CROSSING, "--run", CROSSING, "--solver-seconds", "0")
     with made(program, given, *scene) as (directory, said):
@@ -91,7 +91,8 @@ def check_deviations(program, _):
             return
         yield from faults_of_form(directory)
         page = (directory / INDEX).read_text(encoding="utf-8")
-        rows = re.findall(r"<tr><td><code>refused C6 [^<]*</code></td><td>[^<]+</td><td>no</td><td>[^<]+</td>"
+        rows = re.findall(r"<tr><td><code>refused C6 "
+                          r"[^<]*</code></td><td>[^<]+</td><td>no</td><td>[^<]+</td>"
                           r"<td>By the certificate of irv verify", page)
         if len(rows) != 14:
             yield f"{len(rows)} deviations are shown of 14"
@@ -103,14 +104,31 @@ def check_deviations(program, _):
             yield "the second scenario is not driven"
 
 
+def check_deviations_alone(program, _):
+    """A table that breaks only C6 is safe by that alone, also if verify gives up."""
+    given = changed(example("station.json"), without_conflicts)
+    with made(program, given, "--conflicts", "0", "--search-seconds", "0") as (directory, said):
+        if said != "with deviations, and safe with them, without a certificate: spent conflicts=0":
+            yield said
+            return
+        text = text_of_page(directory)
+        for words in ("SAFE WITH DEVIATIONS: proved", "Only the rules C4, C5, C6 and C8 are broken",
+                      "There is no certificate"):
+            if words not in text:
+                yield f"{INDEX} does not say {words!r}"
+
+
 def check_unsafe(program, _):
-    """A table that is not safe: the deviation, that safety depends on it, and the run that shows it."""
+    """A table that is not safe: the deviation, that safety depends on it, and the run that shows
+    it."""
     with made(program, example("platforms-wrong-position.json"), "--depth", "8") as (directory, said):
         if said != "with deviations, under free columns: not safe: hazard two pl1, by verify.run":
             yield said
             return
         yield from faults_of_form(directory)
-        if not re.search(r"refused C3 routes\[1\]</code></td><td>[^<]+minus[^<]+</td><td>yes</td>.*?It is not safe: "
+        if not re.search(r"refused C3 "
+                         r"routes\[1\]</code></td><td>[^<]+minus[^<]+</td><td>yes</td>.*?It is not "
+                         r"safe: "
                          r"hazard two pl1", (directory / INDEX).read_text().replace("&#x27;", "'")):
             yield "the deviation is not shown with its run"
         if '"verdict bad"><b>HAZARD FOUND</b>' not in (directory / INDEX).read_text():
@@ -125,10 +143,12 @@ def check_unsafe(program, _):
 
 
 def check_not_shown(program, _):
-    """If verify finds neither, and no run is searched for, the package says that nothing is shown."""
+    """If verify finds neither, and no run is searched for, the package says that nothing is
+    shown."""
     words = ("--search-seconds", "0", "--depth", "1")
     with made(program, example("platforms-wrong-position.json"), *words) as (directory, said):
-        if not said.startswith("with deviations, under free columns: not shown to be safe: not inductive "):
+        wanted = "with deviations, under free columns: not shown to be safe: not inductive "
+        if not said.startswith(wanted):
             yield said
             return
         yield from faults_of_form(directory)
@@ -139,7 +159,8 @@ def check_not_shown(program, _):
 
 
 def check_run_is_kept(program, _):
-    """A given run is replayed, and a hazard to which it leads is attributed to it, not to the search."""
+    """A given run is replayed, and a hazard to which it leads is attributed to it, not to the
+    search."""
     with made(program, example("two-sections.json"), "--run", MEET, "--search-seconds", "0", "--depth", "2") \
             as (directory, said):
         answer = (directory / "answers/replay-1.txt").read_text() if directory.exists() else ""
@@ -163,8 +184,8 @@ def check_no_plant(program, _):
 
 
 def check_changes(program, _):
-    """repeat.sh finds each changed, missing and new file by the checksums. It finds a changed configuration,
-    certificate, answer and program also if the checksums are made anew."""
+    """repeat.sh finds each changed, missing and new file by the checksums. It finds a changed
+    configuration, certificate, answer and program also if the checksums are made anew."""
     with made(program, example("line-with-boards.json"), "--solver-seconds", "0") as (directory, said):
         if said != "safe k=1":
             yield said
@@ -200,7 +221,8 @@ def hidden(directory, name):
 
 
 def check_moved(program, _):
-    """A package is repeated from a copy elsewhere, by a program that is named, and changes nothing."""
+    """A package is repeated from a copy elsewhere, by a program that is named, and changes
+    nothing."""
     with made(program, example("line-with-boards.json"), "--solver-seconds", "0") as (directory, _):
         copy = directory.parent / "a copy with spaces"
         subprocess.run(["cp", "-r", directory, copy], check=True)
@@ -229,6 +251,6 @@ def check_about(program, _):
 
 
 ContentsTests = test_case("ContentsTests", (
-    check_safe, check_deviations, check_unsafe, check_not_shown, check_run_is_kept, check_no_plant,
+    check_safe, check_deviations, check_deviations_alone, check_unsafe, check_not_shown, check_run_is_kept, check_no_plant,
     check_changes, check_moved, check_made_again, check_about,
 ))

@@ -1,5 +1,5 @@
-"""Tests of what a package must not claim: with fake programs, notes of other builds, names of all kinds,
-and checksums that are none."""
+"""Tests of what a package must not claim: with fake programs, notes of other builds, names of all
+kinds, and checksums that are none."""
 
 import hashlib
 import os
@@ -27,11 +27,12 @@ def fake_at(room, program, command, does):
 
 
 def check_contradiction(program, _):
-    """If a checker rejects the certificate, or a scenario ends in a hazard with a table that is said to be
-    safe, the package says that one of them is wrong, and not that the table is safe."""
+    """If a checker rejects the certificate, or a scenario ends in a hazard with a table that is
+    said to be safe, the package says that one of them is wrong, and not that the table is safe."""
     scene = TOP / "examples/station-crossing.scene"
     for command, does, wanted in (
-            ("audit", "echo 'rejected line 1'; exit 6", "a contradiction: safe k=1, and audit: rejected line 1"),
+            ("audit", "echo 'rejected line 1'; exit 6",
+             "a contradiction: safe k=1, and audit: rejected line 1"),
             ("drive", "echo 'hazard two a steps=1'; exit 1",
              "a contradiction: safe k=1, and hazard two a steps=1, by runs/1.scene")):
         with place() as directory:
@@ -58,8 +59,9 @@ def check_no_answer(program, _):
 
 
 def check_names(program, _):
-    """Names with quotes, blanks, markup, a dash at the beginning, a line feed and bytes that are not UTF-8
-    are shown as they are, and a package in such a directory is repeated, whatever CDPATH is."""
+    """Names with quotes, blanks, markup, a dash at the beginning, a line feed and bytes that are
+    not UTF-8 are shown as they are, and a package in such a directory is repeated, whatever CDPATH
+    is."""
     with place() as directory:
         room = directory.parent
         given, run = os.fsencode(room) + b"/" + NAME, os.fsencode(room) + b"/" + RUN
@@ -83,14 +85,14 @@ def check_names(program, _):
 
 
 def check_notes(program, _):
-    """A note of a proof counts only for the program beside which it is, that of the unproved build for none,
-    and a program of other sources gets no version."""
+    """A note of a proof counts only for the program beside which it is, that of the unproved build
+    for none, and a program of other sources gets no version."""
     given, total = example("line-with-boards.json"), hashlib.sha256(program.read_bytes()).hexdigest()
+    unknown = ("not known to be proved", "commit unknown; ", "sources unknown")
     with place() as directory:
         for name, of, wanted in (
                 ("irv", total, ("\nproved: the launcher", "commit unknown; ", "sources elsewhere")),
-                ("irv", "0" * 64, ("not known to be proved", "commit unknown; ", "sources unknown")),
-                ("irv-unproved", total, ("not known to be proved", "commit unknown; ", "sources unknown"))):
+                ("irv", "0" * 64, unknown), ("irv-unproved", total, unknown)):
             copy = directory.parent / name
             shutil.copy(program, copy)
             note = f"sources elsewhere\nprogram {of}\ntoolchain kit 1\ndate 2026-12-01\n"

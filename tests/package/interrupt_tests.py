@@ -28,8 +28,8 @@ def waits(condition):
 
 
 def check_interrupted(program, _):
-    """A call that is ended by a signal says so, with status 125. It leaves no directory, none of its
-    temporary files or of those of the tools that it calls, and no process."""
+    """A call that is ended by a signal says so, with status 125. It leaves no directory, none of
+    its temporary files or of those of the tools that it calls, and no process."""
     for number in (signal.SIGINT, signal.SIGTERM, signal.SIGHUP):
         with tempfile.TemporaryDirectory(prefix="irv-test-package-") as name:
             room = Path(name)
@@ -65,7 +65,8 @@ def unblock():
 
 
 def check_terminal(program, _):
-    """On a terminal the call says which step it does now; elsewhere it says nothing on standard error."""
+    """On a terminal the call says which step it does now; elsewhere it says nothing on standard
+    error."""
     with tempfile.TemporaryDirectory(prefix="irv-test-package-") as name:
         words = [TOP / "tools/package", Path(name) / "one", "--program", program, "--search-seconds", "0"]
         done = subprocess.run(words, input=example("two-sections.json"), capture_output=True, check=False)

@@ -1,5 +1,5 @@
-"""Tests of tools/verify_package: what it finds in a package that was changed, with the checksums made anew
-or not, alone and with a release or another program beside it."""
+"""Tests of tools/verify_package: what it finds in a package that was changed, with the checksums
+made anew or not, alone and with a release or another program beside it."""
 
 import bz2
 import gzip
@@ -53,7 +53,8 @@ def kept(directory):
 
 
 def write_release(room, directory):
-    """Writes what the judge reads of a release: version, sources, licences and program of a package."""
+    """Writes what the judge reads of a release: version, sources, licences and program of a
+    package."""
     release = room / "release"
     release.mkdir()
     shutil.copy(directory / "version.txt", release)
@@ -66,7 +67,8 @@ def write_release(room, directory):
 
 def check_good(program, _):
     """A package as it was made passes, by the tool and by the single file of a release in an empty
-    environment, from an empty directory. Both print the checksum of SHA256SUMS, and change nothing."""
+    environment, from an empty directory. Both print the checksum of SHA256SUMS, and change
+    nothing."""
     with package(program, "station.json") as directory:
         before = sorted((path.as_posix(), path.stat().st_mtime_ns) for path in directory.rglob("*"))
         total = hashlib.sha256((directory / "SHA256SUMS").read_bytes()).hexdigest()
@@ -85,8 +87,8 @@ def check_good(program, _):
 
 
 def check_kinds(program, _):
-    """Packages of tables with deviations, with a run to a hazard, without a verdict and without a plant
-    pass."""
+    """Packages of tables with deviations, with a run to a hazard, without a verdict and without a
+    plant pass."""
     meet = ("--run", TOP / "examples/two-trains-meet.run")
     for name, words in (("platforms-wrong-position.json", ("--depth", "8")),
                         ("platforms-wrong-position.json", ("--depth", "1", "--search-seconds", "0")),
@@ -130,7 +132,8 @@ def check_changes(program, _):
 
 
 def check_added_and_missing(program, _):
-    """A new and a missing file, a symbolic link and a dead link are found, also with new checksums."""
+    """A new and a missing file, a symbolic link and a dead link are found, also with new
+    checksums."""
     with package(program) as directory:
         for wanted, change in (
                 ("note.txt: not a part", lambda copy: (copy / "note.txt").write_text("x")),
@@ -169,8 +172,8 @@ def other_command(copy):
 
 
 def check_record(program, _):
-    """A record without a call that such a package has, with other columns, or with a command that is not
-    the package's own is found, and that command is not called."""
+    """A record without a call that such a package has, with other columns, or with a command that
+    is not the package's own is found, and that command is not called."""
     with package(program) as directory:
         for wanted, change in (("no call audit-outside", lambda copy: drop_call(copy, "audit-outside")),
                                ("no call check-strict with strict columns", free_columns),
@@ -205,8 +208,8 @@ def everything_anew(copy):
 
 
 def check_release(program, _):
-    """A change of a document with all that depends on it made anew is found only by a release of that
-    version, and so are another program and another toolchain in the version file."""
+    """A change of a document with all that depends on it made anew is found only by a release of
+    that version, and so are another program and another toolchain in the version file."""
     with package(program) as directory:
         release = write_release(directory.parent, directory)
         failures, lines, status = judged(directory, "--release", release)
@@ -247,8 +250,8 @@ exec '{program}' "$@"
 
 
 def check_other_program(program, _):
-    """A package that was made with a program that lies passes by that program, and another program finds
-    each lie."""
+    """A package that was made with a program that lies passes by that program, and another program
+    finds each lie."""
     given = changed(example("platforms-wrong-position.json"), lambda value: None)
     with place() as directory:
         liar = directory.parent / "liar"
@@ -269,7 +272,8 @@ def check_refusals(program, _):
         empty.mkdir()
         for words, why in (((empty,), "empty has no file SHA256SUMS"), ((directory, "--release", empty), "no file"),
                            ((directory, "--program", empty / "no"), "does not exist"), ((), "DIRECTORY"),
-                           ((directory, "--program", "irv.unbuilt", "--with-program"), "does not exist")):
+                           ((directory, "--program", "irv.unbuilt", "--with-program"),
+                            "does not exist")):
             done = subprocess.run([TOP / "tools/verify_package", *words], capture_output=True, check=False)
             if done.returncode != 125 or why not in done.stderr.decode():
                 yield f"{words}: {done}"

@@ -14,8 +14,8 @@ WORDS = ("--solver-seconds", "0")
 
 
 def first_difference(directory):
-    """Returns the first difference that the script of a package prints, and ends it, because the rest takes
-    minutes."""
+    """Returns the first difference that the script of a package prints, and ends it, because the
+    rest takes minutes."""
     repeating = subprocess.Popen([directory / "repeat.sh"], stdout=subprocess.PIPE, stderr=subprocess.DEVNULL,
                                  text=True, cwd="/", start_new_session=True)
     try:
@@ -26,8 +26,8 @@ def first_difference(directory):
 
 
 def check_large(program, _):
-    """A line of two stations with crossovers, with a certificate of 90 MB: its package is repeated without a
-    difference, and each changed byte is found."""
+    """A line of two stations with crossovers, with a certificate of 90 MB: its package is repeated
+    without a difference, and each changed byte is found."""
     begin = time.monotonic()
     with made(program, PLANT.read_bytes(), *WORDS) as (directory, said):
         print(f"    {said}, after {time.monotonic() - begin:.0f} s", flush=True)

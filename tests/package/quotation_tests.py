@@ -1,4 +1,5 @@
-"""Tests of what packages quote: assumptions and application conditions, and what is known of the program."""
+"""Tests of what packages quote: assumptions and application conditions, and what is known of the
+program."""
 
 import os
 import tempfile
@@ -40,13 +41,14 @@ def check_items(_, __):
               ("SRAC-01", "closed boards", "The train operator shall ensure that each train stops.", None)]
     if [(it.name, it.title, it.statement, it.lines.get("Ensured by")) for it in found] != wanted:
         yield f"{found}"
-    if found and found[-1].lines != {"Duty holder": "train operator", "Discharged by": "train protection."}:
+    if found and found[-1].lines != {"Duty holder": "train operator",
+                                     "Discharged by": "train protection."}:
         yield f"{found[-1]}"
 
 
 def check_page(_, __):
-    """Each assumption and condition of the true page has a statement; each condition says `shall`, and has a
-    duty holder and how it is discharged. Without a page there are none."""
+    """Each assumption and condition of the true page has a statement; each condition says `shall`,
+    and has a duty holder and how it is discharged. Without a page there are none."""
     assumptions, conditions = provenance.items("AS"), provenance.items("SRAC")
     if len(assumptions) < 9 or len(conditions) < 18:
         yield f"{len(assumptions)} assumptions, {len(conditions)} conditions"
@@ -58,8 +60,8 @@ def check_page(_, __):
 
 
 def check_version_file(_, __):
-    """For the report of a package its version file says whether the program is known to be proved, and of
-    which commit and toolchain it is."""
+    """For the report of a package its version file says whether the program is known to be proved,
+    and of which commit and toolchain it is."""
     lines = "commit c\ntoolchain kit 1\nsources s\nprogram sha256 p\n"
     with tempfile.TemporaryDirectory(prefix="irv-test-package-") as room:
         file = Path(room, "version.txt")

@@ -19,7 +19,8 @@ from tests.support.harness import test_case
 MARK = "irv-reproducible-build"         # by which tests/reproducible_build knows its directory
 RECORD = (
     "# Validation record of irv 1.2.3 (generated", "| toolchain | `kit 1` |", "| commit | `", "| tree | `",
-    "| `tests/run --without-program` | 3 | 1 | Runs the tests, and what \\| is. |", "| `rt ci` | 40 | 0 | ",
+    "| `tests/run --without-program` | 3 | 1 | Runs the tests, and what \\| is. |", "| `rt ci` | "
+                                                                                    "40 | 0 | ",
     "| `tests/run --with-program` | 600 | 1 | Runs the tests, and what \\| is. |",
     "| `tools/mutants` | 5 | 0 | Tries mutants. |", "| `tests/run docs` | 2 | 3 | 0 |",
     "| `tests/run html` | 1 | 600 | 0 |", "| `tests/run schema` | 0 | 0 | 1 |",
@@ -34,9 +35,9 @@ RECORD = (
 
 
 def check_release(_, __):
-    """A release has the program, manual page, completions and licences, what CI printed, command by command,
-    the axioms by name, the libraries with versions and licences, the extra logs, the judge of packages, and
-    the sources as an archive. Made twice it is the same, byte for byte."""
+    """A release has the program, manual page, completions and licences, what CI printed, command by
+    command, the axioms by name, the libraries with versions and licences, the extra logs, the judge
+    of packages, and the sources as an archive. Made twice it is the same, byte for byte."""
     with repository() as top:
         logs = {"long.log": "$ tests/html P --long\nmuch\n9 passed, 0 failed\n",
                 "-seeded.log": "$ tests/first P --seed 3\nmuch\n8 passed, 0 failed\n",
@@ -101,13 +102,15 @@ def commit_more(top):
 
 
 def changes():
-    """Returns what is changed before a release is made, by a part of the reason why it is refused then."""
+    """Returns what is changed before a release is made, by a part of the reason why it is refused
+    then."""
     edited = ", and not all is committed"
     return {
         "CI did not pass: tests/run --with-program": changed("gate.log", "600 passed, 0", "600 passed, 1"),
         "CI did not pass: tools/mutants": changed("gate.log", "5 passed, 0", "5 passed, 1"),
         "CI did not pass: rt ci": changed("gate.log", "7 passed, 0", "7 passed, 1"),
-        "the log is not whole": lambda top: (top.parent / "gate.log").write_text("3 passed, 0 failed\n"),
+        "the log is not whole": lambda top: (top.parent / "gate.log").write_text("3 passed, 0 "
+                                                                                 "failed\n"),
         "does not say over which tree": changed("gate.log", "CI passed, ", ""),
         "CI has begun over another tree": commit_more,
         "CI has passed over another tree": lambda top: (top.parent / "gate.log").write_text(
@@ -129,9 +132,9 @@ def changes():
 
 
 def check_release_refused(_, __):
-    """A release is refused, and no directory made, if the log is of a failed CI run, not whole or of another
-    tree, if the axioms differ from those that CI counted, if the checkout is changed, if the program is of
-    other sources, or if the directory is not empty."""
+    """A release is refused, and no directory made, if the log is of a failed CI run, not whole or
+    of another tree, if the axioms differ from those that CI counted, if the checkout is changed, if
+    the program is of other sources, or if the directory is not empty."""
     for why, change in changes().items():
         with repository() as top:
             change(top)
@@ -154,8 +157,8 @@ def can_hide():
 
 
 def check_same_bytes(_, __):
-    """tests/reproducible_build finds if two builds have the same bytes. It builds where the cache is hidden,
-    and refuses a directory that has other files."""
+    """tests/reproducible_build finds if two builds have the same bytes. It builds where the cache
+    is hidden, and refuses a directory that has other files."""
     if not can_hide():
         return
     with repository() as top:
@@ -184,8 +187,9 @@ def check_same_bytes(_, __):
 
 
 def check_given_build(_, __):
-    """tests/reproducible_build takes a build of CI for one of its two if CI passed over this tree, from
-    nothing, and the note beside the program has these sources and bytes; otherwise it refuses it."""
+    """tests/reproducible_build takes a build of CI for one of its two if CI passed over this tree,
+    from nothing, and the note beside the program has these sources and bytes; otherwise it refuses
+    it."""
     if not can_hide():
         return
     with repository() as top:
@@ -196,7 +200,8 @@ def check_given_build(_, __):
         words, unknown = ("--given", top, log), "is not known to be built of the sources here"
         for why, file, old, new in (
                 ("does not say that every proof", log, "rt: ok; every proof", "rt: ok; some proof"),
-                ("CI has begun over another tree", log, "begun, tree of git: ", "begun, tree of git: 0"),
+                ("CI has begun over another tree", log, "begun, tree of git: ", "begun, tree of "
+                                                                                "git: 0"),
                 (unknown, note, f"sources {sources}", "sources s1"),
                 (unknown, note, f"program {total[:9]}", "program 0"),
                 (unknown, note, "toolchain kit 1", "toolchain kit 2")):
@@ -222,7 +227,8 @@ def same_bytes(top, room, *words):
 
 
 def check_ci(_, __):
-    """A release reads the log of the true .ci/run: its commands that count, and its lines on the tree."""
+    """A release reads the log of the true .ci/run: its commands that count, and its lines on the
+    tree."""
     text = (TOP / ".ci/run").read_text(encoding="utf-8")
     wanted = ["tests/run --without-program", "rt ci", "tests/run --with-program", "tools/mutants"]
     if checks_of(text) != wanted:

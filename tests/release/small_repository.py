@@ -1,4 +1,5 @@
-"""A small repository with a fake CI, a fake toolchain and a fake program, of which a release is made."""
+"""A small repository with a fake CI, a fake toolchain and a fake program, of which a release is
+made."""
 
 import hashlib
 import os
@@ -138,7 +139,8 @@ def give_toolchain(room):
 
 @contextmanager
 def repository():
-    """Gives the repository, in a directory whose name has a blank, with the log of its CI beside it."""
+    """Gives the repository, in a directory whose name has a blank, with the log of its CI beside
+    it."""
     with tempfile.TemporaryDirectory(prefix="irv release-") as name:
         top = Path(name) / "the top"
         lay_out(top)

@@ -1,5 +1,5 @@
-"""What a safety case quotes: checksums of files, where the program comes from, and the assumptions and
-application conditions of the qualification page."""
+"""What a safety case quotes: checksums of files, where the program comes from, and the assumptions
+and application conditions of the qualification page."""
 
 from __future__ import annotations
 
@@ -20,8 +20,8 @@ ITEM = re.compile(r"^### ((?:AS|SRAC)-[0-9]+): (.+)$", re.M)
 
 @dataclass
 class Item:
-    """An assumption or an application condition of the qualification page: its identifier and title, its
-    statement, and the named lines below it, such as `Duty holder`."""
+    """An assumption or an application condition of the qualification page: its identifier and
+    title, its statement, and the named lines below it, such as `Duty holder`."""
     name: str
     title: str
     statement: str
@@ -47,7 +47,8 @@ def sum_of_file(file) -> str:
 
 
 def said_by(command: list[str]) -> str | None:
-    """Returns what a command prints, called in the checkout; `None` if it fails or prints nothing."""
+    """Returns what a command prints, called in the checkout; `None` if it fails or prints
+    nothing."""
     try:
         done = subprocess.run(command, cwd=TOP, capture_output=True, text=True, timeout=30,
                               check=False)
@@ -92,8 +93,8 @@ def version() -> str | None:
 
 
 def premises() -> list[tuple[str, str]]:
-    """Returns the assumptions of the qualification page, each with its identifier; none if the page does
-    not exist."""
+    """Returns the assumptions of the qualification page, each with its identifier; none if the page
+    does not exist."""
     return [(it.name, it.statement) for it in items("AS")]
 
 
@@ -103,8 +104,8 @@ def premises_in(document: str) -> list[tuple[str, str]]:
 
 
 def items(kind: str, document: Path = QUALIFICATION) -> list[Item]:
-    """Returns the assumptions (`AS`) or application conditions (`SRAC`) of the qualification page, in
-    their order; none if the page does not exist."""
+    """Returns the assumptions (`AS`) or application conditions (`SRAC`) of the qualification page,
+    in their order; none if the page does not exist."""
     try:
         text = document.read_text(encoding="utf-8")
     except OSError:

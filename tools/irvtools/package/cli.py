@@ -28,8 +28,8 @@ def interrupt(number: int, _) -> None:
 
 
 def make(options: Options, given: bytes) -> Package:
-    """Makes the package beside its place, moves it there once it is whole, and returns it. Temporary files,
-    also those of the tools that are called, are removed in each case."""
+    """Makes the package beside its place, moves it there once it is whole, and returns it.
+    Temporary files, also those of the tools that are called, are removed in each case."""
     options.guard_directory()
     room = Path(tempfile.mkdtemp(prefix=".irv-package-", dir=options.directory.parent))
     temporary = tempfile.mkdtemp(prefix="irv-package-")
@@ -62,7 +62,8 @@ def main(words: list[str]) -> int:
         print(f"irv --package: {fault}", file=sys.stderr)
         return NOT_MADE
     except Interrupted as fault:
-        print(f"irv --package: ended by {signal.Signals(fault.args[0]).name}; no package is made", file=sys.stderr)
+        name = signal.Signals(fault.args[0]).name
+        print(f"irv --package: ended by {name}; no package is made", file=sys.stderr)
         return NOT_MADE
     print(f"{options.directory}: {package.said}")
     print(f"sha256 of SHA256SUMS: {package.sum_of_sums}")

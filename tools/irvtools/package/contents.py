@@ -1,5 +1,5 @@
-"""What a package collects: the configuration as it was read, the answers to it, each after those on which
-it depends, and what they depend on."""
+"""What a package collects: the configuration as it was read, the answers to it, each after those on
+which it depends, and what they depend on."""
 
 from __future__ import annotations
 
@@ -19,14 +19,16 @@ from irvtools.package.source_archive import archive_of, files_here
 from irvtools.package.package_parts import ARCHIVE
 from irvtools.paths import TOP
 
-CERTIFICATE, FOUND_RUN, SEARCH_RUN, VERSION = "verify.cert", "verify.run", "search.run", "version.txt"
+CERTIFICATE, FOUND_RUN, SEARCH_RUN = "verify.cert", "verify.run", "search.run"
+VERSION = "version.txt"
 # what checks an answer besides the program, as the repository has it
 CHECKERS = ("audit", "lrat", *(f"irvtools/{name}.py" for name in (
-    "__init__", "paths", "arguments", "checkers/__init__", "checkers/certificate", "checkers/dimacs",
-    "checkers/exported", "checkers/audit_cli", "checkers/lrat_cli")))
+    "__init__", "paths", "arguments", "checkers/__init__", "checkers/certificate",
+    "checkers/dimacs", "checkers/exported", "checkers/audit_cli", "checkers/lrat_cli")))
 # solvers that write refutations, with the arguments that tools/verify_with needs for them
 SOLVERS = {"cadical": [], "picosat.trace": ["--solver", "picosat.trace -n -R {proof} {cnf}"]}
-REPORT_SECONDS = "86400"    # that the report may wait for verify, which has answered the same before
+# how long the report may wait for verify, which has answered the same before
+REPORT_SECONDS = "86400"
 
 
 class Package:
@@ -108,8 +110,9 @@ class Package:
 
     def ask_verdict(self) -> None:
         """Asks for the verdict, and all by which it can be checked."""
-        verdict = self.calls.program("verify", "verify", self.findings.columns, *self.options.of_verify,
-                                     "--cert", CERTIFICATE, made=[CERTIFICATE])
+        verdict = self.calls.program("verify", "verify", self.findings.columns,
+                                     *self.options.of_verify, "--cert", CERTIFICATE,
+                                     made=[CERTIFICATE])
         if self.findings.is_safe:
             self.judge(verdict.line.removeprefix("safe k="))
             return
@@ -131,23 +134,26 @@ class Package:
                 self.ask_solver(name, words, k)
 
     def ask_solver(self, name: str, words: list[str], k: str) -> None:
-        """Has a solver refute every query. The refutations are kept, and `irv rup` checks each again."""
+        """Has a solver refute every query. The refutations are kept, and `irv rup` checks each
+        again."""
         directory, columns = Path("solvers", name), self.findings.columns
         (self.room / directory).mkdir(parents=True)
         asked = self.calls.ask(f"verify_with-{name}", [
-            "python3", str(TOP / "tools/verify_with"), "--k", k, "--columns", columns, "--program", PROGRAM,
-            "--seconds", str(self.options.solver_seconds), "--keep", str(directory), *words, CONFIGURATION],
-            is_repeated=False)
+            "python3", str(TOP / "tools/verify_with"), "--k", k, "--columns", columns,
+            "--program", PROGRAM, "--seconds", str(self.options.solver_seconds),
+            "--keep", str(directory), *words, CONFIGURATION], is_repeated=False)
         asked.words[1] = "tools/verify_with"
         self.solvers.append((version_of(name), asked.name))
-        refuted = [line.split()[1:] for line in asked.output.splitlines() if line.startswith("refuted ")]
+        refuted = [line.split()[1:] for line in asked.output.splitlines()
+                   if line.startswith("refuted ")]
         kept = {f"{kind}-{number}.proof" for kind, number in refuted}
         for file in (self.room / directory).iterdir():
             if file.name not in kept:
                 file.unlink()
         for kind, number in refuted:
+            file = str(directory / f"{kind}-{number}.proof")
             self.calls.program(f"rup-{name}-{kind}-{number}", "rup", columns, "--query", kind,
-                               "--number", number, "--cert", str(directory / f"{kind}-{number}.proof"))
+                               "--number", number, "--cert", file)
 
     def replay(self, file: str, name: str, run: str) -> None:
         """Keeps the text of a run, and has it replayed."""
@@ -156,9 +162,9 @@ class Package:
 
     def search(self) -> None:
         """Searches for a run to a hazard, which counts only by the answer of replay."""
+        seconds = str(self.options.search_seconds)
         searched = self.calls.ask("search", ["python3", str(TOP / "tools/search"), "--seconds",
-                                             str(self.options.search_seconds), "--program", PROGRAM],
-                                  is_repeated=False)
+                                             seconds, "--program", PROGRAM], is_repeated=False)
         searched.words[1] = "tools/search"
         if not searched.status:
             self.replay(SEARCH_RUN, "replay-search", searched.output)
@@ -166,13 +172,16 @@ class Package:
     # -- what leads through it
 
     def draw(self) -> None:
-        """Makes the report, the page and the script, which `redraw` can make again. The report shows a run
-        to a hazard if one was searched, otherwise the first given one. It asks verify again, which writes
-        the same certificate, and has no times, so that a package that is made again is the same."""
-        shown = SEARCH_RUN if self.findings.call("replay-search") else self.runs[0][0] if self.runs else None
-        words = ["python3", redraw.HTML, redraw.REPORT, "--program", PROGRAM, "--search-seconds", "0",
-                 "--verify-seconds", REPORT_SECONDS, "--without-times", "--cert", redraw.REPORT_CERTIFICATE,
-                 *self.options.of_verify, *(["--run", shown] if shown else []), *self.options.of_report]
+        """Makes the report, the page and the script, which `redraw` can make again. The report
+        shows a run to a hazard if one was searched, otherwise the first given one. It asks verify
+        again, which writes the same certificate, and has no times, so that a package that is made
+        again is the same."""
+        given = [file for file, _, _ in self.runs[:1]]
+        shown = [SEARCH_RUN] if self.findings.call("replay-search") else given
+        words = ["python3", redraw.HTML, redraw.REPORT, "--program", PROGRAM,
+                 "--search-seconds", "0", "--verify-seconds", REPORT_SECONDS, "--without-times",
+                 "--cert", redraw.REPORT_CERTIFICATE, *self.options.of_verify,
+                 *(word for file in shown for word in ("--run", file)), *self.options.of_report]
         tell("report")
         status, output, errors = redraw.draw_report(self.room, words)
         call = Call("report", words, status, output.decode(errors="replace"),
@@ -182,8 +191,8 @@ class Package:
             (self.room / "answers/report.err").write_bytes(errors)
         self.calls.all.append(call)
         write_record(self.room, self.calls.all, {
-            "configuration": self.options.name, "about": self.options.about, "options": self.options.of_verify,
-            "runs": self.runs, "solvers": self.solvers})
+            "configuration": self.options.name, "about": self.options.about,
+            "options": self.options.of_verify, "runs": self.runs, "solvers": self.solvers})
         redraw.draw_pages(self.room, self.room)
 
     def sum_up(self) -> None:

@@ -1,5 +1,6 @@
-"""The deviations of a table: each broken rule in sentences, and whether safety depends on it. `irv check`
-answers which rules are broken, and at which place; the sentences are those of the HTML report."""
+"""The deviations of a table: each broken rule in sentences, and whether safety depends on it. `irv
+check` answers which rules are broken, and at which place; the sentences are those of the HTML
+report."""
 
 from __future__ import annotations
 
@@ -25,8 +26,8 @@ def deviations_of(given: bytes, lines: list[str]) -> list[Deviation]:
     if lines[0].startswith("refused F"):
         _, rule, place = lines[0].split(" ")
         return [Deviation(lines[0], list(schema_rules.faults(rule, place, given)), True,
-                          "A configuration with a wrong form is not read: nothing else is asked about it, and "
-                          "there is no verdict.")]
+                          "A configuration with a wrong form is not read: nothing else is asked "
+                          "about it, and there is no verdict.")]
     value, unread = schema_rules.read(given)
     plant = None if unread is not None else Plant(value)
     return [of_line(plant, line) for line in lines]
@@ -36,8 +37,8 @@ def of_line(plant: Plant | None, line: str) -> Deviation:
     """Returns what one line says."""
     rule, places = broken_rules.read_line(line)
     if plant is None:
-        return Deviation(line, [], True, "The tools in Python cannot read what irv reads: "
-                         "docs/reference/model.md has the rule.")
+        return Deviation(line, [], True, "The tools in Python cannot read what irv reads. The rule "
+                         "is in docs/reference/model.md.")
     is_resting = rule[0] != "C" or broken_rules.rests(plant, rule, places)
     return Deviation(line, list(broken_rules.sentences(plant, rule, places)), is_resting,
                      broken_rules.safety(plant, rule, places))

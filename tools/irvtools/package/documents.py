@@ -1,5 +1,5 @@
-"""The documents of a package: the pages of this version, the definitions on which its answers depend, and
-each file to which these link."""
+"""The documents of a package: the pages of this version, the definitions on which its answers
+depend, and each file to which these link."""
 
 from __future__ import annotations
 
@@ -15,8 +15,8 @@ PAGES = ("README.md", "CHANGELOG.md", "VERSION", "CONTRIBUTING.md")
 
 
 def document_names(files: Files) -> list[str]:
-    """Returns the names of a package's documents among the sources. A directory to which a page links is
-    there with those of its files that are documents, or with all if none is."""
+    """Returns the names of a package's documents among the sources. A directory to which a page
+    links is there with those of its files that are documents, or with all if none is."""
     defined = {f"crates/{place}" for _, by_file in definitions.stages() for place in by_file}
     found = {name for name in files if name in PAGES or name.startswith("docs/") or name in defined}
     left, directories = sorted(found), set()
@@ -32,7 +32,8 @@ def document_names(files: Files) -> list[str]:
                 directories.add(f"{target}/")
     for directory in sorted(directories):
         if not any(name.startswith(directory) for name in found):
-            found |= {name for name in files if name.startswith(directory) and not name.endswith(".md")}
+            found |= {name for name in files
+                      if name.startswith(directory) and not name.endswith(".md")}
     return sorted(found)
 
 
@@ -40,4 +41,5 @@ def targets_of(name: str, text: str) -> list[str]:
     """Returns the names to which a document links, seen from the top."""
     links = [link.partition("#")[0] for link in links_of(name, text)[0]
              if not re.match(r"[a-z][a-z0-9+.-]*:", link)]
-    return [os.path.normpath(os.path.join(os.path.dirname(name), unquote(link))) for link in links if link]
+    return [os.path.normpath(os.path.join(os.path.dirname(name), unquote(link)))
+            for link in links if link]

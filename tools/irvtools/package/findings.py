@@ -4,7 +4,7 @@ from __future__ import annotations
 
 from pathlib import Path
 
-from irvtools.calls.verdict import Answered, Verdict, verdict
+from irvtools.calls.verdict import Answered, Verdict, deviations_sentence, verdict
 from irvtools.package.deviations import Deviation, deviations_of
 from irvtools.package.recorded_calls import CONFIGURATION, Call
 
@@ -27,7 +27,8 @@ class Findings:
     @property
     def refusals(self) -> list[str]:
         """The lines of the broken rules."""
-        return [line for line in self.call("check-strict").output.splitlines() if line.startswith("refused ")]
+        return [line for line in self.call("check-strict").output.splitlines()
+                if line.startswith("refused ")]
 
     @property
     def is_clean(self) -> bool:
@@ -63,15 +64,23 @@ class Findings:
         return self.verdict is not None and self.verdict.status == GOOD and not self.verdict.fault
 
     @property
+    def is_safe_with_deviations(self) -> bool:
+        """Whether only rules are broken without which a table is safe: a clause of the program's
+        contract."""
+        return deviations_sentence(self.answered(self.call("check-strict"))) is not None
+
+    @property
     def has_run(self) -> bool:
         """Whether verify answered with a run."""
         return self.verdict.status in (UNSAFE, NOT_INDUCTIVE, BREACH) and not self.verdict.fault
 
     @property
     def hazard(self) -> str | None:
-        """The first answer that a run from the initial state ends in a hazard, with the run's file."""
+        """The first answer that a run from the initial state ends in a hazard, with the run's
+        file."""
         for call in self.calls:
-            if call.is_of_program and call.words[1] in ("replay", "drive") and call.line.startswith("hazard "):
+            is_of_run = call.is_of_program and call.words[1] in ("replay", "drive")
+            if is_of_run and call.line.startswith("hazard "):
                 file = call.words[call.words.index("--run") + 1]
                 if call.words[1] == "drive" or self.text(file).startswith(RUN_FROM_START):
                     return f"{call.line}, by {file}"
@@ -83,28 +92,34 @@ class Findings:
 
     @property
     def contradictions(self) -> list[str]:
-        """The answers that cannot both be right: then the program, a tool or the machine is wrong."""
+        """The answers that cannot both be right: then the program, a tool or the machine is
+        wrong."""
         if not self.is_plant:
             return []
-        safe = self.verdict.line if self.is_safe else "clean" if self.is_clean else None
+        safe = self.verdict.line if self.is_safe else "clean" if self.is_clean else \
+            "only deviations with which a table is safe" if self.is_safe_with_deviations else None
         found = [f"{safe}, and {self.hazard}"] if safe and self.hazard else []
         if self.is_safe:
             accepted = {"audit": f"accepted {self.verdict.line[5:]}", "audit-outside": "accepted: "}
-            found += [f"{safe}, and {name}: {self.call(name).told}" for name, line in accepted.items()
+            found += [f"{safe}, and {name}: {self.call(name).told}"
+                      for name, line in accepted.items()
                       if not self.call(name).line.startswith(line)]
             found += [f"{call.name} was refuted before, and now: {call.told}" for call in self.calls
                       if call.name.startswith("rup-") and not call.line.startswith("refuted ")]
         return found
 
     def verdict_of_all(self, is_proved: bool) -> Verdict:
-        """Returns the verdict's word and sentence; `is_proved` says whether the program is known to be the
-        proved one."""
-        return verdict([self.answered(call) for call in self.calls if call.is_of_program], is_proved)
+        """Returns the verdict's word and sentence; `is_proved` says whether the program is known to
+        be the proved one."""
+        answers = [self.answered(call) for call in self.calls if call.is_of_program]
+        return verdict(answers, is_proved)
 
     def answered(self, call: Call) -> Answered:
-        """Returns a call as the verdict takes it: one that gave no answer counts as one that did not end."""
+        """Returns a call as the verdict takes it: one that gave no answer counts as one that did
+        not end."""
         columns = call.words[call.words.index("--columns") + 1]
-        run = self.text(call.words[call.words.index("--run") + 1]) if call.words[1] == "replay" else ""
+        has_run = call.words[1] == "replay"
+        run = self.text(call.words[call.words.index("--run") + 1]) if has_run else ""
         return Answered(call.words[1], columns, None if call.fault else call.status, call.output,
                         not call.fault, run)
 
@@ -122,4 +137,7 @@ class Findings:
             return f"{under}not safe: {self.hazard}"
         if self.is_clean:
             return f"clean, and so safe, without a certificate: {self.verdict.told}"
+        if self.is_safe_with_deviations:
+            return ("with deviations, and safe with them, without a certificate: "
+                    f"{self.verdict.told}")
         return f"{under}not shown to be safe: {self.verdict.told}"

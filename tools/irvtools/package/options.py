@@ -25,11 +25,12 @@ class Refused(Exception):
 
 def parser(status: int) -> Parser:
     """Returns the parser of the command line."""
-    line = Parser("irv --package", "Makes an evidence package: a directory with the configuration, every "
-                  "answer to it, the HTML report, a page that\nleads through them, and a script that "
-                  "makes them again.\n\nThe exit status is 0 if the package was made, whatever it "
-                  "says of the table, otherwise 125: nothing is made then.", status,
-                  "irv --package DIRECTORY [OPTIONS] < CONFIGURATION")
+    line = Parser(
+        "irv --package", "Makes an evidence package: a directory with the configuration, every "
+        "answer to it, the HTML report, a page\nthat leads through them, a script that makes them "
+        "again, the documents and the sources.\n\nThe exit status is 0 if the package was made, "
+        "whatever it says of the table, otherwise 125: nothing is made\nthen.", status,
+        "irv --package DIRECTORY [OPTIONS] < CONFIGURATION")
     line.add_argument("directory", metavar="DIRECTORY", help="a directory that is new or empty")
     line.add_argument("--run", action="append", default=[], metavar="FILE",
                       help="a run or scenario that is answered too; may be repeated")
@@ -37,13 +38,15 @@ def parser(status: int) -> Parser:
               type=whole_number(*DEPTHS))
     line.once("--conflicts", "option of verify: its budget (100000)", metavar="N",
               type=whole_number(*CONFLICTS))
+    seconds = whole_number(0, MOST_SECONDS)
     line.once("--search-seconds", "how long a run to a hazard is searched for if verify says "
               "neither that there is one nor that there is none; 0: no search (15)", default=15,
-              metavar="N", type=whole_number(0, MOST_SECONDS))
+              metavar="N", type=seconds)
     line.once("--solver-seconds", "how long each other solver may take for a query; 0: none is "
-              "called (600)", default=600, metavar="N", type=whole_number(0, MOST_SECONDS))
+              "called (600)", default=600, metavar="N", type=seconds)
     for name, what in ABOUT.items():
-        line.once(f"--{name}", f"{what}, for the first lines of the page and the report", metavar="TEXT")
+        line.once(f"--{name}", f"{what}, for the first lines of the page and the report",
+                  metavar="TEXT")
     line.program()
     return line
 
@@ -62,10 +65,12 @@ class Options:
         self.of_verify = [word for name in ("depth", "conflicts")
                           if (value := getattr(given, name)) is not None
                           for word in (f"--{name}", str(value))]
-        self.of_report = [word for name, value in vars(given).items() if name in ABOUT and value is not None
-                          and name in getattr(html_options, "SUBJECT", ()) for word in (f"--{name}", value)]
+        about = {name: getattr(given, name) for name in ABOUT if getattr(given, name) is not None}
+        self.about = {name: shown(value) for name, value in about.items()}
+        self.of_report = [word for name, value in about.items()
+                          if name in getattr(html_options, "SUBJECT", ())
+                          for word in (f"--{name}", value)]
         self.name = shown(Path(name_of_input()).name)
-        self.about = {name: shown(value) for name in ABOUT if (value := getattr(given, name)) is not None}
         self.guard_directory()
         try:
             self.runs = [Given(name) for name in given.run]

@@ -1,5 +1,5 @@
-"""Which program it was: lines as `./irv --version` prints them, and whether the program is known to be
-proved."""
+"""Which program it was: lines as `./irv --version` prints them, and whether the program is known to
+be proved."""
 
 from __future__ import annotations
 
@@ -22,11 +22,12 @@ def sum_of(file) -> str:
 
 
 def note_beside(program: Path) -> dict[str, str]:
-    """Returns what the launcher noted beside a program that it had proved and built: of which sources, its
-    checksum, and by which toolchain; nothing if it is not known to be proved. For the program in a package
-    the version file says so."""
+    """Returns what the launcher noted beside a program that it had proved and built: of which
+    sources, its checksum, and by which toolchain; nothing if it is not known to be proved. For the
+    program in a package the version file says so."""
     if provenance.VERSION_FILE in os.environ:
-        is_proved = PROVED in Path(os.environ[provenance.VERSION_FILE]).read_text(encoding="utf-8").splitlines()
+        version = Path(os.environ[provenance.VERSION_FILE]).read_text(encoding="utf-8")
+        is_proved = PROVED in version.splitlines()
         said = {name: provenance.filed(name) for name in ("sources", "program", "toolchain")}
         return {**said, "program": said["program"].removeprefix("sha256 ")} if is_proved else {}
     note = program.with_name(program.name + ".built")
@@ -41,8 +42,9 @@ def note_beside(program: Path) -> dict[str, str]:
 def version_of(command: str) -> str:
     """Returns the version of a solver, as it prints it."""
     try:
-        said = subprocess.run([command, "--version"], stdin=subprocess.DEVNULL, stdout=subprocess.PIPE,
-                              stderr=subprocess.DEVNULL, timeout=10, check=False).stdout
+        said = subprocess.run([command, "--version"], stdin=subprocess.DEVNULL,
+                              stdout=subprocess.PIPE, stderr=subprocess.DEVNULL, timeout=10,
+                              check=False).stdout
     except (OSError, subprocess.TimeoutExpired):
         said = b""
     line = said.decode(errors="replace").partition("\n")[0].strip()
@@ -50,10 +52,10 @@ def version_of(command: str) -> str:
 
 
 def version_lines(program: Path, copy: Path, files: dict, archive: Path) -> list[str]:
-    """Returns the version, the commit, git's tree of the sources, the toolchain, the checksums of sources,
-    program and archive, and whether the program is known to be proved. The version and the commit are
-    those of this checkout, whose `files` are, so they hold only for a program that is known to be built
-    of them."""
+    """Returns the version, the commit, git's tree of the sources, the toolchain, the checksums of
+    sources, program and archive, and whether the program is known to be proved. The version and the
+    commit are those of this checkout, whose `files` are, so they hold only for a program that is
+    known to be built of them."""
     note, total = note_beside(program), sum_of(copy)
     is_noted = note.get("program") == total
     is_of_here = is_noted and note["sources"] == sum_of_sources(files)

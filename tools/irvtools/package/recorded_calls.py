@@ -23,8 +23,8 @@ SECONDS_TO_END = 5      # for a call that is interrupted, before it is killed
 
 @dataclass
 class Call:
-    """One call: the name of its answer, its arguments, its status, its output, and which of the package's
-    files it wrote."""
+    """One call: the name of its answer, its arguments, its status, its output, and which of the
+    package's files it wrote."""
     name: str
     words: list[str]
     status: int
@@ -46,7 +46,8 @@ class Call:
 
     @property
     def fault(self) -> str | None:
-        """Why this is no answer of the program; `None` if it is one, or if another tool was called."""
+        """Why this is no answer of the program; `None` if it is one, or if another tool was
+        called."""
         if not self.is_of_program:
             return None
         complaint = (self.errors.strip() or "").rpartition("\n")[2]
@@ -71,8 +72,8 @@ class Call:
     def again(self) -> str:
         """The call, as the script that repeats it has it."""
         words = [PROGRAM_AGAIN if word == PROGRAM
-                 else f"{ROOM_AGAIN}/{shlex.quote(word)}" if word in self.made else shlex.quote(word)
-                 for word in self.words]
+                 else ROOM_AGAIN * (word in self.made) + "/" * (word in self.made)
+                 + shlex.quote(word) for word in self.words]
         return " ".join(words)
 
 
@@ -129,7 +130,8 @@ def write_record(room: Path, calls: list[Call], facts: dict) -> None:
     """Writes the record of the calls, which has what the answers do not say themselves."""
     kept = [{key: value for key, value in asdict(call).items() if key not in ("output", "errors")}
             for call in calls]
-    (room / RECORD).write_text(json.dumps({**facts, "calls": kept}, indent=1) + "\n", encoding="ascii")
+    text = json.dumps({**facts, "calls": kept}, indent=1) + "\n"
+    (room / RECORD).write_text(text, encoding="ascii")
 
 
 def read_record(room: Path) -> tuple[dict, list[Call]]:

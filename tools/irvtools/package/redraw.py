@@ -1,5 +1,5 @@
-"""Makes the pages and the script of a package from its answers: when the package is made, and again when
-it is judged, as `python3 -m irvtools.package.redraw PACKAGE OUT`."""
+"""Makes the pages and the script of a package from its answers: when the package is made, and again
+when it is judged, as `python3 -m irvtools.package.redraw PACKAGE OUT`."""
 
 from __future__ import annotations
 
@@ -21,8 +21,8 @@ INPUTS = ("configuration.json", "program", "runs", "search.run", VERSION)
 
 
 def draw_report(room: Path, words: list[str]) -> tuple[int, bytes, bytes]:
-    """Writes the report in a directory, by these arguments; returns the status, output and errors. The
-    report quotes the version file, and has no name of a place outside of the package."""
+    """Writes the report in a directory, by these arguments; returns the status, output and errors.
+    The report quotes the version file, and has no name of a place outside of the package."""
     place = f"{room.resolve()}/"
     own = [sys.executable, str(TOP / HTML), *words[2:]]
     status, *said = run(own, room, **{provenance.VERSION_FILE: str(room.resolve() / VERSION)})
@@ -30,7 +30,8 @@ def draw_report(room: Path, words: list[str]) -> tuple[int, bytes, bytes]:
     report = room / REPORT
     if report.is_file():
         text = report.read_text(encoding="utf-8", errors="replace")
-        report.write_text(text.replace(place, "").replace(REPORT_CERTIFICATE, CERTIFICATE), encoding="utf-8")
+        text = text.replace(place, "").replace(REPORT_CERTIFICATE, CERTIFICATE)
+        report.write_text(text, encoding="utf-8")
     output, errors = (it.replace(place.encode(), b"") for it in said)
     return status, output, errors
 

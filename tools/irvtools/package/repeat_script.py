@@ -1,5 +1,5 @@
-"""The script that makes each answer of a package again, and reports what differs. It needs the package, a
-program, bash and the standard tools of Linux, and Python 3 for the checkers."""
+"""The script that makes each answer of a package again, and reports what differs. It needs the
+package, a program, bash and the standard tools of Linux, and Python 3 for the checkers."""
 
 from __future__ import annotations
 
@@ -12,13 +12,13 @@ SCRIPT = r"""#!/usr/bin/env bash
 #
 #     ./repeat.sh [PROGRAM]     by PROGRAM, or by the one in program/
 #
-# It changes nothing here. Each difference is a line that begins with `differs`. What cannot be asked on
-# this machine is a line that begins with `left out`. The last line counts. The status is 0 if all was
-# asked and is the same, 1 if something differs, and 2 if something was left out and the rest is the
-# same.
+# It changes nothing here. Each difference is a line that begins with `differs`. What cannot be
+# asked on this machine is a line that begins with `left out`. The last line counts. The status is
+# 0 if all was asked and is the same, 1 if something differs, and 2 if something was left out and
+# the rest is the same.
 #
-# Not made again are the pages, the output of a solver, and the random search. The program checks the
-# refutations and the run that these gave, and all files are compared with their checksums.
+# Not made again are the pages, the output of a solver, and the random search. The program checks
+# the refutations and the run that these gave. All files are compared with their checksums.
 set -u
 unset CDPATH
 export LC_ALL=C PYTHONDONTWRITEBYTECODE=1
@@ -40,7 +40,8 @@ check_sums() {
         differs "$line"
     done < <(sha256sum -c --quiet SHA256SUMS 2>/dev/null)
     # the command above ignores a line that is no checksum
-    sha256sum -c --strict --status SHA256SUMS 2>/dev/null || [ "$differ" -ne 0 ] || differs SHA256SUMS
+    sha256sum -c --strict --status SHA256SUMS 2>/dev/null || [ "$differ" -ne 0 ] \
+        || differs SHA256SUMS
     while read -r line; do
         differs "the list of files: $line"
     done < <(diff <(cut -c 67- SHA256SUMS | sort) \

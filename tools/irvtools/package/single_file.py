@@ -1,4 +1,5 @@
-"""The judge of packages as one file, for a release: verify_package.py with the modules that it imports."""
+"""The judge of packages as one file, for a release: verify_package.py with the modules that it
+imports."""
 
 from __future__ import annotations
 
@@ -17,5 +18,5 @@ def script() -> str:
     imports = {line for text in texts for line in IMPORT.findall(text) if "irvtools" not in line}
     bodies = [IMPORT.sub("", DOCSTRING.sub("", text)).strip() for text in texts]
     docstring = DOCSTRING.match(texts[-1])[0]
-    return "#!/usr/bin/env python3\n" + docstring + "\n" + "".join(
-        sorted(imports, key=lambda line: (line.startswith("from"), line))) + "\n\n" + "\n\n\n".join(bodies) + "\n"
+    head = "".join(sorted(imports, key=lambda line: (line.startswith("from"), line)))
+    return f"#!/usr/bin/env python3\n{docstring}\n{head}\n\n" + "\n\n\n".join(bodies) + "\n"

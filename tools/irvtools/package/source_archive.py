@@ -17,9 +17,10 @@ Files = dict[str, "tuple[int, bytes]"]
 
 
 def names_of(top: Path = TOP) -> list[str]:
-    """Returns the names of the sources below `top`: those that git knows, or if it is not a clone all
-    files but built ones."""
-    listed = subprocess.run(["git", "ls-files", "-z", "--", "."], cwd=top, capture_output=True, check=False)
+    """Returns the names of the sources below `top`: those that git knows, or if it is not a clone
+    all files but built ones."""
+    listed = subprocess.run(["git", "ls-files", "-z", "--", "."], cwd=top, capture_output=True,
+                            check=False)
     if listed.returncode == 0 and (top / ".git").exists():
         names = [os.fsdecode(name) for name in listed.stdout.split(b"\0") if name]
         return sorted(name for name in names if (top / name).is_file())
@@ -32,8 +33,9 @@ def names_of(top: Path = TOP) -> list[str]:
 
 def files_here(top: Path = TOP) -> Files:
     """Returns the sources below `top`: of each name its rights and its bytes."""
-    return {name: (0o755 if (top / name).stat().st_mode & 0o100 else 0o644, (top / name).read_bytes())
-            for name in names_of(top)}
+    files = {name: top / name for name in names_of(top)}
+    return {name: (0o755 if file.stat().st_mode & 0o100 else 0o644, file.read_bytes())
+            for name, file in files.items()}
 
 
 def archive_of(files: Files, version: str) -> bytes:

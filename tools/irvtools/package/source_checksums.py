@@ -19,14 +19,16 @@ def git_object(kind, data):
 
 
 def tree_of(files):
-    """Returns the identifier of the tree that git makes of files: of each name its (mode, bytes)."""
+    """Returns the identifier of the tree that git makes of files: of each name its (mode,
+    bytes)."""
     names, lower = {}, {}
     for name, (mode, data) in files.items():
         first, _, rest = name.partition("/")
         if rest:
             lower.setdefault(first, {})[rest] = mode, data
         else:
-            names[first] = ("100755" if mode & 0o100 else "100644", git_object("blob", data).digest())
+            rights = "100755" if mode & 0o100 else "100644"
+            names[first] = rights, git_object("blob", data).digest()
     for name, below in lower.items():
         names[name] = "40000", bytes.fromhex(tree_of(below))
     order = sorted(names, key=lambda name: os.fsencode(name + "/" * (name in lower)))

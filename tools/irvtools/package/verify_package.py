@@ -1,7 +1,7 @@
-"""Judges an evidence package from outside. A release has it as one file, which needs only Python 3.9.
+"""Judges an evidence package from outside. A release has it as one file, which needs only Python
+3.9.
 
-It runs the package's program, checkers and page tools. It changes nothing in the package.
-"""
+It runs the package's program, checkers and page tools. It changes nothing in the package. """
 
 import argparse
 import bz2
@@ -14,7 +14,8 @@ import tempfile
 from pathlib import Path
 
 from irvtools.package.package_parts import (
-    ARCHIVE, CALLS_IF_SAFE, CONFIGURATION, PROGRAM, RECORD, SUMS, VERSION, contents, is_call, lines_of, unknown_names,
+    ARCHIVE, CALLS_IF_SAFE, CONFIGURATION, PROGRAM, RECORD, SUMS, VERSION, contents, is_call,
+    lines_of, unknown_names,
 )
 from irvtools.package.page_links import is_dead, links_of
 from irvtools.package.source_checksums import files_of, sha256, sum_of_sources, tree_of
@@ -23,8 +24,11 @@ from irvtools.package.source_checksums import files_of, sha256, sum_of_sources, 
 KEPT_RUNS = (("verify", "verify.run", 1), ("search", "search.run", 0))
 # the sources from which pages and script are made again
 PAGE_SOURCES = ("tools/", "docs/assurance/", "VERSION")
+# why a page that is made again may differ besides
+MAY_DIFFER = {"report.html": " (if the plant is large, also on a slower machine)"}
 PASSED, FAILED, NOTE = "passed", "failed", "note"
 CANNOT_JUDGE = 125
+RELEASED = "sources.tar.gz"             # the sources in a release
 UNBUILT = ".unbuilt"    # the launcher names such a file if it knows no program that is proved
 
 
@@ -94,8 +98,8 @@ class Judge:
                 yield (FAILED, f"{name}: dead links: {', '.join(dead)}") if dead else (PASSED, name)
 
     def check_record(self):
-        """Checks that calls.json has the calls of such a package, with the right columns, and nothing
-        else: they are made again."""
+        """Checks that calls.json has the calls of such a package, with the right columns, and
+        nothing else: they are made again."""
         try:
             record = json.loads(self.read(RECORD))
             calls = {call["name"]: call for call in record["calls"]}
@@ -110,7 +114,8 @@ class Judge:
         for name, columns in self.wanted_calls().items():
             words = calls[name]["words"] if name in calls else []
             good = any(words[it:it + 2] == ["--columns", columns] for it in range(len(words)))
-            yield (PASSED, name) if good else (FAILED, f"{RECORD}: no call {name} with {columns} columns")
+            yield (PASSED, name) if good else (
+                FAILED, f"{RECORD}: no call {name} with {columns} columns")
 
     def wanted_calls(self):
         """Returns the calls that the package has to have by its answers, with their columns."""
@@ -157,28 +162,31 @@ class Judge:
         """Compares sources and version with a release, or with the checkout of this judge."""
         tree = tree_of(self.sources)
         if self.release:
-            ours, theirs = lines_of(self.read(VERSION)), lines_of((self.release / VERSION).read_bytes())
+            ours = lines_of(self.read(VERSION))
+            theirs = lines_of((self.release / VERSION).read_bytes())
             for name in ("irv", "commit", "tree", "toolchain", "sources", "program"):
                 good = name in theirs and ours.get(name) == theirs[name]
                 yield (PASSED, name) if good else (
                     FAILED, f"{VERSION}: {name} differs from the release: {theirs.get(name)}")
             licences = (self.release / "irv.licences").read_bytes()
             good = self.read("program/irv.licences") == licences
-            yield (PASSED, "licences") if good else (FAILED, "program/irv.licences: not those of the release")
-            released = tree_of(files_of((self.release / "sources.tar.gz").read_bytes()))
+            yield (PASSED, "licences") if good else (
+                FAILED, "program/irv.licences: not those of the release")
+            released = tree_of(files_of((self.release / RELEASED).read_bytes()))
             yield (PASSED, tree) if tree == released else (
                 FAILED, f"{ARCHIVE}: not the sources of the release")
         elif self.checkout and self.checkout() == tree:
             yield PASSED, "the sources are those of this checkout"
         else:
-            yield NOTE, (f"nothing outside says that {ARCHIVE} and {VERSION} are right: give --release, "
-                         f"or compare the tree {tree}")
+            yield NOTE, (f"nothing outside says that {ARCHIVE} and {VERSION} are right: give "
+                         f"--release, or compare the tree {tree}")
 
     # -- what is made again
 
     def check_answers(self, program, by, other_file):
-        """Makes each answer again by a program; `other_file` is the result if it writes another file, which
-        a program of another version may do: the package's own certificate is checked by it too."""
+        """Makes each answer again by a program; `other_file` is the result if it writes another
+        file, which a program of another version may do: the package's own certificate is checked by
+        it too."""
         with tempfile.TemporaryDirectory(prefix="irv-verify-package-") as room:
             for call in self.record["calls"]:
                 if call["is_repeated"]:
@@ -187,15 +195,17 @@ class Judge:
             if file in self.names:
                 lines = self.read(f"answers/{name}.txt").splitlines(keepends=True)[first:]
                 good = b"".join(lines) == self.read(file)
-                yield (PASSED, file) if good else (FAILED, f"{file}: not the run of answers/{name}.txt")
+                yield (PASSED, file) if good else (FAILED, f"{file}: not the run of "
+                                                           f"answers/{name}.txt")
 
     def check_answer(self, call, program, room, by, other_file):
         """Makes one answer again, with the files that it writes."""
         again = {PROGRAM: str(program), "python3": sys.executable,
                  **{name: str(room / name) for name in call["made"]}}
-        status, output, errors = self.call([again.get(word, word) for word in call["words"]], self.top)
+        answer = self.call([again.get(word, word) for word in call["words"]], self.top)
         name = f"answers/{call['name']}.txt"
-        if (status, output, errors) != (call["status"], self.read(name), self.read(f"{name[:-4]}.err")):
+        if answer != (call["status"], self.read(name), self.read(f"{name[:-4]}.err")):
+            status, output, errors = answer
             line = (output or errors).partition(b"\n")[0].decode(errors="replace")[:200]
             yield FAILED, f"{name}: the answer of {by} is {line!r} with status {status}"
         else:
@@ -226,20 +236,24 @@ class Judge:
                     (top / name).parent.mkdir(parents=True, exist_ok=True)
                     (top / name).write_bytes(data)
                     (top / name).chmod(mode)
-            self.call([sys.executable, "-m", "irvtools.package.redraw", str(self.top), str(out)], out,
-                      PYTHONPATH=str(top / "tools"))
+            words = [sys.executable, "-m", "irvtools.package.redraw", str(self.top), str(out)]
+            self.call(words, out, PYTHONPATH=str(top / "tools"))
             for name in ("index.html", "repeat.sh", "report.html"):
                 good = (out / name).is_file() and (out / name).read_bytes() == self.read(name)
                 yield (PASSED, name) if good else (
-                    FAILED, f"{name}: the tools in {ARCHIVE} make another one")
+                    FAILED, f"{name}: the tools in {ARCHIVE} make another one"
+                    + MAY_DIFFER.get(name, ""))
 
 
 def parser():
     """Returns the parser of the command line."""
     line = argparse.ArgumentParser(
-        "irv --verify-package", allow_abbrev=False, formatter_class=argparse.RawDescriptionHelpFormatter,
-        description="Judges an evidence package from outside. It compares checksums, looks for missing parts "
-        "and dead links, makes\nanswers, pages and script again, and compares documents and checkers with the "
+        "irv --verify-package", allow_abbrev=False,
+        formatter_class=argparse.RawDescriptionHelpFormatter,
+        description="Judges an evidence package from outside. It compares checksums, looks for "
+                    "missing parts "
+        "and dead links, makes\nanswers, pages and script again, and compares documents and "
+        "checkers with the "
         "sources. It runs the\npackage's program and tools, and changes nothing in the package.\n\n"
         "The exit status is 0 if all checks pass, 1 if one fails, 125 if nothing can be judged.")
     line.add_argument("directory", metavar="DIRECTORY", type=Path, help="the package")
@@ -248,8 +262,8 @@ def parser():
     line.add_argument("--with-program", action="store_true",
                       help="refuse if there is no such program; ./irv builds it first")
     line.add_argument("--release", metavar="DIRECTORY", type=Path,
-                      help="the release of that version: sources, program and version are compared with "
-                      "it (the directory of this script, if that is a release)")
+                      help="the release of that version: sources, program and version are compared "
+                           "with it (the directory of this script, if that is a release)")
     line.error = lambda message: line.exit(CANNOT_JUDGE, f"{line.prog}: {message}\n")
     return line
 
@@ -257,7 +271,8 @@ def parser():
 def main(words, checkout=None):
     """Judges a package; returns the exit status."""
     given = parser().parse_args(words)
-    for place, file in ((given.directory, SUMS), (given.release, VERSION), (given.release, "sources.tar.gz")):
+    for place, file in ((given.directory, SUMS), (given.release, VERSION),
+                        (given.release, RELEASED)):
         if place and not (place / file).is_file():
             print(f"irv --verify-package: {place} has no file {file}", file=sys.stderr)
             return CANNOT_JUDGE
@@ -267,9 +282,10 @@ def main(words, checkout=None):
         print(f"irv --verify-package: the program {given.program} does not exist", file=sys.stderr)
         return CANNOT_JUDGE
     own, program = Path(__file__).resolve().parent, given.program and given.program.resolve()
-    if not given.release and (own / VERSION).is_file() and (own / "sources.tar.gz").is_file():
+    if not given.release and (own / VERSION).is_file() and (own / RELEASED).is_file():
         given.release = own
-    judge, counts = Judge(given.directory.resolve(), program, given.release, checkout), {PASSED: 0, FAILED: 0}
+    judge = Judge(given.directory.resolve(), program, given.release, checkout)
+    counts = {PASSED: 0, FAILED: 0}
     for result, text in judge.checks():
         counts[result] = counts.get(result, 0) + 1
         if result != PASSED:

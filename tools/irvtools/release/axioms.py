@@ -1,9 +1,8 @@
 """The axioms: the functions of C on whose contracts the proof of the program depends, by name.
 
-CI prints the first three of each library, and how many there are. The prover lists all of them if it is
-asked to: it checks the program once more, over the libraries that CI has built. Its list has to agree with
-what CI printed.
-"""
+CI prints the first three of each library, and how many there are. The prover lists all of them if
+it is asked to: it checks the program once more, over the libraries that CI has built. Its list has
+to agree with what CI printed. """
 
 from __future__ import annotations
 
@@ -27,15 +26,17 @@ def ask(top: Path, program: str = "irv") -> str:
     """Returns what the prover prints about a program of the repository, with all names."""
     toolchain, crates = Toolchain(), Crates(top)
     lower = crates.below(program)
-    absent = [name for name in lower if not (top / "crates" / name / f"out/rlib/{name}.rlib").exists()]
+    absent = [name for name in lower
+              if not (top / "crates" / name / f"out/rlib/{name}.rlib").exists()]
     if absent:
-        raise Unlisted(f"crates/{absent[0]}/out has no library that CI built: make the release in the "
-                       "checkout in which CI ran")
+        raise Unlisted(f"crates/{absent[0]}/out has no library that CI built: make the release in "
+                       "the checkout in which CI ran")
     words = [word for word in crates.words(program, toolchain, top) if word != "--allow-holes"]
     try:
-        done = subprocess.run([*words, "--links", f"{program}=", "--list-axioms"], cwd=top / "crates" / program,
-                              stdin=subprocess.DEVNULL, stdout=subprocess.PIPE, stderr=subprocess.STDOUT,
-                              errors="replace", check=False)
+        done = subprocess.run([*words, "--links", f"{program}=", "--list-axioms"],
+                              cwd=top / "crates" / program, stdin=subprocess.DEVNULL,
+                              stdout=subprocess.PIPE, stderr=subprocess.STDOUT, errors="replace",
+                              check=False)
     except OSError as fault:
         raise Unlisted(f"cannot call the prover: {fault}") from fault
     return done.stdout
@@ -46,7 +47,8 @@ def names_in(said: str) -> list[str]:
     total, names = TOTAL.search(said), sorted(LISTED.findall(said))
     if not total:
         last = (said.strip() or "nothing").splitlines()[-1]
-        raise Unlisted(f"the prover did not find the program proved over the libraries here: {last}")
+        raise Unlisted("the prover did not find the program proved over the libraries here: "
+                       f"{last}")
     if int(total[1]) != len(names):
         raise Unlisted(f"the prover counts {total[1]} axioms, and lists {len(names)}")
     return names
@@ -62,15 +64,18 @@ def check_same(names: list[str], printed: str) -> None:
     """Checks that these names are those of which CI printed the number and the first."""
     total = TOTAL.search(printed)
     if not total:
-        raise Unlisted("the log has no number of axioms of the program: rt ci prints it only if it proved irv in "
-                       "that run, and did not take it from an earlier one")
-    counted = [(library, first.split(", "), int(number)) for library, first, number in PRINTED.findall(printed)]
-    of = {library: [name for name in names if name.startswith(f"{library}::")] for library, _, _ in counted}
+        raise Unlisted("the log has no number of axioms of the program: rt ci prints it only if it "
+                       "proved irv in that run, and did not take it from an earlier one")
+    counted = [(library, first.split(", "), int(number))
+               for library, first, number in PRINTED.findall(printed)]
+    of = {library: [name for name in names if name.startswith(f"{library}::")]
+          for library, _, _ in counted}
     is_same = int(total[1]) == len(names) == sum(number for _, _, number in counted) and all(
         len(of[library]) == number and set(first) - {FEWER} <= set(of[library])
         for library, first, number in counted)
     if not is_same:
-        raise Unlisted(f"the prover lists {len(names)} axioms here, and the log has {total[1]}, or others")
+        raise Unlisted(f"the prover lists {len(names)} axioms here, and the log has {total[1]}, or "
+                       "others")
 
 
 def axioms(top: Path, log: str) -> list[str]:

@@ -1,5 +1,5 @@
-"""What CI printed: over which tree it ran, the count of each of its commands in the order of `.ci/run`, and
-what came of each test."""
+"""What CI printed: over which tree it ran, the count of each of its commands in the order of
+`.ci/run`, and what came of each test."""
 
 from __future__ import annotations
 
@@ -27,7 +27,8 @@ class Check:
 
 @dataclass
 class Tests:
-    """The tests of one subject: how many passed, their checks, and the skipped ones with the reason."""
+    """The tests of one subject: how many passed, their checks, and the skipped ones with the
+    reason."""
     passed: int = 0
     checks: int = 0
     skipped: dict[str, str] = field(default_factory=dict)
@@ -42,7 +43,8 @@ def check_tree(log: str, tree: str) -> None:
     """Checks that CI began and passed over this tree."""
     found = TREE.findall(log)
     if [word for word, _ in found] != ["begun", "passed"]:
-        raise Unread("the log does not say over which tree CI began and passed: it is not whole, or not of CI")
+        raise Unread("the log does not say over which tree CI began and passed: it is not whole, "
+                     "or not of CI")
     for word, name in found:
         if name != tree:
             raise Unread(f"CI has {word} over another tree: {name}, and the tree here is {tree}")
@@ -55,8 +57,8 @@ def read(script: str, log: str, tree: str) -> list[Check]:
     if "rt ci" not in commands:
         raise Unread(".ci/run does not call rt ci")
     if len(counts) < len(commands):
-        raise Unread(f"the log has {len(counts)} counts, and .ci/run {len(commands)} commands that count: the "
-                     "log is not whole, or not of CI")
+        raise Unread(f"the log has {len(counts)} counts, and .ci/run {len(commands)} commands that "
+                     "count: the log is not whole, or not of CI")
     before = commands.index("rt ci")
     after = len(commands) - before - 1
     own = counts[:before] + [counts[len(counts) - after - 1]] + (counts[-after:] if after else [])

@@ -19,16 +19,19 @@ NOT_MADE = 125
 
 def parser() -> Parser:
     """Returns the parser of the command line."""
-    line = Parser("irv --release", "Makes a release: a directory with the sources, the program, its manual "
-                  "page and licences, the judge of\npackages, and the validation record. It runs in the "
-                  "clean checkout in which CI ran.\n\nThe exit status is 0 if the release was made, otherwise 125: no "
-                  "directory is made then.", NOT_MADE,
-                  "irv --release DIRECTORY --gate LOG [OPTIONS]")
-    line.add_argument("directory", metavar="DIRECTORY", type=Path, help="a directory that is new or empty")
-    line.once("--gate", "what `bash .ci/run` printed for this tree, whole", metavar="LOG", type=Path,
-              required=True)
+    line = Parser(
+        "irv --release", "Makes a release: a directory with the sources, the program, its manual "
+        "page and licences, the judge of\npackages, and the validation record. It runs in the "
+        "clean checkout in which CI ran.\n\nThe exit status is 0 if the release was made, "
+        "otherwise 125: no directory is made then.", NOT_MADE,
+        "irv --release DIRECTORY --gate LOG [OPTIONS]")
+    line.add_argument("directory", metavar="DIRECTORY", type=Path,
+                      help="a directory that is new or empty")
+    line.once("--gate", "what `bash .ci/run` printed for this tree, whole", metavar="LOG",
+              type=Path, required=True)
     line.add_argument("--extra-log", metavar="LOG", type=Path, action="append", default=[],
-                      help="what a test outside CI printed, after a line `$ COMMAND`; may be repeated")
+                      help="what a test outside CI printed, after a line `$ COMMAND`; may be "
+                           "repeated")
     line.program()
     return line
 

@@ -3,7 +3,6 @@
 from __future__ import annotations
 
 import gzip
-import hashlib
 import shlex
 import shutil
 import subprocess
@@ -22,7 +21,8 @@ from irvtools.release.linked_libraries import libraries
 from irvtools.release.record import Record, Unusable
 
 ARCHIVE, JUDGE, LOG, RECORD = "sources.tar.gz", "verify_package.py", "ci.log", "record.md"
-PAGES = ("CHANGELOG.md", "docs/assurance/qualification.md", "docs/assurance/traceability.md", "docs/dev/releases.md")
+PAGES = ("CHANGELOG.md", "docs/assurance/qualification.md", "docs/assurance/traceability.md",
+         "docs/dev/releases.md")
 # what `./irv --install` makes besides the program: its manual page, and completions for bash
 INSTALLED = ("irv.1", "irv.bash")
 
@@ -39,9 +39,11 @@ class Release:
 
     def said(self, *words: str) -> bytes:
         """Returns what a command prints, called in the checkout."""
-        done = subprocess.run(words, cwd=self.top, stdin=subprocess.DEVNULL, capture_output=True, check=False)
+        done = subprocess.run(words, cwd=self.top, stdin=subprocess.DEVNULL, capture_output=True,
+                              check=False)
         if done.returncode:
-            raise NotReleased(f"{shlex.join(words)}: {done.stderr.decode(errors='replace').strip()}")
+            why = done.stderr.decode(errors="replace").strip()
+            raise NotReleased(f"{shlex.join(words)}: {why}")
         return done.stdout
 
     def line(self, *words: str) -> str:
@@ -58,7 +60,8 @@ class Release:
         try:
             checks = ci_log.read((self.top / ".ci/run").read_text(encoding="utf-8"), log, tree)
             names = axioms(self.top, log)
-            linked = libraries(self.licences.read_text(encoding="utf-8", errors="replace"), Toolchain().folder)
+            licences = self.licences.read_text(encoding="utf-8", errors="replace")
+            linked = libraries(licences, Toolchain().folder)
             version = self.copy(tree)
             record = Record(self.top, version, checks, ci_log.tests_in(log), names, linked)
             for file in self.given.extra_log:
@@ -74,7 +77,8 @@ class Release:
         self.note, self.sources = note_beside(self.program), sum_of_sources(files_here(self.top))
         is_built = self.program.is_file() and self.note.get("program") == sum_of(self.program)
         if not is_built or self.note.get("sources") != self.sources:
-            raise NotReleased(f"{self.program} is not known to be built of these sources: ./irv --build builds it")
+            raise NotReleased(f"{self.program} is not known to be built of these sources: ./irv "
+                              "--build builds it")
         self.licences = self.program.with_name(self.program.name + ".licences")
         if not self.licences.is_file():
             raise NotReleased(f"the file {self.licences} does not exist: ./irv --install makes it")
@@ -93,9 +97,11 @@ class Release:
         self.install()
         (self.room / JUDGE).write_text(script(), encoding="utf-8")
         (self.room / JUDGE).chmod(0o755)
-        lines = [f"irv {version}", f"commit {self.line('git', 'rev-parse', 'HEAD')}", f"tree {tree}",
+        commit = self.line("git", "rev-parse", "HEAD")
+        lines = [f"irv {version}", f"commit {commit}", f"tree {tree}",
                  f"toolchain {self.note.get('toolchain', 'unknown')}", f"sources {self.sources}",
-                 f"program sha256 {sum_of(self.program)}", f"{ARCHIVE} sha256 {sum_of(self.room / ARCHIVE)}",
+                 f"program sha256 {sum_of(self.program)}", f"{ARCHIVE} sha256 "
+                                                           f"{sum_of(self.room / ARCHIVE)}",
                  f"{JUDGE} sha256 {sum_of(self.room / JUDGE)}"]
         (self.room / "version.txt").write_text("\n".join(lines) + "\n", encoding="utf-8")
         return lines
@@ -110,5 +116,5 @@ class Release:
     def sum_up(self) -> None:
         """Writes the checksums of all files."""
         names = sorted(path.name for path in self.room.iterdir())
-        (self.room / "SHA256SUMS").write_text("".join(
-            f"{hashlib.sha256((self.room / name).read_bytes()).hexdigest()}  {name}\n" for name in names))
+        (self.room / "SHA256SUMS").write_text(
+            "".join(f"{sum_of(self.room / name)}  {name}\n" for name in names))
