@@ -33,14 +33,14 @@ WORDS = (
 
 
 def check_premises(_, __):
-    """The premises are found by their numbers under their heading."""
-    document = ("# A page\n1. no premise\n## The premises\nwords\n\n1. **It `is` so.** More.\n"
-                "2. [This](there.md) too\n\n## What else\n\n3. nothing\n")
+    """The assumptions are found by their identifiers."""
+    document = ("# A page\n\n### AS-01: It\n\n- Statement: It `is` **so**.\n- Ensured by: me\n\n## What else\n\n"
+                "### AS-02: This\n\n[This](there.md) too,\nand that.\n\nMore.\n\n### SRAC-01: That\n\nNothing.\n")
     found = provenance.premises_in(document)
-    if found != [("1", "It is so."), ("2", "This too")]:
+    if found != [("AS-01", "It is so."), ("AS-02", "This too, and that.")]:
         yield f"{found}"
-    if provenance.QUALIFICATION.exists() and not provenance.premises():
-        yield "docs/QUALIFICATION.md has no premises that are found"
+    if provenance.QUALIFICATION.exists() and len(provenance.premises()) < 9:
+        yield f"docs/assurance/qualification.md has only {provenance.premises()}"
 
 
 def check_pages(program, is_long):

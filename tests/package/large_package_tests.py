@@ -1,4 +1,4 @@
-"""The trial of a large case, which takes many minutes and isn't for the gate."""
+"""The test of a large package, which takes many minutes."""
 
 import subprocess
 import time
@@ -13,9 +13,10 @@ CHANGED = ("configuration.json", "verify.cert", "answers/verify.txt", "program/i
 WORDS = ("--solver-seconds", "0")
 
 
-def first_difference(folder):
-    """The first difference that the script of a case tells; it is ended then, since the rest takes minutes."""
-    repeating = subprocess.Popen([folder / "repeat.sh"], stdout=subprocess.PIPE, stderr=subprocess.DEVNULL,
+def first_difference(directory):
+    """Returns the first difference that the script of a package prints, and ends it, because the
+    rest takes minutes."""
+    repeating = subprocess.Popen([directory / "repeat.sh"], stdout=subprocess.PIPE, stderr=subprocess.DEVNULL,
                                  text=True, cwd="/", start_new_session=True)
     try:
         return next((line for line in repeating.stdout if line.startswith("differs: ")), "")
@@ -25,27 +26,27 @@ def first_difference(folder):
 
 
 def check_large(program, _):
-    """A line of two stations with crossovers, with a certificate of some 90 MB: its case is repeated without a
-    difference, and each changed byte is found."""
+    """A line of two stations with crossovers, with a certificate of 90 MB: its package is repeated
+    without a difference, and each changed byte is found."""
     begin = time.monotonic()
-    with made(program, PLANT.read_bytes(), *WORDS) as (folder, said):
+    with made(program, PLANT.read_bytes(), *WORDS) as (directory, said):
         print(f"    {said}, after {time.monotonic() - begin:.0f} s", flush=True)
         if said != "safe k=1":
             yield said
             return
         begin = time.monotonic()
-        yield from faults_of_form(folder)
+        yield from faults_of_form(directory)
         print(f"    repeated after {time.monotonic() - begin:.0f} s", flush=True)
-        size = sum(path.stat().st_size for path in folder.rglob("*") if path.is_file())
+        size = sum(path.stat().st_size for path in directory.rglob("*") if path.is_file())
         print(f"    {size} bytes", flush=True)
         for name in CHANGED:
-            file = folder / name
+            file = directory / name
             kept = file.read_bytes()
             flip(file)
-            found = first_difference(folder)
+            found = first_difference(directory)
             file.write_bytes(kept)
             if name not in found:
-                yield f"a change of {name} isn't found first: {found!r}"
+                yield f"a change of {name} is not found first: {found!r}"
             print(f"    {name}, changed: {found.strip()}", flush=True)
 
 

@@ -1,4 +1,4 @@
-"""Trials of cases that are refused: why, and that nothing is changed."""
+"""Tests of packages that are refused: why, and that nothing is changed."""
 
 import subprocess
 import tempfile
@@ -9,36 +9,39 @@ from tests.support.harness import test_case
 
 
 def refusals(room):
-    """Words that are refused, each with a part of the reason."""
+    """Arguments that are refused, each with a part of the reason."""
     (room / "full").mkdir()
     (room / "full/old").write_text("kept")
     (room / "file").write_text("kept")
     (room / "to-empty").symlink_to(room / "elsewhere")
     (room / "other.txt").write_text("neither\n")
-    return {("full",): "full isn't empty: nothing is written over",
-            ("file",): "file is no folder: nothing is written over",
-            ("to-empty",): "to-empty is no folder",
-            ("none/new",): "in which the folder would stand, isn't there",
-            ("",): "the name of the folder is empty", (): "no folder is named",
-            ("new", "two"): "one folder is named", ("new", "--run"): "--run wants a value",
-            ("new", "--run", "nowhere"): "--run nowhere can't be read",
-            ("new", "--run", "other.txt"): "is neither a run nor a scenario",
-            ("new", "--depth", "17"): "--depth wants a whole number, 1 to 16, and not '17'",
-            ("new", "--depth", "0"): "--depth wants", ("new", "--conflicts", "-1"): "--conflicts wants",
-            ("new", "--search-seconds", "x"): "--hunt wants", ("new", "--columns", "free"): "there is no option --columns",
+    return {("full",): "full is not empty; nothing is overwritten",
+            ("file",): "file is not a directory; nothing is overwritten",
+            ("to-empty",): "to-empty is not a directory; nothing is overwritten",
+            ("none/new",): "none does not exist",
+            ("",): "the directory's name is empty", (): "arguments are required: DIRECTORY",
+            ("new", "two"): "unrecognized arguments: two",
+            ("new", "--run"): "--run: expected one argument",
+            ("new", "--run", "nowhere"): "nowhere can",
+            ("new", "--run", "other.txt"): "other.txt",
+            ("new", "--depth", "17"): "--depth: '17' is not a whole number from 1 to 16",
+            ("new", "--depth", "0"): "--depth: '0' is not a whole number",
+            ("new", "--conflicts", "-1"): "--conflicts: ",
+            ("new", "--search-seconds", "x"): "--search-seconds: 'x' is not a whole number",
+            ("new", "--columns", "free"): "unrecognized arguments: --columns free",
             ("new", "--depth", "1", "--depth", "1"): "--depth is given twice",
-            ("new", "--program", "nowhere"): "there is no program"}
+            ("new", "--program", "nowhere"): "nowhere does not exist"}
 
 
 def state_of(room):
-    """All names below a folder, with what the files have."""
+    """All names below a directory, with the contents of the files."""
     return {path.relative_to(room).as_posix(): path.read_bytes() if path.is_file() else None
             for path in room.rglob("*")}
 
 
 def check_refusals(program, _):
-    """Each refusal is told with status 125, and what stands stays as it is."""
-    with tempfile.TemporaryDirectory(prefix="irv-case-") as name:
+    """Each refusal has status 125 and its reason, and no file changes."""
+    with tempfile.TemporaryDirectory(prefix="irv-test-package-") as name:
         room = Path(name)
         wanted = refusals(room)
         before = state_of(room)
@@ -51,20 +54,20 @@ def check_refusals(program, _):
 
 
 def call_in(room, program, words):
-    """Calls the tool in a folder, with these words."""
+    """Calls the tool in a directory, with these arguments."""
     own = [] if "--program" in words else ["--program", program]
     return subprocess.run([TOP / "tools/package", *words, *own], input=example("two-sections.json"), cwd=room,
                           capture_output=True, check=False)
 
 
-def check_empty_folder(program, _):
-    """An empty folder is taken."""
-    with tempfile.TemporaryDirectory(prefix="irv-case-") as name:
-        folder = Path(name) / "empty"
-        folder.mkdir()
-        done = call(program, folder, example("line-with-boards.json"), "--solver-seconds", "0")
-        if done.returncode or not (folder / "SHA256SUMS").is_file() or len(list(Path(name).iterdir())) != 1:
+def check_empty_directory(program, _):
+    """An empty directory is taken."""
+    with tempfile.TemporaryDirectory(prefix="irv-test-package-") as name:
+        directory = Path(name) / "empty"
+        directory.mkdir()
+        done = call(program, directory, example("line-with-boards.json"), "--solver-seconds", "0")
+        if done.returncode or not (directory / "SHA256SUMS").is_file() or len(list(Path(name).iterdir())) != 1:
             yield f"{done.returncode} {done.stderr.decode()}"
 
 
-RefusalTests = test_case("RefusalTests", (check_refusals, check_empty_folder))
+RefusalTests = test_case("RefusalTests", (check_refusals, check_empty_directory))

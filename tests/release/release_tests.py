@@ -1,4 +1,4 @@
-"""Trials of releases, in a small repository."""
+"""Tests of releases, in a small repository."""
 
 import hashlib
 import os
@@ -8,59 +8,85 @@ import tarfile
 import tempfile
 from unittest import SkipTest
 
-from irvtools.release.ci_log import COUNT, checks_of
-from tests.support.package_calls import TOP
+from irvtools.package.single_file import script
+from irvtools.package.source_archive import files_here
+from irvtools.package.source_checksums import sum_of_sources
+from irvtools.paths import TOP
+from irvtools.release.ci_log import TREE, checks_of
 from tests.release.small_repository import LOG, called, git, release, repository
 from tests.support.harness import test_case
 
-# of the checks that the gate has of checks the one that takes long
-LONG_CHECK = "tests/docs --self-check"
-
-RECORD = ("| `tests/first` | 3 | Tries the first thing. |", "| `rt ci` | 40 | ",
-          "| `tests/second --self-check` | 5 | The check itself: Tries the second thing, and what \\| is. |",
-          "| `tests/second crates/irv/out/irv` | 600 | Tries the second thing, and what \\| is. |",
-          "| `low` | 1 | 2 |\n| all | 1 | 2 |", "5, as the gate counted them and as the prover lists them",
-          "- `libc::close`\n- `libc::open`\n- `libc::read`\n- `libc::write`\n- `os::c::errno`\n",
-          "| `serde_json` | serde_json 1.2.3 | LICENSE-APACHE, LICENSE-MIT |",
-          "| `std` | none is told | no file comes with it |",
-          "| `tests/page P --long` | none is told | 9 passed, 0 failed | battery-1.log |",
-          "| `tests/first P --seed 3` | 3 | 8 passed, 0 failed | battery-2.log |",
-          "| `tests/first P` | 7 | 8 passed, 0 failed | battery-3.log |")
+MARK = "irv-reproducible-build"         # by which tests/reproducible_build knows its directory
+RECORD = (
+    "# Validation record of irv 1.2.3 (generated", "| toolchain | `kit 1` |", "| commit | `", "| tree | `",
+    "| `tests/run --without-program` | 3 | 1 | Runs the tests, and what \\| is. |", "| `rt ci` | "
+                                                                                    "40 | 0 | ",
+    "| `tests/run --with-program` | 600 | 1 | Runs the tests, and what \\| is. |",
+    "| `tools/mutants` | 5 | 0 | Tries mutants. |", "| `tests/run docs` | 2 | 3 | 0 |",
+    "| `tests/run html` | 1 | 600 | 0 |", "| `tests/run schema` | 0 | 0 | 1 |",
+    "- `schema.examples`: python3-jsonschema is not installed\n",
+    "| `low` | 1 | 2 |\n| all | 1 | 2 |", "5, as CI counted them and as the prover lists them",
+    "- `libc::close`\n- `libc::open`\n- `libc::read`\n- `libc::write`\n- `os::c::errno`\n",
+    "| `serde_json` | serde_json 1.2.3 | LICENSE-APACHE, LICENSE-MIT |",
+    "| `std` | not named | no file comes with it |",
+    "| `tests/html P --long` | not named | 9 passed, 0 failed | extra-1.log |",
+    "| `tests/first P --seed 3` | 3 | 8 passed, 0 failed | extra-2.log |",
+    "| `tests/first P` | 7 | 8 passed, 0 failed | extra-3.log |")
 
 
 def check_release(_, __):
-    """A release has what the gate printed, check by check, the axioms by name, the libraries with versions and
-    licences, the batteries, and the sources as an archive; made twice it is the same, byte for byte."""
+    """A release has the program, manual page, completions and licences, what CI printed, command by
+    command, the axioms by name, the libraries with versions and licences, the extra logs, the judge
+    of packages, and the sources as an archive. Made twice it is the same, byte for byte."""
     with repository() as top:
-        logs = {"long.log": "$ tests/page P --long\nmuch\n9 passed, 0 failed\n",
+        logs = {"long.log": "$ tests/html P --long\nmuch\n9 passed, 0 failed\n",
                 "-seeded.log": "$ tests/first P --seed 3\nmuch\n8 passed, 0 failed\n",
                 "own.log": "$ tests/first P\n8 passed, 0 failed\n"}
         words = []
         for name, text in logs.items():
             (top.parent / name).write_text(text)
-            words.append(f"--battery={name}")
+            words.append(f"--extra-log={name}")
         for name in ("made", "again"):
-            done = release(top, *words, folder=name)
+            done = release(top, *words, directory=name)
             if done.returncode:
                 yield done.stderr.decode()
                 return
         if subprocess.run(["diff", "-r", "made", "again"], cwd=top.parent, capture_output=True).returncode:
-            yield "made twice it isn't the same"
+            yield "made twice it is not the same"
         made = top.parent / "made"
         record = (made / "record.md").read_text()
-        yield from (f"the record hasn't {line!r}: {record}" for line in RECORD if line not in record)
+        yield from (f"the record has no {line!r}: {record}" for line in RECORD if line not in record)
+        yield from faults_of_files(made, done.stdout.decode().replace("again: made", "made: made"))
         with tarfile.open(made / "sources.tar.gz") as archive:
             if "irv-1.2.3/crates/irv/src/main.rt" not in archive.getnames():
-                yield "the archive hasn't the sources"
-        told = (made / "version.txt").read_text()
-        if "toolchain kit 1\nsources s0\n" not in told or f"tree {git(top, 'rev-parse', 'HEAD^{tree}')}\n" not in told:
-            yield f"version.txt hasn't the toolchain, the sum of the sources and the tree: {told}"
+                yield "the archive does not have the sources"
+        version, sources = (made / "version.txt").read_text(), sum_of_sources(files_here(top))
+        if f"toolchain kit 1\nsources {sources}\n" not in version \
+                or f"tree {git(top, 'rev-parse', 'HEAD^{tree}')}\n" not in version:
+            yield f"version.txt does not have the toolchain, the checksum of the sources and the tree: {version}"
         if subprocess.run(["sha256sum", "-c", "--quiet", "SHA256SUMS"], cwd=made, capture_output=True).returncode:
-            yield "the sums aren't those of the files"
+            yield "the checksums are not those of the files"
+
+
+def faults_of_files(made, said):
+    """What is missing of the files of a release, and of what was printed."""
+    wanted = {"irv", "irv.licences", "irv.1", "irv.bash", "verify_package.py", "record.md", "ci.log", "version.txt",
+              "sources.tar.gz", "CHANGELOG.md", "qualification.md", "traceability.md", "releases.md", "SHA256SUMS"}
+    if wanted - {path.name for path in made.iterdir()}:
+        yield f"no {wanted - {path.name for path in made.iterdir()}}"
+    if (made / "verify_package.py").read_text() != script():
+        yield "verify_package.py is another one"
+    for name in ("verify_package.py", "SHA256SUMS"):
+        total = hashlib.sha256((made / name).read_bytes()).hexdigest()
+        if f"sha256 of {name}: {total}\n" not in said:
+            yield f"the checksum of {name} is not printed: {said}"
+    for name in ("verify_package.py", "program", "sources.tar.gz"):
+        if f"\n{name} sha256 " not in (made / "version.txt").read_text():
+            yield f"version.txt has no checksum of {name}"
 
 
 def changed(place, old, new):
-    """A change of a file beside the repository."""
+    """Returns a change of a file beside the repository."""
     def change(top):
         file = top.parent / place
         before = file.read_text()
@@ -70,41 +96,45 @@ def changed(place, old, new):
 
 
 def commit_more(top):
-    """Commits something further, after the gate."""
+    """Commits something else after CI."""
     (top / "VERSION").write_text("1.2.4\n")
     git(top, "commit", "-q", "-a", "-m", "m")
 
 
 def changes():
-    """What is changed before a release is made, by a part of the reason why it is refused then."""
+    """Returns what is changed before a release is made, by a part of the reason why it is refused
+    then."""
     edited = ", and not all is committed"
     return {
-        "the gate didn't pass: tests/second crates": changed("gate.log", "600 passed, 0", "600 passed, 1"),
-        "the gate didn't pass: rt ci": changed("gate.log", "7 passed, 0", "7 passed, 1"),
-        "it isn't whole": lambda top: (top.parent / "gate.log").write_text("3 passed, 0 failed\n"),
-        "doesn't tell over which tree": changed("gate.log", "gate passed, ", ""),
-        "the gate was begun over another tree": commit_more,
-        "the gate was passed over another tree": lambda top: (top.parent / "gate.log").write_text(
+        "CI did not pass: tests/run --with-program": changed("gate.log", "600 passed, 0", "600 passed, 1"),
+        "CI did not pass: tools/mutants": changed("gate.log", "5 passed, 0", "5 passed, 1"),
+        "CI did not pass: rt ci": changed("gate.log", "7 passed, 0", "7 passed, 1"),
+        "the log is not whole": lambda top: (top.parent / "gate.log").write_text("3 passed, 0 "
+                                                                                 "failed\n"),
+        "does not say over which tree": changed("gate.log", "CI passed, ", ""),
+        "CI has begun over another tree": commit_more,
+        "CI has passed over another tree": lambda top: (top.parent / "gate.log").write_text(
             LOG.replace("@TREE@", git(top, "rev-parse", "HEAD^{tree}"), 1).replace("@TREE@", "0" * 40)),
-        f"{edited}, and here stands": lambda top: (top.parent / "gate.log").write_text(
+        f"{edited}, and the tree here is": lambda top: (top.parent / "gate.log").write_text(
             LOG.replace("@TREE@", git(top, "rev-parse", "HEAD^{tree}") + edited)),
-        "the checkout isn't clean": lambda top: (top / "new").write_text(""),
-        "isn't known to be built": changed("the top/crates/irv/out/irv.built", "sources s0", "sources other"),
-        "the prover tells of 5 axioms, and lists 4": changed("listed", "  libc::read   reached\n", ""),
-        "lists 4 axioms here, and the log of the gate tells of 5": lambda top: (
+        "the checkout has changed or new files": lambda top: (top / "new").write_text(""),
+        "is not known to be built": changed("the top/crates/irv/out/irv.built", "sources ", "sources other"),
+        "the prover counts 5 axioms, and lists 4": changed("listed", "  libc::read   reached\n", ""),
+        "lists 4 axioms here, and the log has 5": lambda top: (
             changed("listed", "  libc::read   reached\n", "")(top), changed("listed", "axioms=5", "axioms=4")(top)),
-        "the log of the gate has no number of axioms of the program": changed(
+        "the log has no number of axioms of the program": changed(
             "gate.log", "logic=proved functions=6 axioms=5 sum=0\n", "rt: irv is kept\n"),
-        "or of others": changed("listed", "libc::read ", "libc::rand "),
-        "didn't find the program proved over": changed("listed", "logic=proved", "logic=not-proved"),
+        "or others": changed("listed", "libc::read ", "libc::rand "),
+        "did not find the program proved over": changed("listed", "logic=proved", "logic=not-proved"),
         "crates/low/out has no library": lambda top: (top / "crates/low/out/rlib/low.rlib").rmdir(),
-        "isn't an empty folder": lambda top: (top.parent / "made").write_text("kept"),
+        "is not an empty directory": lambda top: (top.parent / "made").write_text("kept"),
         "No such file": lambda top: (top.parent / "gate.log").unlink()}
 
 
 def check_release_refused(_, __):
-    """Refused, without a folder, are a gate that failed, isn't whole or is of another tree, other axioms than the
-    gate counted, a changed checkout, a program of other sources, and a folder in which something stands."""
+    """A release is refused, and no directory made, if the log is of a failed CI run, not whole or
+    of another tree, if the axioms differ from those that CI counted, if the checkout is changed, if
+    the program is of other sources, or if the directory is not empty."""
     for why, change in changes().items():
         with repository() as top:
             change(top)
@@ -117,7 +147,7 @@ def check_release_refused(_, __):
 
 
 def can_hide():
-    """Whether what is kept can be hidden here from a build; that it can't is said."""
+    """Returns whether the cache can be hidden here from a build; skips the test if not."""
     words = ["unshare", *(() if os.geteuid() == 0 else ("--user", "--map-root-user")), "--mount",
              "mount", "-t", "tmpfs", "tmpfs", tempfile.gettempdir()]
     can = shutil.which(words[0]) and subprocess.run(words, capture_output=True, check=False).returncode == 0
@@ -127,14 +157,14 @@ def can_hide():
 
 
 def check_same_bytes(_, __):
-    """tests/reproducible_build finds builds with the same bytes the same and others not, builds where nothing is seen of
-    what is kept, and takes no folder in which something else stands."""
+    """tests/reproducible_build finds if two builds have the same bytes. It builds where the cache
+    is hidden, and refuses a directory that has other files."""
     if not can_hide():
         return
     with repository() as top:
-        room, kept = top.parent / "room", top.parent / "rattle-kept"
-        kept.mkdir()
-        (kept / "library").write_text("kept")
+        room, cache = top.parent / "room", top.parent / "rattle-kept"
+        cache.mkdir()
+        (cache / "library").write_text("kept")
         done = same_bytes(top, room)
         if done.returncode != 1 or "1 passed, 1 failed" not in done.stdout:
             yield f"the program here is another one: {done}"
@@ -144,9 +174,9 @@ def check_same_bytes(_, __):
             if done.returncode or "2 passed, 0 failed" not in done.stdout:
                 yield f"the same bytes: {done}"
         (top / "crates/low/src/lib.rt").write_text("pwd")
-        for why, change in (("not all that stands here is committed", lambda: None),
-                            ("isn't a clone of", lambda: git(top, "commit", "-q", "-a", "-m", "m")),
-                            ("isn't an empty folder", lambda: (room / "irv-same-bytes").unlink())):
+        for why, change in (("not all is committed", lambda: None),
+                            ("is not a clone of", lambda: git(top, "commit", "-q", "-a", "-m", "m")),
+                            ("is not an empty directory", lambda: (room / MARK).unlink())):
             change()
             done = same_bytes(top, room)
             if done.returncode != 2 or why not in done.stderr:
@@ -157,22 +187,24 @@ def check_same_bytes(_, __):
 
 
 def check_given_build(_, __):
-    """tests/reproducible_build takes a build of the gate for one of its two where the gate passed over this tree, from
-    nothing, and the program is noted to be of these sources and to have these bytes; else it is refused."""
+    """tests/reproducible_build takes a build of CI for one of its two if CI passed over this tree,
+    from nothing, and the note beside the program has these sources and bytes; otherwise it refuses
+    it."""
     if not can_hide():
         return
     with repository() as top:
         (top / "crates/irv/out/irv").write_text("")
         note, log = top / "crates/irv/out/irv.built", top.parent / "gate.log"
-        total = hashlib.sha256(b"").hexdigest()
-        note.write_text(f"sources s0\nprogram {total}\ntoolchain kit 1\n")
-        words = ("--given", top, log)
+        total, sources = hashlib.sha256(b"").hexdigest(), sum_of_sources(files_here(top))
+        note.write_text(f"sources {sources}\nprogram {total}\ntoolchain kit 1\ndate 2026-12-01\n")
+        words, unknown = ("--given", top, log), "is not known to be built of the sources here"
         for why, file, old, new in (
-                ("doesn't tell that every proof", log, "rt: ok; every proof", "rt: ok; some proof"),
-                ("the gate was begun over another tree", log, "begun, tree of git: ", "begun, tree of git: 0"),
-                ("isn't known to be built of the sources here", note, "sources s0", "sources s1"),
-                ("isn't known to be built of the sources here", note, f"program {total[:9]}", "program 0"),
-                ("isn't known to be built of the sources here", note, "toolchain kit 1", "toolchain kit 2")):
+                ("does not say that every proof", log, "rt: ok; every proof", "rt: ok; some proof"),
+                ("CI has begun over another tree", log, "begun, tree of git: ", "begun, tree of "
+                                                                                "git: 0"),
+                (unknown, note, f"sources {sources}", "sources s1"),
+                (unknown, note, f"program {total[:9]}", "program 0"),
+                (unknown, note, "toolchain kit 1", "toolchain kit 2")):
             before = file.read_text()
             assert old in before, old
             file.write_text(before.replace(old, new))
@@ -184,28 +216,30 @@ def check_given_build(_, __):
         if done.returncode or "1 passed, 0 failed" not in done.stdout:
             yield f"the same bytes: {done}"
         if (top.parent / "room/a").exists() or not (top.parent / "room/another/longer-one").is_dir():
-            yield "not one is built, in the folder of the longer name"
+            yield "another one than that with the longer name is built"
 
 
 def same_bytes(top, room, *words):
-    """What tests/reproducible_build of the small repository says."""
+    """Returns what tests/reproducible_build of the small repository prints."""
     done = called(top, top / "tests/reproducible_build", room, *words)
     done.stdout, done.stderr = done.stdout.decode(), done.stderr.decode()
     return done
 
 
-def check_counts(_, __):
-    """Each check of a check that the gate calls ends with a count, by which a release reads the log of the gate;
-    tests/docs, whose check takes long, isn't asked."""
-    asked = [command for command in checks_of((TOP / ".ci/run").read_text(encoding="utf-8"))
-             if command.endswith(" --self-check") and command != LONG_CHECK]
-    if not asked:
-        yield "the gate calls none"
-    for command in asked:
-        done = subprocess.run(command.split(), cwd=TOP, stdout=subprocess.PIPE, text=True, check=False)
-        last = done.stdout.rstrip("\n").rpartition("\n")[2]
-        if done.returncode or not COUNT.fullmatch(last):
-            yield f"{command} ends with status {done.returncode} and {last!r}"
+def check_ci(_, __):
+    """A release reads the log of the true .ci/run: its commands that count, and its lines on the
+    tree."""
+    text = (TOP / ".ci/run").read_text(encoding="utf-8")
+    wanted = ["tests/run --without-program", "rt ci", "tests/run --with-program", "tools/mutants"]
+    if checks_of(text) != wanted:
+        yield f"{checks_of(text)}"
+    printed = [line.strip() for line in text.splitlines() if "tree of git" in line and "echo" in line]
+    lines = [line.removeprefix('echo "').removesuffix('"').replace("$1", word).replace("$tree", "t")
+             for line in printed for word in ("begun", "passed")]
+    if TREE.findall("\n".join(lines)) != [("begun", "t"), ("passed", "t")]:
+        yield f"{printed}"
 
 
-ReleaseTests = test_case("ReleaseTests", (check_release, check_release_refused, check_same_bytes, check_given_build, check_counts))
+ReleaseTests = test_case("ReleaseTests", (
+    check_release, check_release_refused, check_same_bytes, check_given_build, check_ci,
+))

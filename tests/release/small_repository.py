@@ -1,4 +1,5 @@
-"""A small repository with a gate, a toolchain and a program that only pretend, of which a release is made."""
+"""A small repository with a fake CI, a fake toolchain and a fake program, of which a release is
+made."""
 
 import hashlib
 import os
@@ -8,20 +9,26 @@ import tempfile
 from contextlib import contextmanager
 from pathlib import Path
 
-from tests.support.package_calls import TOP
+from irvtools.package.source_archive import files_here
+from irvtools.package.source_checksums import sum_of_sources
+from irvtools.paths import TOP
 
-GATE = """set -u
+CI = """set -u
 cd "$(dirname "$0")/.." || exit 2
 tell_tree begun
-tests/first || exit $?
-rt ci | tools/progress.py || exit $?
+tests/run --without-program || exit $?
+rt ci | tools/progress || exit $?
+made=$(sha256sum < crates/irv/out/irv) || exit $?
 ./irv --build || exit $?
-tests/second --self-check || exit $?
-tests/second crates/irv/out/irv || exit $?
+tests/run --with-program || exit $?
+tools/mutants || exit $?
 tell_tree passed
 """
-LOG = """gate begun, tree of git: @TREE@
-3 passed, 0 failed
+LOG = """CI begun, tree of git: @TREE@
+passed docs.links (2 checks, 0.5 s): Each link leads somewhere.
+passed docs.names (0.1 s)
+skipped schema.examples (0.0 s): python3-jsonschema is not installed
+3 passed, 0 failed, 1 skipped
 == low
 axioms libc: libc::open (1 of the 9 declared)
 logic=proved functions=2 axioms=1 sum=0
@@ -32,9 +39,11 @@ logic=proved functions=6 axioms=5 sum=0
 7 passed, 0 failed
 rt: ok; every proof and must-fail edit was done in this run
 40 passed, 0 failed
+passed html.advice.asks (600 checks, 12.5 s): Advice is asked for.
+skipped package.large_package.large (0.0 s): takes long; --long runs it
+600 passed, 0 failed, 1 skipped
 5 passed, 0 failed
-600 passed, 0 failed
-gate passed, tree of git: @TREE@
+CI passed, tree of git: @TREE@
 """
 LISTED = """axioms libc: 4 reached of the 9 declared
   libc::close   reached
@@ -56,30 +65,33 @@ LICENCES = """
 RT = """#!/bin/sh
 case $1 in doc) echo '{room}/kit/START-HERE.md' ;; version) echo 'kit 1' ;; esac
 """
-# a launcher whose build is the place where it stands, where the sources say so, and what is kept
+# a launcher whose build is its own place if the sources say so, and what is cached
 LAUNCHER = """#!/bin/sh
 case $1 in
     --build) mkdir -p crates/irv/out
         { cat crates/low/src/lib.rt; [ ! -s crates/low/src/lib.rt ] || pwd
           cat "$(dirname "$(rt doc)")/../rattle-kept/"* || :; } > crates/irv/out/irv 2>/dev/null ;;
-    --version) echo "sources sha256 s0"; echo "program sha256 $(sha256sum < crates/irv/out/irv | cut -d ' ' -f 1)" ;;
+    --version) echo "program sha256 $(sha256sum < crates/irv/out/irv | cut -d ' ' -f 1)" ;;
+    --install) echo page > "$2/irv.1"; echo completions > "$2/irv.bash" ;;
 esac
 """
-# a prover that lists the axioms where it is asked for them, over the library that the gate built
+# a prover that lists the axioms if it is asked for them, over the library that CI built
 PROVER = """#!/bin/sh
 case " $* " in *" --allow-holes "*) echo holes=0 ;; *" --list-axioms "*) cat '{room}/listed' ;; esac
 """
-FILES = {".ci/run": GATE, "VERSION": "1.2.3\n", "CHANGELOG.md": "c\n", "docs/QUALIFICATION.md": "q\n",
-         "docs/RELEASES.md": "r\n", "docs/TRACEABILITY.md": "t\n", ".gitignore": "out/\n__pycache__/\n",
+FILES = {".ci/run": CI, "VERSION": "1.2.3\n", "CHANGELOG.md": "c\n", ".gitignore": "out/\n__pycache__/\n",
+         "docs/assurance/qualification.md": "q\n", "docs/dev/releases.md": "r\n",
+         "docs/assurance/traceability.md": "t\n",
          "irv": LAUNCHER, "crates.txt": "# crates\nlow: serde_json\nirv: low\n",
-         "tests/first": '"""Tries the first thing."""\n\nSEED = 7\n',
-         "tests/second": '"""Tries the second thing,\nand what | is.\n\nMore."""\n',
-         "crates/low/must-fail/a.edit": "", "crates/low/wrong-bodies/b.edit": "",
-         "crates/low/wrong-bodies/c.edit": "", "crates/low/src/lib.rt": "", "crates/irv/src/main.rt": ""}
+         "tests/first": '"""Tests the first thing."""\n\nSEED = 7\n',
+         "tests/run": '"""Runs the tests,\nand what | is.\n\nMore."""\n',
+         "tools/mutants": '"""Tries mutants."""\n',
+         "crates/low/must-fail/a.edit": "", "crates/low/mutants/b.edit": "",
+         "crates/low/mutants/c.edit": "", "crates/low/src/lib.rt": "", "crates/irv/src/main.rt": ""}
 
 
 def git(top, *words):
-    """Calls git in the repository; what it prints."""
+    """Calls git in the repository; returns what it prints."""
     return subprocess.run(["git", "-c", "user.name=n", "-c", "user.email=e", "-C", top, *words], check=True,
                           capture_output=True).stdout.decode().strip()
 
@@ -90,30 +102,30 @@ def lay_out(top):
         (top / place).parent.mkdir(parents=True, exist_ok=True)
         (top / place).write_text(text)
     (top / "irv").chmod(0o755)
-    (top / "tools").mkdir()
-    for tool in ("tools/release", "tests/reproducible_build"):
+    for tool in ("tools/release", "tests/reproducible_build", "tests/entry.py"):
         shutil.copy(TOP / tool, top / tool)
-    for part in ("release_parts", "case_parts", "page_parts", "bodies"):
-        shutil.copytree(TOP / "tools" / part, top / "tools" / part,
-                        ignore=shutil.ignore_patterns("__pycache__"))
+    shutil.copytree(TOP / "tools/irvtools", top / "tools/irvtools",
+                    ignore=shutil.ignore_patterns("__pycache__"))
     git(top, "init", "-q")
     git(top, "add", "-A")
     git(top, "commit", "-q", "-m", "m")
 
 
 def build(top):
-    """Puts there what a gate leaves: the program with what stands beside it, and the library."""
+    """Writes what CI leaves: the program with the files beside it, and the library."""
     program = top / "crates/irv/out/irv"
     program.parent.mkdir()
     program.write_bytes(b"program")
     program.with_name("irv.licences").write_text(LICENCES)
     total = hashlib.sha256(b"program").hexdigest()
-    program.with_name("irv.built").write_text(f"sources s0\nprogram {total}\ntoolchain kit 1\n")
+    sources = sum_of_sources(files_here(top))
+    program.with_name("irv.built").write_text(
+        f"sources {sources}\nprogram {total}\ntoolchain kit 1\ndate 2026-12-01\n")
     (top / "crates/low/out/rlib/low.rlib").mkdir(parents=True)
 
 
 def give_toolchain(room):
-    """Puts the pretended toolchain beside the repository."""
+    """Writes the fake toolchain beside the repository."""
     scripts = {"bin/rt": RT, "kit/bin/rattle": PROVER}
     for place, text in scripts.items():
         (room / place).parent.mkdir(parents=True)
@@ -127,7 +139,8 @@ def give_toolchain(room):
 
 @contextmanager
 def repository():
-    """The repository, in a folder whose name has a blank, with the log of its gate beside it."""
+    """Gives the repository, in a directory whose name has a blank, with the log of its CI beside
+    it."""
     with tempfile.TemporaryDirectory(prefix="irv release-") as name:
         top = Path(name) / "the top"
         lay_out(top)
@@ -138,11 +151,11 @@ def repository():
 
 
 def called(top, *words):
-    """What came of a call with the pretended toolchain on the path."""
+    """Returns what came of a call with the fake toolchain on the path."""
     environment = {**os.environ, "PATH": f"{top.parent}/bin:{os.environ['PATH']}"}
     return subprocess.run(words, capture_output=True, check=False, cwd=top.parent, env=environment)
 
 
-def release(top, *words, folder="made", log="gate.log"):
+def release(top, *words, directory="made", log="gate.log"):
     """Makes a release."""
-    return called(top, top / "tools/release", folder, "--gate", log, *words)
+    return called(top, top / "tools/release", directory, "--gate", log, *words)

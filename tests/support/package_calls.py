@@ -1,64 +1,78 @@
-"""Makes cases, repeats them, and reads their pages."""
+"""Calls of tools/package and tools/verify_package, and changes to packages."""
 
 import hashlib
 import html
 import json
+import os
 import re
 import subprocess
 import tempfile
 from contextlib import contextmanager
 from pathlib import Path
+
 from irvtools.paths import TOP
 
+INDEX = "index.html"
 
-def call(program, folder, given, *words):
-    """What tools/package answers, with the program that is tried."""
-    return subprocess.run([TOP / "tools/package", folder, *words, "--program", program], input=given,
+
+def call(program, directory, given, *words):
+    """Returns what tools/package answers, with the program that is tested."""
+    return subprocess.run([TOP / "tools/package", directory, *words, "--program", program], input=given,
                           capture_output=True, check=False)
 
 
 @contextmanager
 def place():
-    """The name of a folder that isn't there, in a room that is taken away."""
-    with tempfile.TemporaryDirectory(prefix="irv-case-") as room:
+    """Gives the name of a directory that does not exist, in a room that is removed."""
+    with tempfile.TemporaryDirectory(prefix="irv-test-package-") as room:
         yield Path(room) / "filed"
 
 
 @contextmanager
 def made(program, given, *words):
-    """A case in a folder that is taken away, with what was printed; the first line without the folder."""
-    with place() as folder:
-        done = call(program, folder, given, *words)
-        said = done.stdout.decode().partition("\n")[0].removeprefix(f"{folder}: ")
-        yield folder, said if done.returncode == 0 else f"{done.returncode} {done.stderr.decode()}"
+    """Gives a package in a directory that is removed, with the first line of output, without the
+    directory."""
+    with place() as directory:
+        done = call(program, directory, given, *words)
+        said = done.stdout.decode().partition("\n")[0].removeprefix(f"{directory}: ")
+        yield directory, said if done.returncode == 0 else f"{done.returncode} {done.stderr.decode()}"
 
 
-def repeat(folder, *words):
-    """What its script says, by its lines, and the status."""
-    done = subprocess.run([folder / "repeat.sh", *words], capture_output=True, check=False, cwd="/")
+def repeat(directory, *words):
+    """Returns the lines that its script prints, and the status."""
+    done = subprocess.run([directory / "repeat.sh", *words], capture_output=True, check=False, cwd="/")
     return done.stdout.decode().splitlines() + done.stderr.decode().splitlines(), done.returncode
 
 
-def differing(folder, *words):
-    """What its script says differs."""
-    lines, _ = repeat(folder, *words)
+def differing(directory, *words):
+    """Returns what differs, by its script."""
+    lines, _ = repeat(directory, *words)
     return [line.removeprefix("differs: ") for line in lines if line.startswith("differs: ")]
 
 
+def judged(directory, *words, judge=(TOP / "tools/verify_package",)):
+    """Returns the failures that the judge prints, the other lines, and the status."""
+    done = subprocess.run([*judge, directory, *words], capture_output=True, check=False, cwd="/",
+                          env={**os.environ, "PYTHONDONTWRITEBYTECODE": "1"})
+    lines = done.stdout.decode().splitlines() + done.stderr.decode().splitlines()
+    failures = [line.removeprefix("failed: ") for line in lines if line.startswith("failed: ")]
+    return failures, [line for line in lines if not line.startswith("failed: ")], done.returncode
+
+
 def example(name):
-    """An example, as bytes."""
+    """Returns an example, as bytes."""
     return (TOP / "examples" / name).read_bytes()
 
 
 def changed(given, change):
-    """A configuration after a change of what it says."""
+    """Returns a configuration after a change of its value."""
     value = json.loads(given)
     change(value)
     return json.dumps(value).encode()
 
 
 def flip(file):
-    """Changes the last digit or letter of a file, or of a binary one its middle byte."""
+    """Changes the last digit or letter of a file, or the middle byte of a binary one."""
     data = bytearray(file.read_bytes())
     place = max((place for place, byte in enumerate(data) if chr(byte).isalnum()), default=0) \
         if file.suffix else len(data) // 2
@@ -66,15 +80,15 @@ def flip(file):
     file.write_bytes(data)
 
 
-def renew_sums(folder):
-    """Makes the sums anew, as one would who hides a change."""
-    names = sorted(path.relative_to(folder).as_posix() for path in folder.rglob("*")
+def renew_sums(directory):
+    """Makes the checksums anew, as someone would who hides a change."""
+    names = sorted(path.relative_to(directory).as_posix() for path in directory.rglob("*")
                    if path.is_file() and path.name != "SHA256SUMS")
-    (folder / "SHA256SUMS").write_text("".join(
-        f"{hashlib.sha256((folder / name).read_bytes()).hexdigest()}  {name}\n" for name in names))
+    (directory / "SHA256SUMS").write_text("".join(
+        f"{hashlib.sha256((directory / name).read_bytes()).hexdigest()}  {name}\n" for name in names))
 
 
-def text_of_page(folder):
-    """The text of case.html, without its markup."""
-    page = (folder / "case.html").read_text(encoding="utf-8")
+def text_of_page(directory):
+    """Returns the text of the page, without its markup."""
+    page = (directory / INDEX).read_text(encoding="utf-8")
     return html.unescape(re.sub(r"<[^>]+>", " ", page.partition("</style>")[2]))

@@ -1,20 +1,40 @@
-"""What a safety case quotes: sums of files, where the program comes from, and the premises."""
+"""What a safety case quotes: checksums of files, where the program comes from, and the assumptions
+and application conditions of the qualification page."""
+
+from __future__ import annotations
 
 import hashlib
+import os
 import re
 import subprocess
+from dataclasses import dataclass
+from pathlib import Path
+
 from irvtools.paths import TOP
 
-QUALIFICATION = TOP / "docs/QUALIFICATION.md"
+QUALIFICATION = TOP / "docs/assurance/qualification.md"
+# an environment variable: the version file of an evidence package, from which its report quotes
+VERSION_FILE = "IRV_VERSION_FILE"
+ITEM = re.compile(r"^### ((?:AS|SRAC)-[0-9]+): (.+)$", re.M)
 
 
-def sum_of(data):
-    """The sha256 of bytes."""
+@dataclass
+class Item:
+    """An assumption or an application condition of the qualification page: its identifier and
+    title, its statement, and the named lines below it, such as `Duty holder`."""
+    name: str
+    title: str
+    statement: str
+    lines: dict[str, str]
+
+
+def sum_of(data: bytes) -> str:
+    """Returns the SHA-256 checksum of bytes."""
     return hashlib.sha256(data).hexdigest()
 
 
-def sum_of_file(file):
-    """The sha256 of a file, with its length; or why there is none."""
+def sum_of_file(file) -> str:
+    """Returns the SHA-256 checksum of a file, with its length; or why there is none."""
     try:
         digest, length = hashlib.sha256(), 0
         with open(file, "rb") as data:
@@ -26,8 +46,9 @@ def sum_of_file(file):
         return f"none: {fault}"
 
 
-def said_by(command):
-    """What a command of this machine says; or that it says nothing."""
+def said_by(command: list[str]) -> str | None:
+    """Returns what a command prints, called in the checkout; `None` if it fails or prints
+    nothing."""
     try:
         done = subprocess.run(command, cwd=TOP, capture_output=True, text=True, timeout=30,
                               check=False)
@@ -36,51 +57,77 @@ def said_by(command):
     return done.stdout.strip() if done.returncode == 0 and done.stdout.strip() else None
 
 
-def sources():
-    """The commit of the sources, and whether they were changed since."""
-    commit = said_by(["git", "rev-parse", "HEAD"])
-    if commit is None:
-        return "no commit: the sources aren't in a clone of git"
+def filed(name: str) -> str | None:
+    """Returns what the version file of a package says, if one is named; `None` otherwise."""
+    if VERSION_FILE not in os.environ:
+        return None
+    lines = Path(os.environ[VERSION_FILE]).read_text(encoding="utf-8").splitlines()
+    return dict(line.split(" ", 1) for line in lines if " " in line).get(name, "unknown")
+
+
+def sources() -> str:
+    """Returns the commit of the sources, and whether they were changed since."""
+    return filed("commit") or commit()
+
+
+def commit() -> str:
+    """Returns the commit of this checkout, and whether files were changed since."""
+    name = said_by(["git", "rev-parse", "HEAD"])
+    if name is None or said_by(["git", "rev-parse", "--show-prefix"]):
+        return "no commit: the sources are not a clone of git"
     changed = said_by(["git", "status", "--porcelain", "--untracked-files=no"])
-    return f"{commit}, and files were changed since" if changed else commit
+    return f"{name}, and files were changed since" if changed else name
 
 
-def toolchain():
-    """The toolchain's line."""
-    return said_by(["rt", "version"]) or "rt isn't on this machine"
+def toolchain() -> str:
+    """Returns the toolchain's version."""
+    return filed("toolchain") or said_by(["rt", "version"]) or "rt is not on this machine"
 
 
-def version():
-    """The version of the sources, where they tell one."""
+def version() -> str | None:
+    """Returns the version of the sources; `None` if they have no file of it."""
     try:
         return (TOP / "VERSION").read_text(encoding="utf-8").strip()
     except OSError:
         return None
 
 
-def premises():
-    """The premises of docs/QUALIFICATION.md, each with its number; none where the page isn't there."""
+def premises() -> list[tuple[str, str]]:
+    """Returns the assumptions of the qualification page, each with its identifier; none if the page
+    does not exist."""
+    return [(it.name, it.statement) for it in items("AS")]
+
+
+def premises_in(document: str) -> list[tuple[str, str]]:
+    """Returns the assumptions in the text of a qualification page, each with its identifier."""
+    return [(it.name, it.statement) for it in items_in(document) if it.name.startswith("AS-")]
+
+
+def items(kind: str, document: Path = QUALIFICATION) -> list[Item]:
+    """Returns the assumptions (`AS`) or application conditions (`SRAC`) of the qualification page,
+    in their order; none if the page does not exist."""
     try:
-        return premises_in(QUALIFICATION.read_text(encoding="utf-8"))
+        text = document.read_text(encoding="utf-8")
     except OSError:
         return []
+    return [it for it in items_in(text) if it.name.startswith(f"{kind}-")]
 
 
-def premises_in(document):
-    """The numbered lines under the heading of the premises: of each its number, and what it says in
-    bold, or all that it says."""
-    found, inside = [], False
-    for line in document.splitlines():
-        if line.startswith("#"):
-            inside = "premise" in line.lower()
-        match = re.match(r"([0-9]+)\.\s+(.*)", line)
-        if inside and match:
-            bold = re.match(r"\*\*(.+?)\*\*", match[2])
-            found.append((match[1], plain(bold[1] if bold else match[2])))
+def items_in(document: str) -> list[Item]:
+    """Returns the assumptions and application conditions in the text of a qualification page. The
+    statement is the line `Statement`, or the first paragraph if there is none."""
+    found = []
+    parts = ITEM.split(document)
+    for name, title, rest in zip(parts[1::3], parts[2::3], parts[3::3]):
+        body = re.split(r"^#{1,6} ", rest, maxsplit=1, flags=re.M)[0].strip()
+        lines = {key: plain(value) for key, value in re.findall(r"^- ([^:\n]+): (.+)$", body, re.M)}
+        first = " ".join(body.split("\n\n")[0].split())
+        statement = lines.get("Statement") or ("" if first.startswith("- ") else plain(first))
+        found.append(Item(name, title.strip(), statement, lines))
     return found
 
 
-def plain(line):
-    """A line of a document without its links and its signs."""
+def plain(line: str) -> str:
+    """Returns a line of a document without its links and its marks."""
     line = re.sub(r"\[([^\]]*)\]\([^)]*\)", r"\1", line)
     return line.replace("**", "").replace("`", "").strip()

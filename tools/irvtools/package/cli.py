@@ -1,7 +1,10 @@
 """The command line of `irv --package`: makes an evidence package of a configuration."""
 
+from __future__ import annotations
+
 import os
 import shutil
+import signal
 import sys
 import tempfile
 from pathlib import Path
@@ -10,12 +13,27 @@ from irvtools.package.contents import Package
 from irvtools.package.options import Options, Refused, parser
 
 NOT_MADE = 125          # an exit status that no answer of the program has
+SIGNALS = (signal.SIGINT, signal.SIGTERM, signal.SIGHUP)
 
 
-def make(options, given):
-    """Makes the package beside its place, and moves it there once it is whole; returns it."""
+class Interrupted(BaseException):
+    """A signal that ends the package; it has the signal's number."""
+
+
+def interrupt(number: int, _) -> None:
+    """Ends what is done now, so that what was written is removed."""
+    for each in SIGNALS:
+        signal.signal(each, signal.SIG_IGN)
+    raise Interrupted(number)
+
+
+def make(options: Options, given: bytes) -> Package:
+    """Makes the package beside its place, moves it there once it is whole, and returns it.
+    Temporary files, also those of the tools that are called, are removed in each case."""
     options.guard_directory()
     room = Path(tempfile.mkdtemp(prefix=".irv-package-", dir=options.directory.parent))
+    temporary = tempfile.mkdtemp(prefix="irv-package-")
+    os.environ["TMPDIR"] = temporary
     try:
         room.chmod(0o755)
         package = Package(options, given, room)
@@ -26,18 +44,26 @@ def make(options, given):
         raise Refused(f"cannot make {options.directory}: {fault}") from fault
     finally:
         shutil.rmtree(room, ignore_errors=True)
+        shutil.rmtree(temporary, ignore_errors=True)
     return package
 
 
-def main(words):
+def main(words: list[str]) -> int:
     """Makes the package that the arguments ask for; returns the exit status."""
     sys.stdout.reconfigure(errors="surrogateescape")        # names of files may be any bytes
     given = parser(NOT_MADE).parse_args(words)
     try:
         options = Options(given)
-        package = make(options, sys.stdin.buffer.read())
+        data = sys.stdin.buffer.read()
+        for each in SIGNALS:
+            signal.signal(each, interrupt)
+        package = make(options, data)
     except Refused as fault:
         print(f"irv --package: {fault}", file=sys.stderr)
+        return NOT_MADE
+    except Interrupted as fault:
+        name = signal.Signals(fault.args[0]).name
+        print(f"irv --package: ended by {name}; no package is made", file=sys.stderr)
         return NOT_MADE
     print(f"{options.directory}: {package.said}")
     print(f"sha256 of SHA256SUMS: {package.sum_of_sums}")

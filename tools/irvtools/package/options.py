@@ -1,28 +1,36 @@
 """What the caller of an evidence package asks for: its arguments, and the files that they name."""
 
+from __future__ import annotations
+
+from argparse import Namespace
 from pathlib import Path
 
 from irvtools.arguments import Parser, whole_number
 from irvtools.batch.file_names import shown
+from irvtools.html import options as html_options
 from irvtools.html.options import Refused as RunRefused
 from irvtools.html.options import name_of_input
 from irvtools.html.run_file import Given
 
 DEPTHS, CONFLICTS = (1, 16), (0, 200000)
 MOST_SECONDS = 86400
+# texts that the caller may give, with what each is
+ABOUT = {"title": "the title", "project": "the project", "issue": "the issue of this package",
+         "author": "who makes it"}
 
 
 class Refused(Exception):
     """A package that cannot be made, with the reason."""
 
 
-def parser(status):
+def parser(status: int) -> Parser:
     """Returns the parser of the command line."""
-    line = Parser("irv --package", "Makes an evidence package: a directory with the configuration, every "
-                  "answer to it, the HTML report, a page that\nleads through them, and a script that "
-                  "makes them again.\n\nThe exit status is 0 if the package was made, whatever it "
-                  "says of the table, otherwise 125: nothing is made then.", status,
-                  "irv --package DIRECTORY [OPTIONS] < CONFIGURATION")
+    line = Parser(
+        "irv --package", "Makes an evidence package: a directory with the configuration, every "
+        "answer to it, the HTML report, a page\nthat leads through them, a script that makes them "
+        "again, the documents and the sources.\n\nThe exit status is 0 if the package was made, "
+        "whatever it says of the table, otherwise 125: nothing is made\nthen.", status,
+        "irv --package DIRECTORY [OPTIONS] < CONFIGURATION")
     line.add_argument("directory", metavar="DIRECTORY", help="a directory that is new or empty")
     line.add_argument("--run", action="append", default=[], metavar="FILE",
                       help="a run or scenario that is answered too; may be repeated")
@@ -30,11 +38,15 @@ def parser(status):
               type=whole_number(*DEPTHS))
     line.once("--conflicts", "option of verify: its budget (100000)", metavar="N",
               type=whole_number(*CONFLICTS))
+    seconds = whole_number(0, MOST_SECONDS)
     line.once("--search-seconds", "how long a run to a hazard is searched for if verify says "
               "neither that there is one nor that there is none; 0: no search (15)", default=15,
-              metavar="N", type=whole_number(0, MOST_SECONDS))
+              metavar="N", type=seconds)
     line.once("--solver-seconds", "how long each other solver may take for a query; 0: none is "
-              "called (600)", default=600, metavar="N", type=whole_number(0, MOST_SECONDS))
+              "called (600)", default=600, metavar="N", type=seconds)
+    for name, what in ABOUT.items():
+        line.once(f"--{name}", f"{what}, for the first lines of the page and the report",
+                  metavar="TEXT")
     line.program()
     return line
 
@@ -42,7 +54,7 @@ def parser(status):
 class Options:
     """What the caller asked for."""
 
-    def __init__(self, given):
+    def __init__(self, given: Namespace):
         if not given.directory:
             raise Refused("the directory's name is empty")
         self.directory = Path(given.directory)
@@ -53,6 +65,11 @@ class Options:
         self.of_verify = [word for name in ("depth", "conflicts")
                           if (value := getattr(given, name)) is not None
                           for word in (f"--{name}", str(value))]
+        about = {name: getattr(given, name) for name in ABOUT if getattr(given, name) is not None}
+        self.about = {name: shown(value) for name, value in about.items()}
+        self.of_report = [word for name, value in about.items()
+                          if name in getattr(html_options, "SUBJECT", ())
+                          for word in (f"--{name}", value)]
         self.name = shown(Path(name_of_input()).name)
         self.guard_directory()
         try:
@@ -60,7 +77,7 @@ class Options:
         except RunRefused as fault:
             raise Refused(str(fault)) from fault
 
-    def guard_directory(self):
+    def guard_directory(self) -> None:
         """Refuses a directory that is not empty, and one that cannot be made."""
         if self.directory.is_symlink() or self.directory.exists() and not self.directory.is_dir():
             raise Refused(f"{self.directory} is not a directory; nothing is overwritten")

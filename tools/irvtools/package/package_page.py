@@ -1,228 +1,300 @@
-"""The page that leads through a case: what was asked, what was answered, by which program, on which
-premises and conditions, and who has to sign what."""
+"""The page that leads through a package: what was asked, what was answered, by which program, on
+which assumptions and application conditions, and who has to sign what."""
+
+from __future__ import annotations
 
 import shlex
+from pathlib import Path
 
 from irvtools.calls import provenance
-from irvtools.package import qualification_quotes
 from irvtools.html.markup import code, table, tag, text
-from irvtools.batch.file_names import shown
 from irvtools.html.style import CSS
+from irvtools.package.deviations import Deviation
+from irvtools.package.findings import Findings
+from irvtools.package.package_parts import ARCHIVE, CONFIGURATION
+from irvtools.package.program_version import PROVED
 
 # who signs, and for what
 SIGNATURES = (
-    ("who made the configuration", "that it is the railway outside and the table that the interlocking is "
-     "given (premise 1)"),
-    ("who knows how this railway is run", "that trains, points, boards and the interlocking behave as the "
-     "table of events says (premise 2), and that each condition of use below is seen to"),
-    ("who reviewed the definitions", "that they say what is meant (premise 3); the record of that review is "
-     "a form of docs/QUALIFICATION.md"),
-    ("who made this case", "that the program is the proved one (premise 9), and that the answers are those "
-     "of this folder"),
-    ("the verifier", "that the answers were read rightly, and each deviation was decided on"),
-    ("the assessor", "that the above is so, independently of those who sign it"),
+    ("author of the configuration",
+     "The configuration is the railway outside and the table of the interlocking (AS-01)."),
+    ("railway expert",
+     "Trains, points, boards and the interlocking behave as the event table says (AS-02), and each "
+     "application condition is met or does not apply."),
+    ("reviewer of the definitions",
+     "The definitions mean what is intended (AS-03); the record of that review is a form of the "
+     "qualification page."),
+    ("maker of this package",
+     "The program is the proved one (AS-09), and the answers are those in this directory."),
+    ("verifier", "The answers were read correctly, and each deviation was decided on."),
+    ("assessor", "All of the above is true, independently of those who sign it."),
+)
+QUALIFICATION = "documents/docs/assurance/qualification.md"
+# the documents that the page names, with what each is
+DOCUMENTS = (
+    (QUALIFICATION, "qualification: assumptions, application conditions, failure modes"),
+    ("documents/docs/assurance/definitions.md", "definitions: which to read for which answer"),
+    ("documents/docs/assurance/definition-list.md", "list of the definitions, with links to files"),
+    ("documents/docs/assurance/proved.md", "what is proved"),
+    ("documents/docs/reference/commands.md", "commands, answers and exit statuses"),
+    ("documents/docs/reference/formats.md", "formats of configuration, run and certificate"),
+    ("documents/docs/reference/model.md", "the model: events, hazards and rules"),
+    ("documents/docs/guides/evidence-package.md", "this kind of package"),
+    ("documents/README.md", "first page of the documents"),
 )
 ROOM = ("", "&#160;<br>&#160;")     # for a name, a date, a signature
 MORE_CSS = "td:has(br){min-width:9em}"
 
 
-def link(file, words=None):
-    """A link to a file of the case."""
+def link(file: str, words: str | None = None) -> str:
+    """Returns a link to a file of the package."""
     return tag("a", text(words or file), href=file)
 
 
 class PackagePage:
-    """The page of one case."""
+    """The page of one package: `facts` is what its record says besides the calls, `version` the
+    lines of its version file."""
 
-    def __init__(self, package):
-        self.package, self.parts = package, []
+    def __init__(self, room: Path, facts: dict, findings: Findings, version: list[str]):
+        self.room, self.facts, self.findings, self.version = room, facts, findings, version
+        self.parts = []
 
-    def add(self, *markup):
-        """Writes on."""
+    def add(self, *markup: str) -> None:
+        """Adds markup."""
         self.parts.extend(markup)
 
-    def head(self, title):
-        """A part's title."""
+    def head(self, title: str) -> None:
+        """Adds a heading."""
         self.add(tag("h2", text(title)))
 
-    def say(self, *sentences):
-        """A paragraph of texts, or of markup that comes as a pair."""
+    def say(self, *sentences) -> None:
+        """Adds a paragraph of texts; a tuple has markup."""
         self.add(tag("p", " ".join(it[0] if isinstance(it, tuple) else text(it) for it in sentences)))
 
-    def whole(self):
-        """The page as a document."""
-        self.add(tag("h1", text(f"Case of {self.package.options.name}")))
+    def whole(self) -> str:
+        """Returns the page as a document."""
+        about = self.facts["about"]
+        title = about.get("title") or f"Evidence package of {self.facts['configuration']}"
+        self.add(tag("h1", text(title)))
+        rows = [[key, value] for key, value in about.items() if key != "title"]
+        self.add(*([table([], rows)] if rows else []))
         for part in (self.result, self.deviations, self.given, self.answers, self.others, self.runs,
-                     self.premises, self.conditions, self.signatures, self.repeat, self.rests_on):
+                     self.assumptions, self.conditions, self.signatures, self.documents, self.check,
+                     self.foot):
             part()
-        title = text(f"Case of {self.package.options.name}: irv")
-        return (f"<!doctype html>\n<html lang=\"en\"><head><meta charset=\"utf-8\"><title>{title}</title>"
-                f"<style>{CSS}{MORE_CSS}</style></head><body>\n" + "\n".join(self.parts)
-                + "\n</body></html>\n")
+        return ('<!doctype html>\n<html lang="en"><head><meta charset="utf-8">'
+                '<meta name="viewport" content="width=device-width, initial-scale=1">'
+                f"<title>{text(title)}: irv</title><style>{CSS}{MORE_CSS}</style></head><body>\n"
+                + "\n".join(self.parts) + "\n</body></html>\n")
 
-    # -- what came of it
+    # -- the result
 
-    def result(self):
-        """What the case says of the table."""
-        package = self.package
-        mark = "good" if package.is_safe and not package.contradictions else "bad"
+    def result(self) -> None:
+        """The result for the table."""
+        found = self.findings
         self.head("Result")
-        self.add(tag("p", tag("b", text(package.said), class_=mark)))
-        if not package.is_plant:
-            self.say("The configuration isn't a plant: nothing was asked of it but its rules, and this case "
-                     "shows nothing of its safety.")
-        elif package.contradictions:
-            self.say("Answers of this case can't both be right. The program, a tool or the machine is wrong, and "
-                     "nothing of this case counts before it is known which.")
-        elif package.is_safe or package.is_clean and not package.hazard:
+        if not found.contradictions:
+            verdict = found.verdict_of_all(self.version[-1] == PROVED)
+            _, _, rest = verdict.line.partition(". ")
+            self.add(tag("p", f"{tag('b', text(verdict.word))} {text(rest)}",
+                         class_=f"verdict {verdict.tone}"))
+        self.say("In one line:", (code(found.said),))
+        if not found.is_plant:
+            self.say("The configuration is not a plant. Only its rules were checked, and this "
+                     "package shows nothing about its safety.")
+        elif found.contradictions:
+            self.say("Answers of this package cannot both be right. The program, a tool or the "
+                     "machine is wrong. Use nothing of this package before you know which.")
+        elif found.is_safe:
             self.safe_ways()
-        elif package.hazard:
-            self.say("The table isn't safe: a run from the start ends in a hazard. That it is a run, and ends "
-                     "so, the program answered, by irv replay or irv drive.")
+        elif found.hazard:
+            self.say("The table is not safe: a run from the initial state ends in a hazard. That "
+                     "it is a run, and ends so, is an answer of irv replay or irv drive.")
+        elif found.is_clean or found.is_safe_with_deviations:
+            self.safe_ways()
         else:
-            self.say("It isn't shown that the table is safe, and no run to a hazard was found. This case "
-                     "can't be filed as one of a safe table.")
-        if not package.version[-1].startswith("proved"):
-            self.add(tag("p", text(f"The program isn't known to be the proved one: {package.version[-1]}. Answers of "
-                                   "such a program aren't for a safety case."), class_="own bad"))
+            self.say("It is not shown that the table is safe, and no run to a hazard was found. Do "
+                     "not file this package as evidence of safety.")
+        if self.version[-1] != PROVED:
+            self.add(tag("p", text(f"The program is {self.version[-1]}. Do not use answers of such "
+                                   "a program in a safety case."), class_="own bad"))
 
-    def safe_ways(self):
-        """By which ways the table is safe."""
-        if self.package.is_clean:
-            self.say("No rule is broken under strict columns. That by itself is a proof that no run from the "
-                     "start, of whatever length, ends in a hazard: a clause of the program's contract.")
-        if self.package.is_safe:
-            self.say("Besides," if self.package.is_clean else "", "irv verify answered that no run, of whatever "
-                     "length, ends in a hazard, and wrote a certificate of it, which irv audit and tools/audit "
-                     "accepted.")
+    def safe_ways(self) -> None:
+        """How it is shown that the table is safe."""
+        is_clean = self.findings.is_clean
+        if is_clean:
+            self.say("No rule is broken with strict columns. That alone is a proof that no run "
+                     "from the initial state, of any length, ends in a hazard: a clause of the "
+                     "program's contract.")
+        elif self.findings.is_safe_with_deviations:
+            self.say("Only the rules C4, C5, C6 and C8 are broken. That alone is a proof that no "
+                     "run from the initial state, of any length, ends in a hazard: a clause of the "
+                     "program's contract.")
+        if self.findings.is_safe:
+            self.say("irv verify answered that no run of any length ends in a hazard, and wrote a "
+                     "certificate, which irv audit and tools/audit accepted.")
         else:
-            self.say("There is no certificate of it, and nothing that others could check: irv verify gave "
-                     f"{self.package.verdict.told}.")
+            self.say("There is no certificate, and nothing that others could check. The answer of "
+                     f"irv verify: {self.findings.verdict.told}.")
 
-    def deviations(self):
+    def deviations(self) -> None:
         """Each broken rule, and what it means."""
         self.head("Deviations")
-        if not self.package.deviations:
+        deviations = self.findings.deviations
+        if not deviations:
             self.say("None: the table breaks no rule.")
             return
-        self.say("Which rules are broken, and where, irv check answered. The sentences, and whether safety "
-                 "rests on a deviation, are by the part in Python, which isn't proved.")
-        rows = [[("", code(it.line)), " ".join(it.sentences),
-                 "yes" if it.is_resting else "no", it.safety, self.way(it), ROOM]
-                for it in self.package.deviations]
-        self.add(table(["deviation", "in words", "does safety rest on it", "why", "by which way it is safe",
-                        "accepted by, and why it is wanted"], rows))
+        self.say("irv check answered which rules are broken, and at which place. The sentences, "
+                 "and whether safety depends on a deviation, come from tools in Python, which are "
+                 "tested and not proved.")
+        rows = [[("", code(it.line)), " ".join(it.sentences), "yes" if it.is_resting else "no",
+                 it.safety, self.way(it), ROOM] for it in deviations]
+        self.add(table(["deviation", "meaning", "does safety depend on it", "why",
+                        "how the table is safe with it", "accepted by, and reason"], rows))
 
-    def way(self, deviation):
-        """The way by which the table with a deviation is safe, or that it isn't."""
-        package = self.package
-        if not package.is_plant:
-            return "None: there is no plant, and no verdict."
-        if package.contradictions:
-            return "None, before the contradiction above is resolved."
-        if package.is_safe:
-            return (f"By the certificate of irv verify under free columns ({package.verdict.line}), which is of "
-                    "the table with all its deviations.")
-        if package.hazard:
-            return f"It isn't safe: {package.hazard}."
+    def way(self, deviation: Deviation) -> str:
+        """Returns how the table with a deviation is safe, or that it is not."""
+        found = self.findings
+        if not found.is_plant:
+            return "Not shown: there is no plant, and no verdict."
+        if found.contradictions:
+            return "Not shown, before the contradiction above is resolved."
+        if found.is_safe:
+            return (f"By the certificate of irv verify with free columns ({found.verdict.line}), "
+                    "which is about the table with all its deviations.")
+        if found.hazard:
+            return f"It is not safe: {found.hazard}."
+        if found.is_safe_with_deviations:
+            return "By a clause of the program's contract: only C4, C5, C6 and C8 are broken."
         if not deviation.is_resting:
-            return ("None is shown. This deviation alone would leave a table safe that has none on which "
-                    "safety rests.")
-        return f"None is shown: {package.verdict.told}."
+            return ("Not shown. A table with only this deviation, and with no other on which "
+                    "safety depends, would be safe.")
+        return f"Not shown: {found.verdict.told}."
 
     # -- what was asked
 
-    def given(self):
+    def given(self) -> None:
         """The configuration and the program."""
-        package = self.package
-        self.head("What was asked, and of which program")
-        rows = [("configuration", f"{package.options.name}, as {provenance.sum_of(package.given)} (sha256), "
-                 f"{len(package.given)} bytes: configuration.json")]
-        rows += [("program", line) for line in package.version]
-        rows.append(("options", shlex.join(package.options.of_verify) or "none: those that irv verify has by itself"))
+        self.head("Configuration and program")
+        data = (self.room / CONFIGURATION).read_bytes()
+        filed = f"sha256 {provenance.sum_of(data)}, {len(data)} bytes, filed as {CONFIGURATION}"
+        rows = [("configuration", f"{self.facts['configuration']}: {filed}")]
+        rows += [("program", line) for line in self.version]
+        options = shlex.join(self.facts["options"])
+        rows.append(("options", options or "none: the defaults of irv verify"))
         self.add(table([], [[name, ("", code(value))] for name, value in rows]))
 
-    def answers(self):
+    def answers(self) -> None:
         """Each answer of the program."""
         self.head("Answers of the program")
-        self.say("Where the program is the proved one (premise 9), what it answers is proved, on the premises "
-                 "below. Each call was made in this folder.")
-        self.table_of(call for call in self.package.calls.all if call.is_of_program)
+        self.say("If the program is the proved one (AS-09), its answers are proved, on the "
+                 "assumptions below. Each call was made in this directory.")
+        self.table_of(call for call in self.findings.calls if call.is_of_program)
 
-    def others(self):
-        """Each answer of what isn't the program."""
-        self.head("What other tools said")
-        calls = [call for call in self.package.calls.all if not call.is_of_program]
-        self.say("None of these is proved: they are Python. Where they stand beside an answer of the program, "
-                 "they are a second check of it, and where they draw or hunt, what counts is what the program "
-                 "answers.")
-        for version, call in self.package.solvers:
-            self.say(f"Asked besides: {version}. What tools/verify_with says of it: {call.last}.")
-        if self.package.solvers:
-            self.say("Nothing rests on a solver: irv rup judged each refutation, and those that it accepted are "
-                     "kept. That all queries were asked rests on tools/verify_with.")
-        elif self.package.is_safe:
-            self.say("No solver was asked: none that writes refutations was on the machine, or none was wanted.")
-        self.table_of(calls)
+    def others(self) -> None:
+        """Each answer of other tools."""
+        self.head("Answers of other tools")
+        self.say("These tools are tested and not proved. An answer of a checker is a second check "
+                 "of the program's answer. The report and the random search only show what the "
+                 "program answers.")
+        for version, name in self.facts["solvers"]:
+            self.say(f"{version}: the last line of tools/verify_with is: "
+                     f"{self.findings.call(name).last}.")
+        if self.facts["solvers"]:
+            self.say("No result depends on a solver: irv rup checked each refutation that is kept. "
+                     "That all queries were asked depends on tools/verify_with.")
+        elif self.findings.is_plant and self.findings.is_safe:
+            self.say("No other solver was asked: none that writes refutations was installed, or "
+                     "none was wanted.")
+        self.table_of(call for call in self.findings.calls if not call.is_of_program)
 
-    def table_of(self, calls):
+    def table_of(self, calls) -> None:
         """Some calls, with their answers."""
         rows = [[("", code(call.shown)), str(call.status),
                  ("", code(call.told if call.is_of_program else call.last)),
                  ("", link(f"answers/{call.name}.txt"))] for call in calls]
-        self.add(table(["call", "status", "line", "whole"], rows, "calls"))
+        self.add(table(["call", "status", "line", "whole answer"], rows, "calls"))
 
-    def runs(self):
-        """The runs and scenarios that were given, and the page."""
-        self.head("Runs, scenarios, and the page")
-        if not self.package.runs:
+    def runs(self) -> None:
+        """The runs and scenarios that were given, and the report."""
+        self.head("Runs, scenarios and report")
+        if not self.facts["runs"]:
             self.say("No run and no scenario was given.")
-        elif not self.package.is_plant:
-            self.say("What was given wasn't asked about, since there is no plant.")
-        for name, run in self.package.runs:
-            self.say(f"{shown(run.name)}, a {run.kind}:", (link(name),))
-        if (self.package.room / "report.html").exists():
-            self.say("The plan, the rules in sentences and the runs are drawn on the page:",
+        elif not self.findings.is_plant:
+            self.say("The given runs and scenarios were not answered, because there is no plant.")
+        for file, name, kind in self.facts["runs"]:
+            self.say(f"{name}, a {kind}:", (link(file),))
+        if (self.room / "report.html").exists():
+            self.say("The HTML report shows the track plan, the rules in sentences and the runs:",
                      (link("report.html"),))
 
-    # -- on what it rests, and who signs
+    # -- what it depends on, and who signs
 
-    def premises(self):
-        """The premises, by their numbers."""
-        self.head("Premises")
-        self.say("Each answer rests on these; docs/QUALIFICATION.md has them in full, in documents/.")
-        self.add(table(["no.", "premise"], provenance.premises()))
+    def assumptions(self) -> None:
+        """The assumptions, by their identifiers."""
+        self.head("Assumptions")
+        items = provenance.items("AS")
+        if not items:
+            self.say("docs/assurance/qualification.md does not exist, so no assumption is quoted "
+                     "here.")
+            return
+        self.say("Each answer depends on these. In full:", (link(QUALIFICATION),))
+        self.add(table(["assumption", "about", "statement"],
+                       [[it.name, it.title, it.statement] for it in items]))
 
-    def conditions(self):
-        """The conditions of use, with room for what is done about each."""
-        self.head("Conditions of use")
-        self.say("What the model leaves out, the railway sees to. A case without an answer to each of these "
-                 "isn't complete.")
-        self.add(table(["no.", "left out", "what the railway sees to", "how", "what is done, or why it isn't "
-                        "needed here", "name, date"],
-                       [[it.name, it.left_out, it.wanted, it.how, ROOM, ROOM] for it in qualification_quotes.conditions()]))
+    def conditions(self) -> None:
+        """The application conditions, with room for what is done about each."""
+        self.head("Application conditions")
+        items = provenance.items("SRAC")
+        if not items:
+            self.say("docs/assurance/qualification.md does not exist, so no condition is quoted "
+                     "here.")
+            return
+        self.say("The railway and the user deal with these safety-related application conditions "
+                 "(SRAC). The package is complete only with an answer to each.")
+        self.add(table(["condition", "about", "statement", "duty holder", "discharged by",
+                        "what is done, or why it does not apply", "name, date"],
+                       [[it.name, it.title, it.statement, it.lines.get("Duty holder", ""),
+                         it.lines.get("Discharged by", ""), ROOM, ROOM] for it in items]))
 
-    def signatures(self):
+    def signatures(self) -> None:
         """Who signs what."""
         self.head("Signatures")
-        self.say("Of the file SHA256SUMS, which has the sums of all others, write here the sha256 that "
-                 "sha256sum SHA256SUMS prints, so that what is signed is this folder:")
+        self.say("Write here the checksum of SHA256SUMS, which has the checksums of all other "
+                 "files. irv --package, irv --verify-package and sha256sum SHA256SUMS print it. So "
+                 "the signatures are for this directory:")
         self.add(table(["sha256 of SHA256SUMS"], [[ROOM]]))
-        self.add(table(["who", "signs", "name and role", "date", "signature"],
+        self.add(table(["who", "signs that", "name and role", "date", "signature"],
                        [[who, what, ROOM, ROOM, ROOM] for who, what in SIGNATURES]))
 
-    def repeat(self):
-        """How it is made again."""
-        self.head("To judge it again")
-        self.say((code("./repeat.sh [PROGRAM]"),), "makes each answer again, by the program in this folder or "
-                 "by another that is named, and says what differs. It needs bash and what each Linux has; "
-                 "for checkers/ Python 3. It changes nothing.")
-        self.say("Not made again are the page, what a solver wrote, and the hunt. The files of lrat/ are for "
-                 "checkers of LRAT made elsewhere: for each query a formula (.cnf) and its refutation.")
+    def documents(self) -> None:
+        """The documents and the sources."""
+        self.head("Documents and sources")
+        items = [tag("li", f"{link(file)}: {text(what)}") for file, what in DOCUMENTS
+                 if (self.room / file).is_file()]
+        items.append(tag("li", f"{link(ARCHIVE)}: all sources of this version, with its documents, "
+                               "tools and tests"))
+        self.add(tag("ul", "\n".join(items)))
 
-    def rests_on(self):
-        """What of this page rests on what."""
-        self.add(tag("p", text("This page was written by a part in Python (irv --package), which isn't proved. It "
-                               "quotes answers; the files in answers/ are what was printed, byte for byte. "
-                               "Whether the premises and the conditions hold no program says."),
-                     class_="foot small"))
+    def check(self) -> None:
+        """How the package is checked."""
+        self.head("Check this package")
+        self.say((code("irv --verify-package DIRECTORY"),), "or",
+                 (code("python3 verify_package.py DIRECTORY"),), "of a release judges "
+                 "this directory from outside. It checks checksums, links and completeness, makes "
+                 "answers, pages and script again, and compares documents and checkers with the "
+                 "sources.")
+        self.say((code("./repeat.sh [PROGRAM]"),),
+                 "makes each answer again, by the program in this directory or by another one, and "
+                 "reports what differs. It needs bash, the standard tools of Linux, and Python 3 "
+                 "for checkers/. It changes nothing.")
+        self.say("The output of a solver and the random search are not made again. The files of "
+                 "lrat/ are for other checkers of LRAT: for each query a formula (.cnf) and its "
+                 "refutation.")
+
+    def foot(self) -> None:
+        """What this page is."""
+        self.add(tag("p", text("irv --package, which wrote this page, is tested and not proved. It "
+                               "quotes answers; the files in answers/ are the output, byte for "
+                               "byte. No program says whether the assumptions and the application "
+                               "conditions hold."), class_="foot small"))

@@ -1,95 +1,148 @@
-"""The calls of a case: what was asked, by which tool, and what came. Each is made in the case's folder,
-with names that are below it, so that it can be made again there."""
+"""The calls of a package: what was asked, of which tool, and what it answered. Each is made in the
+package's directory, with names below it, so that it can be made again there."""
 
+from __future__ import annotations
+
+import json
 import os
 import shlex
 import subprocess
-from dataclasses import dataclass
+import sys
+from dataclasses import asdict, dataclass
+from pathlib import Path
 
 from irvtools.batch.program_answers import why_no_answer
 
 PROGRAM = "program/irv"
 CONFIGURATION = "configuration.json"
-# what stands for the program and for the place of what is made, in a call that is made again
+RECORD = "calls.json"
+# what replaces the program and the place of written files if a call is repeated
 PROGRAM_AGAIN, ROOM_AGAIN = '"$program"', '"$room"'
+SECONDS_TO_END = 5      # for a call that is interrupted, before it is killed
 
 
 @dataclass
 class Call:
-    """One call: the name of its answer, its words, its status, what it said, and which of the case's files
-    it made."""
+    """One call: the name of its answer, its arguments, its status, its output, and which of the
+    package's files it wrote."""
     name: str
-    words: list
+    words: list[str]
     status: int
     output: str
     errors: str
-    made: tuple
+    made: tuple[str, ...]
     is_repeated: bool
 
     @property
-    def line(self):
-        """The first line of what it said, or what came in its place."""
+    def line(self) -> str:
+        """Its first line, or what came in its place."""
         return self.output.partition("\n")[0] or self.errors.strip() or "nothing"
 
     @property
-    def last(self):
-        """The last line of what it said; of what printed a run, what it said of that."""
+    def last(self) -> str:
+        """Its last line; if it printed a run, that of its messages."""
         said = self.errors if self.output.startswith("run 1\n") else self.output or self.errors
         return (said.strip() or "nothing").splitlines()[-1]
 
     @property
-    def fault(self):
-        """Why what came is no answer of the program; none where it is one, or where another tool was called."""
+    def fault(self) -> str | None:
+        """Why this is no answer of the program; `None` if it is one, or if another tool was
+        called."""
         if not self.is_of_program:
             return None
         complaint = (self.errors.strip() or "").rpartition("\n")[2]
         return why_no_answer(self.words[1], self.status, self.output.partition("\n")[0], complaint)
 
     @property
-    def told(self):
-        """Its first line where it is an answer, or that it is none, and why."""
+    def told(self) -> str:
+        """Its first line if it is an answer, otherwise why it is none."""
         return f"no answer: {self.fault}" if self.fault else self.line
 
     @property
-    def is_of_program(self):
+    def is_of_program(self) -> bool:
         """Whether the program answered it, or one of the tools in Python."""
         return self.words[0] == PROGRAM
 
     @property
-    def shown(self):
+    def shown(self) -> str:
         """The call, as a reader would write it."""
         return f"{shlex.join(self.words)} < {CONFIGURATION}"
 
     @property
-    def again(self):
+    def again(self) -> str:
         """The call, as the script that repeats it has it."""
         words = [PROGRAM_AGAIN if word == PROGRAM
-                 else f"{ROOM_AGAIN}/{shlex.quote(word)}" if word in self.made else shlex.quote(word)
-                 for word in self.words]
+                 else ROOM_AGAIN * (word in self.made) + "/" * (word in self.made)
+                 + shlex.quote(word) for word in self.words]
         return " ".join(words)
 
 
 class Calls:
-    """The calls of a case, which keep their answers in its folder."""
+    """The calls of a package, which keep their answers in its directory."""
 
-    def __init__(self, room):
+    def __init__(self, room: Path):
         self.room, self.all = room, []
         (room / "answers").mkdir()
 
-    def ask(self, name, words, made=(), is_repeated=True):
-        """Makes a call, and keeps what came."""
-        environment = {**os.environ, "PYTHONDONTWRITEBYTECODE": "1"}
-        with open(self.room / CONFIGURATION, "rb") as given:
-            done = subprocess.run(words, cwd=self.room, stdin=given, env=environment, capture_output=True,
-                                  check=False)
-        call = Call(name, list(words), done.returncode, done.stdout.decode(errors="replace"),
-                    done.stderr.decode(errors="replace"), tuple(made), is_repeated)
-        (self.room / f"answers/{name}.txt").write_bytes(done.stdout)
-        if done.stderr:
-            (self.room / f"answers/{name}.err").write_bytes(done.stderr)
+    def ask(self, name: str, words: list[str], made=(), is_repeated=True) -> Call:
+        """Makes a call, and keeps its answer."""
+        tell(" ".join(map(os.path.basename, words[:3])))
+        status, output, errors = run(words, self.room)
+        call = Call(name, list(words), status, output.decode(errors="replace"),
+                    errors.decode(errors="replace"), tuple(made), is_repeated)
+        (self.room / f"answers/{name}.txt").write_bytes(output)
+        if errors:
+            (self.room / f"answers/{name}.err").write_bytes(errors)
         self.all.append(call)
         return call
 
-    def program(self, name, command, columns, *words, made=()):
+    def program(self, name: str, command: str, columns: str, *words: str, made=()) -> Call:
         """Asks the program."""
         return self.ask(name, [PROGRAM, command, "--columns", columns, *words], made)
+
+
+def tell(step: str) -> None:
+    """Says on a terminal what is done now."""
+    if sys.stderr.isatty():
+        print(f"irv --package: {step}", file=sys.stderr, flush=True)
+
+
+def run(words: list[str], room: Path, **more: str) -> tuple[int, bytes, bytes]:
+    """Calls a command in a directory, with the configuration there; returns its status, output and
+    errors. If this is interrupted, the command is ended too."""
+    environment = {**os.environ, "PYTHONDONTWRITEBYTECODE": "1", **more}
+    with open(room / CONFIGURATION, "rb") as given, subprocess.Popen(
+            words, cwd=room, stdin=given, env=environment, stdout=subprocess.PIPE,
+            stderr=subprocess.PIPE) as process:
+        try:
+            output, errors = process.communicate()
+        except BaseException:
+            process.terminate()
+            try:
+                process.communicate(timeout=SECONDS_TO_END)
+            except subprocess.TimeoutExpired:
+                process.kill()
+            raise
+    return process.returncode, output, errors
+
+
+def write_record(room: Path, calls: list[Call], facts: dict) -> None:
+    """Writes the record of the calls, which has what the answers do not say themselves."""
+    kept = [{key: value for key, value in asdict(call).items() if key not in ("output", "errors")}
+            for call in calls]
+    text = json.dumps({**facts, "calls": kept}, indent=1) + "\n"
+    (room / RECORD).write_text(text, encoding="ascii")
+
+
+def read_record(room: Path) -> tuple[dict, list[Call]]:
+    """Returns what the record of a package says, and the calls with their answers."""
+    facts = json.loads((room / RECORD).read_text(encoding="ascii"))
+    calls = [Call(output=text_of(room / f"answers/{it['name']}.txt"),
+                  errors=text_of(room / f"answers/{it['name']}.err"),
+                  **{**it, "made": tuple(it["made"])}) for it in facts.pop("calls")]
+    return facts, calls
+
+
+def text_of(file: Path) -> str:
+    """Returns the text of a file; nothing if it does not exist."""
+    return file.read_bytes().decode(errors="replace") if file.is_file() else ""

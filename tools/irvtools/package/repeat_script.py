@@ -1,18 +1,24 @@
-"""The script that makes each answer of a case again, and says what differs. It needs the folder of the
-case, a program, bash and what each Linux has, and Python 3 for the checkers that aren't the program."""
+"""The script that makes each answer of a package again, and reports what differs. It needs the
+package, a program, bash and the standard tools of Linux, and Python 3 for the checkers."""
+
+from __future__ import annotations
+
+from pathlib import Path
+
+from irvtools.package.recorded_calls import Call
 
 SCRIPT = r"""#!/usr/bin/env bash
-# Makes each answer of this case again, and says what differs.
+# Makes each answer of this package again, and reports what differs.
 #
 #     ./repeat.sh [PROGRAM]     by PROGRAM, or by the one in program/
 #
-# It changes nothing here. Each difference is a line that begins with `differs`; what can't be asked on
-# this machine is a line that begins with `left out`. The last line counts. The status is 0 where all
-# was asked and is the same, 1 where something differs, 2 where something was left out and the rest is
-# the same.
+# It changes nothing here. Each difference is a line that begins with `differs`. What cannot be
+# asked on this machine is a line that begins with `left out`. The last line counts. The status is
+# 0 if all was asked and is the same, 1 if something differs, and 2 if something was left out and
+# the rest is the same.
 #
-# Not made again: report.html, what a solver wrote, and the hunt, which looks for a run by chance. The
-# refutations and the run that they gave are judged again by the program, and all files by their sums.
+# Not made again are the pages, the output of a solver, and the random search. The program checks
+# the refutations and the run that these gave. All files are compared with their checksums.
 set -u
 unset CDPATH
 export LC_ALL=C PYTHONDONTWRITEBYTECODE=1
@@ -27,27 +33,28 @@ same=0 differ=0 left=0
 is_same() { same=$((same + 1)); }
 differs() { differ=$((differ + 1)); echo "differs: $1"; }
 
-# sees that each file is as it was, and that no other is there
-see_sums() {
+# compares each file with its checksum, and looks for other files
+check_sums() {
     local line
     while read -r line; do
         differs "$line"
     done < <(sha256sum -c --quiet SHA256SUMS 2>/dev/null)
-    # a line that names no sum is passed over there
-    sha256sum -c --strict --status SHA256SUMS 2>/dev/null || [ "$differ" -ne 0 ] || differs SHA256SUMS
+    # the command above ignores a line that is no checksum
+    sha256sum -c --strict --status SHA256SUMS 2>/dev/null || [ "$differ" -ne 0 ] \
+        || differs SHA256SUMS
     while read -r line; do
-        differs "the files that are there: $line"
+        differs "the list of files: $line"
     done < <(diff <(cut -c 67- SHA256SUMS | sort) \
         <(find . ! -type d ! -path ./SHA256SUMS | cut -c 3- | sort) | grep '^[<>]')
     [ "$differ" -ne 0 ] || is_same
 }
 
-# sees that the program is the one that answered: SUM
-see_program() {
+# compares the checksum of the program: SUM
+check_program() {
     if [ "$(sha256sum 2>/dev/null <"$program" | cut -d ' ' -f 1)" = "$1" ]; then
         is_same
     else
-        differs "the program: its sha256 isn't $1"
+        differs "the program: its sha256 is not $1"
     fi
 }
 
@@ -56,40 +63,40 @@ again() {
     local status
     if [ "$3" = python3 ] && ! command -v python3 >/dev/null; then
         left=$((left + 1))
-        echo "left out: $1, since python3 isn't on the path"
+        echo "left out: $1, because python3 is not on the path"
         return
     fi
     "${@:3}" <configuration.json >"$room/out" 2>"$room/err"
     status=$?
     if [ "$status" != "$2" ]; then
-        differs "$1: status $status, and it was $2"
+        differs "$1: status $status instead of $2"
     elif ! cmp -s "$room/out" "answers/$1.txt"; then
-        differs "$1: it says: $(head -n 1 "$room/out" | cut -c 1-200)"
+        differs "$1: its answer is now: $(head -n 1 "$room/out" | cut -c 1-200)"
     else
         is_same
     fi
 }
 
-# sees that what was made again is what stands here: FILE, or a folder
+# compares what was written again with what is here: FILE, or a directory
 made() {
     if diff -r "$room/$1" "$1" >/dev/null 2>&1; then
         is_same
     else
-        differs "$1: what is made again is another"
+        differs "$1: another one is written now"
     fi
 }
 
-# sees that a run that was answered is the one that stands here: NAME FILE
+# compares a run in an answer with the one that is here: NAME FILE FIRST_LINE
 run_of() {
     if tail -n "+$3" "answers/$1.txt" | cmp -s - "$2"; then
         is_same
     else
-        differs "$2: it isn't the run of answers/$1.txt"
+        differs "$2: it is not the run in answers/$1.txt"
     fi
 }
 
-see_sums
-see_program @SUM@
+check_sums
+check_program @SUM@
 @CALLS@
 echo "$same the same, $differ differ, $left left out"
 [ "$differ" -eq 0 ] || exit 1
@@ -97,15 +104,15 @@ echo "$same the same, $differ differ, $left left out"
 """
 
 
-def repeat_script(package):
-    """The script of a case."""
+def repeat_script(room: Path, calls: list[Call], version: list[str]) -> str:
+    """Returns the script of a package."""
     lines = []
-    for call in package.calls.all:
+    for call in calls:
         if call.is_repeated:
             lines.append(f"again {call.name} {call.status} {call.again}")
-            lines += [f"made {name}" for name in call.made if (package.room / name).exists()]
+            lines += [f"made {name}" for name in call.made if (room / name).exists()]
     for name, file, first in (("verify", "verify.run", 2), ("search", "search.run", 1)):
-        if (package.room / file).exists():
+        if (room / file).exists():
             lines.append(f"run_of {name} {file} {first}")
-    total = next(line for line in package.version if line.startswith("program ")).split()[-1]
+    total = next(line for line in version if line.startswith("program ")).split()[-1]
     return SCRIPT.replace("@SUM@", total).replace("@CALLS@", "\n".join(lines))

@@ -1,54 +1,82 @@
-"""What the gate printed: of which tree it was, and the count of each of its checks, in the order of
-`.ci/run`."""
+"""What CI printed: over which tree it ran, the count of each of its commands in the order of
+`.ci/run`, and what came of each test."""
+
+from __future__ import annotations
 
 import re
-from dataclasses import dataclass
+from dataclasses import dataclass, field
 
-COUNT = re.compile(r"^(\d+) passed, (\d+) failed$", re.M)
+COUNT = re.compile(r"^(\d+) passed, (\d+) failed(?:, (\d+) skipped)?$", re.M)
 CALL = re.compile(r"^(rt ci|(?:tests|tools)/\w+(?: [^|\n]*?)?)(?: \| .*?)?(?: \|\| .*)?$", re.M)
-TREE = re.compile(r"^gate (begun|passed), tree of git: (.+)$", re.M)
+TREE = re.compile(r"^CI (begun|passed), tree of git: (.+)$", re.M)
+# a test that tests/run ran: its result, its name, how many checks it made, and why it was skipped
+TEST = re.compile(r"^(passed|skipped) ([\w.]+) \((?:(\d+) checks, )?[0-9.]+ s\)(?:: (.*))?$", re.M)
 
 
 class Unread(Exception):
-    """A log that isn't that of a gate which passed; the message says why."""
+    """A log that is not of a passing CI run; the message says why."""
 
 
 @dataclass
 class Check:
-    """A check of the gate: its command, and what it counted."""
+    """A command of CI: what it counted."""
     command: str
     passed: int
+    skipped: int
 
 
-def checks_of(script):
-    """The commands of the gate that count, in their order."""
+@dataclass
+class Tests:
+    """The tests of one subject: how many passed, their checks, and the skipped ones with the
+    reason."""
+    passed: int = 0
+    checks: int = 0
+    skipped: dict[str, str] = field(default_factory=dict)
+
+
+def checks_of(script: str) -> list[str]:
+    """Returns the commands of CI that count, in their order."""
     return [match[1].strip() for match in CALL.finditer(script)]
 
 
-def see_tree(log, tree):
-    """Sees that the gate began and passed over this tree."""
-    told = TREE.findall(log)
-    if [word for word, _ in told] != ["begun", "passed"]:
-        raise Unread("the log of the gate doesn't tell over which tree it began and passed: it isn't whole, or "
-                     "is of another gate")
-    for word, name in told:
+def check_tree(log: str, tree: str) -> None:
+    """Checks that CI began and passed over this tree."""
+    found = TREE.findall(log)
+    if [word for word, _ in found] != ["begun", "passed"]:
+        raise Unread("the log does not say over which tree CI began and passed: it is not whole, "
+                     "or not of CI")
+    for word, name in found:
         if name != tree:
-            raise Unread(f"the gate was {word} over another tree than this one: {name}, and here stands {tree}")
+            raise Unread(f"CI has {word} over another tree: {name}, and the tree here is {tree}")
 
 
-def read(script, log, tree):
-    """Each check with its count. What `rt ci` prints may have counts besides its last one."""
-    commands, counts = checks_of(script), [tuple(map(int, found)) for found in COUNT.findall(log)]
+def read(script: str, log: str, tree: str) -> list[Check]:
+    """Returns each command of CI with its count. `rt ci` may print counts besides its last one."""
+    commands = checks_of(script)
+    counts = [(int(good), int(bad), int(left or 0)) for good, bad, left in COUNT.findall(log)]
     if "rt ci" not in commands:
-        raise Unread(".ci/run doesn't call rt ci")
+        raise Unread(".ci/run does not call rt ci")
     if len(counts) < len(commands):
-        raise Unread(f"the log of the gate has {len(counts)} counts, and .ci/run {len(commands)} checks: it "
-                     "isn't whole, or is of another gate")
+        raise Unread(f"the log has {len(counts)} counts, and .ci/run {len(commands)} commands that "
+                     "count: the log is not whole, or not of CI")
     before = commands.index("rt ci")
     after = len(commands) - before - 1
     own = counts[:before] + [counts[len(counts) - after - 1]] + (counts[-after:] if after else [])
-    failed = [command for command, (_, bad) in zip(commands, own) if bad]
-    if failed or any(bad for _, bad in counts):
-        raise Unread(f"the gate didn't pass: {', '.join(failed) or 'rt ci'}")
-    see_tree(log, tree)
-    return [Check(command, passed) for command, (passed, _) in zip(commands, own)]
+    failed = [command for command, (_, bad, _) in zip(commands, own) if bad]
+    if failed or any(bad for _, bad, _ in counts):
+        raise Unread(f"CI did not pass: {', '.join(failed) or 'rt ci'}")
+    check_tree(log, tree)
+    return [Check(command, passed, skipped) for command, (passed, _, skipped) in zip(commands, own)]
+
+
+def tests_in(log: str) -> dict[str, Tests]:
+    """Returns what came of the tests, by their subjects, in the order of the names."""
+    found = {}
+    for result, name, checks, why in TEST.findall(log):
+        subject = found.setdefault(name.partition(".")[0], Tests())
+        if result == "passed":
+            subject.passed += 1
+            subject.checks += int(checks or 1)
+        else:
+            subject.skipped[name] = why
+    return dict(sorted(found.items()))

@@ -1,21 +1,30 @@
-"""A release that is being made: files of this checkout, and a record of what was printed."""
+"""A release that is being made: files of this checkout, and the validation record."""
+
+from __future__ import annotations
 
 import gzip
-import hashlib
 import shlex
 import shutil
 import subprocess
+import tempfile
+from argparse import Namespace
+from pathlib import Path
 
-from irvtools.launcher.source_checksum import source_checksum
+from irvtools.mutants.crates import Toolchain
+from irvtools.package.program_version import note_beside, sum_of
+from irvtools.package.single_file import script
+from irvtools.package.source_archive import files_here
+from irvtools.package.source_checksums import sum_of_sources
 from irvtools.release import ci_log
 from irvtools.release.axioms import Unlisted, axioms
-from irvtools.mutants.crates import Toolchain
 from irvtools.release.linked_libraries import libraries
 from irvtools.release.record import Record, Unusable
-from irvtools.package.program_version import note_beside, sum_of
 
-ARCHIVE = "sources.tar.gz"
-PAGES = ("CHANGELOG.md", "docs/QUALIFICATION.md", "docs/RELEASES.md", "docs/TRACEABILITY.md")
+ARCHIVE, JUDGE, LOG, RECORD = "sources.tar.gz", "verify_package.py", "ci.log", "record.md"
+PAGES = ("CHANGELOG.md", "docs/assurance/qualification.md", "docs/assurance/traceability.md",
+         "docs/dev/releases.md")
+# what `./irv --install` makes besides the program: its manual page, and completions for bash
+INSTALLED = ("irv.1", "irv.bash")
 
 
 class NotReleased(Exception):
@@ -23,58 +32,60 @@ class NotReleased(Exception):
 
 
 class Release:
-    """A release in a folder of its own."""
+    """A release in a directory of its own."""
 
-    def __init__(self, top, given, room):
+    def __init__(self, top: Path, given: Namespace, room: Path):
         self.top, self.given, self.room = top, given, room
 
-    def said(self, *words):
-        """What a command prints, called in the checkout."""
-        done = subprocess.run(words, cwd=self.top, stdin=subprocess.DEVNULL, capture_output=True, check=False)
+    def said(self, *words: str) -> bytes:
+        """Returns what a command prints, called in the checkout."""
+        done = subprocess.run(words, cwd=self.top, stdin=subprocess.DEVNULL, capture_output=True,
+                              check=False)
         if done.returncode:
-            raise NotReleased(f"{shlex.join(words)}: {done.stderr.decode(errors='replace').strip()}")
+            why = done.stderr.decode(errors="replace").strip()
+            raise NotReleased(f"{shlex.join(words)}: {why}")
         return done.stdout
 
-    def line(self, *words):
-        """The line that a command prints."""
+    def line(self, *words: str) -> str:
+        """Returns the line that a command prints."""
         return self.said(*words).decode(errors="replace").strip()
 
-    def make(self):
+    def make(self) -> None:
         """Makes all of it."""
         if self.line("git", "status", "--porcelain"):
-            raise NotReleased("the checkout isn't clean: git status tells what is changed or new")
-        self.see_program()
+            raise NotReleased("the checkout has changed or new files: git status lists them")
+        self.check_program()
         log = self.given.gate.read_text(encoding="utf-8", errors="replace")
+        tree = self.line("git", "rev-parse", "HEAD^{tree}")
         try:
-            checks = ci_log.read((self.top / ".ci/run").read_text(encoding="utf-8"), log,
-                                   self.line("git", "rev-parse", "HEAD^{tree}"))
-            version = (self.top / "VERSION").read_text(encoding="utf-8").strip()
-            record = Record(self.top, version, checks, axioms(self.top, log),
-                            libraries(self.licences.read_text(encoding="utf-8", errors="replace"),
-                                      Toolchain().folder))
-            for file in self.given.battery:
-                record.take_battery(file, self.room)
+            checks = ci_log.read((self.top / ".ci/run").read_text(encoding="utf-8"), log, tree)
+            names = axioms(self.top, log)
+            licences = self.licences.read_text(encoding="utf-8", errors="replace")
+            linked = libraries(licences, Toolchain().folder)
+            version = self.copy(tree)
+            record = Record(self.top, version, checks, ci_log.tests_in(log), names, linked)
+            for file in self.given.extra_log:
+                record.take_extra_log(file, self.room)
         except (ci_log.Unread, Unlisted, Unusable) as fault:
             raise NotReleased(str(fault)) from fault
-        self.copy(version)
-        (self.room / "record.md").write_text(record.text(), encoding="utf-8")
+        (self.room / RECORD).write_text(record.text(), encoding="utf-8")
         self.sum_up()
 
-    def see_program(self):
-        """Sees that the program is the one that was built of these sources."""
+    def check_program(self) -> None:
+        """Checks that the program is the one that was built of these sources."""
         self.program = self.given.program.absolute()
-        self.note = note_beside(self.program)
-        self.sources = source_checksum(self.line("./irv", "--version"))
+        self.note, self.sources = note_beside(self.program), sum_of_sources(files_here(self.top))
         is_built = self.program.is_file() and self.note.get("program") == sum_of(self.program)
         if not is_built or self.note.get("sources") != self.sources:
-            raise NotReleased(f"{self.program} isn't known to be built of these sources: ./irv --build builds it")
+            raise NotReleased(f"{self.program} is not known to be built of these sources: ./irv "
+                              "--build builds it")
         self.licences = self.program.with_name(self.program.name + ".licences")
         if not self.licences.is_file():
-            raise NotReleased(f"{self.licences}, the licences of the libraries, isn't there: ./irv --install "
-                              "makes it")
+            raise NotReleased(f"the file {self.licences} does not exist: ./irv --install makes it")
 
-    def copy(self, version):
-        """The files of the release."""
+    def copy(self, tree: str) -> list[str]:
+        """Copies the files of the release; returns the lines of its version file."""
+        version = (self.top / "VERSION").read_text(encoding="utf-8").strip()
         archive = self.said("git", "archive", "--format=tar", f"--prefix=irv-{version}/", "HEAD")
         (self.room / ARCHIVE).write_bytes(gzip.compress(archive, mtime=0))
         shutil.copyfile(self.program, self.room / "irv")
@@ -82,16 +93,28 @@ class Release:
         shutil.copyfile(self.licences, self.room / "irv.licences")
         for name in PAGES:
             shutil.copy(self.top / name, self.room)
-        shutil.copyfile(self.given.gate, self.room / "gate.log")
-        (self.room / "version.txt").write_text(
-            f"irv {version}\ncommit {self.line('git', 'rev-parse', 'HEAD')}\n"
-            f"tree {self.line('git', 'rev-parse', 'HEAD^{tree}')}\n"
-            f"toolchain {self.note.get('toolchain', 'unknown')}\nsources {self.sources}\n"
-            f"program sha256 {sum_of(self.program)}\nsources.tar.gz sha256 {sum_of(self.room / ARCHIVE)}\n",
-            encoding="utf-8")
+        shutil.copyfile(self.given.gate, self.room / LOG)
+        self.install()
+        (self.room / JUDGE).write_text(script(), encoding="utf-8")
+        (self.room / JUDGE).chmod(0o755)
+        commit = self.line("git", "rev-parse", "HEAD")
+        lines = [f"irv {version}", f"commit {commit}", f"tree {tree}",
+                 f"toolchain {self.note.get('toolchain', 'unknown')}", f"sources {self.sources}",
+                 f"program sha256 {sum_of(self.program)}", f"{ARCHIVE} sha256 "
+                                                           f"{sum_of(self.room / ARCHIVE)}",
+                 f"{JUDGE} sha256 {sum_of(self.room / JUDGE)}"]
+        (self.room / "version.txt").write_text("\n".join(lines) + "\n", encoding="utf-8")
+        return lines
 
-    def sum_up(self):
-        """The sums of all files."""
+    def install(self) -> None:
+        """Has the launcher make the manual page and the completions, and copies them."""
+        with tempfile.TemporaryDirectory(prefix="irv-release-") as place:
+            self.said("./irv", "--install", place)
+            for name in INSTALLED:
+                shutil.copyfile(Path(place, name), self.room / name)
+
+    def sum_up(self) -> None:
+        """Writes the checksums of all files."""
         names = sorted(path.name for path in self.room.iterdir())
-        (self.room / "SHA256SUMS").write_text("".join(
-            f"{hashlib.sha256((self.room / name).read_bytes()).hexdigest()}  {name}\n" for name in names))
+        (self.room / "SHA256SUMS").write_text(
+            "".join(f"{sum_of(self.room / name)}  {name}\n" for name in names))

@@ -1,0 +1,45 @@
+"""The documents of a package: the pages of this version, the definitions on which its answers
+depend, and each file to which these link."""
+
+from __future__ import annotations
+
+import os
+import re
+from urllib.parse import unquote
+
+from irvtools.docs import definitions
+from irvtools.package.page_links import links_of
+from irvtools.package.source_archive import Files
+
+PAGES = ("README.md", "CHANGELOG.md", "VERSION", "CONTRIBUTING.md")
+
+
+def document_names(files: Files) -> list[str]:
+    """Returns the names of a package's documents among the sources. A directory to which a page
+    links is there with those of its files that are documents, or with all if none is."""
+    defined = {f"crates/{place}" for _, by_file in definitions.stages() for place in by_file}
+    found = {name for name in files if name in PAGES or name.startswith("docs/") or name in defined}
+    left, directories = sorted(found), set()
+    while left:
+        name = left.pop()
+        if not name.endswith(".md"):
+            continue
+        for target in targets_of(name, files[name][1].decode(errors="replace")):
+            if target in files and target not in found:
+                found.add(target)
+                left.append(target)
+            elif target not in files:
+                directories.add(f"{target}/")
+    for directory in sorted(directories):
+        if not any(name.startswith(directory) for name in found):
+            found |= {name for name in files
+                      if name.startswith(directory) and not name.endswith(".md")}
+    return sorted(found)
+
+
+def targets_of(name: str, text: str) -> list[str]:
+    """Returns the names to which a document links, seen from the top."""
+    links = [link.partition("#")[0] for link in links_of(name, text)[0]
+             if not re.match(r"[a-z][a-z0-9+.-]*:", link)]
+    return [os.path.normpath(os.path.join(os.path.dirname(name), unquote(link)))
+            for link in links if link]
