@@ -1,0 +1,1 @@
+"""Tests of calls of the program and of what its answers come to."""

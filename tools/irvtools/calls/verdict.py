@@ -1,0 +1,166 @@
+"""The verdict's word: what all answers about one configuration come to, in a word and a sentence.
+
+The HTML report, the evidence package, a batch, the simulator and `--explain` take it from here. The words
+and what they need:
+
+- HAZARD FOUND: a run from the initial state to a hazard was answered by `replay`, `verify` or `drive`. It
+  beats everything.
+- SAFE WITH DEVIATIONS: proved: `check` with strict columns was read to its end, with status 5, and each
+  line of it names C4, C5, C6 or C8.
+- SAFE: `check` with strict columns answered `clean`, or `verify` answered `safe k=K`.
+- REFUSED: another rule is broken.
+- NOT SHOWN: everything else."""
+
+from __future__ import annotations
+
+import re
+from collections import Counter
+from dataclasses import dataclass
+from typing import Iterable
+
+HAZARD_FOUND = "HAZARD FOUND"
+SAFE = "SAFE"
+SAFE_WITH_DEVIATIONS = "SAFE WITH DEVIATIONS: proved"
+REFUSED = "REFUSED"
+NOT_SHOWN = "NOT SHOWN"
+RANKING = (HAZARD_FOUND, REFUSED, NOT_SHOWN, SAFE_WITH_DEVIATIONS, SAFE)    # the worst first
+TONES = {HAZARD_FOUND: "bad", REFUSED: "warn", NOT_SHOWN: "warn", SAFE_WITH_DEVIATIONS: "good",
+         SAFE: "good"}
+
+DEVIATIONS_ARE_PROVED = True        # the clause `strict_deviations` of `run` is among what is proved
+DEVIATIONS = ("C4", "C5", "C6", "C8")
+UNPROVED = "Nothing is proved by this: the program is not known to be the proved build."
+
+BROKEN = 5                          # the status of a refusal
+REFUSAL = re.compile(r"refused ([A-Z][0-9]) \S.*")
+HAZARD = re.compile(r"hazard (two|wrong) (\S+)")
+UNSAFE = re.compile(r"unsafe steps=[0-9]+ hazard=(two|wrong) (\S+)")
+DRIVEN = re.compile(r"hazard (two|wrong) (\S+) steps=[0-9]+")
+PROVED_SAFE = re.compile(r"safe k=(?:[1-9]|1[0-6])")
+
+
+@dataclass(frozen=True)
+class Answered:
+    """What one call of the program answered: its command and columns, the exit status, which is None if it
+    did not end by itself, and its output. `is_whole` tells whether the output was read to its end; `run` is
+    the text of the run that `replay` was given."""
+
+    command: str
+    columns: str
+    status: int | None
+    output: str
+    is_whole: bool = True
+    run: str = ""
+
+    @property
+    def line(self) -> str:
+        """The first line of the output."""
+        return self.output.partition("\n")[0]
+
+    @property
+    def call(self) -> str:
+        """The call in words."""
+        return f"irv {self.command} with {self.columns} columns"
+
+
+@dataclass(frozen=True)
+class Verdict:
+    """A verdict: its word, its sentence, and whether the program that answered is known to be proved."""
+
+    word: str
+    sentence: str
+    is_proved: bool
+
+    @property
+    def tone(self) -> str:
+        """How it is coloured: good, warn or bad. Only an answer of the proved program is good."""
+        tone = TONES[self.word]
+        return "warn" if tone == "good" and not self.is_proved else tone
+
+    @property
+    def line(self) -> str:
+        """The word and the sentence, and that nothing is proved if that is so."""
+        return f"{self.word}. {self.sentence}" + ("" if self.is_proved else f" {UNPROVED}")
+
+
+def verdict(answers: Iterable[Answered], is_proved: bool) -> Verdict:
+    """Returns the verdict of all answers about one configuration; `is_proved` tells whether the program
+    that gave them is known to be the proved one."""
+    known = list(answers)
+    for word, rule in ((HAZARD_FOUND, hazard_sentence), (SAFE_WITH_DEVIATIONS, deviations_sentence),
+                       (SAFE, safe_sentence), (REFUSED, refused_sentence)):
+        for answer in known:
+            sentence = rule(answer)
+            if sentence:
+                return Verdict(word, sentence, is_proved)
+    return Verdict(NOT_SHOWN, not_shown_sentence(known), is_proved)
+
+
+def hazard_words(kind: str, name: str) -> str:
+    """Returns a hazard in words."""
+    return f"a collision in section {name}" if kind == "two" else f"a derailment risk on points {name}"
+
+
+def hazard_sentence(answer: Answered) -> str | None:
+    """Returns the sentence of a hazard, or None if the answer tells none. A run of `replay` that begins in
+    another state than the initial one tells none."""
+    pattern, status = {"replay": (HAZARD, 0), "verify": (UNSAFE, 1), "drive": (DRIVEN, 1)}.get(
+        answer.command, (None, None))
+    match = pattern.fullmatch(answer.line) if pattern and answer.status == status else None
+    if match is None or answer.command == "replay" and answer.run.split("\n")[:2] != ["run 1", "start"]:
+        return None
+    return (f"A run from the initial state ends in {hazard_words(*match.groups())} (irv {answer.command}: "
+            f"{answer.line}).")
+
+
+def broken_rules(answer: Answered) -> Counter | None:
+    """Returns how often each rule is broken by the lines of a refusal, or None if it is no refusal."""
+    matches = [REFUSAL.fullmatch(line) for line in answer.output.splitlines()]
+    if answer.status != BROKEN or not matches or None in matches:
+        return None
+    return Counter(match[1] for match in matches)
+
+
+def counted(rules: Counter) -> str:
+    """Returns broken rules in words, each with its count."""
+    return ", ".join(f"{rule} ({count}x)" if count > 1 else rule for rule, count in sorted(rules.items()))
+
+
+def deviations_sentence(answer: Answered) -> str | None:
+    """Returns the sentence of a table that is safe though it breaks rules, or None if that isn't proved."""
+    rules = broken_rules(answer)
+    is_read = (answer.command, answer.columns) == ("check", "strict") and answer.is_whole \
+        and answer.output.endswith("\n")
+    if not (DEVIATIONS_ARE_PROVED and is_read and rules and set(rules) <= set(DEVIATIONS)):
+        return None
+    return f"No run of any length ends in a hazard. The table deviates from {counted(rules)}."
+
+
+def safe_sentence(answer: Answered) -> str | None:
+    """Returns the sentence of a safe table, or None if the answer doesn't prove it safe."""
+    is_clean = (answer.command, answer.columns, answer.status, answer.output) == (
+        "check", "strict", 0, "clean\n")
+    is_proved = answer.command == "verify" and answer.status == 0 and PROVED_SAFE.fullmatch(answer.line)
+    if not (answer.is_whole and is_clean or is_proved):
+        return None
+    return f"No run of any length ends in a hazard ({answer.call}: {answer.line})."
+
+
+def refused_sentence(answer: Answered) -> str | None:
+    """Returns the sentence of a broken rule, or None if the answer names none."""
+    rules = broken_rules(answer)
+    if rules is None:
+        return None
+    more = "" if answer.is_whole else ", and perhaps more"
+    return f"Broken rules: {counted(rules)}{more} ({answer.call}). No statement about safety."
+
+
+def not_shown_sentence(answers: list[Answered]) -> str:
+    """Returns what was answered, of which nothing shows the table safe or unsafe."""
+    said = [f"{answer.call}: {no_proof(answer)}" for answer in answers]
+    return f"No statement about safety. {'; '.join(said) if said else 'Nothing was asked'}."
+
+
+def no_proof(answer: Answered) -> str:
+    """Returns an answer that shows nothing, in words."""
+    return "no answer" if answer.status is None or not answer.line else answer.line
