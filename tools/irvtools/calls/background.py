@@ -1,4 +1,4 @@
-"""A call of the program that goes on beside other work, and can be ended."""
+"""A call of the program that runs beside other work, and can be ended."""
 
 import subprocess
 import time
@@ -10,7 +10,7 @@ END_SECONDS = 5         # in which a call that is ended has to be gone
 
 
 class Beside:
-    """A call that was begun. Its streams are files, so that it waits for nobody."""
+    """A call that runs. Its streams are files, so that it waits for nobody."""
 
     def __init__(self, program, words):
         self.words, self.begin = words, time.monotonic()
@@ -27,11 +27,11 @@ class Beside:
 
     @property
     def seconds(self):
-        """How long ago it was begun."""
+        """How long ago it began."""
         return time.monotonic() - self.begin
 
     def poll(self):
-        """The answer, where it has come."""
+        """The answer, or None if it hasn't come."""
         if self.answer is None and self.process.poll() is not None:
             seconds = self.seconds
             output, errors = (file.read_bytes().decode(errors="replace") for file in self.files[1:])
@@ -40,7 +40,7 @@ class Beside:
         return self.answer
 
     def end(self, why):
-        """Ends it, where it hasn't answered; answers what came of it."""
+        """Ends it if it hasn't answered; returns what came of it."""
         if self.poll() is None:
             seconds = self.seconds
             self.process.kill()

@@ -1,4 +1,4 @@
-"""Asks the proved program. What the page calls an answer comes from here, and from nowhere else."""
+"""Asks the program. What a page calls an answer comes from here, and from nowhere else."""
 
 import itertools
 import subprocess
@@ -10,8 +10,8 @@ REPLAY_SECONDS = 60
 
 
 class Answer:
-    """What a call said. `status` is None where it wasn't waited for, or where nothing could be
-    called; `trouble` then says which."""
+    """What a call answered. `status` is None if it was ended or nothing could be called; `trouble` then says
+    which."""
 
     def __init__(self, words, status, output, seconds, trouble=""):
         self.words, self.status, self.output = words, status, output
@@ -24,7 +24,7 @@ class Answer:
 
     @property
     def said(self):
-        """The first line, or what came in its place."""
+        """The first line, or what came instead."""
         return self.line or self.trouble or f"nothing, with status {self.status}"
 
 
@@ -33,18 +33,18 @@ class Program:
 
     def __init__(self, file, given):
         self.file, self.given = str(file), given
-        self.room = tempfile.TemporaryDirectory(prefix="irv-page-")
+        self.room = tempfile.TemporaryDirectory(prefix="irv-report-")
         self.replays, self.numbers = 0, itertools.count()
 
     def ask(self, words, seconds):
-        """Calls it, and waits so many seconds at most. A call that isn't waited for is ended."""
+        """Calls it, and waits for up to `seconds`. Then the call is ended."""
         begin = time.monotonic()
         try:
             done = subprocess.run([self.file, *words], input=self.given, capture_output=True,
                                   timeout=seconds, check=False)
         except subprocess.TimeoutExpired:
             return Answer(words, None, "", time.monotonic() - begin,
-                          f"not waited for: no answer within {seconds:g} seconds")
+                          f"no answer within {seconds:g} seconds")
         except OSError as fault:
             return Answer(words, None, "", 0.0, f"not called: {fault}")
         errors = done.stderr.decode(errors="replace").strip()
@@ -52,7 +52,7 @@ class Program:
                       time.monotonic() - begin, errors)
 
     def replay(self, columns, run):
-        """What it says of the text of a run."""
+        """What it answers to the text of a run."""
         file = Path(self.room.name, f"run{next(self.numbers)}")
         file.write_text(run, encoding="ascii")
         self.replays += 1
@@ -62,5 +62,5 @@ class Program:
 
 
 def replay_line(plant, hazard):
-    """The line by which replay tells a hazard of the page's own model, or none."""
+    """Returns the line by which replay names a hazard of the page's own model, or no hazard."""
     return "no hazard" if hazard is None else f"hazard {hazard[0]} {plant.name(hazard[1])}"

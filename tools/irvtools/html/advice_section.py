@@ -1,4 +1,4 @@
-"""Advice on the page: what an engineer looks for besides, marked as no answer."""
+"""Advice on the page: what an engineer also looks for, marked as no answer."""
 
 from irvtools.rules import advice
 from irvtools.rules.flank_protection import KINDS, NOTHING, POINT, crossing, flanks
@@ -9,14 +9,15 @@ from irvtools.model.phrases import join, way_words
 ASK_SECONDS = 30        # for table
 MOST_NAMES = 40         # that a sentence lists
 MOST_ROWS = 400         # of the table of ways
+KIND_WORDS = {"a board that it would pass closed": "a closed board", "nothing": "nothing"}
 
 
 def advice_part(page, unused):
     """All advice. `unused` are the routes that no run was found to use."""
-    page.head("Besides: advice, and no answer")
-    page.add(tag("p", text("What an engineer looks for in such a table, and no rule asks. irv answers "
-                           "nothing of it, and safety in the model doesn't rest on it: trains of the "
-                           "model stop at closed boards. What of it is wanted, the engineer says."),
+    page.head("Advice", "advice")
+    page.add(tag("p", text("This is advice, not an answer of irv. An engineer looks for it in such a table, "
+                           "but no rule asks for it. Safety in the model does not depend on it: trains of "
+                           "the model stop at closed boards. The engineer decides what applies."),
                  class_="small"))
     flank_advice(page)
     overlap_advice(page)
@@ -37,74 +38,78 @@ def names(things):
     return join(found[:MOST_NAMES]) + (f", and {left} more" if left > 0 else "")
 
 
-# -- flanks
+# -- flank protection
 
 def flank_advice(page):
     """What keeps vehicles out of each route's path."""
     found = [(route, flank) for route in page.plant.routes for flank in flanks(page.plant, route)]
     if not found:
-        say(page, "No route leads over a point, so no vehicle could run into a path over one.")
+        say(page, "No route leads over points, so no vehicle could run into a path from the side.")
         return
     kinds = {kind: sum(flank.guard.kind == kind for _, flank in found) for kind in KINDS}
     open_ = [one for one in found if one[1].guard.kind == NOTHING]
-    count = f"On {counted(len(found), 'way')} a vehicle" if len(found) > 1 else "On one way a vehicle"
-    say(page, f"{count} could run into a route's path over a point. What keeps it out: "
-              + "; ".join(f"{kind}: {number}" for kind, number in kinds.items()) + ".",
+    count = "In one place" if len(found) == 1 else f"In {len(found)} places"
+    say(page, f"Flank protection. {count} a vehicle could run into a route's path over points. It is kept "
+              "out by: " + "; ".join(f"{kind_words(kind)} {number}" for kind, number in kinds.items()) + ".",
         *(tag("p", text(open_words(page.plant, *one))) for one in open_[:MOST_NAMES]),
         flank_table(page.plant, found))
 
 
+def kind_words(kind):
+    """A kind of flank protection, in words."""
+    return KIND_WORDS.get(kind, kind)
+
+
 def open_words(plant, route, flank):
     """A way that nothing closes, in words."""
-    return (f"{route.name}: over {point_words(plant, flank)} nothing keeps out what comes from border "
+    return (f"{route.name}: over {point_words(plant, flank)} nothing stops a vehicle that comes from border "
             f"{plant.name(flank.guard.number)}.")
 
 
 def point_words(plant, flank):
-    """A point of a path, and its leg from which a vehicle would come."""
+    """Points of a path, and their leg from which a vehicle would come."""
     other = crossing(plant, flank.point)
     crosses = "" if other is None else \
-        f" (where lines cross at {plant.name(flank.point)} and {plant.name(other)})"
+        f" (lines cross at {plant.name(flank.point)} and {plant.name(other)})"
     return f"the {flank.leg} leg of {plant.name(flank.point)}{crosses}"
 
 
 def guard_words(plant, guard):
     """What keeps a vehicle out, with its name."""
     if guard.kind == NOTHING:
-        return f"nothing, from border {plant.name(guard.number)} on"
+        return f"nothing, from border {plant.name(guard.number)}"
     if guard.kind == POINT:
-        return f"{guard.kind}: {plant.name(guard.number)}"
-    return f"{guard.kind}: {plant.boards[guard.number].name}"
+        return f"{kind_words(guard.kind)}: {plant.name(guard.number)}"
+    return f"{kind_words(guard.kind)}: {plant.boards[guard.number].name}"
 
 
 def flank_table(plant, found):
-    """The ways in a table, which is shown where it is asked for."""
+    """The places in a table, which opens by a click."""
     rows = [[route.name, point_words(plant, flank), plant.name(flank.begin),
              guard_words(plant, flank.guard)] for route, flank in found[:MOST_ROWS]]
     left = len(found) - len(rows)
-    return tag("details", tag("summary", text("each way"))
-               + table(["route", "over", "from", "what keeps a vehicle out"], rows)
-               + (tag("p", text(f"Left out: {counted(left, 'way')} more.")) if left else ""))
+    return tag("details", tag("summary", text("each place"))
+               + table(["route", "over", "from", "kept out by"], rows)
+               + (tag("p", text(f"Left out: {left} more.")) if left else ""))
 
 
 # -- overlaps
 
 def overlap_advice(page):
-    """Overlaps that are lacking, and where overlaps end."""
+    """Missing overlaps, and where overlaps end."""
     plant = page.plant
     bare = advice.without_overlap(plant)
     if bare:
-        say(page, f"{counted(len(bare), 'route')} {'has' if len(bare) == 1 else 'have'} no overlap "
-                  f"behind the last board: {names(bare)}.")
+        say(page, f"{counted(len(bare), 'route')} without an overlap beyond the exit board: {names(bare)}.")
     going_on, outside = advice.overlap_ends(plant)
     for route in going_on[:MOST_NAMES]:
         last = route.overlap[-1]
-        say(page, f"The overlap of {route.name} ends at nothing: at the end of {plant.name(last)} no "
-                  f"board stands for trains that run {route.direction}, and the line goes on to "
+        say(page, f"The overlap of {route.name} does not end at a board: {plant.name(last)} has no board for "
+                  f"trains that run {route.direction}, and the line continues to "
                   f"{way_words(plant, last, route.direction)}.")
     if outside:
-        say(page, f"At the end of the network, behind which nothing is known, the overlap of "
-                  f"{names(outside)} ends.")
+        say(page, f"The overlap of {names(outside)} ends where the network ends. The configuration does not "
+                  "say what comes after.")
 
 
 # -- ways of the network
@@ -114,27 +119,29 @@ def way_advice(page):
     answer = page.ask(["table", "--columns", "free"], ASK_SECONDS)
     page.show_shortly(answer)
     if answer.status != 0:
-        say(page, "So the page doesn't know the ways of the network, and compares no routes with them.")
+        say(page, "The page does not know the candidate routes of the network, so it compares no routes with "
+                  "them.")
         return
     plant = page.plant
     ways = advice.Ways(plant, answer.output)
-    say(page, f"The network has {counted(ways.count, 'way')} from a board to the next or to where it "
-              f"ends, as irv table prints them; the table has {counted(len(plant.routes), 'route')}.")
-    for found, words in ((ways.to_boards(), "from one board to the next"),
-                         (ways.over_borders(), "out over a border that the table uses"),
-                         (ways.at_dead_ends(), "into or out of a border that the table doesn't use, as "
-                                               "one does with a dead end or a trap road")):
+    say(page, f"The network has {counted(ways.count, 'candidate route')} from a board to the next board or to "
+              f"the end of the network, as irv table prints them. The table has "
+              f"{counted(len(plant.routes), 'route')}.")
+    for found, words in ((ways.to_boards(), "from board to board"),
+                         (ways.over_borders(), "out of the area over a border that the table uses"),
+                         (ways.at_dead_ends(), "to or from a border that the table does not use, such as a "
+                                               "dead end or a trap road")):
         if found:
-            say(page, f"{counted(len(found), 'way')} {words} {'has' if len(found) == 1 else 'have'} no "
-                      f"route: {way_names(plant, found)}.")
+            say(page, f"{counted(len(found), 'candidate route')} {words} "
+                      f"{'is' if len(found) == 1 else 'are'} not in the table: {way_names(plant, found)}.")
     if ways.other:
-        say(page, f"{counted(len(ways.other), 'route')} "
-                  f"{'is no way' if len(ways.other) == 1 else 'are no ways'} of the network: "
-                  f"{names(ways.other)}.")
+        one = len(ways.other) == 1
+        say(page, f"{counted(len(ways.other), 'route')} of the table {'is' if one else 'are'} not a candidate "
+                  f"route of the network: {names(ways.other)}.")
 
 
 def way_names(plant, ways):
-    """Ways in words."""
+    """Candidate routes in words."""
     found = []
     for way in ways[:MOST_NAMES]:
         path = " ".join(plant.name(x) for x in way[1])
@@ -146,21 +153,21 @@ def way_names(plant, ways):
 # -- use
 
 def use_advice(page, unused):
-    """Routes, boards and points that are of no use, as it seems."""
+    """Routes, boards and points that seem to be of no use."""
     plant = page.plant
     if unused:
-        say(page, "No run was found in which a train uses "
-                  f"{names([plant.routes[r] for r in unused])} whole.")
+        say(page, f"No run was found in which a train uses the whole route: "
+                  f"{names([plant.routes[r] for r in unused])}.")
     boards = advice.unused_boards(plant)
     if boards:
-        say(page, f"No route begins or ends at {counted(len(boards), 'board')}: {names(boards)}.")
+        say(page, f"{counted(len(boards), 'board')} at which no route begins or ends: {names(boards)}.")
     one_way, never = advice.points_one_way(plant)
     for x, position, count in one_way[:MOST_NAMES]:
-        every = "The one route that locks" if count == 1 else f"Each of the {count} routes that lock"
-        say(page, f"{every} point {plant.name(x)} wants it {position}.")
+        every = "The only route that locks" if count == 1 else f"All {count} routes that lock"
+        verb = "needs" if count == 1 else "need"
+        say(page, f"{every} points {plant.name(x)} {verb} them in position {position}.")
     if never and plant.routes:
-        say(page, f"No route locks {counted(len(never), 'point')}: "
-                  f"{names([plant.sections[x] for x in never])}.")
+        say(page, f"Points that no route locks: {names([plant.sections[x] for x in never])}.")
 
 
 # -- faults with one cause
@@ -169,7 +176,7 @@ def cause_advice(page):
     """Faults that may be one."""
     for x, routes in advice.exchanged_legs(page.plant):
         name = page.plant.name(x)
-        say(page, f"All {len(routes)} routes that lead over point {name} and list it, list it in the "
-                  f"other position than the one that leads along their path ({names(routes)}). That may "
-                  f"be one fault, and not {len(routes)}: the legs plus and minus of {name} may be "
-                  "exchanged in the network.")
+        say(page, f"All {len(routes)} routes that lead over points {name} and list them, list them in the "
+                  f"position that does not lead along their path ({names(routes)}). This may be one mistake "
+                  f"instead of {len(routes)}: the legs plus and minus of {name} may be exchanged in the "
+                  "network.")

@@ -1,13 +1,16 @@
 """The command line of `irv --html`: writes the HTML report of a configuration."""
 
 import sys
+from pathlib import Path
 
 from irvtools.calls.program import Program
+from irvtools.calls.progress import Interrupted, Progress, interruptible
 from irvtools.html.options import Options, Refused, guard_files, guard_words, parser
 from irvtools.html.report import Report
 from irvtools.html.run_file import Given
 
 NOT_WRITTEN = 125       # an exit status that no answer of the program has
+NAME = "irv --html"
 
 
 def read_options(words):
@@ -21,15 +24,36 @@ def read_options(words):
     return options, None if options.run is None else Given(options.run)
 
 
+def written(options, given):
+    """Writes the report; returns it."""
+    report = Report(options, sys.stdin.buffer.read(), given, options.has_times)
+    report.progress = Progress(NAME)
+    options.out.write_text(report.make(), encoding="utf-8", errors="replace")
+    report.progress.say(f"{options.out} is written")
+    return report
+
+
+def print_result(options, report):
+    """Prints the verdict first, then the answers below it, and the certificate with its size."""
+    print(f"{options.out}: {report.verdict.line}")
+    for line in report.said:
+        print(f"  {line}")
+    if report.has_cert:
+        size = Path(options.cert).stat().st_size
+        print(f"{options.cert}: certificate, {size} bytes; --no-cert leaves none")
+
+
 def main(words):
     """Writes the report that the arguments ask for; returns the exit status."""
     sys.stdout.reconfigure(errors="surrogateescape")        # names of files may be any bytes
     try:
-        options, given = read_options(words)
-        page = Report(options, sys.stdin.buffer.read(), given, options.has_times)
-        options.out.write_text(page.make(), encoding="utf-8", errors="replace")
+        with interruptible():
+            options, given = read_options(words)
+            print_result(options, written(options, given))
     except (Refused, OSError) as fault:
-        print(f"irv --html: {fault}", file=sys.stderr)
+        print(f"{NAME}: {fault}", file=sys.stderr)
         return NOT_WRITTEN
-    print(f"{options.out}: {page.line}")
+    except Interrupted as fault:
+        print(f"{NAME}: interrupted; no report was written", file=sys.stderr)
+        return fault.status
     return 0

@@ -1,19 +1,19 @@
-"""The table of routes as a sheet that prints: a row for each route and a column for each of its entries,
-in the words of docs/SHEETS.md."""
+"""The interlocking table as a sheet that prints: a row for each route and a column for each of its entries,
+in the words of the CSV files."""
 
 from irvtools.rules.schema_rules import route_members
 from irvtools.html.markup import tag, text
 from irvtools.model.phrases import list_words
 
 LONGEST_CELL = 6000     # characters of a cell
-SHORT = 16              # characters of a name that stands in one line
+SHORT = 16              # characters of a name that stays in one line
 
 
 def sheet_part(page):
-    """The table of routes, on the page."""
+    """The interlocking table, on the page."""
     if not page.plant.routes:
         return
-    page.head("The table of routes")
+    page.head("Interlocking table", "table")
     known = route_members(page.plant.version)
     rows = [row(str(route.number), route.member, known) for route in page.plant.routes]
     page.add(tag("div", sheet("no.", known, rows), class_="wide"))
@@ -25,14 +25,14 @@ def heading(member):
 
 
 def sheet(first, known, rows):
-    """A sheet of some rows; `first` is the heading of what stands before each."""
+    """A sheet of some rows; `first` is the heading of what is before each."""
     head = tag("thead", tag("tr", "".join(
         tag("th", text(word)) for word in (first, *map(heading, known)))))
     return tag("table", head + tag("tbody", "\n".join(rows)), class_="sheet")
 
 
 def row(first, route, known, marked=(), class_=None):
-    """A row of the sheet, with the entries that are marked; `first` stands before it."""
+    """A row of the sheet, with the entries that are marked; `first` is before it."""
     return tag("tr", tag("th", text(first)) + "".join(
         tag("td", cell(route.get(member)), class_="differs" if member in marked else None)
         for member in known), class_=class_)
@@ -43,10 +43,10 @@ def cell(said):
     words = list_words(said) if isinstance(said, list) else [said or ""]
     line = " ".join(words)
     if len(line) > LONGEST_CELL:
-        return text(line[:LONGEST_CELL] + " … (left out)")
+        return text(line[:LONGEST_CELL] + " … (cut)")
     return " ".join(map(whole, words))
 
 
 def whole(word):
-    """A name that isn't broken at its hyphens, where it is short."""
+    """A short name, which isn't broken at its hyphens."""
     return tag("span", text(word), class_="whole") if "-" in word[:-1] and len(word) <= SHORT else text(word)

@@ -9,6 +9,10 @@ OF_VERIFY = ("columns", "depth", "conflicts", "cert")       # options that verif
 MOST_SECONDS = 999999
 STANDARD_INPUT, STANDARD_OUTPUT = "/proc/self/fd/0", "/proc/self/fd/1"
 USAGE = 7               # the program's exit status for wrong arguments
+SUBJECT = {"title": "the report's title (the configuration's file name)",
+           "project": "the project, on the report", "issue": "the issue or revision, on the report",
+           "author": "the author, on the report"}
+MOST_CHARACTERS = 200   # of a text of the report's subject
 WORDS_SECONDS = 20      # for its answer about them
 
 
@@ -35,6 +39,9 @@ def parser(status):
     line.once("--depth", "option of verify: the greatest k (4)", metavar="N")
     line.once("--conflicts", "option of verify: its budget (100000)", metavar="N")
     line.once("--cert", "where verify writes its certificate (OUT.cert)", metavar="FILE")
+    line.flag("--no-cert", "leave no certificate")
+    for name, words in SUBJECT.items():
+        line.once(f"--{name}", words, metavar="TEXT")
     line.program()
     return line
 
@@ -55,7 +62,12 @@ class Options:
         self.verify_seconds, self.search_seconds = given.verify_seconds, given.search_seconds
         self.run, self.has_times = given.run, not given.without_times
         self.columns = given.columns or "strict"
+        self.is_cert_kept = not given.no_cert
+        if given.no_cert and given.cert is not None:
+            raise Refused("--cert and --no-cert exclude each other")
         self.cert = given.cert if given.cert is not None else str(self.out.with_suffix(".cert"))
+        self.subject = {name: subject_text(name, getattr(given, name)) for name in SUBJECT
+                        if getattr(given, name) is not None}
 
     @property
     def words(self):
@@ -65,10 +77,17 @@ class Options:
 
     def files(self):
         """The files that are read or written, each with what it is; written ones come first."""
-        named = [(str(self.out), "the report"), (self.cert, "the certificate"),
-                 (STANDARD_INPUT, "standard input"), (STANDARD_OUTPUT, "standard output"),
+        certs = [(self.cert, "the certificate")] if self.is_cert_kept else []
+        named = [(str(self.out), "the report"), *certs, (STANDARD_INPUT, "standard input"), (STANDARD_OUTPUT, "standard output"),
                  (self.program, "the program")]
         return named + ([(self.run, "the file of --run")] if self.run is not None else [])
+
+
+def subject_text(name, said):
+    """Returns a text of the report's subject; refuses one that is empty, too long or not printable."""
+    if not said.strip() or len(said) > MOST_CHARACTERS or not said.isprintable():
+        raise Refused(f"--{name} needs 1 to {MOST_CHARACTERS} printable characters")
+    return said
 
 
 def name_of_input():
@@ -81,7 +100,7 @@ def name_of_input():
 
 
 def is_same(one, other):
-    """Whether two names are of one file, which may not be there yet. Devices and pipes are none."""
+    """Returns whether two names are of one file, which may not exist yet. Devices and pipes are none."""
     try:
         if not (os.path.exists(one) and os.path.exists(other)):
             return Path(one).resolve() == Path(other).resolve()
@@ -96,15 +115,14 @@ def guard_files(options):
     if not options.out.parent.is_dir():
         raise Refused(f"the directory {options.out.parent} does not exist")
     files = options.files()
-    for place, (file, what) in enumerate(files[:2]):
+    for place, (file, what) in enumerate(files[:1 + options.is_cert_kept]):
         for other, is_what in files[place + 1:]:
             if is_same(file, other):
                 raise Refused(f"{what} and {is_what} would be one file, {file}")
 
 
 def guard_words(options, program):
-    """Refuses options that verify refuses: asks `program` over an empty input, of which it comes to no
-    verdict."""
+    """Refuses options that verify refuses: asks `program` over an empty input, which has no verdict."""
     for name, value in options.of_verify.items():
         words = ["verify", f"--{name}={value}"]
         words += [] if name == "cert" else ["--cert=" + options.cert]

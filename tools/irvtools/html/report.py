@@ -1,10 +1,18 @@
-"""The page: its parts in order, each asked of the program or marked as the page's own."""
+"""The report: the verdict first, then its parts in order. Each answer is the program's; the rest is marked
+as the report's own."""
+
+from pathlib import Path
 
 from irvtools.rules import schema_rules
 from irvtools.html.advice_section import advice_part
 from irvtools.calls.program import Program
+from irvtools.calls.progress import Progress
+from irvtools.calls.proved_program import is_proved
+from irvtools.calls.verdict import Answered, verdict
 from irvtools.html.rules_section import rules_part
 from irvtools.trackplan.drawing import Drawing
+from irvtools.trackplan.signs import legend
+from irvtools.html.run_frames import HAZARD_ID
 from irvtools.html.run_section import given_part
 from irvtools.html.markup import code, tag, text
 from irvtools.model.plant import Plant
@@ -12,53 +20,63 @@ from irvtools.html.control_table import sheet_part
 from irvtools.html.routes_section import routes_part
 from irvtools.model.phrases import join
 from irvtools.html.assessment_section import safety_part
-from irvtools.html.style import CSS
+from irvtools.html.style import document
 from irvtools.html.verdict_section import verdict_part
 
 ASK_SECONDS = 60        # for check
+VERDICT_ID = "verdict"
 
 
 class Report:
-    """A page that is being made."""
+    """A report that is being made."""
 
     def __init__(self, options, given, given_run=None, has_times=True):
         self.options, self.given, self.given_run = options, given, given_run
         self.has_times = has_times      # whether it tells how long things took
         self.program = Program(options.program, given)
+        self.progress = Progress("irv")
         self.calls = []         # of the program, for the safety case
-        self.parts = []
-        self.plant = self.drawing = None
-        self.suspects = []      # where the hunt should look
+        self.answered = []      # what the verdict is taken from
+        self.parts, self.heads, self.ids = [], [], set()
+        self.plant = self.drawing = self.verdict = None
+        self.suspects = []      # routes at which the search begins
         self.is_refused = self.is_endangered = False    # a rule is broken; one that safety rests on
-        self.said = []          # what the page answers, in one line
-        self.summary = []       # what comes first on the page
-
-    @property
-    def line(self):
-        """What the page answers, in one line."""
-        return "; ".join(self.said)
+        self.has_cert = False   # whether a certificate is left
+        self.said = []          # the answers in lines, below the verdict
+        self.summary = []       # the same with markup
 
     def add(self, *markup):
         """Writes on."""
         self.parts.extend(markup)
 
-    def head(self, title):
-        """A part's title."""
-        self.add(tag("h2", text(title)))
+    def head(self, title, id_):
+        """A part's title, to which the table of contents leads."""
+        self.heads.append((title, id_))
+        self.add(tag("h2", text(title), id=id_))
 
     def own(self, words):
-        """A remark on what is the page's own."""
+        """A comment on what is the report's own."""
         self.add(tag("p", text(words), class_="own"))
 
+    def sum_up(self, head, line, *markup):
+        """A line below the verdict, on the page and as it is printed; markup may come after it."""
+        self.said.append(f"{head}: {line}")
+        self.summary.append(tag("b", text(f"{head}: ")) + text(line) + "".join(markup))
+
     def time(self, words):
-        """Words that tell how long something took, where the page tells that."""
+        """Words that tell how long something took, if the report tells that."""
         return words if self.has_times else ""
 
     def ask(self, words, seconds):
         """Asks the program, and notes the call."""
+        self.progress.say(f"irv {' '.join(words)}")
         answer = self.program.ask(words, seconds)
         self.calls.append(answer)
         return answer
+
+    def count(self, answer, columns, run=""):
+        """Counts an answer for the verdict."""
+        self.answered.append(Answered(answer.words[0], columns, answer.status, answer.output, True, run))
 
     def show(self, answer):
         """A call with its answer."""
@@ -76,39 +94,43 @@ class Report:
     # -- the parts
 
     def make(self):
-        """The whole page."""
+        """The whole report."""
         answer = self.ask(["check", "--columns", "strict"], ASK_SECONDS)
+        self.count(answer, "strict")
         lines = [line for line in answer.output.splitlines() if line.startswith("refused ")]
         self.is_refused = bool(lines)
-        if answer.status != 0 or not self.is_read(answer, lines):
-            self.said.append(first_of(lines) if lines else answer.said)
         if self.is_read(answer, lines):
             self.read_plant()
-        self.beginning()
+        self.plan_part()
         if self.plant is None and self.is_read(answer, lines):
-            self.own("The page can't read what irv reads, so there are no pictures and no runs.")
+            self.own("The report cannot read what irv reads, so it has no pictures and no runs.")
         rules_part(self, answer, lines)
         is_plant = answer.status == 0 or lines and lines[0].startswith("refused C")
         if self.plant and is_plant:
             self.of_plant("free" if lines else self.options.columns)
         elif self.given_run:
-            self.own(f"The file {self.given_run.name} isn't shown: without a plant it is neither a run "
-                     "nor a scenario.")
+            self.own(f"{self.given_run.name} is not shown: a configuration that is not a plant has no runs "
+                     "and no scenarios.")
+        self.has_cert = self.is_cert_left()
         safety_part(self)
-        summary = "".join(tag("li", line) for line in self.summary)
-        self.parts[1:1] = [tag("ul", summary, class_="sum")]
         return self.whole()
 
     def of_plant(self, columns):
         """The parts that ask about a plant."""
         if not self.plant.routes:
-            self.summary.append(text(no_train_moves(self.plant)))
+            self.sum_up("Movements", no_train_moves(self.plant))
+        verdict_part(self, columns, self.is_refused)
         if self.given_run:
             given_part(self, columns)
-        verdict_part(self, columns, self.is_refused)
-        sheet_part(self)
+        self.progress.say("runs that use the routes")
         unused = routes_part(self, columns)
         advice_part(self, unused)
+        sheet_part(self)
+
+    def is_cert_left(self):
+        """Whether verify wrote a certificate that stays."""
+        wrote = any(call.words[0] == "verify" and call.status in (0, 4) for call in self.calls)
+        return wrote and self.options.is_cert_kept and Path(self.options.cert).is_file()
 
     def is_read(self, answer, lines):
         """Whether the configuration has the form of one."""
@@ -121,47 +143,76 @@ class Report:
             self.plant = Plant(value)
             self.drawing = Drawing(self.plant)
 
-    def beginning(self):
-        """The title, and the track plan."""
-        self.add(tag("h1", text(self.options.name)))
+    def plan_part(self):
+        """The track plan with its legend."""
         plant = self.plant
         if plant is None:
             return
         self.add(self.drawing.definitions())
-        self.add(tag("p", text(
-            f"Sections: {len(plant.sections)}, points among them: {len(plant.points)}; boards: "
-            f"{len(plant.boards)}; routes: {len(plant.routes)}."), class_="small"))
-        self.head("Track plan")
+        self.head("Track plan", "plan")
+        self.add(tag("p", text(counts_words(plant)), class_="small"))
         self.add(self.drawing.plan())
         if self.drawing.is_torn():
-            self.own("Sections that don't fit: a joint that no row fits is a dotted red line, and one "
-                     "that would close a circle is left out.")
-        self.add(tag("p", text("Boards above a line stand for trains that run up, from left to right, "
-                               "and those below it for trains that run down. The names of points are "
-                               "slanted. The plan is drawn by the neighbours that the configuration "
-                               "gives, and its lengths mean nothing."), class_="small"))
+            self.own("Some sections do not fit into the plan. A joint that fits no row is a dotted red line, "
+                     "and a joint that would close a circle is left out.")
+        self.add(legend())
+        self.add(tag("p", text("Boards above a line are for trains that run up, from left to right; boards "
+                               "below it are for trains that run down. Names of points are slanted. The plan "
+                               "is drawn from the neighbours in the configuration. It is not to scale."),
+                     class_="small"))
+
+    # -- the whole
+
+    def heading(self):
+        """The title, the subject, the verdict with the answers below it, and the table of contents."""
+        subject = self.options.subject
+        facts = [f"{name.capitalize()}: {subject[name]}" for name in ("project", "issue", "author")
+                 if name in subject]
+        if "title" in subject:
+            facts.append(f"Configuration: {self.options.name}")
+        self.verdict = verdict(self.answered, is_proved(self.options.program_file))
+        return [tag("h1", text(self.title)),
+                tag("p", text(" · ".join(facts)), class_="subject") if facts else "",
+                self.verdict_line(),
+                tag("ul", "".join(tag("li", line) for line in self.summary), class_="sum"),
+                tag("nav", "".join(tag("a", text(title), href=f"#{id_}") for title, id_ in self.heads),
+                    class_="toc", aria_label="Contents")]
+
+    def verdict_line(self):
+        """The verdict in one coloured line, with a link to the hazard."""
+        _, _, rest = self.verdict.line.partition(". ")
+        link = tag("a", text("Show the hazard"), href=f"#{HAZARD_ID}") if HAZARD_ID in self.ids else ""
+        return tag("p", tag("b", text(self.verdict.word)) + text(rest) + (f" {link}" if link else ""),
+                   class_=f"verdict {self.verdict.tone}", id=VERDICT_ID, data_word=self.verdict.word)
+
+    @property
+    def title(self):
+        """The report's title."""
+        return self.options.subject.get("title", self.options.name)
 
     def whole(self):
-        """The page as a document."""
-        foot = ("Proved is what <code>irv</code> answered: the lines of check, verify and replay, in "
-                "blue or in the letters of a machine beside its name. The pictures, the sentences, the "
-                "hunt, the runs through the routes and what is marked in yellow are by tools/html, "
-                "which isn't proved; each run that is drawn was answered by <code>irv replay</code>.")
-        return ("<!doctype html>\n<html lang=\"en\"><head><meta charset=\"utf-8\">"
-                f"<title>{text(self.options.name)}: irv</title><style>{CSS}</style></head><body>\n"
-                + "\n".join(self.parts) + tag("p", foot, class_="foot small") + "\n</body></html>\n")
+        """The report as a document."""
+        foot = ("The answers of <code>irv</code> are proved if the program is the proved build: the lines of "
+                "check, verify, replay and drive, in blue or in a machine's letters beside its name. The "
+                "pictures, the sentences, the search, the runs through the routes and what is marked in "
+                "yellow are made by tools/html, which is not proved. <code>irv replay</code> answered each "
+                "run that is drawn.")
+        head = self.heading()
+        return document(f"{self.title}: {self.verdict.word}, irv",
+                        "\n".join(filter(None, [*head, *self.parts])) + tag("p", foot, class_="foot small"))
 
 
-def first_of(lines):
-    """The first of the lines of check, and how many more there are."""
-    return lines[0] + (f" and {len(lines) - 1} more" if len(lines) > 1 else "")
+def counts_words(plant):
+    """What a plant has, in numbers."""
+    return (f"{len(plant.sections)} sections, {len(plant.points)} of them with points; "
+            f"{len(plant.boards)} boards; {len(plant.routes)} routes.")
 
 
 def no_train_moves(plant):
     """What holds of a table without routes."""
     bare = [plant.name(x) for x, inward in plant.inward.items() if (x, inward) not in plant.board_on]
     if not bare:
-        return ("The table has no routes, so no board ever opens: no train can move but come in, to the "
-                "board of the border.")
-    return ("The table has no routes, so no board ever opens: no train can move but those that come in "
-            f"where the border has no board, at {join(bare)}.")
+        return ("The table has no routes, so no board opens. A train can enter, but it stops at the board of "
+                "its border.")
+    return ("The table has no routes, so no board opens. Only trains that enter at a border without a board "
+            f"can move: {join(bare)}.")

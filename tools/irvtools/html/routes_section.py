@@ -1,4 +1,4 @@
-"""What each route is good for, on the page."""
+"""Which routes a train can use, on the page."""
 
 import time
 from concurrent.futures import ThreadPoolExecutor
@@ -11,31 +11,31 @@ from irvtools.search.route_uses import uses
 from irvtools.model.descriptions import counted
 
 USE_SECONDS = 5         # to find the runs that use routes
-HUNT_SECONDS = 2        # for random runs through others
+SEARCH_SECONDS = 2      # for random runs through others
 ANSWER_SECONDS = 5      # for the answers about them
 
 
 def routes_part(page, columns):
-    """What each route is good for. Answers the routes that no run was found to use, where there was time
+    """Which routes a train can use. Returns the routes for which no such run was found, if there was time
     to look for all."""
-    page.head("What each route is good for")
+    page.head("Routes that a train can use", "routes")
     if not page.plant.routes:
         page.add(tag("p", text("The table has no routes.")))
         return []
     found, is_all = uses(page.plant, USE_SECONDS)
     if len(found) < len(page.plant.routes) and page.options.search_seconds:
-        hunt = RandomSearch(page.plant, suspects=page.suspects)
-        hunt.for_hazard(min(HUNT_SECONDS, page.options.search_seconds))
-        found = {**hunt.used, **found}
-    answers = answered(RunView(page.program, columns, page.plant, page.drawing), found)
+        search = RandomSearch(page.plant, suspects=page.suspects)
+        search.for_hazard(min(SEARCH_SECONDS, page.options.search_seconds))
+        found = {**search.used, **found}
+    answers = answered(RunView(page, columns, "use"), found)
     good = sum(said == "no hazard" for said in answers.values())
     rows = [[route_cell(route), use_cell(page.plant, found.get(r), answers.get(r))]
             for r, route in enumerate(page.plant.routes)]
-    introduce(page, good, len(rows))
-    if not is_all or len(answers) < len(found):
-        page.own(f"Left out for want of time: {'' if is_all else 'runs that use further routes, and '}"
-                 f"answers of irv replay about {counted(len(found) - len(answers), 'run')}.")
-        page.summary[-1] += text("; others were left out for want of time")
+    is_whole = is_all and len(answers) == len(found)
+    introduce(page, good, len(rows), is_whole)
+    if not is_whole:
+        page.own(f"Left out, because there was no time: {'' if is_all else 'runs through further routes, and '}"
+                 f"answers of irv replay to {counted(len(found) - len(answers), 'run')}.")
     page.add(table(["route", "a train uses it"], rows, "routes"))
     return [r for r in range(len(rows)) if r not in found] if is_all else []
 
@@ -50,21 +50,20 @@ def answered(view, found):
     return answers
 
 
-def introduce(page, good, count):
+def introduce(page, good, count, is_whole):
     """What the table of routes shows, in words."""
-    page.summary.append(tag("b", text("Routes that a train can use: ")) + text(
-        f"{good} of {count}, by runs that irv replay answered"))
+    more = "" if is_whole else "; for others there was no time"
+    page.sum_up("Routes that a train can use", f"{good} of {count}{more}")
     page.add(tag("p", text(
-        f"For {good} of {count} routes a run from the start was found in which one train uses "
-        "the route whole, from its being asked for to its being finished; irv replay answered "
-        "“no hazard” to each. The runs are the page's own. A route for which none is found may be "
-        "of no use. Safety doesn't ask for use: where each border has its board (C7) and no board "
-        "ever opens, no train moves on, and so no two meet.")))
+        f"For {good} of {count} routes the page found a run from the initial state in which one train uses "
+        "the whole route, from its request to its finish. irv replay answered “no hazard” to each of these "
+        "runs. A route without such a run may be unusable. Usability is not part of safety: if each border "
+        "has its board (C7) and no board ever opens, no train moves on, so no two trains meet.")))
 
 
 def route_cell(route):
     """A route's number, its name and its ends."""
-    ends = f"from {route.member['source']} to {route.member['destination'] or 'out'}"
+    ends = f"from {route.member['source']} to {route.member['destination'] or 'out of the area'}"
     return "", (tag("div", text(f"{route.number}: ") + tag("b", text(route.name)))
                 + tag("div", text(ends)))
 
@@ -74,7 +73,7 @@ def use_cell(plant, run, said):
     if run is None:
         return "bad", text("not found")
     if not said:
-        return "", text("found, and not answered by irv replay")
+        return "", text("found, but irv replay was not asked")
     if said != "no hazard":
         return "bad", text(f"irv replay: {said}")
     events = "\n".join(event_line(plant, event) for event in run)

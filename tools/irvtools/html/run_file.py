@@ -1,4 +1,4 @@
-"""A run or a scenario that the caller gives, as a file. Its head says which of the two it is."""
+"""A run or a scenario that the caller gives, as a file. Its first line says which of the two it is."""
 
 from pathlib import Path
 
@@ -10,7 +10,8 @@ MOST_BYTES = 1048576    # of a run that is read; of a scenario the program reads
 HEADS = {"run 1": "run", "drive 1": "drive"}
 POINT_WORDS = ("throw", "settle")
 COMMANDS = ("mark", "enter", "cancel")      # what a scenario has
-LONGEST_WORD = 60       # of a line that is cited
+LONGEST_WORD = 60       # of a line that is quoted
+MORE = "the line has more than an event and a name"
 
 
 class Given:
@@ -22,19 +23,20 @@ class Given:
             with open(name, "rb") as file:
                 self.data = file.read(MOST_BYTES + 1)
         except OSError as fault:
-            raise Refused(f"--run {name} can't be read: {fault.strerror}") from fault
+            raise Refused(f"cannot read --run {name}: {fault.strerror}") from fault
         except ValueError as fault:
-            raise Refused(f"--run {name} can't be read: {fault}") from fault
+            raise Refused(f"cannot read --run {name}: {fault}") from fault
         self.text = self.data.decode(errors="replace")
         self.lines = self.text.split("\n")
         self.kind = HEADS.get(self.lines[0])
         if self.kind is None:
             raise Refused(f"--run {name} is neither a run nor a scenario: its first line is "
-                          f"{quoted(self.lines[0])}, and not {' or '.join(map(quoted, HEADS))}")
+                          f"{quoted(self.lines[0])}, not {' or '.join(map(quoted, HEADS))}")
+        self.what = "run" if self.kind == "run" else "scenario"
 
     def ask(self, program, columns, seconds):
-        """What `irv replay` or `irv drive` says of it. The call is told with the file's name, and made
-        with a copy, since the name may be that of a pipe."""
+        """What `irv replay` or `irv drive` answers. The call is shown with the file's name, but made with a
+        copy, because the name may be that of a pipe."""
         copy = Path(program.room.name, "given")
         copy.write_bytes(self.data)
         command = "replay" if self.kind == "run" else "drive"
@@ -43,8 +45,8 @@ class Given:
         return answer
 
     def first_event(self):
-        """The number of the line, from 0, at which a run's events begin; None where its head is
-        wrong."""
+        """The number of the line, from 0, at which a run's events begin; None if its first
+        lines are wrong."""
         if self.lines[1:2] == ["start"]:
             return 2
         if self.lines[1:2] == ["state"] and "events" in self.lines:
@@ -53,7 +55,7 @@ class Given:
 
     def read(self, plant, end=None):
         """The state in which a run begins, None for the start, and its events, up to its last line or
-        to a line by its number from 1; None where its head isn't whole. The lines before are right."""
+        to a line by its number from 1; None if its first lines aren't whole. The lines before are right."""
         begin = self.first_event()
         if begin is None or end is not None and end <= begin:
             return None
@@ -67,55 +69,53 @@ class Given:
 
 
 def quoted(line):
-    """A line as it is cited, cut where it is long."""
+    """A line as it is quoted, cut if it is long."""
     return f"“{line[:LONGEST_WORD]}{'…' if len(line) > LONGEST_WORD else ''}”"
 
 
 def bad_line(given, plant, number):
-    """Why a line, by its number from 1, can't stand where it stands: the page's own words."""
+    """Why a line, by its number from 1, is wrong: the page's own words."""
     lines = given.lines
     if number > len(lines) or number == len(lines) and not lines[-1]:
-        return f"Line {number} is missing: the last line has to be “end”."
+        return f"Line {number} is missing: the last line must be “end”."
     line = lines[number - 1]
     here = f"Line {number} is {quoted(line)}"
     if number == len(lines):
-        return f"{here}, and no line feed ends it."
+        return f"{here}, without a line feed."
     if "end" in lines[:number - 1]:
-        return f"{here}, and nothing may stand after “end”."
+        return f"{here}, but nothing may follow “end”."
     if given.kind == "run" and number == 2:
-        return f"{here}; it has to be “start” or “state”."
+        return f"{here}, but must be “start” or “state”."
     begin = 1 if given.kind == "drive" else given.first_event()
     if begin is None or number <= begin:
-        return f"{here}; {state_line_wanted(given, plant, number)}"
+        return f"{here}; {state_line_expected(given, plant, number)}"
     return f"{here}: {bad_event(plant, line, COMMANDS if given.kind == 'drive' else EVENTS)}."
 
 
-def state_line_wanted(given, plant, number):
-    """What a line of a state has to be."""
+def state_line_expected(given, plant, number):
+    """What a line of a state must be."""
     wanted = state_lines(plant, State(plant))
     place = number - 3
     if place < len(wanted):
         kind, name = wanted[place].split(" ")[:2]
-        return f"here stands the line of {'board' if kind == 'board' else kind} {name}, as " \
-               f"“{wanted[place]}” is one."
-    return "here stand the lines of trains, as “train up” and their sections from tail to head, each " \
-           "next to the one before, and then “events”."
+        return f"this must be the line of {kind} {name}, for example “{wanted[place]}”."
+    return "here come the lines of trains: “train up” or “train down” and the train's sections from rear " \
+           "to front, each next to the one before. After them comes “events”."
 
 
 def bad_event(plant, line, words):
     """What is wrong with the line of an event or of a command."""
     word, _, name = line.partition(" ")
     if word not in words:
-        return f"{quoted(word)} isn't one of {', '.join(words)} and “end”"
+        return f"{quoted(word)} is not one of {', '.join(words)} and “end”"
     if word in ROUTE_WORDS:
-        return "the line isn't written as one is" if name in plant.route_named \
-            else f"there is no route {quoted(name)}"
+        return MORE if name in plant.route_named else f"route {quoted(name)} does not exist"
     if name not in plant.section_named:
-        return f"there is no section {quoted(name)}"
+        return f"section {quoted(name)} does not exist"
     x = plant.section_named[name]
     if word in POINT_WORDS and not plant.sections[x].is_point:
-        return f"section {name} isn't a point, and {word} is of points"
-    return "the line isn't written as one is"
+        return f"section {name} has no points, so {word} does not apply"
+    return MORE
 
 
 def driven(plant, output):

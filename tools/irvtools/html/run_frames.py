@@ -1,8 +1,9 @@
 """A run, step by step in the plan: a frame for each event.
 
 Each prefix that is drawn is answered by `irv replay`, and so is the rest of the run from each state
-that is drawn. Where the page's own states don't agree with these answers, the run ends there with a
-plain word.
+that is drawn. If the page's own states don't agree with these answers, the run ends there, and the page
+says so. The last frame comes first. An event that moves no train and opens no board has a frame that is
+folded.
 """
 
 import time
@@ -15,24 +16,27 @@ from irvtools.html.markup import tag, text
 from irvtools.trackplan.marks import Marks
 from irvtools.model.state import event_line, run_text
 from irvtools.model.descriptions import event_words, hazard_words, state_words
+from irvtools.model.train_numbers import numbered
 
 MOST_SECONDS = 12       # for the answers about one run
 AT_ONCE = 4             # calls
-PICTURED = ("enter", "head", "lock")    # events that have a picture on paper too, the last of a run
+MOVING = ("enter", "head", "tail", "leave", "lock")     # events whose frames are not folded
+ON_PAPER = ("enter", "head", "lock")    # events that have a picture on paper too, and the last of a run
 MOST_PICTURED = 10
-LEGEND = ("Orange, green and grey: sections whose lock is used, locked, free. Red and green boards are "
-          "closed and open. The leg to which a point doesn't lie is dashed; a point with a red dot "
-          "moves. Trains are violet where they run up, and blue where they run down. Yellow is what "
-          f"the event is about. On paper only the last {MOST_PICTURED} events by which a train comes in or "
-          "moves on or a board opens have a picture, and the last of all.")
+HAZARD_ID = "hazard"    # of the page's first hazard
+NOTE = ("The signs are explained below the track plan. Marked in yellow is what an event is about. Events "
+        "that move no train and open no board are folded: a click opens their plan. On paper only the last "
+        f"{MOST_PICTURED} events by which a train enters or moves on or a board opens have a picture, and the "
+        "last event.")
 
 
 class RunView:
-    """Draws runs over a plant, with the answers of a program under some columns."""
+    """Draws runs over a plant, with the answers of a program under some columns. The ids of the frames
+    begin with `name`; `page_ids` has the ids that the page has already."""
 
-    def __init__(self, program, columns, plant, drawing):
-        self.program, self.columns = program, columns
-        self.plant, self.drawing = plant, drawing
+    def __init__(self, page, columns, name):
+        self.program, self.columns, self.name = page.program, columns, name
+        self.plant, self.drawing, self.page_ids = page.plant, page.drawing, page.ids
 
     def answer(self, events, state=None):
         """What replay says of a run."""
@@ -46,12 +50,12 @@ class RunView:
         """Replay's answer on a prefix of a run, and what doesn't agree with it, if anything."""
         said, own = self.answer(events[:place], first), self.own(states[place])
         if said != own:
-            return said, (f"irv replay says “{said}” of the run up to here, and the page's own model "
+            return said, (f"irv replay answers “{said}” for the run up to here, but the page's own model "
                           f"says “{own}”.")
         rest, last = self.answer(events[place:], states[place]), self.own(states[-1])
         if rest != last:
-            return said, (f"irv replay says “{rest}” of the rest of the run from the state that is "
-                          f"drawn, and the page's own model says “{last}”.")
+            return said, (f"irv replay answers “{rest}” for the rest of the run from the drawn state, but "
+                          f"the page's own model says “{last}”.")
         return said, None
 
     def all_asked(self, events, states, first):
@@ -66,26 +70,46 @@ class RunView:
         return answers
 
     def frames(self, events, first=None, marks_at_end=None, after_end=""):
-        """The frames of a run, from a state or from the start. The last one may have marks of its own
-        and markup after it."""
+        """The frames of a run, from a state or from the initial one: the last frame, then the steps that
+        lead to it. The last frame may have marks of its own and markup after it."""
         states = states_of(self.plant, events, first)
         if states is None:
-            return trouble("The page's own model takes these events for no run, so they aren't drawn.")
-        answers, shown = self.all_asked(events, states, first), []
-        for place in range(len(states)):
-            if place not in answers:
-                continue
+            return trouble("The page's own model does not accept these events as a run, so they are not "
+                           "drawn.")
+        answers, shown = self.all_asked(events, states, first), {}
+        numbers, fault = numbered(states, events), None
+        for place in filter(answers.__contains__, range(len(states))):
             said, fault = answers[place]
             if fault:
-                return "".join(shown) + trouble(f"Here the page stops. {fault}")
-            last = place == len(states) - 1
-            marks = marks_at_end if last and marks_at_end else self.marks(events, place, states)
-            shown.append(self.frame(events, place, states, marks, said)
-                         + (after_end if last else ""))
-        if len(answers) < len(states):
-            shown.append(trouble(f"Left out for want of time: {len(states) - len(answers)} of "
-                                 f"{len(states)} frames, before the last one."))
-        return "".join(shown)
+                break
+            is_last = place == len(states) - 1
+            marks = marks_at_end if is_last and marks_at_end else self.marks(events, place, states)
+            shown[place] = self.frame(events, place, states, marks, (said, numbers[place])) \
+                + (after_end if is_last else "")
+        tail = trouble(f"The page stops here. {fault}") if fault else ""
+        if not fault and len(answers) < len(states):
+            tail = trouble(f"Left out, because there was no time: {len(states) - len(answers)} of "
+                           f"{len(states)} frames, before the last one.")
+        return self.arranged(shown, events, tail)
+
+    def arranged(self, shown, events, tail):
+        """The frames in their order on the page: the last one first, then the others. Folded frames stand
+        with the picture that follows them."""
+        last = shown.pop(len(events), None)
+        parts = [tag("div", last, class_="last")] if last else []
+        if shown:
+            links = "".join(tag("a", str(place), href=f"#{self.frame_id(place)}") + " "
+                            for place in shown if not is_folded(events, place))
+            parts.append(tag("p", text("Steps: ") + links, class_="steps small") if links else "")
+        steps, step = [], ""
+        for place, frame in shown.items():
+            step += frame
+            if not is_folded(events, place):
+                steps.append(tag("div", step, class_="step"))
+                step = ""
+        steps += [tag("div", step, class_="step")] if step else []
+        parts.append(self.drawing.beside("".join(steps) + tail) if steps or tail else "")
+        return "".join(parts)
 
     def marks(self, events, place, states):
         """What an event is about, and the hazard after it."""
@@ -109,31 +133,54 @@ class RunView:
             section = number
         return Marks([section, where], hazard=where)
 
-    def frame(self, events, place, states, marks, said):
-        """A frame: the event, what it does, what is in use, replay's answer, and the plan."""
+    def frame_id(self, place):
+        """The id of a frame."""
+        return f"{self.name}-{place}"
+
+    def hazard_link(self):
+        """What makes the page's first hazard the aim of a link."""
+        if HAZARD_ID in self.page_ids:
+            return ""
+        self.page_ids.add(HAZARD_ID)
+        return tag("span", id=HAZARD_ID)
+
+    def frame(self, events, place, states, marks, answered):
+        """A frame: the event, what it does, what is in use, replay's answer, and the plan. `answered` is
+        replay's answer with the numbers of the trains."""
         plant, state = self.plant, states[place]
+        said, numbers = answered
         if place:
             title = f"{place}. {event_line(plant, events[place - 1])}"
             what = event_words(plant, states[place - 1], events[place - 1], state)
         else:
-            title, what = "At first", "" if events else "The state."
+            title, what = "The first state", ""
         words = [tag("span", text(title), class_="what"), text(what)]
         at = hazard(plant, state)
         if at:
             words.append(tag("b", text(hazard_words(plant, at)), class_="bad"))
+        head = (self.hazard_link() if at else "") + " ".join(words)
         small = " · ".join(filter(None, [text(state_words(plant, state)),
                                          f"irv replay: <code>{text(said)}</code>"]))
-        is_pictured = place == len(events) or place in pictured(events)
-        return tag("div", tag("p", " ".join(words)) + tag("p", small, class_="small")
-                   + self.drawing.frame(state, marks, title),
-                   class_="frame" if is_pictured else "frame minor")
+        body = tag("p", small, class_="small") + self.drawing.frame(state, marks, title, numbers)
+        if is_folded(events, place):
+            return tag("details", tag("summary", head) + body, class_="frame minor", id=self.frame_id(place))
+        is_printed = place == len(events) or place in pictured(events)
+        return tag("div", tag("p", head) + body, id=self.frame_id(place),
+                   class_="frame" if is_printed else "frame paperless")
+
+
+def is_folded(events, place):
+    """Whether the frame after so many events is folded."""
+    if place == len(events):
+        return False
+    return place == 0 or events[place - 1][0] not in MOVING
 
 
 def pictured(events):
     """The places of the events of a run that have a picture on paper too, but for its last."""
-    return [place for place, (word, _) in enumerate(events[:-1], 1) if word in PICTURED][-MOST_PICTURED:]
+    return [place for place, (word, _) in enumerate(events[:-1], 1) if word in ON_PAPER][-MOST_PICTURED:]
 
 
 def trouble(words):
-    """A plain word where the page can't go on."""
+    """A sentence at the place at which the page can't go on."""
     return tag("p", text(words), class_="own bad")

@@ -1,17 +1,17 @@
-"""A run or a scenario of the caller, on the page: step by step, up to where it ends or can't go on, and
-why it can't."""
+"""A run or a scenario of the caller, on the page: step by step, up to its end or to the event that isn't
+enabled, and why it isn't."""
 
 from irvtools.model.disabled_events import unmet_words
 from irvtools.model.events import apply, hazard
 from irvtools.html.run_file import COMMANDS, bad_line, driven
-from irvtools.html.markup import code, tag, text
-from irvtools.html.run_frames import LEGEND, RunView, trouble
+from irvtools.html.markup import tag, text
+from irvtools.html.run_frames import NOTE, RunView, trouble
 from irvtools.model.state import State, event_line
 from irvtools.model.waiting import waiting
 from irvtools.model.descriptions import counted, hazard_words
 
 ASK_SECONDS = 60        # for replay or drive
-ANSWERED = (0, 1, 6)    # their statuses where they answer
+ANSWERED = (0, 1, 6)    # their statuses if they answer
 MOST_DRAWN = 40000      # frames times sections: of a longer run the last events are drawn
 MOST_EVENTS = 400       # that are drawn
 
@@ -21,30 +21,30 @@ class GivenView(RunView):
 
     notes = {}
 
-    def frame(self, events, place, states, marks, said):
+    def frame(self, events, place, states, marks, answered):
         """A frame, with its note before it."""
         note = self.notes.get(place)
         before = tag("p", text(note), class_="note") if note else ""
-        return before + super().frame(events, place, states, marks, said)
+        return before + super().frame(events, place, states, marks, answered)
 
 
 def given_part(page, columns):
     """The run or the scenario."""
-    given, plant = page.given_run, page.plant
-    what = "run" if given.kind == "run" else "scenario"
-    page.head(f"The {what} of {given.name}")
+    given = page.given_run
+    page.head(f"{given.what.capitalize()} {given.name}", "given")
+    page.progress.say(f"{given.what} {given.name}")
     answer = given.ask(page.program, columns, ASK_SECONDS)
     page.calls.append(answer)
+    page.count(answer, columns, given.text)
     page.show(answer)
-    view = GivenView(page.program, columns, plant, page.drawing)
-    page.summary.append(tag("b", text(f"The {what} of {given.name}: ")) + code(answer.said))
-    page.said.append(f"{what}: {answer.said}")
+    view = GivenView(page, columns, "given")
+    page.sum_up(f"{given.what.capitalize()} {given.name}", answer.said)
     word = answer.line.partition(" ")[0]
     if answer.line == "refused F1 extra":
-        page.add(trouble(f"The {what} is longer than is read: docs/COMMANDS.md, “Lengths”, has how long "
-                         "it may be."))
+        page.add(trouble(f"The {given.what} is longer than irv reads; docs/reference/commands.md has the "
+                         "greatest lengths."))
     elif answer.status not in ANSWERED:
-        page.add(trouble(f"That is no answer about the {what}, so it isn't drawn."))
+        page.add(trouble(f"This is no answer about the {given.what}, so it is not drawn."))
     elif word == "rejected":
         rejected_part(page, view, int(answer.line.split(" ")[2]))
     elif given.kind == "run":
@@ -53,15 +53,21 @@ def given_part(page, columns):
         drive_part(page, view, answer)
 
 
+def add_to_summary(page, words):
+    """Adds words to the last line below the verdict."""
+    page.said[-1] += words
+    page.summary[-1] += text(words)
+
+
 def rejected_part(page, view, number):
-    """A text that isn't one: up to its first bad line."""
+    """A text that is no run or scenario: up to its first bad line."""
     given, plant = page.given_run, page.plant
     why = bad_line(given, plant, number)
     page.add(tag("p", tag("b", text(why), class_="bad")))
-    page.summary[-1] += text(f": {why}")
+    add_to_summary(page, f". {why}")
     read = given.read(plant, number) if given.kind == "run" else None
     if read is not None and read[1]:
-        page.own("Drawn are the events before that line.")
+        page.own("The events before that line are drawn.")
         draw(page, view, *read)
 
 
@@ -72,17 +78,17 @@ def run_part(page, view, answer):
     place, reached = first_refused(plant, first, events)
     own = view.own(reached) if place is None else f"not a run at {place}"
     if answer.line != own:
-        page.add(trouble(f"Here the page stops. irv replay says “{answer.line}”, and the page's own "
+        page.add(trouble(f"The page stops here. irv replay answers “{answer.line}”, but the page's own "
                          f"model says “{own}”."))
         return
-    draw(page, view, first, events if place is None else events[:place - 1])
     if place is not None:
         refused_event(page, reached, events, place)
+    draw(page, view, first, events if place is None else events[:place - 1])
 
 
 def first_refused(plant, first, events):
-    """The number of the first event, from 1, that isn't enabled or before which a hazard stands, or
-    None; and the state before it, or the last one."""
+    """The number of the first event, from 1, that isn't enabled or comes after a hazard, or None; and the
+    state before it, or the last one."""
     state = State(plant) if first is None else first.copy()
     for place, event in enumerate(events, 1):
         if hazard(plant, state) or not apply(plant, state, event):
@@ -91,53 +97,52 @@ def first_refused(plant, first, events):
 
 
 def refused_event(page, state, events, place):
-    """Why an event of a run doesn't come."""
+    """Why an event of a run isn't enabled."""
     line = event_line(page.plant, events[place - 1])
     at = hazard(page.plant, state)
     if at:
-        why = f"a hazard stands before it, and ends the run: {hazard_words(page.plant, at)}"
+        why = f"the run has already ended in a hazard. {hazard_words(page.plant, at)}"
     else:
         why = f"{unmet_words(page.plant, state, events[place - 1])}."
-    sentence = f"Event {place}, {line}, isn't enabled: {why}"
+    sentence = f"Event {place}, {line}, is not enabled: {why}"
     page.add(tag("p", tag("b", text(sentence), class_="bad"), class_="own"))
-    page.summary[-1] += text(f". {sentence}")
+    add_to_summary(page, f". {sentence}")
 
 
 def drive_part(page, view, answer):
-    """A scenario: each command where it acts, and what it comes to."""
+    """A scenario: each command when it acts, and what follows it."""
     plant = page.plant
     events = driven(plant, answer.output)
     commands = [place for place, (word, _) in enumerate(events, 1) if word in COMMANDS]
-    count = len(page.given_run.lines) - 3       # but for the head, the end and what follows it
+    count = len(page.given_run.lines) - 3       # without the first line, the end and what follows it
     view.notes = {place: f"Command {number} of {count}: {event_line(plant, events[place - 1])}"
                   for number, place in enumerate(commands, 1)}
-    page.add(tag("p", text(f"Given were {len(commands)} of {counted(count, 'command')}; "
-                           f"{counted(len(events) - len(commands), 'event')} the plant did by itself. "
-                           "Each command stands where it acts, and what follows it, up to the next "
-                           "one, comes by itself.")))
+    page.add(tag("p", text(f"{len(commands)} of {counted(count, 'command')} acted; "
+                           f"{counted(len(events) - len(commands), 'event')} came from the interlocking and "
+                           "the trains. Each command is shown at the event at which it acts.")))
     _, state = first_refused(plant, None, events)
-    draw(page, view, None, events)
     if answer.line.startswith("stuck "):
         stuck_part(page, state, int(answer.line.split(" ")[2]), count)
+    draw(page, view, None, events)
 
 
 def stuck_part(page, state, number, count):
-    """Where a drive is stuck, and what waits for what."""
+    """Where a simulation run is in a deadlock, and what waits for what."""
     plant = page.plant
     if number <= count:
         line = page.given_run.lines[number]
         word, name = line.split(" ")
         event = word, (plant.section_named if word == "enter" else plant.route_named)[name]
         demands = unmet_words(plant, state, event)
-        sentence = f"The drive is stuck at command {number}, {line}, which isn't enabled: {demands}."
+        sentence = f"The scenario is stuck at command {number}, {line}, which is not enabled: {demands}."
     else:
-        sentence = ("All commands are given, and the drive doesn't come to its end: nothing more comes "
-                    "by itself.")
+        sentence = ("All commands acted, but the scenario does not end: no event is left that the interlocking "
+                    "or a train does by itself.")
     page.add(tag("p", tag("b", text(sentence), class_="bad"), class_="own"))
     sentences = waiting(plant, state)
-    page.own("What waits for what there, by the page's own reading:")
+    page.own("What waits for what in that state, by the page's own reading:")
     page.add(tag("ul", "".join(tag("li", text(one)) for one in sentences)))
-    page.summary[-1] += text(f". {sentence}")
+    add_to_summary(page, f". {sentence}")
 
 
 def draw(page, view, first, events):
@@ -150,7 +155,6 @@ def draw(page, view, first, events):
         events = events[left_out:]
         view.notes = {place - left_out: note for place, note in view.notes.items()
                       if place > left_out}
-        page.own(f"Left out: frames of the first {left_out} events. What is drawn begins in the state "
-                 "after them, and its events are counted from there.")
-    page.add(tag("p", text(LEGEND), class_="small"),
-             page.drawing.beside(view.frames(events, first)))
+        page.own(f"Left out: the frames of the first {left_out} events. The first state drawn is the one "
+                 "after them, and the events are counted from there.")
+    page.add(tag("p", text(NOTE), class_="small lead"), view.frames(events, first))

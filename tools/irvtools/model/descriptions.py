@@ -3,17 +3,18 @@
 from irvtools.model.phrases import join
 
 HAZARDS = {"two": "Two trains are in section {}: a collision.",
-           "wrong": "A train is on point {}, which moves or lies the other way: a derailment."}
+           "wrong": "A train is on points {}, which are moving or not set for it: a derailment risk."}
 
 FAMILIES = {
-    "V1": "the counts of a route's sections fit what it does",
-    "V2": "no two routes hold one section",
-    "V3": "what a route holds has the lock that the route gave it",
-    "V4": "the path of an allocating route is vacant",
+    "V1": "the counts of a route's detected and released sections fit its mode",
+    "V2": "no two routes have the same section locked",
+    "V3": "each section that a route has locked has the lock state that the route gave it",
+    "V4": "the path of a route that is allocating is vacant",
     "V5": "an open board belongs to a locked route with a vacant path",
-    "V6": "the points of a route's path are commanded, and once it is locked lie, as it lists them",
-    "V7": "a train's head that no board stops is led on by a route over a vacant way",
-    "V8": "a section that a train has, where no board stops it, is kept for it by a route",
+    "V6": "the points of a route's path are commanded as the route lists them, and are in that position "
+          "once the route is locked",
+    "V7": "a train whose front no board stops is on a route with a vacant path ahead",
+    "V8": "a section that a train occupies where no board stops it is locked for the train by a route",
     "V9": "the protecting boards of a locked route are closed"}
 
 
@@ -28,7 +29,7 @@ def hazard_words(plant, hazard):
 
 
 def event_words(plant, before, event, after):
-    """What an event does, as a sentence."""
+    """Returns what an event does, as a sentence."""
     word, number = event
     if word in ROUTE_WORDS:
         return ROUTE_WORDS[word](plant, before, plant.routes[number])
@@ -36,78 +37,78 @@ def event_words(plant, before, event, after):
 
 
 def mark_words(_, __, route):
-    """A route is asked for."""
-    return f"Route {route.name} is asked for."
+    """A route is requested."""
+    return f"Route {route.name} is requested."
 
 
 def allocate_words(plant, _, route):
-    """What a route takes."""
-    words = f"Route {route.name} takes the locks of {join(plant.name(x) for x in route.locked)}"
-    wanted = [f"{plant.name(x)} to {position}" for x, position in route.wanted]
-    return f"{words}, and commands {join(wanted)}." if wanted else f"{words}."
+    """What a route locks."""
+    words = f"Route {route.name} locks {join(plant.name(x) for x in route.locked)}"
+    called = [f"{plant.name(x)} to {position}" for x, position in route.wanted]
+    return f"{words} and commands points {join(called)}." if called else f"{words}."
 
 
 def lock_words(plant, _, route):
-    """A route's source opens."""
+    """A route's entry board opens."""
     return f"Route {route.name} is locked: board {plant.boards[route.source].name} opens."
 
 
 def sense_words(plant, before, route):
-    """What is seen."""
+    """What is detected."""
     x = route.path[before.seen[route.number]]
-    return f"A train is seen in {plant.name(x)}, on the path of route {route.name}."
+    return f"A train is detected in {plant.name(x)}, on the path of route {route.name}."
 
 
 def release_words(plant, before, route):
-    """What is given back behind a train."""
+    """What is released behind a train."""
     x = route.path[before.rel[route.number]]
-    return f"Route {route.name} gives back {plant.name(x)}, which the train has left."
+    return f"Route {route.name} releases {plant.name(x)}, which the train has left."
 
 
 def finish_words(plant, _, route):
-    """What is given back at the end."""
-    given = join(plant.name(x) for x in (route.path[-1], *route.beside))
-    return f"Route {route.name} is finished, and gives back {given}."
+    """What is released at the end."""
+    rest = join(plant.name(x) for x in (route.path[-1], *route.beside))
+    return f"Route {route.name} is finished and releases {rest}."
 
 
 def cancel_words(_, before, route):
-    """A route is given up."""
-    given = ", and gives back its locks" if before.mode[route.number] == "allocating" else ""
-    return f"Route {route.name} is cancelled{given}."
+    """A route is cancelled."""
+    more = " and releases its sections" if before.mode[route.number] == "allocating" else ""
+    return f"Route {route.name} is cancelled{more}."
 
 
 def throw_words(plant, before, _, x):
-    """A point begins to move."""
-    return f"Point {plant.name(x)} begins to move to {before.to[x]}."
+    """Points start to move."""
+    return f"Points {plant.name(x)} start to move to {before.to[x]}."
 
 
 def settle_words(plant, _, after, x):
-    """A point comes to lie."""
-    return f"Point {plant.name(x)} comes to lie {after.at[x]}."
+    """Points reach their position."""
+    return f"Points {plant.name(x)} are detected in position {after.at[x]}."
 
 
 def enter_words(plant, _, __, x):
-    """A train comes in."""
-    return f"A train comes in at {plant.name(x)}, and runs {plant.inward[x]}."
+    """A train enters."""
+    return f"A train that runs {plant.inward[x]} enters at {plant.name(x)}."
 
 
 def head_words(plant, before, after, x):
-    """A head moves on."""
+    """A train's front moves on."""
     place = next(i for i, (_, body) in enumerate(before.trains) if body[-1] == x)
     direction, body = after.trains[place]
     board = plant.board_on.get((x, direction))
     past = f" past board {plant.boards[board].name}, which closes" if board is not None else ""
-    return f"The head of the train in {plant.name(x)} moves on to {plant.name(body[-1])}{past}."
+    return f"The front of the train in {plant.name(x)} moves on to {plant.name(body[-1])}{past}."
 
 
 def tail_words(plant, _, __, x):
-    """A tail follows."""
-    return f"The tail of a train leaves {plant.name(x)}."
+    """A train's rear follows."""
+    return f"The rear of a train leaves {plant.name(x)}."
 
 
 def leave_words(plant, _, __, x):
-    """A train goes out."""
-    return f"The train in {plant.name(x)} leaves the network."
+    """A train leaves."""
+    return f"The train in {plant.name(x)} leaves the area."
 
 
 ROUTE_WORDS = {"mark": mark_words, "allocate": allocate_words, "lock": lock_words,
@@ -118,45 +119,45 @@ SECTION_WORDS = {"throw": throw_words, "settle": settle_words, "enter": enter_wo
 
 
 def state_words(plant, state):
-    """The routes that are in use, and the points that aren't where they are commanded."""
+    """The routes that are in use, and the points that are not in their commanded position."""
     words = []
     for r, route in enumerate(plant.routes):
         if state.mode[r] != "free":
-            counts = f" ({state.seen[r]} of {len(route.path)} sensed, {state.rel[r]} given back)" \
+            counts = f" ({state.seen[r]} of {len(route.path)} detected, {state.rel[r]} released)" \
                 if state.seen[r] else ""
             words.append(f"{route.name} {state.mode[r]}{counts}")
     for x in plant.points:
         if state.at[x] == "moving":
-            words.append(f"{plant.name(x)} moves to {state.to[x]}")
+            words.append(f"points {plant.name(x)} move to {state.to[x]}")
         elif state.at[x] != state.to[x]:
-            words.append(f"{plant.name(x)} is commanded to {state.to[x]}")
+            words.append(f"points {plant.name(x)} are commanded to {state.to[x]}")
     return "; ".join(words)
 
 
-def verdict_words(answer, is_hunted=False):
-    """What an answer of verify means, in a sentence or two. `is_hunted` tells that a run to a hazard was
-    found beside it."""
+def verdict_words(answer, is_found=False):
+    """What an answer of verify means, in a sentence or two. `is_found` tells that the search found a run to a
+    hazard beside it."""
     kind = answer.line.partition(" ")[0]
-    if is_hunted and kind in ("breach", "not", "spent"):
-        return ("By itself this leaves open whether a run from the start ends in a hazard. One does: it "
-                "stands below.")
+    if is_found and kind in ("breach", "not", "spent"):
+        return ("This answer alone leaves open whether a run from the initial state ends in a hazard. One "
+                "does: it is below.")
     if answer.status is None:
-        return ("No verdict: verify wasn't waited for. That says nothing of the plant; ask again "
-                "with more seconds (--wait).")
+        return ("verify was ended before it answered. This says nothing about the interlocking and does not "
+                "change the verdict. --verify-seconds gives it more time.")
     words = {
-        "safe": "No run from the start, of whatever length, ends in a hazard: no two trains come to "
-                "be in one section, and no train on a point that moves or lies the other way.",
-        "unsafe": "There is a run from the start that ends in this hazard, and none with fewer "
-                  "events. It is a fault of the table or of the network.",
-        "breach": "No hazard yet: a run from the start comes to a state that the invariant doesn't "
-                  "describe, so safety can't be shown by it. A greater --depth may find a hazard.",
-        "not": "Nothing is known: no run of so few events from the start ends in a hazard, and the "
-               "invariant isn't kept by each event. The state from which verify's run begins may be "
-               "one that no run comes to.",
-        "spent": "Nothing is known: the search learned as many clauses as it was allowed. More "
-                 "--conflicts may find the answer.",
-        "refused": "The configuration breaks a rule, and so verify asked nothing of it."}
-    return words.get(kind, "That is no verdict on the plant: verify couldn't answer.")
+        "safe": "No run from the initial state, of any length, ends in a hazard: no two trains are ever in "
+                "one section, and no train is on points that are moving or not set for it.",
+        "unsafe": "A run from the initial state ends in this hazard, and no run has fewer events. The cause "
+                  "is a fault of the table or of the network.",
+        "breach": "No hazard yet: a run from the initial state reaches a state that violates the invariant, so "
+                  "the invariant cannot show safety. A greater --depth may find a hazard.",
+        "not": "Neither safe nor unsafe is shown: no run of up to that many events from the initial state ends "
+               "in a hazard, but an event leads out of the invariant. The first state of verify's run may be "
+               "unreachable.",
+        "spent": "Neither safe nor unsafe is shown: the conflict budget is exhausted. A greater --conflicts "
+                 "may give the answer.",
+        "refused": "The configuration breaks a rule, so verify asked nothing else about it."}
+    return words.get(kind, "This is no verdict: verify could not answer.")
 
 
 def has_trains(plant, state, x):
@@ -166,8 +167,8 @@ def has_trains(plant, state, x):
 
 
 def kept_by(holders):
-    """Which routes hold a section."""
+    """Which routes have a section locked."""
     if not holders:
-        return "no route holds it"
-    return f"route {holders[0]} holds it" if len(holders) == 1 \
-        else f"the routes {join(holders)} hold it"
+        return "no route has it locked"
+    return f"route {holders[0]} has it locked" if len(holders) == 1 \
+        else f"routes {join(holders)} have it locked"

@@ -1,9 +1,9 @@
-"""What an event asks of a state and doesn't get, by names: why it isn't enabled. It is the page's own,
-after the table of docs/MODEL.md, and the other side of `events.py`: an event has no unmet demand exactly
-where it is enabled.
+"""The demands of an event that a state doesn't meet, by names: why the event isn't enabled. It is the
+page's own, by the table of docs/reference/model.md, and the counterpart of `events.py`: an event is enabled
+exactly if it has no unmet demand.
 
-Each function of DEMANDS takes a plant, a state and a number, and gives its unmet demands: each as what
-is there, and as what is waited for, or None where waiting is of no use.
+Each function of DEMANDS takes a plant, a state and a number, and yields the unmet demands: each as what the
+state has, and as what is waited for, or None if waiting is of no use.
 """
 
 from collections import namedtuple
@@ -29,39 +29,38 @@ def unmet_words(plant, state, event):
 def in_mode(plant, state, r, *modes):
     """A route is to be in one of some modes."""
     if state.mode[r] not in modes:
-        yield Demand(f"route {plant.routes[r].name} is {state.mode[r]}, and not {join(modes, 'or')}",
+        yield Demand(f"route {plant.routes[r].name} is {state.mode[r]}, not {join(modes, 'or')}",
                      None)
 
 
 def vacant(plant, state, x, what="section"):
     """A section is to have no train."""
     if state.on[x]:
-        yield Demand(f"{what} {plant.name(x)} isn't vacant: {has_trains(plant, state, x)}",
-                     f"{plant.name(x)}, where a train is")
+        yield Demand(f"{what} {plant.name(x)} is occupied: {has_trains(plant, state, x)}",
+                     f"{plant.name(x)}, which a train occupies")
 
 
 def unlocked(plant, state, x):
     """A section's lock is to be free."""
     if state.lock[x] != "free":
         holders = [plant.routes[r].name for r, _ in held_places(plant, state).get(x, [])]
-        yield Demand(f"the lock of section {plant.name(x)} is {state.lock[x]}, and not free: "
-                     f"{kept_by(holders)}",
-                     f"{plant.name(x)}, which {join(holders) or 'no route'} holds")
+        yield Demand(f"the lock of section {plant.name(x)} is {state.lock[x]}, not free: {kept_by(holders)}",
+                     f"{plant.name(x)}, which {join(holders) or 'no route'} has locked")
 
 
 def locked_as(plant, state, x, lock):
     """A section's lock is to be this one."""
     if state.lock[x] != lock:
-        yield Demand(f"the lock of section {plant.name(x)} is {state.lock[x]}, and not {lock}", None)
+        yield Demand(f"the lock of section {plant.name(x)} is {state.lock[x]}, not {lock}", None)
 
 
 def of_mark(plant, state, r):
-    """A route is asked for."""
+    """A route is requested."""
     yield from in_mode(plant, state, r, "free")
 
 
 def of_allocate(plant, state, r):
-    """A route takes its locks."""
+    """A route locks its sections."""
     route = plant.routes[r]
     yield from in_mode(plant, state, r, "marked")
     for c in route.conflicts:
@@ -79,9 +78,9 @@ def of_lock(plant, state, r):
     yield from in_mode(plant, state, r, "allocating")
     for x, position in route.wanted:
         if state.at[x] != position:
-            lies = "moves" if state.at[x] == "moving" else f"lies {state.at[x]}"
-            yield Demand(f"point {plant.name(x)} {lies}, and route {route.name} wants it {position}",
-                         f"{plant.name(x)}, which {lies}, to lie {position}")
+            now = "moving" if state.at[x] == "moving" else f"in position {state.at[x]}"
+            yield Demand(f"points {plant.name(x)} are {now}, but route {route.name} needs {position}",
+                         f"points {plant.name(x)}, which are {now}, to be in position {position}")
     for b in route.protecting_boards:
         if state.aspect[b] != "closed":
             name = plant.boards[b].name
@@ -90,36 +89,35 @@ def of_lock(plant, state, r):
     for other, mode in zip(plant.routes, state.mode):
         if mode == "locked" and route.source in other.protecting_boards:
             name = plant.boards[route.source].name
-            yield Demand(f"route {other.name} is locked, and its source {name} is a protecting board "
-                         "of that route",
-                         f"route {other.name}, for which {name} is kept closed")
+            yield Demand(f"route {other.name} is locked, and {name} is one of its protecting boards",
+                         f"route {other.name}, which keeps {name} closed")
 
 
 def of_sense(plant, state, r):
-    """The next section of a path is seen to be occupied."""
+    """The next section of a path is detected as occupied."""
     route, seen = plant.routes[r], state.seen[r]
     yield from in_mode(plant, state, r, "locked", "occupied")
     if seen >= len(route.path):
-        yield Demand(f"all sections of the path of route {route.name} are sensed", None)
+        yield Demand(f"all sections of the path of route {route.name} are detected already", None)
         return
     x = route.path[seen]
     if not state.on[x]:
-        yield Demand(f"no train is in section {plant.name(x)}, the next one of its path",
+        yield Demand(f"no train is in section {plant.name(x)}, the next section of its path",
                      f"a train in {plant.name(x)}")
     yield from locked_as(plant, state, x, "locked")
 
 
 def of_release(plant, state, r):
-    """The first section that is kept is given back."""
+    """The first locked section of a path is released."""
     route, rel = plant.routes[r], state.rel[r]
     yield from in_mode(plant, state, r, "occupied")
     if rel + 2 > state.seen[r]:
         if rel + 1 >= len(route.path):
-            yield Demand(f"no section of the path of route {route.name} but its last is left to be "
-                         "given back: that one is by finish", None)
+            yield Demand(f"only the last section of the path of route {route.name} is left, which finish releases",
+                         None)
         else:
             x = route.path[rel + 1]
-            yield Demand(f"section {plant.name(x)} of its path isn't sensed yet",
+            yield Demand(f"section {plant.name(x)} of its path is not detected yet",
                          f"a train in {plant.name(x)}")
     if rel < len(route.path):
         yield from vacant(plant, state, route.path[rel])
@@ -127,80 +125,79 @@ def of_release(plant, state, r):
 
 
 def of_finish(plant, state, r):
-    """A route gives back all that is left."""
+    """A route releases all that is left."""
     route, length = plant.routes[r], len(plant.routes[r].path)
     yield from in_mode(plant, state, r, "occupied")
     if state.seen[r] != length:
-        yield Demand(f"of the path of route {route.name} {state.seen[r]} of {length} sections are "
-                     "sensed", f"a train in {plant.name(route.path[min(state.seen[r], length - 1)])}")
+        yield Demand(f"{state.seen[r]} of {length} sections of the path of route {route.name} are detected", f"a train in {plant.name(route.path[min(state.seen[r], length - 1)])}")
     if state.rel[r] + 1 != length:
-        yield Demand(f"of the path of route {route.name} {state.rel[r]} sections are given back, and "
-                     f"not {length - 1}", None)
+        yield Demand(f"{state.rel[r]} sections of the path of route {route.name} are released, not {length - 1}",
+                     None)
 
 
 def of_cancel(plant, state, r):
-    """A route is given up."""
+    """A route is cancelled."""
     yield from in_mode(plant, state, r, "marked", "allocating")
 
 
 def of_throw(plant, state, x):
-    """A point begins to move."""
+    """Points start to move."""
     if not plant.sections[x].is_point:
-        yield Demand(f"section {plant.name(x)} isn't a point", None)
+        yield Demand(f"section {plant.name(x)} has no points", None)
     elif state.at[x] == "moving":
-        yield Demand(f"point {plant.name(x)} moves already", None)
+        yield Demand(f"points {plant.name(x)} are moving already", None)
     elif state.at[x] == state.to[x]:
-        yield Demand(f"point {plant.name(x)} lies {state.at[x]}, and isn't commanded elsewhere", None)
+        yield Demand(f"points {plant.name(x)} are in position {state.at[x]}, as commanded", None)
 
 
 def of_settle(plant, state, x):
-    """A point comes to lie."""
+    """Points reach their position."""
     if not plant.sections[x].is_point:
-        yield Demand(f"section {plant.name(x)} isn't a point", None)
+        yield Demand(f"section {plant.name(x)} has no points", None)
     elif state.at[x] != "moving":
-        yield Demand(f"point {plant.name(x)} doesn't move: it lies {state.at[x]}", None)
+        yield Demand(f"points {plant.name(x)} are not moving: they are in position {state.at[x]}", None)
 
 
 def of_enter(plant, state, x):
-    """A train comes in."""
+    """A train enters."""
     if x not in plant.inward:
-        yield Demand(f"section {plant.name(x)} is no border: trains come in where the network ends",
+        yield Demand(f"section {plant.name(x)} is not a border: trains enter at the ends of the network",
                      None)
     yield from vacant(plant, state, x)
     yield from unlocked(plant, state, x)
 
 
 def of_head(plant, state, x):
-    """A head moves on."""
+    """A train's front moves on."""
     train = next((train for train in state.trains if train[1][-1] == x), None)
     if train is None:
-        yield Demand(f"no train has its head in section {plant.name(x)}", None)
+        yield Demand(f"no train has its front in section {plant.name(x)}", None)
         return
     direction = train[0]
     board = plant.board_on.get((x, direction))
     if board is not None and state.aspect[board] != "open":
         name = plant.boards[board].name
-        yield Demand(f"board {name}, at which the train stands, is {state.aspect[board]}",
+        yield Demand(f"board {name}, at which the train waits, is {state.aspect[board]}",
                      f"board {name} to open")
     if ahead(plant, state, x, direction) is None:
         moves = plant.sections[x].is_point and bool(plant.nexts[x, direction])
-        yield Demand(f"point {plant.name(x)} moves under the train's head" if moves else
+        yield Demand(f"points {plant.name(x)} are moving under the train's front" if moves else
                      f"the network ends at section {plant.name(x)}", None)
 
 
 def of_tail(plant, state, x):
-    """A tail follows."""
+    """A train's rear follows."""
     if not any(len(body) > 1 and body[0] == x for _, body in state.trains):
-        yield Demand(f"no train that has two sections or more has its tail in {plant.name(x)}", None)
+        yield Demand(f"no train of two or more sections has its rear in {plant.name(x)}", None)
 
 
 def of_leave(plant, state, x):
-    """A train goes out."""
+    """A train leaves."""
     train = next((train for train in state.trains if train[1] == [x]), None)
     if train is None:
-        yield Demand(f"no train is in section {plant.name(x)} alone", None)
+        yield Demand(f"no train is in section {plant.name(x)} only", None)
     elif plant.nexts[x, train[0]]:
-        yield Demand(f"the network goes on from section {plant.name(x)}: a train leaves where it ends",
+        yield Demand(f"the network continues after section {plant.name(x)}: trains leave at its ends",
                      None)
 
 

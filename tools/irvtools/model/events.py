@@ -1,15 +1,15 @@
-"""The page's own model of the thirteen events and of hazards, after the table of docs/MODEL.md.
+"""The page's own model of the thirteen events and of hazards, by the table of docs/reference/model.md.
 
-No answer stands on it: it draws what happens, hunts for runs, and each run that is shown is answered
-by `irv replay`. Each function of EVENTS changes a state in place and answers True, or answers False
-and leaves it: the event isn't enabled.
+No answer depends on it: it draws what happens and searches for runs, and `irv replay` answers each run that
+is shown. Each function of EVENTS changes a state in place and returns True, or returns False and changes
+nothing: the event isn't enabled.
 """
 
 from irvtools.model.state import State
 
 
 def mark(_, state, r):
-    """A route is asked for."""
+    """A route is requested."""
     if state.mode[r] != "free":
         return False
     state.mode[r] = "marked"
@@ -17,7 +17,7 @@ def mark(_, state, r):
 
 
 def allocate(plant, state, r):
-    """A route takes the locks of its sections and commands its points."""
+    """A route locks its sections and commands its points."""
     route = plant.routes[r]
     mode, lock, on = state.mode, state.lock, state.on
     if mode[r] != "marked":
@@ -35,7 +35,7 @@ def allocate(plant, state, r):
 
 
 def lock_route(plant, state, r):
-    """A route whose points lie right opens its source."""
+    """A route whose points are in position opens its entry board."""
     route = plant.routes[r]
     if state.mode[r] != "allocating":
         return False
@@ -52,7 +52,7 @@ def lock_route(plant, state, r):
 
 
 def sense(plant, state, r):
-    """The next section of a route's path is seen to be occupied."""
+    """The next section of a route's path is detected as occupied."""
     route, seen = plant.routes[r], state.seen[r]
     if state.mode[r] not in ("locked", "occupied") or seen >= len(route.path):
         return False
@@ -68,7 +68,7 @@ def sense(plant, state, r):
 
 
 def release(plant, state, r):
-    """The first section of a route's path that is kept is given back behind the train."""
+    """The first locked section of a route's path is released behind the train."""
     rel = state.rel[r]
     if state.mode[r] != "occupied" or rel + 2 > state.seen[r]:
         return False
@@ -81,7 +81,7 @@ def release(plant, state, r):
 
 
 def finish(plant, state, r):
-    """A route whose path is used gives back all that it still has."""
+    """A route whose path was used releases all that it still has."""
     route = plant.routes[r]
     length = len(route.path)
     if state.mode[r] != "occupied" or state.seen[r] != length or state.rel[r] + 1 != length:
@@ -93,7 +93,7 @@ def finish(plant, state, r):
 
 
 def cancel(plant, state, r):
-    """A route that isn't locked yet is given up."""
+    """A route that isn't locked yet is cancelled."""
     if state.mode[r] not in ("marked", "allocating"):
         return False
     if state.mode[r] == "allocating":
@@ -104,7 +104,7 @@ def cancel(plant, state, r):
 
 
 def throw(plant, state, x):
-    """A point begins to move to where it is commanded."""
+    """Points start to move to their commanded position."""
     if not plant.sections[x].is_point or state.at[x] in ("moving", state.to[x]):
         return False
     state.at[x] = "moving"
@@ -112,7 +112,7 @@ def throw(plant, state, x):
 
 
 def settle(plant, state, x):
-    """A point that moves comes to lie."""
+    """Moving points reach their position."""
     if not plant.sections[x].is_point or state.at[x] != "moving":
         return False
     state.at[x] = state.to[x]

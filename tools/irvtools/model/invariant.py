@@ -1,8 +1,8 @@
-"""The page's own reading of the nine families of the invariant, after docs/MODEL.md, in words.
+"""The page's own reading of the nine families of the invariant, by docs/reference/model.md, in words.
 
-Each function of FAMILIES gives what a state breaks of its family: a sentence, with the sections and
-the boards that it is about. No command of `irv` tells the families of a state, so the page marks as
-its own what it says by them.
+Each function of FAMILIES yields how a state violates its family: a sentence, with the sections and the
+boards that it is about. No command of `irv` names the families of a state, so the page marks as its own
+what it says by them.
 """
 
 from irvtools.model.events import hazard
@@ -28,26 +28,26 @@ def broken_v1(plant, state):
         seen, rel = state.seen[r], state.rel[r]
         right = rel < seen <= len(route.path) if state.mode[r] == "occupied" else not (seen or rel)
         if not right:
-            yield (f"route {route.name} is {state.mode[r]}, with {seen} sections sensed and {rel} "
-                   "given back", route.path, [])
+            yield (f"route {route.name} is {state.mode[r]}, with {seen} sections detected and {rel} released",
+                   route.path, [])
 
 
 def broken_v2(plant, state):
-    """No two routes hold one section."""
+    """No two routes have one section locked."""
     for x, holders in sorted(held_places(plant, state).items()):
         names = list(dict.fromkeys(plant.routes[r].name for r, _ in holders))
         if len(names) > 1:
-            yield f"section {plant.name(x)} is held by the routes {' and '.join(names)}", [x], []
+            yield f"section {plant.name(x)} is locked by the routes {' and '.join(names)}", [x], []
 
 
 def broken_v3(plant, state):
-    """The locks of what is held."""
+    """The lock states of what is locked."""
     for x, holders in sorted(held_places(plant, state).items()):
         for r, i in holders:
             right = "used" if i is not None and i < state.seen[r] else "locked"
             if state.lock[x] != right:
-                yield (f"section {plant.name(x)}, which route {plant.routes[r].name} holds, has the "
-                       f"lock {state.lock[x]}, and not {right}", [x], [])
+                yield (f"section {plant.name(x)}, which route {plant.routes[r].name} has locked, has the "
+                       f"lock state {state.lock[x]}, not {right}", [x], [])
 
 
 def broken_v4(plant, state):
@@ -67,12 +67,17 @@ def broken_v5(plant, state):
         locked = [route for r, route in enumerate(plant.routes)
                   if route.source == b and state.mode[r] == "locked"]
         if not any(not any(state.on[x] for x in route.path) for route in locked):
-            yield (f"board {board.name} is open, and there is no locked route from it whose path "
-                   "is vacant", [board.section], [b])
+            yield (f"board {board.name} is open, but no locked route from it has a vacant path",
+                   [board.section], [b])
+
+
+def position_words(state, x):
+    """Returns the position of points, in words."""
+    return "moving" if state.at[x] == "moving" else f"in position {state.at[x]}"
 
 
 def broken_v6(plant, state):
-    """Points of a path are commanded, and where it is locked lie, as they are listed."""
+    """Points of a path are commanded as they are listed, and in that position once the route is locked."""
     for r, route in enumerate(plant.routes):
         for x, position in route.points:
             if x not in route.path or state.mode[r] not in HOLDING:
@@ -80,8 +85,8 @@ def broken_v6(plant, state):
             lies = state.at[x] == position or state.mode[r] == "allocating"
             kept = state.mode[r] == "allocating" or route.path.index(x) >= state.rel[r]
             if kept and not (lies and state.to[x] == position):
-                yield (f"point {plant.name(x)} lies {state.at[x]} and is commanded to {state.to[x]}, "
-                       f"and route {route.name}, which is {state.mode[r]}, lists {position}", [x], [])
+                yield (f"points {plant.name(x)} are {position_words(state, x)} and commanded to {state.to[x]}, but "
+                       f"route {route.name}, which is {state.mode[r]}, lists {position}", [x], [])
 
 
 def is_plain(plant, x, direction):
@@ -102,12 +107,12 @@ def is_led(plant, state, x, direction):
 
 
 def broken_v7(plant, state):
-    """A head where nothing stops it is led by a route, with a vacant way before it."""
+    """A front that no board stops is on a route with a vacant path ahead."""
     for direction, body in state.trains:
         x = body[-1]
         if is_plain(plant, x, direction) and not is_led(plant, state, x, direction):
-            yield (f"the head of a train that runs {direction} is in section {plant.name(x)}, where "
-                   "no board stops it, and no route leads it on over a vacant way", [x], [])
+            yield (f"the front of a train that runs {direction} is in section {plant.name(x)}, where no board "
+                   "stops it, and no route leads it on over a vacant path", [x], [])
 
 
 def is_kept_for(plant, state, x, direction):
@@ -117,12 +122,12 @@ def is_kept_for(plant, state, x, direction):
 
 
 def broken_v8(plant, state):
-    """What a body has where nothing stops it is kept by a route."""
+    """What a train occupies where no board stops it is locked by a route."""
     for direction, body in state.trains:
         for x in body:
             if is_plain(plant, x, direction) and not is_kept_for(plant, state, x, direction):
-                yield (f"a train that runs {direction} is in section {plant.name(x)}, and no route "
-                       "in that direction keeps this section for it", [x], [])
+                yield (f"a train that runs {direction} is in section {plant.name(x)}, and no route in that "
+                       "direction has this section locked for it", [x], [])
 
 
 def broken_v9(plant, state):
@@ -139,7 +144,7 @@ FAMILIES = {"V1": broken_v1, "V2": broken_v2, "V3": broken_v3, "V4": broken_v4, 
 
 
 def broken(plant, state):
-    """What a state breaks of the families, the least first: family, sentence, sections, boards."""
+    """How a state violates the families, the least first: family, sentence, sections, boards."""
     return [(family, *what) for family, find in FAMILIES.items() for what in find(plant, state)]
 
 

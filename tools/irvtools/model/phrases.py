@@ -4,7 +4,7 @@ SIGNS = {"plus": "+", "minus": "-"}
 
 
 def join(words, last="and"):
-    """Words as a sentence lists them."""
+    """Returns words as a sentence lists them."""
     words = list(words)
     if len(words) < 2:
         return "".join(words)

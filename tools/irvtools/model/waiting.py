@@ -1,5 +1,5 @@
-"""What each train and each route in use waits for, in a state in which nothing comes by itself: the
-page's own reading, by the demands of the event that would be next."""
+"""What each train and each route in use waits for, in a state without an automatic event: the page's own
+reading, by the demands of the event that would be next."""
 
 from irvtools.model.disabled_events import unmet
 from irvtools.model.phrases import join
@@ -22,16 +22,16 @@ def route_wait(plant, state, r):
     name = plant.routes[r].name
     board = plant.boards[plant.routes[r].source].name
     if state.mode[r] == "locked":
-        return f"{name} is set, with board {board} {state.aspect[plant.routes[r].source]}, and waits " \
-               "for a train to come there."
+        return f"{name} is locked, with board {board} {state.aspect[plant.routes[r].source]}. It waits for a " \
+               "train there."
     found = unmet(plant, state, next_event(plant, state, r))
     awaited = list(dict.fromkeys(demand.awaited for demand in found if demand.awaited))
-    used = " is used by a train, and" if state.mode[r] == "occupied" else ""
+    used = " is used by a train and" if state.mode[r] == "occupied" else ""
     if awaited:
-        return f"{name}{used} waits for {', and for '.join(awaited)}."
+        return f"{name}{used} waits for {' and for '.join(awaited)}."
     if found:
         return f"{name} is {state.mode[r]}: {join(demand.unmet for demand in found)}."
-    return f"{name} is {state.mode[r]}, and may go on."
+    return f"{name} is {state.mode[r]} and can continue."
 
 
 def train_wait(plant, state, train):
@@ -41,17 +41,17 @@ def train_wait(plant, state, train):
     where = f"The train in {join(plant.name(x) for x in body)}, which runs {direction},"
     board = plant.board_on.get((head, direction))
     if board is None or state.aspect[board] == "open":
-        return f"{where} may go on."
+        return f"{where} can move on."
     name = plant.boards[board].name
     begin = [(r, route) for r, route in enumerate(plant.routes) if route.source == board]
     asked = [f"{route.name} is {state.mode[r]}" for r, route in begin if state.mode[r] != "free"]
     if asked:
-        why = f"of the routes that begin there {join(asked)}"
+        why = f"{join(asked)}"
     elif begin:
-        why = f"no route that begins there is asked for ({join((route.name for _, route in begin), 'or')})"
+        why = f"no route from there is requested ({join((route.name for _, route in begin), 'or')})"
     else:
         why = "no route begins there"
-    return f"{where} stands before {name}, which is closed: {why}."
+    return f"{where} waits at {name}, which is closed: {why}."
 
 
 def waiting(plant, state):

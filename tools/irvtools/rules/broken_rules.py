@@ -1,8 +1,8 @@
-"""The broken rules of the network, of the table and of the columns, in words: what is there, and what
-should be. Which rules are broken, and where, `irv check` says; the words are the page's own.
+"""The broken rules of the network, of the table and of the columns, in words: what the configuration has,
+and what it should have. `irv check` answers which rules are broken, and where; the words are the page's own.
 
-Each function of EXPLAINED takes a plant and the numbers of the places, and gives sentences. `where`
-tells what to mark in the plan.
+Each function of EXPLAINED takes a plant and the numbers of the places, and yields sentences. `where` says
+what to mark in the plan.
 """
 
 from irvtools.rules import column_rules as columns
@@ -10,20 +10,19 @@ from irvtools.rules import network_rules as network
 from irvtools.rules import table_rules as table
 from irvtools.trackplan.marks import Marks
 
-NEEDED = ("A plant that breaks it isn't one: nothing further is asked of it, and no verdict is to be "
-          "had.")
-RESTS = "Safety rests on this rule."
-IDLE = ("Safety doesn't rest on this rule: the locks that a route takes keep others away. But what "
-        "the table says isn't what is meant.")
-IDLE_OVERLAP = ("Safety rests on this rule for the points of the path; here it is a point of the "
-                "overlap, on which it doesn't.")
-IDLE_END = ("Safety rests on this rule in that a train is stopped where the path ends, and here it is. "
-            "It doesn't rest on what the rule asks besides, of destinations and of boards inside a "
-            "path: a train stands at a board that is closed. But what the table says isn't what is "
-            "meant.")
-WORDLESS = "The page has no words for the rule {}: docs/MODEL.md says what it asks for."
-UNKNOWN = "Whether safety rests on this rule the page doesn't know."
-RESTING = ("C1", "C2", "C3", "C7")      # rules of the columns that safety rests on, at least in part
+NEEDED = ("A configuration that breaks this rule is not a plant: nothing else is asked about it, and there "
+          "is no verdict.")
+RESTS = "Safety depends on this rule."
+IDLE = ("Safety does not depend on this rule: the sections that a route locks keep other routes away. But "
+        "the table does not say what it should.")
+IDLE_OVERLAP = ("Safety depends on this rule only for the points of the path. These points are in the overlap.")
+IDLE_END = ("Safety depends on this rule only in that a board or the end of the network stops a train at the "
+            "end of the path, as it does here. It does not depend on the rest of the rule (the destination, "
+            "and no boards inside a path): a train stops at a closed board. But the table does not say what "
+            "it should.")
+WORDLESS = "This version has no sentence for the rule {}; docs/reference/model.md has the rule."
+UNKNOWN = "It is not known whether safety depends on this rule."
+RESTING = ("C1", "C2", "C3", "C7")      # rules of the columns on which safety depends, at least in part
 BY_DIRECTION = ("C2", "C4")             # rules that a route in the wrong direction often breaks too
 
 EXPLAINED = {
@@ -49,21 +48,21 @@ def read_line(line):
 
 
 def sentences(plant, rule, places):
-    """What is there and what should be. Of a route in the wrong direction that comes first."""
+    """What the configuration has and what it should have. If a route is in the wrong direction, that comes
+    first."""
     if rule not in EXPLAINED:
         return [WORDLESS.format(rule)]
     i = places[0][1]
     found = list(EXPLAINED[rule](plant, *(number for _, number in places)))
     wrong = columns.wrong_way(plant, plant.routes[i]) if rule in ("C1", *BY_DIRECTION) else None
     if wrong and rule != "C1":
-        wrong = (f"Route {plant.routes[i].name} is in the wrong direction, as is said at C1: this may "
-                 "follow from it.")
+        wrong = (f"Route {plant.routes[i].name} is in the wrong direction (see C1), which may be the cause "
+                 "of this.")
     return [wrong, *found] if wrong else found
 
 
 def rests(plant, rule, places):
-    """Whether safety rests on what is broken of a rule; of a rule of the columns that the page doesn't
-    know it may."""
+    """Returns whether safety depends on what is broken of a rule; on an unknown rule of the columns it may."""
     if rule not in EXPLAINED:
         return rule[0] == "C" and places != [] and places[0][0] != "boards"
     i = places[0][1]
@@ -75,7 +74,7 @@ def rests(plant, rule, places):
 
 
 def safety(plant, rule, places):
-    """Whether safety rests on a broken rule, in a sentence."""
+    """Returns whether safety depends on a broken rule, in a sentence."""
     if rule[0] in "NR":
         return NEEDED
     if rule not in EXPLAINED:

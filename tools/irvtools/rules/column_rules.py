@@ -1,12 +1,12 @@
-"""The broken rules of the columns in words, C1 to C8: what is there, and what should be. Each function
-takes a plant and the numbers of the places, and gives sentences."""
+"""The broken rules of the columns in words, C1 to C8: what the table has, and what it should have. Each
+function takes a plant and the numbers of the places, and yields sentences."""
 
 from irvtools.model.plant import OPPOSITE, OTHER_LEG
 from irvtools.model.phrases import join, way_words
 
 
 def gaps(plant, route, sections, before):
-    """Where a list of sections doesn't lead on: the section before, and the one that is listed."""
+    """Yields the gaps of a list of sections: the section before, and the one that is listed."""
     for x in sections:
         if x not in plant.nexts[before, route.direction]:
             yield before, x
@@ -14,31 +14,30 @@ def gaps(plant, route, sections, before):
 
 
 def leads(plant, sections, direction):
-    """Whether each of some sections is next to the one before, in a direction."""
+    """Returns whether each of some sections is next to the one before, in a direction."""
     return all(y in plant.nexts[x, direction] for x, y in zip(sections, sections[1:]))
 
 
 def wrong_way(plant, route):
-    """What is wrong with a route whose path leads against its direction, in a sentence; None where it
+    """Returns what is wrong with a route whose path leads against its direction, in a sentence; None if it
     doesn't."""
     source, other = plant.boards[route.source], OPPOSITE[route.direction]
     way = [source.section, *route.path]
     if leads(plant, way, other):
         there = plant.board_on.get((source.section, other))
-        as_is = f", as {plant.boards[there].name} on the same section is" if there is not None else ""
-        return (f"Route {route.name} is in the wrong direction: its source {source.name} stands for "
-                f"trains that run {route.direction}, and its path leads {other} from section "
-                f"{plant.name(source.section)} on. Its source should be a board for trains that run "
-                f"{other}{as_is}.")
+        as_is = f", for example {plant.boards[there].name} on the same section" if there is not None else ""
+        return (f"Route {route.name} is in the wrong direction: its entry board {source.name} is for trains "
+                f"that run {route.direction}, but its path leads {other} from section "
+                f"{plant.name(source.section)}. It needs an entry board for trains that run {other}{as_is}.")
     if len(route.path) < 2 or not leads(plant, route.path, other):
         return None
     if leads(plant, [source.section, *route.path[::-1]], route.direction):
-        return (f"Route {route.name} lists its path in the wrong direction, from its end to its "
-                f"beginning: it runs {route.direction}, as its source {source.name} does, and should "
-                f"list {join(plant.name(x) for x in route.path[::-1])}.")
-    return (f"Route {route.name} is in the wrong direction: it runs {route.direction}, as its source "
-            f"{source.name} does, and its path leads {other}, from section "
-            f"{plant.name(route.path[0])} to section {plant.name(route.path[-1])}.")
+        return (f"Route {route.name} lists its path in the wrong direction, from its end to its beginning. "
+                f"Its entry board {source.name} is for trains that run {route.direction}, so it should list "
+                f"{join(plant.name(x) for x in route.path[::-1])}.")
+    return (f"Route {route.name} is in the wrong direction: its entry board {source.name} is for trains that "
+            f"run {route.direction}, but its path leads {other}, from section {plant.name(route.path[0])} to "
+            f"section {plant.name(route.path[-1])}.")
 
 
 def path_gap(plant, i):
@@ -48,10 +47,10 @@ def path_gap(plant, i):
     for before, x in gaps(plant, route, route.path, source.section):
         comes = f"after {plant.name(before)} comes {way_words(plant, before, route.direction)}"
         if x == route.path[0]:
-            yield (f"Route {route.name}, which runs {route.direction}, begins at {source.name}, on "
-                   f"section {plant.name(before)}, and its path goes on with {plant.name(x)}; {comes}.")
+            yield (f"Route {route.name}, which runs {route.direction}, begins at {source.name} on section "
+                   f"{plant.name(before)}, but its path starts with {plant.name(x)}; {comes}.")
         else:
-            yield (f"Route {route.name}, which runs {route.direction}, has {plant.name(x)} after "
+            yield (f"Route {route.name}, which runs {route.direction}, lists {plant.name(x)} after "
                    f"{plant.name(before)} in its path; {comes}.")
 
 
@@ -62,29 +61,27 @@ def path_end(plant, i):
     for x in route.path[:-1]:
         board = plant.board_on.get((x, direction))
         if board is not None:
-            yield (f"The path of route {route.name} goes on past the board "
-                   f"{plant.boards[board].name} on section {plant.name(x)}: a train stops there. A "
-                   "route ends at the first board for its direction.")
+            yield (f"The path of route {route.name} continues past board {plant.boards[board].name} on section "
+                   f"{plant.name(x)}, where a train stops. A route must end at the first board for its "
+                   "direction.")
     last = route.path[-1]
     board = plant.board_on.get((last, direction))
-    named = "out of the network" if route.destination is None \
-        else f"at {plant.boards[route.destination].name}"
+    named = "null" if route.destination is None else plant.boards[route.destination].name
     if board is not None and board != route.destination:
-        yield (f"The path of route {route.name} ends in section {plant.name(last)}, at the board "
-               f"{plant.boards[board].name}, and its destination is {named}; it should be "
+        yield (f"The path of route {route.name} ends in section {plant.name(last)} at board "
+               f"{plant.boards[board].name}, but its destination is {named}; it should be "
                f"{plant.boards[board].name}.")
     elif board is None and plant.nexts[last, direction]:
-        yield (f"The path of route {route.name} ends in section {plant.name(last)}, where no board "
-               f"stops a train that runs {direction}: it goes on to "
-               f"{way_words(plant, last, direction)}, which the route doesn't lock. The path should "
-               "go on to a board, or out of the network.")
+        yield (f"The path of route {route.name} ends in section {plant.name(last)}, where no board stops a "
+               f"train that runs {direction}: the train continues to {way_words(plant, last, direction)}, "
+               "which the route does not lock. The path must continue to a board or out of the network.")
     elif board is None and route.destination is not None:
-        yield (f"The path of route {route.name} leads out of the network at section "
-               f"{plant.name(last)}, and its destination is {named}; it should be null.")
+        yield (f"The path of route {route.name} leads out of the network at section {plant.name(last)}, but "
+               f"its destination is {named}; it should be null.")
 
 
 def runs_on(plant, i):
-    """C2, as far as safety rests on it: whether nothing stops a train at the end of a route's path."""
+    """C2, as far as safety depends on it: whether nothing stops a train at the end of a route's path."""
     route = plant.routes[i]
     last = route.path[-1], route.direction
     return last not in plant.board_on and bool(plant.nexts[last])
@@ -97,13 +94,12 @@ def points_wrong(plant, i):
     positions = dict(route.points)
     for x in route.overlap:
         if plant.sections[x].is_point and x not in positions:
-            yield (f"Route {route.name} has the point {plant.name(x)} in its overlap, and doesn't list "
-                   "it.")
+            yield f"Route {route.name} has points {plant.name(x)} in its overlap, but does not list them."
 
 
 def wrong_on_path(plant, route):
-    """The points of a route's path that it doesn't list as its path wants them, each with the positions
-    that would do."""
+    """Yields the points of a route's path that it doesn't list in the position that its path needs, each with
+    the positions that would do."""
     positions = dict(route.points)
     way = [plant.boards[route.source].section, *route.path]
     for place in range(1, len(way)):
@@ -116,40 +112,40 @@ def wrong_on_path(plant, route):
 
 
 def points_of_path_wrong(plant, route):
-    """C3, as far as safety rests on it."""
+    """C3, as far as safety depends on it."""
     positions = dict(route.points)
     for x, needed in wrong_on_path(plant, route):
         if x not in positions:
             should = f", in position {join(needed, 'or')}" if needed else ""
-            yield (f"Route {route.name} goes over the point {plant.name(x)} and doesn't list it; it "
+            yield (f"Route {route.name} leads over points {plant.name(x)}, but does not list them; it "
                    f"should{should}.")
             continue
         leg = positions[x]
         leads = plant.name(plant.sections[x].neighbours[leg])
         other = plant.name(plant.sections[x].neighbours[OTHER_LEG[leg]])
-        goes = f"its path goes over {other}: it should be {OTHER_LEG[leg]}." if needed \
-            else f"its path goes neither over {leads} nor over {other}."
-        yield (f"Route {route.name} lists the point {plant.name(x)} in position {leg}, which leads to "
-               f"{leads}; {goes}")
+        goes = f"its path leads over {other}: the position should be {OTHER_LEG[leg]}." if needed \
+            else f"its path leads neither over {leads} nor over {other}."
+        yield (f"Route {route.name} lists points {plant.name(x)} in position {leg}, which leads to {leads}, "
+               f"but {goes}")
 
 
 def overlap_gap(plant, i):
     """C4."""
     route = plant.routes[i]
     for before, x in gaps(plant, route, route.overlap, route.path[-1]):
-        yield (f"The overlap of route {route.name}, which runs {route.direction}, has {plant.name(x)} "
-               f"after {plant.name(before)}; after {plant.name(before)} comes "
+        yield (f"The overlap of route {route.name}, which runs {route.direction}, lists {plant.name(x)} after "
+               f"{plant.name(before)}; after {plant.name(before)} comes "
                f"{way_words(plant, before, route.direction)}.")
 
 
 def one_sided(plant, i, j):
     """C5."""
     one, other = plant.routes[i].name, plant.routes[j].name
-    yield f"Route {one} lists {other} as a conflict, and {other} doesn't list {one}; it should."
+    yield f"Route {one} lists {other} as a conflict, but {other} does not list {one}; it should."
 
 
 def shared(plant, i, j):
-    """The sections that two routes both lock."""
+    """Returns the sections that two routes both lock."""
     return [x for x in plant.routes[i].locked if x in plant.routes[j].locked]
 
 
@@ -157,21 +153,19 @@ def unlisted_share(plant, i, j):
     """C6."""
     one, other = plant.routes[i].name, plant.routes[j].name
     names = join(plant.name(x) for x in shared(plant, i, j))
-    yield (f"Routes {one} and {other} both lock {names}, and {one} doesn't list {other} as a conflict; "
-           "each should list the other.")
+    yield (f"Routes {one} and {other} both lock {names}, but {one} does not list {other} as a conflict; each "
+           "should list the other.")
 
 
 def bare_border(plant, i):
     """C7."""
     inward = plant.inward[i]
-    yield (f"The network ends at section {plant.name(i)}, and there is no board for trains that come "
-           f"in there and run {inward}: nothing stops them. It should have a board for direction "
-           f"{inward}.")
+    yield (f"The network ends at section {plant.name(i)}, but no board stops trains that enter there and run "
+           f"{inward}. The section needs a board for direction {inward}.")
 
 
 def unlisted_protection(plant, i, j):
     """C8."""
     one, other = plant.routes[i], plant.routes[j]
-    yield (f"Route {other.name} begins at {plant.boards[other.source].name}, which is a protecting "
-           f"board of route {one.name}, and {one.name} doesn't list {other.name} as a conflict; it "
-           "should.")
+    yield (f"Route {other.name} begins at {plant.boards[other.source].name}, a protecting board of route "
+           f"{one.name}, but {one.name} does not list {other.name} as a conflict; it should.")

@@ -1,5 +1,5 @@
-"""The broken rules of the network in words, N1 to N8: what is there, and what should be. Each function
-takes a plant and the number of the place, and gives sentences."""
+"""The broken rules of the network in words, N1 to N8: what it has, and what it should have. Each function
+takes a plant and the number of the place, and yields sentences."""
 
 from irvtools.model.plant import OPPOSITE
 from irvtools.model.phrases import join
@@ -8,17 +8,17 @@ from irvtools.model.phrases import join
 def same_section(plant, i):
     """N1."""
     section = plant.sections[i]
-    yield (f"Section number {i} is called {section.name}, as section number "
-           f"{plant.section_named[section.name]} is. Each section needs a name of its own.")
+    yield (f"Section number {i} is called {section.name}, like section number "
+           f"{plant.section_named[section.name]}. Each section needs its own name.")
 
 
 def same_board(plant, i):
     """N2."""
     board = plant.boards[i]
     first = plant.boards[plant.board_named[board.name]]
-    yield (f"Two boards are called {board.name}: the one on section {plant.name(first.section)} for "
-           f"trains that run {first.direction}, and the one on section {plant.name(board.section)} "
-           f"for trains that run {board.direction}. Each board needs a name of its own.")
+    yield (f"Two boards are called {board.name}: the one on section {plant.name(first.section)} for trains "
+           f"that run {first.direction}, and the one on section {plant.name(board.section)} for trains that "
+           f"run {board.direction}. Each board needs its own name.")
 
 
 def wrong_neighbour(plant, i):
@@ -26,10 +26,10 @@ def wrong_neighbour(plant, i):
     section = plant.sections[i]
     for side, leg, name in section.ends:
         if name == section.name and plant.section_named[name] == i:
-            yield f"Section {section.name} gives itself as its neighbour ({end_words(side, leg)})."
+            yield f"Section {section.name} names itself as its neighbour ({end_words(side, leg)})."
         elif name not in plant.section_named:
-            yield (f"Section {section.name} gives {name} as its neighbour ({end_words(side, leg)}), "
-                   "and there is no section of that name.")
+            yield (f"Section {section.name} names {name} as its neighbour ({end_words(side, leg)}), but no "
+                   "section has that name.")
 
 
 def end_words(side, leg):
@@ -44,8 +44,8 @@ def same_neighbour(plant, i):
     for name in dict.fromkeys(names):
         if names.count(name) > 1:
             ends = [end_words(side, leg) for side, leg, other in section.ends if other == name]
-            yield (f"Section {section.name} gives {name} as its neighbour more than once: "
-                   f"{join(ends)}. Its neighbours have to differ.")
+            yield (f"Section {section.name} names {name} as its neighbour more than once: {join(ends)}. Its "
+                   "neighbours must differ.")
 
 
 def not_named_back(plant, i):
@@ -59,28 +59,27 @@ def not_named_back(plant, i):
                 if plant.section_named.get(word) == i]
         if len(back) == 1 and back[0][0] == OPPOSITE[side]:
             continue
-        there = "doesn't give it as a neighbour" if not back else \
-            f"gives it as a neighbour {join(end_words(*end) for end in back)}"
-        yield (f"Section {section.name} gives {name} as its neighbour ({end_words(side, leg)}), and "
-               f"{name} {there}. It should give it once, on its {OPPOSITE[side]} side.")
+        there = f"does not name {section.name}" if not back else \
+            f"names {section.name} {join(end_words(*end) for end in back)}"
+        yield (f"Section {section.name} names {name} as its neighbour ({end_words(side, leg)}), but {name} "
+               f"{there}. It should name it once, on its {OPPOSITE[side]} side.")
 
 
 def alone(plant, i):
     """N6."""
-    yield (f"Section {plant.name(i)} has no neighbour. A linear section needs one on at least one "
-           "side.")
+    yield f"Section {plant.name(i)} has no neighbour. A linear section needs one on at least one side."
 
 
 def returns(plant, i):
     """N7."""
     walk = walk_back(plant, i)
     names = join([plant.name(x) for x in walk], "and then")
-    yield (f"From section {plant.name(i)} a train that runs up comes back to it: {names}. A network "
-           "with a loop in one direction isn't a plant.")
+    yield (f"From section {plant.name(i)} a train that runs up comes back to it: {names}. A network must not "
+           "have a loop in one direction.")
 
 
 def walk_back(plant, i):
-    """The sections of a shortest walk up from a section to itself."""
+    """Returns the sections of a shortest walk up from a section to itself."""
     before, queue = {}, [i]
     for x in queue:
         for y in plant.next_to(x, "up"):
@@ -99,5 +98,5 @@ def board_at_end(plant, i):
     for side in OPPOSITE:
         board = plant.board_on.get((i, side))
         if board is not None and not any(at == side for at, _, _ in section.ends):
-            yield (f"Section {section.name} has the board {plant.boards[board].name} for trains that "
-                   f"run {side}, and no neighbour on its {side} side: no train goes on from there.")
+            yield (f"Section {section.name} has board {plant.boards[board].name} for trains that run {side}, but "
+                   f"no neighbour on its {side} side: no train continues from there.")

@@ -1,7 +1,7 @@
-"""What is wrong with the form of a configuration that `irv` refused: the rules F1 to F6, in words.
+"""What is wrong with the schema of a configuration that `irv` refused: the rules F1 to F6, in words.
 
-It looks for the fault at the place that `irv` named, by the tables of docs/FORMATS.md. Where it finds
-none, `irv`'s line stands alone.
+It looks for the fault at the place that `irv` named, by the tables of docs/reference/formats.md. If it finds
+none, only the line of `irv` is shown.
 """
 
 import json
@@ -10,7 +10,7 @@ import re
 MOST_BYTES = 4194304
 MOST_VERSION = 2 ** 64 - 1
 NAME = re.compile(r"[A-Za-z0-9_-]{1,32}")
-SHOWN = 90              # of a line that can't be read
+SHOWN = 90              # characters of a line that can't be read
 
 TEXT, MAYBE, NAMES, LISTED = "a text", "a text or null", "an array of texts", "an array of points"
 LINEAR = {"name": TEXT, "kind": TEXT, "down": MAYBE, "up": MAYBE, "board_down": MAYBE,
@@ -25,13 +25,13 @@ CHOICES = {"kind": ("linear", "point"), "faces": ("up", "down"), "position": ("p
 
 
 def route_members(version):
-    """The members of a route of a version, in the order of a sheet's columns."""
+    """Returns the members of a route of a version, in the order of a CSV file's columns."""
     return ROUTE if version == 1 else {**ROUTE, **SECOND}
 
 
 def no_constant(word):
     """JSON has no such number; Python would read one."""
-    raise ValueError(f"{word} is no JSON")
+    raise ValueError(f"{word} is not JSON")
 
 
 def read(given):
@@ -41,16 +41,16 @@ def read(given):
     except UnicodeDecodeError as fault:
         line = given.count(b"\n", 0, fault.start) + 1
         column = fault.start - (given.rfind(b"\n", 0, fault.start) + 1) + 1
-        return None, f"Line {line}, byte {column} of it: that isn't UTF-8."
+        return None, f"Line {line}, byte {column}: the text is not UTF-8."
     if not text.strip(" \t\r\n"):
-        return None, "There is nothing to read."
+        return None, "The configuration is empty."
     try:
         return json.loads(text, parse_constant=no_constant), None
     except json.JSONDecodeError as fault:
-        return None, (f"Line {fault.lineno}, column {fault.colno}: {fault.msg}. There stands: "
+        return None, (f"Line {fault.lineno}, column {fault.colno}: {fault.msg}. The line is: "
                       f"{shown_line(text, fault)}")
     except (ValueError, RecursionError) as fault:
-        return None, f"It can't be read as JSON: {fault}."
+        return None, f"This is not JSON: {fault}."
 
 
 def shown_line(text, fault):
@@ -62,15 +62,15 @@ def shown_line(text, fault):
 
 
 def short(name):
-    """A text as it is shown, cut where it is long."""
+    """A text as it is shown, cut if it is long."""
     return name if len(name) <= SHOWN else f"{name[:SHOWN // 2]}…"
 
 
 def kind_of(value):
-    """What a value is, as JSON calls it."""
+    """Returns what JSON calls a value."""
     if value is None:
         return "null"
-    for type_, word in ((bool, "a truth value"), (str, "a text"), (int, "a number"),
+    for type_, word in ((bool, "a boolean"), (str, "a text"), (int, "a number"),
                         (float, "a number"), (list, "an array"), (dict, "an object")):
         if isinstance(value, type_):
             return word
@@ -91,15 +91,14 @@ def is_kind(value, kind):
 def member_faults(value, members, what):
     """What is wrong with an object's members."""
     if not isinstance(value, dict):
-        yield f"{what} is {kind_of(value)}, and should be an object."
+        yield f"{what} is {kind_of(value)}, but must be an object."
         return
     for member in members:
         if member not in value:
             yield f"{what} lacks the member {member}."
     for member in value:
         if member not in members:
-            yield f"{what} has a member {short(member)}, which isn't one of its members " \
-                  f"({', '.join(members)})."
+            yield f"{what} has the unknown member {short(member)}; its members are {', '.join(members)}."
     for member, kind in members.items():
         if member in value:
             yield from value_faults(value[member], member, kind, what)
@@ -113,13 +112,13 @@ def value_faults(value, member, kind, what):
             one = "a text" if kind == NAMES else "an object"
             entries = [kind_of(entry) for entry in value if kind_of(entry) != one]
             wrong = f"an array with {entries[0]}"
-        yield f"The member {member} of {what} is {wrong}, and should be {kind}."
+        yield f"The member {member} of {what} is {wrong}, but must be {kind}."
     elif kind == LISTED:
         for entry in value:
             yield from member_faults(entry, {"point": TEXT, "position": TEXT},
                                      f"an entry of {member} of {what}")
     elif member in CHOICES and value not in CHOICES[member]:
-        yield f"The member {member} of {what} is “{short(value)}”, and should be " \
+        yield f"The member {member} of {what} is “{short(value)}”, but must be " \
               f"{' or '.join(CHOICES[member])}."
 
 
@@ -139,13 +138,13 @@ def names_of(value):
 
 
 def name_faults(value, what):
-    """Names that aren't of the allowed characters."""
+    """Yields the names with other characters than a name may have."""
     for member, name in names_of(value):
         if not NAME.fullmatch(name):
             wrong = next((one for one in name if not NAME.fullmatch(one)), None)
             why = f"has the character “{wrong}”" if wrong and len(name) <= 32 \
                 else f"has {len(name)} characters"
-            yield (f"The name “{short(name)}”, of {member} of {what}, {why}; a name has 1 to 32 of the "
+            yield (f"The name “{short(name)}” in {member} of {what} {why}. A name has 1 to 32 of the "
                    "characters A to Z, a to z, 0 to 9, _ and -.")
 
 
@@ -153,37 +152,36 @@ def limit_faults(value, what):
     """Lists that are too long or too short."""
     for member, (least, most) in LIMITS.items():
         if member in value and not least <= len(value[member]) <= most:
-            yield f"{member} of {what} has {len(value[member])} entries, and may have {least} to " \
-                  f"{most}."
+            yield f"{member} of {what} has {len(value[member])} entries, but must have {least} to {most}."
 
 
 def document_faults(rule, given, value):
     """What is wrong with the document."""
     if rule == "F1":
-        yield f"It has {len(given)} bytes, and may have {MOST_BYTES}."
+        yield f"The configuration has {len(given)} bytes, but at most {MOST_BYTES} are read."
     elif rule == "F3":
         members = {"version": "a whole number", "sections": "an array", "routes": "an array"}
         if not isinstance(value, dict):
-            yield f"The document is {kind_of(value)}, and should be an object."
+            yield f"The document is {kind_of(value)}, but must be an object."
             return
         yield from (f"The document lacks the member {m}." for m in members if m not in value)
-        yield from (f"The document has a member {m}, which isn't one of its members "
-                    f"({', '.join(members)})." for m in value if m not in members)
+        yield from (f"The document has the unknown member {m}; its members are {', '.join(members)}."
+                    for m in value if m not in members)
         for member, kind in members.items():
             right = int if member == "version" else list
             if member in value and (not isinstance(value[member], right)
                                     or isinstance(value[member], bool)
                                     or (right is int and value[member] < 0)):
-                yield f"The member {member} is {kind_of(value[member])}, and should be {kind}."
+                yield f"The member {member} is {kind_of(value[member])}, but must be {kind}."
             elif member == "version" and member in value and value[member] > MOST_VERSION:
-                yield "The member version is too large a number."
+                yield "The member version is too large."
     elif rule == "F4":
-        yield f"The version is {value['version']}, and should be 1 or 2."
+        yield f"The version is {value['version']}, but must be 1 or 2."
     elif rule == "F6":
         if not 1 <= len(value["sections"]) <= 256:
-            yield f"There are {len(value['sections'])} sections, and may be 1 to 256."
+            yield f"The configuration has {len(value['sections'])} sections, but must have 1 to 256."
         if len(value["routes"]) > 256:
-            yield f"There are {len(value['routes'])} routes, and may be up to 256."
+            yield f"The configuration has {len(value['routes'])} routes, but must have at most 256."
 
 
 def entry_faults(rule, value, place):
@@ -207,7 +205,7 @@ def entry_faults(rule, value, place):
 
 
 def faults(rule, place, given):
-    """What is wrong, in sentences, where `irv` refused the form by a rule at a place."""
+    """Returns what is wrong, in sentences, with a schema that `irv` refused by a rule at a place."""
     value, unread = read(given) if rule != "F1" else (None, None)
     if rule == "F2" or unread:
         return [unread] if unread else []
@@ -217,4 +215,4 @@ def faults(rule, place, given):
                     for sentence in document_faults(rule, given, value)]
         return [sentence[0].upper() + sentence[1:] for sentence in entry_faults(rule, value, place)]
     except (TypeError, KeyError, IndexError, ValueError):
-        return []       # the value isn't what `irv` reads; its line stands alone
+        return []       # the value isn't what `irv` reads; only its line is shown

@@ -1,18 +1,18 @@
-"""The broken rules of the table of routes in words, R1 to R8: what is there, and what should be. Each
-function takes a plant and a route's number, and gives sentences."""
+"""The broken rules of the interlocking table in words, R1 to R8: what it has, and what it should have. Each
+function takes a plant and a route's number, and yields sentences."""
 
 
 def same_route(plant, i):
     """R1."""
     name = plant.routes[i].name
-    yield (f"Route number {i} is called {name}, as route number {plant.route_named[name]} is. Each "
-           "route needs a name of its own.")
+    yield (f"Route number {i} is called {name}, like route number {plant.route_named[name]}. Each route "
+           "needs its own name.")
 
 
 def no_source(plant, i):
     """R2."""
     route = plant.routes[i]
-    yield f"Route {route.name} begins at {route.member['source']}, and there is no board of that name."
+    yield f"Route {route.name} begins at {route.member['source']}, but no board has that name."
 
 
 def wrong_sections(plant, i):
@@ -21,13 +21,12 @@ def wrong_sections(plant, i):
     names = [(list_, name) for list_ in ("path", "overlap") for name in route.member[list_]]
     for list_, name in dict.fromkeys(names):
         if name not in plant.section_named:
-            yield (f"The {list_} of route {route.name} has {name}, and there is no section of that "
-                   "name.")
+            yield f"The {list_} of route {route.name} lists {name}, but no section has that name."
     words = [name for _, name in names]
     for name in dict.fromkeys(words):
         if words.count(name) > 1:
-            yield (f"Section {name} stands {words.count(name)} times in path and overlap of route "
-                   f"{route.name}; it may stand there once.")
+            yield (f"The path and overlap of route {route.name} list section {name} {words.count(name)} times; "
+                   "they may list it once.")
 
 
 def wrong_points(plant, i):
@@ -37,8 +36,8 @@ def wrong_points(plant, i):
     ways = route.member["path"] + route.member["overlap"]
     for name in point_names(route, "points"):
         if is_point(plant, name) and name not in ways:
-            yield (f"Route {route.name} lists the point {name}, which is neither in its path nor in "
-                   "its overlap.")
+            yield (f"Route {route.name} lists points {name}, which are neither in its path nor in its "
+                   "overlap.")
 
 
 def point_names(route, member):
@@ -47,7 +46,7 @@ def point_names(route, member):
 
 
 def is_point(plant, name):
-    """Whether a name is a point's."""
+    """Returns whether a name is that of points."""
     return name in plant.section_named and plant.sections[plant.section_named[name]].is_point
 
 
@@ -56,17 +55,17 @@ def point_faults(plant, route, member, where):
     names = [entry["point"] for entry in route.member.get(member, [])]
     for name in dict.fromkeys(names):
         if not is_point(plant, name):
-            what = "is a linear section" if name in plant.section_named else "isn't a section"
-            yield f"Route {route.name} lists {name} {where}, and {name} {what}."
+            what = "is a linear section" if name in plant.section_named else "is not a section"
+            yield f"Route {route.name} lists {name} {where}, but {name} {what}."
         if names.count(name) > 1:
-            yield f"Route {route.name} lists the point {name} {names.count(name)} times {where}."
+            yield f"Route {route.name} lists points {name} {names.count(name)} times {where}."
 
 
 def no_destination(plant, i):
     """R5."""
     route = plant.routes[i]
-    yield (f"Route {route.name} ends at {route.member['destination']}, and there is no board of that "
-           "name. It should be a board, or null where the route leads out of the network.")
+    yield (f"Route {route.name} ends at {route.member['destination']}, but no board has that name. The "
+           "destination must be a board, or null if the route leads out of the network.")
 
 
 def wrong_conflicts(plant, i):
@@ -75,7 +74,7 @@ def wrong_conflicts(plant, i):
     names = route.member["conflicts"]
     for name in dict.fromkeys(names):
         if name not in plant.route_named:
-            yield f"Route {route.name} lists {name} as a conflict, and there is no route of that name."
+            yield f"Route {route.name} lists {name} as a conflict, but no route has that name."
         elif plant.route_named[name] == i:
             yield f"Route {route.name} lists itself as a conflict."
         if names.count(name) > 1:
@@ -89,8 +88,8 @@ def wrong_protecting_points(plant, i):
     for name in point_names(route, "protecting_points"):
         for list_ in ("path", "overlap"):
             if name in route.member[list_]:
-                yield (f"Route {route.name} lists {name} as a protecting point, and it is in its "
-                       f"{list_}. A protecting point lies beside the way.")
+                yield (f"Route {route.name} lists {name} as protecting points, but they are in its {list_}. "
+                       "Protecting points are outside path and overlap.")
 
 
 def wrong_protecting_boards(plant, i):
@@ -99,9 +98,8 @@ def wrong_protecting_boards(plant, i):
     names = route.member.get("protecting_boards", [])
     for name in dict.fromkeys(names):
         if name not in plant.board_named:
-            yield (f"Route {route.name} lists {name} as a protecting board, and there is no board of "
-                   "that name.")
+            yield f"Route {route.name} lists {name} as a protecting board, but no board has that name."
         elif name == route.member["source"]:
-            yield f"Route {route.name} lists its own source {name} as a protecting board."
+            yield f"Route {route.name} lists its own entry board {name} as a protecting board."
         if names.count(name) > 1:
             yield f"Route {route.name} lists {name} {names.count(name)} times as a protecting board."

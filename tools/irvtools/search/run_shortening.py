@@ -1,8 +1,8 @@
 """Makes a run to a hazard shorter, until no single event of it can be left out, and easier to follow.
 
-Where an event is left out, those that aren't enabled without it are left out too. Pieces of some events
-in a row are tried first, which takes with them whole uses of routes and ways of trains, at last single
-events.
+If an event is left out, those that aren't enabled without it are left out too. Pieces of some events in a
+row are tried first, which removes whole uses of routes and movements of trains, and single events last. At
+the end each train gets the events by which its rear follows, so that trains have a credible length.
 """
 
 import time
@@ -13,7 +13,7 @@ PIECES = (16, 8, 4, 2, 1)       # events in a row
 
 
 def shorter_by_pieces(facts, run, size, until):
-    """A run without the pieces of so many events in a row that can be left out."""
+    """Returns a run without the pieces of `size` events in a row that can be left out."""
     before, place = Simulation(facts), 0
     while place + size <= len(run) and time.monotonic() < until:
         trial = to_hazard(before.copy(), run[place + size:])
@@ -26,7 +26,8 @@ def shorter_by_pieces(facts, run, size, until):
 
 
 def shortened(facts, run, until):
-    """A run to a hazard with events left out, as long as it comes to one; until a time on the clock."""
+    """Returns a run to a hazard with events left out, as long as it still ends in one; until a time on the
+    clock."""
     length = None
     while length != len(run) and time.monotonic() < until:
         length = len(run)
@@ -36,15 +37,15 @@ def shortened(facts, run, until):
 
 
 def in_order(facts, run):
-    """The same events, easier to follow: a route is asked for just before it is allocated, and a train
-    comes in just before it moves, where that makes no difference."""
+    """Returns the same events, easier to follow: a route is requested just before it is allocated, and a
+    train enters just before it moves, if that makes no difference."""
     for place in reversed(range(len(run))):
         word, number = run[place]
         if word not in ("mark", "enter"):
             continue
-        wanted = ("allocate" if word == "mark" else "head", number)
+        follower = ("allocate" if word == "mark" else "head", number)
         for later in range(place + 1, len(run)):
-            if run[later] == wanted:
+            if run[later] == follower:
                 trial = run[:place] + run[place + 1:later] + [run[place]] + run[later:]
                 if to_hazard(Simulation(facts), trial) == trial:
                     run = trial
@@ -52,10 +53,35 @@ def in_order(facts, run):
     return run
 
 
+def with_rears(facts, run):
+    """Returns a run to a hazard in which the rear of each train follows its front as early as the run stays a
+    run to a hazard. Rears that the run moved already are moved anew."""
+    fewer = [event for event in run if event[0] != "tail"]
+    if to_hazard(Simulation(facts), fewer) == fewer:
+        run = fewer
+    before, place = Simulation(facts), 0
+    while place < len(run):
+        trial = with_rear(facts, before, run, place)
+        run = trial or run
+        before.by_word()[run[place][0]](run[place][1])
+        place += 1
+    return run
+
+
+def with_rear(facts, before, run, place):
+    """Returns a run with an event more at a place, by which the rear of a train leaves a section, or None if
+    no train can do that; `before` is the state there."""
+    for _, body in before.trains:
+        trial = [*run[:place], ("tail", body[0]), *run[place:]]
+        if len(body) > 1 and to_hazard(Simulation(facts), trial) == trial:
+            return trial
+    return None
+
+
 def readable(facts, run, seconds):
-    """A run that is short and in order: shortened again after each change of its order, until nothing
-    changes or the seconds are over."""
+    """Returns a run that is short and in order: shortened again after each change of its order, until nothing
+    changes or the seconds are over. Rears of trains are added last."""
     until, last = time.monotonic() + seconds, None
     while run != last and time.monotonic() < until:
         last, run = run, in_order(facts, shortened(facts, run, until))
-    return run
+    return with_rears(facts, run)

@@ -1,20 +1,20 @@
-"""Verify and the hunt side by side. Where a rule is broken on which safety rests, both begin at once,
-and a hazard that one of them finds ends the other."""
+"""Verify and the search side by side. If a rule is broken on which safety depends, both begin at once, and a
+hazard that one of them finds ends the other."""
 
 import time
 
 from irvtools.calls.background import Beside
 from irvtools.search.parallel_search import Searchers
 
-GRACE = 2.0             # seconds that verify still has once the hunt has found a run
+GRACE = 2.0             # seconds that verify still has once the search has found a run
 TURN = 0.05             # seconds between two looks
 NO_VERDICT = (None, 2, 3, 4)     # statuses of verify that leave open whether there is a hazard
-UNEXPECTED = (2, 3)     # of these what no table should get that breaks no rule on which safety rests
+UNEXPECTED = (2, 3)     # of these what no table should get that breaks no rule on which safety depends
 
 
 class Found:
-    """What came of it: verify's answer, and a run of the hunt or None. `is_first` tells that the run was
-    there before the answer, `said` what replay says of it, `fault` that this isn't what it should be."""
+    """What came of it: verify's answer, and a run of the search or None. `is_first` tells that the run came
+    before the answer, `said` what replay answers to it, `fault` that this isn't what it should be."""
 
     def __init__(self):
         self.answer = self.run = self.searchers = self.said = self.fault = None
@@ -22,7 +22,7 @@ class Found:
 
 
 def search(page, words):
-    """Asks verify with some words, and hunts."""
+    """Asks verify with some arguments, and searches."""
     found, options = Found(), page.options
     is_beside = page.is_endangered and options.search_seconds > 0
     with Searchers(page.plant, page.suspects) as found.searchers:
@@ -40,7 +40,7 @@ def search(page, words):
 
 
 def both(found, call, page):
-    """Waits for the call and for the hunt, until a hazard is found or both have ended."""
+    """Waits for the call and for the search, until a hazard is found or both have ended."""
     wait = page.options.verify_seconds
     until = call.begin + wait
     while True:
@@ -51,8 +51,8 @@ def both(found, call, page):
         if answer is None and time.monotonic() >= until:
             after = page.time(f" after {call.seconds:.0f} seconds")
             answer = call.end(
-                f"ended{after}, since a run to a hazard was found"
-                if found.run else f"not waited for: no answer within {wait:g} seconds")
+                f"ended{after}, because the search found a run to a hazard"
+                if found.run else f"no answer within {wait:g} seconds (--verify-seconds)")
         if answer is not None and (answer.status not in NO_VERDICT or found.searchers.is_over):
             return
         if answer is None and found.searchers.is_over:

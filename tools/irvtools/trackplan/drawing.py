@@ -1,15 +1,17 @@
 """The track plan as SVG: the same plan at each frame, with what a frame shows over it.
 
 What stays is written once and used by every frame. A long plan is shown in strips, one below the
-other: each is a window on the whole.
+other: each is a window on the whole. The signs are those of `signs.py`.
 """
 
+from irvtools.trackplan import signs
 from irvtools.trackplan.layout import CHARACTER, ROW, Layout
 from irvtools.html.markup import tag, text
 from irvtools.trackplan.marks import Marks
+from irvtools.trackplan.signs import LETTERS, LOCK_CLASS
 from irvtools.trackplan.strips import EDGE, TOP, Strips
 
-LOCK_CLASS = {"free": "f", "locked": "l", "used": "u"}
+IN_ROW = ((3, 470), (2, 900))   # how many frames lie side by side, up to which width of the plan
 
 
 def line(points):
@@ -25,8 +27,9 @@ def path(points, class_):
 class Drawing:
     """The plan of a plant."""
 
-    def __init__(self, plant):
-        self.plant = plant
+    def __init__(self, plant, hollow=()):
+        """`hollow` has the numbers of boards that are drawn hollow."""
+        self.plant, self.hollow = plant, frozenset(hollow)
         self.layout = Layout(plant)
         joints = [joint for at in self.layout.at for joint in at.values()]
         self.low = min(joint.x for joint in joints)
@@ -97,16 +100,14 @@ class Drawing:
 
     def definitions(self):
         """What all views use: the signs, and the plan with its names and its joints."""
-        signs = "".join(
-            tag("g", '<rect x="-6" y="-6" width="12" height="12" fill="currentColor"/>'
-                     f'<path d="M{-4 * way} -4L{4 * way} 0L{-4 * way} 4z" fill="#fff3bf"/>', id=name)
-            for name, way in (("bu", 1), ("bd", -1)))
+        boards = "".join(tag("g", signs.board(way, aspect), id=signs.board_id(way, aspect))
+                         for way in ("up", "down") for aspect in (None, "open", "closed"))
         tracks = tag("g", "".join(self.tracks()), id="tracks")
         labels = list(self.labels())
         names = "".join(tag("g", "".join(self.labels_in(strip, labels)), id=f"names{number}")
                         for number, strip in enumerate(self.strips))
         return ('<svg width="0" height="0" style="position:absolute" aria-hidden="true"><defs>'
-                f"{signs}{tracks}{names}</defs></svg>")
+                f"{boards}{tracks}{names}</defs></svg>")
 
     def tracks(self):
         """The lines of all sections, and the joints."""
@@ -170,7 +171,7 @@ class Drawing:
     def beside(self, frames):
         """Frames side by side, as many in a row as the plan's width lets one read."""
         width = max(strip[2] for strip in self.strips)
-        in_row = next((count for count, most in ((3, 470), (2, 700)) if width <= most), 1)
+        in_row = next((count for count, most in IN_ROW if width <= most), 1)
         return tag("div", frames, class_=f"frames f{in_row}")
 
     def view(self, content, title):
@@ -190,8 +191,9 @@ class Drawing:
                            + edges)
             y += height + 8
         width = max(strip[2] for strip in self.strips)
-        return (f'<svg class="plan" viewBox="0 0 {width:.0f} {y:.0f}" width="{width:.0f}" role="img">'
-                f"<title>{text(title)}</title>{''.join(windows)}</svg>")
+        return ('<div class="box">'
+                f'<svg class="plan" viewBox="0 0 {width:.0f} {y:.0f}" width="{width:.0f}" role="img">'
+                f"<title>{text(title)}</title>{''.join(windows)}</svg></div>")
 
     def edges(self, number, y, width, height):
         """The marks of a strip's ends, where the plan goes on."""
@@ -205,59 +207,75 @@ class Drawing:
     def plan(self, marks=None, title="track plan"):
         """The plan with marks, as for a rule that is broken."""
         marks = marks or Marks()
-        signs = "".join(self.sign(b, "ring" if b in marks.boards else "")
-                        for b in range(len(self.plant.boards)))
-        return self.view((self.marked(marks), signs), title)
+        boards = "".join(self.sign(b, None, b in marks.boards) for b in range(len(self.plant.boards)))
+        return self.view((self.marked(marks), boards), title)
 
-    def frame(self, state, marks, title):
-        """The plan in a state."""
+    def frame(self, state, marks, title, numbers=()):
+        """The plan in a state; `numbers` are those of its trains."""
         over = "".join(self.in_state(x, state) for x in range(len(self.plant.sections)))
-        over += "".join(self.sign(b, ("open" if state.aspect[b] == "open" else "closed")
-                                  + (" ring" if b in marks.boards else ""))
+        over += "".join(self.sign(b, state.aspect[b], b in marks.boards)
                         for b in range(len(self.plant.boards)))
-        over += "".join(self.train(direction, body, state) for direction, body in state.trains)
+        over += "".join(self.train(direction, body, state, number) for (direction, body), number
+                        in zip(state.trains, numbers or range(1, len(state.trains) + 1)))
         if marks.hazard is not None:
-            over += f'<circle cx="{self.middle(marks.hazard):.0f}" cy="{self.y(marks.hazard):.0f}" ' \
-                    'r="15" class="hz"/>'
+            over += signs.hazard(self.middle(marks.hazard), self.y(marks.hazard))
         return self.view((self.marked(marks), over), title)
 
-    def sign(self, b, class_):
-        """A board's sign."""
+    def sign(self, b, aspect, is_marked):
+        """A board's sign; `aspect` is None in a plan without a state."""
         x, y = self.signs[b]
-        sign = "bu" if self.plant.boards[b].direction == "up" else "bd"
-        ring = f'<circle cx="{x:.0f}" cy="{y:.0f}" r="11" class="ring"/>' if "ring" in class_ else ""
-        word = class_.replace("ring", "").strip()
-        return f'{ring}<use href="#{sign}" x="{x:.0f}" y="{y:.0f}" class="b {word}"/>'
+        ring = f'<circle cx="{x:.0f}" cy="{y:.0f}" r="11" class="ring"/>' if is_marked else ""
+        name = signs.board_id(self.plant.boards[b].direction, aspect)
+        hollow = ' class="rule"' if aspect is None and b in self.hollow else ""
+        return f'{ring}<use href="#{name}" x="{x:.0f}" y="{y:.0f}"{hollow}/>'
 
     def marked(self, marks):
         """The marks below the plan."""
         parts = []
-        for class_, legs in (("on", marks.path), ("ov", marks.overlap), ("mk", marks.sections)):
+        for class_, legs in (("on", marks.path), ("ov", marks.overlap), ("pp", marks.protecting),
+                             ("mk", marks.sections)):
             for x, leg in legs:
                 for name, points in self.legs(x).items():
                     if leg is None or name in ("stem", "line", leg):
                         parts.append(path(points, class_))
         return "".join(parts)
 
+    def letter_place(self, x):
+        """The place of a section's letter, by its middle: above the begin of its line, of points above
+        the stem, so that no name is there."""
+        section = self.plant.sections[x]
+        if not section.is_point:
+            return self.end(x, "down")[0] + 7, self.y(x) - 8
+        return self.end(x, "stem")[0] + (4 if section.faces == "up" else -4), self.y(x) - 8
+
+    def laid(self, points, lock):
+        """A line that is laid, in its state."""
+        core = path(points, "core") if lock == "u" else ""
+        return path(points, f"t {lock}") + core
+
     def in_state(self, x, state):
-        """A section with its lock, and a point as it lies."""
+        """A section with its lock and its letter, and a point as it lies."""
         lock = LOCK_CLASS[state.lock[x]]
         legs = self.legs(x)
+        letter = ""
+        if lock != "f":
+            at, y = self.letter_place(x)
+            letter = f'<text x="{at:.0f}" y="{y:.0f}" class="letter">{LETTERS[state.lock[x]]}</text>'
         if not self.plant.sections[x].is_point:
-            return "" if lock == "f" else path(legs["line"], f"t {lock}")
-        parts = [path(legs["stem"], f"t {lock}")]
+            return "" if lock == "f" else self.laid(legs["line"], lock) + letter
+        parts = [self.laid(legs["stem"], lock)]
         for leg in ("plus", "minus"):
             if leg == state.at[x]:
-                parts.append(path(legs[leg], f"t {lock}"))
+                parts.append(self.laid(legs[leg], lock))
             else:
                 parts.append(path(legs[leg], "w") + path(legs[leg], f"d {lock}"))
-        moving = " mv" if state.at[x] == "moving" else ""
-        parts.append('<circle cx="{:.0f}" cy="{:.0f}" r="4" class="g{}"/>'.format(
-            *self.frog(x), moving))
-        return "".join(parts)
+        is_moving = state.at[x] == "moving"
+        parts.append('<circle cx="{:.0f}" cy="{:.0f}" r="{}" class="g{}"/>'.format(
+            *self.frog(x), 6 if is_moving else 4, " mv" if is_moving else ""))
+        return "".join(parts) + letter
 
-    def train(self, direction, body, state):
-        """A train, from its tail to its head."""
+    def train(self, direction, body, state, number):
+        """A train, from its tail to its head, with its number."""
         points = []
         for place, x in enumerate(body):
             before = body[place - 1] if place else None
@@ -268,7 +286,9 @@ class Drawing:
         points[-1] = toward(points[-1], points[-2], 0.3)
         shift = -2 if direction == "up" else 2
         points = [(x, y + shift) for x, y in points]
-        return path(points, f"tr {direction}") + arrow(points[-1], (tip[0], tip[1] + shift), direction)
+        label = signs.number(*toward(points[-2], points[-1], 0.6), direction, number)
+        return (path(points, f"tr {direction}") + arrow(points[-1], (tip[0], tip[1] + shift), direction)
+                + label)
 
     def way(self, x, direction, before, after, state):
         """The points of a train's way through a section."""

@@ -174,7 +174,7 @@ class Layout:
         section = self.plant.sections[x]
         widest = len(section.name)
         if section.is_point:
-            return max(LEAST_POINT, widest * CHARACTER + 8)
+            return max(LEAST_POINT, widest * CHARACTER + 16)
         signs = [len(self.plant.boards[b].name) for side in OPPOSITE
                  for b in [self.plant.board_on.get((x, side))] if b is not None]
         return max([LEAST_LINEAR, widest * CHARACTER + 12,

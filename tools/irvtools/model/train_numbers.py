@@ -1,0 +1,18 @@
+"""The numbers of trains along a run: each train is counted when it enters."""
+
+from __future__ import annotations
+
+
+def numbered(states: list, events: list) -> list:
+    """Returns for each state of a run the numbers of its trains, in the order of its list of trains."""
+    numbers = list(range(1, len(states[0].trains) + 1))
+    count, found = len(numbers), [numbers]
+    for before, (word, x) in zip(states, events):
+        if word == "enter":
+            count += 1
+            numbers = [*numbers, count]
+        elif word == "leave":
+            place = next(i for i, (_, body) in enumerate(before.trains) if body == [x])
+            numbers = numbers[:place] + numbers[place + 1:]
+        found.append(numbers)
+    return found
