@@ -1,0 +1,65 @@
+"""Says on standard error how far a batch is: on a terminal in one line that is written anew, otherwise now and then
+in a line of its own."""
+
+import signal
+import sys
+import time
+from contextlib import contextmanager
+
+TERMINAL_SECONDS, OTHER_SECONDS = 1, 10         # between two messages
+CLEAR = "\r\x1b[K"                              # goes to the beginning of a terminal's line and clears it
+
+
+class Progress:
+    """Messages about the progress of a call."""
+
+    def __init__(self, stream=None):
+        self.stream = stream or sys.stderr
+        self.is_terminal = self.stream.isatty()
+        self.seconds = TERMINAL_SECONDS if self.is_terminal else OTHER_SECONDS
+        self.begin, self.last = time.monotonic(), ""
+
+    def step(self, words):
+        """Says on a terminal what is done now."""
+        if self.is_terminal:
+            self.stream.write(f"{CLEAR}irv --batch: {words}")
+            self.stream.flush()
+
+    def count(self, done, total):
+        """Says how many jobs are done, if that has changed; on a terminal also how long it took."""
+        words = f"{done} of {total} jobs"
+        if self.is_terminal:
+            self.step(f"{words} done, {clock(time.monotonic() - self.begin)}")
+        elif words != self.last and done:
+            print(f"irv --batch: {words}", file=self.stream, flush=True)
+        self.last = words
+
+    def end(self):
+        """Clears the line on a terminal."""
+        if self.is_terminal:
+            self.stream.write(CLEAR)
+            self.stream.flush()
+
+
+def clock(seconds):
+    """Returns a time in minutes and seconds."""
+    return f"{int(seconds) // 60}:{int(seconds) % 60:02d}"
+
+
+class Stopped(KeyboardInterrupt):
+    """The call was asked to stop by a signal."""
+
+
+@contextmanager
+def stoppable():
+    """While it is open, a signal to terminate or a closed terminal ends the work as Ctrl-C does: what is temporary
+    is removed."""
+    def stop(number, _):
+        raise Stopped(signal.Signals(number).name)
+
+    before = {number: signal.signal(number, stop) for number in (signal.SIGTERM, signal.SIGHUP)}
+    try:
+        yield
+    finally:
+        for number, handler in before.items():
+            signal.signal(number, handler)
