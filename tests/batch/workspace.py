@@ -89,7 +89,7 @@ class Room:
         """Returns the rows of the index in their order: the verdict's word, the text of its cell, and the name."""
         page = (self.out / "index.html").read_text(encoding="utf-8")
         body = page.partition('<table class="index">')[2].partition("<tbody>")[2].partition("</tbody>")[0]
-        rows = re.findall(r'<tr class="\w+" data-word="([^"]*)"><td class="verdict" data-key="\d+">(.*?)</td>'
+        rows = re.findall(r'<tr class="\w+" data-word="([^"]*)"><td class="said" data-key="\d+">(.*?)</td>'
                           r'<td class="name">(.*?)</td>', body, re.S)
         return [(word, plain(cell), plain(name)) for word, cell, name in rows]
 

@@ -184,11 +184,6 @@ class Row:
         return (place if place == 0 else 1 if self.is_contradiction else place + 1, is_late,
                 min(outcomes, default=len(OUTCOMES)))
 
-    @property
-    def ways(self):
-        """The questions by which it is known to be safe."""
-        return [each.question for each in self.results if each.says_safe]
-
 
 def rows_of(report):
     """Returns the rows, the worst first."""

@@ -15,9 +15,10 @@ from irvtools.batch import snakemake_run
 from irvtools.batch.directory import is_inside, read_directory
 from irvtools.batch.file_names import shown
 from irvtools.batch.planning import Planner, read_scenarios
-from irvtools.batch.progress import Progress, stoppable
+from irvtools.batch.progress import Progress
 from irvtools.batch.report_verification import texts_of, verify
 from irvtools.batch.store import MARK, PROVED_NOTE, Store, text_of
+from irvtools.calls.progress import Interrupted, interruptible
 from irvtools.calls.proved_program import is_proved
 from irvtools.calls.refusal import Refused, reason
 
@@ -131,7 +132,7 @@ def plan(store, read, asked, scenarios, program):
     known to be proved."""
     planner = Planner(store, *program, {name: store.give(data) for name, data in scenarios.items()})
     checksums = {name: store.give(data) for name, data in read.items()}
-    keys = {name: list(planner.asked(checksums[name], asked[name])) for name in read}
+    keys = {name: list(planner.asked(name, checksums[name], asked[name])) for name in read}
     for key, job in planner.jobs.items():
         if not store.job_file(key).is_file() or store.job_file(key).read_bytes() != text_of(job):
             store.put(store.job_file(key), text_of(job), is_settled=False)
@@ -212,7 +213,7 @@ def main(words):
         return run_group.run(*words)
     given, progress = arguments_of(words), Progress()
     try:
-        with stoppable():
+        with interruptible():
             return verify_report(given, progress) if given.verify_report else run_batch(given, progress)
     except Refused as fault:
         progress.end()
@@ -224,7 +225,7 @@ def main(words):
         print(f"irv --batch: {shown(str(fault.filename or 'the directory of the results'))}: {reason(fault)}; "
               "call again to go on", file=sys.stderr)
         return UNANSWERED
-    except KeyboardInterrupt:
+    except Interrupted:
         progress.end()
         print("irv --batch: stopped; call again to go on", file=sys.stderr)
         return UNANSWERED

@@ -8,6 +8,7 @@ from irvtools.batch.directory import MOST_SCENARIO, read_file
 from irvtools.batch.file_names import shown
 from irvtools.calls.refusal import Refused
 from irvtools.checkers.verify_with import queries_for
+from irvtools.html.options import MOST_CHARACTERS
 from irvtools.batch.store import checksum_of, checksum_of_file, text_of
 
 FORM = 2                        # another number if a kind of job comes to do something else
@@ -31,6 +32,12 @@ def read_scenarios(directory, asked):
     return read
 
 
+def title_of(name):
+    """Returns the title of a configuration's HTML report: its name, of a long one the end."""
+    title = "".join(one if one.isprintable() else f"\\u{ord(one):04x}" for one in shown(name))
+    return title if len(title) <= MOST_CHARACTERS else "…" + title[1 - MOST_CHARACTERS:]
+
+
 class Planner:
     """Makes the jobs of one directory: with the program of this checksum, which is known to be proved or not, and
     scenarios of these checksums."""
@@ -52,9 +59,9 @@ class Planner:
         """Returns the path of a job's answer, from the directory of the results."""
         return os.path.relpath(self.store.answer_file(self.jobs[key]), self.store.top)
 
-    def asked(self, configuration, questions):
-        """Adds the jobs of all questions about a configuration; yields each question in words with its job's
-        key."""
+    def asked(self, name, configuration, questions):
+        """Adds the jobs of all questions about a configuration, by its name and its checksum; yields each question in
+        words with its job's key."""
         verified = {}
         for question in questions:
             if question.kind == "verify":
@@ -63,6 +70,8 @@ class Planner:
             if question.kind == "audit":
                 yield from ((f"audit of verify {words}".strip(), self.audit(configuration, key))
                             for words, key in verified.items())
+            elif question.kind == "html":
+                yield f"html {question.words}".strip(), self.html(name, configuration, question)
             else:
                 make = getattr(self, question.kind, self.plain)
                 yield f"{question.kind} {question.words}".strip(), make(configuration, question)
@@ -80,11 +89,12 @@ class Planner:
         return self.job("audit", {"verify": verified}, configuration=configuration, columns=columns,
                         words=["--columns", columns])
 
-    def html(self, configuration, question):
-        """Adds an HTML report. Whether the program is known to be proved is a part of it."""
+    def html(self, name, configuration, question):
+        """Adds an HTML report, which shows the configuration's name and whether the program is known to be proved."""
         says = question.says
         words = ["--columns", says.columns, "--depth", str(says.depth), "--conflicts", str(says.conflicts),
-                 "--verify-seconds", str(says.verify_seconds), "--search-seconds", str(says.search_seconds)]
+                 "--verify-seconds", str(says.verify_seconds), "--search-seconds", str(says.search_seconds),
+                 "--no-cert", "--title", title_of(name)]
         return self.job("html", configuration=configuration, words=words, columns=says.columns,
                         tool=self.html_tool, is_proved=self.is_proved)
 

@@ -1,10 +1,8 @@
 """Says on standard error how far a batch is: on a terminal in one line that is written anew, otherwise now and then
 in a line of its own."""
 
-import signal
 import sys
 import time
-from contextlib import contextmanager
 
 TERMINAL_SECONDS, OTHER_SECONDS = 1, 10         # between two messages
 CLEAR = "\r\x1b[K"                              # goes to the beginning of a terminal's line and clears it
@@ -45,21 +43,3 @@ def clock(seconds):
     """Returns a time in minutes and seconds."""
     return f"{int(seconds) // 60}:{int(seconds) % 60:02d}"
 
-
-class Stopped(KeyboardInterrupt):
-    """The call was asked to stop by a signal."""
-
-
-@contextmanager
-def stoppable():
-    """While it is open, a signal to terminate or a closed terminal ends the work as Ctrl-C does: what is temporary
-    is removed."""
-    def stop(number, _):
-        raise Stopped(signal.Signals(number).name)
-
-    before = {number: signal.signal(number, stop) for number in (signal.SIGTERM, signal.SIGHUP)}
-    try:
-        yield
-    finally:
-        for number, handler in before.items():
-            signal.signal(number, handler)

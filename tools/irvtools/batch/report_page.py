@@ -7,6 +7,7 @@ from irvtools.batch.batch_report import CONTRADICTION, GOOD, LEFT_OUT, NO_ANSWER
 from irvtools.batch.report_style import CSS
 from irvtools.calls.verdict import HAZARD_FOUND, RANKING, REFUSED, UNPROVED
 from irvtools.html.markup import code, tag, text
+from irvtools.html.style import document
 
 FILE = "index.html"
 SCRIPT = Path(__file__).with_name("index.js")
@@ -18,17 +19,19 @@ RUNS = {"unsafe": "run to the hazard", "breach": "run to the breach of the invar
         "not": "step out of the invariant"}
 
 
-def files_shown(result):
-    """Returns the links to the files of an answer: what each shows, and where it is."""
-    paths = {role: path for role, path, _ in result.files()}
-    links = []
-    if "page" in paths:
-        links.append((f"HTML report ({result.question})", paths["page"]))
-    if "certificate" in paths:
-        links.append((f"certificate ({result.question})", paths["certificate"]))
-    if "report" in paths:
-        links.append((f"{report_name(result)} ({result.question})", paths["report"]))
-    return links
+def short_question(row, result):
+    """Returns a question in one word if the row has no other one of its kind, otherwise as a whole."""
+    kinds = [each.kind for each in row.results]
+    return result.kind if kinds.count(result.kind) == 1 else result.question
+
+
+def files_shown(row):
+    """Returns the links to the files of a row's answers: what each shows, and where it is."""
+    for result in row.results:
+        paths = {role: path for role, path, _ in result.files()}
+        names = {"page": "HTML report", "certificate": "certificate", "report": report_name(result)}
+        for role in (role for role in names if role in paths):
+            yield f"{names[role]} ({short_question(row, result)})", paths[role]
 
 
 def report_name(result):
@@ -74,12 +77,13 @@ def row_markup(row, number):
     sizes = row.sizes or {}
     seconds = math.fsum(each.measure("seconds") for each in row.results)
     memory = max([each.measure("memory_kib", max) for each in row.results], default=0) / 1024
-    links = [tag("a", text(words), href=path) for each in row.results for words, path in files_shown(each)]
-    cells = [tag("td", verdict_cell(row), class_="verdict", data_key=number),
+    links = [tag("a", text(words), href=path) for words, path in files_shown(row)]
+    safe_by = [short_question(row, each) for each in row.results if each.says_safe]
+    cells = [tag("td", verdict_cell(row), class_="said", data_key=number),
              tag("td", text(row.name), class_="name"),
              *(number_cell(what, sizes.get(what, "–")) for what in HEADER[2:5]),
              labelled("broken rules", text(rules(row)), "rules"),
-             labelled("safe by", text(", ".join(row.ways) or "–")),
+             labelled("safe by", text(", ".join(safe_by) or "–")),
              number_cell("seconds", f"{seconds:.1f}"), number_cell("MiB", f"{memory:.0f}"),
              labelled("files", " ".join(links), "links")]
     return tag("tr", "".join(cells), class_=row.tone, data_word=row.verdict)
@@ -142,13 +146,13 @@ def notes(report, rows):
     """Returns what a reader must know before the table."""
     found = []
     if not report["is_proved"]:
-        found.append(tag("p", text(UNPROVED), class_="note"))
+        found.append(tag("p", text(UNPROVED), class_="remark"))
     missing, wrong = sum(len(row.missing) for row in rows), sum(row.is_contradiction for row in rows)
     if wrong:
         found.append(tag("p", text(f"Contradictions: {wrong}. The program, a machine or this directory is wrong, "
-                                   "and no answer here can be relied on."), class_="note bad"))
+                                   "and no answer here can be relied on."), class_="remark bad"))
     if missing:
-        found.append(tag("p", text(f"Missing answers: {missing}. The next call asks again."), class_="note bad"))
+        found.append(tag("p", text(f"Missing answers: {missing}. The next call asks again."), class_="remark bad"))
     if any(row.verdict == REFUSED for row in rows):
         found.append(tag("p", text("REFUSED says that a rule is broken, and nothing about safety. The question html "
                                    "searches for a run to a hazard of such a table too."), class_="small"))
@@ -169,7 +173,5 @@ def page(report):
                         f"{report['engine']}. ./irv --batch --verify-report checks each certificate, refutation and "
                         "run again, on one machine. The scripts that ask and make this page are tested, not "
                         "proved."))]
-    return ("<!doctype html>\n<html lang=\"en\"><head><meta charset=\"utf-8\">"
-            "<meta name=\"viewport\" content=\"width=device-width, initial-scale=1\">"
-            f"<title>{title}</title><style>{CSS}</style></head><body>\n" + "\n".join(parts)
-            + f"\n<script>\n{SCRIPT.read_text(encoding='utf-8')}</script></body></html>\n")
+    script = f"<script>\n{SCRIPT.read_text(encoding='utf-8')}</script>"
+    return document(title, "\n".join([*parts, script]), CSS)

@@ -12,6 +12,7 @@ import time
 from pathlib import Path
 
 from irvtools.batch.measuring import end_with_parent
+from irvtools.calls.progress import Interrupted
 from irvtools.calls.refusal import Refused
 
 ENGINE = "snakemake"
@@ -109,7 +110,7 @@ def stop(child, store):
             os.killpg(child.pid, number)
         try:
             child.wait()
-        except KeyboardInterrupt:
+        except Interrupted:
             number = signal.SIGKILL
     remove_temporary(store)
 
