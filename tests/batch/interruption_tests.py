@@ -2,6 +2,9 @@
 the next call finishes the work."""
 
 import contextlib
+import os
+import pty
+import re
 import signal
 import subprocess
 import time
@@ -9,7 +12,7 @@ import xml.etree.ElementTree
 from pathlib import Path
 from unittest import SkipTest
 
-from tests.batch.workspace import batch_case, differs, done_line, run
+from tests.batch.workspace import batch_case, differs, done_line, run, without_progress
 
 LONG = 300              # seconds to wait for something, however loaded the machine is
 SMALL_DISK, LARGE_DISK = "2m", "64m"    # below the certificate of a terminus, and far above
@@ -36,16 +39,21 @@ def check_no_answer(room):
                        ["platforms.json: verify: irv audit says rejected line 1, and the report says accepted k=1"])
 
 
+def begun(room, words, **others):
+    """Returns a call that was begun and waits in verify."""
+    room.fake("wait")
+    call = subprocess.Popen(room.words(*words), stdin=subprocess.DEVNULL, stdout=subprocess.DEVNULL, **others)
+    waits, end = Path(f"{room.wish}.waits"), time.monotonic() + LONG
+    while not waits.exists() and call.poll() is None and time.monotonic() < end:
+        time.sleep(0.1)
+    return call
+
+
 def check_killed(room):
     """If tools/batch is killed in the middle, the next call finishes the work."""
     room.add("platforms.json")
-    room.fake("wait")
     words = ["--ask", "check", "--ask", "verify"]
-    first = subprocess.Popen(room.words(*words), stdin=subprocess.DEVNULL, stdout=subprocess.DEVNULL,
-                             stderr=subprocess.DEVNULL)
-    waits, end = Path(f"{room.wish}.waits"), time.monotonic() + LONG
-    while not waits.exists() and first.poll() is None and time.monotonic() < end:
-        time.sleep(0.1)
+    first = begun(room, words, stderr=subprocess.DEVNULL)
     first.send_signal(signal.SIGKILL)
     first.wait()
     yield from differs("a report of half the work", (room.out / "report.json").exists(), False)
@@ -53,6 +61,70 @@ def check_killed(room):
     done = room.call(*words)
     yield from differs("afterwards", (done.returncode, room.answers()), (0, {
         ("platforms.json", "check"): ("good", "clean"), ("platforms.json", "verify"): ("good", "safe k=1")}))
+
+
+def processes_of(room):
+    """Returns the command lines of processes that work in a room."""
+    found = []
+    for path in Path("/proc").glob("[0-9]*/cmdline"):
+        with contextlib.suppress(OSError):
+            line = path.read_bytes().replace(b"\0", b" ").decode(errors="replace")
+            found += [line] if str(room.room) in line else []
+    return found
+
+
+def check_interrupted(room):
+    """A call that is interrupted ends all that it runs, says so, and leaves no temporary file anywhere. The next call
+    finishes the work."""
+    room.add("platforms.json")
+    room.add("two-sections.json")
+    temporary = room.room / "temporary"
+    temporary.mkdir()
+    words = ["--ask", "check", "--ask", "verify", "--ask", "html --columns free --search-seconds 0",
+             "--batch-bytes", "0"]
+    for number in (signal.SIGTERM, signal.SIGINT, signal.SIGHUP):
+        Path(f"{room.room}/wish.waits").unlink(missing_ok=True)
+        call = begun(room, words, stderr=subprocess.PIPE, text=True, env={**os.environ, "TMPDIR": str(temporary)})
+        call.send_signal(number)
+        said = call.communicate(timeout=LONG)[1]
+        yield from differs(number.name, (call.returncode, without_progress(said)),
+                           (3, "irv --batch: stopped; call again to go on\n"))
+        yield from differs(f"{number.name}: processes", processes_of(room), [])
+        left = [*temporary.iterdir(), *(room.out / "making").iterdir(), *(room.out / "groups").iterdir()]
+        yield from differs(f"{number.name}: temporary files", left, [])
+        yield from differs(f"{number.name}: a report", (room.out / "report.json").exists(), False)
+    room.wish.write_text("go", encoding="ascii")
+    done = room.call(*words)
+    yield from differs("afterwards", (done.returncode, room.answers()[("platforms.json", "verify")]),
+                       (1, ("good", "safe k=1")))
+    yield from differs("verified", room.verify()[0], 0)
+
+
+def check_terminal(room):
+    """On a terminal a call says what it is doing in a line that it clears at last; in a file it says none of that."""
+    room.add("platforms.json")
+    reader, terminal = pty.openpty()
+    done = run_beside(room.words("--ask", "check"), terminal)
+    said = os.read(reader, 1 << 16).decode()
+    os.close(reader)
+    steps = [line.partition(": ")[2] for line in said.split("\r\x1b[K") if line]
+    yield from differs("the first steps", steps[:3], [
+        f"reading {room.directory}", "planning the jobs of 1 configurations",
+        "0 jobs known, 1 to do: Snakemake starts"])
+    yield from differs("the last step", steps[-1], "writing the report")
+    counts = [step for step in steps if re.fullmatch(r"[01] of 1 jobs done, \d+:\d\d", step)]
+    if not counts or not said.endswith("\r\x1b[K"):
+        yield f"the terminal shows {said!r}"
+    yield from differs("the output", done, done_line(1, "1 SAFE", 1, (1, 0), room))
+    yield from differs("in a file", room.call("--ask", "check").stderr, "")
+
+
+def run_beside(words, terminal):
+    """Calls a command whose standard error is a terminal; returns its output."""
+    done = subprocess.run(words, stdin=subprocess.DEVNULL, stdout=subprocess.PIPE, stderr=terminal, text=True,
+                          check=False, timeout=LONG)
+    os.close(terminal)
+    return done.stdout
 
 
 def check_full(room):
@@ -119,4 +191,5 @@ def check_full_disk(room):
         yield from differs("verified", room.verify()[0], 0)
 
 
-InterruptionTests = batch_case("InterruptionTests", (check_no_answer, check_killed, check_worker_killed, check_full, check_full_disk))
+InterruptionTests = batch_case("InterruptionTests", (
+    check_no_answer, check_killed, check_worker_killed, check_interrupted, check_terminal, check_full, check_full_disk))

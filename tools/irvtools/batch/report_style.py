@@ -2,7 +2,7 @@
 
 CSS = """
 table{width:100%}td{overflow-wrap:anywhere}th{white-space:nowrap}td.number{text-align:right;white-space:nowrap}
-td.name{min-width:16ch}td.said{min-width:34ch}td.rules{min-width:12ch}
+td.name{min-width:16ch;font-weight:600}td.links{min-width:22ch}td.said{min-width:34ch}td.rules{min-width:12ch}
 .word{font-weight:700}.good .word,.word.good{color:var(--good)}.warn .word,.word.warn{color:var(--warn)}
 .bad .word,.word.bad{color:var(--bad)}tr.good,tr.warn,tr.bad{color:var(--ink)}
 tr.good>td.said{border-left:6px solid var(--good)}tr.warn>td.said{border-left:6px solid var(--warn)}
@@ -19,8 +19,8 @@ th button::after{content:" \\2195"}th[aria-sort=ascending] button::after{content
 th[aria-sort=descending] button::after{content:" \\2193"}
 :focus-visible{outline:3px solid var(--focus);outline-offset:1px}
 @media (max-width:800px){table,tbody,thead{display:block}tr{display:block;border:1px solid var(--edge);margin:0 0 10px}
-  tr[hidden]{display:none}td,td.number{display:block;border:0;text-align:left;white-space:normal}
-  td.said,td.name,td.rules{min-width:0}td[data-label]::before{content:attr(data-label) ": ";color:var(--quiet)}
+  tr[hidden]{display:none}td{display:block;border:0;text-align:left}
+  td.said,td.name,td.rules,td.links{min-width:0}td.number{display:inline-block}td[data-label]::before{content:attr(data-label) ": ";color:var(--quiet)}
   thead tr{display:flex;flex-wrap:wrap;border:0}thead th{border:0;background:none}thead.plain{display:none}
   .tools label{max-width:100%}.tools input{min-width:0}}
 @page{size:A4 landscape}

@@ -204,6 +204,8 @@ class Verifier:
         """Has a certificate audited or a run replayed, or asks for a refusal again."""
         columns, line = ["--columns", job["columns"]], answer["line"]
         if line.startswith("safe "):
+            if "certificate" not in answer["files"]:
+                raise Fault(f"the report says {line} without a certificate")
             certificate = self.file(job, job["key"], answer["files"]["certificate"])
             self.expect(self.ask(job, "audit", *columns, f"--cert={certificate}"), f"accepted {line[5:]}",
                         "irv audit")
