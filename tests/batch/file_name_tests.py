@@ -36,22 +36,26 @@ def fill(room):
 
 
 def check_names(room):
-    """Each answer is the documented one, whatever the names are, and the index and JUnit show the names as they
-    are. A second call does nothing; a call after a change does only what changed."""
+    """Each answer is the documented one, whatever the names are, and the index and JUnit show
+    the names as they are. A second call does nothing; a call after a change does only what
+    changed."""
     fill(room)
     first = room.call()
     yield from differs("status", (first.returncode, without_progress(first.stderr)), (1, ""))
     yield from names_faults(room)
     again = room.call()
-    yield from differs("again", again.stdout, first.stdout.replace(
-        f"{jobs_of(room)} jobs were done, 0 were known", f"0 jobs were done, {jobs_of(room)} were known"))
+    yield from differs(
+        "again", again.stdout,
+        first.stdout.replace(f"{jobs_of(room)} jobs were done, 0 were known",
+                             f"0 jobs were done, {jobs_of(room)} were known"))
     status, lines = room.verify()
     yield from differs("verified", (status, lines[:-1]), (0, []))
     yield from order_faults(room)
     known = jobs_of(room)
     room.add("line-with-boards.json", NAMES["station.json"])
     third = room.call()
-    yield from differs("changed", third.stdout.split("; ")[1], f"2 jobs were done, {known - 2} were known")
+    yield from differs("changed",
+                       third.stdout.split("; ")[1], f"2 jobs were done, {known - 2} were known")
     yield from changes(room)
 
 
@@ -60,12 +64,12 @@ def jobs_of(room):
     return len(room.report()["jobs"])
 
 
-def names_faults(room):
-    """Yields what is wrong with the answers about configurations with names of all kinds."""
-    found, name = room.answers(), {key: SHOWN[key] for key in SHOWN}
+def expected_answers():
+    """Returns the outcome and the line of each answer but that of verify_with."""
+    name = dict(SHOWN)
     name["two-sections.json"] = "\\x3d1+1.json"         # in a table no name begins a formula
     name["platforms-wrong-position.json"] = "\\x2ddash <b>&amp; {key}.json"
-    expected = {
+    return {
         (name["platforms.json"], "check"): ("good", "clean"),
         (name["platforms.json"], "verify"): ("good", "safe k=1"),
         (name["platforms.json"], "audit"): ("good", "accepted k=1"),
@@ -80,29 +84,38 @@ def names_faults(room):
         (name["station.json"], "check"): ("good", "clean"),
         # no section is called line: the second line of the scenario is bad
         (name["station.json"], "drive"): ("NOT SHOWN", "rejected line 2"),
-        # a train is on the line, and no route is set: all commands were given, and the train has not left
+        # a train is on the line, and no route is set: all commands were given, and the train has
+        # not left
         (name["platforms.json"], "drive"): ("NOT SHOWN", "stuck at 2 steps=1"),
     }
-    solved = found.pop((name["platforms.json"], "verify_with"), ("", ""))
+
+
+def names_faults(room):
+    """Yields what is wrong with the answers about configurations with names of all kinds."""
+    found, expected = room.answers(), expected_answers()
+    solved = found.pop((SHOWN["platforms.json"], "verify_with"), ("", ""))
     yield from differs("answers", found, expected)
     # an empty text refutes no query that needs more than propagation, as step 1 of this table does
     if solved[0] != "NOT SHOWN" or not solved[1].endswith("step 1"):
         yield f"a solver that wrote nothing: {solved}"
     yield from differs("touched", list(room.room.rglob("broken")), [])
     rows = [(word, name) for word, _, name in room.index_rows()]
-    yield from differs("the rows of the index, the worst first", rows, [
-        ("HAZARD FOUND", "=1+1.json"), ("REFUSED", "-dash <b>&amp; {key}.json"),
-        ("SAFE", "a 'quoted\" $(touch broken) name.json"), ("SAFE", "below/line\\x0aend \\xff.json")])
+    yield from differs("the rows of the index, the worst first", rows,
+                       [("HAZARD FOUND", "=1+1.json"), ("REFUSED", "-dash <b>&amp; {key}.json"),
+                        ("SAFE", "a 'quoted\" $(touch broken) name.json"),
+                        ("SAFE", "below/line\\x0aend \\xff.json")])
     suite = xml.etree.ElementTree.parse(room.out / "report.xml").getroot()[0]
-    yield from differs("JUnit", [suite.get(key) for key in ("tests", "failures", "errors", "skipped")],
+    yield from differs("JUnit",
+                       [suite.get(key) for key in ("tests", "failures", "errors", "skipped")],
                        ["14", "9", "0", "1"])
     yield from differs("JUnit's names", {case.get("classname") for case in suite.iter("testcase")},
                        set(SHOWN.values()))
 
 
 def order_faults(room):
-    """Yields a fault if the report's texts depend on the order in which a job's needs are listed, which is another
-    one in a report that is read again; also if a sum of seconds ends halfway between two that are shown."""
+    """Yields a fault if the report's texts depend on the order in which a job's needs are
+    listed, which is another one in a report that is read again; also if a sum of seconds ends
+    halfway between two that are shown."""
     report, turned = room.report(), room.report()
     for each in turned["jobs"].values():
         each["job"]["needs"] = dict(reversed(each["job"]["needs"].items()))
@@ -117,41 +130,55 @@ def order_faults(room):
             return
 
 
+def shortened(data):
+    """Leaves out the last bytes."""
+    return data[:-2]
+
+
+def other_steps(data):
+    """Changes the number of steps of a run."""
+    return data.replace(b"unsafe steps=3", b"unsafe steps=2")
+
+
+def other_verdict(data):
+    """Changes the verdict of each configuration that was refused."""
+    configurations, between, jobs = data.partition(b'"jobs":{')
+    return configurations.replace(b'"word":"REFUSED"', b'"word":"SAFE"') + between + jobs
+
+
+def other_word(data):
+    """Changes the verdict of each job that shows nothing."""
+    configurations, between, jobs = data.partition(b'"jobs":{')
+    return configurations + between + jobs.replace(b'"word":"NOT SHOWN"', b'"word":"REFUSED"')
+
+
+def no_word(data):
+    """Puts a word where a verdict's should be."""
+    return data.replace(b'"word":"REFUSED"', b'"word":"GREEN"')
+
+
+def called_proved(data):
+    """Says that the program is proved."""
+    return data.replace(b'"is_proved":false', b'"is_proved":true')
+
+
 def changes(room):
     """Each thing that was changed afterwards is found by --verify-report."""
-    def shortened(data):
-        return data[:-2]
-
-    def other_steps(data):
-        return data.replace(b"unsafe steps=3", b"unsafe steps=2")
-
-    def other_verdict(data):
-        configurations, between, jobs = data.partition(b'"jobs":{')
-        return configurations.replace(b'"word":"REFUSED"', b'"word":"SAFE"') + between + jobs
-
-    def other_word(data):
-        configurations, between, jobs = data.partition(b'"jobs":{')
-        return configurations + between + jobs.replace(b'"word":"NOT SHOWN"', b'"word":"REFUSED"')
-
-    def no_word(data):
-        return data.replace(b'"word":"REFUSED"', b'"word":"GREEN"')
-
-    def called_proved(data):
-        return data.replace(b'"is_proved":false', b'"is_proved":true')
-
     configuration = next(each["checksum"] for each in room.report()["configurations"]
                          if each["name"] == "=1+1.json")
+    report, certificate = room.out / "report.json", room.file("verify", "certificate", "safe k=1")
+    run = room.file("verify", "report", "unsafe steps=3 hazard=two a")
     for what, path, change, expected in (
-            ("a certificate", room.file("verify", "certificate", "safe k=1"), shortened, "the certificate was changed"),
-            ("a run", room.file("verify", "report", "unsafe steps=3 hazard=two a"), other_steps,
-             "the report was changed"),
+            ("a certificate", certificate, shortened, "the certificate was changed"),
+            ("a run", run, other_steps, "the report was changed"),
             ("a page", room.out / "index.html", other_steps, "index.html: the file was changed"),
-            ("a configuration", room.out / "given" / configuration, shortened, "the configuration was changed"),
-            ("an answer", room.out / "report.json", other_steps, "the answer was changed"),
-            ("a verdict", room.out / "report.json", other_verdict, "the verdict SAFE is not that of the answers"),
-            ("a job's verdict", room.out / "report.json", other_word, "its verdict is not that of its answer"),
-            ("a word", room.out / "report.json", no_word, "report.json: it is not as it should be"),
-            ("the proof", room.out / "report.json", called_proved, "the program: the report says that it is proved")):
+            ("a configuration", room.out / "given" / configuration, shortened,
+             "the configuration was changed"),
+            ("an answer", report, other_steps, "the answer was changed"),
+            ("a verdict", report, other_verdict, "the verdict SAFE is not that of the answers"),
+            ("a job's verdict", report, other_word, "its verdict is not that of its answer"),
+            ("a word", report, no_word, "report.json: it is not as it should be"),
+            ("the proof", report, called_proved, "the program: the report says that it is proved")):
         before = path.read_bytes()
         if change(before) == before:
             yield f"{what} is not changed"

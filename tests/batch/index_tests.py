@@ -12,10 +12,13 @@ from tests.support.harness import Test
 
 PHONE, WIDE = (390, 800), (1400, 1000)
 LEAST_CONTRAST = 4.5
-SHOWN = "[...document.querySelectorAll('table.index tbody tr')].filter(row => row.getClientRects().length)"
+SHOWN = ("[...document.querySelectorAll('table.index tbody tr')]"
+         ".filter(row => row.getClientRects().length)")
 NAMES = SHOWN + ".map(row => row.querySelector('td.name').textContent)"
-SORT = ("[...document.querySelectorAll('table.index th button')].find(one => one.textContent === '{}').click();"
-        "[...document.querySelectorAll('table.index tbody tr')].map(row => row.cells[{}].textContent)")
+SORT = (
+    "[...document.querySelectorAll('table.index th button')]"
+    ".find(one => one.textContent === '{}').click();"
+    "[...document.querySelectorAll('table.index tbody tr')].map(row => row.cells[{}].textContent)")
 FILTER = ("(() => {{ const one = document.querySelector('{}'); one.value = '{}';"
           " one.dispatchEvent(new Event('{}')); }})()")
 # the texts whose contrast to what is behind them is too small
@@ -34,7 +37,8 @@ CONTRAST = """(() => {
         && node.textContent.trim())) continue;
     const [a, b] = [light(getComputedStyle(one).color), light(behind(one))].sort((x, y) => y - x);
     const ratio = (a + 0.05) / (b + 0.05);
-    if (ratio < LEAST) wrong.push(`${one.tagName} ${one.className} ${one.textContent.slice(0, 30)} ${ratio}`);
+    const words = one.textContent.slice(0, 30);
+    if (ratio < LEAST) wrong.push(`${one.tagName} ${one.className} ${words} ${ratio}`);
   }
   return [...new Set(wrong)].slice(0, 5);
 })()""".replace("LEAST", str(LEAST_CONTRAST))
@@ -67,20 +71,25 @@ class IndexTests(Test):
         return shown
 
     def test_sorts(self):
-        """A click on a title sorts by its column, another click the other way, and the first column brings back the
-        order of the page."""
+        """A click on a title sorts by its column, another click the other way, and the first
+        column brings back the order of the page."""
         shown = self.opened()
         first = shown.ask(NAMES)
         up, down = (shown.ask(SORT.format("configuration", 1)) for _ in range(2))
         shown.ask(SORT.format("seconds", 7))
         numbers = shown.ask(SORT.format("seconds", 7))
         shown.ask(SORT.format("verdict", 0))
-        self.see([*differs("up", up, sorted(first)), *differs("down", down, sorted(first)[::-1]),
-                  *differs("numbers", [float(one) for one in numbers], sorted(map(float, numbers), reverse=True)),
-                  *differs("the first order", shown.ask(NAMES), first), *shown.faults()])
+        self.see([
+            *differs("up", up, sorted(first)), *differs("down", down,
+                                                        sorted(first)[::-1]),
+            *differs("numbers", [float(one)
+                                 for one in numbers], sorted(map(float, numbers), reverse=True)),
+            *differs("the first order", shown.ask(NAMES), first), *shown.faults()
+        ])
 
     def test_filters(self):
-        """The text and the verdict that are chosen hide the other rows, and the page says how many are shown."""
+        """The text and the verdict that are chosen hide the other rows, and the page says how
+        many are shown."""
         shown = self.opened()
         all_ = len(CONFIGURATIONS)
         hazards = [name for name, _, word, _ in CONFIGURATIONS if word == HAZARD_FOUND]
@@ -94,7 +103,8 @@ class IndexTests(Test):
         self.see([*faults, *differs("all", len(shown.ask(NAMES)), all_), *shown.faults()])
 
     def test_without_script(self):
-        """Without its script the page has all rows, the worst first, and nothing that does nothing."""
+        """Without its script the page has all rows, the worst first, and nothing that does
+        nothing."""
         shown = self.browser.page(*WIDE)
         shown.call("Emulation.setScriptExecutionDisabled", value=True)
         shown.call("Page.navigate", url=self.file.resolve().as_uri())
@@ -105,17 +115,20 @@ class IndexTests(Test):
         self.see([*differs("rows", found, words), *differs("controls", buttons, 0)])
 
     def test_phone(self):
-        """At 390 pixels nothing is wider than the screen, and the page is laid out for that width."""
+        """At 390 pixels nothing is wider than the screen, and the page is laid out for that
+        width."""
         shown = self.opened(PHONE)
         width = shown.ask("[innerWidth, document.documentElement.scrollWidth]")
         self.see([*differs("width", width, [390, 390]), *shown.ask(TOO_WIDE), *shown.faults()])
 
     def test_contrast(self):
-        """Each text differs enough from what is behind it, by day and in the dark, and the dark page is dark."""
+        """Each text differs enough from what is behind it, by day and in the dark, and the dark
+        page is dark."""
         faults = []
         for scheme, is_dark in (("light", False), ("dark", True)):
             shown = self.opened(prefers_color_scheme=scheme)
-            ground = shown.ask("getComputedStyle(document.body).backgroundColor.match(/[0-9]+/g).map(Number)")
+            ground = shown.ask(
+                "getComputedStyle(document.body).backgroundColor.match(/[0-9]+/g).map(Number)")
             faults += [f"{scheme}: {each}" for each in shown.ask(CONTRAST)]
             faults += differs(f"{scheme}: dark", max(ground) < 100, is_dark)
         self.see(faults)
@@ -128,7 +141,8 @@ class IndexTests(Test):
         found = shown.ask(NAMES)
         shown.ask("document.querySelectorAll('table.index th button')[1].focus()")
         shown.key("Enter")
-        state = shown.ask("document.querySelectorAll('table.index th')[1].getAttribute('aria-sort')")
+        state = shown.ask(
+            "document.querySelectorAll('table.index th')[1].getAttribute('aria-sort')")
         self.see([*differs("written", found, ["unsafe"]), *differs("sorted", state, "ascending")])
 
 

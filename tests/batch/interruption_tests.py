@@ -1,5 +1,5 @@
-"""Tests of work that is stopped in the middle: the report says what has no answer, no half of a result is used, and
-the next call finishes the work."""
+"""Tests of work that is stopped in the middle: the report says what has no answer, no half of a
+result is used, and the next call finishes the work."""
 
 import contextlib
 import os
@@ -19,10 +19,13 @@ SMALL_DISK, LARGE_DISK = "2m", "64m"    # below the certificate of a terminus, a
 
 
 def check_no_answer(room):
-    """A call that gives no answer is reported, and the next call asks again; a certificate that is none is found."""
+    """A call that gives no answer is reported, and the next call asks again; a certificate that
+    is none is found."""
     room.add("platforms.json")
     words = ["--ask", "verify"]
-    for wish, why in (("kill", "irv verify was ended by SIGKILL, which happens if the machine has no memory left"),
+    for wish, why in ((
+            "kill",
+            "irv verify was ended by SIGKILL, which happens if the machine has no memory left"),
                       ("empty", "irv verify ended with status 1 and no answer")):
         room.fake(wish)
         done = room.call(*words)
@@ -35,14 +38,15 @@ def check_no_answer(room):
     done = room.call(*words)
     yield from differs("lie", (done.returncode, room.answers()[("platforms.json", "verify")]),
                        (0, ("good", "safe k=1")))
-    yield from differs("the lie is found", room.verify()[1][:1],
-                       ["platforms.json: verify: irv audit says rejected line 1, and the report says accepted k=1"])
+    lie = "irv audit says rejected line 1, and the report says accepted k=1"
+    yield from differs("the lie is found", room.verify()[1][:1], [f"platforms.json: verify: {lie}"])
 
 
 def begun(room, words, **others):
     """Returns a call that was begun and waits in verify."""
     room.fake("wait")
-    call = subprocess.Popen(room.words(*words), stdin=subprocess.DEVNULL, stdout=subprocess.DEVNULL, **others)
+    call = subprocess.Popen(room.words(*words), stdin=subprocess.DEVNULL, stdout=subprocess.DEVNULL,
+                            **others)
     waits, end = Path(f"{room.wish}.waits"), time.monotonic() + LONG
     while not waits.exists() and call.poll() is None and time.monotonic() < end:
         time.sleep(0.1)
@@ -59,8 +63,9 @@ def check_killed(room):
     yield from differs("a report of half the work", (room.out / "report.json").exists(), False)
     room.wish.write_text("go", encoding="ascii")
     done = room.call(*words)
-    yield from differs("afterwards", (done.returncode, room.answers()), (0, {
-        ("platforms.json", "check"): ("good", "clean"), ("platforms.json", "verify"): ("good", "safe k=1")}))
+    yield from differs("afterwards", (done.returncode, room.answers()),
+                       (0, {("platforms.json", "check"): ("good", "clean"),
+                            ("platforms.json", "verify"): ("good", "safe k=1")}))
 
 
 def processes_of(room):
@@ -74,8 +79,8 @@ def processes_of(room):
 
 
 def check_interrupted(room):
-    """A call that is interrupted ends all that it runs, says so, and leaves no temporary file anywhere. The next call
-    finishes the work."""
+    """A call that is interrupted ends all that it runs, says so, and leaves no temporary file
+    anywhere. The next call finishes the work."""
     room.add("platforms.json")
     room.add("two-sections.json")
     temporary = room.room / "temporary"
@@ -84,24 +89,30 @@ def check_interrupted(room):
              "--batch-bytes", "0"]
     for number in (signal.SIGTERM, signal.SIGINT, signal.SIGHUP):
         Path(f"{room.room}/wish.waits").unlink(missing_ok=True)
-        call = begun(room, words, stderr=subprocess.PIPE, text=True, env={**os.environ, "TMPDIR": str(temporary)})
+        call = begun(room, words, stderr=subprocess.PIPE, text=True,
+                     env={**os.environ, "TMPDIR": str(temporary)})
         call.send_signal(number)
         said = call.communicate(timeout=LONG)[1]
         yield from differs(number.name, (call.returncode, without_progress(said)),
                            (3, "irv --batch: stopped; call again to go on\n"))
         yield from differs(f"{number.name}: processes", processes_of(room), [])
-        left = [*temporary.iterdir(), *(room.out / "making").iterdir(), *(room.out / "groups").iterdir()]
+        left = [
+            *temporary.iterdir(), *(room.out / "making").iterdir(),
+            *(room.out / "groups").iterdir()
+        ]
         yield from differs(f"{number.name}: temporary files", left, [])
         yield from differs(f"{number.name}: a report", (room.out / "report.json").exists(), False)
     room.wish.write_text("go", encoding="ascii")
     done = room.call(*words)
-    yield from differs("afterwards", (done.returncode, room.answers()[("platforms.json", "verify")]),
+    yield from differs("afterwards",
+                       (done.returncode, room.answers()[("platforms.json", "verify")]),
                        (1, ("good", "safe k=1")))
     yield from differs("verified", room.verify()[0], 0)
 
 
 def check_terminal(room):
-    """On a terminal a call says what it is doing in a line that it clears at last; in a file it says none of that."""
+    """On a terminal a call says what it is doing in a line that it clears at last; in a file it
+    says none of that."""
     room.add("platforms.json")
     reader, terminal = pty.openpty()
     done = run_beside(room.words("--ask", "check"), terminal)
@@ -121,46 +132,50 @@ def check_terminal(room):
 
 def run_beside(words, terminal):
     """Calls a command whose standard error is a terminal; returns its output."""
-    done = subprocess.run(words, stdin=subprocess.DEVNULL, stdout=subprocess.PIPE, stderr=terminal, text=True,
-                          check=False, timeout=LONG)
+    done = subprocess.run(words, stdin=subprocess.DEVNULL, stdout=subprocess.PIPE, stderr=terminal,
+                          text=True, check=False, timeout=LONG)
     os.close(terminal)
     return done.stdout
 
 
 def check_full(room):
-    """If the certificate can't be written, the report says so, and the next call finishes the work."""
+    """If the certificate can't be written, the report says so, and the next call finishes the
+    work."""
     room.add("terminus-throat.json")
     checks, both = room.words("--ask", "check"), room.words("--ask", "check", "--ask", "verify")
     yield from differs("before", run(checks).stdout, done_line(1, "1 SAFE", 1, (1, 0), room))
     done = run(["bash", "-c", 'ulimit -f 40; exec "$@"', "bash", *both])
-    yield from differs("with no room", (done.returncode, room.answers()[("terminus-throat.json", "verify")]),
+    yield from differs("with no room",
+                       (done.returncode, room.answers()[("terminus-throat.json", "verify")]),
                        (3, ("no answer", "no answer: irv verify was ended by SIGXFSZ")))
     yield from differs("an answer of half the work", list(room.out.glob("results/verify/*/*")), [])
     yield from differs("afterwards", run(both).stdout, done_line(1, "1 SAFE", 1, (1, 1), room))
 
 
 def check_worker_killed(room):
-    """If a worker is killed in the middle, the program that it runs ends with it, the others go on, and the next call
-    does only its job."""
+    """If a worker is killed in the middle, the program that it runs ends with it, the others go
+    on, and the next call does only its job."""
     room.add("platforms.json")
     room.fake("orphan")
     words = ["--ask", "check", "--ask", "verify", "--ask", "audit"]
     done = room.call(*words)
     killed = "no answer: the job ended without a message, which happens if it is killed"
-    yield from differs("killed", (done.returncode, room.answers()), (3, {
-        ("platforms.json", "check"): ("good", "clean"), ("platforms.json", "verify"): ("no answer", killed),
-        ("platforms.json", "audit"): ("no answer", killed)}))
+    yield from differs("killed", (done.returncode, room.answers()),
+                       (3, {("platforms.json", "check"): ("good", "clean"),
+                            ("platforms.json", "verify"): ("no answer", killed),
+                            ("platforms.json", "audit"): ("no answer", killed)}))
     yield from differs("half of a result", list(room.out.glob("results/verify/*/*")), [])
     room.wish.write_text("go", encoding="ascii")
-    yield from differs("afterwards", room.call(*words).stdout, done_line(1, "1 SAFE", 1, (2, 1), room))
+    yield from differs("afterwards",
+                       room.call(*words).stdout, done_line(1, "1 SAFE", 1, (2, 1), room))
     yield from differs("left", list((room.out / "making").iterdir()), [])
     yield from differs("verified", room.verify()[0], 0)
 
 
 @contextlib.contextmanager
 def small_disk(directory):
-    """Mounts a small disk at a directory while it is open; gives a function that enlarges it, or None if none can be
-    mounted here."""
+    """Mounts a small disk at a directory while it is open; gives a function that enlarges it, or
+    None if none can be mounted here."""
     def mount(*words):
         return run(["mount", *words, str(directory)])
     directory.mkdir()
@@ -173,8 +188,8 @@ def small_disk(directory):
 
 
 def check_full_disk(room):
-    """If the disk is full, the report says so, no half of a result is used, and once there is room the next call
-    finishes the work."""
+    """If the disk is full, the report says so, no half of a result is used, and once there is
+    room the next call finishes the work."""
     room.add("terminus-throat.json")
     room.fake("go")
     words = ["--ask", "check", "--ask", "verify"]
@@ -184,12 +199,15 @@ def check_full_disk(room):
         done = room.call(*words)
         yield from differs("full", (done.returncode, room.answers()), (3, {
             ("terminus-throat.json", "check"): ("good", "clean"),
-            ("terminus-throat.json", "verify"): ("no answer", "no answer: irv verify ended with a write fault")}))
+            ("terminus-throat.json", "verify"):
+                ("no answer", "no answer: irv verify ended with a write fault")}))
         yield from differs("half of a result", list(room.out.glob("results/verify/*/*")), [])
         enlarge()
-        yield from differs("afterwards", room.call(*words).stdout, done_line(1, "1 SAFE", 1, (1, 1), room))
+        yield from differs("afterwards",
+                           room.call(*words).stdout, done_line(1, "1 SAFE", 1, (1, 1), room))
         yield from differs("verified", room.verify()[0], 0)
 
 
-InterruptionTests = batch_case("InterruptionTests", (
-    check_no_answer, check_killed, check_worker_killed, check_interrupted, check_terminal, check_full, check_full_disk))
+InterruptionTests = batch_case("InterruptionTests",
+                               (check_no_answer, check_killed, check_worker_killed,
+                                check_interrupted, check_terminal, check_full, check_full_disk))

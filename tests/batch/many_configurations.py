@@ -1,13 +1,14 @@
-"""Hundreds of configurations: plain calls one after the other and four at once, and then a batch; how the times
-compare, that a second call asks nothing, and that after one change only one configuration is asked about. It does
-not run in CI: its figures are those of a machine that has nothing else to do. If something else is at work, four at
-once do not get four times as much of the machine as one: then compare with what plain calls take four at once, and
-compare CPU seconds rather than wall-clock time.
+"""Hundreds of configurations: plain calls one after the other and four at once, and then a batch;
+how the times compare, that a second call asks nothing, and that after one change only one
+configuration is asked about. It does not run in CI: its figures are those of a machine that has
+nothing else to do. If something else is at work, four at once do not get four times as much of the
+machine as one: then compare with what plain calls take four at once, and compare CPU seconds rather
+than wall-clock time.
 
-The configurations are the same at each run: the examples, a station of tests/plants, generated stations, lines of
-real size, plain and with random protection; and each of them with a single fault. The questions are which rules are
-broken, the verdict with free columns and an eighth of the usual conflicts, and the audit of its certificate. It
-takes about twenty minutes.
+The configurations are the same at each run: the examples, a station of tests/plants, generated
+stations, lines of real size, plain and with random protection; and each of them with a single
+fault. The questions are which rules are broken, the verdict with free columns and an eighth of the
+usual conflicts, and the audit of its certificate. It takes about twenty minutes.
 """
 
 import concurrent.futures
@@ -47,8 +48,8 @@ def right_ones(program):
 
 
 def with_a_fault(name, document):
-    """Returns a document with a random single fault, which depends only on the name, or None if it has no routes. Not
-    each kind of fault fits each document."""
+    """Returns a document with a random single fault, which depends only on the name, or None if
+    it has no routes. Not each kind of fault fits each document."""
     chance, second = random.Random(name), copy.deepcopy(document)
     second["version"] = 2
     for route in second["routes"]:
@@ -96,7 +97,9 @@ def plain(room, at_once):
     """Asks about each configuration by plain calls, `at_once` in parallel; returns what it took."""
     begin = used()
     with concurrent.futures.ThreadPoolExecutor(at_once) as pool:
-        list(pool.map(lambda path: by_plain_calls(room, path), sorted(room.directory.glob("*.json"))))
+        list(
+            pool.map(lambda path: by_plain_calls(room, path),
+                     sorted(room.directory.glob("*.json"))))
     return [now - before for now, before in zip(used(), begin)]
 
 
@@ -117,11 +120,12 @@ def compare(room):
           f"{best[0] * CORES / one[0]:.2f} times the sum over {CORES}", flush=True)
     done, all_ = in_a_batch(room)
     ratio = all_[0] * CORES / one[0]
-    print(f"batch: {all_[0]:.1f} s, {all_[1]:.1f} CPU seconds: {ratio:.2f} times the sum over {CORES}, "
-          f"{all_[0] / best[0]:.2f} times plain calls, and {all_[1] / one[1]:.2f} times their CPU seconds\n"
-          f"{done.stdout.strip()}", flush=True)
+    print(f"batch: {all_[0]:.1f} s, {all_[1]:.1f} CPU seconds: {ratio:.2f} times the sum over "
+          f"{CORES}, {all_[0] / best[0]:.2f} times plain calls, and {all_[1] / one[1]:.2f} times "
+          f"their CPU seconds\n{done.stdout.strip()}", flush=True)
     if ratio >= MOST_RATIO:
-        yield f"{ratio:.2f} times the sum of the times over {CORES}; less than {MOST_RATIO} is expected"
+        yield (f"{ratio:.2f} times the sum of the times over {CORES}; less than {MOST_RATIO} is "
+               "expected")
 
 
 def measure(room, count):
@@ -129,7 +133,8 @@ def measure(room, count):
     fill(room, count)
     found = len(list(room.directory.glob("*.json")))
     yield from differs("configurations", found, count)
-    print(f"{found} configurations; {os.getloadavg()[0]:.1f} other processes are at work", flush=True)
+    print(f"{found} configurations; {os.getloadavg()[0]:.1f} other processes are at work",
+          flush=True)
     yield from compare(room)
     again, took = in_a_batch(room)
     print(f"again {took[0]:.1f} s", flush=True)

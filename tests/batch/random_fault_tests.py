@@ -1,5 +1,5 @@
-"""Tests with random single faults in tables of real size: each hazard that a report found comes first, and index, CSV
-and JUnit say what the reports say first."""
+"""Tests with random single faults in tables of real size: each hazard that a report found comes
+first, and index, CSV and JUnit say what the reports say first."""
 
 import html
 import json
@@ -21,15 +21,17 @@ RUN = re.compile(r'<pre class="run">(.*?)</pre>', re.S)
 
 def fill(room):
     """Writes tables with a random single fault each."""
-    tables = {name: with_routes(str(room.true_program), network()) for name, network in NETWORKS.items()}
+    tables = {name: with_routes(str(room.true_program), network())
+              for name, network in NETWORKS.items()}
     for number in range(COUNT):
         name = list(tables)[number % len(tables)]
-        document = with_a_fault(f"{name} {number}", tables[name])
-        (room.directory / f"{name} {number}.json").write_text(json.dumps(document), encoding="ascii")
+        document = json.dumps(with_a_fault(f"{name} {number}", tables[name]))
+        (room.directory / f"{name} {number}.json").write_text(document, encoding="ascii")
 
 
 def first_words(room):
-    """Returns the word with which each configuration's report begins, by the configuration's name, and the report."""
+    """Returns the word with which each configuration's report begins, by the configuration's
+    name, and the report."""
     report, found = room.report(), {}
     for each in report["configurations"]:
         key = next(one["job"] for one in each["questions"] if one["question"].startswith("html"))
@@ -45,8 +47,10 @@ def has_hazard(room, name, shown):
     for run in RUN.findall(shown):
         path.write_text(html.unescape(run), encoding="ascii")
         with open(room.directory / name, "rb") as given:
-            done = subprocess.run([str(room.true_program), "replay", "--columns", "free", "--run", str(path)],
-                                  stdin=given, stdout=subprocess.PIPE, check=False)
+            done = subprocess.run([
+                str(room.true_program), "replay", "--columns", "free", "--run",
+                str(path)
+            ], stdin=given, stdout=subprocess.PIPE, check=False)
         if done.returncode == 0 and done.stdout.startswith(b"hazard "):
             return True
     return False
@@ -58,8 +62,8 @@ def counts(words):
 
 
 def check_random_faults(room):
-    """Thirty random single faults: every hazard comes first in the index, and index, CSV and JUnit count what the
-    reports say first."""
+    """Thirty random single faults: every hazard comes first in the index, and index, CSV and
+    JUnit count what the reports say first."""
     fill(room)
     done = room.call(*QUESTIONS)
     yield from differs("status", done.returncode, 1)
@@ -71,7 +75,8 @@ def check_random_faults(room):
                        {name: word for name, (word, _) in reports.items()})
     expected = counts([word for word, _ in reports.values()])
     line = ", ".join(f"{count} {word}" for word, count in expected)
-    yield from differs("the index counts", f": {line}." in plain((room.out / "index.html").read_text()), True)
+    yield from differs("the index counts", f": {line}." in plain(
+        (room.out / "index.html").read_text()), True)
     yield from differs("the call counts", f"({line})" in done.stdout, True)
     yield from files_faults(room, reports, expected)
     hazards = [name for name, (word, _) in reports.items() if word == HAZARD_FOUND]
@@ -79,7 +84,8 @@ def check_random_faults(room):
         yield f"only {len(hazards)} hazards were found"
     yield from (f"{name}: irv replay answers no hazard to its report's run" for name in hazards
                 if not has_hazard(room, name, reports[name][1]))
-    yield from differs("links to hazards", sum("Show the hazard in the HTML report" in cell for _, cell, _ in rows),
+    yield from differs("links to hazards",
+                       sum("Show the hazard in the HTML report" in cell for _, cell, _ in rows),
                        len(hazards))
     yield from differs("verified", room.verify()[0], 0)
 
@@ -91,8 +97,12 @@ def files_faults(room, reports, expected):
                        {name: word for name, (word, _) in reports.items()})
     yield from differs("CSV counts", counts([line["outcome"] for line in lines]), expected)
     suite = xml.etree.ElementTree.parse(room.out / "report.xml").getroot()[0]
-    failures = [case.find("failure") for case in suite.iter("testcase") if case.get("name").startswith("html")]
-    yield from differs("JUnit counts", counts([each.get("type") for each in failures if each is not None]),
+    failures = [
+        case.find("failure") for case in suite.iter("testcase")
+        if case.get("name").startswith("html")
+    ]
+    yield from differs("JUnit counts",
+                       counts([each.get("type") for each in failures if each is not None]),
                        [pair for pair in expected if pair[0] != "SAFE"])
 
 

@@ -23,7 +23,8 @@ FAKE = """#!/bin/sh
 case "$1:$(cat '{wish}')" in
     verify:kill) kill -9 $$ ;;
     verify:wait) : > '{wish}.waits'; while [ "$(cat '{wish}')" = wait ]; do sleep 0.2; done ;;
-    verify:lie) echo 'safe k=1'; for word; do case $word in --cert=*) echo lie > "${{word#--cert=}}" ;; esac; done
+    verify:lie) echo 'safe k=1'
+        for word; do case $word in --cert=*) echo lie > "${{word#--cert=}}" ;; esac; done
         exit 0 ;;
     verify:empty) exit 1 ;;
     verify:orphan) kill -9 $PPID; sleep 60 ;;
@@ -53,13 +54,18 @@ class Room:
         self.wish = self.room / "wish"
         self.wish.write_text(wish, encoding="ascii")
         self.program = self.room / "fake"
-        self.program.write_text(FAKE.format(wish=self.wish, program=self.true_program), encoding="ascii")
+        self.program.write_text(FAKE.format(wish=self.wish, program=self.true_program),
+                                encoding="ascii")
         self.program.chmod(0o755)
 
     def words(self, *words):
         """Returns the command line of a call."""
-        return [str(TOOL), str(self.directory), str(self.out), "--program", str(self.program), "--cores", "2",
-                *words]
+        return [
+            str(TOOL),
+            str(self.directory),
+            str(self.out), "--program",
+            str(self.program), "--cores", "2", *words
+        ]
 
     def call(self, *words, **others):
         """Asks about the directory; returns the call."""
@@ -67,7 +73,10 @@ class Room:
 
     def verify(self):
         """Checks the results by the true program; returns the status and the lines."""
-        done = run([str(TOOL), "--verify-report", str(self.out), "--program", str(self.true_program)])
+        done = run(
+            [str(TOOL), "--verify-report",
+             str(self.out), "--program",
+             str(self.true_program)])
         return done.returncode, done.stdout.splitlines()
 
     def report(self):
@@ -80,17 +89,20 @@ class Room:
             return list(csv.DictReader(file))
 
     def answers(self):
-        """Returns the outcome and the line of each answer, by the configuration and the first word of the
-        question."""
+        """Returns the outcome and the line of each answer, by the configuration and the first
+        word of the question."""
         return {(row["configuration"], row["question"].split()[0]): (row["outcome"], row["answer"])
                 for row in self.table()}
 
     def index_rows(self):
-        """Returns the rows of the index in their order: the verdict's word, the text of its cell, and the name."""
+        """Returns the rows of the index in their order: the verdict's word, the text of its
+        cell, and the name."""
         page = (self.out / "index.html").read_text(encoding="utf-8")
-        body = page.partition('<table class="index">')[2].partition("<tbody>")[2].partition("</tbody>")[0]
-        rows = re.findall(r'<tr class="\w+" data-word="([^"]*)"><td class="said" data-key="\d+">(.*?)</td>'
-                          r'<td class="name">(.*?)</td>', body, re.S)
+        body = page.partition('<table class="index">')[2].partition("<tbody>")[2].partition(
+            "</tbody>")[0]
+        rows = re.findall(
+            r'<tr class="\w+" data-word="([^"]*)"><td class="said" data-key="\d+">(.*?)</td>'
+            r'<td class="name">(.*?)</td>', body, re.S)
         return [(word, plain(cell), plain(name)) for word, cell, name in rows]
 
     def file(self, kind, role, line=None):
@@ -109,12 +121,13 @@ def plain(markup):
 
 def run(words, **others):
     """Calls a command."""
-    return subprocess.run(words, stdin=subprocess.DEVNULL, stdout=subprocess.PIPE, stderr=subprocess.PIPE,
-                          text=True, check=False, **others)
+    return subprocess.run(words, stdin=subprocess.DEVNULL, stdout=subprocess.PIPE,
+                          stderr=subprocess.PIPE, text=True, check=False, **others)
 
 
 def without_progress(said):
-    """Returns what was said without the lines that say how far the work is: their number depends on the machine."""
+    """Returns what was said without the lines that say how far the work is: their number depends
+    on the machine."""
     return "".join(line for line in said.splitlines(keepends=True)
                    if not re.fullmatch(r"irv --batch: \d+ of \d+ jobs\n", line))
 
@@ -126,16 +139,18 @@ def differs(what, found, expected):
 
 
 def done_line(configurations, verdicts, good, jobs, room):
-    """Returns the line that a call prints at its end; `jobs` is how many jobs were done and how many were known."""
-    return (f"{configurations} configurations ({verdicts}), {good} good; {jobs[0]} jobs were done, {jobs[1]} were "
-            f"known; {room.out / 'index.html'}\n")
+    """Returns the line that a call prints at its end; `jobs` is how many jobs were done and how
+    many were known."""
+    return (f"{configurations} configurations ({verdicts}), {good} good; {jobs[0]} jobs were done, "
+            f"{jobs[1]} were known; {room.out / 'index.html'}\n")
 
 
 WITHOUT_SNAKEMAKE = ("check_missing",)      # what is tested even if Snakemake is not installed
 
 
 def batch_case(name, functions):
-    """Returns a test case class with a method for each function, which takes a room and yields faults."""
+    """Returns a test case class with a method for each function, which takes a room and yields
+    faults."""
     def method(function):
         def test(self):
             if not shutil.which("snakemake") and function.__name__ not in WITHOUT_SNAKEMAKE:
@@ -146,4 +161,5 @@ def batch_case(name, functions):
         return test
 
     methods = {"test_" + each.__name__.removeprefix("check_"): method(each) for each in functions}
-    return type(name, (ProgramTest,), {**methods, "__module__": sys._getframe(1).f_globals["__name__"]})
+    return type(name, (ProgramTest,),
+                {**methods, "__module__": sys._getframe(1).f_globals["__name__"]})

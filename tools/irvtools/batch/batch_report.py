@@ -1,5 +1,6 @@
-"""The report as a value: the configurations, the questions about each, their answers and the verdicts. The page
-and the files that a pipeline reads are made only from this value, so they can be made again."""
+"""The report as a value: the configurations, the questions about each, their answers and the
+verdicts. The page and the files that a pipeline reads are made only from this value, so they can
+be made again."""
 
 import json
 import math
@@ -7,29 +8,35 @@ import math
 from irvtools.batch import verdicts
 from irvtools.batch.directory import MOST_BYTES
 from irvtools.batch.file_names import shown
-from irvtools.calls.verdict import HAZARD_FOUND, NOT_SHOWN, RANKING, REFUSED, SAFE, SAFE_WITH_DEVIATIONS
+from irvtools.calls.verdict import HAZARD_FOUND, NOT_SHOWN, RANKING, REFUSED
+from irvtools.calls.verdict import SAFE, SAFE_WITH_DEVIATIONS
 from irvtools.paths import TOP
 
 FILE = "report.json"
-# the outcomes of questions, the worst first; a question about safety has a verdict's word if it isn't good
+# the outcomes of questions, the worst first; a question about safety has a verdict's word if it
+# isn't good
 CONTRADICTION, NO_ANSWER, LEFT_OUT, GOOD = "contradiction", "no answer", "left out", "good"
-OUTCOMES = (CONTRADICTION, HAZARD_FOUND, NO_ANSWER, REFUSED, NOT_SHOWN, SAFE_WITH_DEVIATIONS, LEFT_OUT, GOOD)
+OUTCOMES = (CONTRADICTION, HAZARD_FOUND, NO_ANSWER, REFUSED, NOT_SHOWN, SAFE_WITH_DEVIATIONS,
+            LEFT_OUT, GOOD)
 NOT_BEGUN = "the job was not begun"
 
 
 def sizes_of(data):
-    """Returns how many sections, points and routes a configuration has, or None if it can't be read."""
+    """Returns how many sections, points and routes a configuration has, or None if it can't be
+    read."""
     try:
         value = json.loads(data) if len(data) <= MOST_BYTES else None
         kinds = [section["kind"] for section in value["sections"]]
-        return {"sections": len(kinds), "points": kinds.count("point"), "routes": len(value["routes"])}
+        return {
+            "sections": len(kinds), "points": kinds.count("point"), "routes": len(value["routes"])
+        }
     except (ValueError, TypeError, KeyError, RecursionError):
         return None
 
 
 def why_failed(store, jobs, key):
-    """Returns why a job has no answer: the reason of the first job that it needs and that has none either, or its
-    own."""
+    """Returns why a job has no answer: the reason of the first job that it needs and that has
+    none either, or its own."""
     for need in jobs[key]["needs"].values():
         if store.answer(jobs[need]) is None:
             return why_failed(store, jobs, need)
@@ -37,9 +44,13 @@ def why_failed(store, jobs, key):
 
 
 def job_value(store, jobs, key):
-    """Returns a job with its answer, or why there is none, and the verdict to which it comes, if any."""
+    """Returns a job with its answer, or why there is none, and the verdict to which it comes, if
+    any."""
     answer = store.answer(jobs[key])
-    value = {"job": jobs[key], "answer": answer, "verdict": verdict_value(verdicts.of_job(store, jobs[key], answer))}
+    value = {
+        "job": jobs[key], "answer": answer,
+        "verdict": verdict_value(verdicts.of_job(store, jobs[key], answer))
+    }
     return value if answer else {**value, "failure": why_failed(store, jobs, key)}
 
 
@@ -51,12 +62,14 @@ def verdict_value(found):
 def make(store, about, configurations, asked, jobs):
     """Returns the report's value."""
     values = {key: job_value(store, jobs, key) for key in jobs}
-    return {**about, "version": (TOP / "VERSION").read_text(encoding="utf-8").strip(), "jobs": values,
-            "configurations": [
-                {"name": name, "checksum": checksum, "sizes": sizes_of(data),
-                 "verdict": configuration_verdict(store, values, [key for _, key in asked[name]]),
-                 "questions": [{"question": question, "job": key} for question, key in asked[name]]}
-                for name, (checksum, data) in configurations.items()]}
+    return {
+        **about, "version": (TOP / "VERSION").read_text(encoding="utf-8").strip(), "jobs": values,
+        "configurations": [{
+            "name": name, "checksum": checksum, "sizes": sizes_of(data),
+            "verdict": configuration_verdict(store, values, [key for _, key in asked[name]]),
+            "questions": [{"question": question, "job": key} for question, key in asked[name]]
+        } for name, (checksum, data) in configurations.items()]
+    }
 
 
 def configuration_verdict(store, values, keys):
@@ -107,11 +120,12 @@ class Result:
     @property
     def says_safe(self):
         """Whether the answer says that the interlocking is safe."""
-        return self.word in (SAFE, SAFE_WITH_DEVIATIONS) or self.kind == "audit" and self.outcome == GOOD
+        return self.word in (SAFE,
+                             SAFE_WITH_DEVIATIONS) or self.kind == "audit" and self.outcome == GOOD
 
     def measure(self, what, fold=math.fsum):
-        """Returns a measure of all that was done for this question. A sum is exact before it is rounded, and so
-        the same in any order of the jobs."""
+        """Returns a measure of all that was done for this question. A sum is exact before it is
+        rounded, and so the same in any order of the jobs."""
         return fold([each["answer"][what] for each in self.below if each["answer"]] or [0])
 
     def machines(self):
@@ -124,11 +138,12 @@ class Result:
                        if each["answer"] and "solver" in each["answer"]})
 
     def files(self):
-        """Returns the files of the answer: of each its role, its path in the directory of the results, its
-        checksum."""
+        """Returns the files of the answer: of each its role, its path in the directory of the
+        results, its checksum."""
         place = f"results/{self.kind}/{self.key}"
         files = self.answer["files"] if self.answer else {}
-        return [(role, f"{place}/{file['name']}", file["checksum"]) for role, file in sorted(files.items())]
+        return [(role, f"{place}/{file['name']}", file["checksum"])
+                for role, file in sorted(files.items())]
 
 
 class Row:
@@ -139,12 +154,15 @@ class Row:
         self.value, self.sizes = configuration, configuration["sizes"]
         self.word = configuration["verdict"]["word"]
         self.own_sentence = shown(configuration["verdict"]["sentence"])
-        self.results = [Result(report, each["question"], each["job"]) for each in configuration["questions"]]
-        self.tone = "bad" if self.is_contradiction else verdicts.tone(self.word, report["is_proved"])
+        self.results = [Result(report, each["question"], each["job"])
+                        for each in configuration["questions"]]
+        tone = verdicts.tone(self.word, report["is_proved"])
+        self.tone = "bad" if self.is_contradiction else tone
 
     @property
     def is_contradiction(self):
-        """Whether one answer says safe and another one has a hazard, or a certificate of verify is rejected."""
+        """Whether one answer says safe and another one has a hazard, or a certificate of verify
+        is rejected."""
         outcomes = [each.outcome for each in self.results]
         is_both = self.word == HAZARD_FOUND and any(each.says_safe for each in self.results)
         return is_both or CONTRADICTION in outcomes
@@ -176,8 +194,8 @@ class Row:
 
     @property
     def rank(self):
-        """Where the row comes, the smallest first: hazards, contradictions, then the other words in their
-        order."""
+        """Where the row comes, the smallest first: hazards, contradictions, then the other words
+        in their order."""
         place = RANKING.index(self.verdict)
         is_late = not self.is_contradiction
         outcomes = [OUTCOMES.index(each.outcome) for each in self.results]

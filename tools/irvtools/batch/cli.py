@@ -30,35 +30,43 @@ SAYS_HOW_MUCH = re.compile(r"-[cj]\d*|--(cores|jobs|profile|cluster\S*|drmaa\S*|
 
 
 def joined(words):
-    """Returns the command line with Snakemake's options in one argument with `--snakemake`: by itself one that
-    begins with a dash would be taken for an option."""
+    """Returns the command line with Snakemake's options in one argument with `--snakemake`: by
+    itself one that begins with a dash would be taken for an option."""
     place = words.index("--snakemake") if "--snakemake" in words[:-1] else len(words)
-    return words[:place] + ["=".join(words[place:place + 2])] * (place < len(words)) + words[place + 2:]
+    after = place + 2
+    return words[:place] + ["=".join(words[place:after])] * (place < len(words)) + words[after:]
 
 
 def parser():
     """Returns the parser of the command line."""
-    line = Parser("irv --batch", "Verifies every .json file below DIRECTORY in parallel, on this machine or on a "
-                  "cluster, and keeps the\nanswers in OUT with index.html, report.xml, report.csv and report.json. "
-                  "Questions that OUT has answers to\nare not asked again.\n\nThe exit status is 0 if every answer "
-                  "is good; 1 if one is not (a hazard, a refusal, no verdict); 2 if nothing\nwas done; 3 if an "
-                  "answer is missing: the next call asks again.", NOTHING_DONE,
-                  "irv --batch DIRECTORY OUT [OPTIONS] | --verify-report OUT")
-    line.add_argument("directory", type=Path, nargs="?", metavar="DIRECTORY", help="the configurations")
+    line = Parser(
+        "irv --batch",
+        "Verifies every .json file below DIRECTORY in parallel, on this machine or on a cluster, "
+        "and keeps the\nanswers in OUT with index.html, report.xml, report.csv and report.json. "
+        "Questions that OUT has answers to\nare not asked again.\n\n"
+        "The exit status is 0 if every answer is good; 1 if one is not (a hazard, a refusal, no "
+        "verdict); 2 if nothing\nwas done; 3 if an answer is missing: the next call asks again.",
+        NOTHING_DONE,
+        "irv --batch DIRECTORY OUT [OPTIONS] | --verify-report OUT")
+    line.add_argument("directory", type=Path, nargs="?", metavar="DIRECTORY",
+                      help="the configurations")
     line.add_argument("out", type=Path, nargs="?", metavar="OUT", help="the results")
     line.add_argument("--verify-report", type=Path, metavar="OUT",
                       help="check a finished OUT again on this machine, and print what differs")
     line.add_argument("--questions", type=Path, metavar="FILE",
                       help="a CSV file with the questions about each (DIRECTORY/questions.csv)")
-    line.add_argument("--ask", action="append", metavar="QUESTION",
-                      help="a question about every configuration; may be repeated (check, verify, audit)")
+    line.add_argument(
+        "--ask", action="append", metavar="QUESTION",
+        help="a question about every configuration; may be repeated (check, verify, audit)")
     line.program()
     for name in PASSED_ON:
         line.add_argument(f"--{name}", metavar="VALUE", help=f"Snakemake's option --{name}")
-    line.add_argument("--snakemake", default="", metavar="OPTIONS", help="further options of Snakemake")
-    line.add_argument("--batch-bytes", type=questions.number(0, MOST_BYTES), default=job_groups.BYTES,
-                      metavar="N", help="small configurations of N bytes in total are one job of "
-                      f"Snakemake; 0: no grouping ({job_groups.BYTES})")
+    line.add_argument("--snakemake", default="", metavar="OPTIONS",
+                      help="further options of Snakemake")
+    line.add_argument(
+        "--batch-bytes", type=questions.number(0, MOST_BYTES), default=job_groups.BYTES,
+        metavar="N", help="small configurations of N bytes in total are one job of "
+        f"Snakemake; 0: no grouping ({job_groups.BYTES})")
     return line
 
 
@@ -74,8 +82,8 @@ def arguments_of(words):
 
 
 def passed_on(given):
-    """Returns the options that Snakemake gets. Without one that says how much it may do, it uses all
-    processors."""
+    """Returns the options that Snakemake gets. Without one that says how much it may do, it uses
+    all processors."""
     words = [word for name in PASSED_ON if (value := getattr(given, name)) is not None
              for word in (f"--{name}", value)]
     try:
@@ -90,13 +98,15 @@ def passed_on(given):
 def at_once(given):
     """Returns how many jobs may run at once, as far as Snakemake's options say that as a number."""
     number = given.jobs or given.cores or ""
-    return int(number) if number.isascii() and number.isdigit() and int(number) else os.cpu_count() or 1
+    return int(
+        number) if number.isascii() and number.isdigit() and int(number) else os.cpu_count() or 1
 
 
 def open_store(directory, out):
     """Returns the directory of the results: a new one, an empty one, or one of an earlier call."""
     if is_inside(directory, out):
-        raise Refused(f"{shown(str(out))}: the results cannot be inside the directory of the configurations")
+        raise Refused(
+            f"{shown(str(out))}: the results cannot be inside the directory of the configurations")
     store = Store(out.resolve())
     if store.top.exists() and not (store.top / MARK).is_file() and (
             not store.top.is_dir() or any(store.top.iterdir())):
@@ -107,7 +117,8 @@ def open_store(directory, out):
 
 
 def read_program(path):
-    """Returns the bytes of the program, and the note of its proof or None if it is not known to be proved."""
+    """Returns the bytes of the program, and the note of its proof or None if it is not known to
+    be proved."""
     try:
         data = path.read_bytes()
         note = path.with_name(path.name + PROVED_NOTE).read_bytes() if is_proved(path) else None
@@ -127,9 +138,9 @@ def read_questions(given, names):
 
 
 def plan(store, read, asked, scenarios, program):
-    """Makes the jobs, and keeps what they need; returns the jobs, the questions about each configuration with the
-    keys of their jobs, and each configuration's checksum and bytes. `program` is its checksum, and whether it is
-    known to be proved."""
+    """Makes the jobs, and keeps what they need; returns the jobs, the questions about each
+    configuration with the keys of their jobs, and each configuration's checksum and bytes.
+    `program` is its checksum, and whether it is known to be proved."""
     planner = Planner(store, *program, {name: store.give(data) for name, data in scenarios.items()})
     checksums = {name: store.give(data) for name, data in read.items()}
     keys = {name: list(planner.asked(name, checksums[name], asked[name])) for name in read}
@@ -158,15 +169,19 @@ def run_batch(given, progress):
     with snakemake_run.alone(store) as lock:
         progress.step(f"planning the jobs of {len(read)} configurations")
         checksum = store.give_program(program, note)
-        jobs, keys, configurations = plan(store, read, asked, scenarios, (checksum, note is not None))
+        jobs, keys, configurations = plan(store, read, asked, scenarios,
+                                          (checksum, note is not None))
         missing, tried = snakemake_run.sweep(store, jobs)
         snakemake_run.put_targets(
             store, *job_groups.grouped(store, missing, tried, given.batch_bytes, at_once(given)))
-        progress.step(f"{len(jobs) - len(missing)} jobs known, {len(missing)} to do: Snakemake starts")
+        progress.step(
+            f"{len(jobs) - len(missing)} jobs known, {len(missing)} to do: Snakemake starts")
         status = snakemake_run.do_all(store, missing, words, lock, progress) if missing else 0
         progress.step("writing the report")
-        about = {"directory": shown(str(given.directory)), "program": checksum, "is_proved": note is not None,
-                 "engine": snakemake_run.version_in(store)}
+        about = {
+            "directory": shown(str(given.directory)), "program": checksum, "is_proved": note
+            is not None, "engine": snakemake_run.version_in(store)
+        }
         value = batch_report.make(store, about, configurations, keys, jobs)
         write_report(store, value)
         done = sum(store.answer(job) is not None for job in missing)
@@ -175,17 +190,19 @@ def run_batch(given, progress):
 
 
 def print_end(store, value, jobs, status):
-    """Prints how the call ended; returns the exit status. `jobs` is how many were done and how many were known."""
+    """Prints how the call ended; returns the exit status. `jobs` is how many were done and how
+    many were known."""
     rows = batch_report.rows_of(value)
     missing = [(row, result) for row in rows for result in row.missing]
     for row, result in missing:
         print(f"irv --batch: {row.name}: {result.question}: {result.line}", file=sys.stderr)
     if missing:
-        print(f"irv --batch: Snakemake ended with status {status}; its log is {store.top / 'snakemake.log'}",
+        log = store.top / "snakemake.log"
+        print(f"irv --batch: Snakemake ended with status {status}; its log is {log}",
               file=sys.stderr)
     good = sum(row.is_good for row in rows)
-    print(f"{len(rows)} configurations ({batch_report.verdict_counts(rows)}), {good} good; {jobs[0]} jobs were done, "
-          f"{jobs[1]} were known; {store.top / 'index.html'}")
+    print(f"{len(rows)} configurations ({batch_report.verdict_counts(rows)}), {good} good; "
+          f"{jobs[0]} jobs were done, {jobs[1]} were known; {store.top / 'index.html'}")
     if missing:
         return UNANSWERED
     return GOOD if good == len(rows) else NOT_GOOD
@@ -214,7 +231,8 @@ def main(words):
     given, progress = arguments_of(words), Progress()
     try:
         with interruptible():
-            return verify_report(given, progress) if given.verify_report else run_batch(given, progress)
+            call = verify_report if given.verify_report else run_batch
+            return call(given, progress)
     except Refused as fault:
         progress.end()
         for line in fault.lines():
@@ -222,8 +240,8 @@ def main(words):
         return NOTHING_DONE
     except OSError as fault:
         progress.end()
-        print(f"irv --batch: {shown(str(fault.filename or 'the directory of the results'))}: {reason(fault)}; "
-              "call again to go on", file=sys.stderr)
+        name = shown(str(fault.filename or "the directory of the results"))
+        print(f"irv --batch: {name}: {reason(fault)}; call again to go on", file=sys.stderr)
         return UNANSWERED
     except Interrupted:
         progress.end()

@@ -1,5 +1,5 @@
-"""Reads the directory of configurations. What it returns is data: a name may be any bytes, and no link leads
-out of the directory."""
+"""Reads the directory of configurations. What it returns is data: a name may be any bytes, and
+no link leads out of the directory."""
 
 import os
 import stat
@@ -19,8 +19,8 @@ def is_inside(directory, path):
 
 
 def read_file(directory, name, most):
-    """Returns the bytes of a file of the directory. One byte more than `most` is read of a longer file, so
-    that the program refuses it."""
+    """Returns the bytes of a file of the directory. One byte more than `most` is read of a
+    longer file, so that the program refuses it."""
     path = Path(directory, name)
     if not is_inside(directory, path):
         raise Refused(f"{shown(name)}: the link leads out of the directory")

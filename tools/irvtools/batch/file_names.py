@@ -3,11 +3,13 @@
 import re
 
 # what XML can't hold, or what isn't seen
-UNSEEN = re.compile("[\\\\\x00-\x1f\x7f-\x9f\ud800-\udfff\ufffe\uffff\u2028\u2029\u200b-\u200f\u202a-\u202e]")
+UNSEEN = re.compile(
+    "[\\\\\x00-\x1f\x7f-\x9f\ud800-\udfff\ufffe\uffff\u2028\u2029\u200b-\u200f\u202a-\u202e]")
 
 
 def escaped(found):
-    """Returns a character as its number; a byte that isn't UTF-8, as the system passes it on, as that byte."""
+    """Returns a character as its number; a byte that isn't UTF-8, as the system passes it on, as
+    that byte."""
     number = ord(found[0])
     if found[0] == "\\":
         return "\\\\"

@@ -10,11 +10,12 @@ from irvtools.batch.program_answers import NoAnswer
 from irvtools.calls.verdict import RANKING, UNPROVED
 
 LINE = re.compile(f"({'|'.join(map(re.escape, RANKING))})\\. (.+)")
-VERDICT, HAZARD = "verdict", "hazard"           # the ids of a report's first line and of its hazard's frame
+VERDICT, HAZARD = "verdict", "hazard"  # the ids of a report's first line and of its hazard's frame
 
 
 class FirstLine(HTMLParser):
-    """Reads the texts of the element with the verdict, without its links, and the ids of a report."""
+    """Reads the texts of the element with the verdict, without its links, and the ids of a
+    report."""
 
     def __init__(self) -> None:
         super().__init__(convert_charrefs=True)
@@ -40,8 +41,8 @@ class FirstLine(HTMLParser):
 
 
 def read(page: Path) -> tuple[str, str, str | None]:
-    """Returns the word of the verdict that a report says first, its line without the remark on the program's proof,
-    and the id of the frame of its hazard or None if it shows none."""
+    """Returns the word of the verdict that a report says first, its line without the remark on
+    the program's proof, and the id of the frame of its hazard or None if it shows none."""
     reader = FirstLine()
     reader.feed(page.read_text(encoding="utf-8", errors="replace"))
     line = ". ".join(reader.texts).removesuffix(f" {UNPROVED}")

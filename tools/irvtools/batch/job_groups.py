@@ -1,27 +1,30 @@
-"""Groups the jobs of small configurations, so that each group is one job for Snakemake: the tenth of a second or
-two that Snakemake takes for a job is then shared by many. Each job of a group still has its own key, its own
-process and its own answer, and a job that fails does not affect the others.
+"""Groups the jobs of small configurations, so that each group is one job for Snakemake: the tenth
+of a second or two that Snakemake takes for a job is then shared by many. Each job of a group still
+has its own key, its own process and its own answer, and a job that fails does not affect the
+others.
 
-A job is not grouped if it takes long: an HTML report; the queries of verify_with unless the configuration is
-small; all jobs of a configuration that fills a group alone. Nor are the jobs of a configuration of which an
-earlier call began a job that gave no answer: whatever it does, it does to itself only.
+A job is not grouped if it takes long: an HTML report; the queries of verify_with unless the
+configuration is small; all jobs of a configuration that fills a group alone. Nor are the jobs of a
+configuration of which an earlier call began a job that gave no answer: whatever it does, it does to
+itself only.
 """
 
-BYTES = 131072                    # bytes of configurations in a group, unless another number is given
-SHARES = 3                      # a group is a part of what is left: 1 / (SHARES * jobs that run at once)
+BYTES = 131072  # bytes of configurations in a group, unless another number is given
+SHARES = 3  # a group is a part of what is left: 1 / (SHARES * jobs that run at once)
 ALWAYS_APART = ("html",)
 OF_QUERIES = ("export", "solve", "rup", "verify_with")
 SHORT_QUERIES = 8192            # bytes of a configuration below which its queries are short
 
 
 def grouped(store, missing, tried, most, at_once):
-    """Returns these jobs as groups, each in the order of the plan, and the jobs that are not grouped. `tried` has
-    the keys of jobs that were begun before, `most` is the greatest number of bytes of configurations in a
-    group, and `at_once` is how many jobs may run at once."""
+    """Returns these jobs as groups, each in the order of the plan, and the jobs that are not
+    grouped. `tried` has the keys of jobs that were begun before, `most` is the greatest number
+    of bytes of configurations in a group, and `at_once` is how many jobs may run at once."""
     alone = {job["configuration"] for job in missing if job["key"] in tried}
     joined, apart = {}, []
     for job in missing:
-        if job["configuration"] in alone or job["kind"] in ALWAYS_APART or is_long(store, job, most):
+        if job["configuration"] in alone or job["kind"] in ALWAYS_APART or is_long(
+                store, job, most):
             apart.append(job)
         else:
             joined.setdefault(job["configuration"], []).append(job)
@@ -35,9 +38,9 @@ def is_long(store, job, most):
 
 
 def filled(store, joined, most, at_once):
-    """Returns groups of the jobs of these configurations, the longest first; all jobs of one configuration are in
-    one group. Each group is a part of what is left: the last groups are short, and none is waited for at the
-    end."""
+    """Returns groups of the jobs of these configurations, the longest first; all jobs of one
+    configuration are in one group. Each group is a part of what is left: the last groups are
+    short, and none is waited for at the end."""
     sizes = {checksum: store.given(checksum).stat().st_size for checksum in joined}
     groups, room, left = [], 0, sum(sizes.values())
     for checksum in sorted(joined, key=sizes.get, reverse=True):

@@ -1,6 +1,7 @@
-"""Does the jobs that call the program, and HTML reports; solver_jobs.py does those of other solvers. Each returns
-its answer as a value: `line`, what is shown; `is_good`; what it took; and `files`, made in the room of the job,
-by their roles. `is_good` is None if there was nothing to do."""
+"""Does the jobs that call the program, and HTML reports; solver_jobs.py does those of other
+solvers. Each returns its answer as a value: `line`, what is shown; `is_good`; what it took; and
+`files`, made in the room of the job, by their roles. `is_good` is None if there was nothing to
+do."""
 
 import os
 import sys
@@ -19,8 +20,8 @@ NOTHING_TOOK = {"seconds": 0.0, "processor_seconds": 0.0, "memory_kib": 0}
 
 
 def checked(store, checksum):
-    """Returns the path of a configuration, a scenario or the program, whose checksum is right. The checksum is
-    made again if the file has changed since that was last seen."""
+    """Returns the path of a configuration, a scenario or the program, whose checksum is right.
+    The checksum is made again if the file has changed since that was last seen."""
     path = store.given(checksum)
     about = os.stat(path)
     mark = about.st_dev, about.st_ino, about.st_size, about.st_mtime_ns, about.st_ctime_ns
@@ -31,7 +32,8 @@ def checked(store, checksum):
 
 
 def call_program(program, configuration, room, command, *words):
-    """Calls a command with a configuration; raises NoAnswer if what comes is no answer of the program."""
+    """Calls a command with a configuration; raises NoAnswer if what comes is no answer of the
+    program."""
     done = Called([str(program), command, *words], configuration, room)
     why = why_no_answer(command, done.status, done.line, done.complaint)
     if why:
@@ -57,8 +59,8 @@ def without_call(line, is_good):
 
 
 def file_of(store, job, role):
-    """Returns the path of a file of another job that this one needs, whose checksum is right, or None if that
-    job's answer has no such file; and the answer."""
+    """Returns the path of a file of another job that this one needs, whose checksum is right, or
+    None if that job's answer has no such file; and the answer."""
     other = store.job(job["needs"][role.partition(" ")[0]])
     answer = store.answer(other)
     if answer is None:
@@ -79,8 +81,9 @@ def do_check(store, job, room):
 
 
 def do_verify(store, job, room):
-    """Asks for the verdict. The certificate is kept only if it is safe: what a search had learned before its
-    budget was exhausted says nothing about the interlocking, and may be very long."""
+    """Asks for the verdict. The certificate is kept only if it is safe: what a search had
+    learned before its budget was exhausted says nothing about the interlocking, and may be very
+    long."""
     certificate = room / "certificate.cert"
     done = ask(store, job, room, "verify", *job["words"], f"--cert={certificate}")
     files = {"certificate": certificate} if done.status == 0 else {}
@@ -119,4 +122,6 @@ def do_html(store, job, room):
     return {**answer, "line": line, "anchor": anchor}
 
 
-DOES = {"check": do_check, "verify": do_verify, "audit": do_audit, "drive": do_drive, "html": do_html}
+DOES = {
+    "check": do_check, "verify": do_verify, "audit": do_audit, "drive": do_drive, "html": do_html
+}

@@ -20,7 +20,8 @@ def machine():
 
 
 def end_with_parent(number=signal.SIGKILL):
-    """Makes this process end when its parent does; for a child before it becomes another program."""
+    """Makes this process end when its parent does; for a child before it becomes another
+    program."""
     ctypes.CDLL(None).prctl(PARENT_DIES, int(number))
 
 
@@ -31,8 +32,9 @@ def last_line(data):
 
 
 class Called:
-    """A call that has ended: its status, its first line, its complaint, and what it took. Its status is None if it
-    was ended because its seconds were over. Its temporary files are in its own room."""
+    """A call that has ended: its status, its first line, its complaint, and what it took. Its
+    status is None if it was ended because its seconds were over. Its temporary files are in its
+    own room."""
 
     def __init__(self, words, given, room, seconds=None):
         self.output = room / "output.txt"
@@ -60,8 +62,8 @@ class Called:
             raise NoAnswer(f"{words[0]} cannot be called: {fault.strerror}") from fault
 
     def wait(self, child, seconds):
-        """Waits for the end, and takes the status and the measures; returns whether the call was ended because
-        its seconds were over."""
+        """Waits for the end, and takes the status and the measures; returns whether the call was
+        ended because its seconds were over."""
         late = threading.Event()
         timer = threading.Timer(seconds or 0, lambda: (late.set(), child.kill()))
         if seconds is not None:

@@ -1,5 +1,5 @@
-"""Makes jobs of questions. A job's key is the checksum of what its answer is made of, and the keys of the jobs
-that it needs are a part of that: so equal keys are equal work."""
+"""Makes jobs of questions. A job's key is the checksum of what its answer is made of, and the
+keys of the jobs that it needs are a part of that: so equal keys are equal work."""
 
 import os
 
@@ -17,12 +17,16 @@ FORM = 2                        # another number if a kind of job comes to do so
 def html_tool_checksum():
     """Returns the checksum of all that makes an HTML report."""
     package = HTML_TOOL.parent / "irvtools"
-    files = [HTML_TOOL, *(file for file in sorted(package.rglob("*.py")) if file.parent.name != "batch")]
-    return checksum_of("\n".join(f"{file.name} {checksum_of_file(file)}" for file in files).encode())
+    files = [
+        HTML_TOOL, *(file for file in sorted(package.rglob("*.py")) if file.parent.name != "batch")
+    ]
+    return checksum_of("\n".join(f"{file.name} {checksum_of_file(file)}"
+                                 for file in files).encode())
 
 
 def read_scenarios(directory, asked):
-    """Returns the scenarios that questions name, which are in the directory too: the bytes of each by its name."""
+    """Returns the scenarios that questions name, which are in the directory too: the bytes of
+    each by its name."""
     read = {}
     for name in sorted({question.says.run for questions in asked.values() for question in questions
                         if question.kind == "drive"}):
@@ -39,11 +43,12 @@ def title_of(name):
 
 
 class Planner:
-    """Makes the jobs of one directory: with the program of this checksum, which is known to be proved or not, and
-    scenarios of these checksums."""
+    """Makes the jobs of one directory: with the program of this checksum, which is known to be
+    proved or not, and scenarios of these checksums."""
 
     def __init__(self, store, program, is_proved, scenarios):
-        self.store, self.program, self.is_proved, self.scenarios = store, program, is_proved, scenarios
+        self.store, self.scenarios = store, scenarios
+        self.program, self.is_proved = program, is_proved
         self.html_tool = html_tool_checksum()
         self.jobs = {}
 
@@ -60,8 +65,8 @@ class Planner:
         return os.path.relpath(self.store.answer_file(self.jobs[key]), self.store.top)
 
     def asked(self, name, configuration, questions):
-        """Adds the jobs of all questions about a configuration, by its name and its checksum; yields each question in
-        words with its job's key."""
+        """Adds the jobs of all questions about a configuration, by its name and its checksum;
+        yields each question in words with its job's key."""
         verified = {}
         for question in questions:
             if question.kind == "verify":
@@ -90,11 +95,17 @@ class Planner:
                         words=["--columns", columns])
 
     def html(self, name, configuration, question):
-        """Adds an HTML report, which shows the configuration's name and whether the program is known to be proved."""
+        """Adds an HTML report, which shows the configuration's name and whether the program is
+        known to be proved."""
         says = question.says
-        words = ["--columns", says.columns, "--depth", str(says.depth), "--conflicts", str(says.conflicts),
-                 "--verify-seconds", str(says.verify_seconds), "--search-seconds", str(says.search_seconds),
-                 "--no-cert", "--title", title_of(name)]
+        words = [
+            "--columns", says.columns, "--depth",
+            str(says.depth), "--conflicts",
+            str(says.conflicts), "--verify-seconds",
+            str(says.verify_seconds), "--search-seconds",
+            str(says.search_seconds), "--no-cert", "--title",
+            title_of(name)
+        ]
         return self.job("html", configuration=configuration, words=words, columns=says.columns,
                         tool=self.html_tool, is_proved=self.is_proved)
 
@@ -105,14 +116,15 @@ class Planner:
                         words=["--columns", columns], scenario=self.scenarios[question.says.run])
 
     def verify_with(self, configuration, question):
-        """Adds jobs for each query on which safety at k depends: its formula, a solver's refutation, and rup."""
+        """Adds jobs for each query on which safety at k depends: its formula, a solver's
+        refutation, and rup."""
         says, needs, queries = question.says, {}, queries_for(question.says.k)
         for kind, at in queries:
             about = {"configuration": configuration, "columns": says.columns, "query": [kind, at],
                      "words": ["--columns", says.columns, "--query", kind, "--number", str(at)]}
             exported = self.job("export", **about)
-            solved = self.job("solve", {"export": exported}, solver=says.solver, seconds=says.seconds,
-                              **about)
+            solved = self.job("solve", {"export": exported}, solver=says.solver,
+                              seconds=says.seconds, **about)
             needs[f"{kind} {at}"] = self.job("rup", {"solve": solved}, **about)
-        return self.job("verify_with", needs, configuration=configuration, columns=says.columns, k=says.k,
-                        queries=[list(query) for query in queries], words=[])
+        return self.job("verify_with", needs, configuration=configuration, columns=says.columns,
+                        k=says.k, queries=[list(query) for query in queries], words=[])

@@ -48,7 +48,8 @@ def is_answer(command, status, line):
 
 
 def why_no_answer(command: str, status: int, line: str, complaint: str):
-    """Returns why a status, a line and a complaint are no answer of the program, or None if they are one."""
+    """Returns why a status, a line and a complaint are no answer of the program, or None if they
+    are one."""
     if is_answer(command, status, line):
         return None
     if status < 0 or status > 128:

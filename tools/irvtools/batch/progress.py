@@ -1,11 +1,11 @@
-"""Says on standard error how far a batch is: on a terminal in one line that is written anew, otherwise now and then
-in a line of its own."""
+"""Says on standard error how far a batch is: on a terminal in one line that is written anew,
+otherwise now and then in a line of its own."""
 
 import sys
 import time
 
 TERMINAL_SECONDS, OTHER_SECONDS = 1, 10         # between two messages
-CLEAR = "\r\x1b[K"                              # goes to the beginning of a terminal's line and clears it
+CLEAR = "\r\x1b[K"  # goes to the beginning of a terminal's line and clears it
 
 
 class Progress:
@@ -42,4 +42,3 @@ class Progress:
 def clock(seconds):
     """Returns a time in minutes and seconds."""
     return f"{int(seconds) // 60}:{int(seconds) % 60:02d}"
-

@@ -29,7 +29,8 @@ def number(least, most):
     """Returns a reader of whole numbers between two bounds."""
     def read(word):
         if not (word.isascii() and word.isdigit() and least <= int(word) <= most):
-            raise argparse.ArgumentTypeError(f"{shown(word)} is not a whole number from {least} to {most}")
+            raise argparse.ArgumentTypeError(
+                f"{shown(word)} is not a whole number from {least} to {most}")
         return int(word)
     return read
 
@@ -78,7 +79,8 @@ TAKES = {
 
 
 class Question:
-    """A question about a configuration: its kind, its arguments as they are given, and what they say."""
+    """A question about a configuration: its kind, its arguments as they are given, and what they
+    say."""
 
     def __init__(self, kind, text):
         if kind not in TAKES:
@@ -111,7 +113,10 @@ def from_words(texts):
 
 def without_duplicates(questions, place):
     """Returns questions, each once; refuses an audit without a certificate."""
-    once = [question for number_, question in enumerate(questions) if question not in questions[:number_]]
+    once = [
+        question for number_, question in enumerate(questions)
+        if question not in questions[:number_]
+    ]
     kinds = [question.kind for question in once]
     if "audit" in kinds and "verify" not in kinds:
         raise Refused(f"{place}audit needs verify, which writes the certificate: ask verify too")
@@ -126,7 +131,8 @@ def read_list(file, names):
         raise Refused(f"{shown(str(file))}: cannot be read: {reason(fault)}") from fault
     except UnicodeDecodeError as fault:
         raise Refused(f"{shown(str(file))}: not UTF-8") from fault
-    separator = csv_text.SEMICOLON if csv_text.first_row(text, csv_text.SEMICOLON) == HEADER else csv_text.COMMA
+    separator = csv_text.SEMICOLON if csv_text.first_row(
+        text, csv_text.SEMICOLON) == HEADER else csv_text.COMMA
     header, *rows = csv_text.read(shown(file.name), text, separator) or [csv_text.Row(1, [])]
     if header.cells != HEADER:
         raise Refused(f"{shown(file.name)}, line 1: the first line must be {','.join(HEADER)}")

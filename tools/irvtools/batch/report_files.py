@@ -8,9 +8,9 @@ from xml.sax.saxutils import escape, quoteattr
 from irvtools.batch.batch_report import GOOD, LEFT_OUT, NO_ANSWER, rows_of
 
 XML, TABLE = "report.xml", "report.csv"
-HEADER = ("configuration", "verdict", "question", "outcome", "answer", "seconds", "CPU seconds", "memory KiB",
-          "machine", "solver", "configuration checksum", "program checksum", "program is proved", "job",
-          "file checksums")
+HEADER = ("configuration", "verdict", "question", "outcome", "answer", "seconds", "CPU seconds",
+          "memory KiB", "machine", "solver", "configuration checksum", "program checksum",
+          "program is proved", "job", "file checksums")
 
 
 def attributes(**values):
@@ -50,7 +50,8 @@ def junit(report):
     properties = "".join(element("property", name=name, value=value) for name, value in (
         *((name, report[name]) for name in ("program", "version", "engine", "directory")),
         ("program is proved", proved_word(report))))
-    inside = element("properties", "\n" + properties) + "".join(test_case(*each) for each in results)
+    inside = element("properties", "\n" + properties) + "".join(
+        test_case(*each) for each in results)
     suite = element("testsuite", "\n" + inside, name="irv", tests=len(results), errors=errors,
                     failures=len(results) - errors - skipped - good, skipped=skipped,
                     time=f"{math.fsum(result.measure('seconds') for _, result in results):.3f}")
@@ -58,9 +59,14 @@ def junit(report):
 
 
 def cell(text):
-    """Returns a text that no spreadsheet takes for a formula: if it begins like one, its first character is a
-    number."""
+    """Returns a text that no spreadsheet takes for a formula: if it begins like one, its first
+    character is a number."""
     return f"\\x{ord(text[0]):02x}{text[1:]}" if text[:1] in tuple("=+-@") else text
+
+
+def checksums_of(result):
+    """Returns the checksums of an answer's files, each after the file's role."""
+    return " ".join(f"{role}={checksum}" for role, _, checksum in result.files())
 
 
 def table(report):
@@ -73,7 +79,7 @@ def table(report):
             writer.writerow([
                 cell(row.name), row.verdict, result.question, result.outcome, result.line,
                 f"{result.measure('seconds'):.3f}", f"{result.measure('processor_seconds'):.3f}",
-                result.measure("memory_kib", max), "; ".join(result.machines()), "; ".join(result.solvers()),
-                row.checksum, report["program"], proved_word(report), result.key,
-                " ".join(f"{role}={checksum}" for role, _, checksum in result.files())])
+                result.measure("memory_kib", max), "; ".join(result.machines()),
+                "; ".join(result.solvers()), row.checksum, report["program"],
+                proved_word(report), result.key, checksums_of(result)])
     return out.getvalue()

@@ -1,9 +1,11 @@
-"""The index of a batch: a row for each configuration, the worst first, and below it the answer to each question."""
+"""The index of a batch: a row for each configuration, the worst first, and below it the answer
+to each question."""
 
 import math
 from pathlib import Path
 
-from irvtools.batch.batch_report import CONTRADICTION, GOOD, LEFT_OUT, NO_ANSWER, rows_of, verdict_counts
+from irvtools.batch.batch_report import CONTRADICTION, GOOD, LEFT_OUT, NO_ANSWER
+from irvtools.batch.batch_report import rows_of, verdict_counts
 from irvtools.batch.report_style import CSS
 from irvtools.calls.verdict import HAZARD_FOUND, RANKING, REFUSED, UNPROVED
 from irvtools.html.markup import code, tag, text
@@ -11,8 +13,8 @@ from irvtools.html.style import document
 
 FILE = "index.html"
 SCRIPT = Path(__file__).with_name("index.js")
-HEADER = ("verdict", "configuration", "sections", "points", "routes", "broken rules", "safe by", "seconds", "MiB",
-          "files")
+HEADER = ("verdict", "configuration", "sections", "points", "routes", "broken rules", "safe by",
+          "seconds", "MiB", "files")
 ANSWER_HEADER = ("configuration", "question", "outcome", "answer", "machine", "checksums (SHA-256)")
 # how the run below the first line of verify is called, by the first word of that line
 RUNS = {"unsafe": "run to the hazard", "breach": "run to the breach of the invariant",
@@ -20,7 +22,8 @@ RUNS = {"unsafe": "run to the hazard", "breach": "run to the breach of the invar
 
 
 def short_question(row, result):
-    """Returns a question in one word if the row has no other one of its kind, otherwise as a whole."""
+    """Returns a question in one word if the row has no other one of its kind, otherwise as a
+    whole."""
     kinds = [each.kind for each in row.results]
     return result.kind if kinds.count(result.kind) == 1 else result.question
 
@@ -47,22 +50,30 @@ def report_name(result):
 
 
 def hazard_link(row):
-    """Returns the link to the hazard of a row: the frame of an HTML report, otherwise the run of an answer, and
-    nothing if the row has no hazard."""
+    """Returns the link to the hazard of a row: the frame of an HTML report, otherwise the run of
+    an answer, and nothing if the row has no hazard."""
     if row.verdict != HAZARD_FOUND:
         return ""
     found = [each for each in row.results if each.word == HAZARD_FOUND]
-    pages = [(path, each.answer["anchor"]) for each in found for role, path, _ in each.files() if role == "page"]
+    pages = [(path, each.answer["anchor"]) for each in found for role, path, _ in each.files()
+             if role == "page"]
     for path, anchor in pages:
-        return tag("a", "Show the hazard in the HTML report", href=f"{path}#{anchor}" if anchor else path)
+        return tag("a", "Show the hazard in the HTML report",
+                   href=f"{path}#{anchor}" if anchor else path)
     runs = [path for each in found for role, path, _ in each.files() if role == "report"]
     return tag("a", "Show the run to the hazard", href=runs[0]) if runs else ""
 
 
 def verdict_cell(row):
-    """Returns the cell with the word, the sentence, a link to the hazard, and what has no answer."""
-    parts = [tag("span", text(row.verdict), class_="word") + text(f". {row.sentence}"), hazard_link(row)]
-    parts += [tag("div", text(f"{each.question}: {each.line}"), class_="small") for each in row.missing]
+    """Returns the cell with the word, the sentence, a link to the hazard, and what has no
+    answer."""
+    parts = [
+        tag("span", text(row.verdict), class_="word") + text(f". {row.sentence}"),
+        hazard_link(row)
+    ]
+    parts += [
+        tag("div", text(f"{each.question}: {each.line}"), class_="small") for each in row.missing
+    ]
     return " ".join(filter(None, parts))
 
 
@@ -110,9 +121,12 @@ def tools(rows):
     """Returns what filters the table. It is shown by the script."""
     words = [row.verdict for row in rows]
     options = tag("option", "all", value="") + "".join(
-        tag("option", text(f"{word} ({words.count(word)})"), value=word) for word in RANKING if word in words)
-    return ('<div class="tools" hidden>' + tag("label", "Filter " + '<input type="search" size="30">')
-            + tag("label", "Verdict " + tag("select", options)) + '<output aria-live="polite"></output></div>')
+        tag("option", text(f"{word} ({words.count(word)})"), value=word)
+        for word in RANKING if word in words)
+    return ('<div class="tools" hidden>'
+            + tag("label", "Filter " + '<input type="search" size="30">')
+            + tag("label", "Verdict " + tag("select", options))
+            + '<output aria-live="polite"></output></div>')
 
 
 def tone_of(result):
@@ -131,47 +145,55 @@ def answer_rows(row):
             tag("div", text(role + " ") + code(checksum)) for role, checksum in sums))
         by = result.machines() + [f"solver {each}" for each in result.solvers()]
         outcome = tag("span", text(result.outcome), class_=f"word {tone_of(result) or ''}".strip())
-        yield tag("tr", "".join(labelled(label, markup) for label, markup in zip(ANSWER_HEADER, (
-            text(row.name), text(result.question), outcome, text(result.line), text("; ".join(by)), folded))))
+        cells = (text(row.name), text(result.question), outcome, text(result.line),
+                 text("; ".join(by)), folded)
+        yield tag("tr", "".join(labelled(*pair) for pair in zip(ANSWER_HEADER, cells)))
 
 
 def answers(rows):
     """Returns the table of answers."""
-    head = tag("thead", tag("tr", "".join(tag("th", text(word), scope="col") for word in ANSWER_HEADER)),
+    head = tag("thead",
+               tag("tr", "".join(tag("th", text(word), scope="col") for word in ANSWER_HEADER)),
                class_="plain")
-    return tag("table", head + tag("tbody", "\n".join(line for row in rows for line in answer_rows(row))))
+    return tag("table",
+               head + tag("tbody", "\n".join(line for row in rows for line in answer_rows(row))))
 
 
 def notes(report, rows):
     """Returns what a reader must know before the table."""
+    missing = sum(len(row.missing) for row in rows)
+    wrong = sum(row.is_contradiction for row in rows)
     found = []
     if not report["is_proved"]:
-        found.append(tag("p", text(UNPROVED), class_="remark"))
-    missing, wrong = sum(len(row.missing) for row in rows), sum(row.is_contradiction for row in rows)
+        found.append((UNPROVED, "remark"))
     if wrong:
-        found.append(tag("p", text(f"Contradictions: {wrong}. The program, a machine or this directory is wrong, "
-                                   "and no answer here can be relied on."), class_="remark bad"))
+        found.append((f"Contradictions: {wrong}. The program, a machine or this directory is "
+                      "wrong, and no answer here can be relied on.", "remark bad"))
     if missing:
-        found.append(tag("p", text(f"Missing answers: {missing}. The next call asks again."), class_="remark bad"))
+        found.append((f"Missing answers: {missing}. The next call asks again.", "remark bad"))
     if any(row.verdict == REFUSED for row in rows):
-        found.append(tag("p", text("REFUSED says that a rule is broken, and nothing about safety. The question html "
-                                   "searches for a run to a hazard of such a table too."), class_="small"))
-    return found
+        found.append(("REFUSED says that a rule is broken, and nothing about safety. The question "
+                      "html searches for a run to a hazard of such a table too.", "small"))
+    return [tag("p", text(words), class_=class_) for words, class_ in found]
+
+
+def foundations(report):
+    """Returns what the answers depend on."""
+    proved = "known to be proved" if report["is_proved"] else "not known to be proved"
+    return tag("p", text("Each answer is one of the program with the checksum ")
+               + code(report["program"])
+               + text(f", which is {proved}, about the bytes of a configuration; irv "
+                      f"{report['version']}, {report['engine']}. ./irv --batch --verify-report "
+                      "checks each certificate, refutation and run again, on one machine. The "
+                      "scripts that ask and make this page are tested, not proved."))
 
 
 def page(report):
     """Returns the page's text."""
-    rows = rows_of(report)
-    proved = "known to be proved" if report["is_proved"] else "not known to be proved"
-    title = "Batch verification of interlockings"
-    parts = [tag("h1", title),
-             tag("p", text(f"{len(rows)} configurations of {report['directory']}: {verdict_counts(rows)}.")),
-             *notes(report, rows), tools(rows), index(rows), tag("h2", "Answers to all questions"), answers(rows),
-             tag("h2", "What this depends on"),
-             tag("p", text("Each answer is one of the program with the checksum ") + code(report["program"])
-                 + text(f", which is {proved}, about the bytes of a configuration; irv {report['version']}, "
-                        f"{report['engine']}. ./irv --batch --verify-report checks each certificate, refutation and "
-                        "run again, on one machine. The scripts that ask and make this page are tested, not "
-                        "proved."))]
+    rows, title = rows_of(report), "Batch verification of interlockings"
+    counts = f"{len(rows)} configurations of {report['directory']}: {verdict_counts(rows)}."
+    parts = [tag("h1", title), tag("p", text(counts)), *notes(report, rows), tools(rows),
+             index(rows), tag("h2", "Answers to all questions"), answers(rows),
+             tag("h2", "What this depends on"), foundations(report)]
     script = f"<script>\n{SCRIPT.read_text(encoding='utf-8')}</script>"
     return document(title, "\n".join([*parts, script]), CSS)

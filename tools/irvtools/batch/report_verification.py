@@ -1,9 +1,10 @@
-"""Checks a finished directory of results on one machine, with a program of this machine: each checksum, each
-certificate by audit, each run by replay, each refutation by rup, each verdict, and that the report files say what
-the answers are.
+"""Checks a finished directory of results on one machine, with a program of this machine: each
+checksum, each certificate by audit, each run by replay, each refutation by rup, each verdict, and
+that the report files say what the answers are.
 
-Nothing is believed of the machines that did the work. Answers that can't be checked are counted: those that
-say nothing about the interlocking, and HTML reports, of which the checksum and the first line are compared.
+Nothing is believed of the machines that did the work. Answers that can't be checked are counted:
+those that say nothing about the interlocking, and HTML reports, of which the checksum and the first
+line are compared.
 """
 
 import json
@@ -14,7 +15,8 @@ from irvtools.batch import html_verdicts
 from irvtools.batch import report_files
 from irvtools.batch import report_page
 from irvtools.batch import verdicts
-from irvtools.batch.batch_report import FILE, configuration_verdict, rows_of, sizes_of, verdict_value
+from irvtools.batch.batch_report import FILE, configuration_verdict, rows_of
+from irvtools.batch.batch_report import sizes_of, verdict_value
 from irvtools.batch.job_kinds import call_program
 from irvtools.batch.planning import FORM
 from irvtools.batch.program_answers import NoAnswer
@@ -28,9 +30,11 @@ from irvtools.checkers.verify_with import name_of, queries_for
 
 AFTERWARDS = ("key", "after")           # what a job has besides what its key is the checksum of
 # how a good answer of each kind begins, and the answer of an audit that had nothing to do
-GOOD_LINES = {"check": "clean", "verify": "safe k=", "audit": "accepted k=", "drive": "driven steps=",
-              "html": f"{SAFE}. ", "export": "p cnf ", "solve": "a refutation", "rup": "refuted ",
-              "verify_with": "safe k="}
+GOOD_LINES = {
+    "check": "clean", "verify": "safe k=", "audit": "accepted k=", "drive": "driven steps=",
+    "html": f"{SAFE}. ", "export": "p cnf ", "solve": "a refutation", "rup": "refuted ",
+    "verify_with": "safe k="
+}
 NO_CERTIFICATE = "no certificate of safety: "
 HAS_WORDS = ("check", "verify", "audit", "drive", "export", "rup")
 
@@ -73,13 +77,15 @@ class Verifier:
             yield f"{FILE}: it is not as it should be: {fault!r}"
             return
         for file, text in texts.items():
-            yield from self.tried(file, lambda: same_bytes(self.store.top / file, checksum_of(text), "the file"))
+            yield from self.tried(
+                file, lambda: same_bytes(self.store.top / file, checksum_of(text), "the file"))
         yield from self.tried("the program", self.check_program)
         for number, row in enumerate(rows):
             self.progress.step(f"checking configuration {number + 1} of {len(rows)}")
             yield from self.tried(row.name, lambda: self.check_row(row))
             for result in row.results:
-                yield from self.tried(f"{row.name}: {result.question}", lambda: self.check_result(row, result))
+                yield from self.tried(f"{row.name}: {result.question}",
+                                      lambda: self.check_result(row, result))
 
     @staticmethod
     def tried(where, check):
@@ -92,13 +98,14 @@ class Verifier:
             yield f"{where}: the report is not as it should be: {fault!r}"
 
     def check_program(self):
-        """Sees that the program has its checksum. If the report says that it is proved, this machine must know
-        the same program as proved."""
+        """Sees that the program has its checksum. If the report says that it is proved, this
+        machine must know the same program as proved."""
         checksum = self.report["program"]
         same_bytes(self.store.given(checksum), checksum, "the file")
-        if self.report["is_proved"] and not (checksum_of_file(self.program) == checksum and is_proved(self.program)):
-            raise Fault("the report says that it is proved, and this machine knows no proved program with its "
-                        "checksum")
+        is_known = checksum_of_file(self.program) == checksum and is_proved(self.program)
+        if self.report["is_proved"] and not is_known:
+            raise Fault("the report says that it is proved, and this machine knows no proved "
+                        "program with its checksum")
 
     def check_row(self, row):
         """Sees that the sizes and the verdict of a configuration are right."""
@@ -116,7 +123,8 @@ class Verifier:
             raise Fault("the answer is to something else")
         if kind != "audit":
             says = Question(kind, words).says
-            if says.columns != result.job["columns"] or getattr(says, "k", None) != result.job.get("k"):
+            asked = says.columns, getattr(says, "k", None)
+            if asked != (result.job["columns"], result.job.get("k")):
                 raise Fault("the answer is to other arguments")
         if result.answer is None:
             raise Fault(result.line)
@@ -135,8 +143,8 @@ class Verifier:
 
     def check_job(self, key, job, answer, **more):
         """Sees that a job's answer is its own, and right as far as that can be checked."""
-        if checksum_of(text_of({name: job[name] for name in job if name not in AFTERWARDS})) != key \
-                or job["program"] != self.report["program"] or job["form"] != FORM:
+        made_of = {name: job[name] for name in job if name not in AFTERWARDS}
+        if checksum_of(text_of(made_of)) != key or job["program"] != self.report["program"] or job["form"] != FORM:
             raise Fault("its key is not the checksum of what it was made of")
         if answer != json.loads(self.store.answer_file({**job, "key": key}).read_bytes()):
             raise Fault("the answer was changed")
@@ -145,9 +153,10 @@ class Verifier:
             self.checked(need)
         for role, file in answer["files"].items():
             same_bytes(self.file(job, key, file), file["checksum"], f"the {role}")
-        if more["verdict"] != verdict_value(verdicts.of_job(self.store, {**job, "key": key}, answer)):
+        whole = {**job, "key": key}
+        if more["verdict"] != verdict_value(verdicts.of_job(self.store, whole, answer)):
             raise Fault("its verdict is not that of its answer")
-        getattr(self, f"check_{job['kind']}", self.leave)({**job, "key": key}, answer)
+        getattr(self, f"check_{job['kind']}", self.leave)(whole, answer)
 
     @staticmethod
     def check_form(job, answer):
@@ -164,8 +173,10 @@ class Verifier:
         return self.store.directory({**job, "key": key}) / Path(file["name"]).name
 
     def ask(self, job, command, *words):
-        """Asks the program of this machine about a job's configuration, whose checksum must be right."""
-        path = same_bytes(self.store.given(job["configuration"]), job["configuration"], "the configuration")
+        """Asks the program of this machine about a job's configuration, whose checksum must be
+        right."""
+        path = same_bytes(self.store.given(job["configuration"]), job["configuration"],
+                          "the configuration")
         return call_program(self.program, path, self.room, command, *words)
 
     def expect(self, done, line, what):
@@ -207,8 +218,8 @@ class Verifier:
             if "certificate" not in answer["files"]:
                 raise Fault(f"the report says {line} without a certificate")
             certificate = self.file(job, job["key"], answer["files"]["certificate"])
-            self.expect(self.ask(job, "audit", *columns, f"--cert={certificate}"), f"accepted {line[5:]}",
-                        "irv audit")
+            self.expect(self.ask(job, "audit", *columns, f"--cert={certificate}"),
+                        f"accepted {line[5:]}", "irv audit")
         elif line.startswith("refused "):
             self.expect(self.ask(job, "check", *columns), line, "irv check")
         elif line.startswith("spent "):
@@ -229,7 +240,8 @@ class Verifier:
             raise Fault(f"irv replay says {done.line} about the run below {answer['line']}")
 
     def check_audit(self, job, answer):
-        """Sees that the answer is the one to the certificate of verify, which was checked with verify."""
+        """Sees that the answer is the one to the certificate of verify, which was checked with
+        verify."""
         verdict = self.jobs[job["needs"]["verify"]]
         line = verdict["answer"]["line"]
         expected = f"accepted {line[5:]}" if line.startswith("safe ") else f"{NO_CERTIFICATE}{line}"
@@ -246,7 +258,8 @@ class Verifier:
         need = job["needs"]["solve"]
         proof = self.file(self.jobs[need]["job"], need,
                           self.jobs[need]["answer"]["files"]["refutation"])
-        self.expect(self.ask(job, "rup", *job["words"], f"--cert={proof}"), answer["line"], "irv rup")
+        self.expect(self.ask(job, "rup", *job["words"], f"--cert={proof}"), answer["line"],
+                    "irv rup")
         if answer["is_good"] and answer["line"] != f"refuted {name_of(job['query'])}":
             raise Fault(f"the report says {answer['line']} about {name_of(job['query'])}")
 
@@ -262,8 +275,8 @@ class Verifier:
 
 
 def verify(store, program, progress):
-    """Checks a directory; returns the faults, how many answers there are, and how many of them were checked only by
-    their checksums."""
+    """Checks a directory; returns the faults, how many answers there are, and how many of them
+    were checked only by their checksums."""
     with tempfile.TemporaryDirectory(prefix="irv-batch-") as room:
         verifier = Verifier(store, program, room, progress)
         faults = list(verifier.faults())

@@ -1,8 +1,8 @@
 """Does what Snakemake asks for: one job, or the jobs of a group one after the other.
 
-Snakemake calls `tools/batch --run-job KEY` or `tools/batch --run-group GROUP` in the directory of the
-results. Each job of a group has its own process: if one is killed, the others go on. A job that needs an
-answer which does not exist is not begun.
+Snakemake calls `tools/batch --run-job KEY` or `tools/batch --run-group GROUP` in the directory of
+the results. Each job of a group has its own process: if one is killed, the others go on. A job that
+needs an answer which does not exist is not begun.
 """
 
 import os
@@ -32,18 +32,19 @@ def work_apart(store, key):
 
 
 def is_done(store, key):
-    """Does a job if it has no answer yet and all that it needs have theirs; returns whether it has an answer
-    then."""
+    """Does a job if it has no answer yet and all that it needs have theirs; returns whether it
+    has an answer then."""
     job = store.job(key)
-    if store.answer(job) is None and all(store.answer(store.job(need)) for need in job["needs"].values()):
+    if store.answer(job) is None and all(
+            store.answer(store.job(need)) for need in job["needs"].values()):
         prepare(store, job)
         work_apart(store, key)
     return store.answer(job) is not None
 
 
 def run(option, name):
-    """Does the job or the group with this name in the current directory; returns 0 if each job has its answer,
-    otherwise 1."""
+    """Does the job or the group with this name in the current directory; returns 0 if each job
+    has its answer, otherwise 1."""
     store = Store(Path.cwd().resolve())
     if option == "--run-job":
         return work(store, name)

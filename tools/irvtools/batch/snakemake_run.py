@@ -1,4 +1,5 @@
-"""Has Snakemake do the jobs that have no answer yet. One call at a time works in a directory of results."""
+"""Has Snakemake do the jobs that have no answer yet. One call at a time works in a directory of
+results."""
 
 import contextlib
 import fcntl
@@ -29,7 +30,8 @@ def need_engine():
 
 
 def version_in(store):
-    """Returns Snakemake's name and version, which it wrote when it last had something to do here."""
+    """Returns Snakemake's name and version, which it wrote when it last had something to do
+    here."""
     try:
         return f"{ENGINE} {(store.top / 'engine').read_text(encoding='utf-8').strip()}"
     except (OSError, ValueError):
@@ -38,7 +40,8 @@ def version_in(store):
 
 @contextlib.contextmanager
 def alone(store):
-    """While it is open no other call works in the directory, nor a Snakemake that an earlier call left."""
+    """While it is open no other call works in the directory, nor a Snakemake that an earlier
+    call left."""
     with open(store.top / "lock", "wb") as lock:
         try:
             fcntl.flock(lock, fcntl.LOCK_EX | fcntl.LOCK_NB)
@@ -59,8 +62,8 @@ def remove_temporary(store):
 
 
 def sweep(store, jobs):
-    """Removes what earlier calls left, and each answer that is not whole; returns the jobs that have no answer, and
-    the keys of those of them that were begun before."""
+    """Removes what earlier calls left, and each answer that is not whole; returns the jobs that
+    have no answer, and the keys of those of them that were begun before."""
     remove_temporary(store)
     missing = [job for job in jobs.values() if store.answer(job) is None]
     tried = {job["key"] for job in missing if store.failure(job) is not None}
@@ -72,9 +75,12 @@ def sweep(store, jobs):
 
 def words_of(store, handed_on):
     """Returns the command line of Snakemake. It does a job again only if that was stopped."""
-    return [ENGINE, "--snakefile", str(SNAKEFILE), "--directory", str(store.top), "--nolock",
-            "--keep-going", "--rerun-incomplete", "--rerun-triggers", "mtime", "--scheduler", "greedy",
-            "--nocolor", *handed_on]
+    return [
+        ENGINE, "--snakefile",
+        str(SNAKEFILE), "--directory",
+        str(store.top), "--nolock", "--keep-going", "--rerun-incomplete", "--rerun-triggers",
+        "mtime", "--scheduler", "greedy", "--nocolor", *handed_on
+    ]
 
 
 def watch(child, store, missing, progress):
@@ -87,14 +93,15 @@ def watch(child, store, missing, progress):
 
 def put_targets(store, groups, apart):
     """Keeps the groups, and the files for which Snakemake is asked."""
-    ends = [store.group_end(store.put_group(group)) for group in groups] + [store.answer_file(job) for job in apart]
+    ends = [store.group_end(store.put_group(group))
+            for group in groups] + [store.answer_file(job) for job in apart]
     targets = [os.path.relpath(end, store.top) for end in ends]
     store.put(store.top / "targets.json", json.dumps(targets).encode(), is_settled=False)
 
 
 def see_groups(store):
-    """Waits until the answers of finished groups are seen: a file system that many machines share may show a file
-    late, and Snakemake has seen only the ends of groups."""
+    """Waits until the answers of finished groups are seen: a file system that many machines
+    share may show a file late, and Snakemake has seen only the ends of groups."""
     end = time.monotonic() + SEEN_WITHIN
     keys = {key for group in store.groups.glob("*.done") for key in store.group(group.stem)}
     while any(store.answer(store.job(key)) is None for key in keys) and time.monotonic() < end:
@@ -102,8 +109,8 @@ def see_groups(store):
 
 
 def stop(child, store):
-    """Ends Snakemake and its jobs on this machine, and removes their temporary files. If it is interrupted again, it
-    waits no longer."""
+    """Ends Snakemake and its jobs on this machine, and removes their temporary files. If it is
+    interrupted again, it waits no longer."""
     number = signal.SIGTERM
     while child.poll() is None:
         with contextlib.suppress(ProcessLookupError):
@@ -116,11 +123,12 @@ def stop(child, store):
 
 
 def do_all(store, missing, handed_on, lock, progress):
-    """Has Snakemake do what it was asked for, which gives these jobs their answers; returns its exit status. Its
-    output goes to a file. It has its own group of processes, so that all of them can be ended."""
+    """Has Snakemake do what it was asked for, which gives these jobs their answers; returns its
+    exit status. Its output goes to a file. It has its own group of processes, so that all of
+    them can be ended."""
     with open(store.top / "snakemake.log", "wb") as log:
-        child = subprocess.Popen(words_of(store, handed_on), stdin=subprocess.DEVNULL, stdout=log, stderr=log,
-                                 pass_fds=[lock.fileno()], start_new_session=True,
+        child = subprocess.Popen(words_of(store, handed_on), stdin=subprocess.DEVNULL, stdout=log,
+                                 stderr=log, pass_fds=[lock.fileno()], start_new_session=True,
                                  preexec_fn=lambda: end_with_parent(signal.SIGTERM))
         try:
             status = watch(child, store, missing, progress)

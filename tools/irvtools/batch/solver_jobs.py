@@ -32,7 +32,9 @@ def do_solve(store, job, room):
     if cnf is None:
         return without_call(formula["line"], False)
     proof = room / "refutation.proof"
-    words = [word.replace("{cnf}", str(cnf)).replace("{proof}", str(proof)) for word in job["solver"]]
+    words = [
+        word.replace("{cnf}", str(cnf)).replace("{proof}", str(proof)) for word in job["solver"]
+    ]
     done = Called(words, None, room, job["seconds"])
     version = version_of(words[0], room)
     if done.status is None:
@@ -61,9 +63,9 @@ def do_rup(store, job, room):
 
 
 def safe_by_line(job, rups):
-    """Returns the line of verify_with, and whether it says safe. `rups` has the jobs of rup and their answers by
-    the names of the queries on which safety at k depends. Each must be for its query, for this configuration
-    with these columns, and by this program."""
+    """Returns the line of verify_with, and whether it says safe. `rups` has the jobs of rup and
+    their answers by the names of the queries on which safety at k depends. Each must be for its
+    query, for this configuration with these columns, and by this program."""
     left, refused = [], None
     for query in job["queries"]:
         other, answer = rups[name_of(query)]

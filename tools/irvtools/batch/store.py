@@ -1,10 +1,11 @@
 """The directory of the results, in which each thing is named by the checksum of what it is made of.
 
-No file in it is ever half written: it is written under another name, and gets its own when all of it is
-there. The answer of a job is the last of its files that gets its name, and it names the checksums of the
-others; so a job that was stopped has no answer. An answer and its files are on the disk before they get
-their names. That is not waited for if the bytes or the checksum are compared before a file is used again:
-configurations, scenarios, the program, and the files that list jobs and groups.
+No file in it is ever half written: it is written under another name, and gets its own when all of
+it is there. The answer of a job is the last of its files that gets its name, and it names the
+checksums of the others; so a job that was stopped has no answer. An answer and its files are on the
+disk before they get their names. That is not waited for if the bytes or the checksum are compared
+before a file is used again: configurations, scenarios, the program, and the files that list jobs
+and groups.
 """
 
 import hashlib
@@ -62,12 +63,13 @@ class Store:
 
     def prepare(self):
         """Makes the directories that always exist."""
-        for path in (self.making, self.failures, self.groups, self.top / "jobs", self.top / "given"):
+        for path in (self.making, self.failures, self.groups, self.top / "jobs",
+                     self.top / "given"):
             path.mkdir(parents=True, exist_ok=True)
 
     def put(self, path, data, is_settled=True):
-        """Writes a file as a whole or not at all, and waits until it is on the disk if `is_settled`; returns its
-        path."""
+        """Writes a file as a whole or not at all, and waits until it is on the disk if
+        `is_settled`; returns its path."""
         path.parent.mkdir(parents=True, exist_ok=True)
         handle, name = tempfile.mkstemp(dir=self.making)
         try:
@@ -100,7 +102,8 @@ class Store:
         return checksum
 
     def give_program(self, data, note):
-        """Keeps the program, with the note of its proof or without one if it is None; returns its checksum."""
+        """Keeps the program, with the note of its proof or without one if it is None; returns
+        its checksum."""
         checksum = self.give(data)
         path = self.given(checksum)
         path.chmod(0o755)
@@ -128,7 +131,8 @@ class Store:
         return self.directory(job) / "answer.json"
 
     def answer(self, job):
-        """Returns a job's answer, or None if there is none or if one of its files has another length."""
+        """Returns a job's answer, or None if there is none or if one of its files has another
+        length."""
         try:
             answer = json.loads(self.answer_file(job).read_bytes())
             whole = answer["key"] == job["key"] and all(

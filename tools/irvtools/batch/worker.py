@@ -1,5 +1,6 @@
-"""Does one job in this process, and keeps its answer. The answer gets its name last, when all its files are on
-the disk. From the beginning of the job until then failures/KEY.json says why there is no answer."""
+"""Does one job in this process, and keeps its answer. The answer gets its name last, when all
+its files are on the disk. From the beginning of the job until then failures/KEY.json says why
+there is no answer."""
 
 import contextlib
 import importlib
@@ -16,7 +17,8 @@ NO_WORD = "the job ended without a message, which happens if it is killed"
 
 
 def keep(store, job, answer):
-    """Keeps the files of a job's answer, then the answer. If another worker was earlier, its answer stays."""
+    """Keeps the files of a job's answer, then the answer. If another worker was earlier, its
+    answer stays."""
     files = {}
     for role, path in answer.pop("files").items():
         length, checksum = path.stat().st_size, checksum_of_file(path)
@@ -31,15 +33,17 @@ def keep(store, job, answer):
 def note_failure(store, key, why):
     """Keeps why there is no answer. If nothing can be written, says so."""
     try:
-        store.put(store.failure_file(key), text_of({"why": why, "machine": machine()}), is_settled=False)
+        store.put(store.failure_file(key), text_of({"why": why, "machine": machine()}),
+                  is_settled=False)
     except OSError as fault:
         print(f"irv --batch: the reason cannot be kept: {fault}", file=sys.stderr)
 
 
 def module_for(kind):
-    """Returns the module that does a kind of job. Only that one is imported, since most jobs take less time than
-    the imports."""
-    return importlib.import_module(f"irvtools.batch.{'job_kinds' if kind in OF_PROGRAM else 'solver_jobs'}")
+    """Returns the module that does a kind of job. Only that one is imported, since most jobs
+    take less time than the imports."""
+    return importlib.import_module(
+        f"irvtools.batch.{'job_kinds' if kind in OF_PROGRAM else 'solver_jobs'}")
 
 
 def doer(kind):
