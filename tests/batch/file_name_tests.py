@@ -1,27 +1,32 @@
 """Tests with names of all kinds: what is answered, what is kept, and that changes are found."""
 
+import html
 import random
 import xml.etree.ElementTree
 
+from irvtools.batch.planning import title_of
 from irvtools.batch.report_verification import texts_of
+from irvtools.html.options import MOST_CHARACTERS
 from tests.batch.workspace import batch_case, differs, without_progress
+from tests.support.harness import Test
 
 # names that a shell, a page, or a table could take for something else
 NAMES = {"platforms.json": b"a 'quoted\" $(touch broken) name.json",
-         "platforms-wrong-position.json": b"-dash <b>&amp; {key}.json",
+         "platforms-wrong-position.json": b"-dash<b>&amp;{key}.json",
          "two-sections.json": b"=1+1.json", "station.json": b"below/line\nend \xff.json"}
 SHOWN = {"platforms.json": "a 'quoted\" $(touch broken) name.json",
-         "platforms-wrong-position.json": "-dash <b>&amp; {key}.json",
+         "platforms-wrong-position.json": "-dash<b>&amp;{key}.json",
          "two-sections.json": "=1+1.json", "station.json": "below/line\\x0aend \\xff.json"}
 QUESTIONS = """configuration,ask,words
 =1+1.json,verify,--columns free
 *,check,
-"-dash <b>&amp; {key}.json",verify,
-"-dash <b>&amp; {key}.json",audit,
+"-dash<b>&amp;{key}.json",verify,
+"-dash<b>&amp;{key}.json",audit,
 "a 'quoted"" $(touch broken) name.json",verify,
 "a 'quoted"" $(touch broken) name.json",audit,
 "a 'quoted"" $(touch broken) name.json",verify_with,"--solver 'sh -c "": >{proof}; exit 20"" {cnf}'"
 *,drive,--run 'a scene'
+*,html,--verify-seconds 0 --search-seconds 0
 """
 SCENARIO = "drive 1\nenter line\nend\n"
 SUMS = 100              # how often random seconds are added up in two orders
@@ -55,7 +60,7 @@ def check_names(room):
     room.add("line-with-boards.json", NAMES["station.json"])
     third = room.call()
     yield from differs("changed",
-                       third.stdout.split("; ")[1], f"2 jobs were done, {known - 2} were known")
+                       third.stdout.split("; ")[1], f"3 jobs were done, {known - 3} were known")
     yield from changes(room)
 
 
@@ -68,7 +73,7 @@ def expected_answers():
     """Returns the outcome and the line of each answer but that of verify_with."""
     name = dict(SHOWN)
     name["two-sections.json"] = "\\x3d1+1.json"         # in a table no name begins a formula
-    name["platforms-wrong-position.json"] = "\\x2ddash <b>&amp; {key}.json"
+    name["platforms-wrong-position.json"] = "\\x2ddash<b>&amp;{key}.json"
     return {
         (name["platforms.json"], "check"): ("good", "clean"),
         (name["platforms.json"], "verify"): ("good", "safe k=1"),
@@ -94,22 +99,33 @@ def names_faults(room):
     """Yields what is wrong with the answers about configurations with names of all kinds."""
     found, expected = room.answers(), expected_answers()
     solved = found.pop((SHOWN["platforms.json"], "verify_with"), ("", ""))
+    reports = {key: found.pop(key) for key in list(found) if key[1] == "html"}
     yield from differs("answers", found, expected)
+    yield from differs("HTML reports", sorted(outcome for outcome, _ in reports.values()),
+                       ["REFUSED", "REFUSED", "good", "good"])
+    yield from differs("titles", sorted(titles(room)), sorted(SHOWN.values()))
     # an empty text refutes no query that needs more than propagation, as step 1 of this table does
     if solved[0] != "NOT SHOWN" or not solved[1].endswith("step 1"):
         yield f"a solver that wrote nothing: {solved}"
     yield from differs("touched", list(room.room.rglob("broken")), [])
     rows = [(word, name) for word, _, name in room.index_rows()]
     yield from differs("the rows of the index, the worst first", rows,
-                       [("HAZARD FOUND", "=1+1.json"), ("REFUSED", "-dash <b>&amp; {key}.json"),
+                       [("HAZARD FOUND", "=1+1.json"), ("REFUSED", "-dash<b>&amp;{key}.json"),
                         ("SAFE", "a 'quoted\" $(touch broken) name.json"),
                         ("SAFE", "below/line\\x0aend \\xff.json")])
     suite = xml.etree.ElementTree.parse(room.out / "report.xml").getroot()[0]
     yield from differs("JUnit",
                        [suite.get(key) for key in ("tests", "failures", "errors", "skipped")],
-                       ["14", "9", "0", "1"])
+                       ["18", "11", "0", "1"])
     yield from differs("JUnit's names", {case.get("classname") for case in suite.iter("testcase")},
                        set(SHOWN.values()))
+
+
+def titles(room):
+    """Yields the title of each HTML report."""
+    for path in (room.out / "results/html").glob("*/*.html"):
+        text = path.read_text(encoding="utf-8")
+        yield html.unescape(text.partition("<h1>")[2].partition("</h1>")[0])
 
 
 def order_faults(room):
@@ -187,6 +203,17 @@ def changes(room):
         path.write_bytes(before)
         if status != 1 or not any(expected in line for line in lines[:-1]):
             yield f"{what} was changed: {status} {lines}"
+
+
+class TitleTests(Test):
+    """Tests of the titles of HTML reports."""
+
+    def test_titles(self):
+        """A title is printable and not too long, and a name that can be a title is one."""
+        names = {"a.json": "a.json", "x" * 300 + ".json": "…" + "x" * (MOST_CHARACTERS - 6) + ".json",
+                 "a\u00a0b.json": "a\\u00a0b.json", "a\nb.json": "a\\x0ab.json"}
+        self.see(fault for name, title in names.items()
+                 for fault in differs(name, title_of(name), title))
 
 
 FileNameTests = batch_case("FileNameTests", (check_names,))

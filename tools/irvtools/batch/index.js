@@ -1,4 +1,5 @@
-// Sorts and filters the table of the index. Without this script the table is complete, the worst rows first.
+// Sorts and filters the table of the index. Without this script the table is complete, the worst
+// rows first.
 "use strict";
 (() => {
   const table = document.querySelector("table.index");

@@ -98,14 +98,10 @@ class Planner:
         """Adds an HTML report, which shows the configuration's name and whether the program is
         known to be proved."""
         says = question.says
-        words = [
-            "--columns", says.columns, "--depth",
-            str(says.depth), "--conflicts",
-            str(says.conflicts), "--verify-seconds",
-            str(says.verify_seconds), "--search-seconds",
-            str(says.search_seconds), "--no-cert", "--title",
-            title_of(name)
-        ]
+        words = ["--columns", says.columns, "--depth", str(says.depth),
+                 "--conflicts", str(says.conflicts), "--verify-seconds", str(says.verify_seconds),
+                 "--search-seconds", str(says.search_seconds), "--no-cert",
+                 f"--title={title_of(name)}"]
         return self.job("html", configuration=configuration, words=words, columns=says.columns,
                         tool=self.html_tool, is_proved=self.is_proved)
 
