@@ -1,7 +1,10 @@
-"""Trials of work that is stopped in the middle: what ended is told, no half of a result is taken, and the next
-call ends the work."""
+"""Tests of work that is stopped in the middle: the report says what has no answer, no half of a
+result is used, and the next call finishes the work."""
 
 import contextlib
+import os
+import pty
+import re
 import signal
 import subprocess
 import time
@@ -9,19 +12,21 @@ import xml.etree.ElementTree
 from pathlib import Path
 from unittest import SkipTest
 
-from tests.batch.workspace import differs, done_line, run
-from tests.batch.workspace import batch_case
+from tests.batch.workspace import batch_case, differs, done_line, run, without_progress
 
-LONG = 300              # seconds in which what is waited for comes, however loaded the machine is
+LONG = 300              # seconds to wait for something, however loaded the machine is
 SMALL_DISK, LARGE_DISK = "2m", "64m"    # below the certificate of a terminus, and far above
 
 
 def check_no_answer(room):
-    """What is no answer is told as that, and the next call asks again; a certificate that is none is found."""
+    """A call that gives no answer is reported, and the next call asks again; a certificate that
+    is none is found."""
     room.add("platforms.json")
     words = ["--ask", "verify"]
-    for wish, why in (("kill", "irv verify was ended by SIGKILL, as it is where the machine has no memory left"),
-                      ("empty", "irv verify ended with status 1, which tells nothing")):
+    for wish, why in ((
+            "kill",
+            "irv verify was ended by SIGKILL, which happens if the machine has no memory left"),
+                      ("empty", "irv verify ended with status 1 and no answer")):
         room.fake(wish)
         done = room.call(*words)
         yield from differs(wish, (done.returncode, room.answers()[("platforms.json", "verify")]),
@@ -33,91 +38,176 @@ def check_no_answer(room):
     done = room.call(*words)
     yield from differs("lie", (done.returncode, room.answers()[("platforms.json", "verify")]),
                        (0, ("good", "safe k=1")))
-    yield from differs("the lie is found", room.verify()[1][:1],
-                       ["platforms.json: verify: irv audit says rejected line 1, and accepted k=1 is told"])
+    lie = "irv audit says rejected line 1, and the report says accepted k=1"
+    yield from differs("the lie is found", room.verify()[1][:1], [f"platforms.json: verify: {lie}"])
+
+
+def begun(room, words, **others):
+    """Returns a call that was begun and waits in verify."""
+    room.fake("wait")
+    call = subprocess.Popen(room.words(*words), stdin=subprocess.DEVNULL, stdout=subprocess.DEVNULL,
+                            **others)
+    waits, end = Path(f"{room.wish}.waits"), time.monotonic() + LONG
+    while not waits.exists() and call.poll() is None and time.monotonic() < end:
+        time.sleep(0.1)
+    return call
 
 
 def check_killed(room):
-    """Where tools/batch is killed in the middle, the next call ends the work."""
+    """If tools/batch is killed in the middle, the next call finishes the work."""
     room.add("platforms.json")
-    room.fake("wait")
     words = ["--ask", "check", "--ask", "verify"]
-    first = subprocess.Popen(room.words(*words), stdin=subprocess.DEVNULL, stdout=subprocess.DEVNULL,
-                             stderr=subprocess.DEVNULL)
-    waits, end = Path(f"{room.wish}.waits"), time.monotonic() + LONG
-    while not waits.exists() and first.poll() is None and time.monotonic() < end:
-        time.sleep(0.1)
+    first = begun(room, words, stderr=subprocess.DEVNULL)
     first.send_signal(signal.SIGKILL)
     first.wait()
     yield from differs("a report of half the work", (room.out / "report.json").exists(), False)
     room.wish.write_text("go", encoding="ascii")
     done = room.call(*words)
-    yield from differs("afterwards", (done.returncode, room.answers()), (0, {
-        ("platforms.json", "check"): ("good", "clean"), ("platforms.json", "verify"): ("good", "safe k=1")}))
+    yield from differs("afterwards", (done.returncode, room.answers()),
+                       (0, {("platforms.json", "check"): ("good", "clean"),
+                            ("platforms.json", "verify"): ("good", "safe k=1")}))
+
+
+def processes_of(room):
+    """Returns the command lines of processes that work in a room."""
+    found = []
+    for path in Path("/proc").glob("[0-9]*/cmdline"):
+        with contextlib.suppress(OSError):
+            line = path.read_bytes().replace(b"\0", b" ").decode(errors="replace")
+            found += [line] if str(room.room) in line else []
+    return found
+
+
+def check_interrupted(room):
+    """A call that is interrupted ends all that it runs, says so, and leaves no temporary file
+    anywhere. The next call finishes the work."""
+    room.add("platforms.json")
+    room.add("two-sections.json")
+    temporary = room.room / "temporary"
+    temporary.mkdir()
+    words = ["--ask", "check", "--ask", "verify", "--ask", "html --columns free --search-seconds 0",
+             "--batch-bytes", "0"]
+    for number in (signal.SIGTERM, signal.SIGINT, signal.SIGHUP):
+        Path(f"{room.room}/wish.waits").unlink(missing_ok=True)
+        call = begun(room, words, stderr=subprocess.PIPE, text=True,
+                     env={**os.environ, "TMPDIR": str(temporary)})
+        call.send_signal(number)
+        said = call.communicate(timeout=LONG)[1]
+        yield from differs(number.name, (call.returncode, without_progress(said)),
+                           (3, "irv --batch: stopped; call again to go on\n"))
+        yield from differs(f"{number.name}: processes", processes_of(room), [])
+        left = [
+            *temporary.iterdir(), *(room.out / "making").iterdir(),
+            *(room.out / "groups").iterdir()
+        ]
+        yield from differs(f"{number.name}: temporary files", left, [])
+        yield from differs(f"{number.name}: a report", (room.out / "report.json").exists(), False)
+    room.wish.write_text("go", encoding="ascii")
+    done = room.call(*words)
+    yield from differs("afterwards",
+                       (done.returncode, room.answers()[("platforms.json", "verify")]),
+                       (1, ("good", "safe k=1")))
+    yield from differs("verified", room.verify()[0], 0)
+
+
+def check_terminal(room):
+    """On a terminal a call says what it is doing in a line that it clears at last; in a file it
+    says none of that."""
+    room.add("platforms.json")
+    reader, terminal = pty.openpty()
+    done = run_beside(room.words("--ask", "check"), terminal)
+    said = os.read(reader, 1 << 16).decode()
+    os.close(reader)
+    steps = [line.partition(": ")[2] for line in said.split("\r\x1b[K") if line]
+    yield from differs("the first steps", steps[:3], [
+        f"reading {room.directory}", "planning the jobs of 1 configurations",
+        "0 jobs known, 1 to do: Snakemake starts"])
+    yield from differs("the last step", steps[-1], "writing the report")
+    counts = [step for step in steps if re.fullmatch(r"[01] of 1 jobs done, \d+:\d\d", step)]
+    if not counts or not said.endswith("\r\x1b[K"):
+        yield f"the terminal shows {said!r}"
+    yield from differs("the output", done, done_line(1, "1 SAFE", 1, (1, 0), room))
+    yield from differs("in a file", room.call("--ask", "check").stderr, "")
+
+
+def run_beside(words, terminal):
+    """Calls a command whose standard error is a terminal; returns its output."""
+    done = subprocess.run(words, stdin=subprocess.DEVNULL, stdout=subprocess.PIPE, stderr=terminal,
+                          text=True, check=False, timeout=LONG)
+    os.close(terminal)
+    return done.stdout
 
 
 def check_full(room):
-    """Where the certificate can't be written, that is told, and the next call ends the work."""
+    """If the certificate can't be written, the report says so, and the next call finishes the
+    work."""
     room.add("terminus-throat.json")
     checks, both = room.words("--ask", "check"), room.words("--ask", "check", "--ask", "verify")
-    yield from differs("before", run(checks).stdout, done_line(1, 1, 1, 0, room))
+    yield from differs("before", run(checks).stdout, done_line(1, "1 SAFE", 1, (1, 0), room))
     done = run(["bash", "-c", 'ulimit -f 40; exec "$@"', "bash", *both])
-    yield from differs("with no room", (done.returncode, room.answers()[("terminus-throat.json", "verify")]),
+    yield from differs("with no room",
+                       (done.returncode, room.answers()[("terminus-throat.json", "verify")]),
                        (3, ("no answer", "no answer: irv verify was ended by SIGXFSZ")))
     yield from differs("an answer of half the work", list(room.out.glob("results/verify/*/*")), [])
-    yield from differs("afterwards", run(both).stdout, done_line(1, 1, 1, 1, room))
+    yield from differs("afterwards", run(both).stdout, done_line(1, "1 SAFE", 1, (1, 1), room))
 
 
 def check_worker_killed(room):
-    """Where a worker is killed in the middle, what it ran ends with it, the others go on, and the next call does
-    its job alone."""
+    """If a worker is killed in the middle, the program that it runs ends with it, the others go
+    on, and the next call does only its job."""
     room.add("platforms.json")
     room.fake("orphan")
     words = ["--ask", "check", "--ask", "verify", "--ask", "audit"]
     done = room.call(*words)
-    killed = "no answer: it ended without a word, as what is killed does"
-    yield from differs("killed", (done.returncode, room.answers()), (3, {
-        ("platforms.json", "check"): ("good", "clean"), ("platforms.json", "verify"): ("no answer", killed),
-        ("platforms.json", "audit"): ("no answer", killed)}))
+    killed = "no answer: the job ended without a message, which happens if it is killed"
+    yield from differs("killed", (done.returncode, room.answers()),
+                       (3, {("platforms.json", "check"): ("good", "clean"),
+                            ("platforms.json", "verify"): ("no answer", killed),
+                            ("platforms.json", "audit"): ("no answer", killed)}))
     yield from differs("half of a result", list(room.out.glob("results/verify/*/*")), [])
     room.wish.write_text("go", encoding="ascii")
-    yield from differs("afterwards", room.call(*words).stdout, done_line(1, 1, 2, 1, room))
+    yield from differs("afterwards",
+                       room.call(*words).stdout, done_line(1, "1 SAFE", 1, (2, 1), room))
     yield from differs("left", list((room.out / "making").iterdir()), [])
     yield from differs("verified", room.verify()[0], 0)
 
 
 @contextlib.contextmanager
-def small_disk(folder):
-    """A disk of its own at a folder, which is full soon; a call that makes it larger, or nothing where none can
-    be mounted here."""
+def small_disk(directory):
+    """Mounts a small disk at a directory while it is open; gives a function that enlarges it, or
+    None if none can be mounted here."""
     def mount(*words):
-        return run(["mount", *words, str(folder)])
-    folder.mkdir()
+        return run(["mount", *words, str(directory)])
+    directory.mkdir()
     is_there = mount("-t", "tmpfs", "-o", f"size={SMALL_DISK}", "tmpfs").returncode == 0
     try:
         yield (lambda: mount("-o", f"remount,size={LARGE_DISK}")) if is_there else None
     finally:
         if is_there:
-            run(["umount", str(folder)])
+            run(["umount", str(directory)])
 
 
 def check_full_disk(room):
-    """On a full disk that is told, no half of a result is taken, and once there is room the next call ends the
-    work."""
+    """If the disk is full, the report says so, no half of a result is used, and once there is
+    room the next call finishes the work."""
     room.add("terminus-throat.json")
     room.fake("go")
     words = ["--ask", "check", "--ask", "verify"]
     with small_disk(room.out) as enlarge:
         if enlarge is None:
-            raise SkipTest("no disk can be mounted here, which needs root")
+            raise SkipTest("no disk can be mounted here; that needs root")
         done = room.call(*words)
         yield from differs("full", (done.returncode, room.answers()), (3, {
             ("terminus-throat.json", "check"): ("good", "clean"),
-            ("terminus-throat.json", "verify"): ("no answer", "no answer: irv verify ended with a write fault")}))
+            ("terminus-throat.json", "verify"):
+                ("no answer", "no answer: irv verify ended with a write fault")}))
         yield from differs("half of a result", list(room.out.glob("results/verify/*/*")), [])
         enlarge()
-        yield from differs("afterwards", room.call(*words).stdout, done_line(1, 1, 1, 1, room))
+        yield from differs("afterwards",
+                           room.call(*words).stdout, done_line(1, "1 SAFE", 1, (1, 1), room))
         yield from differs("verified", room.verify()[0], 0)
 
 
-InterruptionTests = batch_case("InterruptionTests", (check_no_answer, check_killed, check_worker_killed, check_full, check_full_disk))
+InterruptionTests = batch_case("InterruptionTests",
+                               (check_no_answer, check_killed, check_worker_killed,
+                                check_interrupted, check_terminal, check_full, check_full_disk))

@@ -1,13 +1,14 @@
-"""Hundreds of configurations, judged by plain calls one after the other and four at once, and then together: how
-the times compare, that a second call judges none, and that after one change one is judged. It isn't for the
-gate: its figures are those of a machine that has nothing else to do. Where something else is at work, four at
-once get no four times as much of the machine as one: then what plain calls take four at once, and the seconds
-of the processors, tell more than the clock.
+"""Hundreds of configurations: plain calls one after the other and four at once, and then a batch;
+how the times compare, that a second call asks nothing, and that after one change only one
+configuration is asked about. It does not run in CI: its figures are those of a machine that has
+nothing else to do. If something else is at work, four at once do not get four times as much of the
+machine as one: then compare with what plain calls take four at once, and compare CPU seconds rather
+than wall-clock time.
 
-The configurations are the same at each run: the examples, a station of tests/plants, made stations, lines of
-the trials of the page, plain and with protection that is put by chance; and of each one with a single
-fault. Of each is asked what breaks the rules, the verdict under free columns, with an eighth of the conflicts
-that are usual, and the audit of its certificate. It takes some twenty minutes.
+The configurations are the same at each run: the examples, a station of tests/plants, generated
+stations, lines of real size, plain and with random protection; and each of them with a single
+fault. The questions are which rules are broken, the verdict with free columns and an eighth of the
+usual conflicts, and the audit of its certificate. It takes about twenty minutes.
 """
 
 import concurrent.futures
@@ -19,22 +20,20 @@ import resource
 import subprocess
 import time
 
-from tests.batch.workspace import EXAMPLES, TOP, differs
-
-
-from tests.support.random_faults import FAULTS, with_fault, with_protection
 from irvtools.generators.configurations import stations_text
+from tests.batch.workspace import EXAMPLES, TOP, differs
+from tests.support.random_faults import FAULTS, with_fault, with_protection
 from tests.support.real_size_lines import NETWORKS, with_routes
 
 OF_VERIFY = ("--columns", "free", "--conflicts", "12000")
-WANTED = ("check", " ".join(("verify", *OF_VERIFY)), "audit")
+QUESTIONS = ("check", " ".join(("verify", *OF_VERIFY)), "audit")
 CORES = 4
 MOST_STATIONS = 12
 MOST_RATIO, MOST_SECONDS = 1.2, 10
 
 
 def right_ones(program):
-    """Configurations that are as they were made, by name, without end."""
+    """Yields configurations without faults, by name, without end."""
     for path in (*sorted(EXAMPLES.glob("*.json")), TOP / "tests/plants/s.json"):
         yield path.stem, json.loads(path.read_bytes())
     for count in range(1, MOST_STATIONS + 1):
@@ -49,7 +48,8 @@ def right_ones(program):
 
 
 def with_a_fault(name, document):
-    """The same with a single fault, by chance; some kinds don't fit some. Without routes there is none."""
+    """Returns a document with a random single fault, which depends only on the name, or None if
+    it has no routes. Not each kind of fault fits each document."""
     chance, second = random.Random(name), copy.deepcopy(document)
     second["version"] = 2
     for route in second["routes"]:
@@ -64,25 +64,25 @@ def with_a_fault(name, document):
 
 
 def fill(room, count):
-    """Writes so many configurations, half of them with faults."""
+    """Writes `count` configurations, half of them with faults."""
     made = set()
     for name, document in right_ones(str(room.true_program)):
         for title, value in ((name, document), (f"{name}, a fault", with_a_fault(name, document))):
             if value is not None and len(made) < count:
-                (room.folder / f"{title}.json").write_text(json.dumps(value), encoding="ascii")
+                (room.directory / f"{title}.json").write_text(json.dumps(value), encoding="ascii")
                 made.add(title)
         if len(made) == count:
             return
 
 
 def used():
-    """The seconds on the clock, and those of the processors by what was called."""
+    """Returns the wall-clock time, and the CPU seconds of what was called."""
     children = resource.getrusage(resource.RUSAGE_CHILDREN)
     return time.monotonic(), children.ru_utime + children.ru_stime
 
 
 def by_plain_calls(room, path):
-    """Judges one by plain calls."""
+    """Asks about one configuration by plain calls."""
     certificate = str(room.room / f"{path.stem}.certificate")
     for words in (["check"], ["verify", *OF_VERIFY, "--cert", certificate],
                   ["audit", "--columns", "free", "--cert", certificate]):
@@ -94,48 +94,58 @@ def by_plain_calls(room, path):
 
 
 def plain(room, at_once):
-    """Judges each by plain calls, so many at once; answers what it took."""
+    """Asks about each configuration by plain calls, `at_once` in parallel; returns what it took."""
     begin = used()
     with concurrent.futures.ThreadPoolExecutor(at_once) as pool:
-        list(pool.map(lambda path: by_plain_calls(room, path), sorted(room.folder.glob("*.json"))))
+        list(
+            pool.map(lambda path: by_plain_calls(room, path),
+                     sorted(room.directory.glob("*.json"))))
     return [now - before for now, before in zip(used(), begin)]
 
 
-def together(room):
-    """Judges them together; answers the call and what it took."""
+def in_a_batch(room):
+    """Asks about all configurations in a batch; returns the call and what it took."""
     begin = used()
-    words = [word for want in WANTED for word in ("--ask", want)]
+    words = [word for question in QUESTIONS for word in ("--ask", question)]
     done = room.call(*words, "--cores", str(CORES))
     return done, [now - before for now, before in zip(used(), begin)]
 
 
-def measure(room, count):
-    """Makes the trial; answers the faults."""
-    fill(room, count)
-    found = len(list(room.folder.glob("*.json")))
-    yield from differs("configurations", found, count)
-    print(f"{found} configurations; {os.getloadavg()[0]:.1f} processes are at work beside", flush=True)
+def compare(room):
+    """Prints the times of plain calls and of a batch; yields a fault if the batch is too slow."""
     one = plain(room, 1)
-    print(f"plain calls, one after the other: {one[0]:.1f} s, {one[1]:.1f} s of the processors", flush=True)
+    print(f"plain calls, one after the other: {one[0]:.1f} s, {one[1]:.1f} CPU seconds", flush=True)
     best = plain(room, CORES)
-    print(f"plain calls, {CORES} at once: {best[0]:.1f} s, {best[1]:.1f} s of the processors: "
+    print(f"plain calls, {CORES} at once: {best[0]:.1f} s, {best[1]:.1f} CPU seconds: "
           f"{best[0] * CORES / one[0]:.2f} times the sum over {CORES}", flush=True)
-    done, all_ = together(room)
+    done, all_ = in_a_batch(room)
     ratio = all_[0] * CORES / one[0]
-    print(f"together {all_[0]:.1f} s, {all_[1]:.1f} s of the processors: {ratio:.2f} times the sum over {CORES}, "
-          f"{all_[0] / best[0]:.2f} times plain calls, and {all_[1] / one[1]:.2f} times their processors' seconds\n"
-          f"{done.stdout.strip()}", flush=True)
+    print(f"batch: {all_[0]:.1f} s, {all_[1]:.1f} CPU seconds: {ratio:.2f} times the sum over "
+          f"{CORES}, {all_[0] / best[0]:.2f} times plain calls, and {all_[1] / one[1]:.2f} times "
+          f"their CPU seconds\n{done.stdout.strip()}", flush=True)
     if ratio >= MOST_RATIO:
-        yield f"{ratio:.2f} times the sum of the times over {CORES}, and less than {MOST_RATIO} is wanted"
-    again, took = together(room)
+        yield (f"{ratio:.2f} times the sum of the times over {CORES}; less than {MOST_RATIO} is "
+               "expected")
+
+
+def measure(room, count):
+    """Runs the benchmark with `count` configurations; yields the faults."""
+    fill(room, count)
+    found = len(list(room.directory.glob("*.json")))
+    yield from differs("configurations", found, count)
+    print(f"{found} configurations; {os.getloadavg()[0]:.1f} other processes are at work",
+          flush=True)
+    yield from compare(room)
+    again, took = in_a_batch(room)
     print(f"again {took[0]:.1f} s", flush=True)
     if took[0] >= MOST_SECONDS or " 0 jobs were done" not in again.stdout:
         yield f"again: {took[0]:.1f} s, {again.stdout}{again.stderr}"
-    path = room.folder / "station.json"
+    path = room.directory / "station.json"
     value = json.loads(path.read_bytes())
     value["routes"].pop()
     path.write_text(json.dumps(value), encoding="ascii")
-    changed, took = together(room)
+    changed, took = in_a_batch(room)
     print(f"one changed {took[0]:.1f} s", flush=True)
-    yield from differs("one changed", changed.stdout.split("; ")[1].partition(",")[0], f"{len(WANTED)} jobs were done")
+    yield from differs("one changed", changed.stdout.split("; ")[1].partition(",")[0],
+                       f"{len(QUESTIONS)} jobs were done")
     yield from differs("verified", room.verify()[0], 0)

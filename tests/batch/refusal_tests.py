@@ -1,57 +1,69 @@
-"""Trials of what is refused, and of a machine without Snakemake."""
+"""Tests of what is refused, and of a machine without Snakemake."""
 
 import os
 import sys
 
-from tests.batch.workspace import EXAMPLES, differs, run
-from tests.batch.workspace import batch_case
+from tests.batch.workspace import EXAMPLES, batch_case, differs, run
 
 
 def check_missing(room):
-    """Without Snakemake it says in a sentence what to install, and makes nothing."""
+    """Without Snakemake it says what to install, and makes nothing."""
     room.add("platforms.json")
-    done = run([sys.executable, *room.words()], env={"PATH": str(room.folder)})
+    done = run([sys.executable, *room.words()], env={"PATH": str(room.directory)})
     yield from differs("status", done.returncode, 2)
-    yield from differs("said", done.stderr, "irv --batch: Snakemake isn't here, which has the work done: install it, as "
-                       "by `apt-get install --no-install-recommends snakemake`\n")
+    yield from differs(
+        "said", done.stderr,
+        "irv --batch: Snakemake is not installed, and runs the jobs; install it, for "
+        "example by `apt-get install --no-install-recommends snakemake`\n")
     yield from differs("made", room.out.exists(), False)
 
 
-def check_refusals(room):
-    """Each refusal is told, and nothing is made."""
-    room.add("platforms.json")
+def cases(room):
+    """Returns for each refusal what is said, the arguments, what is done before, and OUT if it is
+    another one."""
     outside = room.room / "outside.json"
     outside.write_bytes(b"{}")
-    link, listed = room.folder / "link.json", room.folder / "questions.csv"
-    cases = [
-        ("it stands in the folder of the configurations", ["--ask", "check"], None, room.folder / "out"),
-        ("link.json: it is a link that leads out of the folder", [], lambda: link.symlink_to(outside), None),
-        ("link.json: it is a link to a folder; those aren't followed", [],
-         lambda: link.symlink_to(room.room), None),
-        ("link.json: it is no file", [], lambda: os.mkfifo(link), None),
-        ("link.json: it is a link that leads out of the folder", [], lambda: link.symlink_to("/dev/zero"), None),
+    link, listed = room.directory / "link.json", room.directory / "questions.csv"
+    return [
+        ("the results cannot be inside the directory of the configurations", ["--ask", "check"],
+         None, room.directory / "out"),
+        ("link.json: the link leads out of the directory", [], lambda: link.symlink_to(outside),
+         None),
+        ("link.json: links to directories are not followed", [], lambda: link.symlink_to(room.room),
+         None),
+        ("link.json: not a regular file", [], lambda: os.mkfifo(link), None),
+        ("link.json: the link leads out of the directory", [], lambda: link.symlink_to("/dev/zero"),
+         None),
         ("check: unrecognized arguments: --depth 4", ["--ask", "check --depth 4"], None, None),
-        ("audit is wanted without verify", ["--ask", "audit"], None, None),
-        ("drive: ../a.scene leads out of the folder", ["--ask", "drive --run ../a.scene"], None, None),
-        ("17 is no whole number from 1 to 16", ["--ask", "verify --depth 17"], None, None),
-        ("questions.csv, line 1: it isn't configuration,ask,words", [],
+        ("audit needs verify", ["--ask", "audit"], None, None),
+        ("drive: ../a.scene leads out of the directory", ["--ask", "drive --run ../a.scene"],
+         None, None),
+        ("17 is not a whole number from 1 to 16", ["--ask", "verify --depth 17"], None, None),
+        ("questions.csv, line 1: the first line must be configuration,ask,words", [],
          lambda: listed.write_text("a,b\n", encoding="ascii"), None),
-        ("questions.csv, line 2: none.json is no configuration of the folder", [],
-         lambda: listed.write_text("configuration,ask,words\nnone.json,check,\n", encoding="ascii"), None),
-        ("it is there, and isn't a folder of results", [], None, EXAMPLES),
-        ("the program can't be read", ["--program", str(room.room / "none")], None, None),
+        ("questions.csv, line 2: none.json is not a configuration of the directory", [],
+         lambda: listed.write_text("configuration,ask,words\nnone.json,check,\n", encoding="ascii"),
+         None),
+        ("exists already, and is not a directory of results", [], None, EXAMPLES),
+        ("the program cannot be read", ["--program", str(room.room / "none")], None, None),
     ]
-    for why, words, before, out in cases:
+
+
+def check_refusals(room):
+    """Each refusal is reported, and nothing is made."""
+    room.add("platforms.json")
+    for why, words, before, out in cases(room):
         if before:
             before()
         line = room.words(*words)
         line[2] = str(out or room.out)
         done = run(line)
         if done.returncode != 2 or why not in done.stderr or "Traceback" in done.stderr:
-            yield f"{why!r} is wanted, and {done.returncode} {done.stderr!r} came"
-        yield from differs(f"{why}: made", [room.out.exists(), (room.folder / "out").exists()], [False, False])
-        link.unlink(missing_ok=True)
-        listed.unlink(missing_ok=True)
+            yield f"{why!r} is expected, and {done.returncode} {done.stderr!r} came"
+        yield from differs(f"{why}: made", [room.out.exists(), (room.directory / "out").exists()],
+                           [False, False])
+        (room.directory / "link.json").unlink(missing_ok=True)
+        (room.directory / "questions.csv").unlink(missing_ok=True)
 
 
 RefusalTests = batch_case("RefusalTests", (check_missing, check_refusals))

@@ -1,66 +1,96 @@
-"""The report as a value: the configurations, what is wanted of each, and what came. The page and the
-files that a pipeline reads are made of this value and of nothing else, so they can be made again."""
+"""The report as a value: the configurations, the questions about each, their answers and the
+verdicts. The page and the files that a pipeline reads are made only from this value, so they can
+be made again."""
 
 import json
 import math
 
+from irvtools.batch import verdicts
 from irvtools.batch.directory import MOST_BYTES
 from irvtools.batch.file_names import shown
+from irvtools.calls.verdict import HAZARD_FOUND, NOT_SHOWN, RANKING, REFUSED
+from irvtools.calls.verdict import SAFE, SAFE_WITH_DEVIATIONS
 from irvtools.paths import TOP
 
 FILE = "report.json"
-# how a job stands, the worst first
-CONTRADICTION, HAZARD, NO_ANSWER, REFUSED, BROKEN, OPEN, NOTHING, GOOD = range(8)
-STANDINGS = ("contradiction", "hazard", "no answer", "refused", "not shown", "not shown", "left out", "good")
-BY_WORD = {"unsafe": HAZARD, "hazard": HAZARD, "refused": REFUSED, "breach": BROKEN, "not inductive": BROKEN}
-SAYS_SAFE = ("check", "verify", "audit", "verify_with")
-UNTOLD = "it wasn't begun"
+# the outcomes of questions, the worst first; a question about safety has a verdict's word if it
+# isn't good
+CONTRADICTION, NO_ANSWER, LEFT_OUT, GOOD = "contradiction", "no answer", "left out", "good"
+OUTCOMES = (CONTRADICTION, HAZARD_FOUND, NO_ANSWER, REFUSED, NOT_SHOWN, SAFE_WITH_DEVIATIONS,
+            LEFT_OUT, GOOD)
+NOT_BEGUN = "the job was not begun"
 
 
 def sizes_of(data):
-    """How many sections, points and routes a configuration has; none where it can't be read."""
+    """Returns how many sections, points and routes a configuration has, or None if it can't be
+    read."""
     try:
         value = json.loads(data) if len(data) <= MOST_BYTES else None
         kinds = [section["kind"] for section in value["sections"]]
-        return {"sections": len(kinds), "points": kinds.count("point"), "routes": len(value["routes"])}
+        return {
+            "sections": len(kinds), "points": kinds.count("point"), "routes": len(value["routes"])
+        }
     except (ValueError, TypeError, KeyError, RecursionError):
         return None
 
 
 def why_failed(store, jobs, key):
-    """Why a job has no answer: the reason of the first on which it stands that has none either, or its own."""
+    """Returns why a job has no answer: the reason of the first job that it needs and that has
+    none either, or its own."""
     for need in jobs[key]["needs"].values():
         if store.answer(jobs[need]) is None:
             return why_failed(store, jobs, need)
-    return store.failure(jobs[key]) or UNTOLD
+    return store.failure(jobs[key]) or NOT_BEGUN
 
 
-def make(store, about, configurations, wanted, jobs):
-    """The report's value. A failure is told as such."""
-    told = {key: {"job": job, "answer": store.answer(job)} for key, job in jobs.items()}
-    for key, each in told.items():
-        if each["answer"] is None:
-            each["failure"] = why_failed(store, jobs, key)
-    return {**about, "version": (TOP / "VERSION").read_text(encoding="utf-8").strip(), "jobs": told,
-            "configurations": [
-                {"name": name, "sum": sum_, "sizes": sizes_of(data),
-                 "wants": [{"want": want, "key": key} for want, key in wanted[name]]}
-                for name, (sum_, data) in configurations.items()]}
+def job_value(store, jobs, key):
+    """Returns a job with its answer, or why there is none, and the verdict to which it comes, if
+    any."""
+    answer = store.answer(jobs[key])
+    value = {
+        "job": jobs[key], "answer": answer,
+        "verdict": verdict_value(verdicts.of_job(store, jobs[key], answer))
+    }
+    return value if answer else {**value, "failure": why_failed(store, jobs, key)}
 
 
-class Told:
-    """What came of something that was wanted of a configuration."""
+def verdict_value(found):
+    """Returns a word and a sentence as a value, or None."""
+    return found and {"word": found[0], "sentence": found[1]}
 
-    def __init__(self, report, want, key):
-        self.asked, self.want, self.key = want, shown(want), key
-        self.job = report["jobs"][key]["job"]
-        self.answer = report["jobs"][key]["answer"]
-        self.failure = report["jobs"][key].get("failure")
+
+def make(store, about, configurations, asked, jobs):
+    """Returns the report's value."""
+    values = {key: job_value(store, jobs, key) for key in jobs}
+    return {
+        **about, "version": (TOP / "VERSION").read_text(encoding="utf-8").strip(), "jobs": values,
+        "configurations": [{
+            "name": name, "checksum": checksum, "sizes": sizes_of(data),
+            "verdict": configuration_verdict(store, values, [key for _, key in asked[name]]),
+            "questions": [{"question": question, "job": key} for question, key in asked[name]]
+        } for name, (checksum, data) in configurations.items()]
+    }
+
+
+def configuration_verdict(store, values, keys):
+    """Returns the verdict of a configuration as a value, by the jobs with these keys."""
+    return verdict_value(verdicts.of_configuration(
+        store, [(values[key]["job"], values[key]["answer"]) for key in keys]))
+
+
+class Result:
+    """What came of a question about a configuration."""
+
+    def __init__(self, report, question, key):
+        value = report["jobs"][key]
+        self.asked, self.question, self.key = question, shown(question), key
+        self.job, self.answer, self.failure = value["job"], value["answer"], value.get("failure")
+        self.word = value["verdict"] and value["verdict"]["word"]
         self.kind = self.job["kind"]
         self.below = [report["jobs"][each] for each in self.keys_below(report, key)]
 
     def keys_below(self, report, key):
-        """The keys of the jobs that were done for this one alone, itself first."""
+        """Returns the keys of the jobs that were done only for this question, its own first."""
         found = [key]
         if self.kind == "verify_with":
             for need in report["jobs"][key]["job"]["needs"].values():
@@ -77,79 +107,109 @@ class Told:
         return shown(self.answer["line"])
 
     @property
-    def standing(self):
-        """How it stands."""
+    def outcome(self):
+        """The outcome, one of OUTCOMES."""
         if self.answer is None:
             return NO_ANSWER
+        if self.answer["is_good"] is None:
+            return LEFT_OUT
         if self.answer["is_good"] is True:
             return GOOD
-        if self.answer["is_good"] is None:
-            return NOTHING
-        if self.kind == "audit":
-            return CONTRADICTION
-        return next((standing for word, standing in BY_WORD.items() if self.line.startswith(word)), OPEN)
+        return CONTRADICTION if self.kind == "audit" else self.word
 
     @property
     def says_safe(self):
-        """Whether it says that the plant is safe: check does so under strict columns."""
-        return self.standing == GOOD and self.kind in SAYS_SAFE and (
-            self.kind != "check" or self.job["columns"] == "strict")
+        """Whether the answer says that the interlocking is safe."""
+        return self.word in (SAFE,
+                             SAFE_WITH_DEVIATIONS) or self.kind == "audit" and self.outcome == GOOD
 
     def measure(self, what, fold=math.fsum):
-        """A measure of all that was done for it. A sum is exact before it is rounded, and so the same in
-        whatever order the report has what was done."""
+        """Returns a measure of all that was done for this question. A sum is exact before it is
+        rounded, and so the same in any order of the jobs."""
         return fold([each["answer"][what] for each in self.below if each["answer"]] or [0])
 
     def machines(self):
-        """The machines on which it was done."""
+        """Returns the machines on which it was done."""
         return sorted({each["answer"]["machine"] for each in self.below if each["answer"]})
 
     def solvers(self):
-        """The solvers that had a part in it."""
+        """Returns the solvers that were used."""
         return sorted({each["answer"]["solver"] for each in self.below
                        if each["answer"] and "solver" in each["answer"]})
 
     def files(self):
-        """The files of its answer: of each what it is, its path in the folder of the results, its sum."""
+        """Returns the files of the answer: of each its role, its path in the directory of the
+        results, its checksum."""
         place = f"results/{self.kind}/{self.key}"
         files = self.answer["files"] if self.answer else {}
-        return [(role, f"{place}/{file['name']}", file["sum"]) for role, file in sorted(files.items())]
+        return [(role, f"{place}/{file['name']}", file["checksum"])
+                for role, file in sorted(files.items())]
 
 
 class Row:
-    """A configuration, with all that came of it."""
+    """A configuration, with its verdict and the results of all questions about it."""
 
     def __init__(self, report, configuration):
-        self.name, self.sum = shown(configuration["name"]), configuration["sum"]
-        self.sizes = configuration["sizes"]
-        self.told = [Told(report, each["want"], each["key"]) for each in configuration["wants"]]
+        self.name, self.checksum = shown(configuration["name"]), configuration["checksum"]
+        self.value, self.sizes = configuration, configuration["sizes"]
+        self.word = configuration["verdict"]["word"]
+        self.own_sentence = shown(configuration["verdict"]["sentence"])
+        self.results = [Result(report, each["question"], each["job"])
+                        for each in configuration["questions"]]
+        tone = verdicts.tone(self.word, report["is_proved"])
+        self.tone = "bad" if self.is_contradiction else tone
 
     @property
-    def standing(self):
-        """How the worst of it stands. That a plant is safe and has a hazard is a contradiction."""
-        standings = [each.standing for each in self.told]
-        if HAZARD in standings and any(each.says_safe for each in self.told):
-            return CONTRADICTION
-        return min((one for one in standings if one != NOTHING), default=NOTHING)
+    def is_contradiction(self):
+        """Whether one answer says safe and another one has a hazard, or a certificate of verify
+        is rejected."""
+        outcomes = [each.outcome for each in self.results]
+        is_both = self.word == HAZARD_FOUND and any(each.says_safe for each in self.results)
+        return is_both or CONTRADICTION in outcomes
 
     @property
     def verdict(self):
-        """The line of the worst."""
-        if not self.told:
-            return "nothing is wanted of it"
-        if self.standing == CONTRADICTION:
-            return "contradiction: " + "; ".join(f"{each.want}: {each.line}" for each in self.told)
-        worst = min(self.told, key=lambda each: each.standing)
-        said = next((each for each in self.told if each.says_safe and each.kind != "check"), worst)
-        return said.line if self.standing == GOOD else worst.line
+        """The word of the verdict. A contradiction without a hazard shows nothing."""
+        return NOT_SHOWN if self.is_contradiction and self.word != HAZARD_FOUND else self.word
 
     @property
-    def ways(self):
-        """By which ways it is known to be safe."""
-        return [each.want for each in self.told if each.says_safe]
+    def sentence(self):
+        """The sentence of the verdict."""
+        if not self.is_contradiction:
+            return self.own_sentence
+        said = "; ".join(f"{each.question}: {each.line}" for each in self.results)
+        own = self.own_sentence + " " if self.word == HAZARD_FOUND else ""
+        return f"{own}Contradiction: the program, a machine or this directory is wrong. {said}."
+
+    @property
+    def is_good(self):
+        """Whether every answer is good, or was left out."""
+        outcomes = {each.outcome for each in self.results}
+        return outcomes <= {GOOD, LEFT_OUT} and GOOD in outcomes and not self.is_contradiction
+
+    @property
+    def missing(self):
+        """The questions without an answer."""
+        return [each for each in self.results if each.outcome == NO_ANSWER]
+
+    @property
+    def rank(self):
+        """Where the row comes, the smallest first: hazards, contradictions, then the other words
+        in their order."""
+        place = RANKING.index(self.verdict)
+        is_late = not self.is_contradiction
+        outcomes = [OUTCOMES.index(each.outcome) for each in self.results]
+        return (place if place == 0 else 1 if self.is_contradiction else place + 1, is_late,
+                min(outcomes, default=len(OUTCOMES)))
 
 
 def rows_of(report):
-    """The rows, the worst first."""
+    """Returns the rows, the worst first."""
     rows = [Row(report, each) for each in report["configurations"]]
-    return sorted(rows, key=lambda row: row.standing)
+    return sorted(rows, key=lambda row: row.rank)
+
+
+def verdict_counts(rows):
+    """Returns how many rows have each verdict's word, in the order of the ranking, in words."""
+    words = [row.verdict for row in rows]
+    return ", ".join(f"{words.count(word)} {word}" for word in RANKING if word in words)

@@ -1,13 +1,15 @@
-"""Names of files, which may be any bytes, as they are shown."""
+"""Shows names of files, which may be any bytes."""
 
 import re
 
-# what can't stand in XML, or isn't seen
-UNSEEN = re.compile("[\\\\\x00-\x1f\x7f-\x9f\ud800-\udfff\ufffe\uffff\u2028\u2029\u200b-\u200f\u202a-\u202e]")
+# what XML can't hold, or what isn't seen
+UNSEEN = re.compile(
+    "[\\\\\x00-\x1f\x7f-\x9f\ud800-\udfff\ufffe\uffff\u2028\u2029\u200b-\u200f\u202a-\u202e]")
 
 
 def escaped(found):
-    """A character by its number: a byte that isn't UTF-8, as the system hands it on, by that byte's."""
+    """Returns a character as its number; a byte that isn't UTF-8, as the system passes it on, as
+    that byte."""
     number = ord(found[0])
     if found[0] == "\\":
         return "\\\\"
@@ -16,6 +18,6 @@ def escaped(found):
     return f"\\x{number:02x}" if number < 0x100 else f"\\u{number:04x}"
 
 
-def shown(name):
-    """A name on one line; two names are never shown alike."""
+def shown(name: str) -> str:
+    """Returns a name on one line. Two names are never shown alike."""
     return UNSEEN.sub(escaped, name)

@@ -1,4 +1,4 @@
-"""Calls a program and measures it: its time, its memory, on which machine."""
+"""Calls a program and measures it: its time, its memory, and the machine."""
 
 import ctypes
 import os
@@ -11,34 +11,36 @@ import time
 from irvtools.batch.program_answers import NoAnswer
 
 PARENT_DIES = 1         # PR_SET_PDEATHSIG of prctl(2)
-TAIL = 4000             # bytes of a complaint that are looked at
+TAIL = 4000             # bytes of a complaint that are read
 
 
 def machine():
-    """This machine, in a line."""
+    """Returns this machine in one line."""
     return f"{platform.node()} {platform.system()} {platform.release()} {platform.machine()}"
 
 
 def end_with_parent(number=signal.SIGKILL):
-    """For a child before it becomes another program: it ends when its parent does."""
+    """Makes this process end when its parent does; for a child before it becomes another
+    program."""
     ctypes.CDLL(None).prctl(PARENT_DIES, int(number))
 
 
 def last_line(data):
-    """The last line of a text that isn't empty."""
+    """Returns the last line of a text that isn't empty."""
     lines = data.decode(errors="replace").split("\n")
     return next((line.strip() for line in reversed(lines) if line.strip()), "")
 
 
 class Called:
-    """What came of a call: its status, its first line, what it complained, what it took. Its status is
-    none where it was ended since its seconds were over."""
+    """A call that has ended: its status, its first line, its complaint, and what it took. Its
+    status is None if it was ended because its seconds were over. Its temporary files are in its
+    own room."""
 
     def __init__(self, words, given, room, seconds=None):
         self.output = room / "output.txt"
         begin = time.monotonic()
         with open(self.output, "wb") as out, open(room / "complaint", "w+b") as errors:
-            child = self.start(words, given, out, errors)
+            child = self.start(words, given, room, out, errors)
             is_late = self.wait(child, seconds)
             errors.seek(max(0, errors.tell() - TAIL))
             self.complaint = last_line(errors.read())
@@ -49,17 +51,19 @@ class Called:
             self.line = out.readline(TAIL).decode(errors="replace").removesuffix("\n")
 
     @staticmethod
-    def start(words, given, out, errors):
+    def start(words, given, room, out, errors):
         """Starts the program; its standard input is a file, or nothing."""
         try:
             with open(given or os.devnull, "rb") as source:
                 return subprocess.Popen(words, stdin=source, stdout=out, stderr=errors,
+                                        env={**os.environ, "TMPDIR": str(room)},
                                         preexec_fn=end_with_parent)
         except OSError as fault:
-            raise NoAnswer(f"{words[0]} can't be called: {fault.strerror}") from fault
+            raise NoAnswer(f"{words[0]} cannot be called: {fault.strerror}") from fault
 
     def wait(self, child, seconds):
-        """Waits for the end, and takes its status and its measures; answers whether it was ended."""
+        """Waits for the end, and takes the status and the measures; returns whether the call was
+        ended because its seconds were over."""
         late = threading.Event()
         timer = threading.Timer(seconds or 0, lambda: (late.set(), child.kill()))
         if seconds is not None:
@@ -72,6 +76,6 @@ class Called:
         return late.is_set()
 
     def measures(self):
-        """What it took."""
+        """Returns what the call took."""
         return {"seconds": self.seconds, "processor_seconds": self.processor_seconds,
                 "memory_kib": self.memory_kib}

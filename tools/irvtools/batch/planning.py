@@ -1,5 +1,5 @@
-"""Makes jobs of what is wanted. A job's key is the sum of what its answer is made of, and the keys of
-the jobs on which it stands are a part of that: so equal keys are equal work."""
+"""Makes jobs of questions. A job's key is the checksum of what its answer is made of, and the
+keys of the jobs that it needs are a part of that: so equal keys are equal work."""
 
 import os
 
@@ -8,97 +8,119 @@ from irvtools.batch.directory import MOST_SCENARIO, read_file
 from irvtools.batch.file_names import shown
 from irvtools.calls.refusal import Refused
 from irvtools.checkers.verify_with import queries_for
-from irvtools.batch.store import sum_of, sum_of_file, text_of
+from irvtools.html.options import MOST_CHARACTERS
+from irvtools.batch.store import checksum_of, checksum_of_file, text_of
 
-FORM = 1                        # another number where a kind of job comes to do something else
-
-
-def page_tool_sum():
-    """The sum of all that makes a page."""
-    files = [HTML_TOOL, *sorted((HTML_TOOL.parent / "irvtools").rglob("*.py"))]
-    return sum_of("\n".join(f"{file.name} {sum_of_file(file)}" for file in files).encode())
+FORM = 2                        # another number if a kind of job comes to do something else
 
 
-def read_scenarios(folder, wanted):
-    """The scenarios that are wanted, which stand in the folder too: the bytes of each by its name."""
+def html_tool_checksum():
+    """Returns the checksum of all that makes an HTML report."""
+    package = HTML_TOOL.parent / "irvtools"
+    files = [
+        HTML_TOOL, *(file for file in sorted(package.rglob("*.py")) if file.parent.name != "batch")
+    ]
+    return checksum_of("\n".join(f"{file.name} {checksum_of_file(file)}"
+                                 for file in files).encode())
+
+
+def read_scenarios(directory, asked):
+    """Returns the scenarios that questions name, which are in the directory too: the bytes of
+    each by its name."""
     read = {}
-    for name in sorted({want.says.run for wants in wanted.values() for want in wants if want.kind == "drive"}):
+    for name in sorted({question.says.run for questions in asked.values() for question in questions
+                        if question.kind == "drive"}):
         if os.path.isabs(name) or ".." in name.split("/"):
-            raise Refused(f"drive: {shown(name)} leads out of the folder")
-        read[name] = read_file(folder, name, MOST_SCENARIO)
+            raise Refused(f"drive: {shown(name)} leads out of the directory")
+        read[name] = read_file(directory, name, MOST_SCENARIO)
     return read
 
 
-class Planner:
-    """Makes the jobs of one folder: by the program of this sum, with the scenarios of these sums."""
+def title_of(name):
+    """Returns the title of a configuration's HTML report: its name, of a long one the end."""
+    title = "".join(one if one.isprintable() else f"\\u{ord(one):04x}" for one in shown(name))
+    return title if len(title) <= MOST_CHARACTERS else "…" + title[1 - MOST_CHARACTERS:]
 
-    def __init__(self, store, program, scenarios):
-        self.store, self.program, self.scenarios = store, program, scenarios
-        self.page_tool = page_tool_sum()
+
+class Planner:
+    """Makes the jobs of one directory: with the program of this checksum, which is known to be
+    proved or not, and scenarios of these checksums."""
+
+    def __init__(self, store, program, is_proved, scenarios):
+        self.store, self.scenarios = store, scenarios
+        self.program, self.is_proved = program, is_proved
+        self.html_tool = html_tool_checksum()
         self.jobs = {}
 
     def job(self, kind, needs=None, **what):
-        """A job; it is one with each that is the same."""
+        """Adds a job; equal jobs are one. Returns its key."""
         value = {"form": FORM, "kind": kind, "program": self.program, "needs": needs or {}, **what}
-        key = sum_of(text_of(value))
+        key = checksum_of(text_of(value))
         value["after"] = [self.answer_path(other) for other in value["needs"].values()]
         self.jobs[key] = {**value, "key": key}
         return key
 
     def answer_path(self, key):
-        """Where the answer of a job comes to stand, from the folder of the results."""
+        """Returns the path of a job's answer, from the directory of the results."""
         return os.path.relpath(self.store.answer_file(self.jobs[key]), self.store.top)
 
-    def wanted(self, configuration, wants):
-        """The jobs of what is wanted of a configuration: pairs of a want and its job's key."""
+    def asked(self, name, configuration, questions):
+        """Adds the jobs of all questions about a configuration, by its name and its checksum;
+        yields each question in words with its job's key."""
         verified = {}
-        for want in wants:
-            if want.kind == "verify":
-                verified[want.words] = self.plain(configuration, want)
-        for want in wants:
-            if want.kind == "audit":
+        for question in questions:
+            if question.kind == "verify":
+                verified[question.words] = self.plain(configuration, question)
+        for question in questions:
+            if question.kind == "audit":
                 yield from ((f"audit of verify {words}".strip(), self.audit(configuration, key))
                             for words, key in verified.items())
+            elif question.kind == "html":
+                yield f"html {question.words}".strip(), self.html(name, configuration, question)
             else:
-                make = getattr(self, want.kind, self.plain)
-                yield f"{want.kind} {want.words}".strip(), make(configuration, want)
+                make = getattr(self, question.kind, self.plain)
+                yield f"{question.kind} {question.words}".strip(), make(configuration, question)
 
-    def plain(self, configuration, want):
-        """check or verify."""
-        words = [word for name, value in sorted(vars(want.says).items())
+    def plain(self, configuration, question):
+        """Adds a job of check or verify."""
+        words = [word for name, value in sorted(vars(question.says).items())
                  for word in (f"--{name}", str(value))]
-        return self.job(want.kind, configuration=configuration, words=words,
-                        columns=want.says.columns)
+        return self.job(question.kind, configuration=configuration, words=words,
+                        columns=question.says.columns)
 
     def audit(self, configuration, verified):
-        """The audit of a certificate."""
+        """Adds the audit of a certificate."""
         columns = self.jobs[verified]["columns"]
         return self.job("audit", {"verify": verified}, configuration=configuration, columns=columns,
                         words=["--columns", columns])
 
-    def html(self, configuration, want):
-        """The page."""
-        says = want.says
-        words = ["--columns", says.columns, "--depth", str(says.depth), "--conflicts",
-                 str(says.conflicts), "--verify-seconds", f"{says.verify_seconds:g}", "--search-seconds", f"{says.search_seconds:g}"]
+    def html(self, name, configuration, question):
+        """Adds an HTML report, which shows the configuration's name and whether the program is
+        known to be proved."""
+        says = question.says
+        words = ["--columns", says.columns, "--depth", str(says.depth),
+                 "--conflicts", str(says.conflicts), "--verify-seconds", str(says.verify_seconds),
+                 "--search-seconds", str(says.search_seconds), "--no-cert",
+                 f"--title={title_of(name)}"]
         return self.job("html", configuration=configuration, words=words, columns=says.columns,
-                        tool=self.page_tool)
+                        tool=self.html_tool, is_proved=self.is_proved)
 
-    def drive(self, configuration, want):
-        """A scenario."""
-        columns = want.says.columns
+    def drive(self, configuration, question):
+        """Adds the drive of a scenario."""
+        columns = question.says.columns
         return self.job("drive", configuration=configuration, columns=columns,
-                        words=["--columns", columns], scenario=self.scenarios[want.says.run])
+                        words=["--columns", columns], scenario=self.scenarios[question.says.run])
 
-    def verify_with(self, configuration, want):
-        """Each query on which safety at k rests: its formula, a solver's refutation, and rup."""
-        says, needs, queries = want.says, {}, queries_for(want.says.k)
+    def verify_with(self, configuration, question):
+        """Adds jobs for each query on which safety at k depends: its formula, a solver's
+        refutation, and rup."""
+        says, needs, queries = question.says, {}, queries_for(question.says.k)
         for kind, at in queries:
             about = {"configuration": configuration, "columns": says.columns, "query": [kind, at],
                      "words": ["--columns", says.columns, "--query", kind, "--number", str(at)]}
             exported = self.job("export", **about)
-            solved = self.job("solve", {"export": exported}, solver=says.solver, seconds=says.seconds,
-                              **about)
+            solved = self.job("solve", {"export": exported}, solver=says.solver,
+                              seconds=says.seconds, **about)
             needs[f"{kind} {at}"] = self.job("rup", {"solve": solved}, **about)
-        return self.job("verify_with", needs, configuration=configuration, columns=says.columns, k=says.k,
-                        queries=[list(query) for query in queries], words=[])
+        return self.job("verify_with", needs, configuration=configuration, columns=says.columns,
+                        k=says.k, queries=[list(query) for query in queries], words=[])

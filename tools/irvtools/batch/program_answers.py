@@ -1,4 +1,4 @@
-"""What the program answers: which first lines it has with which status, and which of them are good.
+"""The program's answers: which first lines come with which status, and which of them are good.
 
 A status without its line is no answer: it may be that of a signal, of a shell or of a full machine.
 """
@@ -30,7 +30,7 @@ class NoAnswer(Exception):
 
 
 def signal_name(number):
-    """A signal's name."""
+    """Returns a signal's name."""
     try:
         return signal.Signals(number).name
     except ValueError:
@@ -38,7 +38,7 @@ def signal_name(number):
 
 
 def is_answer(command, status, line):
-    """Whether the program has this line with this status."""
+    """Returns whether the program has this line with this status."""
     if status == REFUSED:
         return re.fullmatch(REFUSAL, line) is not None
     if command == "verify":
@@ -47,13 +47,14 @@ def is_answer(command, status, line):
     return pattern is not None and re.fullmatch(pattern, line) is not None
 
 
-def why_no_answer(command, status, line, complaint):
-    """Why what came is no answer of the program; none where it is one."""
+def why_no_answer(command: str, status: int, line: str, complaint: str):
+    """Returns why a status, a line and a complaint are no answer of the program, or None if they
+    are one."""
     if is_answer(command, status, line):
         return None
     if status < 0 or status > 128:
         name = signal_name(-status if status < 0 else status - 128)
         return f"irv {command} was ended by {name}" + (
-            ", as it is where the machine has no memory left" if "KILL" in name else "")
+            ", which happens if the machine has no memory left" if "KILL" in name else "")
     said = f": {complaint}" if complaint else ""
-    return f"irv {command} ended with {FAULTS.get(status, f'status {status}, which tells nothing')}{said}"
+    return f"irv {command} ended with {FAULTS.get(status, f'status {status} and no answer')}{said}"

@@ -1,4 +1,4 @@
-"""What is wanted of a configuration: the words by which it is asked for, and the file that lists it."""
+"""Questions about a configuration: the arguments that ask them, and the file that lists them."""
 
 import argparse
 import shlex
@@ -9,14 +9,14 @@ from irvtools.batch.file_names import shown
 from irvtools.calls.refusal import Refused, reason
 from irvtools.checkers.verify_with import CADICAL, MOST_EVENTS
 
-HEAD = ["configuration", "ask", "words"]
-ALL = "*"                       # each configuration of the folder
+HEADER = ["configuration", "ask", "words"]
+ALL = "*"                       # each configuration of the directory
 LISTED = "questions.csv"
 USUAL = ("check", "verify", "audit")
 
 
 class Words(argparse.ArgumentParser):
-    """Reads the words of a want; a fault is refused."""
+    """Reads the arguments of a question; wrong ones are refused."""
 
     def __init__(self):
         super().__init__(add_help=False, allow_abbrev=False)
@@ -26,10 +26,11 @@ class Words(argparse.ArgumentParser):
 
 
 def number(least, most):
-    """A reader of whole numbers."""
+    """Returns a reader of whole numbers between two bounds."""
     def read(word):
         if not (word.isascii() and word.isdigit() and least <= int(word) <= most):
-            raise argparse.ArgumentTypeError(f"{shown(word)} is no whole number from {least} to {most}")
+            raise argparse.ArgumentTypeError(
+                f"{shown(word)} is not a whole number from {least} to {most}")
         return int(word)
     return read
 
@@ -41,7 +42,7 @@ def seconds(word):
     except ValueError:
         read = -1.0
     if not 0 < read < 1e7:
-        raise argparse.ArgumentTypeError(f"{shown(word)} is no number of seconds")
+        raise argparse.ArgumentTypeError(f"{shown(word)} is not a number of seconds")
     return read
 
 
@@ -52,7 +53,7 @@ def solver(text):
     except ValueError as fault:
         raise argparse.ArgumentTypeError(f"{shown(text)}: {fault}") from fault
     if not all(any(place in word for word in words) for place in ("{cnf}", "{proof}")):
-        raise argparse.ArgumentTypeError("it has to have {cnf} and {proof}")
+        raise argparse.ArgumentTypeError("the command line needs {cnf} and {proof}")
     return [str(Path(words[0]).resolve()), *words[1:]] if "/" in words[0] else words
 
 
@@ -64,8 +65,8 @@ OPTIONS = {
     "--k": {"type": number(1, MOST_EVENTS), "default": 1},
     "--solver": {"type": solver, "default": CADICAL},
     "--seconds": {"type": seconds},
-    "--verify-seconds": {"type": seconds, "default": 20.0},
-    "--search-seconds": {"type": seconds, "default": 15.0},
+    "--verify-seconds": {"type": number(0, 999999), "default": 20},
+    "--search-seconds": {"type": number(0, 999999), "default": 15},
 }
 TAKES = {
     "check": ("--columns",),
@@ -77,12 +78,13 @@ TAKES = {
 }
 
 
-class Want:
-    """Something that is wanted of a configuration: its kind, its words as they stand, and what they say."""
+class Question:
+    """A question about a configuration: its kind, its arguments as they are given, and what they
+    say."""
 
     def __init__(self, kind, text):
         if kind not in TAKES:
-            raise Refused(f"{shown(kind)} is none of {', '.join(TAKES)}")
+            raise Refused(f"{shown(kind)} is not a question; the questions are {', '.join(TAKES)}")
         reader = Words()
         for option in TAKES[kind]:
             reader.add_argument(option, **OPTIONS[option])
@@ -101,56 +103,60 @@ class Want:
 
 
 def from_words(texts):
-    """What is wanted of each configuration, by the words of the command line."""
-    wants = []
+    """Returns the questions about each configuration, by the arguments of the command line."""
+    questions = []
     for text in texts:
         kind, _, words = text.strip().partition(" ")
-        wants.append(Want(kind, words))
-    return guarded(wants, "")
+        questions.append(Question(kind, words))
+    return without_duplicates(questions, "")
 
 
-def guarded(wants, where):
-    """Wants without those that stand twice; an audit needs a certificate."""
-    once = [want for place, want in enumerate(wants) if want not in wants[:place]]
-    kinds = [want.kind for want in once]
+def without_duplicates(questions, place):
+    """Returns questions, each once; refuses an audit without a certificate."""
+    once = [
+        question for number_, question in enumerate(questions)
+        if question not in questions[:number_]
+    ]
+    kinds = [question.kind for question in once]
     if "audit" in kinds and "verify" not in kinds:
-        raise Refused(f"{where}audit is wanted without verify, which writes the certificate")
+        raise Refused(f"{place}audit needs verify, which writes the certificate: ask verify too")
     return once
 
 
 def read_list(file, names):
-    """What is wanted of each of these configurations, by a file."""
+    """Returns the questions about each of these configurations, by a file."""
     try:
         text = file.read_bytes().decode()
     except OSError as fault:
-        raise Refused(f"{shown(str(file))}: it can't be read: {reason(fault)}") from fault
+        raise Refused(f"{shown(str(file))}: cannot be read: {reason(fault)}") from fault
     except UnicodeDecodeError as fault:
-        raise Refused(f"{shown(str(file))}: it isn't UTF-8") from fault
-    separator = csv_text.SEMICOLON if csv_text.first_row(text, csv_text.SEMICOLON) == HEAD else csv_text.COMMA
-    head, *rows = csv_text.read(shown(file.name), text, separator) or [csv_text.Row(1, [])]
-    if head.cells != HEAD:
-        raise Refused(f"{shown(file.name)}, line 1: it isn't {','.join(HEAD)}")
-    wanted, faults = {name: [] for name in names}, []
+        raise Refused(f"{shown(str(file))}: not UTF-8") from fault
+    separator = csv_text.SEMICOLON if csv_text.first_row(
+        text, csv_text.SEMICOLON) == HEADER else csv_text.COMMA
+    header, *rows = csv_text.read(shown(file.name), text, separator) or [csv_text.Row(1, [])]
+    if header.cells != HEADER:
+        raise Refused(f"{shown(file.name)}, line 1: the first line must be {','.join(HEADER)}")
+    asked, faults = {name: [] for name in names}, []
     for row in rows:
         try:
-            take_row(row, wanted)
+            take_row(row, asked)
         except Refused as fault:
             faults.append(f"{shown(file.name)}, line {row.line}: {fault.faults[0]}")
     if faults:
         raise Refused(*faults)
-    return {name: guarded(wants, f"{shown(file.name)}: {shown(name)}: ")
-            for name, wants in wanted.items()}
+    return {name: without_duplicates(questions, f"{shown(file.name)}: {shown(name)}: ")
+            for name, questions in asked.items()}
 
 
-def take_row(row, wanted):
-    """Takes a row of the file; an empty line is passed over."""
+def take_row(row, asked):
+    """Takes a row of the file; an empty line is ignored."""
     if row.cells == [""]:
         return
-    if len(row.cells) != len(HEAD):
-        raise Refused(f"it has {len(row.cells)} cells, and {len(HEAD)} were expected")
+    if len(row.cells) != len(HEADER):
+        raise Refused(f"{len(row.cells)} cells instead of {len(HEADER)}")
     name, kind, words = row.cells
-    if name != ALL and name not in wanted:
-        raise Refused(f"{shown(name)} is no configuration of the folder")
-    want = Want(kind, words)
-    for each in (wanted if name == ALL else [name]):
-        wanted[each].append(want)
+    if name != ALL and name not in asked:
+        raise Refused(f"{shown(name)} is not a configuration of the directory")
+    question = Question(kind, words)
+    for each in (asked if name == ALL else [name]):
+        asked[each].append(question)

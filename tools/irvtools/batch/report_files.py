@@ -1,71 +1,85 @@
-"""The files of a report that a pipeline reads: in the form of JUnit, and as values apart by commas."""
+"""The files of a report that a pipeline reads: JUnit and CSV."""
 
 import csv
 import io
 import math
 from xml.sax.saxutils import escape, quoteattr
 
-from irvtools.batch.batch_report import GOOD, NO_ANSWER, NOTHING, STANDINGS, rows_of
+from irvtools.batch.batch_report import GOOD, LEFT_OUT, NO_ANSWER, rows_of
 
 XML, TABLE = "report.xml", "report.csv"
-HEAD = ("configuration", "configuration sum", "wanted", "standing", "answer", "seconds",
-        "processor seconds", "memory KiB", "machine", "solver", "program sum", "key", "file sums")
+HEADER = ("configuration", "verdict", "question", "outcome", "answer", "seconds", "CPU seconds",
+          "memory KiB", "machine", "solver", "configuration checksum", "program checksum",
+          "program is proved", "job", "file checksums")
 
 
 def attributes(**values):
-    """Attributes of an element."""
+    """Returns attributes of an element."""
     return "".join(f" {key}={quoteattr(str(value))}" for key, value in values.items())
 
 
 def element(tag, inside="", /, **values):
-    """An element; `inside` is markup."""
+    """Returns an element; `inside` is markup."""
     return f"<{tag}{attributes(**values)}>{inside}</{tag}>\n"
 
 
-def case(row, told):
-    """A test case: what was wanted of a configuration."""
+def test_case(row, result):
+    """Returns a test case: a question about a configuration."""
     inside = ""
-    if told.standing == NO_ANSWER:
-        inside = element("error", escape(told.line), type="no answer", message=told.line)
-    elif told.standing == NOTHING:
-        inside = element("skipped", message=told.line)
-    elif told.standing != GOOD:
-        inside = element("failure", escape(told.line), type=STANDINGS[told.standing],
-                         message=told.line)
-    return element("testcase", inside, classname=row.name, name=told.want,
-                   time=f"{told.measure('seconds'):.3f}")
+    if result.outcome == NO_ANSWER:
+        inside = element("error", escape(result.line), type=NO_ANSWER, message=result.line)
+    elif result.outcome == LEFT_OUT:
+        inside = element("skipped", message=result.line)
+    elif result.outcome != GOOD:
+        inside = element("failure", escape(f"{row.verdict}. {row.sentence}"), type=result.outcome,
+                         message=result.line)
+    return element("testcase", inside, classname=row.name, name=result.question,
+                   time=f"{result.measure('seconds'):.3f}")
+
+
+def proved_word(report):
+    """Returns whether the program is known to be proved, in a word."""
+    return "yes" if report["is_proved"] else "no"
 
 
 def junit(report):
-    """The report in the form of JUnit."""
-    rows = rows_of(report)
-    all_ = [(row, told) for row in rows for told in row.told]
-    count = lambda *standings: sum(told.standing in standings for _, told in all_)  # noqa: E731
-    properties = "".join(element("property", name=name, value=report[name])
-                         for name in ("program", "version", "engine", "folder"))
-    inside = element("properties", "\n" + properties) + "".join(case(*each) for each in all_)
-    suite = element("testsuite", "\n" + inside, name="irv", tests=len(all_), errors=count(NO_ANSWER),
-                    failures=len(all_) - count(NO_ANSWER, NOTHING, GOOD), skipped=count(NOTHING),
-                    time=f"{math.fsum(told.measure('seconds') for _, told in all_):.3f}")
+    """Returns the report as JUnit."""
+    results = [(row, result) for row in rows_of(report) for result in row.results]
+    outcomes = [result.outcome for _, result in results]
+    errors, skipped, good = (outcomes.count(each) for each in (NO_ANSWER, LEFT_OUT, GOOD))
+    properties = "".join(element("property", name=name, value=value) for name, value in (
+        *((name, report[name]) for name in ("program", "version", "engine", "directory")),
+        ("program is proved", proved_word(report))))
+    inside = element("properties", "\n" + properties) + "".join(
+        test_case(*each) for each in results)
+    suite = element("testsuite", "\n" + inside, name="irv", tests=len(results), errors=errors,
+                    failures=len(results) - errors - skipped - good, skipped=skipped,
+                    time=f"{math.fsum(result.measure('seconds') for _, result in results):.3f}")
     return '<?xml version="1.0" encoding="UTF-8"?>\n' + element("testsuites", "\n" + suite)
 
 
 def cell(text):
-    """A text that no spreadsheet takes for a formula: its first character by its number, where it begins one."""
+    """Returns a text that no spreadsheet takes for a formula: if it begins like one, its first
+    character is a number."""
     return f"\\x{ord(text[0]):02x}{text[1:]}" if text[:1] in tuple("=+-@") else text
 
 
-def values(report):
-    """The report as values apart by commas."""
+def checksums_of(result):
+    """Returns the checksums of an answer's files, each after the file's role."""
+    return " ".join(f"{role}={checksum}" for role, _, checksum in result.files())
+
+
+def table(report):
+    """Returns the report as CSV, with a line for each question."""
     out = io.StringIO()
     writer = csv.writer(out, lineterminator="\r\n")
-    writer.writerow(HEAD)
+    writer.writerow(HEADER)
     for row in rows_of(report):
-        for told in row.told:
+        for result in row.results:
             writer.writerow([
-                cell(row.name), row.sum, told.want, STANDINGS[told.standing], told.line,
-                f"{told.measure('seconds'):.3f}", f"{told.measure('processor_seconds'):.3f}",
-                told.measure("memory_kib", max), "; ".join(told.machines()), "; ".join(told.solvers()),
-                report["program"], told.key,
-                " ".join(f"{role}={sum_}" for role, _, sum_ in told.files())])
+                cell(row.name), row.verdict, result.question, result.outcome, result.line,
+                f"{result.measure('seconds'):.3f}", f"{result.measure('processor_seconds'):.3f}",
+                result.measure("memory_kib", max), "; ".join(result.machines()),
+                "; ".join(result.solvers()), row.checksum, report["program"],
+                proved_word(report), result.key, checksums_of(result)])
     return out.getvalue()

@@ -1,75 +1,199 @@
-"""The page of a report: a row for each configuration, the worst first."""
+"""The index of a batch: a row for each configuration, the worst first, and below it the answer
+to each question."""
 
 import math
+from pathlib import Path
 
-from irvtools.html.markup import code, table, tag, text
-from irvtools.batch.batch_report import GOOD, HAZARD, NO_ANSWER, CONTRADICTION, STANDINGS, rows_of
-from irvtools.html.style import CSS
+from irvtools.batch.batch_report import CONTRADICTION, GOOD, LEFT_OUT, NO_ANSWER
+from irvtools.batch.batch_report import rows_of, verdict_counts
+from irvtools.batch.report_style import CSS
+from irvtools.calls.verdict import HAZARD_FOUND, RANKING, REFUSED, UNPROVED
+from irvtools.html.markup import code, tag, text
+from irvtools.html.style import document
 
 FILE = "index.html"
-HEAD = ("configuration", "sections", "points", "routes", "rules", "verdict", "by which way", "seconds",
-        "MiB", "files")
-SUM_HEAD = ("configuration", "what was wanted", "what came", "machine", "sums")
+SCRIPT = Path(__file__).with_name("index.js")
+HEADER = ("verdict", "configuration", "sections", "points", "routes", "broken rules", "safe by",
+          "seconds", "MiB", "files")
+ANSWER_HEADER = ("configuration", "question", "outcome", "answer", "machine", "checksums (SHA-256)")
+# how the run below the first line of verify is called, by the first word of that line
+RUNS = {"unsafe": "run to the hazard", "breach": "run to the breach of the invariant",
+        "not": "step out of the invariant"}
 
 
-def class_of(standing):
-    """How a standing looks."""
-    if standing == GOOD:
-        return "good"
-    return "bad" if standing in (CONTRADICTION, HAZARD, NO_ANSWER) else "open-end"
+def short_question(row, result):
+    """Returns a question in one word if the row has no other one of its kind, otherwise as a
+    whole."""
+    kinds = [each.kind for each in row.results]
+    return result.kind if kinds.count(result.kind) == 1 else result.question
 
 
-def links(row):
-    """Links to the files of a row."""
-    return " ".join(tag("a", text(role), href=path) for told in row.told
-                    for role, path, _ in told.files() if role in ("page", "certificate", "report"))
+def files_shown(row):
+    """Returns the links to the files of a row's answers: what each shows, and where it is."""
+    for result in row.results:
+        paths = {role: path for role, path, _ in result.files()}
+        names = {"page": "HTML report", "certificate": "certificate", "report": report_name(result)}
+        for role in (role for role in names if role in paths):
+            yield f"{names[role]} ({short_question(row, result)})", paths[role]
+
+
+def report_name(result):
+    """Returns what the output of a call shows."""
+    first = result.line.split(" ")[0]
+    if first == "refused":
+        return "broken rules"
+    if result.kind == "verify":
+        return RUNS.get(first, "answer")
+    if result.kind == "drive" and first != "rejected":
+        return "run to the hazard" if first == "hazard" else "driven run"
+    return "answer"
+
+
+def hazard_link(row):
+    """Returns the link to the hazard of a row: the frame of an HTML report, otherwise the run of
+    an answer, and nothing if the row has no hazard."""
+    if row.verdict != HAZARD_FOUND:
+        return ""
+    found = [each for each in row.results if each.word == HAZARD_FOUND]
+    pages = [(path, each.answer["anchor"]) for each in found for role, path, _ in each.files()
+             if role == "page"]
+    for path, anchor in pages:
+        return tag("a", "Show the hazard in the HTML report",
+                   href=f"{path}#{anchor}" if anchor else path)
+    runs = [path for each in found for role, path, _ in each.files() if role == "report"]
+    return tag("a", "Show the run to the hazard", href=runs[0]) if runs else ""
+
+
+def verdict_cell(row):
+    """Returns the cell with the word, the sentence, a link to the hazard, and what has no
+    answer."""
+    parts = [
+        tag("span", text(row.verdict), class_="word") + text(f". {row.sentence}"),
+        hazard_link(row)
+    ]
+    parts += [
+        tag("div", text(f"{each.question}: {each.line}"), class_="small") for each in row.missing
+    ]
+    return " ".join(filter(None, parts))
 
 
 def rules(row):
-    """What check says of the rules."""
-    lines = [each.line for each in row.told if each.kind == "check"]
+    """Returns what check says about the rules."""
+    lines = [each.line for each in row.results if each.kind == "check"]
     return "; ".join(lines) or "not asked"
 
 
-def cells(row):
-    """The cells of a row."""
+def row_markup(row, number):
+    """Returns a row of the index; `number` is its place."""
     sizes = row.sizes or {}
-    return [row.name, *(sizes.get(what, "–") for what in ("sections", "points", "routes")), rules(row),
-            (class_of(row.standing), text(row.verdict)), ", ".join(row.ways) or "–",
-            f"{math.fsum(each.measure('seconds') for each in row.told):.1f}",
-            f"{max([each.measure('memory_kib', max) for each in row.told], default=0) / 1024:.0f}",
-            ("", links(row))]
+    seconds = math.fsum(each.measure("seconds") for each in row.results)
+    memory = max([each.measure("memory_kib", max) for each in row.results], default=0) / 1024
+    links = [tag("a", text(words), href=path) for words, path in files_shown(row)]
+    safe_by = [short_question(row, each) for each in row.results if each.says_safe]
+    cells = [tag("td", verdict_cell(row), class_="said", data_key=number),
+             tag("td", text(row.name), class_="name"),
+             *(number_cell(what, sizes.get(what, "–")) for what in HEADER[2:5]),
+             labelled("broken rules", text(rules(row)), "rules"),
+             labelled("safe by", text(", ".join(safe_by) or "–")),
+             number_cell("seconds", f"{seconds:.1f}"), number_cell("MiB", f"{memory:.0f}"),
+             labelled("files", " ".join(links), "links")]
+    return tag("tr", "".join(cells), class_=row.tone, data_word=row.verdict)
 
 
-def sums(row):
-    """A line for each thing that was wanted."""
-    for told in row.told:
-        files = [tag("div", text(role + " ") + code(sum_)) for role, _, sum_ in told.files()]
-        by = told.machines() + [f"solver {each}" for each in told.solvers()]
-        yield [row.name, told.want, (class_of(told.standing), text(told.line)), "; ".join(by),
-               ("", tag("div", text("configuration ") + code(row.sum)) + "".join(files))]
+def number_cell(label, value):
+    """Returns a cell with a number."""
+    return labelled(label, text(value), "number")
 
 
-def counted(rows):
-    """How many configurations stand how."""
-    counts = {}
-    for row in rows:
-        counts[STANDINGS[row.standing]] = counts.get(STANDINGS[row.standing], 0) + 1
-    return ", ".join(f"{number} {word}" for word, number in counts.items())
+def labelled(label, markup, class_=None):
+    """Returns a cell that has its column's title before it on a narrow screen."""
+    return tag("td", markup, class_=class_, data_label=label)
+
+
+def index(rows):
+    """Returns the table of configurations."""
+    head = tag("thead", tag("tr", "".join(tag("th", text(word), scope="col") for word in HEADER)))
+    body = "\n".join(row_markup(row, number) for number, row in enumerate(rows))
+    return tag("table", head + tag("tbody", "\n" + body), class_="index")
+
+
+def tools(rows):
+    """Returns what filters the table. It is shown by the script."""
+    words = [row.verdict for row in rows]
+    options = tag("option", "all", value="") + "".join(
+        tag("option", text(f"{word} ({words.count(word)})"), value=word)
+        for word in RANKING if word in words)
+    return ('<div class="tools" hidden>'
+            + tag("label", "Filter " + '<input type="search" size="30">')
+            + tag("label", "Verdict " + tag("select", options))
+            + '<output aria-live="polite"></output></div>')
+
+
+def tone_of(result):
+    """Returns how an outcome is coloured."""
+    if result.outcome in (CONTRADICTION, HAZARD_FOUND, NO_ANSWER):
+        return "bad"
+    return "warn" if result.outcome not in (GOOD, LEFT_OUT) else None
+
+
+def answer_rows(row):
+    """Returns a row for each question: its outcome, its answer, and folded its checksums."""
+    for result in row.results:
+        sums = [("configuration", row.checksum), ("job", result.key),
+                *((role, checksum) for role, _, checksum in result.files())]
+        folded = tag("details", tag("summary", "show") + "".join(
+            tag("div", text(role + " ") + code(checksum)) for role, checksum in sums))
+        by = result.machines() + [f"solver {each}" for each in result.solvers()]
+        outcome = tag("span", text(result.outcome), class_=f"word {tone_of(result) or ''}".strip())
+        cells = (text(row.name), text(result.question), outcome, text(result.line),
+                 text("; ".join(by)), folded)
+        yield tag("tr", "".join(labelled(*pair) for pair in zip(ANSWER_HEADER, cells)))
+
+
+def answers(rows):
+    """Returns the table of answers."""
+    head = tag("thead",
+               tag("tr", "".join(tag("th", text(word), scope="col") for word in ANSWER_HEADER)),
+               class_="plain")
+    return tag("table",
+               head + tag("tbody", "\n".join(line for row in rows for line in answer_rows(row))))
+
+
+def notes(report, rows):
+    """Returns what a reader must know before the table."""
+    missing = sum(len(row.missing) for row in rows)
+    wrong = sum(row.is_contradiction for row in rows)
+    found = []
+    if not report["is_proved"]:
+        found.append((UNPROVED, "remark"))
+    if wrong:
+        found.append((f"Contradictions: {wrong}. The program, a machine or this directory is "
+                      "wrong, and no answer here can be relied on.", "remark bad"))
+    if missing:
+        found.append((f"Missing answers: {missing}. The next call asks again.", "remark bad"))
+    if any(row.verdict == REFUSED for row in rows):
+        found.append(("REFUSED says that a rule is broken, and nothing about safety. The question "
+                      "html searches for a run to a hazard of such a table too.", "small"))
+    return [tag("p", text(words), class_=class_) for words, class_ in found]
+
+
+def foundations(report):
+    """Returns what the answers depend on."""
+    proved = "known to be proved" if report["is_proved"] else "not known to be proved"
+    return tag("p", text("Each answer is one of the program with the checksum ")
+               + code(report["program"])
+               + text(f", which is {proved}, about the bytes of a configuration; irv "
+                      f"{report['version']}, {report['engine']}. ./irv --batch --verify-report "
+                      "checks each certificate, refutation and run again, on one machine. The "
+                      "scripts that ask and make this page are tested, not proved."))
 
 
 def page(report):
-    """The page's text."""
-    rows = rows_of(report)
-    parts = [tag("h1", "Interlockings"),
-             tag("p", text(f"{len(rows)} configurations of {report['folder']}: {counted(rows)}")),
-             table(HEAD, [cells(row) for row in rows]),
-             tag("h2", "On what this rests"),
-             tag("p", text("An answer is the program's, of the sum ") + code(report["program"])
-                 + text(f", over the bytes whose sum stands with it; irv {report['version']}, "
-                        f"{report['engine']}. Whether this program was proved, its sum tells who built "
-                        "it: ./irv --version. tools/batch --verify-report has each certificate, "
-                        "refutation and run checked again, on one machine.")),
-             table(SUM_HEAD, [line for row in rows for line in sums(row)])]
-    return ("<!DOCTYPE html>\n<html lang=\"en\"><head><meta charset=\"utf-8\"><title>Interlockings</title>"
-            f"<style>{CSS}</style></head><body>\n" + "\n".join(parts) + "\n</body></html>\n")
+    """Returns the page's text."""
+    rows, title = rows_of(report), "Batch verification of interlockings"
+    counts = f"{len(rows)} configurations of {report['directory']}: {verdict_counts(rows)}."
+    parts = [tag("h1", title), tag("p", text(counts)), *notes(report, rows), tools(rows),
+             index(rows), tag("h2", "Answers to all questions"), answers(rows),
+             tag("h2", "What this depends on"), foundations(report)]
+    script = f"<script>\n{SCRIPT.read_text(encoding='utf-8')}</script>"
+    return document(title, "\n".join([*parts, script]), CSS)

@@ -1,4 +1,5 @@
-"""Has Snakemake do the jobs that have no answer yet. One call at a time works in a folder."""
+"""Has Snakemake do the jobs that have no answer yet. One call at a time works in a directory of
+results."""
 
 import contextlib
 import fcntl
@@ -12,24 +13,25 @@ import time
 from pathlib import Path
 
 from irvtools.batch.measuring import end_with_parent
+from irvtools.calls.progress import Interrupted
 from irvtools.calls.refusal import Refused
 
 ENGINE = "snakemake"
 SNAKEFILE = Path(__file__).resolve().parent / "Snakefile"
-LOOKS = 10              # seconds between two looks at how far it is
-SEEN_WITHIN = 60        # seconds in which what another machine wrote is seen here
-MISSING = ("Snakemake isn't here, which has the work done: install it, as by "
+SEEN_WITHIN = 60        # seconds within which this machine sees what another one wrote
+MISSING = ("Snakemake is not installed, and runs the jobs; install it, for example by "
            "`apt-get install --no-install-recommends snakemake`")
 
 
 def need_engine():
-    """Sees that Snakemake is there."""
+    """Refuses to go on without Snakemake."""
     if shutil.which(ENGINE) is None:
         raise Refused(MISSING)
 
 
 def version_in(store):
-    """Snakemake's name and version, which it wrote down when it last had something to do here."""
+    """Returns Snakemake's name and version, which it wrote when it last had something to do
+    here."""
     try:
         return f"{ENGINE} {(store.top / 'engine').read_text(encoding='utf-8').strip()}"
     except (OSError, ValueError):
@@ -38,25 +40,31 @@ def version_in(store):
 
 @contextlib.contextmanager
 def alone(store):
-    """While it is open no other call works in the folder, nor a Snakemake that one left behind."""
+    """While it is open no other call works in the directory, nor a Snakemake that an earlier
+    call left."""
     with open(store.top / "lock", "wb") as lock:
         try:
             fcntl.flock(lock, fcntl.LOCK_EX | fcntl.LOCK_NB)
         except BlockingIOError:
-            print(f"irv --batch: an earlier call is at work in {store.top}; this one waits for its end",
+            print(f"irv --batch: an earlier call works in {store.top}; this one waits for its end",
                   file=sys.stderr, flush=True)
             fcntl.flock(lock, fcntl.LOCK_EX)
         yield lock
 
 
-def sweep(store, jobs):
-    """Takes away what stopped works left, and each answer that isn't whole; answers the jobs that have none, and
-    the keys of those of them that were begun before."""
+def remove_temporary(store):
+    """Removes what jobs that were stopped have left, and the groups."""
     for left in (*store.making.iterdir(), *store.groups.iterdir()):
         if left.is_dir() and not left.is_symlink():
             shutil.rmtree(left, ignore_errors=True)
         else:
             left.unlink(missing_ok=True)
+
+
+def sweep(store, jobs):
+    """Removes what earlier calls left, and each answer that is not whole; returns the jobs that
+    have no answer, and the keys of those of them that were begun before."""
+    remove_temporary(store)
     missing = [job for job in jobs.values() if store.answer(job) is None]
     tried = {job["key"] for job in missing if store.failure(job) is not None}
     for job in missing:
@@ -66,53 +74,66 @@ def sweep(store, jobs):
 
 
 def words_of(store, handed_on):
-    """The command line of Snakemake. A job that was stopped is done again, and no other is."""
-    return [ENGINE, "--snakefile", str(SNAKEFILE), "--directory", str(store.top), "--nolock",
-            "--keep-going", "--rerun-incomplete", "--rerun-triggers", "mtime", "--scheduler", "greedy",
-            "--nocolor", *handed_on]
+    """Returns the command line of Snakemake. It does a job again only if that was stopped."""
+    return [
+        ENGINE, "--snakefile",
+        str(SNAKEFILE), "--directory",
+        str(store.top), "--nolock", "--keep-going", "--rerun-incomplete", "--rerun-triggers",
+        "mtime", "--scheduler", "greedy", "--nocolor", *handed_on
+    ]
 
 
-def watch(child, store, missing):
-    """Waits for Snakemake's end, and tells meanwhile how far it is."""
-    last = 0
+def watch(child, store, missing, progress):
+    """Waits for Snakemake's end, and says meanwhile how far it is."""
     while True:
-        try:
-            return child.wait(LOOKS)
-        except subprocess.TimeoutExpired:
-            done = sum(store.answer_file(job).exists() for job in missing)
-            if done != last:
-                print(f"irv --batch: {done} of {len(missing)} jobs", file=sys.stderr, flush=True)
-                last = done
+        progress.count(sum(store.answer_file(job).exists() for job in missing), len(missing))
+        with contextlib.suppress(subprocess.TimeoutExpired):
+            return child.wait(progress.seconds)
 
 
 def put_targets(store, groups, apart):
     """Keeps the groups, and the files for which Snakemake is asked."""
-    ends = [store.group_end(store.put_group(group)) for group in groups] + [store.answer_file(job) for job in apart]
+    ends = [store.group_end(store.put_group(group))
+            for group in groups] + [store.answer_file(job) for job in apart]
     targets = [os.path.relpath(end, store.top) for end in ends]
     store.put(store.top / "targets.json", json.dumps(targets).encode(), is_settled=False)
 
 
 def see_groups(store):
-    """Waits until the answers of the groups that came to their ends are seen: a file system that many machines share
-    may show a file late, and Snakemake has seen no more than the ends."""
+    """Waits until the answers of finished groups are seen: a file system that many machines
+    share may show a file late, and Snakemake has seen only the ends of groups."""
     end = time.monotonic() + SEEN_WITHIN
     keys = {key for group in store.groups.glob("*.done") for key in store.group(group.stem)}
     while any(store.answer(store.job(key)) is None for key in keys) and time.monotonic() < end:
         time.sleep(1)
 
 
-def do_all(store, missing, handed_on, lock):
-    """Has Snakemake do what it was asked for, by which these jobs get their answers; answers its status. What it
-    prints goes to a file."""
+def stop(child, store):
+    """Ends Snakemake and its jobs on this machine, and removes their temporary files. If it is
+    interrupted again, it waits no longer."""
+    number = signal.SIGTERM
+    while child.poll() is None:
+        with contextlib.suppress(ProcessLookupError):
+            os.killpg(child.pid, number)
+        try:
+            child.wait()
+        except Interrupted:
+            number = signal.SIGKILL
+    remove_temporary(store)
+
+
+def do_all(store, missing, handed_on, lock, progress):
+    """Has Snakemake do what it was asked for, which gives these jobs their answers; returns its
+    exit status. Its output goes to a file. It has its own group of processes, so that all of
+    them can be ended."""
     with open(store.top / "snakemake.log", "wb") as log:
-        child = subprocess.Popen(words_of(store, handed_on), stdin=subprocess.DEVNULL, stdout=log, stderr=log,
-                                 pass_fds=[lock.fileno()],
+        child = subprocess.Popen(words_of(store, handed_on), stdin=subprocess.DEVNULL, stdout=log,
+                                 stderr=log, pass_fds=[lock.fileno()], start_new_session=True,
                                  preexec_fn=lambda: end_with_parent(signal.SIGTERM))
         try:
-            status = watch(child, store, missing)
+            status = watch(child, store, missing, progress)
             see_groups(store)
             return status
         except BaseException:
-            child.send_signal(signal.SIGTERM)
-            child.wait()
+            stop(child, store)
             raise

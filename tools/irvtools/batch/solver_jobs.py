@@ -1,13 +1,13 @@
-"""What each kind of job does that has a part in refutations by another solver: see doing.py."""
+"""Does the jobs that show safety by refutations of another solver; job_kinds.py does the others."""
 
-from irvtools.batch.job_kinds import answered, ask, file_of, without_work
+from irvtools.batch.job_kinds import answered, ask, file_of, without_call
 from irvtools.batch.measuring import Called, last_line
 from irvtools.checkers.verify_with import HAS_ASSIGNMENT, leave_out_what_adds_nothing, name_of
 from irvtools.batch.program_answers import NoAnswer
 
 
 def do_export(store, job, room):
-    """The formula of a query."""
+    """Writes the formula of a query."""
     done = ask(store, job, room, "export", *job["words"])
     if done.status != 0:
         return answered(done, False)
@@ -18,7 +18,7 @@ def do_export(store, job, room):
 
 
 def version_of(program, room):
-    """What a solver says of its version."""
+    """Returns what a solver prints as its version."""
     try:
         done = Called([program, "--version"], None, room, 10)
     except NoAnswer:
@@ -27,18 +27,20 @@ def version_of(program, room):
 
 
 def do_solve(store, job, room):
-    """A refutation of a formula by another solver, or why there is none."""
+    """Has another solver refute a formula; the line says if there is no refutation, and why."""
     cnf, formula = file_of(store, job, "export formula")
     if cnf is None:
-        return without_work(formula["line"], False)
+        return without_call(formula["line"], False)
     proof = room / "refutation.proof"
-    words = [word.replace("{cnf}", str(cnf)).replace("{proof}", str(proof)) for word in job["solver"]]
+    words = [
+        word.replace("{cnf}", str(cnf)).replace("{proof}", str(proof)) for word in job["solver"]
+    ]
     done = Called(words, None, room, job["seconds"])
     version = version_of(words[0], room)
     if done.status is None:
         line = f"no refutation within {job['seconds']:g} seconds"
     elif done.status == HAS_ASSIGNMENT:
-        line = "an assignment, which is a run that the query asks for"
+        line = "an assignment, which means a run that the query asks for"
     elif not proof.is_file() or done.status < 0 or done.status > 128:
         with open(done.output, "rb") as out:
             said = done.complaint or last_line(out.read(4000))
@@ -52,18 +54,18 @@ def do_solve(store, job, room):
 
 
 def do_rup(store, job, room):
-    """Whether the solver's text refutes the query, as the program finds."""
+    """Has the program check whether the solver's text refutes the query."""
     proof, solved = file_of(store, job, "solve refutation")
     if proof is None:
-        return without_work(solved["line"], False)
+        return without_call(solved["line"], False)
     done = ask(store, job, room, "rup", *job["words"], f"--cert={proof}")
     return answered(done, done.status == 0 and done.line == f"refuted {name_of(job['query'])}")
 
 
 def safe_by_line(job, rups):
-    """What is said of the queries on which safety at k rests, by the jobs of rup and their answers, by the
-    names of the queries: the line, and whether it is that the plant is safe. Each has to be of this query,
-    of this configuration with these columns, and of this program."""
+    """Returns the line of verify_with, and whether it says safe. `rups` has the jobs of rup and
+    their answers by the names of the queries on which safety at k depends. Each must be for its
+    query, for this configuration with these columns, and by this program."""
     left, refused = [], None
     for query in job["queries"]:
         other, answer = rups[name_of(query)]
@@ -77,15 +79,15 @@ def safe_by_line(job, rups):
     return f"safe k={job['k']}", True
 
 
-def do_safe_by(store, job, _room):
-    """Whether each query on which safety at k rests was refuted."""
+def do_verify_with(store, job, _room):
+    """Says safe if each query on which safety at k depends was refuted."""
     rups = {}
     for name, key in job["needs"].items():
         other = store.job(key)
         rups[name] = other, store.answer(other)
         if rups[name][1] is None:
-            raise NoAnswer(f"the answer of {name} is gone")
-    return without_work(*safe_by_line(job, rups))
+            raise NoAnswer(f"the answer to {name} does not exist any more")
+    return without_call(*safe_by_line(job, rups))
 
 
-DOES = {"export": do_export, "solve": do_solve, "rup": do_rup, "verify_with": do_safe_by}
+DOES = {"export": do_export, "solve": do_solve, "rup": do_rup, "verify_with": do_verify_with}
