@@ -1,0 +1,206 @@
+"""The command line of `./irv --import`."""
+
+import argparse
+import os
+import subprocess
+import sys
+import tempfile
+from pathlib import Path
+from typing import List, Optional
+
+from .bytes_of_file import base_name
+from .drafting import Wishes, draft, text_of
+from .faults import ImportFault
+from .notes import DRAFT, Notes
+from .osm import ATTRIBUTION, read_osm
+from .sumo_net import read_sumo
+from .xtrackcad import read_xtrackcad
+
+REFUSED = 125
+PROGRAM_SECONDS = 60
+
+FORMS = {".osm": "OpenStreetMap XML", ".net.xml": "SUMO network", ".xtc": "XTrackCAD layout"}
+BOARD_METRES = {".osm": 60.0, ".net.xml": 60.0, ".xtc": 40.0}
+ABSORB_METRES = {".osm": 0.0, ".net.xml": 0.0, ".xtc": 25.0}
+
+EPILOG = """
+The form is chosen by the name: .osm (OpenStreetMap XML), .net.xml (SUMO) or .xtc (XTrackCAD),
+each also with .gz or .bz2. The result is a draft: maps have no detection sections.
+docs/guides/real-lines.md says more. If a file or an object cannot be imported, nothing is
+written and the status is 125.
+"""
+
+
+def near_of(text: str):
+    """Returns the three numbers of --near."""
+    try:
+        lat, lon, metres = (float(part) for part in text.split(","))
+    except ValueError:
+        raise argparse.ArgumentTypeError("LAT,LON,METRES are three numbers") from None
+    if not (abs(lat) <= 89 and abs(lon) <= 180 and 0 < metres <= 1e6):
+        raise argparse.ArgumentTypeError("LAT is within 89, LON within 180 degrees, METRES from "
+                                         "above 0 to 1000000")
+    return lat, lon, metres
+
+
+def metres_of(text: str) -> float:
+    """Returns a length of the command line."""
+    try:
+        metres = float(text)
+    except ValueError:
+        metres = -1.0
+    if not 0 <= metres <= 1e6:
+        raise argparse.ArgumentTypeError("METRES is a number from 0 to 1000000")
+    return metres
+
+
+def parser() -> argparse.ArgumentParser:
+    """Returns the parser of the command line."""
+    made = argparse.ArgumentParser(
+        prog="./irv --import", epilog=EPILOG, allow_abbrev=False,
+        formatter_class=argparse.RawDescriptionHelpFormatter,
+        description="Makes a draft of a configuration, without routes, from a map or a layout.")
+    made.add_argument("file", metavar="FILE", type=Path, help="the map or layout")
+    made.add_argument("--out", metavar="NAME.json", type=Path,
+                      help="the configuration (default: FILE's name, in this directory); the "
+                           "notes are written beside it as NAME.notes.json")
+    made.add_argument("--near", metavar="LAT,LON,METRES", type=near_of,
+                      help="only tracks within METRES of a place (OpenStreetMap only; default: "
+                           "all)")
+    made.add_argument("--signals", choices=("map", "rule", "both"), default="both",
+                      help="where boards come from: the map's signals and the borders, a rule, "
+                           "or both (default: both)")
+    made.add_argument("--part", metavar="N", type=int, default=1,
+                      help="which connected part, the largest first (default: 1)")
+    made.add_argument("--cut", metavar="OBJECT", action="append", default=[],
+                      help="cut the track with this id, as a message names it (default: none)")
+    made.add_argument("--cut-loops", action="store_true",
+                      help="cut reversing loops and triangles (default: they are refused)")
+    made.add_argument("--board-metres", metavar="METRES", type=metres_of,
+                      help="least length of a section before a point that gets a board by rule "
+                           "(default: 60; XTrackCAD: 40)")
+    made.add_argument("--absorb-metres", metavar="METRES", type=metres_of,
+                      help="sections between two points that are shorter become part of the "
+                           "points (default: 0; XTrackCAD: 25)")
+    made.add_argument("--program", metavar="FILE", type=Path,
+                      help="the program that checks the draft (the launcher gives it)")
+    return made
+
+
+def form_of(path: Path) -> str:
+    """Returns the suffix of a form that is known."""
+    base = base_name(path.name)
+    for suffix in FORMS:
+        if base.endswith(suffix):
+            return suffix
+    raise ImportFault(f"{path}: the name has to end with {', '.join(FORMS)}, or with one of "
+                      f"these and .gz or .bz2")
+
+
+def imported(options, suffix: str):
+    """Returns the configuration and the notes of a file."""
+    notes = Notes(options.file.name, FORMS[suffix], ATTRIBUTION if suffix == ".osm" else None)
+    if options.near and suffix != ".osm":
+        raise ImportFault(f"--near: a {FORMS[suffix]} has no latitude and longitude")
+    if suffix == ".osm":
+        tracks = read_osm(options.file, options.near, notes)
+    else:
+        read = read_sumo if suffix == ".net.xml" else read_xtrackcad
+        tracks = read(options.file, notes)
+    wishes = Wishes(options.signals, options.part, options.cut, options.cut_loops,
+                    BOARD_METRES[suffix] if options.board_metres is None
+                    else options.board_metres,
+                    ABSORB_METRES[suffix] if options.absorb_metres is None
+                    else options.absorb_metres)
+    return draft(tracks, wishes, notes), notes
+
+
+def asked(program: Path, command: str, text: str):
+    """Returns the first line and the status of a command of the program."""
+    try:
+        done = subprocess.run([str(program), command], input=text.encode(), capture_output=True,
+                              timeout=PROGRAM_SECONDS, check=False)
+    except (OSError, subprocess.TimeoutExpired) as fault:
+        raise ImportFault(f"cannot call {program} {command}: {fault}") from fault
+    return done.stdout.decode(errors="replace").partition("\n")[0], done.returncode
+
+
+def check(program: Optional[Path], text: str) -> str:
+    """Returns what the program says of the draft, and fails if the draft breaks a rule."""
+    if program is None:
+        return "not checked: --program was not given"
+    line, status = asked(program, "check", text)
+    if status != 0:
+        raise ImportFault(f"the draft is not written: check answers \"{line}\" with status "
+                          f"{status}")
+    line, status = asked(program, "table", text)
+    if status != 0:
+        return f"check: clean; table: {line}"
+    return f"check: clean; table: {line.count(chr(34) + 'source' + chr(34))} routes"
+
+
+def write(path: Path, text: str) -> None:
+    """Writes a file as a whole: it appears when it is complete."""
+    try:
+        handle, name = tempfile.mkstemp(dir=path.parent or Path("."), prefix=".irv-import-")
+        with os.fdopen(handle, "w", encoding="utf-8") as stream:
+            stream.write(text)
+        os.chmod(name, 0o644)
+        os.link(name, path)
+    except FileExistsError as fault:
+        raise ImportFault(f"{path} exists: remove it, or choose another name with --out") from fault
+    except OSError as fault:
+        raise ImportFault(f"cannot write {path}: {fault.strerror}") from fault
+    finally:
+        if "name" in locals():
+            os.unlink(name)
+
+
+def summary(configuration: dict, notes: Notes) -> str:
+    """Returns a line of counts."""
+    points = sum(one["kind"] == "point" for one in configuration["sections"])
+    own, made = (notes.count("board", by=by) for by in ("data", "rule"))
+    return (f"{len(configuration['sections'])} sections, {points} points, {own + made} boards "
+            f"({own} from the data, {made} by rule)")
+
+
+def noted(notes: Notes) -> str:
+    """Returns a line of what was changed."""
+    kinds = ("cut", "absorbed", "guessed", "crossing", "left out")
+    return ", ".join(f"{notes.count(kind)} {kind}" for kind in kinds)
+
+
+def run(options) -> None:
+    """Imports a file, and prints what was written."""
+    suffix = form_of(options.file)
+    out = options.out or Path(base_name(options.file.name)[:-len(suffix)] + ".json")
+    beside = out.with_name((out.name[:-5] if out.name.endswith(".json") else out.name)
+                           + ".notes.json")
+    for path in (out, beside):
+        if path.exists():
+            raise ImportFault(f"{path} exists: remove it, or choose another name with --out")
+    configuration, notes = imported(options, suffix)
+    text = text_of(configuration)
+    said = check(options.program, text)
+    write(out, text)
+    try:
+        write(beside, notes.text())
+    except ImportFault:
+        out.unlink()
+        raise
+    print(f"{out}: {summary(configuration, notes)}\n{beside}: {noted(notes)}\n{said}")
+    if notes.attribution:
+        print(f"data: {notes.attribution}")
+    print(DRAFT)
+
+
+def main(words: List[str]) -> int:
+    """Takes the command line. Returns the exit status."""
+    try:
+        run(parser().parse_args(words))
+    except ImportFault as fault:
+        print(f"irv: {fault}", file=sys.stderr)
+        return REFUSED
+    except SystemExit as end:           # argparse: usage, or --help
+        return 0 if end.code in (0, None) else REFUSED
+    return 0

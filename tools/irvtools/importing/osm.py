@@ -1,0 +1,334 @@
+"""Reads tracks from OpenStreetMap XML with OpenRailwayMap tags.
+
+The file is read twice: first its ways, then the nodes of those ways. So the memory depends on the
+railway and not on the rest of the map.
+"""
+
+import math
+import re
+from pathlib import Path
+from typing import Dict, List, Optional, Tuple
+
+from .faults import ImportFault
+from .notes import Notes
+from .safe_xml import Reader
+from .tracks import Board, Segment, Tracks, bearing, length, turn
+
+ATTRIBUTION = "© OpenStreetMap contributors, ODbL 1.0"
+TRACKS = ("rail", "light_rail", "subway", "tram", "narrow_gauge", "preserved")
+METRES_NORTH = 110_570.0
+METRES_EAST = 111_320.0
+LIMIT_WAY_NODES = 400_000
+LIMIT_BESIDE = 200
+
+Near = Tuple[float, float, float]
+
+
+class Way:
+    """A track of the map: its nodes in order and its tags."""
+
+    def __init__(self, key: str, nodes: List[str], tags: Dict[str, str]):
+        self.key, self.nodes, self.tags = key, nodes, tags
+
+
+class Place:
+    """A node of a track: where it is, and its tags."""
+
+    def __init__(self, lat: float, lon: float):
+        self.lat, self.lon = lat, lon
+        self.tags: Dict[str, str] = {}
+
+    def is_board(self) -> bool:
+        """Returns whether a train waits here: a main or combined signal, or a block marker."""
+        tags = self.tags
+        return tags.get("railway") == "signal" and bool(
+            tags.get("railway:signal:main") or tags.get("railway:signal:combined")
+            or tags.get("railway:signal:train_protection:type") == "block_marker"
+            or tags.get("railway:signal:train_protection") == "block_marker")
+
+
+def checked_id(reader: Reader, attributes: Dict[str, str], key: str) -> str:
+    """Returns an id of an object, which has to be a whole number."""
+    found = attributes.get(key, "")
+    if not re.fullmatch(r"-?[0-9]{1,19}", found, re.ASCII):
+        raise reader.fault(f"{key}=\"{found[:40]}\" is not an id".encode(
+            "ascii", "backslashreplace").decode())
+    return found
+
+
+def is_gone(attributes: Dict[str, str]) -> bool:
+    """Returns whether an editor has deleted an object."""
+    return attributes.get("action") == "delete" or attributes.get("visible") == "false"
+
+
+class Ways:
+    """Reads the ways that are tracks."""
+
+    def __init__(self, path: Path):
+        self.found: Dict[str, Way] = {}
+        self.current: Optional[Way] = None
+        self.root, self.count = "", 0
+        self.reader = Reader(path, self.start, self.end)
+        self.reader.read()
+        if self.root != "osm":
+            raise ImportFault(f"{path}: line 1: the element <osm> is expected")
+
+    def start(self, name, attributes):
+        """Takes the start of an element."""
+        self.root = self.root or name
+        if name == "way":
+            self.current = None if is_gone(attributes) else \
+                Way(checked_id(self.reader, attributes, "id"), [], {})
+        elif name == "relation":
+            self.current = None
+        elif self.current and name == "nd":
+            self.current.nodes.append(checked_id(self.reader, attributes, "ref"))
+        elif self.current and name == "tag":
+            self.current.tags[attributes.get("k", "")] = attributes.get("v", "")
+
+    def end(self, name):
+        """Takes the end of an element: a way that is a track is kept."""
+        way = self.current
+        if name != "way" or way is None:
+            return
+        self.current = None
+        if way.tags.get("railway") not in TRACKS:
+            return
+        if way.key in self.found:
+            raise self.reader.fault(f"way {way.key} is in the file twice")
+        self.count += len(way.nodes)
+        if self.count > LIMIT_WAY_NODES:
+            raise self.reader.fault(f"way {way.key}: the tracks have more than {LIMIT_WAY_NODES} "
+                                    f"nodes; cut a smaller area out of it")
+        self.found[way.key] = way
+
+
+class Places:
+    """Reads the nodes of some ways, and the signals that are on none of them."""
+
+    def __init__(self, path: Path, ways: Dict[str, Way]):
+        self.needed = {node for way in ways.values() for node in way.nodes}
+        self.found: Dict[str, Place] = {}
+        self.beside: Dict[str, Place] = {}
+        self.key, self.current = "", None
+        self.reader = Reader(path, self.start, self.end)
+        self.reader.read()
+
+    def start(self, name, attributes):
+        """Takes the start of an element."""
+        if name == "node":
+            self.current = None
+            if "lat" in attributes and not is_gone(attributes):
+                self.key = attributes.get("id", "")
+                self.current = self.place(attributes) if self.key in self.needed else \
+                    attributes
+        elif name == "tag" and self.current is not None:
+            if isinstance(self.current, dict):
+                self.take_beside(attributes)
+            else:
+                self.current.tags[attributes.get("k", "")] = attributes.get("v", "")
+
+    def take_beside(self, attributes):
+        """Keeps a node that is on no track if it is a signal."""
+        if attributes.get("k") == "railway" and attributes.get("v") == "signal" and \
+                len(self.beside) < LIMIT_BESIDE:
+            key = checked_id(self.reader, self.current, "id")
+            self.current = self.beside[key] = self.located(self.current)
+            self.current.tags["railway"] = "signal"
+
+    def located(self, attributes) -> Place:
+        """Returns the place of a node."""
+        try:
+            lat, lon = (float(attributes.get(key, "")) for key in ("lat", "lon"))
+        except ValueError:
+            lat = lon = math.nan
+        if not (abs(lat) <= 89 and abs(lon) <= 180):
+            raise self.reader.fault(f"node {self.key}: lat and lon are not degrees on the globe")
+        return Place(lat, lon)
+
+    def place(self, attributes) -> Place:
+        """Returns a new place for a node of a track."""
+        if self.key in self.found:
+            raise self.reader.fault(f"node {self.key} is in the file twice")
+        self.found[self.key] = self.located(attributes)
+        return self.found[self.key]
+
+    def end(self, name):
+        """Takes the end of an element."""
+        if name == "node":
+            self.current = None
+
+
+class Map:
+    """The tracks of a map, as far as they are near enough."""
+
+    def __init__(self, path: Path, near: Optional[Near], notes: Notes):
+        self.path, self.near, self.notes = path, near, notes
+        self.ways = Ways(path).found
+        places = Places(path, self.ways)
+        self.places = places.found
+        latitudes = [place.lat for place in self.places.values()]
+        middle = near[0] if near else sum(latitudes) / max(1, len(latitudes))
+        self.east = METRES_EAST * math.cos(math.radians(middle))
+        self.lines = [(way, line) for way in self.ways.values() for line in self.lines_of(way)]
+        self.note_beside(places.beside)
+
+    def xy(self, place: Place) -> Tuple[float, float]:
+        """Returns where a place is, in metres."""
+        return place.lon * self.east, place.lat * METRES_NORTH
+
+    def is_near(self, place: Place) -> bool:
+        """Returns whether a place is in the area that was asked for."""
+        if self.near is None:
+            return True
+        lat, lon, metres = self.near
+        return math.dist(self.xy(place), (lon * self.east, lat * METRES_NORTH)) <= metres
+
+    def note_beside(self, beside: Dict[str, Place]) -> None:
+        """Notes the signals that no track has."""
+        for key, place in beside.items():
+            if place.is_board() and self.is_near(place):
+                self.notes.add("left out", f"node {key}", "a signal that is on no track")
+
+    def lines_of(self, way: Way) -> List[List[str]]:
+        """Returns the pieces of a way whose nodes are in the file and near enough: each step has
+        an end in the area."""
+        lines: List[List[str]] = []
+        line: List[str] = []
+        lost = 0
+        for first, second in zip(way.nodes, way.nodes[1:]):
+            known = first in self.places and second in self.places
+            lost += not known
+            if first == second:
+                continue
+            if known and (self.is_near(self.places[first]) or self.is_near(self.places[second])):
+                line = line or [first]
+                line.append(second)
+            elif line:
+                lines.append(line)
+                line = []
+        if line:
+            lines.append(line)
+        if lost:
+            self.notes.add("cut", f"way {way.key}", f"{lost} steps to nodes that the file lacks")
+        return lines
+
+
+def stops(lines, places: Dict[str, Place]) -> Dict[str, int]:
+    """Returns at how many arms each node is met: 1 at the end of a line, 2 inside of one."""
+    uses: Dict[str, int] = {}
+    for _, line in lines:
+        for place, node in enumerate(line):
+            uses[node] = uses.get(node, 0) + (1 if place in (0, len(line) - 1) else 2)
+    return uses
+
+
+def pieces(line: List[str], uses: Dict[str, int], places: Dict[str, Place]) -> List[List[str]]:
+    """Returns a line split at switches and boards."""
+    found, last = [], 0
+    for number in range(1, len(line)):
+        node = line[number]
+        if number == len(line) - 1 or uses[node] > 2 or places[node].is_board():
+            found.append(line[last:number + 1])
+            last = number
+    return found
+
+
+def add_lines(tracks: Tracks, found: Map) -> None:
+    """Adds the segments of all lines."""
+    uses, counts = stops(found.lines, found.places), {}
+    for way, line in found.lines:
+        for nodes in pieces(line, uses, found.places):
+            number = counts[way.key] = counts.get(way.key, -1) + 1
+            line_at = [found.xy(found.places[node]) for node in nodes]
+            key = way.key if number == 0 else f"{way.key}_{number}"
+            tracks.segments[key] = Segment(
+                (nodes[0], nodes[-1]), length(line_at),
+                (bearing(line_at), bearing(line_at[::-1])), f"way {way.key}",
+                way.tags.get("railway:track_ref"))
+            for node in (nodes[0], nodes[-1]):
+                describe(tracks, node, found.places[node], found)
+
+
+def describe(tracks: Tracks, key: str, place: Place, found: Map) -> None:
+    """Adds what a node's tags say of it."""
+    node, tags = tracks.node(key, f"node {key}"), place.tags
+    kind = tags.get("railway")
+    if kind == "buffer_stop":
+        node.end = "buffer stop"
+    elif not found.is_near(place):
+        node.end = "cut: the end of the area"
+    if kind == "switch":
+        node.name = tags.get("ref")
+        side = tags.get("railway:turnout_side")
+        node.side = side if side in ("left", "right") else None
+        if tags.get("railway:switch") in ("double_slip", "single_slip"):
+            node.kind = tags["railway:switch"].replace("_", " ")
+    elif kind == "railway_crossing":
+        node.kind = "crossing"
+
+
+def straight_ways(tracks: Tracks, arms):
+    """Returns the two ways of a crossing of four arms: the pairing that bends least."""
+    first, rest = arms[0], arms[1:]
+
+    def bend(other):
+        left = [arm for arm in rest if arm != other]
+        return min(turn(tracks.away(first), tracks.away(other)),
+                   turn(tracks.away(left[0]), tracks.away(left[1])))
+
+    other = max(rest, key=bend)
+    return {frozenset((first, other)), frozenset(arm for arm in rest if arm != other)}
+
+
+def add_boards(tracks: Tracks, found: Map) -> None:
+    """Adds the boards of signals on plain track."""
+    for key, arms in tracks.arms().items():
+        place, notes = found.places[key], found.notes
+        if not place.is_board():
+            continue
+        thing, tags = f"node {key}", place.tags
+        if len(arms) != 2:
+            where = "at a switch" if len(arms) > 2 else "at the end of a track"
+            notes.add("left out", thing, f"a signal {where}")
+            continue
+        direction = tags.get("railway:signal:direction")
+        if direction not in ("forward", "backward", "both"):
+            notes.add("guessed", thing, "the signal has no direction: forward is taken")
+            direction = "forward"
+        wanted = [end for end, name in ((1, "forward"), (0, "backward"))
+                  if direction in (name, "both")]
+        for end in wanted:
+            here = [arm for arm in arms if arm[1] == end] or \
+                [arm for arm in arms if arm[1] != end]
+            if len(here) != 1:
+                here = choose_arm(arms, end, notes, thing)
+            tracks.boards[here[0]] = Board(thing, board_name(tags))
+
+
+def choose_arm(arms, end, notes: Notes, thing: str):
+    """Returns the arm of a signal where two ways meet that are drawn against each other: the
+    direction is that of the first way."""
+    notes.add("guessed", thing, "the signal is between two ways drawn against each other: its "
+                                "direction is taken along the first of them")
+    return [arms[0]] if arms[0][1] == end else [arms[1]]
+
+
+def board_name(tags: Dict[str, str]) -> Optional[str]:
+    """Returns the name of a signal in the data, or None."""
+    return tags.get("ref") or tags.get("railway:signal:main:ref") or \
+        tags.get("railway:signal:train_protection:ref")
+
+
+def read_osm(path: Path, near: Optional[Near], notes: Notes) -> Tracks:
+    """Returns the tracks of an OpenStreetMap file, near a place if one is given."""
+    found, tracks = Map(path, near, notes), Tracks()
+    if not found.lines:
+        where = f" within {near[2]:g} m of {near[0]:g},{near[1]:g}" if near else ""
+        raise ImportFault(f"{path}: no track{where}: no way with railway={'|'.join(TRACKS)}")
+    add_lines(tracks, found)
+    for key, arms in tracks.arms().items():
+        if tracks.nodes[key].kind == "crossing" and len(arms) == 4:
+            tracks.nodes[key].ways = straight_ways(tracks, arms)
+    add_boards(tracks, found)
+    return tracks
