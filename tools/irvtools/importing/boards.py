@@ -2,9 +2,9 @@
 
 from typing import List
 
-from .notes import Notes
-from .sections import Key, Linear, Point, Sections
-from .tracks import Board
+from irvtools.importing.notes import Notes
+from irvtools.importing.sections import Key, Linear, Point, Sections
+from irvtools.importing.tracks import Board
 
 OTHER = {"up": "down", "down": "up"}
 

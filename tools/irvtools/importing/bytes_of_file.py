@@ -6,7 +6,7 @@ import zlib
 from pathlib import Path
 from typing import Iterator
 
-from .faults import ImportFault
+from irvtools.importing.faults import ImportFault
 
 CHUNK_BYTES = 1 << 16
 LIMIT_BYTES = 96 << 20

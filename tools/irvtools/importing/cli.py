@@ -1,20 +1,23 @@
 """The command line of `./irv --import`."""
 
 import argparse
+import json
 import os
-import subprocess
 import sys
 import tempfile
 from pathlib import Path
-from typing import List, Optional
+from typing import List
 
-from .bytes_of_file import base_name
-from .drafting import Wishes, draft, text_of
-from .faults import ImportFault
-from .notes import DRAFT, Notes
-from .osm import ATTRIBUTION, read_osm
-from .sumo_net import read_sumo
-from .xtrackcad import read_xtrackcad
+from irvtools.arguments import Parser, whole_number
+from irvtools.calls.program import Program
+
+from irvtools.importing.bytes_of_file import base_name
+from irvtools.importing.drafting import Wishes, draft, text_of
+from irvtools.importing.faults import ImportFault
+from irvtools.importing.notes import DRAFT, Notes
+from irvtools.importing.osm import ATTRIBUTION, read_osm
+from irvtools.importing.sumo_net import read_sumo
+from irvtools.importing.xtrackcad import read_xtrackcad
 
 REFUSED = 125
 PROGRAM_SECONDS = 60
@@ -23,12 +26,12 @@ FORMS = {".osm": "OpenStreetMap XML", ".net.xml": "SUMO network", ".xtc": "XTrac
 BOARD_METRES = {".osm": 60.0, ".net.xml": 60.0, ".xtc": 40.0}
 ABSORB_METRES = {".osm": 0.0, ".net.xml": 0.0, ".xtc": 25.0}
 
-EPILOG = """
-The form is chosen by the name: .osm (OpenStreetMap XML), .net.xml (SUMO) or .xtc (XTrackCAD),
-each also with .gz or .bz2. The result is a draft: maps have no detection sections.
-docs/guides/real-lines.md says more. If a file or an object cannot be imported, nothing is
-written and the status is 125.
-"""
+ABOUT = """Makes a draft of a configuration, without routes, from a map or a layout. The form is \
+chosen by the name of FILE:
+.osm (OpenStreetMap XML), .net.xml (SUMO) or .xtc (XTrackCAD), each also with .gz or .bz2.
+
+The exit status is 0 if the configuration and its notes were written. Otherwise nothing is written, \
+and it is 125."""
 
 
 def near_of(text: str):
@@ -54,37 +57,27 @@ def metres_of(text: str) -> float:
     return metres
 
 
-def parser() -> argparse.ArgumentParser:
+def parser() -> Parser:
     """Returns the parser of the command line."""
-    made = argparse.ArgumentParser(
-        prog="./irv --import", epilog=EPILOG, allow_abbrev=False,
-        formatter_class=argparse.RawDescriptionHelpFormatter,
-        description="Makes a draft of a configuration, without routes, from a map or a layout.")
-    made.add_argument("file", metavar="FILE", type=Path, help="the map or layout")
-    made.add_argument("--out", metavar="NAME.json", type=Path,
-                      help="the configuration (default: FILE's name, in this directory); the "
-                           "notes are written beside it as NAME.notes.json")
-    made.add_argument("--near", metavar="LAT,LON,METRES", type=near_of,
-                      help="only tracks within METRES of a place (OpenStreetMap only; default: "
-                           "all)")
-    made.add_argument("--signals", choices=("map", "rule", "both"), default="both",
-                      help="where boards come from: the map's signals and the borders, a rule, "
-                           "or both (default: both)")
-    made.add_argument("--part", metavar="N", type=int, default=1,
-                      help="which connected part, the largest first (default: 1)")
-    made.add_argument("--cut", metavar="OBJECT", action="append", default=[],
-                      help="cut the track with this id, as a message names it (default: none)")
-    made.add_argument("--cut-loops", action="store_true",
-                      help="cut reversing loops and triangles (default: they are refused)")
-    made.add_argument("--board-metres", metavar="METRES", type=metres_of,
-                      help="least length of a section before a point that gets a board by rule "
-                           "(default: 60; XTrackCAD: 40)")
-    made.add_argument("--absorb-metres", metavar="METRES", type=metres_of,
-                      help="sections between two points that are shorter become part of the "
-                           "points (default: 0; XTrackCAD: 25)")
-    made.add_argument("--program", metavar="FILE", type=Path,
-                      help="the program that checks the draft (the launcher gives it)")
-    return made
+    line = Parser("irv --import", ABOUT, REFUSED, "irv --import FILE [OPTIONS]")
+    line.add_argument("file", metavar="FILE", type=Path, help="the map or layout")
+    line.once("--out", "the configuration (FILE's name, in this directory); the notes are written "
+              "beside it, as NAME.notes.json", metavar="NAME.json", type=Path)
+    line.once("--near", "only tracks within METRES of a place, for OpenStreetMap (all tracks)",
+              metavar="LAT,LON,METRES", type=near_of)
+    line.once("--signals", "where boards come from: the map's signals and the borders, a rule, or "
+              "both (both)", choices=("map", "rule", "both"), default="both")
+    line.once("--part", "which connected part of the tracks, the largest first (1)", metavar="N",
+              type=whole_number(1, 999999), default=1)
+    line.add_argument("--cut", metavar="OBJECT", action="append", default=[],
+                      help="cut the track with this id, as a message names it; may be given again")
+    line.flag("--cut-loops", "cut reversing loops and triangles, which are refused otherwise")
+    line.once("--board-metres", "least length of a section before a point that gets a board by rule "
+              "(60; XTrackCAD: 40)", metavar="METRES", type=metres_of)
+    line.once("--absorb-metres", "sections between two points that are shorter become part of the "
+              "points (0; XTrackCAD: 25)", metavar="METRES", type=metres_of)
+    line.program()
+    return line
 
 
 def form_of(path: Path) -> str:
@@ -115,28 +108,16 @@ def imported(options, suffix: str):
     return draft(tracks, wishes, notes), notes
 
 
-def asked(program: Path, command: str, text: str):
-    """Returns the first line and the status of a command of the program."""
-    try:
-        done = subprocess.run([str(program), command], input=text.encode(), capture_output=True,
-                              timeout=PROGRAM_SECONDS, check=False)
-    except (OSError, subprocess.TimeoutExpired) as fault:
-        raise ImportFault(f"cannot call {program} {command}: {fault}") from fault
-    return done.stdout.decode(errors="replace").partition("\n")[0], done.returncode
-
-
-def check(program: Optional[Path], text: str) -> str:
+def check(file: Path, text: str) -> str:
     """Returns what the program says of the draft, and fails if the draft breaks a rule."""
-    if program is None:
-        return "not checked: --program was not given"
-    line, status = asked(program, "check", text)
-    if status != 0:
-        raise ImportFault(f"the draft is not written: check answers \"{line}\" with status "
-                          f"{status}")
-    line, status = asked(program, "table", text)
-    if status != 0:
-        return f"check: clean; table: {line}"
-    return f"check: clean; table: {line.count(chr(34) + 'source' + chr(34))} routes"
+    program = Program(file.absolute(), text.encode())
+    answer = program.ask(["check"], PROGRAM_SECONDS)
+    if answer.status != 0:
+        raise ImportFault(f"the draft is not written: irv check answers: {answer.said}")
+    answer = program.ask(["table"], PROGRAM_SECONDS)
+    if answer.status != 0:
+        return f"irv check: clean; irv table: {answer.said}"
+    return f"irv check: clean; irv table: {len(json.loads(answer.output)['routes'])} routes"
 
 
 def write(path: Path, text: str) -> None:
@@ -195,12 +176,15 @@ def run(options) -> None:
 
 
 def main(words: List[str]) -> int:
-    """Takes the command line. Returns the exit status."""
-    try:
-        run(parser().parse_args(words))
-    except ImportFault as fault:
-        print(f"irv: {fault}", file=sys.stderr)
+    """Imports as the arguments say. Returns the exit status."""
+    options = parser().parse_args(words)
+    if not options.program.is_file():
+        print(f"irv --import: the program {options.program} does not exist; build it with "
+              "./irv --build", file=sys.stderr)
         return REFUSED
-    except SystemExit as end:           # argparse: usage, or --help
-        return 0 if end.code in (0, None) else REFUSED
+    try:
+        run(options)
+    except ImportFault as fault:
+        print(f"irv --import: {fault}", file=sys.stderr)
+        return REFUSED
     return 0

@@ -3,23 +3,30 @@
 import math
 from typing import Dict, List, Optional, Tuple
 
-from .faults import ImportFault
-from .notes import Notes
-from .parts import cut
-from .tracks import Arm, Tracks, turn
+from irvtools.importing.faults import ImportFault
+from irvtools.importing.notes import Notes
+from irvtools.importing.parts import cut
+from irvtools.importing.tracks import Arm, Node, Tracks, turn
 
 LIMIT_CUTS = 64
+ACUTE = math.pi / 3
 MOST_ARMS = 4
 
 Sides = Tuple[List[Arm], List[Arm]]
 
 
+def is_acute(tracks: Tracks, node: Node, arms: List[Arm]) -> bool:
+    """Returns whether two tracks meet at an angle that no train can pass: both end there."""
+    return len(arms) == 2 and node.ways is None and \
+        turn(tracks.away(arms[0]), tracks.away(arms[1])) < ACUTE
+
+
 def sides_of(tracks: Tracks, key: str, arms: List[Arm]) -> Sides:
     """Returns the two sides of a node: every way through leads from one to the other. Of several
     splits the one that bends least is taken."""
-    if len(arms) <= 2:
-        return arms[:1], arms[1:]
     node, best, least = tracks.nodes[key], None, -1.0
+    if len(arms) <= 2:
+        return (arms, []) if is_acute(tracks, node, arms) else (arms[:1], arms[1:])
     if len(arms) > MOST_ARMS:
         raise ImportFault(f"{node.thing}: {len(arms)} tracks meet there; "
                           f"at most {MOST_ARMS} can be imported")

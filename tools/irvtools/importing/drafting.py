@@ -3,14 +3,14 @@
 import json
 from typing import Dict, List, Optional, Tuple
 
-from . import boards as placing
-from .directions import directed
-from .faults import ImportFault
-from .naming import board_names, section_names, things
-from .notes import Notes
-from .parts import chosen, cut_named
-from .sections import Key, Linear, Sections
-from .tracks import Tracks
+from irvtools.importing import boards as placing
+from irvtools.importing.directions import directed
+from irvtools.importing.faults import ImportFault
+from irvtools.importing.naming import board_names, section_names, things
+from irvtools.importing.notes import Notes
+from irvtools.importing.parts import chosen, cut_named
+from irvtools.importing.sections import Key, Linear, Sections
+from irvtools.importing.tracks import Tracks
 
 LIMIT_SECTIONS = 256
 LIMIT_SEGMENTS = 20_000
@@ -49,9 +49,10 @@ def note_crossings(sections: Sections, names: Dict[Key, str], notes: Notes) -> N
     for one in sections.crossings:
         first, second = (names[key] for key in one.points)
         text = f"{one.kind}, as the two points {first} and {second}, stem to stem"
-        for below, above in one.missing:
-            text += (f"; no track from {names.get(below, 'an absorbed section')} to "
-                     f"{names.get(above, 'an absorbed section')}: drop the routes over it")
+        if one.missing:
+            text += "; drop the routes that want " + " or ".join(
+                f"{first} {below} with {second} {above}" for below, above in one.missing) + \
+                ": no track is there"
         notes.add("crossing", one.node.thing, text, first)
 
 

@@ -3,9 +3,9 @@
 import re
 from typing import Dict, List, Optional, Set, Tuple
 
-from .boards import Placed
-from .notes import Notes
-from .sections import Key, Linear, Point, Sections
+from irvtools.importing.boards import Placed
+from irvtools.importing.notes import Notes
+from irvtools.importing.sections import Key, Linear, Point, Sections
 
 LONGEST = 32
 

@@ -9,10 +9,10 @@ import re
 from pathlib import Path
 from typing import Dict, List, Optional, Tuple
 
-from .faults import ImportFault
-from .notes import Notes
-from .safe_xml import Reader
-from .tracks import Board, Segment, Tracks, bearing, length, turn
+from irvtools.importing.faults import ImportFault
+from irvtools.importing.notes import Notes
+from irvtools.importing.safe_xml import Reader
+from irvtools.importing.tracks import Board, Segment, Tracks, bearing, length, turn
 
 ATTRIBUTION = "© OpenStreetMap contributors, ODbL 1.0"
 TRACKS = ("rail", "light_rail", "subway", "tram", "narrow_gauge", "preserved")
@@ -214,7 +214,7 @@ class Map:
         return lines
 
 
-def stops(lines, places: Dict[str, Place]) -> Dict[str, int]:
+def stops(lines) -> Dict[str, int]:
     """Returns at how many arms each node is met: 1 at the end of a line, 2 inside of one."""
     uses: Dict[str, int] = {}
     for _, line in lines:
@@ -223,41 +223,50 @@ def stops(lines, places: Dict[str, Place]) -> Dict[str, int]:
     return uses
 
 
-def pieces(line: List[str], uses: Dict[str, int], places: Dict[str, Place]) -> List[List[str]]:
-    """Returns a line split at switches and boards."""
-    found, last = [], 0
+def pieces(line: List[str], uses: Dict[str, int], found: Map) -> List[List[str]]:
+    """Returns a line split at switches, boards and the end of the area."""
+    parts, last = [], 0
     for number in range(1, len(line)):
-        node = line[number]
-        if number == len(line) - 1 or uses[node] > 2 or places[node].is_board():
-            found.append(line[last:number + 1])
+        place = found.places[line[number]]
+        if number == len(line) - 1 or uses[line[number]] > 2 or place.is_board() or \
+                not found.is_near(place):
+            parts.append(line[last:number + 1])
             last = number
-    return found
+    return parts
+
+
+def node_key(tracks: Tracks, node: str, segment: str, found: Map) -> str:
+    """Returns the key of the node where a segment ends. Each track that leaves the area has an end
+    of its own, since the tracks that go on from there are not known."""
+    place = found.places[node]
+    if found.is_near(place):
+        describe(tracks, node, place)
+        return node
+    key = f"{node} {segment}"
+    tracks.node(key, f"node {node}").end = "cut: the end of the area"
+    return key
 
 
 def add_lines(tracks: Tracks, found: Map) -> None:
     """Adds the segments of all lines."""
-    uses, counts = stops(found.lines, found.places), {}
+    uses, counts = stops(found.lines), {}
     for way, line in found.lines:
-        for nodes in pieces(line, uses, found.places):
+        for nodes in pieces(line, uses, found):
             number = counts[way.key] = counts.get(way.key, -1) + 1
-            line_at = [found.xy(found.places[node]) for node in nodes]
+            places = [found.xy(found.places[node]) for node in nodes]
             key = way.key if number == 0 else f"{way.key}_{number}"
             tracks.segments[key] = Segment(
-                (nodes[0], nodes[-1]), length(line_at),
-                (bearing(line_at), bearing(line_at[::-1])), f"way {way.key}",
+                (node_key(tracks, nodes[0], key, found), node_key(tracks, nodes[-1], key, found)),
+                length(places), (bearing(places), bearing(places[::-1])), f"way {way.key}",
                 way.tags.get("railway:track_ref"))
-            for node in (nodes[0], nodes[-1]):
-                describe(tracks, node, found.places[node], found)
 
 
-def describe(tracks: Tracks, key: str, place: Place, found: Map) -> None:
+def describe(tracks: Tracks, key: str, place: Place) -> None:
     """Adds what a node's tags say of it."""
     node, tags = tracks.node(key, f"node {key}"), place.tags
     kind = tags.get("railway")
     if kind == "buffer_stop":
         node.end = "buffer stop"
-    elif not found.is_near(place):
-        node.end = "cut: the end of the area"
     if kind == "switch":
         node.name = tags.get("ref")
         side = tags.get("railway:turnout_side")
@@ -283,9 +292,10 @@ def straight_ways(tracks: Tracks, arms):
 
 def add_boards(tracks: Tracks, found: Map) -> None:
     """Adds the boards of signals on plain track."""
+    notes = found.notes
     for key, arms in tracks.arms().items():
-        place, notes = found.places[key], found.notes
-        if not place.is_board():
+        place = found.places.get(key)
+        if place is None or not place.is_board():
             continue
         thing, tags = f"node {key}", place.tags
         if len(arms) != 2:

@@ -3,9 +3,9 @@
 import math
 from typing import List, Set
 
-from .faults import ImportFault
-from .notes import Notes
-from .tracks import Node, Segment, Tracks
+from irvtools.importing.faults import ImportFault
+from irvtools.importing.notes import Notes
+from irvtools.importing.tracks import Node, Segment, Tracks
 
 
 def parts(tracks: Tracks) -> List[Set[str]]:

@@ -4,8 +4,8 @@ from pathlib import Path
 from typing import Callable, Dict
 from xml.parsers import expat
 
-from .bytes_of_file import chunks
-from .faults import ImportFault
+from irvtools.importing.bytes_of_file import chunks
+from irvtools.importing.faults import ImportFault
 
 LIMIT_ELEMENTS = 2_500_000
 LIMIT_DEPTH = 32

@@ -7,9 +7,9 @@ of four arms two points. A reference to a section is its key; `naming` gives the
 import math
 from typing import Dict, List, Optional, Tuple, Union
 
-from .directions import Directions
-from .faults import ImportFault
-from .tracks import Arm, Board, Node, Tracks, turn
+from irvtools.importing.directions import Directions
+from irvtools.importing.faults import ImportFault
+from irvtools.importing.tracks import Arm, Board, Node, Tracks, turn
 
 Key = Tuple[str, str]
 
@@ -55,10 +55,10 @@ class Point:
 
 
 class Crossing:
-    """What a node of four arms became: the two points, and the pairs of sections that their legs
-    join although no track does."""
+    """What a node of four arms became: the two points, and the pairs of their legs between which
+    the data has no track."""
 
-    def __init__(self, node: Node, points: List[Key], kind: str, missing: List[Tuple[Key, Key]]):
+    def __init__(self, node: Node, points: List[Key], kind: str, missing: List[Tuple[str, str]]):
         self.node, self.points, self.kind, self.missing = node, points, kind, missing
 
 
@@ -92,7 +92,9 @@ class Sections:
         arms = self.at[self.tracks.segments[arm[0]].ends[arm[1]]]
         if len(arms) != 2 or any(one in self.tracks.boards for one in arms):
             return None
-        return arms[1] if arms[0] == arm else arms[0]
+        other = arms[1] if arms[0] == arm else arms[0]
+        is_through = (self.up[arm[0]] == arm[1]) != (self.up[other[0]] == other[1])
+        return other if is_through else None
 
     def add_chain(self, key: str) -> None:
         """Makes the linear section that has a segment."""
@@ -122,13 +124,18 @@ class Sections:
         """Makes a section the neighbour of an arm's section, over that arm's end."""
         setattr(self.all[self.section_of(arm)], "up" if self.up[arm[0]] == arm[1] else "down", to)
 
+    def leg(self, point: Key, arm: Arm) -> str:
+        """Returns the leg of a point over which an arm's section lies."""
+        return "plus" if self.all[point].plus == self.section_of(arm) else "minus"
+
     def join(self, key: str, arms: List[Arm]) -> None:
         """Joins the sections that meet at a node."""
         node = self.tracks.nodes[key]
         below = [arm for arm in arms if self.up[arm[0]] == arm[1]]
         above = [arm for arm in arms if self.up[arm[0]] != arm[1]]
-        if len(arms) == 1:
-            self.ends.append((self.section_of(arms[0]), "up" if below else "down", node))
+        if len(arms) == 1 or len(arms) == 2 and not (below and above):
+            node.end = node.end if len(arms) == 1 else "two tracks at an acute angle: both end there"
+            self.ends += [(self.section_of(arm), "up" if below else "down", node) for arm in arms]
         elif not below or not above:
             raise ImportFault(f"{node.thing}: {len(arms)} tracks meet there, all from one side")
         elif len(arms) == 2:
@@ -185,7 +192,7 @@ class Sections:
         first = self.fan(key, node, below, above, "down")
         second = self.fan(key, node, above, below, "up")
         self.all[first].stem, self.all[second].stem = second, first
-        missing = [(self.section_of(x), self.section_of(y)) for x in below for y in above
+        missing = [(self.leg(first, x), self.leg(second, y)) for x in below for y in above
                    if node.ways is not None and frozenset((x, y)) not in node.ways]
         kind = node.kind or ("crossing" if missing else "double slip" if node.ways
                              else "crossing or slip (guessed)")

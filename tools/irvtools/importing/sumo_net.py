@@ -8,11 +8,11 @@ import math
 from pathlib import Path
 from typing import Dict, List, Optional, Set, Tuple
 
-from .faults import ImportFault
-from .naming import is_name, shown
-from .notes import Notes
-from .safe_xml import Reader
-from .tracks import Arm, Board, Segment, Tracks, bearing
+from irvtools.importing.faults import ImportFault
+from irvtools.importing.naming import is_name, shown
+from irvtools.importing.notes import Notes
+from irvtools.importing.safe_xml import Reader
+from irvtools.importing.tracks import Arm, Board, Segment, Tracks, bearing
 
 CLASSES = {"rail", "rail_electric", "rail_fast", "rail_urban", "tram", "subway"}
 LIMIT_EDGES = 200_000

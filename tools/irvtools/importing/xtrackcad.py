@@ -9,11 +9,11 @@ import re
 from pathlib import Path
 from typing import Dict, FrozenSet, List, Optional, Set, Tuple
 
-from .bytes_of_file import chunks
-from .faults import ImportFault
-from .naming import shown
-from .notes import Notes
-from .tracks import Segment, Tracks
+from irvtools.importing.bytes_of_file import chunks
+from irvtools.importing.faults import ImportFault
+from irvtools.importing.naming import shown
+from irvtools.importing.notes import Notes
+from irvtools.importing.tracks import Segment, Tracks
 
 RATIOS = {"HO": 87.1, "OO": 76.2, "N": 160.0, "Z": 220.0, "O": 48.0, "S": 64.0, "TT": 120.0,
           "G": 22.5, "HOn3": 87.1, "HOm": 87.1, "O16": 48.0}
