@@ -19,6 +19,7 @@ TRACKS = ("rail", "light_rail", "subway", "tram", "narrow_gauge", "preserved")
 METRES_NORTH = 110_570.0
 METRES_EAST = 111_320.0
 LIMIT_WAY_NODES = 400_000
+LIMIT_NODES = 10_000        # of one way; OpenStreetMap's own limit is 2000
 LIMIT_BESIDE = 200
 
 Near = Tuple[float, float, float]
@@ -75,27 +76,32 @@ class Ways:
 
     def start(self, name, attributes):
         """Takes the start of an element."""
-        self.root = self.root or name
-        if name == "way":
+        if name == "nd":
+            if self.current:
+                self.current.nodes.append(attributes.get("ref", ""))
+        elif name == "tag":
+            if self.current:
+                self.current.tags[attributes.get("k", "")] = attributes.get("v", "")
+        elif name == "way":
             self.current = None if is_gone(attributes) else \
                 Way(checked_id(self.reader, attributes, "id"), [], {})
         elif name == "relation":
             self.current = None
-        elif self.current and name == "nd":
-            self.current.nodes.append(checked_id(self.reader, attributes, "ref"))
-        elif self.current and name == "tag":
-            self.current.tags[attributes.get("k", "")] = attributes.get("v", "")
+        self.root = self.root or name
 
     def end(self, name):
         """Takes the end of an element: a way that is a track is kept."""
-        way = self.current
-        if name != "way" or way is None:
+        if name != "way" or self.current is None:
             return
-        self.current = None
+        way, self.current = self.current, None
         if way.tags.get("railway") not in TRACKS:
             return
         if way.key in self.found:
             raise self.reader.fault(f"way {way.key} is in the file twice")
+        if len(way.nodes) > LIMIT_NODES:
+            raise self.reader.fault(f"way {way.key} has more than {LIMIT_NODES} nodes")
+        for node in way.nodes:
+            checked_id(self.reader, {"ref": node}, "ref")
         self.count += len(way.nodes)
         if self.count > LIMIT_WAY_NODES:
             raise self.reader.fault(f"way {way.key}: the tracks have more than {LIMIT_WAY_NODES} "

@@ -7,7 +7,7 @@ from xml.parsers import expat
 from irvtools.importing.bytes_of_file import chunks
 from irvtools.importing.faults import ImportFault
 
-LIMIT_ELEMENTS = 2_500_000
+LIMIT_ELEMENTS = 2_000_000
 LIMIT_DEPTH = 32
 LIMIT_ELEMENT_BYTES = 1 << 20
 
