@@ -85,11 +85,12 @@ def written(directory: Path, texts: Dict[str, str]) -> None:
         raise NotDone(f"cannot write in {directory}: {fault.strerror}") from fault
 
 
-def compared(directory: Path, configuration: dict, files: NetFiles, found) -> List[str]:
+def compared(directory: Path, configuration: dict, files: NetFiles, found, ways) -> List[str]:
     """Runs SUMO and returns a line for each difference. Prints the counts."""
     simulation.convert(directory)
-    simulation.simulate(directory, "trains.rou.xml", "trains")
-    simulation.simulate(directory, "ways.rou.xml", "ways")
+    for name, group in (("trains", found), ("ways", ways)):
+        simulation.simulate(directory, f"{name}.rou.xml", name,
+                            trains.end_of(group, files.metres))
     here = driveways.arrived(directory / "trains.arrivals.xml")
     late = [f"train {one.name} does not arrive" for one in found if one.name not in here]
     comparison = Comparison(configuration["routes"],
@@ -107,6 +108,7 @@ def export(options, given: bytes) -> int:
     files = NetFiles(network, float(options.metres))
     found, lines = train_list(options, configuration, network)
     texts = {**files.texts(), "trains.rou.xml": trains.text_of(found, files)}
+    ways = []
     if options.compare:
         absent = simulation.missing()
         if absent:
@@ -119,7 +121,7 @@ def export(options, given: bytes) -> int:
     print(f"{options.directory}: {len(files.nodes)} nodes, {len(files.edges)} edges, "
           f"{len(files.connections)} connections, {len(found)} trains")
     if options.compare:
-        lines += compared(options.directory, configuration, files, found)
+        lines += compared(options.directory, configuration, files, found, ways)
     for line in lines[:SHOWN]:
         print(f"differs: {line}")
     if len(lines) > SHOWN:

@@ -45,8 +45,10 @@ def convert(directory: Path) -> None:
           "-o", "net.net.xml", "--no-turnarounds"], directory)
 
 
-def simulate(directory: Path, trains: str, result: str) -> None:
-    """Runs trains. Writes result.blocks.xml and result.arrivals.xml."""
+def simulate(directory: Path, trains: str, result: str, end: int) -> None:
+    """Runs trains, up to a second of the simulation. Writes result.blocks.xml and
+    result.arrivals.xml."""
     call(["sumo", "-n", "net.net.xml", "-r", trains, "--no-step-log", "--time-to-teleport", "-1",
+          "--end", str(end),
           "--railsignal-block-output", f"{result}.blocks.xml",
           "--tripinfo-output", f"{result}.arrivals.xml"], directory)

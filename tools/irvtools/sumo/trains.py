@@ -35,6 +35,11 @@ def apart(metres: float) -> int:
     return max(APART_SECONDS, int(2.5 * metres))
 
 
+def end_of(trains: List[Train], metres: float) -> int:
+    """Returns a second at which every train that can arrive has arrived."""
+    return max((one.depart for one in trains), default=0) + 10 * apart(metres)
+
+
 def of_routes(configuration: dict, network: Network,
               metres: float) -> Tuple[List[Train], List[str]]:
     """Returns a train for each route, one after the other, and a line for each route without one."""
