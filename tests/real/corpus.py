@@ -18,6 +18,7 @@ from irvtools.paths import TOOLS, TOP
 LAYOUTS = Path("/usr/share/xtrkcad/examples")
 MAPS = Path(os.environ.get("IRV_MAPS", TOP / "out/maps"))
 SECONDS = 120
+SMALL_BYTES, SMALL_ROUTES = 1 << 20, 50
 COUNTS = ("sections", "points", "boards", "routes")
 
 
@@ -36,21 +37,28 @@ class Entry:
             hashlib.sha256(self.path.read_bytes()).hexdigest()[:12]
 
     @property
+    def is_small(self):
+        """Returns whether the file is read in about two seconds and has a table of few routes."""
+        routes = self.expected.rpartition(", ")[2].partition(" ")[0]
+        return self.path.stat().st_size < SMALL_BYTES and \
+            not (self.is_plant and (not routes.isdigit() or int(routes) > SMALL_ROUTES))
+
+    @property
     def is_plant(self):
         """Returns whether the file is expected to be imported."""
         return self.expected[0].isdigit()
 
 
-def entries(suffix, least=1):
-    """Returns the lines of files with a suffix that are there. Skips the test if too few are."""
+def entries(suffix, is_long, least=1):
+    """Returns the lines of files with a suffix that are there, unless `is_long` only the small ones.
+    Skips the test if too few are there."""
     found = [Entry(line) for line in Path(__file__).with_name("corpus.list").read_text(
         encoding="utf-8").splitlines() if line and not line.startswith("#")]
     wanted = [one for one in found if suffix in one.name]
-    there = [one for one in wanted if one.is_there]
+    there = [one for one in wanted if one.is_there and (is_long or one.is_small)]
     if len(there) < least:
-        where = "Debian's package xtrkcad-common is not installed" if suffix == ".xtc" else \
-            f"the maps are not in {MAPS}; tests/fetch_maps fetches them"
-        raise SkipTest(f"{len(there)} of {len(wanted)} files are there: {where}")
+        raise SkipTest(f"{len(there)} of {len(wanted)} files are there: Debian's package xtrkcad-common "
+                       f"has the layouts, and tests/fetch_maps fetches the maps to {MAPS}")
     return there
 
 
