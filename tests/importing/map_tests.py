@@ -2,9 +2,13 @@
 
 import bz2
 import gzip
+import subprocess
+import sys
 import tempfile
 from pathlib import Path
 
+from irvtools.importing.notes import boards_by_rule, read_notes
+from irvtools.paths import TOOLS
 from tests.importing.small_maps import (LOOP_NODES, LOOP_WAYS, SWITCHES, boards, call, imported,
                                         osm, routes_of, section)
 from tests.support.harness import test_case
@@ -40,6 +44,59 @@ def check_loop(program, _):
                            "© OpenStreetMap contributors, ODbL 1.0")
     by = {one["name"]: one["by"] for one in notes["entries"] if one["kind"] == "board"}
     yield from differences("boards in the notes", by, dict.fromkeys(boards(found), "rule"))
+
+
+def check_notes(program, _):
+    """The file of notes is read again, with the boards that no data has; another file is refused."""
+    nodes = {**LOOP_NODES, "7": (0.0, 0.002)}
+    ways = {**LOOP_WAYS, "10": ["1", "7", "2"]}
+    tags = {**SWITCHES, "7": {**MARKER, "railway:signal:direction": "forward", "ref": "N1"}}
+    with tempfile.TemporaryDirectory(prefix="irv-import-") as room:
+        found, message = imported(program, room, osm(nodes, ways, tags))
+        if found is None:
+            yield message
+            return
+        read = read_notes(Path(room, "out.notes.json"))
+        yield from differences("boards by rule", boards_by_rule(read),
+                               set(boards(found)) - {"N1"})
+        yield from differences("source", (read["source"], read["form"]),
+                               ("map.osm", "OpenStreetMap XML"))
+        for other in ("[]", "{}", '{"notes": 2, "entries": []}', "no JSON"):
+            Path(room, "other").write_text(other, encoding="utf-8")
+            try:
+                read_notes(Path(room, "other"))
+                yield f"{other} is read"
+            except ValueError:
+                pass
+
+
+def check_files(program, _):
+    """A file that cannot be read or written is named, and nothing is left behind."""
+    cases = [("none.osm", (), "cannot read none.osm: no such file"),
+             ("room.osm", (), "cannot read room.osm: not a regular file"),
+             ("map.png", (), "map.png: the name has to end with .osm, .net.xml, .xtc"),
+             ("map.osm", ("--out", "none/a.json"), "cannot write none/a.json: No such file"),
+             ("map.osm", ("--near", "0,0"), "LAT,LON,METRES are three numbers"),
+             ("map.osm", ("--near", "91,0,5"), "LAT is within 89"),
+             ("map.osm", ("--signals", "none"), "invalid choice"),
+             ("a.xtc", ("--near", "0,0,500"), "XTrackCAD layout has no latitude"),
+             ("cut.osm.gz", (), "cannot read cut.osm.gz after")]
+    with tempfile.TemporaryDirectory(prefix="irv-import-") as room:
+        Path(room, "room.osm").mkdir()
+        for name in ("map.osm", "map.png", "a.xtc"):
+            Path(room, name).write_text(osm(), encoding="utf-8")
+        Path(room, "cut.osm.gz").write_bytes(gzip.compress(osm().encode())[:-20])
+        before = sorted(Path(room).iterdir())
+        for name, words, said in cases:
+            if "--out" in words:
+                done = subprocess.run([sys.executable, str(TOOLS / "import"), name, "--program",
+                                       str(program), *words], cwd=room, capture_output=True,
+                                      text=True, check=False)
+                status, errors = done.returncode, done.stderr
+            else:
+                status, _, errors = call(program, room, name, *words)
+            if status != 125 or said not in errors or sorted(Path(room).iterdir()) != before:
+                yield f"{name} {words}: status {status}, {errors}"
 
 
 def check_compressed(program, _):
@@ -206,5 +263,5 @@ def check_existing(program, _):
 
 
 MapTests = test_case("MapTests", [
-    check_loop, check_compressed, check_signals, check_names, check_near, check_crossing,
-    check_refused, check_cut, check_existing])
+    check_loop, check_notes, check_files, check_compressed, check_signals, check_names, check_near,
+    check_crossing, check_refused, check_cut, check_existing])

@@ -2,9 +2,7 @@
 
 import argparse
 import json
-import os
 import sys
-import tempfile
 from pathlib import Path
 from typing import List
 
@@ -121,20 +119,19 @@ def check(file: Path, text: str) -> str:
 
 
 def write(path: Path, text: str) -> None:
-    """Writes a file as a whole: it appears when it is complete."""
+    """Writes a new file. If that fails, the file does not remain."""
     try:
-        handle, name = tempfile.mkstemp(dir=path.parent or Path("."), prefix=".irv-import-")
-        with os.fdopen(handle, "w", encoding="utf-8") as stream:
-            stream.write(text)
-        os.chmod(name, 0o644)
-        os.link(name, path)
+        with open(path, "x", encoding="utf-8") as stream:
+            try:
+                stream.write(text)
+                stream.flush()
+            except OSError:
+                path.unlink()
+                raise
     except FileExistsError as fault:
         raise ImportFault(f"{path} exists: remove it, or choose another name with --out") from fault
     except OSError as fault:
         raise ImportFault(f"cannot write {path}: {fault.strerror}") from fault
-    finally:
-        if "name" in locals():
-            os.unlink(name)
 
 
 def summary(configuration: dict, notes: Notes) -> str:
