@@ -39,7 +39,8 @@ TURNTABLE = """TURNTABLE 5 0 0 0 0 HO 2 0 0 5 0
 \tEND
 """
 # edges a and b lead to the junction n, c away from it; -a, -b, -c are their other direction
-EDGES = {"a": ("w", "n", "0,0 100,0"), "b": ("s", "n", "0,-20 100,0"), "c": ("n", "e", "100,0 200,0")}
+EDGES = {"a": ("w", "n", "0,0 100,0"), "b": ("s", "n", "0,-20 100,0"),
+         "c": ("n", "e", "100,0 200,0")}
 
 
 def net(edges=None, kind="rail_signal", connections=None):
@@ -48,8 +49,9 @@ def net(edges=None, kind="rail_signal", connections=None):
     for key, (start, end, shape) in (EDGES if edges is None else edges).items():
         back = " ".join(reversed(shape.split()))
         for name, one, other, places in ((key, start, end, shape), ("-" + key, end, start, back)):
-            lines.append(f"<edge id='{name}' from='{one}' to='{other}'><lane id='{name}_0' index='0' "
-                         f"allow='rail' speed='20' length='100' shape='{places}'/></edge>")
+            lines.append(f"<edge id='{name}' from='{one}' to='{other}'><lane id='{name}_0' "
+                         f"index='0' allow='rail' speed='20' length='100' shape='{places}'/>"
+                         "</edge>")
     lines.append(f"<junction id='n' type='{kind}' x='0' y='0'/>")
     for start, end in connections or (("a", "c"), ("b", "c"), ("-c", "-a"), ("-c", "-b")):
         lines.append(f"<connection from='{start}' to='{end}' fromLane='0' toLane='0' tl='n'/>")
@@ -67,8 +69,8 @@ def check_turnout(program, _):
         return
     yield from differences("point", section(found, "p2"), {
         "name": "p2", "kind": "point", "faces": "up", "stem": "t1", "plus": "t3", "minus": "t4"})
-    yield from differences("turned", (section(turned, "p2")["plus"], section(turned, "p2")["minus"]),
-                           ("t4", "t3"))
+    point = section(turned, "p2")
+    yield from differences("turned", (point["plus"], point["minus"]), ("t4", "t3"))
     metres = {one["name"]: one["text"] for one in notes["entries"] if one["kind"] == "section"}
     # 100 inches and the turnout's own inch, by 87.1, are 223 m
     yield from differences("metres", (metres["t1"], metres["t3"]), ("223 m", "223 m"))
@@ -93,7 +95,8 @@ def check_layout_refused(program, _):
     six = LAYOUT.replace("\tT 4 110.0 2.0 80.0", "\tT 4 110.0 2.0 80.0\n" + "\tE 1 1 1\n" * 3)
     cases = [("six ends", six, ["line 7", "track 2", "6 ends"]),
              ("no number", LAYOUT.replace("100.0 0.0 90.0", "100.0 x 90.0"), ["line 5", '"x"']),
-             ("a track twice", LAYOUT.replace("CURVE 4", "CURVE 3"), ["line 21", "track 3", "twice"]),
+             ("a track twice", LAYOUT.replace("CURVE 4", "CURVE 3"),
+              ["line 21", "track 3", "twice"]),
              ("no track", "VERSION 10\nEND\n", ["no track"]),
              ("an end without a place", LAYOUT.replace("\tE 0.0 0.0 270.0", "\tE 0.0"),
               ["line 4", "track 1"])]
@@ -114,7 +117,8 @@ def check_net(program, _):
         yield str(notes)
         return
     point = next(one for one in found["sections"] if one["kind"] == "point")
-    yield from differences("point", (point["faces"], point["stem"], {point["plus"], point["minus"]}),
+    legs = {point["plus"], point["minus"]}
+    yield from differences("point", (point["faces"], point["stem"], legs),
                            ("down", "c", {"a", "b"}))
     yield from differences("boards of the data", sorted(
         one["text"] for one in notes["entries"] if one.get("by") == "data"),

@@ -47,7 +47,7 @@ def check_loop(program, _):
 
 
 def check_notes(program, _):
-    """The file of notes is read again, with the boards that no data has; another file is refused."""
+    """The notes are read again, with the boards that no data has; another file is refused."""
     nodes = {**LOOP_NODES, "7": (0.0, 0.002)}
     ways = {**LOOP_WAYS, "10": ["1", "7", "2"]}
     tags = {**SWITCHES, "7": {**MARKER, "railway:signal:direction": "forward", "ref": "N1"}}
@@ -112,7 +112,7 @@ def check_compressed(program, _):
 
 
 def check_signals(program, _):
-    """Signals become boards in their direction; other signals and signals beside the track don't."""
+    """Signals become boards in their direction; signals beside the track don't."""
     nodes = {**LOOP_NODES, "7": (0.0, 0.002), "8": (0.0, 0.014), "9": (0.001, 0.0)}
     ways = {**LOOP_WAYS, "10": ["1", "7", "2"], "13": ["3", "8", "4"]}
     tags = {**SWITCHES, "7": {**MARKER, "railway:signal:direction": "forward", "ref": "N1"},

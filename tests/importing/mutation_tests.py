@@ -1,4 +1,4 @@
-"""Tests of the import over mutated maps: no crash, no access beyond the input, within its limits."""
+"""Tests of the import over mutated maps: no crash, no access beyond the input, and its limits."""
 
 import bz2
 import gzip
@@ -131,8 +131,8 @@ def mutants(count):
 def watched(program, room, name):
     """Imports a file under watch. Returns what was seen and the error output."""
     result = Path(room, "seen.json")
-    done = subprocess.run([sys.executable, str(WATCHED), str(result), str(Path(room, name)), "--out",
-                           str(Path(room, "out.json")), "--program", str(program)],
+    done = subprocess.run([sys.executable, str(WATCHED), str(result), str(Path(room, name)),
+                           "--out", str(Path(room, "out.json")), "--program", str(program)],
                           capture_output=True, text=True, errors="replace", timeout=120,
                           env={**os.environ, "TMPDIR": str(room)}, check=False)
     seen = json.loads(result.read_text(encoding="utf-8")) if result.exists() else None
@@ -169,7 +169,8 @@ def faults_of(program, room, name, data):
 
 
 def check_mutants(program, is_long):
-    """Mutated maps are imported or refused with a place, within 10 s and 500 MiB, and nothing else is read."""
+    """Mutated maps are imported or refused with a place, within 10 s and 500 MiB; nothing else is
+    read."""
     with tempfile.TemporaryDirectory(prefix="irv-import-") as room:
         for what, name, data in mutants(LONG_MUTANTS if is_long else MUTANTS):
             yield from (f"{what}: {fault}" for fault in faults_of(program, room, name, data))

@@ -1,8 +1,9 @@
 """The files of the corpus, and the plants that are made of them.
 
-`corpus.list` has a line for each import, with tabs between: the file's name, the first 12 digits of its
-SHA-256, the options, and either the counts or a part of the message. A file of another version is passed
-over, and so is one that does not exist; each test says how many were.
+`corpus.list` has a line for each import, with tabs between: the file's name, the first 12 digits of
+its SHA-256, the options, and either the counts or a part of the message. The counts are those that
+were seen when the list was written. A file of another version is passed over, and so is one that
+does not exist.
 """
 
 import hashlib
@@ -50,24 +51,25 @@ class Entry:
 
 
 def entries(suffix, is_long, least=1):
-    """Returns the lines of files with a suffix that are there, unless `is_long` only the small ones.
-    Skips the test if too few are there."""
+    """Returns the lines of files with a suffix that are there, unless `is_long` only the small
+    ones. Skips the test if too few are there."""
     found = [Entry(line) for line in Path(__file__).with_name("corpus.list").read_text(
         encoding="utf-8").splitlines() if line and not line.startswith("#")]
     wanted = [one for one in found if suffix in one.name]
     there = [one for one in wanted if one.is_there and (is_long or one.is_small)]
     if len(there) < least:
-        raise SkipTest(f"{len(there)} of {len(wanted)} files are there: Debian's package xtrkcad-common "
-                       f"has the layouts, and tests/fetch_maps fetches the maps to {MAPS}")
+        raise SkipTest(f"{len(there)} of {len(wanted)} files are there: Debian's package "
+                       f"xtrkcad-common has the layouts, and tests/fetch_maps fetches the maps to "
+                       f"{MAPS}")
     return there
 
 
 def imported(program, entry, room):
     """Imports a file. Returns the configuration and an empty message, or None and the message."""
     out = Path(room, "plant.json")
-    done = subprocess.run([sys.executable, str(TOOLS / "import"), str(entry.path), "--out", str(out),
-                           "--program", str(program), *entry.options], capture_output=True,
-                          text=True, timeout=SECONDS, check=False)
+    done = subprocess.run([sys.executable, str(TOOLS / "import"), str(entry.path), "--out",
+                           str(out), "--program", str(program), *entry.options],
+                          capture_output=True, text=True, timeout=SECONDS, check=False)
     if done.returncode:
         return None, done.stderr.strip()
     found = json.loads(out.read_text(encoding="utf-8"))

@@ -1,5 +1,5 @@
-"""Tests over the corpus: counts of each import, clean tables, a second reader, SUMO's driveways, and
-faults that are planted and found."""
+"""Tests over the corpus: counts of each import, clean tables, a second reader, SUMO's driveways,
+and faults that are planted and found."""
 
 import bz2
 import copy
@@ -29,7 +29,7 @@ LEGS = {"plus": "minus", "minus": "plus"}
 
 
 def check_imports(program, is_long):
-    """Each file of the corpus gives the counts of the list, or its message, and its table is clean."""
+    """Each file of the corpus gives the counts of the list, or its message; its table is clean."""
     found = entries(".", is_long)
     with tempfile.TemporaryDirectory(prefix="irv-real-") as room:
         for entry in found:
@@ -118,7 +118,8 @@ def check_second_reader(program, is_long):
 
 
 def check_driveways(program, is_long):
-    """SUMO finds the routes of each table and no other way, agrees about conflicts, and all trains arrive."""
+    """SUMO finds the routes of each table and no other way, and agrees about conflicts; all trains
+    arrive."""
     if simulation.missing():
         raise SkipTest(f"{simulation.missing()} is not installed (Debian's package sumo)")
     with tempfile.TemporaryDirectory(prefix="irv-real-") as room:
@@ -139,7 +140,7 @@ def check_driveways(program, is_long):
 
 
 def planted(tables, count):
-    """Yields tables in which one listed point of one route is turned, with the number of the route."""
+    """Yields tables in which one listed point of one route is turned, with the route's number."""
     chance = random.Random(SEED)
     for _ in range(count):
         name = chance.choice(sorted(tables))
@@ -151,7 +152,7 @@ def planted(tables, count):
 
 
 def check_planted(program, is_long):
-    """One turned point of one route is named by `check`, and random search finds a run to a hazard."""
+    """One turned point of one route is named by `check`, and random search finds a hazard."""
     with tempfile.TemporaryDirectory(prefix="irv-real-") as room:
         tables = {}
         for entry in entries(".", is_long):
@@ -167,7 +168,8 @@ def check_planted(program, is_long):
         if run is None:
             yield f"{name}: no hazard is found"
             continue
-        said = Program(program, json.dumps(table).encode()).replay("free", run_text(plant, run)).line
+        given = json.dumps(table).encode()
+        said = Program(program, given).replay("free", run_text(plant, run)).line
         if not said.startswith("hazard "):
             yield f"{name}: replay answers {said}"
 

@@ -41,7 +41,8 @@ def unpacked(room, directory):
     for archive in sorted(Path(room).glob("*.orig.tar.*")):
         with tarfile.open(archive) as members:
             for member in members:
-                name = next((WANTED[end] for end in WANTED if member.name.endswith("/" + end)), None)
+                name = next((WANTED[end] for end in WANTED if member.name.endswith("/" + end)),
+                            None)
                 if name and member.isfile():
                     with members.extractfile(member) as source, \
                             open(directory / name, "wb") as copy:
@@ -52,8 +53,8 @@ def unpacked(room, directory):
 
 def main(words):
     """Fetches the maps; returns the exit status."""
-    line = Parser("tests/fetch_maps", "Fetches the maps of tests/real out of Debian's source packages "
-                  f"{' and '.join(PACKAGES)} (59 MB), by apt-get.\nThe maps are data of "
+    line = Parser("tests/fetch_maps", "Fetches the maps of tests/real out of Debian's source "
+                  f"packages {' and '.join(PACKAGES)} (59 MB), by apt-get.\nThe maps are data of "
                   "OpenStreetMap: © OpenStreetMap contributors, ODbL 1.0.", 2,
                   "tests/fetch_maps [DIRECTORY]")
     line.add_argument("directory", nargs="?", type=Path, default=MAPS, metavar="DIRECTORY",

@@ -1,6 +1,7 @@
-"""Tests of the export to SUMO and of its comparison: faults that are planted in tables are named."""
+"""Tests of the export to SUMO and of its comparison: planted faults are named."""
 
 import json
+import os
 import subprocess
 import sys
 import tempfile
@@ -42,9 +43,9 @@ def tables(program):
 def exported(program, room, configuration, *words):
     """Exports a configuration to a new directory. Returns the status, the output and the errors."""
     directory = tempfile.mkdtemp(dir=room)
-    done = subprocess.run([sys.executable, str(TOOLS / "sumo"), directory, "--program", str(program),
-                           *words], input=json.dumps(configuration).encode(), capture_output=True,
-                          timeout=SECONDS, check=False)
+    done = subprocess.run([sys.executable, str(TOOLS / "sumo"), directory, "--program",
+                           str(program), *words], input=json.dumps(configuration).encode(),
+                          capture_output=True, timeout=SECONDS, check=False)
     return done.returncode, done.stdout.decode().splitlines(), done.stderr.decode()
 
 
@@ -88,13 +89,13 @@ def conflict_invented(table):
                     {one["destination"], other["destination"]} == {None}:
                 one["conflicts"].append(other["name"])
                 other["conflicts"].append(one["name"])
-                return [f"differs: routes {one['name']} and {other['name']} are conflicts, but SUMO "
-                        f"does not keep their trains apart"]
+                return [f"differs: routes {one['name']} and {other['name']} are conflicts, but "
+                        f"SUMO does not keep their trains apart"]
     return []
 
 
 def check_planted(program, _):
-    """A dropped conflict, a shortened path, a missing route and an invented conflict are named, each alone."""
+    """A dropped or invented conflict, a shortened path, a missing route: each is named alone."""
     need_sumo()
     invented = 0
     with tempfile.TemporaryDirectory(prefix="irv-sumo-") as room:
@@ -111,7 +112,8 @@ def check_planted(program, _):
                 status, lines, errors = exported(program, room, changed, "--compare")
                 found = sorted(line for line in lines if line.startswith("differs"))
                 if status != 1 or found != sorted(expected):
-                    yield f"{name}, {plant.__name__}: status {status}, {found}, not {expected} {errors}"
+                    yield (f"{name}, {plant.__name__}: status {status}, {found}, not {expected} "
+                           f"{errors}")
     if not invented:
         yield "no conflict could be invented"
 
@@ -148,7 +150,7 @@ def check_arrivals(program, _):
 
 
 def check_export(program, _):
-    """Without --compare nothing of SUMO is called, and each section has an edge in each direction."""
+    """Without --compare no SUMO is needed, and each section has an edge in each direction."""
     with tempfile.TemporaryDirectory(prefix="irv-sumo-") as room:
         table = json.loads((EXAMPLES / "station.json").read_bytes())
         status, lines, errors = exported(program, room, table)
@@ -191,7 +193,7 @@ def check_scenario(program, _):
 
 
 def check_refused(program, _):
-    """A rejected configuration and a directory with contents are refused, and nothing is written."""
+    """A rejected configuration and a directory with contents are refused; nothing is written."""
     with tempfile.TemporaryDirectory(prefix="irv-sumo-") as room:
         for given, said in (({"version": 2}, "refused F3 document"), (None, "is not empty")):
             directory = Path(tempfile.mkdtemp(dir=room))
@@ -205,6 +207,29 @@ def check_refused(program, _):
             if done.returncode != 125 or said not in done.stderr.decode() or \
                     there not in ([], ["kept"]):
                 yield f"{said}: status {done.returncode} {done.stderr} {there}"
+
+
+def check_failing_sumo(program, _):
+    """If SUMO is missing or fails, the call says so, with status 125, and no file is left."""
+    table = json.loads((EXAMPLES / "station.json").read_bytes())
+    with tempfile.TemporaryDirectory(prefix="irv-sumo-") as room:
+        empty, fake = Path(room, "empty"), Path(room, "fake")
+        for path in (empty, fake):
+            path.mkdir()
+        for name in ("netconvert", "sumo"):
+            (fake / name).write_text("#!/bin/sh\necho Error: no memory >&2\nexit 1\n",
+                                     encoding="ascii")
+            (fake / name).chmod(0o755)
+        for path, said in ((str(empty), "netconvert is not installed"),
+                           (f"{fake}:/usr/bin:/bin", "netconvert in ")):
+            out = Path(room, "out")
+            done = subprocess.run([sys.executable, str(TOOLS / "sumo"), str(out), "--compare",
+                                   "--program", str(program)], input=json.dumps(table).encode(),
+                                  capture_output=True, env={**os.environ, "PATH": path},
+                                  timeout=SECONDS, check=False)
+            left = list(out.iterdir()) if out.exists() else []
+            if done.returncode != 125 or said not in done.stderr.decode() or left or done.stdout:
+                yield f"{said}: status {done.returncode} {done.stderr} {left} {done.stdout}"
 
 
 def check_ways(program, _):
@@ -223,4 +248,4 @@ def check_ways(program, _):
 
 ComparisonTests = test_case("ComparisonTests", [
     check_planted, check_not_connected, check_arrivals, check_export, check_scenario, check_refused,
-    check_ways])
+    check_failing_sumo, check_ways])

@@ -28,8 +28,8 @@ ABOUT = """Makes a draft of a configuration, without routes, from a map or a lay
 chosen by the name of FILE:
 .osm (OpenStreetMap XML), .net.xml (SUMO) or .xtc (XTrackCAD), each also with .gz or .bz2.
 
-The exit status is 0 if the configuration and its notes were written. Otherwise nothing is written, \
-and it is 125."""
+The exit status is 0 if the configuration and its notes were written. Otherwise nothing is \
+written, and it is 125."""
 
 
 def near_of(text: str):
@@ -70,8 +70,8 @@ def parser() -> Parser:
     line.add_argument("--cut", metavar="OBJECT", action="append", default=[],
                       help="cut the track with this id, as a message names it; may be given again")
     line.flag("--cut-loops", "cut reversing loops and triangles, which are refused otherwise")
-    line.once("--board-metres", "least length of a section before a point that gets a board by rule "
-              "(60; XTrackCAD: 40)", metavar="METRES", type=metres_of)
+    line.once("--board-metres", "least length of a section before a point that gets a board by "
+              "rule (60; XTrackCAD: 40)", metavar="METRES", type=metres_of)
     line.once("--absorb-metres", "sections between two points that are shorter become part of the "
               "points (0; XTrackCAD: 25)", metavar="METRES", type=metres_of)
     line.program()

@@ -69,6 +69,7 @@ def note_changes(sections: Sections, absorbed: List[Linear], alone: List[Linear]
 def member(one, names: Dict[Key, str], boards: Dict[Tuple[Key, str], str]) -> dict:
     """Returns a section as the configuration has it."""
     def named(key):
+        """Returns the name of a section, or None."""
         return None if key is None else names[key]
     if isinstance(one, Linear):
         return {"name": names[one.key], "kind": "linear", "down": named(one.down),

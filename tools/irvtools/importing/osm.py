@@ -288,6 +288,7 @@ def straight_ways(tracks: Tracks, arms):
     first, rest = arms[0], arms[1:]
 
     def bend(other):
+        """Returns the lesser angle of the pairing of the first arm with another."""
         left = [arm for arm in rest if arm != other]
         return min(turn(tracks.away(first), tracks.away(other)),
                    turn(tracks.away(left[0]), tracks.away(left[1])))

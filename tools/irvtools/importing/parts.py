@@ -26,6 +26,7 @@ def parts(tracks: Tracks) -> List[Set[str]]:
         found.append(part)
 
     def size(part):
+        """Returns what orders the parts."""
         nodes = {node for key in part for node in tracks.segments[key].ends}
         branches = sum(len(at[node]) > 2 for node in nodes)
         return (-branches, -sum(tracks.segments[key].metres for key in part), min(part))

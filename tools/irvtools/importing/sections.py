@@ -134,7 +134,8 @@ class Sections:
         below = [arm for arm in arms if self.up[arm[0]] == arm[1]]
         above = [arm for arm in arms if self.up[arm[0]] != arm[1]]
         if len(arms) == 1 or len(arms) == 2 and not (below and above):
-            node.end = node.end if len(arms) == 1 else "two tracks at an acute angle: both end there"
+            if len(arms) == 2:
+                node.end = "two tracks meet at an acute angle: both end there"
             self.ends += [(self.section_of(arm), "up" if below else "down", node) for arm in arms]
         elif not below or not above:
             raise ImportFault(f"{node.thing}: {len(arms)} tracks meet there, all from one side")

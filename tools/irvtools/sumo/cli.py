@@ -3,7 +3,7 @@
 import json
 import sys
 from pathlib import Path
-from typing import Dict, List
+from typing import Dict, List, Tuple
 
 from irvtools.arguments import Parser, whole_number
 from irvtools.calls.program import Program
@@ -85,8 +85,9 @@ def written(directory: Path, texts: Dict[str, str]) -> None:
         raise NotDone(f"cannot write in {directory}: {fault.strerror}") from fault
 
 
-def compared(directory: Path, configuration: dict, files: NetFiles, found, ways) -> List[str]:
-    """Runs SUMO and returns a line for each difference. Prints the counts."""
+def compared(directory: Path, configuration: dict, files: NetFiles, found,
+             ways) -> Tuple[List[str], List[str]]:
+    """Runs SUMO. Returns the lines of counts, and a line for each difference."""
     simulation.convert(directory)
     for name, group in (("trains", found), ("ways", ways)):
         simulation.simulate(directory, f"{name}.rou.xml", name,
@@ -95,10 +96,20 @@ def compared(directory: Path, configuration: dict, files: NetFiles, found, ways)
     late = [f"train {one.name} does not arrive" for one in found if one.name not in here]
     comparison = Comparison(configuration["routes"],
                             driveways.driveways(directory / "ways.blocks.xml", files))
-    for line in comparison.summary() + [f"{len(found) - len(late)} of {len(found)} trains arrive",
-                                        LIMITS]:
-        print(line)
-    return comparison.differences() + late
+    counts = comparison.summary() + [f"{len(found) - len(late)} of {len(found)} trains arrive",
+                                     LIMITS]
+    return counts, comparison.differences() + late
+
+
+def ways_for(options, network: Network) -> list:
+    """Returns the trains of the comparison; none if none is asked for. Fails without SUMO."""
+    if not options.compare:
+        return []
+    absent = simulation.missing()
+    if absent:
+        raise NotDone(f"{absent} is not installed (Debian's package sumo has it); nothing is "
+                      f"written")
+    return trains.of_ways(network, float(options.metres))
 
 
 def export(options, given: bytes) -> int:
@@ -107,23 +118,24 @@ def export(options, given: bytes) -> int:
     network = Network(configuration)
     files = NetFiles(network, float(options.metres))
     found, lines = train_list(options, configuration, network)
+    ways, counts = ways_for(options, network), []
     texts = {**files.texts(), "trains.rou.xml": trains.text_of(found, files)}
-    ways = []
     if options.compare:
-        absent = simulation.missing()
-        if absent:
-            raise NotDone(f"{absent} is not installed (Debian's package sumo has it); nothing is "
-                          f"written")
-        ways = trains.of_ways(network, float(options.metres))
         texts["ways.rou.xml"] = trains.text_of(ways, files)
     prepared(options.directory)
     written(options.directory, texts)
+    if options.compare:
+        try:
+            counts, more = compared(options.directory, configuration, files, found, ways)
+            lines += more
+        except (simulation.SumoFault, ImportFault):
+            for path in options.directory.iterdir():
+                path.unlink()
+            raise
     print(f"{options.directory}: {len(files.nodes)} nodes, {len(files.edges)} edges, "
           f"{len(files.connections)} connections, {len(found)} trains")
-    if options.compare:
-        lines += compared(options.directory, configuration, files, found, ways)
-    for line in lines[:SHOWN]:
-        print(f"differs: {line}")
+    for line in counts + [f"differs: {one}" for one in lines[:SHOWN]]:
+        print(line)
     if len(lines) > SHOWN:
         print(f"differs: and {len(lines) - SHOWN} more")
     return DIFFERS if lines else AGREES

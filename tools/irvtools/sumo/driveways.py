@@ -74,6 +74,7 @@ def arrived(path: Path) -> Set[str]:
     found: Set[str] = set()
 
     def start(name, attributes):
+        """Takes the start of an element."""
         if name == "tripinfo" and float(attributes.get("arrival", "-1")) >= 0:
             found.add(attributes.get("id", ""))
 

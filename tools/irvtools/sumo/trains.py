@@ -42,7 +42,8 @@ def end_of(trains: List[Train], metres: float) -> int:
 
 def of_routes(configuration: dict, network: Network,
               metres: float) -> Tuple[List[Train], List[str]]:
-    """Returns a train for each route, one after the other, and a line for each route without one."""
+    """Returns a train for each route, one after the other, and a line for each route that has
+    none."""
     found, lines = [], []
     for route in configuration["routes"]:
         if network.is_path(route["source"], route["path"]):
