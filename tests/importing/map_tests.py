@@ -155,7 +155,7 @@ def check_names(program, _):
 def check_near(program, _):
     """Only tracks near a place are imported, and the ends of the area are noted."""
     with tempfile.TemporaryDirectory(prefix="irv-import-") as room:
-        found, notes = imported(program, room, osm(), "--near", "0,0.004,300")
+        found, notes = imported(program, room, osm(), "--near=-0.00001,0.004,300")
         nothing, message = imported(program, room, osm(), "--near", "10,10,300")
     if found is None:
         yield notes

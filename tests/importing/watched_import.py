@@ -1,4 +1,4 @@
-"""Imports a file in a process of its own that records what it opens, and how long and large it is.
+"""Imports a file in a process that records what it opens, its CPU seconds and its peak memory.
 
     python3 watched_import.py RESULT ARGUMENTS..
 """
@@ -28,10 +28,10 @@ def watch(event, arguments):
 def main(result, words):
     """Imports, and writes what was seen."""
     from irvtools.importing import cli
-    begin = time.monotonic()
+    begin = time.process_time()
     sys.addaudithook(watch)
     status = cli.main(words)
-    seen = {"status": status, "seconds": time.monotonic() - begin, "opened": sorted(OPENED),
+    seen = {"status": status, "seconds": time.process_time() - begin, "opened": sorted(OPENED),
             "other": sorted(OTHER)}
     peak = re.search(r"VmHWM:\s*(\d+) kB", Path("/proc/self/status").read_text(encoding="utf-8"))
     seen["mebibytes"] = int(peak[1]) / 1024

@@ -23,7 +23,7 @@ from tests.support.harness import test_case
 
 SECONDS = 300
 FAULTS, LONG_FAULTS = 8, 85
-SEARCH_SECONDS = 30
+SEARCH_SECONDS = 120
 SEED = 76
 LEGS = {"plus": "minus", "minus": "plus"}
 
