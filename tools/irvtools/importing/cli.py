@@ -59,8 +59,8 @@ def parser() -> Parser:
     """Returns the parser of the command line."""
     line = Parser("irv --import", ABOUT, REFUSED, "irv --import FILE [OPTIONS]")
     line.add_argument("file", metavar="FILE", type=Path, help="the map or layout")
-    line.once("--out", "the configuration (FILE's name, in this directory); the notes are written "
-              "beside it, as NAME.notes.json", metavar="NAME.json", type=Path)
+    line.once("--out", "the configuration; the notes are written beside it, as NAME.notes.json "
+              "(FILE's name, in this directory)", metavar="NAME.json", type=Path)
     line.once("--near", "only tracks within METRES of a place, for OpenStreetMap (all tracks)",
               metavar="LAT,LON,METRES", type=near_of)
     line.once("--signals", "where boards come from: the map's signals and the borders, a rule, or "
