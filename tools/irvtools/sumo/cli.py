@@ -36,9 +36,8 @@ def parser() -> Parser:
     line.add_argument("directory", metavar="DIRECTORY", type=Path,
                       help="where the files are written; it must be empty or not exist")
     line.flag("--compare", "run netconvert and sumo, and compare what they find with the table")
-    line.once("--scenario", "the trains of this scenario, in the form that irv drive reads (one train for "
-              "each route)",
-              metavar="FILE", type=Path)
+    line.once("--scenario", "the trains of this scenario, in the form that irv drive reads (one "
+              "train for each route)", metavar="FILE", type=Path)
     line.once("--metres", "the length of every section (400)", metavar="N",
               type=whole_number(100, 100000), default=400)
     line.program()
