@@ -157,6 +157,10 @@ def check_near(program, _):
     with tempfile.TemporaryDirectory(prefix="irv-import-") as room:
         found, notes = imported(program, room, osm(), "--near=-0.00001,0.004,300")
         nothing, message = imported(program, room, osm(), "--near", "10,10,300")
+        # node 7 is 1.1 km north: the track that leaves the area there and comes back ends there
+        around, around_notes = imported(
+            program, room, osm({**LOOP_NODES, "7": (0.01, 0.002)},
+                               {**LOOP_WAYS, "10": ["1", "7", "2"]}), "--near", "0,0.008,1000")
     if found is None:
         yield notes
         return
@@ -165,6 +169,11 @@ def check_near(program, _):
     ends = sorted(one["object"] for one in notes["entries"]
                   if one["kind"] == "end" and "the end of the area" in one["text"])
     yield from differences("ends", ends, ["node 1", "node 3", "node 6"])
+    if around is None:
+        yield around_notes
+    else:
+        ends = sorted(one["object"] for one in around_notes["entries"] if one["kind"] == "end")
+        yield from differences("ends around", ends, ["node 4", "node 7"])
     yield from differences("far away", nothing, None)
     if "no track within 300 m of 10,10" not in message:
         yield f"far away: {message}"
@@ -221,6 +230,9 @@ def check_refused(program, _):
          ["no track"]),
         ("no such part", osm(), ("--part", "2"), ["--part 2", "parts 1 to 1"]),
         ("no such object", osm(), ("--cut", "way 99"), ["--cut way 99"]),
+        ("a document type", osm(before="<!DOCTYPE osm>"), (), ["line 2", "document type (osm)"]),
+        ("an entity", osm(tags={"2": {"ref": "&x;"}}), (), ["line 4", "undefined entity"]),
+        ("another root", "<net/>", (), ["line 1", "<osm> is expected"]),
         ("a way twice", osm(after="<way id='10'><tag k='railway' v='rail'/></way>"), (),
          ["way 10 is in the file twice", "line"]),
         ("a node twice", osm(after="<node id='1' lat='0' lon='0'/>"), (),

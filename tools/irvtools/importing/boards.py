@@ -23,7 +23,7 @@ def of_data(one: Linear, direction: str, notes: Notes) -> List[Placed]:
     if board is None:
         return []
     if getattr(one, direction) is None:
-        notes.add("left out", board.thing, "the board is at the end of the track (rule N8)")
+        notes.add("left out", board.thing, "a board at the end of the track: no train passes it")
         return []
     return [Placed(one.key, direction, board)]
 

@@ -4,6 +4,7 @@ import re
 from typing import Dict, List, Optional, Set, Tuple
 
 from irvtools.importing.boards import Placed
+from irvtools.importing.faults import shown
 from irvtools.importing.notes import Notes
 from irvtools.importing.sections import Key, Linear, Point, Sections
 
@@ -13,12 +14,6 @@ LONGEST = 32
 def is_name(text: Optional[str]) -> bool:
     """Returns whether a text is a name of the form: 1 to 32 of `A-Z a-z 0-9 _ -`."""
     return bool(text) and re.fullmatch(r"[A-Za-z0-9_-]{1,32}", text) is not None
-
-
-def shown(text: str) -> str:
-    """Returns a text of the data for a note or a message: without control characters, not long."""
-    plain = "".join(one if one.isprintable() else "?" for one in text)
-    return plain if len(plain) <= 60 else plain[:57] + "..."
 
 
 class Names:

@@ -5,7 +5,7 @@ from typing import Callable, Dict
 from xml.parsers import expat
 
 from irvtools.importing.bytes_of_file import chunks
-from irvtools.importing.faults import ImportFault
+from irvtools.importing.faults import ImportFault, shown
 
 LIMIT_ELEMENTS = 2_000_000
 LIMIT_DEPTH = 32
@@ -40,7 +40,7 @@ class Reader:
 
     def refuse_doctype(self, name, *_):
         """Fails: no form that is imported has a document type."""
-        raise self.fault(f"a document type ({name[:40]!a}) is not allowed")
+        raise self.fault(f"a document type ({shown(name)}) is not allowed")
 
     def refuse_entity(self, *_):
         """Fails: no form that is imported has entities."""

@@ -8,8 +8,8 @@ import math
 from pathlib import Path
 from typing import Dict, List, Optional, Set, Tuple
 
-from irvtools.importing.faults import ImportFault
-from irvtools.importing.naming import is_name, shown
+from irvtools.importing.faults import ImportFault, shown
+from irvtools.importing.naming import is_name
 from irvtools.importing.notes import Notes
 from irvtools.importing.safe_xml import Reader
 from irvtools.importing.tracks import Arm, Board, Segment, Tracks, bearing

@@ -10,8 +10,7 @@ from pathlib import Path
 from typing import Dict, FrozenSet, List, Optional, Set, Tuple
 
 from irvtools.importing.bytes_of_file import chunks
-from irvtools.importing.faults import ImportFault
-from irvtools.importing.naming import shown
+from irvtools.importing.faults import ImportFault, shown
 from irvtools.importing.notes import Notes
 from irvtools.importing.tracks import Segment, Tracks
 
