@@ -8,6 +8,7 @@ import tempfile
 from pathlib import Path
 from unittest import SkipTest
 
+from irvtools.generators.configurations import document, linear, point
 from irvtools.paths import TOOLS, TOP
 from irvtools.sumo import simulation
 from irvtools.sumo.net_files import NetFiles
@@ -118,32 +119,19 @@ def check_planted(program, _):
         yield "no conflict could be invented"
 
 
-def linear(name, down, up, board_down, board_up):
-    """Returns a linear section."""
-    return {"name": name, "kind": "linear", "down": down, "up": up, "board_down": board_down,
-            "board_up": board_up}
-
-
-def point(name, faces, stem, plus, minus):
-    """Returns a point."""
-    return {"name": name, "kind": "point", "faces": faces, "stem": stem, "plus": plus,
-            "minus": minus}
-
-
 # routes from me to a and to b begin alike, over p1 and x; trains of the other direction use x later
-FORK = [linear("e", "p1", None, "me", None), point("p1", "down", "e", "x", "y"),
-        linear("x", "p2", "p1", None, None), point("p2", "down", "x", "a", "b"),
-        linear("a", "p3", "p2", "da", "ma"), linear("b", "p3", "p2", "db", "mb"),
-        point("p3", "up", "z", "a", "b"), linear("z", None, "p3", None, "mz"),
-        linear("y", None, "p1", None, "my")]
+FORK = document([linear("e", "p1", ".", "me", "."), point("p1", "down", "e", "x", "y"),
+                 linear("x", "p2", "p1", ".", "."), point("p2", "down", "x", "a", "b"),
+                 linear("a", "p3", "p2", "da", "ma"), linear("b", "p3", "p2", "db", "mb"),
+                 point("p3", "up", "z", "a", "b"), linear("z", ".", "p3", ".", "mz"),
+                 linear("y", ".", "p1", ".", "my")], [])
 
 
 def check_begin_alike(program, _):
     """Each of several ways that begin alike has its driveway."""
     need_sumo()
-    network = json.dumps({"version": 2, "sections": FORK, "routes": []}).encode()
     with tempfile.TemporaryDirectory(prefix="irv-sumo-") as room:
-        table = json.loads(answer(program, network, "table"))
+        table = json.loads(answer(program, FORK, "table"))
         status, lines, errors = exported(program, room, table, "--compare")
     if status or "10 routes, 10 driveways, 10 routes have a driveway of the same way" not in lines:
         yield f"status {status}: {lines} {errors}"
