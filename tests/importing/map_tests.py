@@ -157,10 +157,11 @@ def check_near(program, _):
     with tempfile.TemporaryDirectory(prefix="irv-import-") as room:
         found, notes = imported(program, room, osm(), "--near=-0.00001,0.004,300")
         nothing, message = imported(program, room, osm(), "--near", "10,10,300")
-        # node 7 is 1.1 km north: the track that leaves the area there and comes back ends there
+        # node 7, between 1 and 2, is outside: the track that leaves the area there and comes back
+        # has two ends there
         around, around_notes = imported(
-            program, room, osm({**LOOP_NODES, "7": (0.01, 0.002)},
-                               {**LOOP_WAYS, "10": ["1", "7", "2"]}), "--near", "0,0.008,1000")
+            program, room, osm({**LOOP_NODES, "7": (0.0012, 0.002)},
+                               {**LOOP_WAYS, "10": ["1", "7", "2"]}), "--near=-0.008,0.002,950")
     if found is None:
         yield notes
         return
@@ -173,7 +174,7 @@ def check_near(program, _):
         yield around_notes
     else:
         ends = sorted(one["object"] for one in around_notes["entries"] if one["kind"] == "end")
-        yield from differences("ends around", ends, ["node 4", "node 7"])
+        yield from differences("ends around", ends, ["node 3", "node 5", "node 7"])
     yield from differences("far away", nothing, None)
     if "no track within 300 m of 10,10" not in message:
         yield f"far away: {message}"
