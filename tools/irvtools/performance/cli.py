@@ -13,6 +13,7 @@ from irvtools.performance.tables import PICTURE, NoPlace, renewed
 PLANTS = ["1", "2", "4", "8", "16", "examples/terminus-throat.json", "s", "2s", "8L", "11L", "2s3L", "bs",
           "sLs", "2b", "b2s3L", "bsbsb"]
 LIMITS = ["seconds=200", "conflicts=200000"]
+REAL = TOP / "out/tables"       # where tests/write_tables writes tables of real stations
 TEXT = TOP / "tools/irvtools/performance/measurements.txt"
 PAGE = TOP / "docs/dev/performance.md"
 PICTURES = TOP / "docs/pictures"
@@ -32,9 +33,15 @@ def parser():
     return line
 
 
+def real_tables():
+    """Returns the files of the tables of real stations that are there."""
+    return [str(path) for path in sorted(REAL.glob("*.json"))]
+
+
 def measure(program, words):
     """Has all measured, shows what is printed as it comes, and keeps it."""
-    command = [str(TOP / "tools/benchmark"), str(program.resolve()), *(words or [*PLANTS, *LIMITS])]
+    words = words or [*PLANTS, *real_tables(), *LIMITS]
+    command = [str(TOP / "tools/benchmark"), str(program.resolve()), *words]
     with subprocess.Popen(command, cwd=TOP, stdout=subprocess.PIPE, text=True) as child:
         lines = []
         for line in child.stdout:
