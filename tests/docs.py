@@ -28,6 +28,7 @@ from pathlib import Path
 
 from tests.support import reached_definitions
 from tests.support import change_lists
+from irvtools.docs.links import REFERENCE, TARGET, with_targets
 from irvtools.paths import TOP
 from tests.support.harness import Test
 
@@ -347,7 +348,12 @@ def see_links(repository, seen):
     """Each link leads somewhere, and what it is called is there."""
     root, names = repository.root, repository.names
     for document in documents(root):
-        for label, target, heading in LINK.findall(FENCE.sub("", read(document))):
+        text = with_targets(FENCE.sub("", read(document)))
+        keys = [key.lower() for key, _ in TARGET.findall(text)]
+        seen.ask(len(set(keys)) == len(keys), f"{document.name}: a key of links has two targets")
+        for key in REFERENCE.findall(text):
+            seen.ask(False, f"{document.name}: the link [{key}] has no target")
+        for label, target, heading in LINK.findall(text):
             if target.startswith("http"):
                 continue
             where = f"{document.name}, the link to {target}"
@@ -592,8 +598,13 @@ CHANGES = {
         see_definitions, "docs/assurance/definition-list.md", r"^(3\. .*: )\d+ lines", r"\g<1>1 lines",
         "tools/definitions --check"),
     "a dead link": (
-        see_links, "docs/reference/model.md", r"\(\.\./\.\./crates/ilk_model/specs/Run\.antt\)",
-        "(../../crates/ilk_model/specs/Runs.antt)", "Runs.antt: it isn't there"),
+        see_links, "docs/reference/model.md", r" \.\./\.\./crates/ilk_model/specs/Run\.antt$",
+        " ../../crates/ilk_model/specs/Runs.antt", "Runs.antt: it isn't there"),
+    "a key with two targets": (
+        see_links, "docs/reference/model.md", r"^\[NR\]: ", "[cr]: ", "a key of links has two targets"),
+    "a link without a target": (
+        see_links, "docs/reference/model.md", r"^\[\w+\]: \.\./\.\./crates/ilk_model/specs/Run\.antt\n", "",
+        "has no target"),
     "a file that isn't there": (
         see_spans, "CONTRIBUTING.md", r"`ilk_model/src/event\.rt`", "`ilk_model/src/events.rt`",
         "`ilk_model/src/events.rt` isn't there"),

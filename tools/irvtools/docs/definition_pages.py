@@ -7,7 +7,6 @@ reading order.
 
 from __future__ import annotations
 
-import re
 import sys
 from pathlib import Path
 
@@ -35,14 +34,14 @@ def short_name(place: Path) -> str:
     return place.stem if place.suffix == ".antt" else place.name
 
 
-def links_by_crate(places: list[Path]) -> str:
-    """Returns the links to these files, each crate named before the first of its files."""
-    words, crate = [], None
+def names_by_crate(places: list[Path]) -> str:
+    """Returns the names of these files, with a link to each crate before the first of its files."""
+    crates: dict[str, list[str]] = {}
     for place in places:
-        link = f"[{short_name(place)}](../../crates/{place})"
-        words.append(link if place.parts[0] == crate else f"`{place.parts[0]}`: {link}")
-        crate = place.parts[0]
-    return ", ".join(words)
+        crates.setdefault(place.parts[0], []).append(short_name(place))
+    return "; ".join(
+        f"[{crate}](../../crates/{crate}): {', '.join(names)}" for crate, names in crates.items()
+    )
 
 
 def hours_of(lines: int) -> str:
@@ -68,7 +67,7 @@ def table_of_steps() -> list[str]:
     for step, listed in STEPS:
         files = [endings.pop(name) for name in listed.split() if name in endings]
         lines = sum(lines_of(places[place]) for place in files)
-        rows.append(f"| {step} | {links_by_crate(files)} | {lines} | {hours_of(lines)} |")
+        rows.append(f"| {step} | {names_by_crate(files)} | {lines} | {hours_of(lines)} |")
     if endings:
         sys.exit(f"tools/definitions: no step of the reading plan has {', '.join(sorted(endings))}")
     return rows
@@ -83,7 +82,8 @@ def reading_plan() -> str:
     return "\n".join(
         [
             f"A strict table needs {whole} lines. {whole - needless} of them, the nine families "
-            "and what only they use, need not be believed.",
+            "and what only they use, need not be believed. Files without an ending are in `specs/`, "
+            "the others in `src/`.",
             "",
             *table_of_steps(),
             "",
@@ -107,19 +107,21 @@ def table_of_files(by_file: dict) -> list[str]:
             for place, items in files
         ]
         lines = sum(lines_of(items) for _, items in files)
-        rows.append(f"| [{crate}](../../crates/{crate}) | {'; '.join(named)} | {lines} |")
+        rows.append(f"| {crate} | {'; '.join(named)} | {lines} |")
     return rows
 
 
-def table_of_crates(by_file: dict) -> list[str]:
-    """Returns a table of crates, with the names of their files."""
-    crates = {}
-    for place, items in by_file.items():
-        crates.setdefault(place.parts[0], []).append((place, lines_of(items)))
-    rows = ["| crate | files | lines |", "|---|---|---|"]
-    for crate, files in crates.items():
-        names = ", ".join(short_name(place) for place, _ in files)
-        rows.append(f"| [{crate}](../../crates/{crate}) | {names} | {lines_of(files)} |")
+def table_of_crates(found: list) -> list[str]:
+    """Returns a table of the parts whose definitions are not named: their crates, with the names of
+    the files."""
+    rows = ["| part | crate | files | lines |", "|---|---|---|---|"]
+    for number, (_, by_file) in enumerate(found, 1):
+        crates = {}
+        for place, items in by_file.items() if number not in NAMED_STAGES else ():
+            crates.setdefault(place.parts[0], []).append((place, lines_of(items)))
+        for crate, files in crates.items():
+            names = ", ".join(short_name(place) for place, _ in files)
+            rows.append(f"| {number} | {crate} | {names} | {sum(lines for _, lines in files)} |")
     return rows
 
 
@@ -134,7 +136,7 @@ def list_page() -> str:
         "assessors.",
         "[Definitions](definitions.md) says which of them an answer needs.",
         "Each definition is in the first part that needs it. Names in italics are files; those "
-        "without an ending are in `specs/`.",
+        "without an ending are in `specs/`. Each crate is a directory of `crates/`.",
         "",
         "The lines are those of definitions, types, traits, constants and of the clauses of `run`. "
         "Comments, imports, empty lines, libraries and ported crates are left out. Parts 2 to 4 "
@@ -142,19 +144,14 @@ def list_page() -> str:
         "",
     ]
     page += [
-        f"{number}. [{title}](#{anchor_of(number, title)}): {count} lines"
-        for number, ((title, _), count) in enumerate(zip(found, counts), 1)
+        f"{number}. {title}: {count} lines. {about}"
+        for number, ((title, _), count, about) in enumerate(zip(found, counts, ABOUT), 1)
     ]
     page += ["", f"In all {sum(counts)} lines."]
-    for number, (title, by_file) in enumerate(found, 1):
-        table = (table_of_files if number in NAMED_STAGES else table_of_crates)(by_file)
-        page += ["", f"## {number}. {title}", "", ABOUT[number - 1], "", *table]
-    return "\n".join(page) + "\n"
-
-
-def anchor_of(number: int, title: str) -> str:
-    """Returns the anchor of a heading."""
-    return re.sub(r"[^\w\- ]", "", f"{number} {title}".lower()).replace(" ", "-")
+    for number in NAMED_STAGES:
+        title, by_file = found[number - 1]
+        page += ["", f"## {number}. {title}", "", *table_of_files(by_file)]
+    return "\n".join([*page, "", "## Other parts", "", *table_of_crates(found)]) + "\n"
 
 
 def plan_page(text: str) -> str:

@@ -16,7 +16,8 @@ from irvtools.docs.qualification import entries_in
 DATA = Path("tools/irvtools/docs/requirements.txt")
 KINDS = ("definitions", "contracts and laws", "tests", "mutants")
 LINK = re.compile(r"\[([^\]]*)\]\(([^)\s#]+)\)")
-RUN = re.compile(r"`tests/run (\w+)`")
+RUN = re.compile(r"`tests/(?:run )?(\w+)`")
+MUTANT = re.compile(r"`(ilk_\w+/(?:mutants|must-fail)/\w+\.edit)`")
 TITLES = {"AS": "Assumptions", "SRAC": "Application conditions", "FM": "Failure modes"}
 
 
@@ -88,19 +89,16 @@ def data_lines(text: str) -> list[Line]:
 
 
 def linked_items(text: str) -> list[Item]:
-    """Returns the items to which a paragraph of the qualification page links."""
+    """Returns the items that a paragraph of the qualification page links to or names in code font."""
     items = []
     for label, target in LINK.findall(text):
         file = target.replace("../../", "", 1)
-        if file.startswith("crates/") and file.endswith(".edit"):
-            items.append(Item("mutants", file, Path(file).stem))
-        elif (
-            file.startswith("crates/") and "/proofs/" not in file and not file.endswith("tests.rt")
-        ):
+        if file.startswith("crates/") and "/proofs/" not in file and not file.endswith("tests.rt"):
             kind = "definitions" if file.endswith(".antt") else "contracts and laws"
             items += [Item(kind, file, name) for name in re.findall(r"`(\w+)`", label)]
         elif file.startswith(("tests/", "crates/")):
             items.append(Item("tests", file))
+    items += [Item("mutants", f"crates/{file}", Path(file).stem) for file in MUTANT.findall(text)]
     return items + [Item("tests", f"tests/run {name}") for name in RUN.findall(text)]
 
 

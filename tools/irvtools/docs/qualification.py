@@ -6,6 +6,7 @@ import re
 from dataclasses import dataclass, field
 from pathlib import Path
 
+from irvtools.docs.links import with_targets
 from irvtools.paths import TOP
 
 PAGE = Path("docs/assurance/qualification.md")
@@ -47,7 +48,7 @@ def entries_in(text: str) -> list[Entry]:
     application condition its first paragraph."""
     found: list[Entry] = []
     inside = False
-    for row in text.splitlines():
+    for row in with_targets(text).splitlines():
         heading, part = HEADING.match(row), FIELD.match(row)
         if row.startswith("#"):
             inside = heading is not None

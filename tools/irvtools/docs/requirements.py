@@ -7,6 +7,7 @@ from dataclasses import dataclass
 from pathlib import Path
 
 from irvtools.docs.evidence import Line
+from irvtools.docs.links import with_targets
 
 MODEL = Path("docs/reference/model.md")
 FORMATS = Path("docs/reference/formats.md")
@@ -63,7 +64,8 @@ def name_of(kind: str, cell: str) -> str:
 def requirements_of(root: Path) -> list[Requirement]:
     """Returns the requirements of the model and the limits of the formats, in order."""
     found = []
-    for header, *rows in tables_in((root / MODEL).read_text(encoding="utf-8")):
+    model = with_targets((root / MODEL).read_text(encoding="utf-8"))
+    for header, *rows in tables_in(model):
         kind = next(
             (first for first, other in TABLES if header[0] == first and other in header), ""
         )

@@ -1,22 +1,27 @@
-"""Writes and checks docs/assurance/traceability.md: evidence of each line, lines of each file."""
+"""Writes and checks docs/assurance/traceability.md, and the CSV file beside it."""
 
 from __future__ import annotations
 
+import csv
+import io
 import re
 import stat
 import sys
 from pathlib import Path
 
 from irvtools.arguments import Parser
-from irvtools.docs.evidence import KINDS, Item, Line, lines_of
+from irvtools.docs.evidence import KINDS, TITLES, Item, Line, lines_of
 from irvtools.docs.qualification import PAGE as QUALIFICATION
 from irvtools.docs.qualification import faults_in
 from irvtools.docs.requirements import SECTIONS, requirement_faults
 from irvtools.paths import TOP
 
 PAGE = Path("docs/assurance/traceability.md")
+ROWS = PAGE.with_suffix(".csv")
 # sections whose definitions are in tables of the model page, beside the requirements
 DEFINED_IN_MODEL = SECTIONS[:-2]
+# sections whose evidence is in the entries of the qualification page
+IN_QUALIFICATION = tuple(TITLES.values())
 # what the code declares, besides definitions
 DECLARED = r"(?:fn|struct|enum|trait|const|type|ensures) {}\b"
 
@@ -53,86 +58,25 @@ def table_of(lines: list[Line]) -> list[str]:
     rows += [f"| line | {' | '.join(kinds)} |", f"|---|{'---|' * len(kinds)}"]
     for line in lines:
         cells = [
-            ", ".join(item.shown() for item in line.of(kind) if item not in shared[kind]) or "–"
+            ", ".join(item.shown() for item in line.of(kind) if item not in shared[kind]) or "-"
             for kind in kinds
         ]
-        name = f"{line.name} (user)" if line.by_user else line.name
-        rows.append(f"| {name} | {' | '.join(cells)} |")
+        rows.append(f"| {line.name} | {' | '.join(cells)} |")
     return rows
 
 
-def place_of(item: Item) -> str:
-    """Returns the file of an item; of a mutant its directory."""
-    return item.file.rpartition("/")[0] if item.kind == "mutants" else item.file
-
-
-def follows(one: str, other: str) -> bool:
-    """Returns whether a name has the other's word and the next number."""
-    (word, number), (next_word, next_number) = (
-        re.fullmatch(r"(.*?)(\d*)", it).groups() for it in (one, other)
-    )
-    return (
-        bool(number and next_number) and word == next_word and int(next_number) == int(number) + 1
-    )
-
-
-def ranges_of(names: list[str]) -> str:
-    """Returns names in one text, three or more that follow each other as in N1–N3."""
-    groups: list[list[str]] = []
-    for name in names:
-        if groups and follows(groups[-1][-1], name):
-            groups[-1].append(name)
-        else:
-            groups.append([name])
-    return ", ".join(
-        f"{group[0]}–{group[-1]}" if len(group) > 2 else ", ".join(group) for group in groups
-    )
-
-
-def short_name(line: Line) -> str:
-    """Returns what the last table calls a line: limits together, exit statuses by their numbers."""
-    if line.section == "Limits":
-        return "limits"
-    return f"exit {line.name.split()[0]}" if line.section == "Exit statuses" else line.name
-
-
-def files_served(lines: list[Line]) -> dict[str, list[str]]:
-    """Returns the lines that each file, directory of mutants or test serves."""
-    served: dict[str, list[str]] = {}
+def rows_of(lines: list[Line]) -> str:
+    """Returns the CSV file: a row for each piece of evidence, with its line and its file."""
+    written = io.StringIO()
+    rows = csv.writer(written, lineterminator="\n")
+    rows.writerow(["section", "line", "kind", "file", "name"])
     for line in lines:
-        for place in dict.fromkeys(place_of(item) for item in line.items):
-            names = served.setdefault(place, [])
-            if short_name(line) not in names:
-                names.append(short_name(line))
-    return served
-
-
-def where_of(place: str) -> tuple[str, str, str]:
-    """Returns the first cell for a place, its sorting key, and its name in the second cell."""
-    parts = place.split("/")
-    if place.startswith("tests/run "):
-        return "`tests/run`", "z", place[10:]
-    if parts[0] == "crates":
-        kind = {"specs": "", "src": "", "proofs": "proofs/"}.get(parts[2], "")
-        return (
-            f"[{parts[1]}](../../crates/{parts[1]})",
-            parts[1],
-            kind + parts[-1].removesuffix(".antt"),
+        rows.writerows(
+            [line.section, line.name, item.kind, item.file, item.name] for item in line.items
         )
-    where = "/".join(parts[:-1])
-    return f"[{where}](../../{where})", f"y{where}", parts[-1]
-
-
-def back_table(lines: list[Line]) -> list[str]:
-    """Returns the table of crates and tests with their files and the lines that each serves."""
-    groups: dict[tuple[str, str], list[str]] = {}
-    for place, names in sorted(files_served(lines).items()):
-        where, key, shown = where_of(place)
-        groups.setdefault((key, where), []).append(f"{shown}: {ranges_of(names)}")
-    rows = ["| where | files, each with the lines that it serves |", "|---|---|"]
-    return rows + [
-        f"| {where} | {'; '.join(found)} |" for (_, where), found in sorted(groups.items())
-    ]
+        if line.by_user:
+            rows.writerow([line.section, line.name, "by the user", "", ""])
+    return written.getvalue()
 
 
 def page_of(root: Path) -> str:
@@ -141,10 +85,11 @@ def page_of(root: Path) -> str:
     page = [
         "# Traceability (generated by tools/traceability: do not edit)",
         "",
-        "It leads from each requirement, command, exit status, tool, assumption, condition and "
-        "failure mode to its evidence, and from each file back, for assessors.",
-        "The last section has the place of each name. There `mutants` and `must-fail` are "
-        "directories, and files without an ending are in `specs/`.",
+        "It leads from each requirement, command, exit status and tool to its evidence, for "
+        "assessors.",
+        "[traceability.csv](traceability.csv), generated too, has a row for each piece of evidence "
+        "with its file, also for assumptions, conditions and failure modes.",
+        "Sort its rows by file to go from a file back to the lines that it serves.",
         "",
         "- Proved is what a definition says. A person judges that it says what the requirement "
         "says ([AS-03](qualification.md#as-03-definitions)).",
@@ -152,17 +97,22 @@ def page_of(root: Path) -> str:
         "([proved](proved.md)).",
         "- A mutant is named for what it does wrong; the prover has to reject it. Without a mutant "
         "of its own, a line depends on the contract only.",
-        "- *(user)* marks a line whose evidence the user has to add.",
-        "- *run NAME* means `tests/run NAME`.",
+        "- *run NAME* means `tests/run NAME`, or the script NAME of `tests/`, outside CI.",
         "- The definitions of requirements, up to the verdicts, are in the tables of "
         "[the model](../reference/model.md).",
         "",
-        "Sources: `tools/irvtools/docs/requirements.txt` and [qualification](qualification.md).",
+        "Sources: `tools/irvtools/docs/requirements.txt` and the qualification page.",
     ]
     for section, found in sections_of(lines).items():
+        if section in IN_QUALIFICATION:
+            continue
         page += ["", f"## {section}", "", *table_of(found)]
-    page += ["", "## Files and the lines they serve", "", *back_table(lines)]
     return "\n".join(page) + "\n"
+
+
+def files_of(root: Path) -> dict[Path, str]:
+    """Returns the page and the CSV file as they should be."""
+    return {PAGE: page_of(root), ROWS: rows_of(lines_of(root))}
 
 
 def declares(path: Path, name: str) -> bool:
@@ -246,20 +196,27 @@ def faults(root: Path = TOP) -> list[str]:
 
 
 def differences(root: Path = TOP) -> list[str]:
-    """Returns each line of the page that is missing or wrong."""
-    now = (root / PAGE).read_text(encoding="utf-8").splitlines() if (root / PAGE).exists() else []
-    wanted = page_of(root).splitlines()
-    found = [f"{PAGE.name}: this line is missing: {line}" for line in wanted if line not in now]
-    found += [f"{PAGE.name}: this line is wrong: {line}" for line in now if line not in wanted]
-    return found or ([f"{PAGE.name}: its lines are in another order"] if now != wanted else [])
+    """Returns each line of the page and of the CSV file that is missing or wrong."""
+    found = []
+    for file, text in files_of(root).items():
+        path = root / file
+        now = path.read_text(encoding="utf-8").splitlines() if path.exists() else []
+        wanted = text.splitlines()
+        wrong = [f"{file.name}: this line is missing: {line}" for line in wanted if line not in now]
+        wrong += [f"{file.name}: this line is wrong: {line}" for line in now if line not in wanted]
+        if not wrong and now != wanted:
+            wrong.append(f"{file.name}: its lines are in another order")
+        found += wrong
+    return found
 
 
 def main(words: list[str]) -> int:
     """Prints, checks or writes the page; returns the exit status."""
     line = Parser(
         "tools/traceability",
-        "Writes docs/assurance/traceability.md, which leads from each requirement, "
-        "condition and tool to its\nevidence and back. Without an option it prints the page.",
+        "Writes docs/assurance/traceability.md and the CSV file beside it, which lead from each "
+        "requirement,\ncondition and tool to its evidence and back. Without an option it prints "
+        "the page.",
         2,
         "tools/traceability [OPTION]",
     )
@@ -269,7 +226,7 @@ def main(words: list[str]) -> int:
             "--check",
             "print lines without evidence, and what is wrong in the page; status 1 if any is",
         ),
-        ("--write", "write the page"),
+        ("--write", "write the page and the CSV file"),
     ):
         kind.add_argument(name, action="store_const", const=name, dest="kind", help=text)
     asked = line.parse_args(words).kind
@@ -278,7 +235,8 @@ def main(words: list[str]) -> int:
         sys.stdout.writelines(f"{fault}\n" for fault in found)
         return 1 if found else 0
     if asked == "--write":
-        (TOP / PAGE).write_text(page_of(TOP), encoding="utf-8")
+        for file, text in files_of(TOP).items():
+            (TOP / file).write_text(text, encoding="utf-8")
     else:
         sys.stdout.write(page_of(TOP))
     return 0

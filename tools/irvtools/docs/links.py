@@ -1,0 +1,17 @@
+"""Reference links of Markdown: `[words][KEY]`, with the target in a line `[KEY]: TARGET`."""
+
+import re
+
+TARGET = re.compile(r"^\[(\w+)\]: (\S+)$", re.M)
+REFERENCE = re.compile(r"\]\[(\w+)\]")
+
+
+def with_targets(text: str) -> str:
+    """Returns a page with its reference links written as `[words](TARGET)`.
+
+    A link whose key has no target stays as it is, so that a check can find it.
+    """
+    targets = dict(TARGET.findall(text))
+    return REFERENCE.sub(
+        lambda link: f"]({targets[link[1]]})" if link[1] in targets else link[0], text
+    )
