@@ -23,7 +23,7 @@ CHANGES, MOST_STEPS, FEWER_CHANGES = 12, 200, 2
 
 # every assignment of two variables breaks a clause
 CNF = "p cnf 2 4\n1 2 0\n1 -2 0\n-1 2 0\n-1 -2 0\n"
-BY_HAND = [
+HANDWRITTEN = [
     ("5 1 0 1 2 0|6 0 5 3 4 0", ""),
     ("7 1 0 1 2 0|9 0 7 3 4 0", ""),
     ("5 1 0 1 2 0|5 d 1 2 0|6 0 5 3 4 0", ""),
@@ -55,7 +55,7 @@ def said_of(formula, proof):
 
 def self_check():
     """What the checker says wrongly of the refutations that were made by hand."""
-    for lines, wanted in BY_HAND:
+    for lines, wanted in HANDWRITTEN:
         said = said_of(CNF, "".join(f"{line}\n" for line in lines.split("|") if line))
         if (wanted not in said) if wanted else said:
             yield f"{lines}: wanted {wanted!r}, said {said!r}"
@@ -145,7 +145,7 @@ class CheckerTests(Test):
 
     def test_self_check(self):
         """The hand-written texts have their answers."""
-        self.see(self_check(), len(BY_HAND))
+        self.see(self_check(), len(HANDWRITTEN))
 
 
 class LratTests(ProgramTest):
