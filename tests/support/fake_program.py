@@ -14,9 +14,9 @@ sys.exit(said.get("status", 0))
 """
 
 
-def program(folder, answers):
-    """A program in a folder that gives each command its answer."""
-    file = Path(folder, "fake")
+def program(directory, answers):
+    """Writes a program into a directory that gives each command its answer; returns its path."""
+    file = Path(directory, "fake")
     file.write_text(FAKE, encoding="utf-8")
     file.chmod(file.stat().st_mode | stat.S_IXUSR)
     Path(f"{file}.json").write_text(json.dumps(answers), encoding="utf-8")
