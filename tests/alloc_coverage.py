@@ -25,7 +25,7 @@ def code(text):
 
 
 def owner_at(text, place):
-    """The type in whose `impl` a place of the text stands; none where it stands in none."""
+    """Returns the type whose `impl` contains a place of the text, or None if none does."""
     owner = None
     for found in IMPL.finditer(text, 0, place):
         ends = text.find("\n}", found.start())
@@ -34,7 +34,7 @@ def owner_at(text, place):
 
 
 def signature(text, place):
-    """What stands from a function's name to its clauses or its body."""
+    """Returns the text from a function's name to its clauses or its body."""
     ends = re.compile(r"\n\s*(?:requires|ensures|where)\b|\{|;").search(text, place)
     return text[place:ends.start() if ends else len(text)]
 

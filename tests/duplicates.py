@@ -23,7 +23,7 @@ REASONS = ("debt", "example", "apart")
 
 
 def found_twice(texts):
-    """What stands more than once in these files: a line for each, in order."""
+    """Returns a line for each duplicate in these files, in order."""
     places = defaultdict(list)
     for item in sources.items(texts):
         places[item.kind, item.text].append(f"{item.file}:{item.name}")
@@ -51,7 +51,7 @@ def still(text, found):
                    if not line or line.startswith("#") or line.split(" ", 1)[1] in found)
 
 
-# Files in which some things stand twice, and what is to be found in them.
+# files with duplicates, and the findings in them
 PLANTED = {
     "crates/a/src/one.rt": """\
 // A line.

@@ -27,7 +27,7 @@ CLAUSE = re.compile(r" *(?:requires|ensures|lends|invariant|ghost)\b(?! use).*\{
 
 
 def place_of(file):
-    """Where a file is counted: its crate, or the folder at the top."""
+    """Returns the crate of a file, or its directory at the top."""
     parts = file.split("/")
     return parts[1] if parts[0] == "crates" else parts[0]
 
@@ -64,8 +64,8 @@ def over_limit(texts):
 
 def scripts_of(root):
     """The files of code in other languages, by their paths from the top, with their texts."""
-    found = [path for folder in ("tools", "tests") for end in ("js", "bash")
-             for path in root.glob(f"{folder}/**/*.{end}")]
+    found = [path for directory in ("tools", "tests") for end in ("js", "bash")
+             for path in root.glob(f"{directory}/**/*.{end}")]
     return {str(path.relative_to(root)): path.read_text(encoding="utf-8") for path in [*found, root / "irv"]}
 
 

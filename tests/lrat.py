@@ -23,7 +23,7 @@ CHANGES, MOST_STEPS, FEWER_CHANGES = 12, 200, 2
 
 # every assignment of two variables breaks a clause
 CNF = "p cnf 2 4\n1 2 0\n1 -2 0\n-1 2 0\n-1 -2 0\n"
-BY_HAND = [
+HANDWRITTEN = [
     ("5 1 0 1 2 0|6 0 5 3 4 0", ""),
     ("7 1 0 1 2 0|9 0 7 3 4 0", ""),
     ("5 1 0 1 2 0|5 d 1 2 0|6 0 5 3 4 0", ""),
@@ -45,7 +45,7 @@ BY_HAND = [
 
 
 def said_of(formula, proof):
-    """What the checker says of a refutation: nothing where it accepts."""
+    """Returns the fault that the checker finds in a refutation, or an empty text."""
     try:
         lrat.check(formula, proof)
         return ""
@@ -54,8 +54,8 @@ def said_of(formula, proof):
 
 
 def self_check():
-    """What the checker says wrongly of the refutations that were made by hand."""
-    for lines, wanted in BY_HAND:
+    """Yields the wrong answers of the checker to the hand-written refutations."""
+    for lines, wanted in HANDWRITTEN:
         said = said_of(CNF, "".join(f"{line}\n" for line in lines.split("|") if line))
         if (wanted not in said) if wanted else said:
             yield f"{lines}: wanted {wanted!r}, said {said!r}"
@@ -113,8 +113,8 @@ def audit_faults(program, conf_file, cert):
     digit = int(text[place:place + 1]) % 9 + 1
     other, none = cert.with_name("other"), cert.with_name("none")
     other.write_bytes(b"%s%d%s" % (text[:place], digit, text[place + 1:]))
-    trials = (cert, 0, b"accepted: safe "), (other, 1, b"refused: "), (none, 2, b"")
-    for file, wanted, beginning in trials:
+    calls = (cert, 0, b"accepted: safe "), (other, 1, b"refused: "), (none, 2, b"")
+    for file, wanted, beginning in calls:
         done = subprocess.run([TOP / "tools/audit", "--program", program, conf_file, file],
                               stdout=subprocess.PIPE, stderr=subprocess.DEVNULL)
         if done.returncode != wanted or not done.stdout.startswith(beginning):
@@ -125,16 +125,16 @@ def plant_faults(program, plant):
     """What is wrong with a plant's queries, how many there are, and how many changes of them were tried
     and refused."""
     with tempfile.TemporaryDirectory(prefix="irv-lrat-") as name:
-        folder = Path(name)
-        (folder / "conf").write_bytes(plant)
-        files = [folder / "conf", folder / "cert"]
-        calls = [[program, "verify", "--cert", folder / "cert"],
-                 [TOP / "tools/lrat", "--program", program, *files, folder / "queries"]]
+        directory = Path(name)
+        (directory / "conf").write_bytes(plant)
+        files = [directory / "conf", directory / "cert"]
+        calls = [[program, "verify", "--cert", directory / "cert"],
+                 [TOP / "tools/lrat", "--program", program, *files, directory / "queries"]]
         for words in calls:
             done = subprocess.run(words, input=plant, stdout=subprocess.PIPE, stderr=subprocess.STDOUT)
             if done.returncode != 0:
                 return [f"{words[0]} ended with {done.returncode}: {done.stdout!r}"], 0, 0, 0
-        found = [query_faults(path) for path in sorted((folder / "queries").glob("*.cnf"))]
+        found = [query_faults(path) for path in sorted((directory / "queries").glob("*.cnf"))]
         faults = list(audit_faults(program, *files))
     faults += [fault for part, _, _ in found for fault in part]
     return faults, len(found), sum(part[1] for part in found), sum(part[2] for part in found)
@@ -145,7 +145,7 @@ class CheckerTests(Test):
 
     def test_self_check(self):
         """The hand-written texts have their answers."""
-        self.see(self_check(), len(BY_HAND))
+        self.see(self_check(), len(HANDWRITTEN))
 
 
 class LratTests(ProgramTest):

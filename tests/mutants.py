@@ -93,11 +93,11 @@ def lay_out(top):
     shutil.copytree(TOP / "tools", top / "tools", ignore=shutil.ignore_patterns("__pycache__"))
 
 
-def write(top, folder="mutants", **edits):
+def write(top, directory="mutants", **edits):
     """Writes edits of `high`, each by its old and its new text."""
-    (top / "crates/high" / folder).mkdir(exist_ok=True)
+    (top / "crates/high" / directory).mkdir(exist_ok=True)
     for name, (old, new) in edits.items():
-        (top / "crates/high" / folder / f"{name}.edit").write_text(
+        (top / "crates/high" / directory / f"{name}.edit").write_text(
             f"file: src/lib.rt\nold: {old}\nnew: {new}\n")
 
 
@@ -136,7 +136,7 @@ def tries_one_function_in_two_checks(top):
 
 
 def tries_apart_what_hides_another(top):
-    """An edit beside which another one's text stands twice has a check of its own."""
+    """An edit whose text is there twice after another edit has a check of its own."""
     write(top, a=FIRST, b=("first() + 1", "wrong + LIMIT"), c=("+ LIMIT", "+ wrong"))
     return call(top)[1:] == (0, ["check first second", "check third"])
 
@@ -173,7 +173,7 @@ def names_gone_show_nothing(top):
 
 
 def reads_what_is_said_of_recursion(top):
-    """The proof files of a function that calls itself stand in a folder with a + before its name."""
+    """The proof files of a function that calls itself are in a directory with a + before its name."""
     write(top, a=("    1", "    itself"))
     lines, status, _ = call(top)
     return (lines[-1], status) == ("1 passed, 0 failed", 0)
@@ -196,7 +196,7 @@ def refuses_what_an_edit_adds(top):
 
 
 def applies_once(top):
-    """An edit whose old text stands twice or nowhere, that changes nothing, or has another line, fails."""
+    """An edit whose old text is there twice or not at all, that changes nothing, or has another line, fails."""
     write(top, a=("u8", "u16"), b=("nowhere", "1"), c=("    1", "    1"), d=("    1", "    wrong\nmore"))
     lines, status, checks = call(top)
     return (status, lines[-1], checks) == (1, "0 passed, 4 failed", [])
@@ -221,7 +221,7 @@ def names_what_there_is(top):
 
 
 def wants_proved_libraries(top):
-    """Where what the crate stands on isn't proved, nothing is refused."""
+    """If a dependency of the crate is not proved, nothing is refused."""
     write(top, a=FIRST)
     (top / "unproved").write_text("")
     lines, status, checks = call(top)
@@ -229,7 +229,7 @@ def wants_proved_libraries(top):
 
 
 def passes_over(top):
-    """With a toolchain whose gate keeps nothing it says so, and fails nothing but what can't be read."""
+    """If CI of the toolchain caches nothing, it says so, and fails only edits that cannot be read."""
     write(top, a=FIRST)
     (top / "old").write_text("")
     lines, status, checks = call(top)
@@ -256,9 +256,9 @@ def add_checks():
     """Adds a test for each check, which returns whether it is well."""
     for check in CHECKS:
         def test(self, check=check):
-            with tempfile.TemporaryDirectory(prefix="irv-mutants-test-") as folder:
-                lay_out(Path(folder))
-                self.assertTrue(check(Path(folder)), check.__doc__)
+            with tempfile.TemporaryDirectory(prefix="irv-mutants-test-") as directory:
+                lay_out(Path(directory))
+                self.assertTrue(check(Path(directory)), check.__doc__)
         test.__doc__ = check.__doc__
         setattr(MutantToolTests, "test_" + check.__name__, test)
 

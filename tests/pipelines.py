@@ -37,19 +37,19 @@ SHOWN_BYTES = 300
 
 
 class Calls:
-    """Calls of the program in a folder, each with files of its own."""
+    """Calls of the program in a directory, each with files of its own."""
 
-    def __init__(self, program, folder):
-        self.program, self.folder = program, folder
+    def __init__(self, program, directory):
+        self.program, self.directory = program, directory
 
     def path(self, name):
         """A file of this thread."""
-        return self.folder / f"{name}-{threading.get_ident()}"
+        return self.directory / f"{name}-{threading.get_ident()}"
 
     def call(self, words, given=b""):
         """The output and the status; the output says it where there was something on standard error."""
         words = [str(word) for word in words]
-        output, errors, status = programs.call(self.program, words, given, self.folder)
+        output, errors, status = programs.call(self.program, words, given, self.directory)
         return output + errors, status
 
     def fault(self, words, given, wanted, status):
@@ -112,7 +112,7 @@ def table_faults(calls, network):
 
 
 def scenes_of(document, seed):
-    """Scenarios by chance: entries at borders and routes marked for the most part, some routes cancelled."""
+    """Returns random scenarios: mostly entries at boundary sections and marked routes, some cancelled routes."""
     chance = random.Random(seed)
     sections = [section["name"] for section in document["sections"]]
     borders = [section["name"] for section in document["sections"]
@@ -207,8 +207,8 @@ class PipelineTests(ProgramTest):
     def test_tasks(self):
         """Each task is well, and drives come to each kind of rest."""
         counted, faults = collections.Counter(), []
-        with tempfile.TemporaryDirectory(prefix="irv-pipelines-") as folder:
-            every = list(tasks(Calls(self.program, Path(folder)), MANY_NETWORKS if self.is_long else NETWORKS,
+        with tempfile.TemporaryDirectory(prefix="irv-pipelines-") as directory:
+            every = list(tasks(Calls(self.program, Path(directory)), MANY_NETWORKS if self.is_long else NETWORKS,
                                counted))
             with ThreadPoolExecutor(AT_ONCE) as pool:
                 for (name, _), found in zip(every, pool.map(lambda task: list(task[1]), every)):

@@ -1,26 +1,25 @@
 """Tests of `rup`: refutations from the steps of certificates, and changes of them.
 
-Each answer has to be what the independent checker of refutations finds. `tests/fuzz_rup` tries many more,
-and what other solvers write.
+Each answer has to be that of the independent checker of refutations. `tests/fuzz_rup` checks many more, and
+refutations of other solvers.
 """
 
+import subprocess
 import tempfile
 from concurrent.futures import ThreadPoolExecutor
 from pathlib import Path
-from tests.support import case_files
-from irvtools.checkers import certificate
-from irvtools.checkers import refutations
-from irvtools.checkers import rup
-from tests.support import handmade_certificates
+
+from irvtools.checkers import certificate, refutations, rup
+from tests.support import case_files, handwritten_certificates
 from tests.support.harness import ProgramTest, Test
 
-# each plant with the number of changes of each of its texts
+# each configuration with the number of changes of each of its texts
 PLANTS = (("line-with-boards", 60), ("platforms", 15), ("station", 15))
 AT_ONCE = 4
 SEED = 33
 
-# texts over the four clauses of two variables, and the first bad item, or none where the text refutes them
-BY_HAND = [
+# texts over the four clauses of two variables, and the first bad item, or None if the text refutes them
+HANDWRITTEN = [
     ("1 0 0", None), ("1 0", None), ("0", 1), ("d 1 2 0 1 0", None), ("1 -1 0 1 0", None), ("", 1),
     ("3 0", 1), ("1 0 2", 2), ("-1 0", None), ("2 0 d 1 2 0 0", None), ("1 1 0", None), ("1 2 0", 2),
     ("1 2 0 1 0", None), ("c 3 0\n1 0", None), ("1 0\nc x", None), ("1 0 0 0 0", None), ("1 0 0 x 0", 3),
@@ -31,18 +30,17 @@ BY_HAND = [
 
 
 def self_check():
-    """What the checker says wrongly of the texts that were made by hand."""
-    for text, wanted in BY_HAND:
-        got = rup.first_bad(*handmade_certificates.TWO, text.encode())
-        if got != wanted:
-            yield f"{text!r}: wanted {wanted}, found {got}"
+    """Yields the wrong answers of the checker to the hand-written texts."""
+    for text, expected in HANDWRITTEN:
+        got = rup.first_bad(*handwritten_certificates.TWO_VARIABLES, text.encode())
+        if got != expected:
+            yield f"{text!r}: expected {expected}, found {got}"
 
 
-def queries_of(program, conf, folder):
-    """The queries of the certificate that verify writes, each with the text of its steps' clauses."""
-    path = folder / "certificate"
-    done = refutations.subprocess.run([str(program), "verify", "--cert", str(path)], input=conf,
-                                      stdout=refutations.subprocess.PIPE)
+def queries_of(program, conf, directory):
+    """Yields the queries of the certificate that verify writes, each with the text of its steps' clauses."""
+    path = directory / "certificate"
+    done = subprocess.run([str(program), "verify", "--cert", str(path)], input=conf, stdout=subprocess.PIPE)
     if done.returncode != 0:
         raise certificate.CertificateError(f"verify ended with {done.returncode}: {done.stdout!r}")
     for kind, number, steps in certificate.read(path.read_bytes())[2]:
@@ -50,7 +48,7 @@ def queries_of(program, conf, folder):
 
 
 def texts_of(text, count):
-    """A text that refutes its formula, changes of it, and how many items of each are known to be right."""
+    """Yields a refutation and its changes, each with the number of items that are known to be right."""
     yield text, 0
     yield b"", 0
     items = text.count(b"\n")
@@ -63,22 +61,22 @@ def texts_of(text, count):
     yield from refutations.changes(text, count, SEED)
 
 
-def plant_faults(program, name, count, folder):
-    """What is answered wrongly to the texts of a plant, and how many there were."""
+def configuration_faults(program, name, count, directory):
+    """Returns the wrong answers to the texts of a configuration, and how many texts there were."""
     conf = (case_files.EXAMPLES / f"{name}.json").read_bytes()
-    asked = refutations.Refutations(program, conf, folder)
-    faults, tried, refuted = [], 0, 0
+    asked = refutations.Refutations(program, conf, directory)
+    faults, checked = [], 0
     with ThreadPoolExecutor(AT_ONCE) as pool:
-        for kind, number, text in queries_of(program, conf, folder):
+        for kind, number, text in queries_of(program, conf, directory):
             texts = list(texts_of(text, count))
             given = pool.map(lambda other: asked.answer(kind, number, other), [other for other, _ in texts])
             for (other, known), got in zip(texts, given):
-                wanted = asked.wanted(kind, number, other, known)
-                tried, refuted = tried + 1, refuted + wanted.startswith("refuted")
-                if wanted != got or (other == text and not wanted.startswith("refuted")):
-                    faults.append(f"{name}, {kind} {number}: wanted {wanted}, answered {got} "
+                expected = asked.expected(kind, number, other, known)
+                checked += 1
+                if expected != got or (other == text and not expected.startswith("refuted")):
+                    faults.append(f"{name}, {kind} {number}: expected {expected}, answered {got} "
                                   f"to {other[-200:]!r}")
-    return faults, tried
+    return faults, checked
 
 
 class CheckerTests(Test):
@@ -86,25 +84,25 @@ class CheckerTests(Test):
 
     def test_self_check(self):
         """The hand-written texts have their answers."""
-        self.see(self_check(), len(BY_HAND))
+        self.see(self_check(), len(HANDWRITTEN))
 
 
 class RupTests(ProgramTest):
-    """The program beside the checker, on changed refutations."""
+    """The program against the checker, on changed refutations."""
 
-    def see_plant(self, name, count):
-        """Compares the answers to the changes of a plant's refutations."""
-        with tempfile.TemporaryDirectory(prefix="irv-rup-") as folder:
-            faults, tried = plant_faults(self.program, name, count, Path(folder))
-        self.see(faults, tried)
+    def see_configuration(self, name, count):
+        """Compares the answers to the changes of a configuration's refutations."""
+        with tempfile.TemporaryDirectory(prefix="irv-rup-") as directory:
+            faults, checked = configuration_faults(self.program, name, count, Path(directory))
+        self.see(faults, checked)
 
 
-def add_plants():
-    """Adds a test for each plant."""
+def add_configurations():
+    """Adds a test for each configuration."""
     for name, count in PLANTS:
         def test(self, name=name, count=count):
-            self.see_plant(name, count)
+            self.see_configuration(name, count)
         setattr(RupTests, "test_" + name.replace("-", "_"), test)
 
 
-add_plants()
+add_configurations()

@@ -45,14 +45,14 @@ exec {program} "$@"
 """
 
 
-def lay_out(folder, program):
+def lay_out(directory, program):
     """Lays out the directory in which the transcripts of a document run: there `./irv` calls the program, and the
     tools that the launcher's options name."""
     for part in PARTS:
-        shutil.copytree(TOP / part, folder / part, ignore=shutil.ignore_patterns("__pycache__"))
-    shutil.copy(TOP / "VERSION", folder / "VERSION")
-    launcher = folder / "irv"
-    launcher.write_text(LAUNCHER.format(here=folder, program=shlex.quote(str(program))))
+        shutil.copytree(TOP / part, directory / part, ignore=shutil.ignore_patterns("__pycache__"))
+    shutil.copy(TOP / "VERSION", directory / "VERSION")
+    launcher = directory / "irv"
+    launcher.write_text(LAUNCHER.format(here=directory, program=shlex.quote(str(program))))
     launcher.chmod(0o755)
 
 
@@ -63,8 +63,8 @@ class ReaderTests(Test):
         """Hand-written documents have as many commands that pass, fail and are skipped."""
         faults = []
         for text, *wanted in HAND_WRITTEN:
-            with tempfile.TemporaryDirectory(prefix="irv-transcripts-") as folder:
-                passed, failed, left_out = transcripts.run(text, folder)
+            with tempfile.TemporaryDirectory(prefix="irv-transcripts-") as directory:
+                passed, failed, left_out = transcripts.run(text, directory)
             if [passed, len(failed), len(left_out)] != wanted:
                 faults.append(f"{text!r}: {passed, failed, left_out}")
         self.see(faults, len(HAND_WRITTEN))
@@ -75,8 +75,8 @@ class TranscriptTests(ProgramTest):
 
     def see_document(self, name):
         """Runs the transcripts of a document."""
-        with tempfile.TemporaryDirectory(prefix="irv-transcripts-") as folder:
-            here = Path(folder) / "irv"
+        with tempfile.TemporaryDirectory(prefix="irv-transcripts-") as directory:
+            here = Path(directory) / "irv"
             here.mkdir()
             lay_out(here, self.program)
             passed, faults, left_out = transcripts.run((TOP / name).read_text(encoding="utf-8"), here)

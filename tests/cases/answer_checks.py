@@ -23,7 +23,7 @@ def columns(case):
     return ["--columns", programs.option(case.words, "--columns", "strict")]
 
 
-def run_faults(program, case, folder, verdict, text):
+def run_faults(program, case, directory, verdict, text):
     """What is wrong with the run's text after a verdict: its beginning and its number of events, and
     what the program's own replay of it shows."""
     lines = text.decode().splitlines()
@@ -35,10 +35,10 @@ def run_faults(program, case, folder, verdict, text):
     steps = int(re.search(r"steps=([0-9]+)", verdict)[1])
     if len(lines) - first - 1 != steps:
         yield f"{steps} steps are told, and the run has {len(lines) - first - 1} events"
-    (folder / "told.run").write_bytes(text)
+    (directory / "told.run").write_bytes(text)
     words = ["replay", *columns(case), "--run", "told.run"]
-    shown, _, status = programs.call(program, words, case.conf, folder)
-    (folder / "told.run").unlink()
+    shown, _, status = programs.call(program, words, case.conf, directory)
+    (directory / "told.run").unlink()
     hazard = verdict.partition(" hazard=")[2]
     wanted = rf"hazard {hazard}\n" if hazard else "no hazard\n"
     if kind_of(verdict) == "not":
@@ -47,7 +47,7 @@ def run_faults(program, case, folder, verdict, text):
         yield f"replay shows {shown!r} with status {status} of the run {text!r}"
 
 
-def verdict_faults(program, case, folder, output, status):
+def verdict_faults(program, case, directory, output, status):
     """What is wrong with the answer to verify."""
     line, _, text = output.partition(b"\n")
     verdict = line.decode()
@@ -57,16 +57,16 @@ def verdict_faults(program, case, folder, output, status):
     if status != STATUS_OF[kind_of(verdict)]:
         yield f"status wanted {STATUS_OF[kind_of(verdict)]}, got {status}"
     if certificate_of(verdict) is None:
-        yield from run_faults(program, case, folder, verdict, text)
+        yield from run_faults(program, case, directory, verdict, text)
     elif text or not output.endswith(b"\n"):
         yield f"stdout has more than the verdict: {text!r}"
 
 
-def certificate_faults(program, case, folder, wanted, text):
+def certificate_faults(program, case, directory, wanted, text):
     """What is wrong with a certificate, by a check of its own over the formulas that the program exports."""
     def formula_of(kind, number):
         words = ["export", *columns(case), "--query", kind, "--number", str(number)]
-        output, errors, status = programs.call(program, words, case.conf, folder)
+        output, errors, status = programs.call(program, words, case.conf, directory)
         if status != 0:
             raise certificate.CertificateError(f"export of {kind} {number}: {errors!r}")
         return dimacs.read(output)
@@ -85,26 +85,26 @@ def content(path):
     return path.read_bytes() if size <= LARGE_FILE else size
 
 
-def files_in(folder):
-    """The files of a case's folder, with their bytes."""
-    return {str(path.relative_to(folder)): content(path) for path in folder.rglob("*") if path.is_file()}
+def files_in(directory):
+    """The files of a case's directory, with their bytes."""
+    return {str(path.relative_to(directory)): content(path) for path in directory.rglob("*") if path.is_file()}
 
 
-def file_faults(program, case, folder, output, before):
+def file_faults(program, case, directory, output, before):
     """What is wrong with the files after a call: there is the certificate, if one is due, and besides
     all is as it was before."""
     wanted = case.certificate
     if case.verdicts:
         wanted = certificate_of(output.partition(b"\n")[0].decode())
-    files, before = files_in(folder), dict(before)
+    files, before = files_in(directory), dict(before)
     if wanted is not None:
         name = programs.option(case.words, "--cert")
         before.pop(name, None)
         if files.pop(name, None) is None:
             yield f"no certificate in {name}"
         else:
-            text = (folder / name).read_bytes()
-            yield from certificate_faults(program, case, folder, wanted, text)
+            text = (directory / name).read_bytes()
+            yield from certificate_faults(program, case, directory, wanted, text)
     for name in sorted(files.keys() | before.keys()):
         if files.get(name) != before.get(name):
             yield f"the file {name} isn't as it was"

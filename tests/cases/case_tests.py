@@ -17,21 +17,21 @@ THREADS = 2
 SHOWN_BYTES = 2000
 
 
-def lay_out(program, case, folder):
-    """Writes a case's files and folders, and makes the calls that come first; answers the files that are
+def lay_out(program, case, directory):
+    """Writes a case's files and directories, and makes the calls that come first; answers the files that are
     there then."""
-    for name in case.folders:
-        (folder / name).mkdir()
+    for name in case.directories:
+        (directory / name).mkdir()
     for name, data in case.files.items():
-        (folder / name).write_bytes(data)
+        (directory / name).write_bytes(data)
     for name, (size, beginning) in case.sparse.items():
-        (folder / name).write_bytes(beginning)
-        os.truncate(folder / name, size)
+        (directory / name).write_bytes(beginning)
+        os.truncate(directory / name, size)
     for words in case.before:
-        output, _, status = programs.call(program, words, case.conf, folder)
+        output, _, status = programs.call(program, words, case.conf, directory)
         if status not in first_lines.STATUS_OF.values():
             raise programs.NoAnswer(f"{shlex.join(words)} ends with {status}: {shown(output)}")
-    return answer_checks.files_in(folder)
+    return answer_checks.files_in(directory)
 
 
 def shown(data):
@@ -41,11 +41,11 @@ def shown(data):
     return repr(data)
 
 
-def answer_faults(program, case, folder, before, output, errors, status):
+def answer_faults(program, case, directory, before, output, errors, status):
     """What is wrong with an answer, and with the files that it left."""
     wanted = [("stderr", case.wanted_stderr(), errors)]
     if case.verdicts:
-        yield from answer_checks.verdict_faults(program, case, folder, output, status)
+        yield from answer_checks.verdict_faults(program, case, directory, output, status)
     elif case.has_formula:
         yield from answer_checks.formula_faults(case, output)
     else:
@@ -55,19 +55,19 @@ def answer_faults(program, case, folder, before, output, errors, status):
             yield f"{what} wanted {shown(right)}\n    {what} got    {shown(got)}"
     if case.status is not None and status != case.status:
         yield f"status wanted {case.status}, got {status}"
-    yield from answer_checks.file_faults(program, case, folder, output, before)
+    yield from answer_checks.file_faults(program, case, directory, output, before)
 
 
 def fault_of(program, case):
     """What a case's call did wrong, or nothing."""
     with tempfile.TemporaryDirectory(prefix="irv-case-") as name:
-        folder = Path(name)
+        directory = Path(name)
         conf = None if case.conf_is_folder else case.conf
         try:
-            before = lay_out(program, case, folder)
-            answer = programs.call(program, case.words, conf, folder,
+            before = lay_out(program, case, directory)
+            answer = programs.call(program, case.words, conf, directory,
                                    case.memory_mebibytes, case.output_is_full, case.closed)
-            faults = list(answer_faults(program, case, folder, before, *answer))
+            faults = list(answer_faults(program, case, directory, before, *answer))
         except programs.NoAnswer as fault:
             faults = [str(fault)]
     return "\n".join(f"    {fault}" for fault in faults)

@@ -6,7 +6,7 @@ import re
 from irvtools.generators import configurations
 from irvtools.calls import first_lines
 from tests.support import program
-from tests.support import handmade_certificates
+from tests.support import handwritten_certificates
 from tests.support.case_files import EXAMPLES, STATUSES, CaseError
 
 RULES = ["F1", "F2", "F3", "F4", "F5", "F6",
@@ -118,6 +118,6 @@ def check(cases):
         text = path.read_text(encoding="ascii")
         if not (text.startswith("run 1\n") and text.endswith("\nend\n")):
             raise CaseError(f"{path}: no run's text")
-    told = handmade_certificates.check_all()
+    told = handwritten_certificates.check_all()
     return (f"{len(cases)} cases, {len(plants)} plants and {len(runs)} runs are well formed; "
             f"{told} certificates are told apart"), len(cases) + len(plants) + len(runs) + told

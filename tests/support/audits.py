@@ -1,79 +1,85 @@
 """Certificates that verify wrote, and the program's own audits of changes of them."""
 
+from __future__ import annotations
+
 import functools
 import os
 import subprocess
 import threading
+from pathlib import Path
+from typing import Iterable, Iterator
 
-from irvtools.checkers import exported
+from irvtools.checkers import compiled, exported
 from tests.support import certificate_changes
-from irvtools.checkers import compiled
 
 STATUS_OF = {"accepted": 0, "rejected": 6}
 SHOWN_BYTES = 120
 
 
 class AuditError(Exception):
-    """A certificate that wasn't written: the message says what came in its place."""
+    """verify wrote no certificate; the message says what it answered."""
 
 
 class Audit:
-    """A configuration with its certificate, in a folder. Where a judge is named, the compiled twin of
-    certificate.py, that says what has to be answered."""
+    """A configuration with its certificate, and a directory for files.
 
-    def __init__(self, program, conf, folder, judge=None):
-        self.program, self.conf, self.folder = program, conf, folder
+    If `judge` is the path of the compiled checker, that gives the expected answers, otherwise
+    certificate.py."""
+
+    def __init__(self, program, conf: bytes, directory: Path, judge: Path | None = None) -> None:
+        self.program, self.conf, self.directory = program, conf, directory
         self.formula_of = functools.lru_cache(None)(exported.formulas_of(program, conf, "strict"))
-        self.twin = judge and compiled.CertificateTwin(
-            judge, folder, lambda kind, number: exported.text_of(program, conf, "strict", kind, number))
-        (folder / "plant").write_bytes(conf)
-        done = self.call("verify", folder / "certificate")
+        self.compiled = judge and compiled.CompiledCertificateChecker(
+            judge, directory, lambda kind, number: exported.text_of(program, conf, "strict", kind, number))
+        (directory / "plant").write_bytes(conf)
+        done = self.call("verify", directory / "certificate")
         if done.returncode != 0:
             raise AuditError(f"verify ended with {done.returncode}: {done.stdout!r} {done.stderr!r}")
-        self.certificate = (folder / "certificate").read_bytes()
+        self.certificate = (directory / "certificate").read_bytes()
 
-    def call(self, command, path):
+    def call(self, command: str, path: Path) -> subprocess.CompletedProcess:
         """Calls the program with a certificate's file."""
         return subprocess.run([str(self.program), command, "--cert", str(path)], input=self.conf,
                               stdout=subprocess.PIPE, stderr=subprocess.PIPE)
 
-    def wanted(self, text):
-        """What has to be answered to a text."""
+    def expected(self, text: bytes) -> str:
+        """Returns what certificate.py answers to a text."""
         return certificate_changes.answer(self.certificate, text, self.formula_of)
 
-    def file_of(self, text, number=0):
-        """A file with a text, of this number among those of this thread."""
-        path = self.folder / f"changed-{os.getpid()}-{threading.get_ident()}-{number}"
+    def file_of(self, text: bytes, number: int = 0) -> Path:
+        """Writes a text to the file of this number of this thread; returns its path."""
+        path = self.directory / f"changed-{os.getpid()}-{threading.get_ident()}-{number}"
         path.write_bytes(text)
         return path
 
-    def answer(self, text):
-        """What the program answers to a text."""
+    def answer(self, text: bytes) -> str:
+        """Returns what the program answers to a text."""
         return self.answer_to(self.file_of(text))
 
-    def answer_to(self, path):
-        """What the program answers to a file: the line, or what there is in its place."""
-        with open(self.folder / "plant", "rb") as given, open(path.with_name(f"{path.name}-errors"), "w+b") as told:
+    def answer_to(self, path: Path) -> str:
+        """Returns the line that the program answers to a file, or what came instead."""
+        with open(self.directory / "plant", "rb") as given, open(path.with_name(f"{path.name}-errors"), "w+b") as log:
             done = subprocess.run([str(self.program), "audit", "--cert", str(path)], stdin=given,
-                                  stdout=subprocess.PIPE, stderr=told)
-            told.seek(0)
-            errors = told.read()
+                                  stdout=subprocess.PIPE, stderr=log)
+            log.seek(0)
+            errors = log.read()
         said = done.stdout.decode(errors="replace")
         if errors or done.returncode != STATUS_OF.get(said.partition(" ")[0]) or said[-1:] != "\n":
             return f"status {done.returncode}, {said!r} and {errors!r}"
         return said[:-1]
 
-    def judged(self, texts):
-        """What has to be answered to each of some texts, and what the program answers."""
+    def compared(self, texts: Iterable[bytes]) -> Iterator[tuple[str, str]]:
+        """Yields for each text the expected answer and that of the program."""
+        texts = list(texts)
         paths = [self.file_of(text, number) for number, text in enumerate(texts)]
-        wanted = self.twin.audited(paths) if self.twin else map(self.wanted, texts)
-        return zip(wanted, map(self.answer_to, paths))
+        expected = self.compiled.audited(paths) if self.compiled else map(self.expected, texts)
+        return zip(expected, map(self.answer_to, paths))
 
-    def fault(self, text, wanted, got):
-        """A sentence of a wrong answer, with what was changed."""
+    def fault(self, text: bytes, expected: str, got: str) -> str:
+        """Returns a sentence about a wrong answer, with what was changed."""
         known = certificate_changes.known_lines(self.certificate, text)
         lines = text.split(b"\n")[known:known + 2]
         before = self.certificate.split(b"\n")[known:known + 2]
         shown = [[line[:SHOWN_BYTES] for line in some] for some in (before, lines)]
-        return (f"wanted {wanted}, answered {got}, found {self.wanted(text)}; from line {known + 1} on "
-                f"{shown[0]!r} is {shown[1]!r}")
+        return (f"expected {expected}, answered {got}, certificate.py answers {self.expected(text)}; from line "
+                f"{known + 1} on {shown[0]!r} became {shown[1]!r}")

@@ -37,7 +37,7 @@ class Case:
         self.closed = []
         self.memory_mebibytes = None
         self.files = {}
-        self.folders = []
+        self.directories = []
         self.sparse = {}
         self.stdout = None
         self.stderr = None
@@ -180,7 +180,7 @@ def apply_key(case, key, value, block):
     if word == "file" and rest:
         case.files[rest] = given_bytes(value, block)
     elif word == "folder" and rest:
-        case.folders.append(rest)
+        case.directories.append(rest)
     elif word == "sparse" and rest:
         case.sparse[rest] = sparse_file(value)
     elif key not in KEYS:

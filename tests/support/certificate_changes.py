@@ -1,12 +1,14 @@
 """Changes of a certificate, and what an audit has to answer to each.
 
-What is answered to a change is worked out by `certificate.audited`, which shares nothing with the
-program but the formulas. Lines that stand at the beginning of the certificate too were audited with it,
-and aren't asked again whether they follow.
+The expected answers are those of `certificate.audited`, which shares only the formulas with the program. It
+does not derive again the first lines that a change leaves as they are.
 """
+
+from __future__ import annotations
 
 import random
 import re
+from typing import Iterator
 
 from irvtools.checkers import certificate
 
@@ -16,24 +18,24 @@ NUMBER = re.compile(rb"[0-9]+")
 
 
 def queries(lines):
-    """The places of the lines of queries."""
+    """Returns the indices of the lines that begin a query."""
     return [place for place, line in enumerate(lines) if line.startswith(b"query ")]
 
 
-def other_bytes(text, place, count, chance):
-    """The text with one byte changed, in so many ways."""
+def other_bytes(text: bytes, place: int, count: int, chance: random.Random) -> Iterator[bytes]:
+    """Yields the text with the byte at `place` changed, in `count` ways."""
     others = [byte for byte in BYTES if byte != text[place]]
     for byte in chance.sample(others, min(count, len(others))):
         yield text[:place] + bytes([byte]) + text[place + 1:]
 
 
-def put(lines, first, after, *new):
-    """The text of these lines, with others in place of those from one place up to another."""
+def put(lines: list[bytes], first: int, after: int, *new: bytes) -> bytes:
+    """Returns the text of these lines, with `new` instead of those from `first` to before `after`."""
     return b"".join(line + b"\n" for line in [*lines[:first], *new, *lines[after:]])
 
 
 def number_somewhere(text, chance):
-    """A number of a text, that in which a place by chance lies, or the next."""
+    """Returns the match of the number at or after a random place of a text."""
     at = chance.randrange(len(text))
     while at > 0 and text[at - 1:at].isdigit():
         at -= 1
@@ -41,7 +43,7 @@ def number_somewhere(text, chance):
 
 
 def number_changed(text, chance):
-    """A number somewhere is another one."""
+    """Changes a random number."""
     at = number_somewhere(text, chance)
     value = int(at[0]) + chance.choice([-10, -2, -1, 1, 2, 10])
     new = chance.choice([value, int(number_somewhere(text, chance)[0]), 0, 2 ** 64, -int(at[0])])
@@ -49,7 +51,7 @@ def number_changed(text, chance):
 
 
 def word_changed(text, chance):
-    """A word of a line is left out, doubled, or goes to another place of it."""
+    """Leaves out, doubles or moves a word of a random line."""
     lines = text.split(b"\n")[:-1]
     at = chance.randrange(len(lines))
     words = lines[at].split(b" ")
@@ -64,7 +66,7 @@ def word_changed(text, chance):
 
 
 def lines_changed(text, chance):
-    """A line is left out, doubled, or changes places with another; or a part is left out."""
+    """Leaves out, doubles, copies or swaps random lines."""
     lines = text.split(b"\n")[:-1]
     one, other = sorted(chance.randrange(len(lines)) for _ in range(2))
     kind = chance.randrange(5)
@@ -80,8 +82,8 @@ def lines_changed(text, chance):
     return put(swapped, one, one + 1, lines[other])
 
 
-def bytes_changed(text, chance):
-    """A byte is another one, is left out, or comes in; or the text ends there."""
+def bytes_changed(text: bytes, chance: random.Random) -> bytes:
+    """Changes, leaves out or adds a random byte, or cuts the text there."""
     at = chance.randrange(len(text))
     kind = chance.randrange(4)
     if kind == 0:
@@ -93,8 +95,8 @@ def bytes_changed(text, chance):
     return text[:at]
 
 
-def at_random(text, count, seed):
-    """So many changes, by chance, but the same for each call: one, or two of them together."""
+def at_random(text: bytes, count: int, seed: int) -> Iterator[bytes]:
+    """Yields `count` texts with one or two random changes, the same for the same seed."""
     chance = random.Random(seed)
     kinds = (bytes_changed, bytes_changed, number_changed, number_changed, word_changed, lines_changed)
     for _ in range(count):
@@ -105,16 +107,16 @@ def at_random(text, count, seed):
         yield other
 
 
-def cuts(text):
-    """The text cut at less than 100 bytes, and at the greatest lengths, with the answer to each: the
-    line in which it ends is bad."""
+def cuts(text: bytes) -> Iterator[tuple[bytes, str]]:
+    """Yields the text cut at the 100 smallest and greatest lengths, each with its answer: the last line is
+    rejected."""
     lengths = [*range(NAMED_CUTS), *range(max(NAMED_CUTS, len(text) - NAMED_CUTS), len(text))]
     for length in lengths:
         yield text[:length], f"rejected line {text[:length].count(10) + 1}"
 
 
-def named(text):
-    """Changes of a certificate for k = 1 whose answers are plain, with these."""
+def named(text: bytes) -> Iterator[tuple[bytes, str]]:
+    """Yields changes of a certificate for k = 1 whose answers are plain, with these answers."""
     lines = text.split(b"\n")[:-1]
     last = queries(lines)[-1]
     second = queries(lines)[1]
@@ -142,8 +144,8 @@ def named(text):
     yield put(lines, last, len(lines) - 1), f"rejected line {last + 1}"
 
 
-def known_lines(text, other):
-    """How many lines a changed text has as the certificate has them, from the first."""
+def known_lines(text: bytes, other: bytes) -> int:
+    """Returns how many first lines two texts share."""
     count = 0
     for one, two in zip(text.split(b"\n")[:-1], other.split(b"\n")[:-1]):
         if one != two:
@@ -152,6 +154,6 @@ def known_lines(text, other):
     return count
 
 
-def answer(text, other, formula_of):
-    """What an audit has to answer to a change of a certificate."""
+def answer(text: bytes, other: bytes, formula_of) -> str:
+    """Returns what an audit has to answer to a change of a certificate."""
     return certificate.audited(other, formula_of, known_lines(text, other))

@@ -45,7 +45,7 @@ WITNESSES = (
 
 
 def list_of(page, heading):
-    """The text of a list: what stands below its heading, up to the next one."""
+    """Returns the text of a list: the lines below its heading, up to the next one."""
     found = re.search(rf"^#+ {re.escape(heading)}$\n((?:(?!#).*\n)*)", page, re.M)
     return found[1] if found else None
 
@@ -59,7 +59,7 @@ def texts_of(root):
 
 
 def named_in(text, places):
-    """The files and folders that a list names; `places` gives for a line what finds them. A folder has a
+    """The files and directories that a list names; `places` gives for a line what finds them. A directory has a
     slash, without which it is a crate that is spoken of."""
     found = set()
     for line in text.splitlines():

@@ -1,14 +1,4 @@
-"""A scenario run to its rest, by the page's own model of events, which shares nothing with the program.
-
-    support/drive_model.py CONFIGURATION SCENARIO
-
-prints what `irv drive --columns free` has to answer to a scenario of the right form.
-"""
-
-import json
-import sys
-from pathlib import Path
-
+"""An independent implementation of `irv drive --columns free`, by the model of events in `irvtools.model`."""
 
 from irvtools.model.events import EVENTS, hazard
 from irvtools.model.plant import Plant
@@ -20,7 +10,7 @@ STATUS_OF = {DRIVEN: 0, HAZARD: 1, STUCK: 6}
 
 
 def by_itself(plant, state):
-    """Does the first automatic event that is enabled, and answers it; None where none is."""
+    """Does the first automatic event that is enabled, and returns it, or None if none is."""
     for word in AUTOMATIC:
         numbers = range(len(plant.routes if word in ROUTE_WORDS else plant.sections))
         for number in numbers:
@@ -30,7 +20,7 @@ def by_itself(plant, state):
 
 
 def drive(plant, commands):
-    """The events of a drive, and how it rests: the kind and the words that say it."""
+    """Returns the events of a drive, the kind of its end and the words for it."""
     state, done, at = State(plant), [], 0
     while True:
         found = hazard(plant, state)
@@ -49,21 +39,12 @@ def drive(plant, commands):
 
 
 def answer(document, lines):
-    """What drive answers to these commands' lines: the kind of its rest, and the whole text."""
+    """Returns the kind of the end and the whole answer of drive to the lines of these commands."""
     plant = Plant(document)
     events, kind, words = drive(plant, [read_event(plant, line) for line in lines])
     return kind, f"{words} steps={len(events)}\n{run_text(plant, events)}"
 
 
 def scene(lines):
-    """The text of a scenario of these commands."""
+    """Returns the text of a scenario of these commands."""
     return "".join(f"{line}\n" for line in ["drive 1", *lines, "end"])
-
-
-def main():
-    """Reads the two files, and prints the answer."""
-    if len(sys.argv) != 3:
-        sys.exit(__doc__.strip())
-    document = json.loads(Path(sys.argv[1]).read_text())
-    lines = Path(sys.argv[2]).read_text().splitlines()[1:-1]
-    print(answer(document, lines)[1], end="")

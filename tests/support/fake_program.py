@@ -16,10 +16,10 @@ sys.exit(said.get("status", 0))
 """
 
 
-def program(folder, answers):
-    """Writes a program into a directory that gives each command its answer. `writes` is what it writes into the
-    file of --cert before it sleeps."""
-    file = Path(folder, "fake")
+def program(directory, answers):
+    """Writes a program into a directory that gives each command its answer; returns its path. `writes` is what it
+    writes into the file of --cert before it sleeps."""
+    file = Path(directory, "fake")
     file.write_text(FAKE, encoding="utf-8")
     file.chmod(file.stat().st_mode | stat.S_IXUSR)
     Path(f"{file}.json").write_text(json.dumps(answers), encoding="utf-8")

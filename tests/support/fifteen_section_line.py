@@ -8,7 +8,7 @@
 S10 and S8 stand at U3 and L1 for trains that run down, S5 and S7 for trains that run up; S6, S4 and S2
 stand at D3, D4 and D5 for trains that run down. No route begins at X1 (D1, up) and X2 (U5, down).
 
-Each fault says which rule it breaks, and whether it makes a hazard possible: both are worked out by
+Each fault says which rule it breaks, and whether it makes a hazard possible: both are derived by
 hand. A fault of C4, C5, C6 or C8 makes none, since locks hold.
 """
 

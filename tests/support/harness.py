@@ -1,4 +1,4 @@
-"""What all tests share: what they are called with, and functions as test cases."""
+"""The classes of tests, the settings of the runner, and functions as test cases."""
 
 from __future__ import annotations
 
@@ -10,12 +10,12 @@ from typing import Callable, Iterable
 
 from irvtools.paths import PROGRAM
 
-SHOWN = 12              # faults of a test that are shown
+SHOWN = 12              # a failed test shows this many faults
 
 
 @dataclass
 class Settings:
-    """What the runner was called with: the program, and whether tests that take long are wanted."""
+    """The arguments of the runner: the program, and whether long tests run."""
 
     program: Path = PROGRAM
     is_long: bool = False
@@ -30,8 +30,8 @@ class Test(unittest.TestCase):
     needs_program = False
     checks = 1
 
-    def see(self, faults: Iterable[object], checks: int | None = 1) -> None:
-        """Fails with these faults, if there are any; `checks` is how many checks were made."""
+    def see(self, faults: Iterable[object], checks: int = 1) -> None:
+        """Fails with these faults if there are any. `checks` is how many checks were made."""
         found = list(faults)
         self.checks = checks
         if found:
@@ -51,22 +51,22 @@ class ProgramTest(Test):
 
     @property
     def is_long(self) -> bool:
-        """Whether tests that take long are wanted."""
+        """Whether long tests run."""
         return SETTINGS.is_long
 
 
 class LongTest(ProgramTest):
-    """A test that takes long: it runs only if that is wanted."""
+    """A long test, which runs only with --long."""
 
-    def setUp(self):
+    def setUp(self) -> None:
         """Skips the test unless --long is given."""
         if not SETTINGS.is_long:
             self.skipTest("takes long; --long runs it")
 
 
 def test_case(name: str, functions: Iterable[Callable], base: type = ProgramTest) -> type:
-    """Returns a test case class with a method for each function `check_..`, which takes the program and
-    whether long tests are wanted, and yields what is wrong."""
+    """Returns a test case class with a method for each function `check_..`. Such a function takes the program
+    and whether long tests run, and yields faults."""
     def method(function):
         def test(self):
             self.see(function(SETTINGS.program, SETTINGS.is_long))

@@ -1,7 +1,10 @@
-"""A second hunt, apart from the tool's: random runs over the model of events that the page draws by, with
-a few routes and borders by chance and with other weights. It is slow, and knows nothing of which routes
-have to do with each other. What it finds tells that a table is unsafe.
+"""An independent random search, which shares only the model of events with `tools/search`.
+
+It takes random runs over a few random routes and boundary sections, with other weights. It is slow, and does not
+know which routes affect each other. A run that it finds shows that a table is unsafe.
 """
+
+from __future__ import annotations
 
 import random
 import time
@@ -15,8 +18,8 @@ NEXT = {"free": ("mark",), "marked": ("allocate", "cancel"), "allocating": ("loc
 SELDOM = ("cancel",)    # tried at one turn in ten
 
 
-def plain_hunt(plant, seed, seconds):
-    """A run to a hazard, or None after so many seconds."""
+def plain_search(plant, seed: int, seconds: float) -> list | None:
+    """Returns a run to a hazard, or None if none was found in so many seconds."""
     chance, end = random.Random(seed), time.monotonic() + seconds
     while time.monotonic() < end:
         run = a_walk(plant, chance)
@@ -26,7 +29,7 @@ def plain_hunt(plant, seed, seconds):
 
 
 def a_walk(plant, chance):
-    """A random run, where it ends in a hazard."""
+    """Returns a random run if it ends in a hazard, otherwise None."""
     routes = chance.sample(range(len(plant.routes)), min(len(plant.routes), chance.randint(2, 9)))
     borders = chance.sample(list(plant.inward), chance.randint(1, min(len(plant.inward), 4)))
     state, run = State(plant), []
@@ -47,7 +50,7 @@ def a_walk(plant, chance):
 
 
 def events_of(plant, state, routes, borders):
-    """What may be enabled."""
+    """Returns the events that may be enabled."""
     found = [(word, r) for r in routes for word in NEXT[state.mode[r]]]
     found += [("settle" if state.at[x] == "moving" else "throw", x) for x in plant.points
               if state.at[x] != state.to[x]]

@@ -10,9 +10,9 @@ class NoAnswer(Exception):
     """A call that didn't end, or didn't begin: the message says which."""
 
 
-def call(program, words, conf, folder, memory_mebibytes=None, output_is_full=False, closed=()):
-    """Calls the program in a folder: its output, its standard error, its status. The configuration
-    is bytes, or none where standard input is to be a folder. The standard streams of these numbers
+def call(program, words, conf, directory, memory_mebibytes=None, output_is_full=False, closed=()):
+    """Calls the program in a directory: its output, its standard error, its status. The configuration
+    is bytes, or None if standard input is to be a directory. The standard streams of these numbers
     are closed."""
     command = [str(program), *words]
     if closed:
@@ -20,9 +20,9 @@ def call(program, words, conf, folder, memory_mebibytes=None, output_is_full=Fal
     if memory_mebibytes is not None:
         limited = f'ulimit -v {memory_mebibytes * 1024} && exec "$0" "$@"'
         command = ["sh", "-c", limited, *command]
-    options = {"cwd": folder, "stderr": subprocess.PIPE, "timeout": TIMEOUT_SECONDS}
+    options = {"cwd": directory, "stderr": subprocess.PIPE, "timeout": TIMEOUT_SECONDS}
     output = open("/dev/full", "wb") if output_is_full else subprocess.PIPE
-    source = os.open(folder, os.O_RDONLY) if conf is None else None
+    source = os.open(directory, os.O_RDONLY) if conf is None else None
     given = {"input": conf} if source is None else {"stdin": source}
     try:
         done = subprocess.run(command, stdout=output, **given, **options)

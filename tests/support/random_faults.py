@@ -1,7 +1,7 @@
-"""Single faults that are put into a table by chance, and what protects its routes.
+"""Random single faults in a table, and random protection of its routes.
 
-Each function changes a document in place, and answers in words what it changed, or None where it found
-nothing to change. It takes a route's number or picks one by chance.
+Each function changes a random place of a document, and returns in words what it changed, or None if it found
+nothing to change.
 """
 
 import copy
@@ -18,7 +18,7 @@ def boards_of(document):
 
 
 def a_route(document, chance, wanted=lambda route: True):
-    """A route by chance, of those that have what is wanted."""
+    """Returns a random route that satisfies `wanted`, or None if there is none."""
     found = [route for route in document["routes"] if wanted(route)]
     return chance.choice(found) if found else None
 
@@ -117,17 +117,17 @@ FAULTS = {"turned": turned, "not listed": not_listed, "skipped": skipped, "cut":
 
 
 def with_fault(document, kind, chance):
-    """A document with a fault, and the words of it; None where there is nothing to change."""
+    """Returns a document with a fault, and the words about it; None if there is nothing to change."""
     document = copy.deepcopy(document)
     words = FAULTS[kind](document, chance)
     return words and (document, words)
 
 
-# -- what protects routes
+# -- protection of routes
 
 def with_protection(document, chance):
-    """A document in which some routes have an overlap, protecting boards and protecting points, as
-    they may have them by the rules."""
+    """Returns a document in which some routes have an overlap, protecting boards and protecting points that
+    keep the rules."""
     document = copy.deepcopy(document)
     sections = {section["name"]: section for section in document["sections"]}
     boards = boards_of(document)
@@ -143,7 +143,7 @@ def with_protection(document, chance):
 
 
 def give_overlap(route, sections, boards, chance):
-    """Gives a route the section behind its end as its overlap, at times."""
+    """Sometimes gives a route the section after its end as its overlap."""
     way = boards[route["source"]][1]
     last = sections[route["path"][-1]]
     if chance.random() < 0.7 or last["kind"] == "point" or last[way] is None:
@@ -158,7 +158,7 @@ def give_overlap(route, sections, boards, chance):
 
 
 def give_points(route, sections, chance):
-    """Gives a route points beside its path, in a position that leads away from it, at times."""
+    """Sometimes gives a route the points next to its path, in a position that leads away from it."""
     used = route["path"] + route["overlap"]
     for name in used:
         for beside in (sections[name].get(end) for end in ("down", "up", "stem", "plus", "minus")):

@@ -1,4 +1,4 @@
-"""Networks by chance, of which no rule N is broken, and the same for each call.
+"""Random networks that break no rule N, the same at each call.
 
 A network grows from its lower borders: an open end gets a linear section or a point that parts into two
 ends, or two ends come together at a point. Then each end is closed by a border, the sections are put
@@ -30,7 +30,7 @@ class Growing:
         self.add(configurations.linear("", ".", ".", ".", "."), "up")
 
     def taken(self, *others):
-        """An open end by chance, of another section than these; it isn't open any more."""
+        """Returns a random open end of a section other than these, which is closed then."""
         ends = [end for end in self.open if end[0] not in others]
         end = self.chance.choice(ends)
         self.open.remove(end)
@@ -73,7 +73,7 @@ class Growing:
 
 def put_boards(sections, chance, share, strict):
     """Boards where a linear section has a neighbour on that side: at each border for the trains that come
-    in there, where it is strict; else by chance."""
+    in there, where it is strict; otherwise at random."""
     for number, section in enumerate(sections):
         if section["kind"] == "point":
             continue

@@ -1,4 +1,4 @@
-"""Runs and states by chance, for comparing the page's models of events with each other and with
+"""Random runs and states, for comparing the page's models of events with each other and with
 `irv replay`.
 """
 
@@ -11,7 +11,7 @@ from irvtools.search.random_run import Walk
 
 
 def a_walk(plant, chance):
-    """A random run as the hunt makes them, up to its first hazard."""
+    """Returns a random run of the random search, up to its first hazard."""
     relations = Relations(Facts(plant))
     walk = Walk(relations, chance, Crew(relations, chance, relations.suspects, 3))
     walk.to_hazard(chance.randint(1, 90))

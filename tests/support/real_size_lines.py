@@ -1,4 +1,4 @@
-"""Lines of real size for the hunt: single and double tracks with passing loops, crossovers, ladders and
+"""Lines of real size for the random search: single and double tracks with passing loops, crossovers, ladders and
 a terminus, drawn from the lower end up, track by track. `irv table` gives them their routes.
 
 Tracks are numbered; each has an open end, behind which the next piece goes.

@@ -1,7 +1,8 @@
 """The runner of all tests: finds them, runs them in parallel, and counts what they checked.
 
-A test's name is its module below `tests/`, without `_tests`, and its method, as `html.advice.asks`. Tests of
-one module run one after the other if the module has something to take down, otherwise each by itself."""
+A test's name is its module below `tests/`, without `_tests`, and its method, as `html.advice.asks`. Each test runs
+in a process of its own. If a module has a `tearDownModule`, its tests share one process and run one after the
+other. Modules with `TAKES_LONG = True` start first."""
 
 from __future__ import annotations
 
@@ -15,6 +16,7 @@ import traceback
 import unittest
 from dataclasses import dataclass
 from multiprocessing import connection
+from typing import Iterable, Iterator
 
 from irvtools.arguments import Parser, whole_number
 from irvtools.paths import PROGRAM, TOP
@@ -26,7 +28,7 @@ PASSED, FAILED, SKIPPED = "passed", "FAILED", "skipped"
 
 @dataclass
 class Outcome:
-    """What came of a test: its name, whether it passed, how many checks it made, why it did not pass."""
+    """The result of a test: its name, whether it passed, how many checks it made, and why it did not pass."""
 
     name: str
     result: str
@@ -37,7 +39,7 @@ class Outcome:
 
 
 def test_modules() -> list[str]:
-    """Returns the modules of tests: those of `tests/` but its support and this directory's scripts."""
+    """Returns the names of the test modules: `tests/*.py` and `tests/SUBJECT/*_tests.py`."""
     files = [path for path in sorted(TESTS.rglob("*.py")) if path.name not in ("__init__.py", "entry.py")]
     names = [path.relative_to(TOP).with_suffix("").as_posix().replace("/", ".") for path in files]
     return [name for name in names if name.count(".") == 1 or name.endswith("_tests")
@@ -50,8 +52,8 @@ def name_of(test: unittest.TestCase) -> str:
     return f"{module}.{test._testMethodName.removeprefix('test_')}"
 
 
-def flat(suite):
-    """Yields the tests of a suite."""
+def flat(suite: unittest.TestSuite) -> Iterator[unittest.TestCase]:
+    """Yields the tests of a suite and of the suites in it."""
     for each in suite:
         if isinstance(each, unittest.TestSuite):
             yield from flat(each)
@@ -82,8 +84,8 @@ def broken_module(name: str, why: str) -> unittest.TestCase:
     return type("Broken", (Test,), {"__module__": name, "test_import": test_import})("test_import")
 
 
-def units_of(tests) -> list[list[unittest.TestCase]]:
-    """Returns the tests in units, each of which runs in one process."""
+def units_of(tests: Iterable[unittest.TestCase]) -> list[list[unittest.TestCase]]:
+    """Returns the tests in units, each of which runs in one process. Those of long modules come first."""
     units, by_module = [], {}
     for test in tests:
         module = sys.modules.get(type(test).__module__)
@@ -93,15 +95,21 @@ def units_of(tests) -> list[list[unittest.TestCase]]:
             by_module[module.__name__].append(test)
         else:
             units.append([test])
-    return units
+    return sorted(units, key=lambda unit: not takes_long(unit[0]))
+
+
+def takes_long(test: unittest.TestCase) -> bool:
+    """Returns whether a test's module says that it takes long."""
+    return getattr(sys.modules.get(type(test).__module__), "TAKES_LONG", False)
 
 
 class Recorder(unittest.TestResult):
-    """Records what comes of each test."""
+    """Records the result of each test."""
 
-    def __init__(self):
+    def __init__(self) -> None:
         super().__init__()
-        self.outcomes, self.begin = [], 0.0
+        self.outcomes: list[Outcome] = []
+        self.begin = time.monotonic()
 
     def startTest(self, test):
         """Notes when a test begins."""
@@ -109,7 +117,7 @@ class Recorder(unittest.TestResult):
         self.begin = time.monotonic()
 
     def note(self, test, result, why=""):
-        """Notes what came of a test."""
+        """Notes the result of a test."""
         checks = getattr(test, "checks", 1)
         name = name_of(test) if hasattr(test, "_testMethodName") else str(test)
         said = (getattr(test, "_testMethodDoc", "") or "").strip().split("\n")[0]
@@ -128,25 +136,40 @@ class Recorder(unittest.TestResult):
         self.note(test, FAILED, str(err[1]))
 
     def addError(self, test, err):
-        """Notes a test that crashed: that is its failure."""
+        """Notes a test that crashed as a failure."""
         self.note(test, FAILED, "".join(traceback.format_exception(*err)))
 
+    def addSubTest(self, test, subtest, err):
+        """Notes a part of a test that failed or crashed as a failure of the test."""
+        if err is not None:
+            self.note(test, FAILED, f"{subtest._subDescription()}: " + "".join(traceback.format_exception(*err)))
 
-def run_unit(unit) -> list[Outcome]:
-    """Runs a unit; returns what came of its tests."""
+
+def run_unit(unit: list[unittest.TestCase]) -> list[Outcome]:
+    """Runs a unit; returns a result for each of its tests, and those of its set-up and its tear-down."""
     recorder = Recorder()
     unittest.TestSuite(unit).run(recorder)
-    return recorder.outcomes
+    return recorder.outcomes + without_result(unit, recorder.outcomes)
+
+
+def without_result(unit: list[unittest.TestCase], outcomes: list[Outcome]) -> list[Outcome]:
+    """Returns a result for each test of a unit that has none among `outcomes`.
+
+    It is skipped if the set-up of its class or module was, otherwise it failed."""
+    known, names = {outcome.name for outcome in outcomes}, {name_of(test) for test in unit}
+    skips = [outcome for outcome in outcomes if outcome.name not in names and outcome.result == SKIPPED]
+    result, why = (SKIPPED, skips[0].why) if skips else (FAILED, "the test ended without a result")
+    return [Outcome(name, result, 1, 0.0, why, "") for name in map(name_of, unit) if name not in known]
 
 
 def answer_unit(unit, answer) -> None:
-    """Runs a unit in this process, and sends what came of it."""
+    """Runs a unit in this process, and sends its results."""
     signal.signal(signal.SIGINT, signal.default_int_handler)
     answer.send(run_unit(unit))
 
 
 def ended(unit, process, answer) -> list[Outcome]:
-    """Returns what came of a unit whose process has answered or ended."""
+    """Returns the results of a unit whose process has answered or ended."""
     try:
         outcomes = answer.recv()
     except EOFError:
@@ -158,8 +181,8 @@ def ended(unit, process, answer) -> list[Outcome]:
     return [Outcome(name_of(test), FAILED, 1, 0.0, why, "") for test in unit]
 
 
-def run_all(tests, jobs: int):
-    """Runs tests, `jobs` units at once; yields what came of each test as soon as it is known."""
+def run_all(tests: Iterable[unittest.TestCase], jobs: int) -> Iterator[Outcome]:
+    """Runs tests, `jobs` units at once; yields the result of each test as soon as it is known."""
     context, waiting, running = multiprocessing.get_context("fork"), units_of(tests), {}
     while waiting or running:
         while waiting and len(running) < jobs:
@@ -174,8 +197,8 @@ def run_all(tests, jobs: int):
             yield from ended(unit, process, answer)
 
 
-def tell(outcome: Outcome, again: str) -> None:
-    """Prints what came of a test, and for a failure the command that repeats it."""
+def show(outcome: Outcome, again: str) -> None:
+    """Prints the result of a test, and for a failure the command that repeats it."""
     checks = f"{outcome.checks} checks, " if outcome.checks != 1 else ""
     why = f": {outcome.why}" if outcome.result == SKIPPED else f": {outcome.says}" if outcome.says else ""
     print(f"{outcome.result} {outcome.name} ({checks}{outcome.seconds:.1f} s){why}", flush=True)
@@ -186,8 +209,8 @@ def tell(outcome: Outcome, again: str) -> None:
 
 def parser() -> Parser:
     """Returns the parser of the command line."""
-    line = Parser("tests/run", "Runs the tests of the program, its tools and its sources, many at once.\n\n"
-                  "NAME is a test's name or the beginning of one, as html or html.advice. The last line is\n"
+    line = Parser("tests/run", "Runs the tests of the program, its tools and its sources, several at once.\n\n"
+                  "NAME is a test's name or its first parts, as html or html.advice. The last line is\n"
                   "`N passed, N failed, N skipped`, which counts checks; the exit status is 0 only if none "
                   "failed.", 2, "tests/run [OPTIONS] [NAME ..]")
     line.add_argument("names", nargs="*", metavar="NAME", help="the tests that run (all)")
@@ -201,13 +224,13 @@ def parser() -> Parser:
     return line
 
 
-def is_named(name: str, wanted: str) -> bool:
-    """Returns whether a test is one of those that a word names."""
-    return name == wanted or name.startswith(f"{wanted}.")
+def is_named(name: str, word: str) -> bool:
+    """Returns whether an argument names a test, by its whole name or its first parts."""
+    return name == word or name.startswith(f"{word}.")
 
 
 def chosen(tests, given):
-    """Returns the tests that the arguments name, and those names that no test has."""
+    """Returns the tests that the arguments name, and those arguments that name no test."""
     unknown = [word for word in given.names if not any(is_named(name_of(test), word) for test in tests)]
     found = [test for test in tests
              if not given.names or any(is_named(name_of(test), word) for word in given.names)]
@@ -233,9 +256,14 @@ def main(words: list[str]) -> int:
         return 2
     same = SETTINGS.program == PROGRAM.resolve()
     again = "tests/run" + ("" if same else f" --program {given.program}") + (" --long" * given.long)
+    return run_and_count(tests, given.jobs, again)
+
+
+def run_and_count(tests: list[unittest.TestCase], jobs: int, again: str) -> int:
+    """Runs tests, prints each result and their counts; returns the exit status."""
     counts = {PASSED: 0, FAILED: 0, SKIPPED: 0}
-    for outcome in run_all(tests, given.jobs):
-        tell(outcome, again)
+    for outcome in run_all(tests, jobs):
+        show(outcome, again)
         counts[outcome.result] += outcome.checks if outcome.result == PASSED else 1
     print(", ".join(f"{count} {result.lower()}" for result, count in counts.items()))
     return 0 if counts[PASSED] and not counts[FAILED] else 1

@@ -1,6 +1,6 @@
-"""What stands in the sources: the bodies and contracts of the code, the statements and definitions of
-`.antt` files, and the functions of Python. Each is an `Item`; two are the same where their kinds and their
-texts are, but for white space and the name that they declare."""
+"""The contents of the sources: the bodies and contracts of the code, the statements and definitions of
+`.antt` files, and the functions of Python. Each is an `Item`; two are the same if their kinds and their
+texts are, except for white space and the name that they declare."""
 
 import ast
 import re
@@ -22,12 +22,12 @@ REMARK = re.compile(r"^ *--")
 
 
 def one_line(text):
-    """The text with one space wherever it has white space."""
+    """Returns the text with one space for each white space."""
     return " ".join(text.split())
 
 
 def is_long(item):
-    """Whether a text is long enough to be told from what any two places have."""
+    """Returns whether a text is long enough to be a duplicate."""
     return len(item.text) >= LEAST_SIGNS[item.kind]
 
 
@@ -74,7 +74,7 @@ def blocks(text):
 
 def declarations(file, text):
     """The statements of lemmas, and the definitions with their equations. What the prover looks for by
-    the name of one function and one goal stands by each function, and is left out."""
+    the name of one function and one goal is next to each function, and is left out."""
     item, equations = None, []
     for modules, block in [*blocks(text), ("", ["end : end"])]:
         whole = one_line(" ".join(block))
@@ -112,7 +112,7 @@ def python_bodies(file, text):
 
 
 def is_python(path):
-    """Whether a file is Python: by its ending, or by its first line."""
+    """Returns whether a file is Python, by its ending or its first line."""
     if path.suffix:
         return path.suffix == ".py"
     with path.open("rb") as text:
@@ -120,16 +120,16 @@ def is_python(path):
 
 
 def texts_of(root):
-    """The files that hold code or proofs, by their paths from the top, with their texts."""
+    """Returns the texts of the files with code or proofs, by their paths below the top."""
     found = [path for kind in ("src/**/*.rt", "specs/**/*.antt", "proofs/**/*.antt")
              for path in root.glob(f"crates/*/{kind}")]
-    found += [path for folder in ("tools", "tests") for path in root.glob(f"{folder}/**/*")
+    found += [path for directory in ("tools", "tests") for path in root.glob(f"{directory}/**/*")
               if path.is_file() and "__pycache__" not in path.parts and is_python(path)]
     return {str(path.relative_to(root)): path.read_text(encoding="utf-8") for path in sorted(found)}
 
 
 def items(texts):
-    """All items of these files that are long enough."""
+    """Yields all items of these files that are long enough."""
     for file, text in texts.items():
         if ANSWERS.search(file) or "/declared/" in file:
             continue

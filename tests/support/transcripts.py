@@ -1,7 +1,7 @@
 """Reads the sessions of a document, and runs them: what comes has to be what the document prints.
 
 A session is a block between lines of three backquotes in which a line begins with `$ `: that is a
-command, and what stands below it, to the next one, is what it prints, errors among it. A command
+command, and the lines below it, up to the next one, are what it prints, with its errors. A command
 whose line ends with a backslash goes on with the next line. All sessions of one document are run in
 their order by one shell, so that a later one has the files of an earlier one.
 """
@@ -19,7 +19,7 @@ CALLS = {"tools/verify_with": "cadical"}
 
 @dataclass
 class Command:
-    """A command of a document: its text, the lines that it prints, and the line on which it stands."""
+    """A command of a document: its text, the lines that it prints, and its line number."""
     text: str
     prints: list
     line: int
@@ -57,17 +57,17 @@ def absent_program(commands):
     return None
 
 
-def printed(commands, folder):
+def printed(commands, directory):
     """What each of these commands prints, run one after the other by one shell: lists of lines."""
     mark = "== a command of the document =="
     script = "exec 2>&1\n" + "".join(f"echo {mark!r}\n{command.text}\n" for command in commands)
-    done = subprocess.run(["bash", "-c", script], cwd=folder, stdin=subprocess.DEVNULL,
+    done = subprocess.run(["bash", "-c", script], cwd=directory, stdin=subprocess.DEVNULL,
                           stdout=subprocess.PIPE, timeout=TIMEOUT_SECONDS, check=False)
     parts = done.stdout.decode(errors="replace").split(mark + "\n")[1:]
     return [part.splitlines() for part in parts]
 
 
-def run(text, folder):
+def run(text, directory):
     """Runs the sessions of a document: how many commands printed what they should, what is wrong with
     the others, and why which sessions were left out."""
     passed, faults, left_out, commands = 0, [], [], []
@@ -77,7 +77,7 @@ def run(text, folder):
             left_out.append(f"line {session[0].line}: {absent} isn't there")
         else:
             commands += session
-    came = printed(commands, folder)
+    came = printed(commands, directory)
     for command, lines in zip(commands, came + [None] * len(commands)):
         if lines == command.prints:
             passed += 1

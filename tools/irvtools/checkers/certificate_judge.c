@@ -2,7 +2,7 @@
 
        certificate_judge FORMULAS CERTIFICATE..
 
-   FORMULAS is a folder with the formula of each query, in files named as `hazard-0`. Of each certificate it
+   FORMULAS is a directory with the formula of each query, in files named as `hazard-0`. Of each certificate it
    prints `accepted k=K`, or `rejected line N` with the first bad line; or `wants QUERY N`, where the
    certificate comes to a query whose formula isn't there. It shares nothing with the program but the
    formulas, and nothing with certificate.py but what both are written from. */
@@ -143,13 +143,13 @@ static int take_step(struct formula *formula, struct setting *setting)
 }
 
 /* The query of a kind, 0 to 2, and a number: its formula, read where it is first asked for, alone. */
-static struct query *query_of(const char *folder, int kind, const char *word, unsigned steps)
+static struct query *query_of(const char *directory, int kind, const char *word, unsigned steps)
 {
     static struct query *known[3][MOST + 1];
     char name[4096];
     if (known[kind][steps] == NULL) {
         struct query *query = calloc(1, sizeof *query);
-        snprintf(name, sizeof name, "%s/%s-%u", folder, word, steps);
+        snprintf(name, sizeof name, "%s/%s-%u", directory, word, steps);
         if (query == NULL) give_up("no memory", "judge");
         if (!read_formula(name, &query->formula)) {
             printf("wants %s %u\n", word, steps);
@@ -165,13 +165,13 @@ static struct query *query_of(const char *folder, int kind, const char *word, un
 }
 
 /* Takes the line of a query, and its steps up to the one with the empty clause. */
-static void take_query(const char *folder, int kind, unsigned steps)
+static void take_query(const char *directory, int kind, unsigned steps)
 {
     static const char *const words[] = {"hazard", "breach", "step"};
     char name[32];
     snprintf(name, sizeof name, "query %s %u", words[kind], steps);
     need_line(name);
-    struct query *query = query_of(folder, kind, words[kind], steps);
+    struct query *query = query_of(directory, kind, words[kind], steps);
     query->formula.clauses.literals.count = query->literals;
     query->formula.clauses.starts.count = query->starts;
     clear(&query->setting);
@@ -180,15 +180,15 @@ static void take_query(const char *folder, int kind, unsigned steps)
 }
 
 /* Takes a certificate, line by line. */
-static void take_certificate(const char *folder)
+static void take_certificate(const char *directory)
 {
     need_line("irv certificate 3");
     unsigned most = safe_number();
     for (unsigned steps = 0; steps <= most; steps++) {
-        take_query(folder, 0, steps);
-        take_query(folder, 1, steps);
+        take_query(directory, 0, steps);
+        take_query(directory, 1, steps);
     }
-    take_query(folder, 2, most);
+    take_query(directory, 2, most);
     need_line("end");
     if (rest.from != rest.to) {
         number++;
@@ -199,7 +199,7 @@ static void take_certificate(const char *folder)
 
 int main(int count, char **words)
 {
-    if (count < 3) give_up("a folder and files are wanted", words[0]);
+    if (count < 3) give_up("a directory and files are wanted", words[0]);
     for (int i = 2; i < count; i++) {
         if (!read_file(words[i], &rest)) give_up("isn't there", words[i]);
         text = rest;

@@ -106,7 +106,7 @@ static int is_same(struct part one, const char *other)
     return (size_t)(one.to - one.from) == length && memcmp(one.from, other, length) == 0;
 }
 
-/* Takes what stands before the next such byte, and the byte; false where there is none. */
+/* Takes the bytes before the next such byte, and that byte; returns false if there is none. */
 static int take_until(struct part *rest, char byte, struct part *taken)
 {
     const char *found = rest->from == rest->to ? NULL : memchr(rest->from, byte, rest->to - rest->from);

@@ -21,11 +21,11 @@ def lines_of_steps(steps, clauses):
         yield " ".join(map(str, (number, *clause, 0, *hints, 0))) + "\n"
 
 
-def write_query(folder, name, formula, steps):
-    """Writes one query; the line that tells of it."""
+def write_query(directory, name, formula, steps):
+    """Writes one query; returns the line about it."""
     clauses = len(dimacs.read(formula)[1])
-    (folder / f"{name}.cnf").write_bytes(formula)
-    with open(folder / f"{name}.lrat", "w", encoding="ascii") as file:
+    (directory / f"{name}.cnf").write_bytes(formula)
+    with open(directory / f"{name}.lrat", "w", encoding="ascii") as file:
         file.writelines(lines_of_steps(steps, clauses))
     end = "refuted" if certificate.is_refuted(steps) else "not refuted"
     return f"{name}: {clauses} clauses, {len(steps)} steps, {end}"
@@ -53,10 +53,10 @@ def main(words):
     try:
         conf = given.conf.read_bytes()
         _, _, queries = certificate.read(given.cert.read_bytes())
-        given.folder.mkdir(parents=True, exist_ok=True)
+        given.directory.mkdir(parents=True, exist_ok=True)
         for kind, number, steps in queries:
             formula = exported.text_of(given.program.resolve(), conf, given.columns, kind, number)
-            print(write_query(given.folder, f"{kind}-{number}", formula, steps))
+            print(write_query(given.directory, f"{kind}-{number}", formula, steps))
     except (OSError, certificate.CertificateError, dimacs.DimacsError, exported.ExportError) as fault:
         print(f"tools/lrat: {fault}", file=sys.stderr)
         return 2

@@ -15,7 +15,7 @@ static char *is_true;               /* by literal */
 static struct list trail;           /* the true literals, in the order in which they became so */
 static struct list kept;            /* each clause that is kept: how many literals, then these, watching ones first */
 static struct list *watched;        /* by literal: each clause that it watches, and before it another literal of it */
-static char *is_seen;               /* by literal: whether it stands in the clause at hand */
+static char *is_seen;               /* by literal: whether it is in the current clause */
 static int is_refuted;
 
 static struct list clause;          /* the literals of the item at hand, each once */

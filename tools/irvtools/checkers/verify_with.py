@@ -100,9 +100,9 @@ def leave_out_what_adds_nothing(proof):
     taken.replace(proof)
 
 
-def why_unrefuted(plant, solver, seconds, folder, query):
+def why_unrefuted(plant, solver, seconds, directory, query):
     """Why a query isn't refuted; none where the solver's text refutes it, as the program finds."""
-    stem = folder.resolve() / f"{query[0]}-{query[1]}"
+    stem = directory.resolve() / f"{query[0]}-{query[1]}"
     cnf, proof = stem.with_suffix(".cnf"), stem.with_suffix(".proof")
     cnf.write_bytes(plant.formula(query))
     proof.unlink(missing_ok=True)
@@ -119,16 +119,16 @@ def why_unrefuted(plant, solver, seconds, folder, query):
     return plant.why_not_refuted(query, proof)
 
 
-def ask_all(plant, given, folder):
+def ask_all(plant, given, directory):
     """Has every query refuted, and prints what came of each; answers those that weren't."""
     solver = shlex.split(given.solver)
     queries = queries_for(given.k)
     # before all others, alone: the launcher may have to build the program, and a configuration that
-    # is refused is told once
+    # is refused is printed once
     plant.formula(queries[0])
     left = []
     with concurrent.futures.ThreadPoolExecutor(given.jobs) as pool:
-        tasks = [pool.submit(why_unrefuted, plant, solver, given.seconds, folder, query)
+        tasks = [pool.submit(why_unrefuted, plant, solver, given.seconds, directory, query)
                  for query in queries]
         try:
             for query, task in zip(queries, tasks):
@@ -184,9 +184,9 @@ def main(words):
     try:
         plant = Plant(given.program.resolve(), given.conf.read_bytes(), given.columns)
         with tempfile.TemporaryDirectory(prefix="irv-verify-with-") as made:
-            folder = given.keep or Path(made)
-            folder.mkdir(parents=True, exist_ok=True)
-            left = ask_all(plant, given, folder)
+            directory = given.keep or Path(made)
+            directory.mkdir(parents=True, exist_ok=True)
+            left = ask_all(plant, given, directory)
     except (OSError, NoAnswer) as fault:
         print(f"tools/verify_with: {fault}", file=sys.stderr)
         return 2

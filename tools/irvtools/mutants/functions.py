@@ -40,7 +40,7 @@ def module_of(path):
 
 
 def before_brackets(text):
-    """What stands before the first angle bracket."""
+    """Returns the text before the first angle bracket."""
     return text.split("<")[0].strip()
 
 

@@ -1,4 +1,4 @@
-"""The trial of a crate's edits, in rounds."""
+"""Checks of a crate's edits, in rounds."""
 
 import shutil
 import subprocess
@@ -11,26 +11,26 @@ from irvtools.mutants.prover_output import Said, Verdict
 REFUSED = "refused"
 
 
-class Trial:
+class CrateCheck:
     """A room in which the edits of one crate are tried."""
 
     def __init__(self, crates, name, toolchain, room):
         self.crates, self.name, self.sources = crates, name, crates.sources(name)
         self.words = crates.words(name, toolchain, room)
-        self.folder = room / "tried" / name
+        self.directory = room / "tried" / name
         self.seconds = 0
         self.rounds = 0
         for part in PARTS:
-            if (crates.folder(name) / part).is_dir():
-                shutil.copytree(crates.folder(name) / part, self.folder / part)
-        (self.folder / "kept").mkdir()
+            if (crates.directory(name) / part).is_dir():
+                shutil.copytree(crates.directory(name) / part, self.directory / part)
+        (self.directory / "kept").mkdir()
 
     def check(self, edits):
         """Checks the crate with these edits: of the functions that they change, and of all where one
         changes none."""
         changes = [it for edit in edits for it in edit.changes]
         for path, text in {**self.sources, **edited(self.sources, changes)}.items():
-            (self.folder / path).write_text(text)
+            (self.directory / path).write_text(text)
         paths = sorted({it.path for edit in edits for it in edit.functions})
         is_whole = any(not edit.functions for edit in edits)
         only = [] if is_whole else [word for path in paths for word in ("--only", path)]
@@ -46,9 +46,9 @@ class Trial:
         return said
 
     def run(self, flags):
-        """What the prover says of the crate as it stands in the room; once more where it was killed."""
+        """Returns what the prover says about the crate as it is in the room; it is called again if it was killed."""
         for _ in range(2):
-            done = subprocess.run([*self.words, *flags], cwd=self.folder, stdin=subprocess.DEVNULL,
+            done = subprocess.run([*self.words, *flags], cwd=self.directory, stdin=subprocess.DEVNULL,
                                   stdout=subprocess.PIPE, stderr=subprocess.STDOUT,
                                   errors="replace")
             if done.returncode >= 0:
@@ -72,7 +72,7 @@ class Trial:
         return f"NOT SHOWN: {worst[0].value}: {worst[1][:160]}"
 
     def try_round(self, edits):
-        """What comes of each edit of a round, and those that want a trial by themselves."""
+        """What comes of each edit of a round, and those that need a check of their own."""
         if len(edits) == 1:
             return {edits[0]: self.try_alone(edits[0])}, []
         said = self.check(edits)
@@ -96,5 +96,5 @@ class Trial:
             done.update(found)
             for edit in left:
                 done[edit] = self.try_alone(edit)
-        shutil.rmtree(self.folder)
+        shutil.rmtree(self.directory)
         return done

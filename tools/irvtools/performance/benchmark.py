@@ -87,14 +87,14 @@ def measured(command, given, output):
     return *ended(started(command, given, output)), time.monotonic() - begin
 
 
-def beside(ours, yardstick, folder):
+def beside(ours, yardstick, directory):
     """What a command takes, and at the same time a yardstick, if there is one."""
     commands = [ours, *([yardstick] if yardstick else [])]
-    figures, answers = [[] for _ in commands], [folder / f"answer{i}" for i in range(len(commands))]
+    figures, answers = [[] for _ in commands], [directory / f"answer{i}" for i in range(len(commands))]
     for _ in range(ROUNDS):
         children = []
         for command, path in zip(commands, answers):
-            with open(folder / "plant.json", "rb") as given, open(path, "wb") as out:
+            with open(directory / "plant.json", "rb") as given, open(path, "wb") as out:
                 children.append(started(command, given, out))
         for child, found in zip(children, figures):
             found.append(ended(child)[1:])
@@ -150,10 +150,10 @@ def solver_figures(name, path, seconds):
     return f"{name} {answer} {user:.2f} s {''.join(found[-1]) if found else '-'} conflicts"
 
 
-def measure_query(program, folder, kind, number, conflicts, seconds):
+def measure_query(program, directory, kind, number, conflicts, seconds):
     """Prints the figures of one query."""
-    path = folder / f"{kind}{number}.cnf"
-    with open(folder / "plant.json", "rb") as given, open(path, "wb") as out:
+    path = directory / f"{kind}{number}.cnf"
+    with open(directory / "plant.json", "rb") as given, open(path, "wb") as out:
         command = [program, "export", "--columns", "free", "--query", kind, "--number", number]
         _, user, peak, _ = measured(command, given, out)
     with open(path, encoding="ascii") as formula:
@@ -172,16 +172,16 @@ def shortened(text):
     return shorter
 
 
-def measure_checks(program, folder, queries, yardsticks):
+def measure_checks(program, directory, queries, yardsticks):
     """Prints the figures of audit, and of rup on the last query."""
-    formulas = [str(folder / f"{kind}{number}.cnf") for kind, number, _ in queries]
-    files = [str(folder / "cert"), *formulas]
+    formulas = [str(directory / f"{kind}{number}.cnf") for kind, number, _ in queries]
+    files = [str(directory / "cert"), *formulas]
     yardstick = yardsticks.get("audit")
-    print("    audit:", beside([program, "audit", "--columns", "free", "--cert", str(folder / "cert")],
-                               yardstick and [yardstick, *files], folder), flush=True)
+    print("    audit:", beside([program, "audit", "--columns", "free", "--cert", str(directory / "cert")],
+                               yardstick and [yardstick, *files], directory), flush=True)
     if shutil.which("cadical"):
         kind, number, _ = queries[-1]
-        text = folder / "text"
+        text = directory / "text"
         measured(["cadical", "-q", "-n", "--no-binary", formulas[-1], str(text)],
                  subprocess.DEVNULL, subprocess.DEVNULL)
         if text.stat().st_size > refutations.LONGEST:
@@ -190,27 +190,27 @@ def measure_checks(program, folder, queries, yardsticks):
         print(f"    rup, a text of {text.stat().st_size} bytes:",
               beside([program, "rup", "--columns", "free", "--query", kind, "--number", number,
                       "--cert", str(text)],
-                     yardstick and [yardstick, formulas[-1], str(text)], folder), flush=True)
+                     yardstick and [yardstick, formulas[-1], str(text)], directory), flush=True)
 
 
-def measure(program, word, folder, options):
+def measure(program, word, directory, options):
     """Prints the figures of one plant."""
     name, configuration = plant_of(program, word)
-    (folder / "plant.json").write_bytes(configuration)
-    with open(folder / "plant.json", "rb") as given, open(folder / "report", "wb") as out:
+    (directory / "plant.json").write_bytes(configuration)
+    with open(directory / "plant.json", "rb") as given, open(directory / "report", "wb") as out:
         budget = ["--conflicts", options["conflicts"]] if "conflicts" in options else []
-        command = [program, "verify", "--columns", "free", *budget, "--cert", str(folder / "cert")]
+        command = [program, "verify", "--columns", "free", *budget, "--cert", str(directory / "cert")]
         status, user, peak, clock = measured(command, given, out)
-    verdict = (folder / "report").read_text().partition("\n")[0]
+    verdict = (directory / "report").read_text().partition("\n")[0]
     print(f"{name}, {size_of(configuration)}: {verdict or f'status {status}'}; {user:.2f} s user, "
           f"{clock:.2f} s, {peak:.0f} MiB", flush=True)
-    if (folder / "cert").exists():
-        queries = conflicts_of(folder / "cert")
-        size = (folder / "cert").stat().st_size
+    if (directory / "cert").exists():
+        queries = conflicts_of(directory / "cert")
+        size = (directory / "cert").stat().st_size
         print(f"    certificate of {size} bytes, {sum(query[2] for query in queries)} conflicts")
         for query in queries:
-            measure_query(program, folder, *query, int(options.get("seconds", SECONDS)))
-        measure_checks(program, folder, queries, options)
+            measure_query(program, directory, *query, int(options.get("seconds", SECONDS)))
+        measure_checks(program, directory, queries, options)
 
 
 def parser():
@@ -235,7 +235,7 @@ def main(words):
         options[name] = value if name in ("seconds", "conflicts") else str(Path(value).resolve())
     print("\n".join(head(program, options)))
     for word in [word for word in given.words if "=" not in word] or PLANTS:
-        with tempfile.TemporaryDirectory(prefix="irv-benchmark-") as folder:
-            measure(program, word, Path(folder), options)
+        with tempfile.TemporaryDirectory(prefix="irv-benchmark-") as directory:
+            measure(program, word, Path(directory), options)
     print(load())
     return 0

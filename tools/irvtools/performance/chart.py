@@ -1,7 +1,7 @@
 """The picture of a measurement: seconds over the number of sections, both by their logarithms.
 
 The generated stations are joined by a line, other plants stand apart, as squares; what was ended before its
-answer is hollow, and stands where it was ended.
+answer is hollow, at the time when it was ended.
 """
 
 import math
@@ -13,7 +13,7 @@ WIDTH, HEIGHT = 760, 460
 LEFT, RIGHT, TOP, BOTTOM = 60, 620, 30, 400     # of the field in which the marks stand
 COLOURS = {"irv verify": "#0b5394", "cadical": "#b45f06", "minisat": "#6aa84f", "picosat": "#a64d79"}
 GREYS = ("#e8e8e8", "#b0b0b0")
-LEAST = 0.01            # seconds: less isn't told apart
+LEAST = 0.01            # seconds: less is not distinguished
 EVEN = 1 + 1e-9         # numbers that are nearer are one
 SIZE = 4.5              # half of a mark
 
@@ -63,11 +63,11 @@ class Picture:
         self.y = Scale(every, BOTTOM, TOP)
 
     def place(self, plant, name):
-        """Where a plant's mark by a name stands."""
+        """Returns the position of a plant's mark by a name."""
         return self.x.at(plant.sections), self.y.at(max(seconds_of(plant, name)[0], LEAST))
 
     def grid(self):
-        """The lines of the field, with their numbers, and what stands beside them."""
+        """The lines of the field, with their numbers, and the text next to them."""
         for number, digit in self.x.marks():
             x = self.x.at(number)
             yield f'<path d="M{x:.1f} {TOP}V{BOTTOM}" stroke="{GREYS[digit == 1]}"/>'
