@@ -127,23 +127,23 @@ LENGTH = len('{"version": 1,\n "sections": [') + MANY * (len(LINE) + 2) - 1 + le
 
 # What is told of a configuration on standard input, behind `standard input: `.
 CONF_FAULTS = [
-    ("", ["there is nothing to read"]),
-    ("{", ["line 1, column 2: Expecting property name enclosed in double quotes. There stands: { ⟵ here: "
-           "the end of the line"]),
-    ("[]", ["the document is an array, and should be an object"]),
-    (other('"version": 1', '"version": 3'), ["the version is 3, and should be 1 or 2"]),
+    ("", ["the configuration is empty"]),
+    ("{", ["line 1, column 2: Expecting property name enclosed in double quotes. The line is: { ⟵ here: the "
+           "end of the line"]),
+    ("[]", ["the document is an array, but must be an object"]),
+    (other('"version": 1', '"version": 3'), ["the version is 3, but must be 1 or 2"]),
     (other('"up": "b", ', ""), ["the section a (number 0) lacks the member up"]),
     (other('"name": "b"', '"name": "b.1"'),
-     ["the name “b.1”, of name of the section b.1 (number 1), has the character “.”; a name has 1 to 32 of "
-      "the characters A to Z, a to z, 0 to 9, _ and -"]),
+     ["the name “b.1” in name of the section b.1 (number 1) has the character “.”. A name has 1 to 32 of the "
+      "characters A to Z, a to z, 0 to 9, _ and -"]),
     (other('"path": ["a"]', f'"path": ["{LONG}"]'),
-     [f"the name “{LONG}”, of path of the route r2 (number 1), has 33 characters; a name has 1 to 32 of the "
+     [f"the name “{LONG}” in path of the route r2 (number 1) has 33 characters. A name has 1 to 32 of the "
       "characters A to Z, a to z, 0 to 9, _ and -"]),
     (other('"source": "m1"', '"source": null'),
-     ["the member source of the route r1 (number 0) is null, and should be a text"]),
+     ["the member source of the route r1 (number 0) is null, but must be a text"]),
     (other('"points": [], "conflicts": []},', '"points": [{"point": "a", "position": "left"}], '
                                               '"conflicts": []},'),
-     ["the member position of an entry of points of the route r1 (number 0) is “left”, and should be plus or "
+     ["the member position of an entry of points of the route r1 (number 0) is “left”, but must be plus or "
       "minus"]),
     (CONF + " " * 4194304, ["there are more than 4194304 bytes, which a configuration may have"]),
 ]
@@ -199,17 +199,17 @@ OTHERS = [
     (["--out", "no/folder"], {}, CONF, ["no/folder: it can't be made: No such file or directory"]),
     (["--out", "conf"], {}, CONF, ["conf: it can't be made: File exists"]),
     (["--out", "out"], {}, other('"name": "b"', '"name": "b.1"'),
-     ["standard input: the name “b.1”, of name of the section b.1 (number 1), has the character “.”; a name "
-      "has 1 to 32 of the characters A to Z, a to z, 0 to 9, _ and -"]),
+     ["standard input: the name “b.1” in name of the section b.1 (number 1) has the character “.”. A name has 1 "
+      "to 32 of the characters A to Z, a to z, 0 to 9, _ and -"]),
     # comparisons
     (["--compare", "conf", "none"], {}, "", ["none: it can't be read: No such file or directory"]),
     (["--compare", "none", "none"], {"none": "{}"}, "",
      ["none: the document lacks the member version", "none: the document lacks the member sections",
       "none: the document lacks the member routes"]),
     (["--compare", "two", "conf"], {R: row("r1,m1,,,,,", ROUTES)}, "",
-     ["two: path of the route r1 (number 0) has 0 entries, and may have 1 to 32"]),
+     ["two: path of the route r1 (number 0) has 0 entries, but must have 1 to 32"]),
     (["--compare", "two", "conf"], {S: SECTIONS.splitlines()[0]}, "",
-     ["two: there are 0 sections, and may be 1 to 256"]),
+     ["two: the configuration has 0 sections, but must have 1 to 256"]),
     (["--compare", "two", "conf", "--html", "two/page"], {"two/page": "mine"}, "",
      ["two/page: it is there already, and isn't written over"]),
     (["--compare", "two", "conf", "--html", "no/page"], {}, "",
