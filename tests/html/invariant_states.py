@@ -1,5 +1,5 @@
 """States of the line of `line.py`, each with the families that it breaks, worked out by hand from the
-table of docs/MODEL.md. A state is the start with changes: words as in the lines of a run's state."""
+table of docs/reference/model.md. A state is the start with changes: words as in the lines of a run's state."""
 
 from irvtools.model.state import State, read_state_line
 

@@ -1,12 +1,15 @@
 """Tests of the track plan: its names and letters, and that a plant has one plan."""
 
 import json
+import tempfile
+from pathlib import Path
 
 from irvtools.generators import configurations
 from irvtools.rules import broken_rules
 from irvtools.trackplan.drawing import Drawing
 from irvtools.trackplan.layout import CHARACTER
 from irvtools.model.plant import Plant
+from tests.support.html_reports import page
 from tests.support.report_plants import plants
 from tests.html.rule_sentence_tests import cases
 from tests.support.harness import test_case
@@ -84,4 +87,26 @@ def check_broken_plans(_, __):
                     yield f"{name}: no place"
 
 
-TrackPlanTests = test_case("TrackPlanTests", [check_plans, check_broken_plans])
+def check_hollow_boards(program, _):
+    """Boards that an import placed by a rule are drawn hollow in the plan, and the report says so. A file that
+    has no notes of an import is refused."""
+    given = plants()["line-with-boards"]
+    entries = [{"kind": "board", "name": "m1", "by": "rule"}, {"kind": "board", "name": "m2", "by": "data"},
+               {"kind": "cut", "name": "m2"}]
+    with tempfile.TemporaryDirectory(prefix="irv-test-") as directory:
+        file = Path(directory, "notes.json")
+        file.write_text(json.dumps({"notes": 1, "entries": entries}), encoding="utf-8")
+        text, said = page(program, given, "--import-notes", file)
+        if (text.count('href="#buh"'), text.count('href="#bdh"')) != (1, 0) or "1 board, drawn hollow" not in text:
+            yield f"hollow boards: {text.count('#buh')} up, {text.count('#bdh')} down; {said}"
+        for bad in ("{", "[]", '{"notes": 2, "entries": []}', '{"notes": 1}', '{"notes": 1, "entries": [1]}'):
+            file.write_text(bad, encoding="utf-8")
+            text, said = page(program, given, "--import-notes", file)
+            if text or "is not a file of notes of an import" not in said:
+                yield f"{bad}: {said}"
+        text, said = page(program, given, "--import-notes", Path(directory, "nothing"))
+        if text or "cannot read --import-notes" not in said:
+            yield f"no notes: {said}"
+
+
+TrackPlanTests = test_case("TrackPlanTests", [check_plans, check_broken_plans, check_hollow_boards])

@@ -12,14 +12,16 @@ from irvtools.html.markup import tag, text
 from irvtools.trackplan.marks import Marks
 from irvtools.model.plant import Plant
 from irvtools.html.control_table import row
-from irvtools.html.style import CSS
+from irvtools.html.style import document
+from irvtools.trackplan.signs import legend
 
 MOST_ROUTES = 24        # that have pictures
+DRAWN = ("path", "overlap", "points")   # entries of a route that a picture shows
 # what stands before a row of the sheet
 WORDS = {WENT: "went", CAME: "came", "old": "was", "new": "is"}
 WORDS_OF_NETWORK = {WENT: "no route", CAME: "no way of the network", "old": "network", "new": "table"}
 OWN = """
-.sheet .differs{background:#fff3bf}.sheet .old{color:#495057}
+.sheet .differs{background:var(--own)}.sheet .old{color:var(--quiet)}
 .side{break-inside:avoid}
 @media print{@page{size:landscape;margin:12mm}}
 """
@@ -75,19 +77,16 @@ class Picture:
         lines = "".join(tag("li", text(line)) for line in self.comparison.lines())
         body = "\n".join([
             self.old.definitions() + self.new.definitions(),
-            tag("h1", text("Two tables of routes, compared")), tag("p", text(title)),
-            tag("h2", text("Where they differ")), tag("ul", lines),
+            tag("h1", text("Comparison of two interlocking tables")), tag("p", text(title)),
+            tag("h2", text("Differences")), tag("ul", lines),
             tag("h2", text("Both plans")), self.network_plan(self.old, "old"),
-            self.network_plan(self.new, "new"),
-            tag("p", text("Marked are the sections and boards that differ. A plan is drawn from the "
-                          "neighbours that a configuration gives, and its lengths mean nothing."),
-                class_="small"),
+            self.network_plan(self.new, "new"), legend(),
+            tag("p", text("The sections and boards that differ are marked. The plans are drawn from the "
+                          "neighbours in the configurations. They are not to scale."), class_="small"),
             *self.route_plans(),
-            tag("h2", text("The table of routes")), self.sheet()])
-        return ("<!doctype html>\n<html lang=\"en\"><head><meta charset=\"utf-8\">"
-                f"<title>{text(title)}: irv</title><style>{CSS}{OWN}</style></head><body>\n{body}\n"
-                + tag("p", text("By tools/csv, which isn't proved."), class_="foot small")
-                + "\n</body></html>\n")
+            tag("div", tag("h2", text("Interlocking tables")) + self.sheet(), class_="scroll")])
+        foot = tag("p", text("By tools/csv, which is not proved."), class_="foot small")
+        return document(f"{title}: irv", f"{body}\n{foot}", OWN)
 
     def network_plan(self, side, number):
         """A side's plan, with what of its network differs: `number` is what a difference calls the
@@ -105,16 +104,25 @@ class Picture:
     def route_plans(self):
         """The ways of the routes that differ: of each the one that was, and the one that is."""
         routes = dict.fromkeys((one.old, one.new, one.what) for one in self.comparison.differences
-                               if one.thing == "route" and one.what != RENAMED)
+                               if one.thing == "route" and one.what != RENAMED
+                               and self.is_drawn(one.old, one.new))
         if not routes:
             return
-        yield tag("h2", text("The ways of the routes that differ"))
+        yield tag("h2", text("Paths of the routes that differ"))
         for old, new, what in list(routes)[:MOST_ROUTES]:
             for side, number in ((self.old, old), (self.new, new)):
                 if number is not None:
                     yield side.route_plan(number, "" if what == CHANGED else self.words[what])
         if len(routes) > MOST_ROUTES:
             yield tag("p", text(f"{len(routes) - MOST_ROUTES} more have no picture."))
+
+    def is_drawn(self, old, new):
+        """Returns whether pictures show how a route differs: by its path, overlap or points, or because the
+        network differs."""
+        match = self.comparison.match
+        is_of_network = any(one.thing != "route" for one in self.comparison.differences)
+        return old is None or new is None or is_of_network or any(
+            self.differs(member, match.old["routes"][old], match.new["routes"][new]) for member in DRAWN)
 
     # -- the sheet
 

@@ -5,6 +5,7 @@ from pathlib import Path
 
 from irvtools.calls.program import Program
 from irvtools.calls.progress import Interrupted, Progress, interruptible
+from irvtools.html.import_notes import boards_by_rule
 from irvtools.html.options import Options, Refused, guard_files, guard_words, parser
 from irvtools.html.report import Report
 from irvtools.html.run_file import Given
@@ -26,7 +27,9 @@ def read_options(words):
 
 def written(options, given):
     """Writes the report; returns it."""
+    by_rule = boards_by_rule(options.import_notes) if options.import_notes is not None else set()
     report = Report(options, sys.stdin.buffer.read(), given, options.has_times)
+    report.by_rule = by_rule
     report.progress = Progress(NAME)
     options.out.write_text(report.make(), encoding="utf-8", errors="replace")
     report.progress.say(f"{options.out} is written")

@@ -43,7 +43,7 @@ def cell(said):
     words = list_words(said) if isinstance(said, list) else [said or ""]
     line = " ".join(words)
     if len(line) > LONGEST_CELL:
-        return text(line[:LONGEST_CELL] + " … (cut)")
+        return text(line[:LONGEST_CELL] + " … (left out)")
     return " ".join(map(whole, words))
 
 

@@ -34,6 +34,8 @@ def parser(status):
     line.once("--search-seconds", "how long a run to a hazard is searched for if the table is not "
               "known to be safe; 0: no search (15)", default=15, metavar="N",
               type=whole_number(0, MOST_SECONDS))
+    line.once("--import-notes", "the notes of the import that made the configuration: boards placed by a rule "
+              "are drawn hollow", metavar="FILE")
     line.flag("--without-times", "leave out how long things took")
     line.once("--columns", "option of verify: strict or free (strict)", metavar="KIND")
     line.once("--depth", "option of verify: the greatest k (4)", metavar="N")
@@ -62,6 +64,7 @@ class Options:
         self.verify_seconds, self.search_seconds = given.verify_seconds, given.search_seconds
         self.run, self.has_times = given.run, not given.without_times
         self.columns = given.columns or "strict"
+        self.import_notes = given.import_notes
         self.is_cert_kept = not given.no_cert
         if given.no_cert and given.cert is not None:
             raise Refused("--cert and --no-cert exclude each other")
@@ -80,7 +83,8 @@ class Options:
         certs = [(self.cert, "the certificate")] if self.is_cert_kept else []
         named = [(str(self.out), "the report"), *certs, (STANDARD_INPUT, "standard input"), (STANDARD_OUTPUT, "standard output"),
                  (self.program, "the program")]
-        return named + ([(self.run, "the file of --run")] if self.run is not None else [])
+        given = ((self.run, "the file of --run"), (self.import_notes, "the file of --import-notes"))
+        return named + [(file, what) for file, what in given if file is not None]
 
 
 def subject_text(name, said):

@@ -18,6 +18,7 @@ from irvtools.html.markup import code, tag, text
 from irvtools.model.plant import Plant
 from irvtools.html.control_table import sheet_part
 from irvtools.html.routes_section import routes_part
+from irvtools.model.descriptions import counted
 from irvtools.model.phrases import join
 from irvtools.html.assessment_section import safety_part
 from irvtools.html.style import document
@@ -42,6 +43,7 @@ class Report:
         self.suspects = []      # routes at which the search begins
         self.is_refused = self.is_endangered = False    # a rule is broken; one that safety rests on
         self.has_cert = False   # whether a certificate is left
+        self.by_rule = set()    # names of boards that an import placed by a rule
         self.said = []          # the answers in lines, below the verdict
         self.summary = []       # the same with markup
 
@@ -145,7 +147,8 @@ class Report:
         value, unread = schema_rules.read(self.given)
         if unread is None:
             self.plant = Plant(value)
-            self.drawing = Drawing(self.plant)
+            self.drawing = Drawing(self.plant, [board.number for board in self.plant.boards
+                                                if board.name in self.by_rule])
 
     def plan_part(self):
         """The track plan with its legend."""
@@ -160,6 +163,9 @@ class Report:
             self.own("Some sections do not fit into the plan. A joint that fits no row is a dotted red line, "
                      "and a joint that would close a circle is left out.")
         self.add(legend())
+        if self.drawing.hollow:
+            self.own(f"{counted(len(self.drawing.hollow), 'board')}, drawn hollow, were placed by a rule of the "
+                     "import and are not in the imported data. Check each of them.")
         self.add(tag("p", text("Boards above a line are for trains that run up, from left to right; boards "
                                "below it are for trains that run down. Names of points are slanted. The plan "
                                "is drawn from the neighbours in the configuration. It is not to scale."),

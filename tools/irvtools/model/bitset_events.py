@@ -1,6 +1,6 @@
 """The thirteen events over sets of bits: each costs what it touches, and not what the plant has.
 
-The hunt makes its runs with it. It has the same events as `events.py`, which the page draws by; the
+The search makes its runs with it. It has the same events as `events.py`, which the page draws by; the
 tests compare the two event by event, and what is found is replayed by the other one and by `irv`.
 """
 

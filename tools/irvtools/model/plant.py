@@ -1,4 +1,4 @@
-"""A configuration as a plant: its sections, boards and routes by their numbers, as docs/MODEL.md
+"""A configuration as a plant: its sections, boards and routes by their numbers, as docs/reference/model.md
 counts them.
 
 It is read leniently, so that a plan can be drawn of a network that breaks rules too: a name that

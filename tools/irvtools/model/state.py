@@ -1,4 +1,4 @@
-"""The state of a plant, and its text: what docs/FORMATS.md says of the lines of a run.
+"""The state of a plant, and its text: what docs/reference/formats.md says of the lines of a run.
 
 An event is a pair of its word and a number: of a route, or of a section.
 """

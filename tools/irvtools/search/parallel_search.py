@@ -1,4 +1,4 @@
-"""Hunts at the same time, each in a process of its own with a seed of its own. The first that finds a
+"""Searches in parallel, each in its own process with its own seed. The first that finds a
 run to a hazard ends the others.
 
     with Searchers(plant, suspects) as searchers:
@@ -30,27 +30,28 @@ def processors():
         return os.cpu_count() or 1
 
 
-def hunting(plant, seed, suspects, seconds, pipe, parents):
-    """What a process does: hunts in slices of time, and tells after each its figures and its run. The
+def searching(plant, seed, suspects, seconds, pipe, parents):
+    """What a process does: it searches in slices of time, and sends after each its figures and its run. The
     ends of pipes at which its parent listens are `parents`: they are closed here, so that what is told
     to a parent that ended is refused."""
-    signal.signal(signal.SIGINT, signal.SIG_IGN)        # the parent ends this process
+    for number in (signal.SIGINT, signal.SIGHUP):       # the parent ends this process
+        signal.signal(number, signal.SIG_IGN)
     signal.signal(signal.SIGTERM, signal.SIG_DFL)
     for other in parents:
         other.close()
-    hunt, run = RandomSearch(plant, seed, suspects, keeps_uses=False), None
+    search, run = RandomSearch(plant, seed, suspects, keeps_uses=False), None
     end = time.monotonic() + seconds
     try:
         while run is None and time.monotonic() < end:
-            run = hunt.for_hazard(min(SLICE, end - time.monotonic()))
-            pipe.send((hunt.runs, hunt.events, hunt.longest, run))
+            run = search.for_hazard(min(SLICE, end - time.monotonic()))
+            pipe.send((search.runs, search.events, search.longest, run))
     except (BrokenPipeError, ConnectionResetError):
         pass                    # the parent ended
     pipe.close()
 
 
 class Searchers:
-    """Some hunts at once. `run` is what was found, or None, by the hunt with the seed `found_by`;
+    """Some searches in parallel. `run` is what was found, or None, by the search with the seed `found_by`;
     `runs`, `events` and `longest` are the figures of all together, `seconds` the time that it took."""
 
     def __init__(self, plant, suspects=(), seed=1, count=None):
@@ -72,7 +73,7 @@ class Searchers:
         for seed in range(self.seed, self.seed + self.count):
             listens, tells = context.Pipe(duplex=False)
             process = context.Process(
-                target=hunting, daemon=True,
+                target=searching, daemon=True,
                 args=(self.plant, seed, self.suspects, seconds, tells, [*self.processes, listens]))
             process.start()
             tells.close()
@@ -89,7 +90,7 @@ class Searchers:
 
     def wait(self, seconds):
         """Waits so many seconds at most; answers the run as soon as one is found, or None where the
-        time is over first or the hunts are."""
+        time is over first or the searches are."""
         until = time.monotonic() + seconds
         while self.processes:
             ready = connection.wait(list(self.processes), max(0, until - time.monotonic()))
@@ -131,7 +132,7 @@ class Searchers:
             self.end(pipe)
 
     def figure(self, place):
-        """The figures of one kind of all hunts."""
+        """The figures of one kind of all searches."""
         return [figures[place] for figures in self.figures.values()]
 
     @property

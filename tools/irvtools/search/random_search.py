@@ -1,4 +1,4 @@
-"""Hunts for runs from the start to a hazard, at random. What is found is the page's own, until
+"""Searches for runs from the initial state to a hazard, at random. What is found is the page's own, until
 `irv replay` has answered it.
 """
 
@@ -22,7 +22,7 @@ MOST_OTHERS = 4
 
 
 def suspects_of(plant, broken):
-    """Where a hunt looks first, by the rules of the columns that are broken, each with its places (as
+    """Where a search looks first, by the rules of the columns that are broken, each with its places (as
     `rules.read_line` reads them): the routes and borders that break one on which safety rests."""
     kinds = {"routes": "route", "sections": "border"}
     return [(kinds[places[0][0]], places[0][1]) for rule, places in broken
@@ -30,8 +30,8 @@ def suspects_of(plant, broken):
 
 
 class RandomSearch:
-    """A hunt over a plant. `suspects` are where it should look first: routes by number, or pairs as
-    `suspects_of` gives them. A seed gives one hunt. `used` has for each route that a run set, used and
+    """A search over a plant. `suspects` are where it should look first: routes by number, or pairs as
+    `suspects_of` gives them. A seed gives one search. `used` has for each route that a run set, used and
     finished this run, where uses are kept."""
 
     def __init__(self, plant, seed=1, suspects=(), keeps_uses=True):
@@ -46,7 +46,7 @@ class RandomSearch:
         self.used = {}
 
     def for_hazard(self, seconds, most_runs=None):
-        """Hunts for so long; answers a run to a hazard, shortened, or None."""
+        """Searches for `seconds`; returns a run to a hazard, shortened, or None."""
         end = time.monotonic() + seconds
         while time.monotonic() < end and (most_runs is None or self.runs < most_runs):
             run = self.walk()
@@ -55,7 +55,7 @@ class RandomSearch:
         return None
 
     def shorter(self, best):
-        """A run that is no longer than one: some runs more are made, the more the shorter it is."""
+        """Returns a run that is no longer than one: further runs are made, the more the shorter it is."""
         for _ in range(LOOK_ON // len(best)):
             run = self.walk()
             if run is not None and len(run) <= MUCH_LONGER * len(best):
@@ -63,7 +63,7 @@ class RandomSearch:
         return best
 
     def walk(self):
-        """One run; answers it where it ends in a hazard."""
+        """Makes one run; returns it if it ends in a hazard."""
         others = min(MOST_OTHERS, 2 + self.runs // MORE)
         walk = Walk(self.relations, self.random,
                     Crew(self.relations, self.random, self.suspects, others))

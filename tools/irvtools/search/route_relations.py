@@ -1,4 +1,4 @@
-"""Which routes have to do with each other: what a hunt picks together.
+"""Which routes have to do with each other: what a search picks together.
 
 Where a train comes to from a board is told by the tracks and not by the table, since the table may be
 wrong: over every leg of a point, up to the boards at which it has to stop.
@@ -37,7 +37,7 @@ class Relations:
                            if reached[facts.source[r]] >> self.starts[facts.source[s]][0] & 1
                            and self.starts[facts.source[s]][1] == self.starts[facts.source[r]][1]]
                           for r in range(count)]
-        # a hunt looks first at borders without a board, at which trains come in as they like
+        # a search looks first at borders without a board, at which trains enter freely
         self.suspects = [("border", x) for x, way in facts.inward.items()
                          if facts.board[way][x] < 0]
 

@@ -1,6 +1,6 @@
-"""Drives one train through route after route: each is set for it, used by it, and given back behind it.
+"""Drives one train through route after route: each is locked for it, used by it, and released behind it.
 
-The hunt brings its trains so to where they are wanted, and the page finds so what a route is good for.
+The search brings its trains so to where they are needed, and the report finds so which routes a train can use.
 """
 
 from irvtools.model.bitset_events import DONE
@@ -17,24 +17,24 @@ class Drive:
         self.train, self.done = None, DONE
 
     def copy(self):
-        """The same, to be gone on with by itself."""
+        """Returns a copy that continues by itself."""
         other = Drive(self.simulation.copy(), list(self.run))
         other.train, other.done = other.simulation.train_on[self.train[1][-1]], self.done
         return other
 
     @property
     def is_good(self):
-        """Whether all that was tried was done, without a hazard."""
+        """Returns whether all that was tried was done, without a hazard."""
         return self.done == DONE
 
     @property
     def board(self):
-        """The board at which the train stands, or -1."""
+        """The board at which the train waits, or -1."""
         way, body = self.train
         return self.simulation.facts.board[way][body[-1]]
 
     def do(self, word, number):
-        """Does an event, where all before it was done; answers whether one may go on."""
+        """Does an event if all before it was done; returns whether the drive may go on."""
         if self.done == DONE:
             self.done = getattr(self.simulation, word)(number)
             if self.done:
@@ -42,7 +42,7 @@ class Drive:
         return self.done == DONE
 
     def enter(self, x):
-        """The train comes in at a border, and runs on to a board."""
+        """The train enters at a border, and runs on to a board."""
         if self.do("enter", x):
             self.train = self.simulation.train_on[x]
             self.roll()
@@ -58,7 +58,7 @@ class Drive:
                 break
 
     def set(self, r):
-        """Marks, allocates and locks a route, and throws the points that it wants."""
+        """Marks, allocates and locks a route, and throws the points that it needs."""
         self.do("mark", r)
         self.do("allocate", r)
         waiting = self.simulation.minus ^ self.simulation.to_minus
@@ -70,7 +70,7 @@ class Drive:
         return self.do("lock", r)
 
     def use(self, r):
-        """The train uses a route that is set, which is given back behind it."""
+        """The train uses a locked route, which is released behind it."""
         body = self.train[1]
         path = self.simulation.facts.path[r]
         for x in path:

@@ -1,5 +1,5 @@
 // The plant that the page is about, and its states. Sections, boards and routes are known by their
-// numbers, as docs/MODEL.md counts them; tools/simulate writes them into the page.
+// numbers, as docs/reference/model.md counts them; tools/simulate writes them into the page.
 
 const OPPOSITE = { down: "up", up: "down" };
 const OTHER_LEG = { plus: "minus", minus: "plus" };

@@ -10,18 +10,9 @@ from irvtools.html.markup import tag, text
 from irvtools.trackplan.marks import Marks
 from irvtools.trackplan.signs import LETTERS, LOCK_CLASS
 from irvtools.trackplan.strips import EDGE, TOP, Strips
+from irvtools.trackplan.trains import path, train
 
 IN_ROW = ((3, 470), (2, 900))   # how many frames lie side by side, up to which width of the plan
-
-
-def line(points):
-    """The path of a line through points."""
-    return "M" + "L".join(f"{x:.0f} {y:.0f}" for x, y in points)
-
-
-def path(points, class_):
-    """A line through points."""
-    return f'<path d="{line(points)}" class="{class_}"/>'
 
 
 class Drawing:
@@ -101,7 +92,7 @@ class Drawing:
     def definitions(self):
         """What all views use: the signs, and the plan with its names and its joints."""
         boards = "".join(tag("g", signs.board(way, aspect), id=signs.board_id(way, aspect))
-                         for way in ("up", "down") for aspect in (None, "open", "closed"))
+                         for way in ("up", "down") for aspect in signs.ASPECTS)
         tracks = tag("g", "".join(self.tracks()), id="tracks")
         labels = list(self.labels())
         names = "".join(tag("g", "".join(self.labels_in(strip, labels)), id=f"names{number}")
@@ -215,7 +206,7 @@ class Drawing:
         over = "".join(self.in_state(x, state) for x in range(len(self.plant.sections)))
         over += "".join(self.sign(b, state.aspect[b], b in marks.boards)
                         for b in range(len(self.plant.boards)))
-        over += "".join(self.train(direction, body, state, number) for (direction, body), number
+        over += "".join(train(self, direction, body, state, number) for (direction, body), number
                         in zip(state.trains, numbers or range(1, len(state.trains) + 1)))
         if marks.hazard is not None:
             over += signs.hazard(self.middle(marks.hazard), self.y(marks.hazard))
@@ -225,9 +216,9 @@ class Drawing:
         """A board's sign; `aspect` is None in a plan without a state."""
         x, y = self.signs[b]
         ring = f'<circle cx="{x:.0f}" cy="{y:.0f}" r="11" class="ring"/>' if is_marked else ""
-        name = signs.board_id(self.plant.boards[b].direction, aspect)
-        hollow = ' class="rule"' if aspect is None and b in self.hollow else ""
-        return f'{ring}<use href="#{name}" x="{x:.0f}" y="{y:.0f}"{hollow}/>'
+        look = "hollow" if aspect is None and b in self.hollow else aspect
+        name = signs.board_id(self.plant.boards[b].direction, look)
+        return f'{ring}<use href="#{name}" x="{x:.0f}" y="{y:.0f}"/>'
 
     def marked(self, marks):
         """The marks below the plan."""
@@ -273,45 +264,3 @@ class Drawing:
         parts.append('<circle cx="{:.0f}" cy="{:.0f}" r="{}" class="g{}"/>'.format(
             *self.frog(x), 6 if is_moving else 4, " mv" if is_moving else ""))
         return "".join(parts) + letter
-
-    def train(self, direction, body, state, number):
-        """A train, from its tail to its head, with its number."""
-        points = []
-        for place, x in enumerate(body):
-            before = body[place - 1] if place else None
-            after = body[place + 1] if place + 1 < len(body) else None
-            points += self.way(x, direction, before, after, state)
-        points[0] = toward(points[0], points[1], 0.22)
-        tip = toward(points[-1], points[-2], 0.16)
-        points[-1] = toward(points[-1], points[-2], 0.3)
-        shift = -2 if direction == "up" else 2
-        points = [(x, y + shift) for x, y in points]
-        label = signs.number(*toward(points[-2], points[-1], 0.6), direction, number)
-        return (path(points, f"tr {direction}") + arrow(points[-1], (tip[0], tip[1] + shift), direction)
-                + label)
-
-    def way(self, x, direction, before, after, state):
-        """The points of a train's way through a section."""
-        section = self.plant.sections[x]
-        if not section.is_point:
-            ends = [self.end(x, "down"), self.end(x, "up")]
-            return ends if direction == "up" else ends[::-1]
-        laid = state.at[x] if state.at[x] != "moving" else "plus"
-        aside = self.plant.leg_to(x, after if section.faces == direction else before) or laid
-        ends = [self.end(x, "stem"), self.frog(x), self.end(x, aside)]
-        return ends if section.faces == direction else ends[::-1]
-
-
-def toward(point, other, part):
-    """A part of the way from a point to another."""
-    return point[0] + (other[0] - point[0]) * part, point[1] + (other[1] - point[1]) * part
-
-
-def arrow(base, tip, direction):
-    """The head of a train: a triangle that points where it runs."""
-    dx, dy = tip[0] - base[0], tip[1] - base[1]
-    length = max((dx * dx + dy * dy) ** 0.5, 0.1)
-    ux, uy = dx / length, dy / length
-    bx, by = base[0] + ux * 2, base[1] + uy * 2
-    corners = [(bx + uy * 7, by - ux * 7), (bx + ux * 14, by + uy * 14), (bx - uy * 7, by + ux * 7)]
-    return f'<path d="{line(corners)}z" class="ah {direction}"/>'

@@ -64,7 +64,7 @@ text{{font:11px ui-monospace,"DejaVu Sans Mono",Menlo,Consolas,monospace;paint-o
 .ring{{fill:var(--mark);stroke:none}}
 .shut{{fill:var(--closed)}}.clear{{fill:var(--open)}}.plain{{fill:var(--board)}}
 .bar{{stroke:var(--sign);stroke-width:2.2;fill:none}}.way{{fill:var(--sign)}}
-.rule .plain{{fill:var(--ground);stroke:var(--board);stroke-width:2}}.rule .way{{fill:var(--board)}}
+.hollow{{fill:var(--ground);stroke:var(--board);stroke-width:2}}.hollow-way{{fill:var(--board)}}
 .tr{{fill:none;stroke-width:8;stroke:var(--up)}}.tr.down{{stroke:var(--down);stroke-dasharray:14 2}}
 .ah{{fill:var(--up)}}.ah.down{{fill:var(--down)}}
 .number rect{{fill:var(--ground);stroke:var(--up);stroke-width:1.6}}.number.down rect{{stroke:var(--down)}}
@@ -82,17 +82,20 @@ def shapes(direction: str) -> dict:
             "way": f"M{-3.5 * way} -4L{4.5 * way} 0L{-3.5 * way} 4z"}
 
 
+ASPECTS = (None, "open", "closed", "hollow")    # how a board looks: None and hollow in a plan without a state
 SQUARE = '<rect x="-6" y="-6" width="12" height="12" class="{}"/>'
 
 
 def board(direction: str, aspect: str | None) -> str:
-    """Returns a board's sign around the origin; `aspect` is None in a plan without a state."""
+    """Returns a board's sign around the origin, by how it looks."""
     paths = shapes(direction)
     if aspect == "closed":
         return SQUARE.format("shut") + f'<path d="{paths["bar"]}" class="bar"/>'
     if aspect == "open":
         return f'<circle r="7.5" class="clear"/><path d="{paths["way"]}" class="way"/>'
-    return SQUARE.format("plain") + f'<path d="{paths["way"]}" class="way"/>'
+    name = "plain" if aspect is None else "hollow"
+    way = "way" if aspect is None else "hollow-way"
+    return SQUARE.format(name) + f'<path d="{paths["way"]}" class="{way}"/>'
 
 
 def board_id(direction: str, aspect: str | None) -> str:
