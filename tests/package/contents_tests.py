@@ -242,12 +242,14 @@ def check_made_again(program, _):
 
 
 def check_about(program, _):
-    """The title, the project, the issue and the author are on the page, as texts."""
+    """The title, the project, the issue and the author are on the page and on the report, as texts."""
     words = ("--title", "Line <A>", "--project", "P & Q", "--issue", "2", "--author", "M. \"X\"")
     with made(program, example("two-sections.json"), "--search-seconds", "0", *words) as (directory, _):
         text, page = text_of_page(directory), (directory / INDEX).read_text()
         yield from (f"no {word!r}" for word in ("Line <A>", "P & Q", "M. \"X\"") if word not in text)
         yield from ["markup"] if "<A>" in page else []
+        report = html.unescape((directory / "report.html").read_text())
+        yield from (f"the report has no {word!r}" for word in words[1::2] if word not in report)
 
 
 ContentsTests = test_case("ContentsTests", (

@@ -30,6 +30,8 @@ def refusals(room):
             ("new", "--search-seconds", "x"): "--search-seconds: 'x' is not a whole number",
             ("new", "--columns", "free"): "unrecognized arguments: --columns free",
             ("new", "--depth", "1", "--depth", "1"): "--depth is given twice",
+            ("new", "--title", ""): "--title needs 1 to 200 printable characters",
+            ("new", "--author", "a\nb"): "--author needs 1 to 200 printable characters",
             ("new", "--program", "nowhere"): "nowhere does not exist"}
 
 

@@ -19,8 +19,8 @@ from tests.support.harness import test_case
 MARK = "irv-reproducible-build"         # by which tests/reproducible_build knows its directory
 RECORD = (
     "# Validation record of irv 1.2.3 (generated", "| toolchain | `kit 1` |", "| commit | `", "| tree | `",
-    "| `tests/run --without-program` | 3 | 1 | Runs the tests, and what \\| is. |", "| `rt ci` | "
-                                                                                    "40 | 0 | ",
+    "| `tests/run --without-program` | 3 | 1 | Runs the tests, and what \\| is. |",
+    "| `rt ci` | 40 | 0 | ",
     "| `tests/run --with-program` | 600 | 1 | Runs the tests, and what \\| is. |",
     "| `tools/mutants` | 5 | 0 | Tries mutants. |", "| `tests/run docs` | 2 | 3 | 0 |",
     "| `tests/run html` | 1 | 600 | 0 |", "| `tests/run schema` | 0 | 0 | 1 |",
@@ -109,8 +109,8 @@ def changes():
         "CI did not pass: tests/run --with-program": changed("gate.log", "600 passed, 0", "600 passed, 1"),
         "CI did not pass: tools/mutants": changed("gate.log", "5 passed, 0", "5 passed, 1"),
         "CI did not pass: rt ci": changed("gate.log", "7 passed, 0", "7 passed, 1"),
-        "the log is not whole": lambda top: (top.parent / "gate.log").write_text("3 passed, 0 "
-                                                                                 "failed\n"),
+        "the log is not whole": lambda top: (top.parent / "gate.log").write_text(
+            "3 passed, 0 failed\n"),
         "does not say over which tree": changed("gate.log", "CI passed, ", ""),
         "CI has begun over another tree": commit_more,
         "CI has passed over another tree": lambda top: (top.parent / "gate.log").write_text(
@@ -200,8 +200,8 @@ def check_given_build(_, __):
         words, unknown = ("--given", top, log), "is not known to be built of the sources here"
         for why, file, old, new in (
                 ("does not say that every proof", log, "rt: ok; every proof", "rt: ok; some proof"),
-                ("CI has begun over another tree", log, "begun, tree of git: ", "begun, tree of "
-                                                                                "git: 0"),
+                ("CI has begun over another tree", log,
+                 "begun, tree of git: ", "begun, tree of git: 0"),
                 (unknown, note, f"sources {sources}", "sources s1"),
                 (unknown, note, f"program {total[:9]}", "program 0"),
                 (unknown, note, "toolchain kit 1", "toolchain kit 2")):

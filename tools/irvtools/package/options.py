@@ -7,9 +7,8 @@ from pathlib import Path
 
 from irvtools.arguments import Parser, whole_number
 from irvtools.batch.file_names import shown
-from irvtools.html import options as html_options
-from irvtools.html.options import Refused as RunRefused
-from irvtools.html.options import name_of_input
+from irvtools.html.options import Refused as ReportRefused
+from irvtools.html.options import name_of_input, subject_text
 from irvtools.html.run_file import Given
 
 DEPTHS, CONFLICTS = (1, 16), (0, 200000)
@@ -65,17 +64,19 @@ class Options:
         self.of_verify = [word for name in ("depth", "conflicts")
                           if (value := getattr(given, name)) is not None
                           for word in (f"--{name}", str(value))]
-        about = {name: getattr(given, name) for name in ABOUT if getattr(given, name) is not None}
-        self.about = {name: shown(value) for name, value in about.items()}
-        self.of_report = [word for name, value in about.items()
-                          if name in getattr(html_options, "SUBJECT", ())
-                          for word in (f"--{name}", value)]
         self.name = shown(Path(name_of_input()).name)
         self.guard_directory()
         try:
+            self.about = {name: subject_text(name, getattr(given, name)) for name in ABOUT
+                          if getattr(given, name) is not None}
             self.runs = [Given(name) for name in given.run]
-        except RunRefused as fault:
+        except ReportRefused as fault:
             raise Refused(str(fault)) from fault
+
+    @property
+    def of_report(self) -> list[str]:
+        """The options that the report gets too."""
+        return [word for name, value in self.about.items() for word in (f"--{name}", value)]
 
     def guard_directory(self) -> None:
         """Refuses a directory that is not empty, and one that cannot be made."""

@@ -42,8 +42,7 @@ DOCUMENTS = (
     ("documents/docs/guides/evidence-package.md", "this kind of package"),
     ("documents/README.md", "first page of the documents"),
 )
-ROOM = ("", "&#160;<br>&#160;")     # for a name, a date, a signature
-MORE_CSS = "td:has(br){min-width:9em}"
+ROOM, MORE_CSS = ("", "&#160;<br>&#160;"), "td:has(br){min-width:9em}"      # for a signature
 
 
 def link(file: str, words: str | None = None) -> str:
@@ -69,7 +68,8 @@ class PackagePage:
 
     def say(self, *sentences) -> None:
         """Adds a paragraph of texts; a tuple has markup."""
-        self.add(tag("p", " ".join(it[0] if isinstance(it, tuple) else text(it) for it in sentences)))
+        markup = [it[0] if isinstance(it, tuple) else text(it) for it in sentences]
+        self.add(tag("p", " ".join(markup)))
 
     def whole(self) -> str:
         """Returns the page as a document."""
