@@ -14,6 +14,7 @@ from unittest import SkipTest
 
 from tests.batch.workspace import batch_case, differs, done_line, run, without_progress
 
+REPORTS = 4             # calls that are interrupted while they make a report
 LONG = 300              # seconds to wait for something, however loaded the machine is
 SMALL_DISK, LARGE_DISK = "2m", "64m"    # below the certificate of a terminus, and far above
 
@@ -108,6 +109,23 @@ def check_interrupted(room):
                        (done.returncode, room.answers()[("platforms.json", "verify")]),
                        (1, ("good", "safe k=1")))
     yield from differs("verified", room.verify()[0], 0)
+
+
+def check_interrupted_report(room):
+    """A call that is interrupted while an HTML report asks verify leaves no temporary file of the
+    report."""
+    room.add("platforms.json")
+    temporary = room.room / "temporary"
+    temporary.mkdir()
+    for _ in range(REPORTS):
+        Path(f"{room.room}/wish.waits").unlink(missing_ok=True)
+        call = begun(room, ["--ask", "html --columns free --search-seconds 0"],
+                     stderr=subprocess.DEVNULL, env={**os.environ, "TMPDIR": str(temporary)})
+        call.send_signal(signal.SIGTERM)
+        yield from differs("status", call.wait(LONG), 3)
+        yield from differs("processes", processes_of(room), [])
+        left = [*temporary.iterdir(), *(room.out / "making").iterdir()]
+        yield from differs("temporary files", left, [])
 
 
 def check_terminal(room):
@@ -208,6 +226,6 @@ def check_full_disk(room):
         yield from differs("verified", room.verify()[0], 0)
 
 
-InterruptionTests = batch_case("InterruptionTests",
-                               (check_no_answer, check_killed, check_worker_killed,
-                                check_interrupted, check_terminal, check_full, check_full_disk))
+InterruptionTests = batch_case("InterruptionTests", (
+    check_no_answer, check_killed, check_worker_killed, check_interrupted, check_interrupted_report,
+    check_terminal, check_full, check_full_disk))
