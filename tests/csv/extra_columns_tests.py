@@ -3,6 +3,7 @@
 import csv
 import io
 import json
+import subprocess
 import tempfile
 from pathlib import Path
 from unittest import SkipTest
@@ -215,6 +216,24 @@ def check_labels(program, _):
             yield "the name is another"
 
 
+def check_labels_in_pages(program, _):
+    """The report and the simulator show labels beside names; without --labels, or with CSV files that
+    cannot be read, they don't."""
+    with tempfile.TemporaryDirectory(prefix="irv-extra-") as room:
+        lay_out(room)
+        given = call(program, ["--in", "two"], b"", room).stdout
+        for tool, words in (("html", ["--search-seconds", "0", "--no-cert"]), ("simulate", [])):
+            for more, wanted, status in ((["--labels", "two"], True, 0), ([], False, 0), (["--labels", "no"], None, 125)):
+                done = subprocess.run([TOP / "tools" / tool, "--program", program, "out.html", *words, *more],
+                                      input=given, cwd=room, capture_output=True, check=False)
+                page = Path(room, "out.html")
+                text = page.read_text(encoding="utf-8") if page.exists() else None
+                shown = text and all(f">{name}</text>" in text for name in ("a Gl. 1", "b 1-2", "m1 201A/B"))
+                if (shown, done.returncode) != (wanted, status) or wanted and tool == "html" and "1 2/1" not in text:
+                    yield f"{tool} {more}: {shown} {done}"
+                page.unlink(missing_ok=True)
+
+
 ExtraColumnsTests = test_case("ExtraColumnsTests", [
     check_kept, check_json, check_compared, check_headings, check_spreadsheets, check_real_spreadsheets,
-    check_control_table, check_unlisted, check_labels])
+    check_control_table, check_unlisted, check_labels, check_labels_in_pages])

@@ -3,9 +3,11 @@ the CSV files, because a configuration has no member for them."""
 
 from __future__ import annotations
 
+import copy
 from dataclasses import dataclass, field
 
 from irvtools.csvtables import columns, reading
+from irvtools.model.plant import Plant
 
 
 @dataclass(frozen=True)
@@ -39,3 +41,23 @@ def add(labels: dict[str, str], name: str | None, entry: dict, heading: str) -> 
 def read(directory: str) -> Labels:
     """Returns the labels in the CSV files of a directory."""
     return of_value(reading.read_folder(directory))
+
+
+def labelled(plant: Plant, labels: Labels) -> Plant:
+    """Returns a plant for drawings, in which the names of sections and boards have their labels behind
+    them. Nothing refers to things by these names."""
+    if not labels.sections and not labels.boards:
+        return plant
+    drawn = copy.copy(plant)
+    drawn.sections = [with_label(one, labels.sections) for one in plant.sections]
+    drawn.boards = [with_label(one, labels.boards) for one in plant.boards]
+    return drawn
+
+
+def with_label(thing, labels: dict[str, str]):
+    """Returns a section or a board whose name has its label behind it, if it has one."""
+    if thing.name not in labels:
+        return thing
+    named = copy.copy(thing)
+    named.name = f"{thing.name} {labels[thing.name]}"
+    return named

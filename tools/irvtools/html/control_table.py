@@ -14,7 +14,8 @@ def sheet_part(page):
     if not page.plant.routes:
         return
     known = route_members(page.plant.version)
-    rows = [row(str(route.number), route.member, known) for route in page.plant.routes]
+    rows = [row(f"{route.number} {page.labels.routes.get(route.name, '')}".strip(), route.member, known)
+            for route in page.plant.routes]
     # the heading is on the sheet's own paper, which is wide
     page.add(tag("div", page.titled("Interlocking table", "table") + sheet("no.", known, rows), class_="wide"))
 

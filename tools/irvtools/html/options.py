@@ -4,6 +4,8 @@ import os
 from pathlib import Path
 
 from irvtools.arguments import Parser, whole_number
+from irvtools.calls import refusal as calls_refusal
+from irvtools.csvtables import labels
 
 OF_VERIFY = ("columns", "depth", "conflicts", "cert")       # options that verify has too
 MOST_SECONDS = 999999
@@ -29,6 +31,8 @@ def parser(status):
                   "irv --html OUT.html [OPTIONS] < CONFIGURATION")
     line.add_argument("out", metavar="OUT.html", help="the report's file")
     line.once("--run", "a run or scenario that is shown too", metavar="FILE")
+    line.once("--labels", "show the labels in the CSV files of this directory beside the names",
+              metavar="DIRECTORY")
     line.once("--verify-seconds", "how long verify may take (20)", default=20, metavar="N",
               type=whole_number(0, MOST_SECONDS))
     line.once("--search-seconds", "how long a run to a hazard is searched for if the table is not "
@@ -63,6 +67,7 @@ class Options:
         self.name = name_of_input()
         self.verify_seconds, self.search_seconds = given.verify_seconds, given.search_seconds
         self.run, self.has_times = given.run, not given.without_times
+        self.labels = read_labels(given.labels)
         self.columns = given.columns or "strict"
         self.import_notes = given.import_notes
         self.is_cert_kept = not given.no_cert
@@ -85,6 +90,14 @@ class Options:
                  (self.program, "the program")]
         given = ((self.run, "the file of --run"), (self.import_notes, "the file of --import-notes"))
         return named + [(file, what) for file, what in given if file is not None]
+
+
+def read_labels(directory):
+    """Returns the labels in the CSV files of a directory, or `None` if none is named."""
+    try:
+        return None if directory is None else labels.read(directory)
+    except calls_refusal.Refused as refused:
+        raise Refused(f"--labels: {refused.faults[0]}") from None
 
 
 def subject_text(name, said):

@@ -15,6 +15,7 @@ from irvtools.trackplan.signs import legend
 from irvtools.html.run_frames import HAZARD_ID
 from irvtools.html.run_section import given_part
 from irvtools.html.markup import code, tag, text
+from irvtools.csvtables.labels import Labels, labelled
 from irvtools.model.plant import Plant
 from irvtools.html.control_table import sheet_part
 from irvtools.html.routes_section import routes_part
@@ -40,6 +41,7 @@ class Report:
         self.answered = []      # what the verdict is taken from
         self.parts, self.heads, self.ids = [], [], set()
         self.plant = self.drawing = self.verdict = None
+        self.labels = getattr(options, "labels", None) or Labels()
         self.suspects = []      # routes at which the search begins
         self.is_refused = self.is_endangered = False    # a rule is broken; one that safety rests on
         self.has_cert = False   # whether a certificate is left
@@ -147,8 +149,8 @@ class Report:
         value, unread = schema_rules.read(self.given)
         if unread is None:
             self.plant = Plant(value)
-            self.drawing = Drawing(self.plant, [board.number for board in self.plant.boards
-                                                if board.name in self.by_rule])
+            hollow = [board.number for board in self.plant.boards if board.name in self.by_rule]
+            self.drawing = Drawing(labelled(self.plant, self.labels), hollow)
 
     def plan_part(self):
         """The track plan with its legend."""

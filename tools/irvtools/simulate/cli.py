@@ -5,7 +5,7 @@ from pathlib import Path
 from types import SimpleNamespace
 
 from irvtools.arguments import Parser
-from irvtools.html.options import is_same, name_of_input
+from irvtools.html.options import Refused, is_same, name_of_input, read_labels
 from irvtools.simulate.compare import check
 from irvtools.simulate.simulator_page import SimulatorPage
 
@@ -21,17 +21,20 @@ def parser():
                   "irv --simulate OUT.html | --compare FILE [OPTIONS] < CONFIGURATION")
     line.add_argument("out", metavar="OUT.html", nargs="?", help="the simulator's file")
     line.once("--compare", "a file that the simulator saved, a run or a scenario", metavar="FILE")
+    line.once("--labels", "show the labels in the CSV files of this directory beside the names",
+              metavar="DIRECTORY")
     line.program()
     return line
 
 
-def write(out, program):
+def write(out, program, labels):
     """Writes the simulator; returns the exit status."""
     if is_same(str(out), "/proc/self/fd/0"):
         print(f"irv --simulate: {out} is the file of standard input and would be overwritten",
               file=sys.stderr)
         return NOT_WRITTEN
-    options = SimpleNamespace(name=name_of_input(), program=program, program_file=Path(program))
+    options = SimpleNamespace(name=name_of_input(), program=program, program_file=Path(program),
+                              labels=labels)
     page = SimulatorPage(options, sys.stdin.buffer.read())
     try:
         out.write_text(page.make(), encoding="utf-8", errors="replace")
@@ -54,5 +57,11 @@ def main(words):
               file=sys.stderr)
         return NOT_WRITTEN
     if given.out is not None:
-        return write(Path(given.out), str(program))
+        try:
+            return write(Path(given.out), str(program), read_labels(given.labels))
+        except Refused as refused:
+            print(f"irv --simulate: {refused}", file=sys.stderr)
+            return NOT_WRITTEN
+    if given.labels is not None:
+        line.error("--labels does not go with --compare")
     return check(given.compare, str(program), sys.stdin.buffer.read())
