@@ -1,8 +1,8 @@
 """Calls of the program whose standard streams are closed, where no directory can be opened.
 
 A file takes the least descriptor that is free, so a certificate's file could take the place of a
-closed standard stream, and the report would be written into it. The program holds a closed stream by
-a directory. In these calls it can't: the root directory has no right to be read.
+closed standard stream, and the report would be written into it. The program holds a closed stream
+by a directory. In these calls it can't: nobody may read the root directory.
 """
 
 import ctypes
@@ -24,13 +24,14 @@ CERTIFICATE = Path("w") / "c"
 
 
 class NotTried(Exception):
-    """This system lets the caller change the root directory neither as root nor in a user namespace."""
+    """This system doesn't let the caller change the root directory, as root or in a namespace."""
 
 
 @dataclass(frozen=True)
 class Case:
-    """A call in the jail: its arguments, the streams that are closed, the directory it runs in, and what
-    has to come of it. The certificate is the one of a call with open streams, or there is no file."""
+    """A call in the jail: its arguments, the streams that are closed, the directory it runs in, and
+    what has to come of it. The certificate is that of a call with open streams, or there is no
+    file."""
 
     name: str
     words: str
@@ -51,7 +52,7 @@ CASES = (
     Case("output and error closed", VERIFY, (1, 2), "/", 9, b"", b"", False),
     Case("input closed", VERIFY, (0,), "/", 8, b"", b"irv: read fault\n", False),
     Case("input and output closed", VERIFY, (0, 1), "/", 8, b"", b"irv: read fault\n", False),
-    Case("output closed, held by the working directory", VERIFY, (1,), "/w", 9, b"", WRITE_FAULT, True),
+    Case("output closed, held by /w", VERIFY, (1,), "/w", 9, b"", WRITE_FAULT, True),
     Case("output closed, no certificate to write", "check", (1,), "/", 9, b"", WRITE_FAULT, False),
     Case("error closed, no certificate to write", "check", (2,), "/", 0, b"clean\n", b"", False),
     Case("wrong arguments, output closed", "verify", (1,), "/", 7, b"", b"irv: usage\n", False),
@@ -60,14 +61,14 @@ CASES = (
 
 def libraries_of(program: Path) -> List[Path]:
     """Returns the shared libraries that a program is loaded with, its loader among them."""
-    told = subprocess.run(["ldd", str(program)], stdout=subprocess.PIPE, stderr=subprocess.DEVNULL,
-                          check=False).stdout.decode()
+    told = subprocess.run(["ldd", str(program)], stdout=subprocess.PIPE,
+                          stderr=subprocess.DEVNULL, check=False).stdout.decode()
     return [Path(it) for it in re.findall(r"(/\S+) \(0x", told)]
 
 
 def make_jail(jail: Path, program: Path) -> None:
-    """Makes a root directory that can be searched and not read, with the program, the plant's file and
-    an empty directory `w`."""
+    """Makes a root directory that can be searched and not read, with the program, what it is loaded
+    with, and an empty directory `w`."""
     for file in libraries_of(program):
         at = jail / file.relative_to("/")
         at.parent.mkdir(parents=True, exist_ok=True)
@@ -80,8 +81,8 @@ def make_jail(jail: Path, program: Path) -> None:
 
 
 def enter(jail: Path, at: str, closed: Sequence[int]) -> None:
-    """Makes the jail the root directory of this process, as a user who may not read it, and closes the
-    streams. A user other than root does it in a user namespace."""
+    """Makes the jail the root directory of this process, as a user who may not read it, and closes
+    the streams. A user other than root does it in a user namespace."""
     if os.geteuid() == 0:
         os.chroot(jail)
         os.chdir(at)
@@ -111,8 +112,8 @@ def call(jail: Path, case: Case) -> subprocess.CompletedProcess:
 
 def faults_of(case: Case, done: subprocess.CompletedProcess, written: Optional[bytes],
               certificate: bytes) -> Iterator[str]:
-    """Yields what is wrong with a call that is done: `written` is what its certificate's file has, or
-    None if there is no file."""
+    """Yields what is wrong with a call that is done: `written` is what its certificate's file has,
+    or None if there is no file."""
     pairs = (
         ("status", done.returncode, case.status),
         ("report", done.stdout, case.report),
@@ -125,8 +126,8 @@ def faults_of(case: Case, done: subprocess.CompletedProcess, written: Optional[b
 
 
 def faults(program: Path) -> Iterator[str]:
-    """Yields what is wrong with the calls of the built program. Raises NotTried if no call can be made
-    here."""
+    """Yields what is wrong with the calls of the built program. Raises NotTried if no call can be
+    made here."""
     certificate = b""
     for case in CASES:
         with tempfile.TemporaryDirectory() as folder:
@@ -141,6 +142,6 @@ def faults(program: Path) -> Iterator[str]:
                 jail.chmod(0o755)
         if case is CASES[0]:
             certificate = written or b""
-            if not certificate.startswith(b"irv certificate ") or not certificate.endswith(b"\nend\n"):
+            if not re.fullmatch(rb"irv certificate .*\nend\n", certificate, re.DOTALL):
                 yield f"{case.name}: the certificate isn't one: {certificate[-60:]!r}"
         yield from faults_of(case, done, written, certificate)
