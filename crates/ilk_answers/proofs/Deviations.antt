@@ -91,6 +91,13 @@ line-cut rule place rest =
     ∙ ap (λ bytes. rule ++ 32 ∷ bytes) (append_assoc place (10 ∷ []) rest)
     ∙ sym (append_assoc rule (32 ∷ place) (10 ∷ rest)))
 
+line-begins : (rule place rest : Bytes) → each_line_begins_in harmless_beginnings (refused_at rule place ++ rest) ≡ true →
+    (begins_in harmless_beginnings (codes "refused " ++ (rule ++ (codes " " ++ place))) ≡ true)
+    × (each_line_begins_in harmless_beginnings rest ≡ true)
+line-begins rule place rest h =
+    lines-begin harmless_beginnings (codes "refused " ++ (rule ++ (codes " " ++ place))) rest
+    (ap (each_line_begins_in harmless_beginnings) (sym (line-cut rule place rest)) ∙ h)
+
 form-begins : (form : Form) (place : Bytes) → begins_in harmless_beginnings (codes "refused " ++ (form_name form ++ (codes " " ++ place))) ≡ true → false ≡ true
 form-begins F1 place h = h
 form-begins F2 place h = h
@@ -101,10 +108,10 @@ form-begins F6 place h = h
 
 refusal-harmless : (refusal : Refusal) (rest : Bytes) → each_line_begins_in harmless_beginnings (refusal_line refusal ++ rest) ≡ true → (is_harmless_refusal refusal ≡ true) × (each_line_begins_in harmless_beginnings rest ≡ true)
 refusal-harmless (FormRefusal fault) rest h =
-    let parts = lines-begin harmless_beginnings (codes "refused " ++ (form_name fault.rule ++ (codes " " ++ place_text fault.place))) rest (ap (each_line_begins_in harmless_beginnings) (sym (line-cut (form_name fault.rule) (place_text fault.place) rest)) ∙ h) in
+    let parts = line-begins (form_name fault.rule) (place_text fault.place) rest h in
     (form-begins fault.rule (place_text fault.place) parts.0, parts.1)
 refusal-harmless (RuleRefusal b) rest h =
-    let parts = lines-begin harmless_beginnings (codes "refused " ++ (rule_word b.rule ++ (codes " " ++ broken_places b))) rest (ap (each_line_begins_in harmless_beginnings) (sym (line-cut (rule_word b.rule) (broken_places b) rest)) ∙ h) in
+    let parts = line-begins (rule_word b.rule) (broken_places b) rest h in
     (harmless-begins b.rule (broken_places b) parts.0, parts.1)
 
 broken-harmless : (found : List Broken) → each_line_begins_in harmless_beginnings (broken_lines found) ≡ true → are_harmless found ≡ true
@@ -125,7 +132,9 @@ first-harmless [] later none h = (refl, h)
 first-harmless (b ∷ first) later none h = let no : b ∷ first ≡ [] = none h in absurd (cc)
 
 -- if each broken rule of some drafts is harmless, they have a plant that is safe for runs of any length
-safe-drafts : (conf : List ℕ) (net : NetDraft) (table : TableDraft) → nat_lt MAX_CONFIGURATION (length conf) ≡ false → drafts_of conf ≡ Ok (net, table) → IsSoundIfPlant conf → are_harmless (rules_broken (All Strict) net table) ≡ true → HasSafePlant conf
+safe-drafts : (conf : List ℕ) (net : NetDraft) (table : TableDraft) → nat_lt MAX_CONFIGURATION (length conf) ≡ false →
+    drafts_of conf ≡ Ok (net, table) → IsSoundIfPlant conf →
+    are_harmless (rules_broken (All Strict) net table) ≡ true → HasSafePlant conf
 safe-drafts conf net table short read sound harmless =
     let p : PlantLists = numbered net table in
     let network = first-harmless (network_rules_broken net) (or_later (table_rules_broken net table) (column_rules_broken p)) (network-harmless net) harmless in

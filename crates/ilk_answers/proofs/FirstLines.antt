@@ -46,7 +46,10 @@ first-line (x ∷ text) rest = by_byte (x == 10) refl (first-line text rest)
       lines = grows (parts_at 10 whole) refl after.lines;
     }
       where
-        grows : (parts : List Bytes) → parts_at 10 whole ≡ parts → parts_but_last parts ≡ after.line ∷ (after.more ++ lines_of rest) → parts_but_last (cond (x == 10) ([] ∷ parts_at 10 whole) (onto_first x (parts_at 10 whole))) ≡ (x ∷ after.line) ∷ (after.more ++ lines_of rest)
+        grows : (parts : List Bytes) → parts_at 10 whole ≡ parts →
+            parts_but_last parts ≡ after.line ∷ (after.more ++ lines_of rest) →
+            parts_but_last (cond (x == 10) ([] ∷ parts_at 10 whole) (onto_first x (parts_at 10 whole)))
+            ≡ (x ∷ after.line) ∷ (after.more ++ lines_of rest)
         grows [] is lines = absurd (cc)
         grows (part ∷ []) is lines = absurd (cc)
         grows (part ∷ next ∷ parts) is lines =

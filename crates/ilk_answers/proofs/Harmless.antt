@@ -1,5 +1,5 @@
 -- If each line of a report refuses by a rule that safety doesn't need, no other rule is broken.
-use Rattle.std.proofs.Common.{◌≡◌, ℕ, zero, suc, ◌==◌, Bool, true, false, not, ◌&&◌, Option, Some, None, List, [], ◌∷◌, ◌++◌, codes, filter, flat_map, is_none, length, map, nat_lt, slice_get, refl, sym, ap, ◌∙◌}
+use Rattle.std.proofs.Common.{◌≡◌, ℕ, ◌<◌, zero, suc, ◌==◌, Bool, true, false, not, ◌&&◌, Option, Some, None, List, [], ◌∷◌, ◌++◌, codes, filter, flat_map, is_none, length, map, nat_lt, slice_get, refl, sym, ap, ◌∙◌}
 use Rattle.std.specs.List.{list_all, range_with_len}
 use Rattle.std.proofs.lemmas.Bool.{and_parts, eqb-true}
 use Rattle.std.proofs.lemmas.List.Folds.{list_all-append}
@@ -75,7 +75,11 @@ none-at rule n test harms all = of_places (filter test (range_with_len 0 n)) all
     of_places [] h = refl
     of_places (i ∷ places) h = let here : is_harmless rule ≡ true = (and_parts (is_harmless rule) (are_harmless (map made places)) h).0 in cc
 
--- so is it for a list of such rules
+-- so such a rule is kept at each place
+kept-at : (rule : Rule) (n : ℕ) (test : ℕ → Bool) → is_harmless rule ≡ false → are_harmless (broken_at rule n test) ≡ true → (i : ℕ) → i < n → test i ≡ false
+kept-at rule n test harms all = rule-kept rule n test (none-at rule n test harms all)
+
+-- nor is anything found of a list of such rules
 pub none-each : (rules : List Rule) (count : Places → ℕ) (breaks : Rule → ℕ → Bool) → list_all (λ rule. not (is_harmless rule)) rules ≡ true → are_harmless (each_broken_at rules count breaks) ≡ true → each_broken_at rules count breaks ≡ []
 none-each [] count breaks harm all = refl
 none-each (rule ∷ rules) count breaks harm all =
@@ -132,16 +136,25 @@ ends-not_plain p d None x h = alone (has_no_board p d x) (length (next_to p x d)
 -- if each broken rule of the columns is harmless, what strict safety needs of the columns is kept
 pub harmless-keeps : (p : PlantLists) → are_harmless (column_rules_broken p) ≡ true → KeepsPathRules p
 harmless-keeps p all = record {
-  c1 = rule-kept C1 (length p.routes) (breaks_columns p C1) (none-at C1 (length p.routes) (breaks_columns p C1) refl (part-harmless (column_rule_broken p) column_rules 0 C1 refl all));
-  c2 = λ i less. fails-more p (path_end_is_not_plain p) (path_ends_at_board p) i ends (rule-kept C2 (length p.routes) (breaks_columns p C2) (none-at C2 (length p.routes) (breaks_columns p C2) refl (part-harmless (column_rule_broken p) column_rules 1 C2 refl all)) i less);
-  c3 = λ i less. fails-more p (path_points_are_set p) (points_are_set p) i (λ route h. (and_parts (path_points_are_set p route) _ h).0) (rule-kept C3 (length p.routes) (breaks_columns p C3) (none-at C3 (length p.routes) (breaks_columns p C3) refl (part-harmless (column_rule_broken p) column_rules 2 C3 refl all)) i less);
-  c7 = rule-kept C7 (length p.sections) (breaks_columns p C7) (none-at C7 (length p.sections) (breaks_columns p C7) refl (part-harmless (column_rule_broken p) column_rules 6 C7 refl all));
+  c1 = kept-at C1 (length p.routes) (breaks_columns p C1) refl (of_rule 0 C1 refl);
+  c2 = λ i less. fails-more p (path_end_is_not_plain p) (path_ends_at_board p) i ends (kept-at C2 (length p.routes) (breaks_columns p C2) refl (of_rule 1 C2 refl) i less);
+  c3 = λ i less. fails-more p (path_points_are_set p) (points_are_set p) i (λ route h. (and_parts (path_points_are_set p route) _ h).0) (kept-at C3 (length p.routes) (breaks_columns p C3) refl (of_rule 2 C3 refl) i less);
+  c7 = kept-at C7 (length p.sections) (breaks_columns p C7) refl (of_rule 6 C7 refl);
 }
   where
+    of_rule : (k : ℕ) (rule : Rule) → slice_get column_rules k ≡ Some rule → are_harmless (column_rule_broken p rule) ≡ true
+    of_rule k rule at = part-harmless (column_rule_broken p) column_rules k rule at all
+
+    of_end : (d : Dir) (destination : Option ℕ) (path : List ℕ) → is_between_boards p d destination path ≡ true → is_some_and (last_of path) (λ x. not (is_plain p d x)) ≡ true
+    of_end d destination path between =
+        let end = (and_parts _ (is_some_and (last_of path) (ends_path p d destination)) between).1 in
+        passes-less (last_of path) (ends_path p d destination) (λ x. not (is_plain p d x)) (ends-not_plain p d destination) end
+
     ends : (route : Route) → path_ends_at_board p route ≡ true → path_end_is_not_plain p route ≡ true
     ends route h =
-        passes-less (slice_get p.boards route.source) (λ b. is_between_boards p b.dir route.destination route.path) (λ b. is_some_and (last_of route.path) (λ x. not (is_plain p b.dir x)))
-        (λ b between. passes-less (last_of route.path) (ends_path p b.dir route.destination) (λ x. not (is_plain p b.dir x)) (ends-not_plain p b.dir route.destination) (and_parts _ (is_some_and (last_of route.path) (ends_path p b.dir route.destination)) between).1) h
+        passes-less (slice_get p.boards route.source) (λ b. is_between_boards p b.dir route.destination route.path)
+        (λ b. is_some_and (last_of route.path) (λ x. not (is_plain p b.dir x)))
+        (λ b between. of_end b.dir route.destination route.path between) h
 
 -- no rule of the network or of the table is harmless
 pub network-harmless : (net : NetDraft) → are_harmless (network_rules_broken net) ≡ true → network_rules_broken net ≡ []

@@ -136,7 +136,9 @@ module _ (command : Command) (stages : Stages) (planned : (plan_of command).stag
   check-right (Some c) known is good =
       check-safe c found (Some some.text) made (asked-by c (Check Strict) (All Strict) is refl known) sound (told-as (Check Strict) is) good
 
-  deviations-right : (conf : Option (List ℕ)) → IfSome conf (λ c. found ≡ plant_of stages c) → IfSome conf IsSoundIfPlant → command ≡ Check Strict → made.status ≡ IsRefused → each_line_begins_in harmless_beginnings made.report ≡ true → IfSome conf HasSafePlant
+  deviations-right : (conf : Option (List ℕ)) → IfSome conf (λ c. found ≡ plant_of stages c) →
+      IfSome conf IsSoundIfPlant → command ≡ Check Strict → made.status ≡ IsRefused →
+      each_line_begins_in harmless_beginnings made.report ≡ true → IfSome conf HasSafePlant
   deviations-right None known plant is refused lines = tt
   deviations-right (Some c) known plant is refused lines =
       deviations-safe c found (Some some.text) made (asked-by c (Check Strict) (All Strict) is refl known) plant (told-as (Check Strict) is) refused lines

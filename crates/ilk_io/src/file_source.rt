@@ -14,10 +14,10 @@ use std::fs::{File, Files};
 /// also after a failure, and each read goes on where the one before it ended. A read that was
 /// interrupted is tried again at most 1000 times. Each failure is counted, up to the greatest `u64`.
 ///
-/// If the call that opens the file succeeds, it is one read of some file that was opened: the clause
-/// `first` says so. No clause says that any call succeeds, which file was opened, or what was read
-/// of it and thrown away before. The test `reads_the_named_file` shows this: the file of this name
-/// is read from its front and whole.
+/// If the call that opens the file succeeds, it is one read of some file that was opened: the
+/// clause `first` says so. No clause says that any call succeeds, which file was opened, or what was
+/// read of it and thrown away before. The test `reads_the_named_file` shows this: the file of this
+/// name is read from its front and whole.
 #[derive(Drop)]
 pub struct FileSource<'a, R: Files> {
     rt: &'a R,
